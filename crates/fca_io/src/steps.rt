@@ -1,0 +1,70 @@
+//! A counter that proofs read and that takes no bytes when the program runs.
+
+ghost use Rattle.std.specs.Prelude.{◌≡◌, ◌+◌, ◌<◌};
+
+use std::marker::Model;
+use std::sync::ledger::{Blank, Book, Ledger, Share};
+
+/// How many steps were taken: only `tick` changes it.
+#[derive(Drop)]
+pub struct Steps<L: Ledger> {
+    book: Book<L>,
+    share: Share<L>,
+}
+
+impl<L: Ledger> Model for Steps<L> {
+    ghost use Rattle.std.specs.Prelude.{ℕ, ◌<◌};
+
+    ghost Value = { ℕ };
+
+    ghost view = { λ s. s.book.total };
+
+    ghost invariant = { λ s. 0 < s.share.parts };
+}
+
+impl<L: Ledger> Steps<L> {
+    /// A counter that stands at 0, over a fresh ledger.
+    pub fn open(blank: Blank) -> Steps<L>
+        requires name { blank.name ≡ L.name }
+        requires parts { blank.parts ≡ L.parts }
+        requires some { 0 < blank.parts }
+        ensures { result ≡ 0 }
+    {
+        let (book, share) = blank.open();
+        Steps { book, share }
+    }
+
+    /// One step more.
+    pub fn tick(&mut self)
+        ensures { self.new ≡ self.old + 1 }
+    {
+        self.book.add(&mut self.share, 1);
+    }
+}
+
+#[cfg(test)]
+mod tests {
+    use super::Steps;
+    use std::marker::Brand;
+    use std::sync::ledger::{Blank, Ledger};
+    use std::test::Fail;
+
+    /// Two steps over a ledger of its own.
+    fn two_steps<L: Ledger>(blank: Blank) -> u32
+        requires name { blank.name ≡ L.name }
+        requires parts { blank.parts ≡ L.parts }
+        requires some { 0 < blank.parts }
+        ensures { result ≡ 2 }
+    {
+        let mut steps: Steps<L> = Steps::open(blank);
+        steps.tick();
+        steps.tick();
+        2
+    }
+
+    #[test]
+    fn counts_from_nothing(rt: HostRuntime) -> Result<(), Fail> {
+        assert_eq!(rt; two_steps::<Brand>(Blank::new(1)), 2);
+        Ok(())
+    }
+}
