@@ -1,0 +1,34 @@
+"""Runs a command of the program and tells its seconds, its peak of memory and its status."""
+import os
+import resource
+import subprocess
+import time
+
+TOP = os.path.dirname(os.path.dirname(os.path.abspath(__file__)))
+FCA = os.path.join(TOP, "fca")
+
+
+def table(seed, objects, attributes, density, form="cxt"):
+    """The path of the generated table, which is made where it is not there yet."""
+    folder = os.environ.get("BENCH_TABLES", "/tmp/fca-bench")
+    os.makedirs(folder, exist_ok=True)
+    path = os.path.join(folder, "%d-%d-%d-%d.%s" % (seed, objects, attributes, density, form))
+    if not os.path.exists(path):
+        script = os.path.join(TOP, "bench", "table.py")
+        with open(path + ".part", "wb") as out:
+            words = [script, str(seed), str(objects), str(attributes), str(density), form]
+            subprocess.run(["python3"] + words, stdout=out, check=True)
+        os.rename(path + ".part", path)
+    return path
+
+
+def run(words, stdin=b"", repeat=3):
+    """The least wall time of some runs in seconds, the peak of memory in bytes, and the status and the bytes of the last run."""
+    least = None
+    for _ in range(repeat):
+        begin = time.time()
+        done = subprocess.run([FCA] + words, input=stdin, stdout=subprocess.PIPE)
+        took = time.time() - begin
+        least = took if least is None else min(least, took)
+    peak = resource.getrusage(resource.RUSAGE_CHILDREN).ru_maxrss * 1024
+    return least, peak, done.returncode, done.stdout
