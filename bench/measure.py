@@ -1,7 +1,7 @@
 """Runs a command of the program and tells its seconds, its peak of memory and its status."""
 import os
-import resource
 import subprocess
+import tempfile
 import time
 
 TOP = os.path.dirname(os.path.dirname(os.path.abspath(__file__)))
@@ -24,11 +24,18 @@ def table(seed, objects, attributes, density, form="cxt"):
 
 def run(words, stdin=b"", repeat=3):
     """The least wall time of some runs in seconds, the peak of memory in bytes, and the status and the bytes of the last run."""
-    least = None
+    least, peak, status, text = None, 0, None, b""
     for _ in range(repeat):
-        begin = time.time()
-        done = subprocess.run([FCA] + words, input=stdin, stdout=subprocess.PIPE)
-        took = time.time() - begin
-        least = took if least is None else min(least, took)
-    peak = resource.getrusage(resource.RUSAGE_CHILDREN).ru_maxrss * 1024
-    return least, peak, done.returncode, done.stdout
+        with tempfile.TemporaryFile() as given, tempfile.TemporaryFile() as out:
+            given.write(stdin)
+            given.seek(0)
+            begin = time.time()
+            child = subprocess.Popen([FCA] + words, stdin=given, stdout=out)
+            _, ended, usage = os.wait4(child.pid, 0)
+            took = time.time() - begin
+            least = took if least is None else min(least, took)
+            peak = max(peak, usage.ru_maxrss * 1024)
+            status = os.waitstatus_to_exitcode(ended)
+            out.seek(0)
+            text = out.read()
+    return least, peak, status, text
