@@ -1,6 +1,6 @@
 -- Names: of objects, attributes and experts, and titles of tables.
 -- A name is a text of 1 to MAX_NAME_BYTES bytes of UTF-8 without a line break, so that it stands on one line of each format.
-use Rattle.std.specs.Prelude.{◌≡◌, ℕ, Bool, ◌||◌, ◌==◌, nat_lt, cond, Option, Some, None, List, length, IsUtf8}
+use Rattle.std.specs.Prelude.{◌≡◌, ℕ, Bool, ◌||◌, ◌==◌, nat_lt, cond, Option, Some, None, length, IsUtf8}
 use Rattle.std.specs.List.{list_any}
 use Rattle.fca_model.specs.Tables.{Text}
 use Rattle.fca_model.specs.declared.TheConstants.{MAX_NAME_BYTES}

@@ -1,4 +1,4 @@
-use Rattle.std.proofs.Common.{◌≡◌, ◌<◌, Bool, true, false, length, refl, sym, ◌∙◌, ltb, lt-ltb, le-ltb, eqb}
+use Rattle.std.proofs.Common.{◌≡◌, true, false, length, refl, sym, ◌∙◌, ltb, lt-ltb, le-ltb, eqb}
 use Rattle.std.specs.List.{list_any}
 use Rattle.fca_model.specs.Names.{is_line_break, name_fault}
 use Rattle.fca_model.specs.declared.TheConstants.{MAX_NAME_BYTES}
