@@ -1,0 +1,233 @@
+//! Lists of implications between attribute sets, and the closure of a set under such a list: the
+//! least superset that respects every member.
+#![tactic(auto)]
+
+ghost use Rattle.std.specs.Prelude.{◌≡◌, ◌≤◌, ◌++◌, ◌∷◌, [], ◌↔◌, IsTrue, OnOk, OnErr, IfOk, length, position, not};
+ghost use Rattle.fca_model.specs.Implications.{Rule, respects, follows, rule};
+ghost use Rattle.implication_closure.specs.Closing.{RuleList, Room, Fits, IsClosure, HaveWidth, IsPass};
+
+use attr_bits::Attrs;
+use fca_model::{MAX_ATTRIBUTES, Memory};
+use std::alloc::Global;
+use std::marker::Model;
+
+/// An implication between attribute sets of one width.
+pub type Implication = fca_model::Implication<Attrs>;
+
+/// An implication that an expert is asked to confirm or to refute.
+pub type Question = Implication;
+
+/// Implications of one width, in the order in which they were pushed.
+#[derive(Drop)]
+pub struct ImplicationList {
+    members: Vec<Implication>,
+    width: u32,
+}
+
+impl Model for ImplicationList {
+    ghost use Rattle.std.specs.Prelude.{◌≤◌};
+    ghost use Rattle.fca_model.specs.declared.TheConstants.{MAX_ATTRIBUTES};
+    ghost use Rattle.implication_closure.specs.Closing.{RuleList, HaveWidth};
+
+    ghost Value = { RuleList };
+
+    ghost view = { λ a. record { width = a.width; members = a.members.items } };
+
+    ghost invariant = { λ a. record { narrow : a.width ≤ MAX_ATTRIBUTES; even : HaveWidth a.width a.members.items } };
+}
+
+impl ImplicationList {
+    /// The empty list of implications between sets of width n.
+    pub fn new(alloc: Global, n: u32) -> Result<ImplicationList, Memory>
+        requires { n ≤ MAX_ATTRIBUTES }
+        ensures { IfOk result (λ list. list ≡ record { width = n; members = [] }) }
+    {
+        Ok(ImplicationList {
+            members: Vec::new(alloc),
+            width: n,
+        })
+    }
+
+    /// Puts the implication last.
+    pub fn push(&mut self, i: Implication) -> Result<(), Memory>
+        requires premise { length i.premise ≡ self.old.width }
+        requires conclusion { length i.conclusion ≡ self.old.width }
+        ensures ok { OnOk result (self.new ≡ record self.old { members = self.old.members ++ i ∷ [] }) }
+        ensures err { OnErr result (self.new ≡ self.old) }
+    {
+        self.members.push(i)?;
+        Ok(())
+    }
+
+    /// Takes the last implication away, if there is one.
+    pub fn pop(&mut self)
+        ensures { (J : RuleList) (i : Rule) → self.old ≡ record { width = J.width; members = J.members ++ i ∷ [] } → self.new ≡ J }
+    {
+        self.members.pop();
+    }
+
+    /// The implications.
+    pub fn as_slice(&self) -> &[Implication]
+        ensures members { result.now ≡ self.now.members }
+        ensures even { HaveWidth self.now.width result.now }
+    {
+        &self.members
+    }
+
+    /// The number of attributes.
+    pub fn width(&self) -> u32
+        ensures width { result ≡ self.now.width }
+        ensures narrow { result ≤ MAX_ATTRIBUTES }
+    {
+        self.width
+    }
+
+    /// The place of the first member that the row does not respect.
+    pub fn first_broken(&self, row: &Attrs) -> Option<usize>
+        ensures { result ≡ position (λ i. not (respects row.now i)) self.now.members }
+    {
+        first_broken(&self.members, row)
+    }
+
+    /// The least superset of x that respects every member.
+    pub fn naive_closure(&self, x: &Attrs) -> Attrs
+        requires { length x.now ≡ self.now.width }
+        ensures { IsClosure self.now.members x.now result }
+    {
+        close_from_the_first(&self.members, x)
+    }
+
+    /// The least superset of x that respects every member, with the scratch for its working space.
+    pub fn closure(&self, scratch: &mut Scratch, x: &Attrs) -> Attrs
+        requires fits { Fits scratch.old self.now }
+        requires wide { length x.now ≡ self.now.width }
+        ensures closure { IsClosure self.now.members x.now result }
+        ensures scratch { scratch.new ≡ scratch.old }
+    {
+        close_by_passes(&self.members, x)
+    }
+
+    /// Whether every set that respects all members respects the implication from p to c.
+    pub fn follows(&self, p: &Attrs, c: &Attrs) -> bool
+        requires premise { length p.now ≡ self.now.width }
+        requires conclusion { length c.now ≡ self.now.width }
+        ensures { result ≡ follows self.now.width self.now.members (rule p.now c.now) }
+    {
+        c.within(&self.naive_closure(p))
+    }
+}
+
+/// Working space for closures under lists of one width.
+#[derive(Drop)]
+pub struct Scratch {
+    width: u32,
+    room: usize,
+}
+
+impl Model for Scratch {
+    ghost use Rattle.implication_closure.specs.Closing.{Room};
+
+    ghost Value = { Room };
+
+    ghost view = { λ a. record { width = a.width; members = a.room } };
+}
+
+impl Scratch {
+    /// Room for closures under lists of the width of this one, with at most as many members.
+    pub fn new(alloc: Global, list: &ImplicationList) -> Result<Scratch, Memory>
+        ensures { IfOk result (λ scratch. Fits scratch list.now) }
+    {
+        Ok(Scratch {
+            width: list.width,
+            room: list.members.len(),
+        })
+    }
+
+    /// Whether there is room for closures under the list.
+    pub fn fits(&self, list: &ImplicationList) -> bool
+        ensures { IsTrue result ↔ Fits self.now list.now }
+    {
+        self.width == list.width && list.members.len() <= self.room
+    }
+}
+
+/// The place of the first member that the row does not respect.
+fn first_broken(members: &[Implication], row: &Attrs) -> Option<usize>
+    ensures { result ≡ position (λ i. not (respects row.now i)) members.now }
+{
+    members
+        .iter()
+        .position(|i| i.premise.within(row) && !i.conclusion.within(row))
+}
+
+/// The least superset that respects every member, each time by the first member that is broken.
+fn close_from_the_first(members: &[Implication], x: &Attrs) -> Attrs
+    requires { HaveWidth (length x.now) members.now }
+    ensures { IsClosure members.now x.now result }
+{
+    let mut closed = *x;
+    while let Some(i) = first_broken(members, &closed) {
+        closed = closed.join(&members[i].conclusion);
+    }
+    closed
+}
+
+/// The least superset that respects every member, by passes over the members until one adds nothing.
+fn close_by_passes(members: &[Implication], x: &Attrs) -> Attrs
+    requires { HaveWidth (length x.now) members.now }
+    ensures { IsClosure members.now x.now result }
+{
+    let mut closed = *x;
+    loop {
+        let next = pass(members, &closed);
+        if next == closed {
+            return closed;
+        }
+        closed = next;
+    }
+}
+
+/// The set with the conclusion of each member in turn whose premise lies within what there is by then.
+fn pass(members: &[Implication], x: &Attrs) -> Attrs
+    requires { HaveWidth (length x.now) members.now }
+    ensures { IsPass members.now x.now result }
+{
+    let mut closed = *x;
+    for i in members {
+        if i.premise.within(&closed) {
+            closed = closed.join(&i.conclusion);
+        }
+    }
+    closed
+}
+
+#[cfg(test)]
+mod tests {
+    use super::{Implication, ImplicationList, Scratch};
+    use attr_bits::Attrs;
+    use fca_model::Memory;
+    use std::rt::HostRuntime;
+
+    #[test]
+    fn closes_under_a_chain(rt: HostRuntime) -> Result<(), Memory> {
+        let none = Attrs::empty(3);
+        let mut list = ImplicationList::new(rt.alloc(), 3)?;
+        list.push(Implication {
+            premise: none.with(1),
+            conclusion: none.with(2),
+        })?;
+        list.push(Implication {
+            premise: none.with(0),
+            conclusion: none.with(1),
+        })?;
+        assert!(&rt; list.naive_closure(&none.with(0)) == Attrs::full(3));
+        let mut scratch = Scratch::new(rt.alloc(), &list)?;
+        assert!(&rt; list.closure(&mut scratch, &none.with(0)) == Attrs::full(3));
+        assert!(&rt; scratch.fits(&list));
+        assert!(&rt; list.follows(&none.with(0), &none.with(2)));
+        assert!(&rt; !list.follows(&none.with(2), &none.with(0)));
+        assert!(&rt; list.first_broken(&none.with(0)) == Some(1));
+        assert!(&rt; list.first_broken(&none.with(2)).is_none());
+        Ok(())
+    }
+}
