@@ -1,0 +1,4 @@
+pub mod Faults
+pub mod Shelves
+pub mod Transfers
+pub mod Forms

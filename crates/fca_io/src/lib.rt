@@ -1,6 +1,12 @@
 //! Streams and files as the rest of the workbench sees them, their forms in memory, and a counter of steps.
 #![tactic(auto)]
 
+mod memory;
+mod outside;
 mod steps;
+mod transfer;
 
+pub use memory::{MemorySink, MemorySource, SureSource};
+pub use outside::{Failed, Put, Shelf, Sink, Source, Taken};
 pub use steps::Steps;
+pub use transfer::{read_all, write_text};

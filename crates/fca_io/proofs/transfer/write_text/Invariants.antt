@@ -1,0 +1,16 @@
+-- The sink gained a front of the text, and the rest is still to be written.
+use Rattle.std.proofs.Common.{◌≡◌, ◌≤◌, ◌++◌, ℕ, List, [], length}
+use Rattle.std.specs.Io.KnownBytes.{Appends}
+use Rattle.fca_io.proofs.Streams.{Settled}
+use Rattle.fca_io.proofs.transfer.write_text.Given as goal
+
+abbrev pub invariant-loop-rest : goal.invariant-loop-rest
+invariant-loop-rest g l =
+    ((front : List ℕ) × (l.text ≡ front ++ l.rest) × Appends (g.K.Sink.held l.initial.sink) (g.K.Sink.held l.sink) front) ×
+    (l.text ≡ [] → l.sink ≡ l.initial.sink) ×
+    Settled (g.K.Sink.faults l.initial.sink) (g.K.Sink.faults l.sink)
+    (g.K.Sink.beside l.initial.sink) (g.K.Sink.beside l.sink)
+    (g.K.Sink.faults_beside l.initial.sink) (g.K.Sink.faults_beside l.sink)
+
+abbrev pub decreases-loop-rest : goal.decreases-loop-rest
+decreases-loop-rest g l = length l.rest

@@ -1,0 +1,39 @@
+-- Streams in memory, with a plan of the calls that are to fail.
+use Rattle.std.specs.Prelude.{ℕ, ◌+◌, ◌-◌, Bool, cond, List, length, min, ◌==◌}
+use Rattle.std.specs.List.{list_any}
+use Rattle.fca_io.specs.Faults.{one_more}
+
+-- the numbers of the calls that are to fail, counted from 1, and how many calls were made and faults counted
+pub record Plan : Type 0 where
+  pub fails : List ℕ
+  pub made : ℕ
+  pub faults : ℕ
+
+-- with nothing called yet
+abbrev pub planned : List ℕ → Plan
+planned fails = record { fails = fails; made = 0; faults = 0 }
+
+-- whether the next call is to fail
+abbrev pub fails_next : Plan → Bool
+fails_next p = list_any (λ n. n == one_more p.made) p.fails
+
+-- with one fault more
+abbrev pub with_fault : Plan → Plan
+with_fault p = record p { faults = one_more p.faults }
+
+-- after the next call
+abbrev pub called : Plan → Plan
+called p = record { fails = p.fails; made = one_more p.made; faults = cond (fails_next p) (one_more p.faults) p.faults }
+
+-- the bytes that a source has left or that a sink holds, and the most that one call moves
+pub record Stream : Type 0 where
+  pub bytes : List ℕ
+  pub most : ℕ
+  pub plan : Plan
+
+-- a sink that holds no more than its room
+pub record Roomy : Type 0 where
+  pub bytes : List ℕ
+  pub most : ℕ
+  pub room : ℕ
+  pub plan : Plan

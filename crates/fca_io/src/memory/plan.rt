@@ -1,0 +1,61 @@
+//! The list of the calls that are to fail, and how many calls were made.
+
+ghost use Rattle.std.specs.Prelude.{◌≡◌, ◌≤◌, IfOk};
+ghost use Rattle.fca_io.specs.Forms.{planned, fails_next, called, with_fault};
+
+use std::alloc::{AllocError, Global};
+use std::marker::Model;
+
+/// The calls that are to fail, counted from 1, and the faults counted so far.
+#[derive(Drop)]
+pub struct FailingCalls {
+    fails: Vec<usize>,
+    made: usize,
+    faults: usize,
+}
+
+impl Model for FailingCalls {
+    ghost use Rattle.std.specs.Prelude.{◌<◌, ◌^◌};
+    ghost use Rattle.fca_io.specs.Forms.{Plan};
+
+    ghost Value = { Plan };
+
+    ghost view = { λ c. record { fails = c.fails.items; made = c.made; faults = c.faults } };
+
+    ghost invariant = { λ c. c.faults < 2 ^ 64 };
+}
+
+impl FailingCalls {
+    /// No call was made yet.
+    pub fn new(alloc: Global, fails: &[usize]) -> Result<FailingCalls, AllocError>
+        ensures { IfOk result (λ calls. calls ≡ planned fails.now) }
+    {
+        Ok(FailingCalls {
+            fails: Vec::from_slice(alloc, fails)?,
+            made: 0,
+            faults: 0,
+        })
+    }
+
+    /// Counts one call more, and answers whether it is to fail.
+    pub fn next_fails(&mut self) -> bool
+        ensures fails { result ≡ fails_next self.old }
+        ensures after { self.new ≡ called self.old }
+        ensures later { self.old.faults ≤ self.new.faults }
+    {
+        self.made = self.made.saturating_add(1);
+        let fails = self.fails.contains(&self.made);
+        if fails {
+            self.count_fault();
+        }
+        fails
+    }
+
+    /// Counts one fault more.
+    pub fn count_fault(&mut self)
+        ensures after { self.new ≡ with_fault self.old }
+        ensures later { self.old.faults ≤ self.new.faults }
+    {
+        self.faults = self.faults.saturating_add(1);
+    }
+}

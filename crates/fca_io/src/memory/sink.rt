@@ -1,0 +1,96 @@
+//! A sink in memory.
+
+ghost use Rattle.std.specs.Prelude.{◌≡◌, ◌≤◌, ◌<◌, ◌-◌, ◌↔◌, ◌⊎◌, [], length, min, Some, Result, IfOk, IsErr, IsTrue, OnErr};
+ghost use Rattle.std.specs.Io.KnownBytes.{WriteAppends, Keeps};
+ghost use Rattle.fca_io.specs.Faults.{Rose};
+ghost use Rattle.fca_io.specs.Forms.{planned, fails_next, Roomy};
+
+use super::plan::FailingCalls;
+use crate::outside::{Failed, Sink};
+use fca_model::Memory;
+use std::alloc::Global;
+use std::marker::Model;
+
+/// A sink in memory whose calls fail where a list says so, and where there is no room.
+#[derive(Drop)]
+pub struct MemorySink {
+    bytes: Vec<u8>,
+    room: usize,
+    most: usize,
+    calls: FailingCalls,
+}
+
+impl Model for MemorySink {
+    ghost use Rattle.std.specs.Prelude.{◌<◌, ◌≤◌, vec_len, vec_capacity};
+    ghost use Rattle.fca_io.specs.Forms.{Roomy};
+
+    ghost Value = { Roomy };
+
+    ghost view = { λ s. record { bytes = s.bytes.items; most = s.most; room = s.room; plan = s.calls } };
+
+    ghost invariant = { λ s. record { moves : 0 < s.most; fits : vec_len s.bytes ≤ s.room; made : s.room ≤ vec_capacity s.bytes } };
+}
+
+impl MemorySink {
+    /// An empty sink with room for `room` bytes, whose calls with the numbers `fails`, counted from 1, fail, and whose
+    /// other calls take at most `most` bytes.
+    pub fn new(
+        alloc: Global,
+        room: usize,
+        fails: &[usize],
+        most: usize,
+    ) -> Result<MemorySink, Memory>
+        requires { 0 < most }
+        ensures { IfOk result (λ sink. sink ≡ record { bytes = []; most = most; room = room; plan = planned fails.now }) }
+    {
+        Ok(MemorySink {
+            bytes: Vec::with_capacity(alloc, room)?,
+            room,
+            most,
+            calls: FailingCalls::new(alloc, fails)?,
+        })
+    }
+
+    /// The bytes that were written.
+    pub fn written(&self) -> &[u8]
+        ensures { result.now ≡ self.now.bytes }
+    {
+        &self.bytes
+    }
+}
+
+impl Sink for MemorySink {
+    ghost use Rattle.std.specs.Prelude.{Some, None};
+
+    ghost held = { λ s. Some s.bytes };
+
+    ghost faults = { λ s. s.plan.faults };
+
+    ghost beside = { λ _. None };
+
+    ghost faults_beside = { λ _. 0 };
+
+    fn write(&mut self, from: &[u8]) -> Result<usize, Failed>
+        requires { 0 < length from.now }
+
+        // Which call fails, and how much each other call takes.
+        ensures fails { IsErr result ↔ (IsTrue (fails_next self.old.plan) ⊎ (self.old.room ≡ length self.old.bytes)) }
+        ensures count { IfOk result (λ count. count ≡ min (min (length from.now) self.old.most) (self.old.room - length self.old.bytes)) }
+
+        ensures some { IfOk result (λ count. 0 < count) }
+        ensures bound { IfOk result (λ count. count ≤ length from.now) }
+        ensures bytes { WriteAppends (Some self.old.bytes) (Some self.new.bytes) result from.now }
+        ensures failed { OnErr result (Rose self.old.plan.faults self.new.plan.faults) }
+        ensures later { self.old.plan.faults ≤ self.new.plan.faults }
+    {
+        if self.calls.next_fails() {
+            return Err(Failed);
+        }
+        let count = from.len().min(self.most).min(self.room - self.bytes.len());
+        if count == 0 || self.bytes.extend_from_slice(&from[..count]).is_err() {
+            self.calls.count_fault();
+            return Err(Failed);
+        }
+        Ok(count)
+    }
+}

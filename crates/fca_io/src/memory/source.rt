@@ -1,0 +1,164 @@
+//! Sources in memory.
+
+ghost use Rattle.std.specs.Prelude.{◌≡◌, ◌≤◌, ◌<◌, ◌↔◌, length, take, drop, min, Result, IfOk, IsErr, IsTrue, OnErr};
+ghost use Rattle.std.specs.Io.{ReadsAtMost};
+ghost use Rattle.std.specs.Io.KnownBytes.{ReadConsumes, Keeps};
+ghost use Rattle.fca_io.specs.Faults.{Rose};
+ghost use Rattle.fca_io.specs.Forms.{planned, fails_next};
+
+use super::plan::FailingCalls;
+use crate::outside::{Failed, Source};
+use fca_model::Memory;
+use std::alloc::{AllocError, Global};
+use std::marker::Model;
+
+/// Bytes of which the first were read.
+#[derive(Drop)]
+struct Unread {
+    bytes: Vec<u8>,
+    at: usize,
+}
+
+impl Model for Unread {
+    ghost use Rattle.std.specs.Prelude.{ℕ, ◌≤◌, List, drop, vec_len};
+
+    ghost Value = { List ℕ };
+
+    ghost view = { λ u. drop u.at u.bytes.items };
+
+    ghost invariant = { λ u. u.at ≤ vec_len u.bytes };
+}
+
+impl Unread {
+    fn new(alloc: Global, bytes: &[u8]) -> Result<Unread, AllocError>
+        ensures { IfOk result (λ unread. unread ≡ bytes.now) }
+    {
+        Ok(Unread {
+            bytes: Vec::from_slice(alloc, bytes)?,
+            at: 0,
+        })
+    }
+
+    /// Moves as many bytes as there are and as fit, but no more than `most`.
+    fn move_into(&mut self, into: &mut [u8], most: usize) -> usize
+        ensures count { result ≡ min (min (length into.old) most) (length self.old) }
+        ensures moved { take result into.new ≡ take result self.old }
+        ensures left { self.new ≡ drop result self.old }
+    {
+        let rest = &self.bytes[self.at..];
+        let count = into.len().min(most).min(rest.len());
+        into[..count].copy_from_slice(&rest[..count]);
+        self.at += count;
+        count
+    }
+}
+
+/// A source in memory whose calls fail where a list says so.
+#[derive(Drop)]
+pub struct MemorySource {
+    unread: Unread,
+    most: usize,
+    calls: FailingCalls,
+}
+
+impl Model for MemorySource {
+    ghost use Rattle.std.specs.Prelude.{◌<◌};
+    ghost use Rattle.fca_io.specs.Forms.{Stream};
+
+    ghost Value = { Stream };
+
+    ghost view = { λ s. record { bytes = s.unread; most = s.most; plan = s.calls } };
+
+    ghost invariant = { λ s. 0 < s.most };
+}
+
+impl MemorySource {
+    /// A source of the bytes, whose calls with the numbers `fails`, counted from 1, fail, and whose other calls move at
+    /// most `most` bytes.
+    pub fn new(
+        alloc: Global,
+        bytes: &[u8],
+        fails: &[usize],
+        most: usize,
+    ) -> Result<MemorySource, Memory>
+        requires { 0 < most }
+        ensures { IfOk result (λ source. source ≡ record { bytes = bytes.now; most = most; plan = planned fails.now }) }
+    {
+        Ok(MemorySource {
+            unread: Unread::new(alloc, bytes)?,
+            most,
+            calls: FailingCalls::new(alloc, fails)?,
+        })
+    }
+}
+
+impl Source for MemorySource {
+    ghost use Rattle.std.specs.Prelude.{Some, None};
+
+    ghost left = { λ s. Some s.bytes };
+
+    ghost faults = { λ s. s.plan.faults };
+
+    ghost beside = { λ _. None };
+
+    ghost faults_beside = { λ _. 0 };
+
+    fn read(&mut self, into: &mut [u8]) -> Result<usize, Failed>
+        requires { 0 < length into.old }
+
+        // Which call fails, and how much each other call moves.
+        ensures fails { IsErr result ↔ IsTrue (fails_next self.old.plan) }
+        ensures count { IfOk result (λ count. count ≡ min (min (length into.old) self.old.most) (length self.old.bytes)) }
+
+        ensures bound { ReadsAtMost result into.new }
+        ensures bytes { ReadConsumes (Some self.old.bytes) (Some self.new.bytes) result into.new }
+        ensures failed { OnErr result (Rose self.old.plan.faults self.new.plan.faults) }
+        ensures later { self.old.plan.faults ≤ self.new.plan.faults }
+    {
+        if self.calls.next_fails() {
+            return Err(Failed);
+        }
+        Ok(self.unread.move_into(into, self.most))
+    }
+}
+
+/// A source in memory that never fails.
+#[derive(Drop)]
+pub struct SureSource {
+    unread: Unread,
+}
+
+impl Model for SureSource {
+    ghost use Rattle.std.specs.Prelude.{ℕ, List};
+
+    ghost Value = { List ℕ };
+
+    ghost view = { λ s. s.unread };
+}
+
+impl SureSource {
+    /// A source of the bytes.
+    pub fn new(alloc: Global, bytes: &[u8]) -> Result<SureSource, Memory>
+        ensures { IfOk result (λ source. source ≡ bytes.now) }
+    {
+        Ok(SureSource {
+            unread: Unread::new(alloc, bytes)?,
+        })
+    }
+}
+
+impl Source for SureSource {
+    ghost use Rattle.std.specs.Prelude.{Some, None};
+
+    ghost left = { λ s. Some s };
+
+    ghost faults = { λ _. 0 };
+
+    ghost beside = { λ _. None };
+
+    ghost faults_beside = { λ _. 0 };
+
+    fn read(&mut self, into: &mut [u8]) -> Result<usize, Failed> {
+        Ok(self.unread.move_into(into, usize::MAX))
+    }
+}

@@ -1,0 +1,132 @@
+//! The outside: sources, sinks and shelves, which may fail and count their faults.
+
+ghost use Rattle.std.specs.Prelude.{◌≡◌, ◌<◌, ◌≤◌, ℕ, List, length, vec_len, Option, Result, OnErr, IfOk, IsErrOf};
+ghost use Rattle.std.specs.Io.{ReadsAtMost};
+ghost use Rattle.std.specs.Io.KnownBytes.{Keeps, ReadConsumes, WriteAppends};
+ghost use Rattle.fca_io.specs.Faults.{Rose};
+ghost use Rattle.fca_io.specs.Shelves.{Told, MayHold, MayExceed};
+
+use std::alloc::{AllocError, Global};
+use thiserror::Error;
+
+/// A call of the outside failed.
+#[derive(Clone, Copy, Debug)]
+pub struct Failed;
+
+/// Why bytes were not taken.
+#[derive(Clone, Copy, Debug, Error)]
+pub enum Taken {
+    #[error("read fault")]
+    Failed,
+    #[error("too long")]
+    Long,
+    #[error("no memory")]
+    Memory,
+}
+
+impl From<Failed> for Taken {
+    ghost use Rattle.fca_io.specs.declared.outside.Taken.TheVariants as taken;
+
+    ghost from_gives = { λ _ t. t ≡ taken.Failed };
+
+    fn from(_failed: Failed) -> Taken {
+        Taken::Failed
+    }
+}
+
+impl From<AllocError> for Taken {
+    ghost use Rattle.fca_io.specs.declared.outside.Taken.TheVariants as taken;
+
+    ghost from_gives = { λ _ t. t ≡ taken.Memory };
+
+    fn from(_error: AllocError) -> Taken {
+        Taken::Memory
+    }
+}
+
+/// Why a text was not written whole.
+#[derive(Clone, Copy, Debug, Error)]
+pub enum Put {
+    #[error("write fault")]
+    Failed,
+}
+
+impl From<Failed> for Put {
+    fn from(_failed: Failed) -> Put {
+        Put::Failed
+    }
+}
+
+/// A stream of bytes to read.
+pub trait Source {
+    // the bytes left, where the source tells them
+    ghost left: { Self → Option (List ℕ) };
+
+    ghost faults: { Self → ℕ };
+
+    // bytes that stand beside the source, as those sent the other way, where it tells them
+    ghost beside: { Self → Option (List ℕ) };
+
+    // a count that stands beside the source
+    ghost faults_beside: { Self → ℕ };
+
+    /// Moves the next bytes into the front of `into`, and answers how many: none at the end alone.
+    fn read(&mut self, into: &mut [u8]) -> Result<usize, Failed>
+        requires { 0 < length into.old }
+
+        ensures bound { ReadsAtMost result into.new }
+        ensures bytes { ReadConsumes (left self.old) (left self.new) result into.new }
+
+        ensures failed { OnErr result (Rose (faults self.old) (faults self.new)) }
+        ensures later { faults self.old ≤ faults self.new }
+
+        ensures beside { Keeps (beside self.old) (beside self.new) }
+        ensures later_beside { faults_beside self.old ≤ faults_beside self.new };
+}
+
+/// A stream of bytes to write.
+pub trait Sink {
+    // the bytes held, where the sink tells them
+    ghost held: { Self → Option (List ℕ) };
+
+    ghost faults: { Self → ℕ };
+
+    // bytes that stand beside the sink, as those still to come the other way, where it tells them
+    ghost beside: { Self → Option (List ℕ) };
+
+    // a count that stands beside the sink
+    ghost faults_beside: { Self → ℕ };
+
+    /// Appends the first bytes of `from`, at least one, and answers how many.
+    fn write(&mut self, from: &[u8]) -> Result<usize, Failed>
+        requires { 0 < length from.now }
+
+        ensures some { IfOk result (λ count. 0 < count) }
+        ensures bound { IfOk result (λ count. count ≤ length from.now) }
+        ensures bytes { WriteAppends (held self.old) (held self.new) result from.now }
+
+        ensures failed { OnErr result (Rose (faults self.old) (faults self.new)) }
+        ensures later { faults self.old ≤ faults self.new }
+
+        ensures beside { Keeps (beside self.old) (beside self.new) }
+        ensures later_beside { faults_beside self.old ≤ faults_beside self.new };
+}
+
+/// Files by their names.
+pub trait Shelf {
+    // what the shelf tells of each name
+    ghost tells: { Self → List ℕ → Told };
+
+    // the faults, counted for each name
+    ghost faults: { Self → List ℕ → ℕ };
+
+    /// The bytes under the name. A name that no file has is a fault.
+    fn fetch(&mut self, alloc: Global, name: &[u8], limit: usize) -> Result<Vec<u8>, Taken>
+        ensures bytes { IfOk result (λ v. MayHold (tells self.old name.now) v.items) }
+        ensures within { IfOk result (λ v. vec_len v ≤ limit) }
+        ensures long { IsErrOf result Taken.Long → MayExceed (tells self.old name.now) limit }
+        ensures kept { (other : List ℕ) → tells self.new other ≡ tells self.old other }
+
+        ensures failed { IsErrOf result Taken.Failed → Rose (faults self.old name.now) (faults self.new name.now) }
+        ensures later { (other : List ℕ) → faults self.old other ≤ faults self.new other };
+}

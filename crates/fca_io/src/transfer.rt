@@ -1,0 +1,59 @@
+//! Whole transfers: all that a source has, and the whole of a text.
+
+ghost use Rattle.std.specs.Prelude.{◌≡◌, ◌≤◌, ℕ, [], vec_len, Result, OnOk, OnErr, IfOk, IfSome, IsErrOf};
+ghost use Rattle.std.specs.Io.KnownBytes.{Appends, IsAtEnd, Keeps};
+ghost use Rattle.fca_io.specs.Faults.{Rose};
+ghost use Rattle.fca_io.specs.Transfers.{Takes, AppendsFront};
+
+use crate::outside::{Put, Sink, Source, Taken};
+use std::alloc::Global;
+
+/// How many bytes are asked for at once.
+const CHUNK: usize = 4096;
+
+/// All bytes up to the end of the source. An `Err` leaves the bytes taken until then out of the source.
+pub fn read_all<S: Source>(alloc: Global, source: &mut S, limit: usize) -> Result<Vec<u8>, Taken>
+    ensures bytes { IfOk result (λ v. IfSome (S.left source.old) (λ bytes. v.items ≡ bytes)) }
+    ensures within { IfOk result (λ v. vec_len v ≤ limit) }
+    ensures end { OnOk result (IsAtEnd (S.left source.new)) }
+    ensures taken { Takes (S.left source.old) (S.left source.new) limit (IsErrOf result Taken.Long) }
+
+    ensures failed { IsErrOf result Taken.Failed → Rose (S.faults source.old) (S.faults source.new) }
+    ensures later { S.faults source.old ≤ S.faults source.new }
+
+    ensures beside { Keeps (S.beside source.old) (S.beside source.new) }
+    ensures later_beside { S.faults_beside source.old ≤ S.faults_beside source.new }
+{
+    let mut bytes = Vec::new(alloc);
+    let mut chunk = [0u8; CHUNK];
+    loop {
+        let count = source.read(&mut chunk)?;
+        if count == 0 {
+            return Ok(bytes);
+        }
+        if count > limit - bytes.len() {
+            return Err(Taken::Long);
+        }
+        bytes.extend_from_slice(&chunk[..count])?;
+    }
+}
+
+/// Appends the whole text to the sink. After an `Err` the sink holds a front of the text.
+pub fn write_text<K: Sink>(sink: &mut K, text: &[u8]) -> Result<(), Put>
+    ensures whole { OnOk result (Appends (K.held sink.old) (K.held sink.new) text.now) }
+    ensures front { AppendsFront (K.held sink.old) (K.held sink.new) text.now }
+    ensures none { text.now ≡ [] → sink.new ≡ sink.old }
+
+    ensures failed { OnErr result (Rose (K.faults sink.old) (K.faults sink.new)) }
+    ensures later { K.faults sink.old ≤ K.faults sink.new }
+
+    ensures beside { Keeps (K.beside sink.old) (K.beside sink.new) }
+    ensures later_beside { K.faults_beside sink.old ≤ K.faults_beside sink.new }
+{
+    let mut rest = text;
+    while !rest.is_empty() {
+        let count = sink.write(rest)?;
+        rest = &rest[count..];
+    }
+    Ok(())
+}
