@@ -79,7 +79,7 @@ length-without P (X ∷ N) h = go (same P X) h (length-without P N)
     go false h rest = omega (arith, rest h)
 
 -- different premises that all stand in a list of sets are no more than it has members
-distinct_fit : (J : List Rule) (N : List Set) → distinct_premises J ≡ true → list_all (λ i. list_any (same i.premise) N) J ≡ true → length J ≤ length N
+pub distinct_fit : (J : List Rule) (N : List Set) → distinct_premises J ≡ true → list_all (λ i. list_any (same i.premise) N) J ≡ true → length J ≤ length N
 distinct_fit [] N d a = omega arith
 distinct_fit (i ∷ J) N d a =
     let ds = and_parts (not (has_premise J i.premise)) (distinct_premises J) d in

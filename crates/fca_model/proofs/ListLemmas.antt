@@ -87,6 +87,19 @@ list_any_at p q (x ∷ xs) a b =
     let parts = and_parts (q x) (list_all q xs) b in
     elim (or_cases (p x) (list_any p xs) a) [ inl here ↦ (x, here, parts.0) | inr there ↦ list_any_at p q xs there parts.1 ]
 
+-- some element passes exactly where not all fail
+pub list_any-not : {X : Type 0} (p : X → Bool) (xs : List X) → list_any p xs ≡ not (list_all (λ x. not (p x)) xs)
+list_any-not p [] = refl
+list_any-not p (x ∷ xs) = ap (λ b. p x || b) (list_any-not p xs) ∙ de_morgan (p x) (list_all (λ x. not (p x)) xs)
+  where
+    de_morgan : (a b : Bool) → (a || not b) ≡ not (not a && b)
+    de_morgan true b = refl
+    de_morgan false b = refl
+
+pub list_any-map : {X Y : Type 0} (p : Y → Bool) (f : X → Y) (xs : List X) → list_any p (map f xs) ≡ list_any (λ x. p (f x)) xs
+list_any-map p f [] = refl
+list_any-map p f (x ∷ xs) = ap (λ b. p (f x) || b) (list_any-map p f xs)
+
 -- ---- filters
 
 pub filter-filter : {X : Type 0} (p q : X → Bool) (xs : List X) → filter p (filter q xs) ≡ filter (λ x. q x && p x) xs
