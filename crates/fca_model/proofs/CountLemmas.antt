@@ -1,8 +1,8 @@
 -- Intents, and premises of accepted implications, are different sets: an intent is closed and a pseudo-intent is not. So together they are no more than
 -- all sets. And a row that refutes a question makes a new intent: the closure of the premise in the new rows lies within the new row, but the old
 -- closure does not, since it holds the conclusion.
-use Rattle.std.proofs.Common.{◌≡◌, ℕ, zero, suc, ◌+◌, ◌^◌, ◌<◌, ◌≤◌, Bool, true, false, not, ◌&&◌, ◌||◌, cond, List, [], ◌∷◌, ◌++◌, map, length, filter, refl, sym, ap, ◌∙◌, subst, arith, inl, inr, eqb-true, le_refl}
-use Rattle.std.proofs.lemmas.Bool.{false≢true, and_parts, and_from, cases_Bool, or_cases, or_parts, or_left, not-true}
+use Rattle.std.proofs.Common.{◌≡◌, ℕ, zero, suc, ◌+◌, ◌^◌, ◌<◌, ◌≤◌, Bool, true, false, not, ◌&&◌, ◌||◌, cond, List, [], ◌∷◌, map, length, filter, refl, sym, ap, ◌∙◌, subst, arith, inl, inr}
+use Rattle.std.proofs.lemmas.Bool.{false≢true, and_parts, and_from, cases_Bool, or_cases, or_parts, not-true}
 use Rattle.std.proofs.lemmas.List.{length-map, length-append}
 use Rattle.std.proofs.lemmas.List.Folds.{list_all-append}
 use Rattle.std.proofs.lemmas.List.Filters.{length-filter_both}
@@ -11,13 +11,13 @@ use Rattle.std.specs.List.{list_all, list_any}
 use Rattle.fca_model.specs.Sets.{Set, within, same, all_sets}
 use Rattle.fca_model.specs.Context.{Context, closure, is_closed, with_row}
 use Rattle.fca_model.specs.Implications.{Rule, rule, respects, holds, refutes}
-use Rattle.fca_model.specs.Pseudo.{pseudo_known, intents}
+use Rattle.fca_model.specs.Pseudo.{intents}
 use Rattle.fca_model.specs.Questions.{has_premise}
 use Rattle.fca_model.specs.Invariant.{is_member, distinct_premises}
 use Rattle.fca_model.specs.SetLaws.{same_equiv}
-use Rattle.fca_model.proofs.ListLemmas.{list_all-mono, list_all-mono₂}
+use Rattle.fca_model.proofs.ListLemmas.{list_all-mono}
 use Rattle.fca_model.proofs.SetLemmas.{within_trans, same-true, same_from, all_sets_from}
-use Rattle.fca_model.proofs.SortedLemmas.{at_member, in_filter, in_all_sets}
+use Rattle.fca_model.proofs.SortedLemmas.{in_filter, in_all_sets}
 use Rattle.fca_model.proofs.ClosureLemmas.{length-closure, closure_extensive, closure_monotone, closure_idempotent, closure_in_rows, respects_at}
 use Rattle.fca_model.proofs.PseudoLemmas.{pseudo_parts}
 use Rattle.fca_model.proofs.SurvivalLemmas.{closed_stays}

@@ -1,7 +1,7 @@
 -- Where no question is open, what was accepted is the basis. Each premise of the basis is then accepted, and with its closure, since each accepted
 -- implication is a member; so both have the same members. In both no premise stands twice, so neither is longer. And two lists of members with their
 -- premises in lectic order have the same premises in the same places, and each premise has one conclusion.
-use Rattle.std.proofs.Common.{◌≡◌, ℕ, ◌≤◌, Bool, true, false, not, ◌&&◌, ◌||◌, List, [], ◌∷◌, ◌++◌, map, length, filter, refl, sym, ap, ap₂, ◌∙◌, subst, arith}
+use Rattle.std.proofs.Common.{◌≡◌, ◌≤◌, Bool, true, false, not, ◌&&◌, ◌||◌, List, [], ◌∷◌, ◌++◌, map, length, filter, refl, sym, ap, ap₂, ◌∙◌, subst, arith}
 use Rattle.std.proofs.lemmas.Bool.{false≢true, and_parts, and_from, false_from_ne_true}
 use Rattle.std.proofs.lemmas.List.{length-map}
 use Rattle.std.proofs.lemmas.List.Folds.{list_all-append, list_all-map}
@@ -10,21 +10,18 @@ use mathlib.Core.Bool.{beq}
 use Rattle.std.specs.Ordering.{is_lt}
 use Rattle.fca_model.specs.Sets.{Set, same, all_sets, increasing, lectic_cmp}
 use Rattle.fca_model.specs.Context.{Context, closure}
-use Rattle.fca_model.specs.Implications.{Rule, rule, respects, respects_all, holds, follows, equivalent}
+use Rattle.fca_model.specs.Implications.{Rule, rule, premises, respects, respects_all, holds, follows, equivalent}
 use Rattle.fca_model.specs.Pseudo.{pseudo_known, basis_known}
 use Rattle.fca_model.specs.Questions.{has_premise, open_questions}
 use Rattle.fca_model.specs.Invariant.{is_member, IsAccepted, SameMembers, distinct_premises}
-use Rattle.fca_model.proofs.ListLemmas.{bool_iff, list_all-mono, list_all-and, list_any_at, list_any-mono, list_any-not, list_any-map}
-use Rattle.fca_model.proofs.SetLemmas.{same-true, same_from, same_refl, lectic_refl, all_sets_increasing, all_sets_agree}
+use Rattle.fca_model.proofs.ListLemmas.{bool_iff, list_all-and, list_any_at, list_any-not, list_any-map}
+use Rattle.fca_model.proofs.SetLemmas.{same-true, same_refl, lectic_refl, all_sets_increasing, all_sets_agree}
 use Rattle.fca_model.proofs.SortedLemmas.{same_members, increasing-filter}
 use Rattle.fca_model.proofs.PseudoLemmas.{basis_all, basis_at, basis_holds, follows_holds}
 use Rattle.fca_model.proofs.QuestionLemmas.{open_none}
 use Rattle.fca_model.proofs.InvariantLemmas.{each, member_parts, member_from}
 use Rattle.fca_model.proofs.CountLemmas.{distinct_fit}
 use Rattle.fca_model.proofs.LeastLemmas.{least_equivalent}
-
-abbrev pub premises : List Rule → List Set
-premises J = map (λ i. i.premise) J
 
 -- ---- a list in lectic order
 

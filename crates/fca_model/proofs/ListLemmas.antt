@@ -1,8 +1,9 @@
 -- Tests of lists, and filters. A test of all elements, or of any, goes by cases on the first element; so does a filter, whose `cond` is opened by
 -- cases on whether the first element passes.
-use Rattle.std.proofs.Common.{◌≡◌, Bool, true, false, not, ◌&&◌, ◌||◌, cond, List, [], ◌∷◌, map, filter, refl, sym, ap, ap₂, ◌∙◌, inl, inr}
-use Rattle.std.proofs.lemmas.Bool.{false≢true, and_parts, and_from, or_cases, or_left, or_right, not-false}
-use Rattle.std.specs.List.{list_all, list_any}
+use Rattle.std.proofs.Common.{◌≡◌, Bool, true, false, not, ◌&&◌, ◌||◌, cond, Some, None, List, [], ◌∷◌, map, filter, find, refl, sym, ap, ap₂, ◌∙◌, subst, inl, inr}
+use Rattle.std.proofs.lemmas.Bool.{false≢true, and_parts, and_from, or_cases, or_parts, or_left, or_right, not-false}
+use Rattle.std.proofs.lemmas.List.Elements.{All-head, All-tail}
+use Rattle.std.specs.List.{All, list_all, list_any}
 
 -- ---- Booleans
 
@@ -99,6 +100,50 @@ list_any-not p (x ∷ xs) = ap (λ b. p x || b) (list_any-not p xs) ∙ de_morga
 pub list_any-map : {X Y : Type 0} (p : Y → Bool) (f : X → Y) (xs : List X) → list_any p (map f xs) ≡ list_any (λ x. p (f x)) xs
 list_any-map p f [] = refl
 list_any-map p f (x ∷ xs) = ap (λ b. p (f x) || b) (list_any-map p f xs)
+
+-- where none fails, all pass
+pub list_all-from_none : {X : Type 0} (p : X → Bool) (xs : List X) → list_any (λ x. not (p x)) xs ≡ false → list_all p xs ≡ true
+list_all-from_none p [] h = refl
+list_all-from_none p (x ∷ xs) h =
+    let parts = or_parts (not (p x)) (list_any (λ x. not (p x)) xs) h in
+    and_from (p x) (list_all p xs) (not-false (p x) parts.0) (list_all-from_none p xs parts.1)
+
+-- ---- searches
+
+pub find_passes : {X : Type 0} (p : X → Bool) (xs : List X) (y : X) → find p xs ≡ Some y → p y ≡ true
+find_passes p [] y h = absurd (cc)
+find_passes p (x ∷ xs) y h = go (p x) refl h (find_passes p xs y)
+  where
+    go : (b : Bool) → p x ≡ b → cond b (Some x) (find p xs) ≡ Some y → (find p xs ≡ Some y → p y ≡ true) → p y ≡ true
+    go true e h rest = let same : x ≡ y = cc in ap p (sym same) ∙ e
+    go false e h rest = rest h
+
+-- what all pass, the one that is found passes
+pub find_all : {X : Type 0} (p q : X → Bool) (xs : List X) (y : X) → find p xs ≡ Some y → list_all q xs ≡ true → q y ≡ true
+find_all p q [] y h a = absurd (cc)
+find_all p q (x ∷ xs) y h a =
+    let parts = and_parts (q x) (list_all q xs) a in
+    go (p x) h (λ rest. find_all p q xs y rest parts.1) parts.0
+  where
+    go : (b : Bool) → cond b (Some x) (find p xs) ≡ Some y → (find p xs ≡ Some y → q y ≡ true) → q x ≡ true → q y ≡ true
+    go true h rest t = let same : x ≡ y = cc in ap q (sym same) ∙ t
+    go false h rest t = rest h
+
+pub All-find : {X : Type 0} (P : X → Type 0) (p : X → Bool) (xs : List X) (y : X) → All P xs → find p xs ≡ Some y → P y
+All-find P p [] y a h = absurd (cc)
+All-find P p (x ∷ xs) y a h = go (p x) h (All-find P p xs y (All-tail P x xs a))
+  where
+    go : (b : Bool) → cond b (Some x) (find p xs) ≡ Some y → (find p xs ≡ Some y → P y) → P y
+    go true h rest = let same : x ≡ y = cc in subst P same (All-head P x xs a)
+    go false h rest = rest h
+
+pub find_none : {X : Type 0} (p : X → Bool) (xs : List X) → find p xs ≡ None → list_any p xs ≡ false
+find_none p [] h = refl
+find_none p (x ∷ xs) h = go (p x) h (find_none p xs)
+  where
+    go : (b : Bool) → cond b (Some x) (find p xs) ≡ None → (find p xs ≡ None → list_any p xs ≡ false) → (b || list_any p xs) ≡ false
+    go true h rest = absurd (cc)
+    go false h rest = rest h
 
 -- ---- filters
 
