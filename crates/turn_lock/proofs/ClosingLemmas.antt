@@ -1,0 +1,100 @@
+-- What is left once all passes are joined.
+-- The view of pass 1 stands for all passes then, so no other view has the turn, and the value is at home. Its history has the
+-- entries that were kept of each pass, and goes on from what each has seen.
+use Rattle.std.proofs.Common.{◌≡◌, ℕ, ◌-◌, ◌<◌, ◌⊎◌, false, zero, suc, List, [], ◌∷◌, ◌++◌, length, get_or, take, drop, map, All, sym, refl, ap, ◌∙◌, subst, inl, inr, ⊎_elim, arith}
+use Rattle.std.proofs.Common.{Option, Some, None, Result, Ok, Err, IfOk}
+use Rattle.std.proofs.lemmas.List.{length-map}
+use mathlib.Core.Option.{some, some-injective}
+use lib.ListN.{get_elem?}
+use Rattle.atomic_table.specs.Seated.{TableId}
+use Rattle.atomic_table.specs.Table.{State, Me, Final, Seen}
+use Rattle.atomic_table.specs.declared.shared.Seat.{Seat}
+use Rattle.turn_lock.specs.declared.view.View.{View}
+use Rattle.turn_lock.specs.Histories.{StartsWith, Among, own_of}
+use Rattle.turn_lock.specs.Turns.{Turned}
+use Rattle.turn_lock.specs.Passes.{Lock, Known, badge, badges, roll, Belongs, Told}
+use Rattle.turn_lock.specs.Seats.{known, all_gathered}
+use Rattle.turn_lock.proofs.StepLemmas.{closes}
+use Rattle.turn_lock.proofs.HistoryLemmas.{All-among}
+use Rattle.turn_lock.proofs.MakingLemmas.{length-badges, stays_one, has_joined, keeps_seen, has_seen}
+
+module _ {X : Type 0} where
+  pub heads : (x y : X) (xs ys : List X) → x ∷ xs ≡ y ∷ ys → x ≡ y
+  heads x y xs ys e = ap (λ l. get_or l 0 x) e
+
+  pub tails : (x y : X) (xs ys : List X) → x ∷ xs ≡ y ∷ ys → xs ≡ ys
+  tails x y xs ys e = ap (drop 1) e
+
+  pub same_value : (x y : X) → Some x ≡ Some y → x ≡ y
+  same_value x y e = ap (λ (o : Option X). elim o [ None ↦ x | Some z ↦ z ]) e
+
+  -- what `remove(0)` takes and leaves
+  pub front : (xs : List X) (x : X) → 0 < length xs → x ≡ get_or xs 0 x → xs ≡ x ∷ (take 0 xs ++ drop 1 xs)
+  front [] x l e = absurd (omega arith)
+  front (y ∷ xs) x l e = λ i. sym e i ∷ xs
+
+pub if_ok : {T F : Type 0} (P Q : T → Type 0) (r : Result T F) → ((x : T) → P x → Q x) → IfOk r P → IfOk r Q
+if_ok P Q (Ok x) f h = f x h
+if_ok P Q (Err e) f h = tt
+
+module _ {B E : Type 0} where
+  all_same : (id : TableId) (b : Option B) (turns n k : ℕ) (ps : List (Known B E)) → map badge ps ≡ badges id b turns n k → All (λ p. (p.lock ≡ id) × (p.base ≡ b) × (p.turns ≡ turns)) ps
+  all_same id b turns n k [] e i d l = absurd (omega arith)
+  all_same id b turns n zero (p ∷ ps) e i d l = let h = ap length e in absurd (omega arith)
+  all_same id b turns n (suc k) (p ∷ ps) e zero d l = let h = heads (badge p) _ (map badge ps) (badges id b turns (suc n) k) e in (ap (λ x. x.lock) h, ap (λ x. x.base) h, ap (λ x. x.turns) h)
+  all_same id b turns n (suc k) (p ∷ ps) e (suc i) d l = all_same id b turns (suc n) k ps (tails (badge p) _ (map badge ps) (badges id b turns (suc n) k) e) i d (omega arith)
+
+  pub one_lock : (id : TableId) (b : Option B) (turns n k : ℕ) (ps : List (Known B E)) → map badge ps ≡ badges id b turns n k → All (λ p. p.lock ≡ id) ps
+  one_lock id b turns n k ps e i d l = (all_same id b turns n k ps e i d l).0
+
+  -- each pass on the roll belongs to the lock
+  pub roll-belongs : (l : Lock B) (ps : List (Known B E)) → map badge ps ≡ roll l → All (Belongs l) ps
+  roll-belongs l [] e i d near = absurd (omega arith)
+  roll-belongs l (p ∷ ps) e zero d near = let h = heads (badge p) _ (map badge ps) (badges l.id (Some l.base) l.turns 2 (l.passes - 1)) e in (ap (λ x. x.lock) h, ap (λ x. x.base) h, ap (λ x. x.turns) h)
+  roll-belongs l (p ∷ ps) e (suc i) d near = all_same l.id (Some l.base) l.turns 2 (l.passes - 1) ps (tails (badge p) _ (map badge ps) (badges l.id (Some l.base) l.turns 2 (l.passes - 1)) e) i d (omega arith)
+
+  pub has_first : (l : Lock B) (ps : List (Known B E)) → map badge ps ≡ roll l → 0 < length ps
+  has_first l [] e = let h = ap length e in absurd (omega arith)
+  has_first l (p ∷ ps) e = omega arith
+
+module _ {V B E : Type 0} (base_of : V → B) (history_of : V → List E) (legal : B → List E → Type 0) (by : E → ℕ) where
+  pub closing : (b : B) (turns id : ℕ) (l : Lock B) (t : Seat (Option V) (View B E)) (ps : List (Known B E)) (s : State (Option V) (View B E)) → Turned base_of history_of legal by b turns s
+      → get_elem? s.views id ≡ some (all_gathered t.me.0 ps) → t.me.0.mine ≡ false → t.me.0.stands ≡ 1 → map badge (known t ∷ ps) ≡ roll l → 0 < l.passes
+      → (value : V) × (s.homes ≡ some (Some value) ∷ []) × (base_of value ≡ b) × Told legal by b (history_of value) (known t ∷ ps)
+  closing b turns id l t ps s r at idle one are some_passes =
+      let v : View B E = all_gathered t.me.0 ps in
+      let stays = stays_one t.me.0 ps in
+      let head = heads (badge (known t)) _ (map badge ps) (badges l.id (Some l.base) l.turns 2 (l.passes - 1)) are in
+      let is_one : t.me.0.number ≡ 1 = ap (λ x. x.number) head in
+      let passes : t.me.0.passes ≡ l.passes = ap (λ x. x.passes) head in
+      let long : length (map badge ps) ≡ length (badges l.id (Some l.base) l.turns 2 (l.passes - 1)) = ap length (tails (badge (known t)) _ (map badge ps) (badges l.id (Some l.base) l.turns 2 (l.passes - 1)) are) in
+      let long' : length ps ≡ l.passes - 1 = sym (length-map ps badge) ∙ (long ∙ length-badges l.id (Some l.base) l.turns 2 (l.passes - 1)) in
+      let stands = stays.4 in
+      let made = stays.2 in
+      let q = closes base_of history_of legal by b turns id v s r at (stays.0 ∙ is_one) (omega arith) (stays.1 ∙ idle) in
+      let log : List E = history_of q.0 in
+      let sees : (h : List E) → ((v.seen ≡ h) ⊎ Among v.shown h) → StartsWith log h = λ h has. ⊎_elim (λ e. subst (StartsWith log) e q.4) (λ m. q.5 h m) has in (
+        q.0,
+        q.1,
+        q.2,
+        record {
+          is_legal = subst (λ b. legal b log) refl q.3;
+          seen = All-among (λ p. StartsWith log p.seen) (known t ∷ ps) (λ p am. ⊎_elim
+              (λ e. sees p.seen (keeps_seen t.me.0 ps p.seen (inl (ap (λ (p : Known B E). p.seen) e))))
+              (λ m. sees p.seen (has_seen t.me.0 ps p m)) am);
+          own = All-among (λ p. own_of by p.number log ≡ p.own) (known t ∷ ps) (λ p am. ⊎_elim
+              (λ e. ap (λ (n : ℕ). own_of by n log) (sym (ap (λ (p : Known B E). p.number) e) ∙ is_one) ∙ (sym q.6 ∙ (stays.3 ∙ ap (λ (p : Known B E). p.own) e)))
+              (λ m. sym (q.7 (record { number = p.number; own = p.own }) (has_joined t.me.0 ps p m))) am);
+          others = λ n h. q.8 n (⊎_elim (λ z. inl z) (λ z. inr (omega arith)) h);
+        },
+      )
+
+  -- the same of the value that is taken from the closed table, and of all passes
+  pub settled : (b : B) (turns id : ℕ) (l : Lock B) (t : Seat (Option V) (View B E)) (ps all : List (Known B E)) (m : Me (Option V) (View B E)) (ws : List ℕ) (xs : List (Option V)) (taken : Option V)
+      → Final (Seen (Turned base_of history_of legal by b turns) id m.0) ws xs → m ≡ (all_gathered t.me.0 ps, []) → get_elem? xs 0 ≡ some taken
+      → t.me.0.mine ≡ false → t.me.0.stands ≡ 1 → known t ∷ ps ≡ all → map badge all ≡ roll l → 0 < l.passes → b ≡ l.base
+      → (value : V) × (taken ≡ Some value) × (base_of value ≡ l.base) × Told legal by l.base (history_of value) all
+  settled b turns id l t ps all m ws xs taken final is there idle one these are some_passes based =
+      let q = closing b turns id l t ps final.0 final.1.0 (final.1.1 ∙ ap (λ (z : Me (Option V) (View B E)). some z.0) is) idle one (ap (map badge) these ∙ are) some_passes in
+      let at = final.4 0 (Some q.0) (ap (λ h. get_elem? h 0) q.1) in
+      (q.0, some-injective taken (Some q.0) (sym there ∙ at), q.2 ∙ based, subst (λ (z : B × List (Known B E)). Told legal by z.0 (history_of q.0) z.1) (λ i. (based i, these i)) q.3)

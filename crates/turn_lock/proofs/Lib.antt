@@ -1,0 +1,9 @@
+mod ViewLemmas
+mod HistoryLemmas
+mod TicketLemmas
+mod CountLemmas
+mod NumberLemmas
+mod StepLemmas
+mod EntryLemmas
+mod MakingLemmas
+pub mod ClosingLemmas

@@ -1,0 +1,16 @@
+use Rattle.std.proofs.Common.{◌∙◌, ap, sym, ◌+◌, ℕ, arith}
+use Rattle.turn_lock.proofs.lock.TurnLock.with_turn.Goals as goal
+use Rattle.turn_lock.proofs.lock.TurnLock.with_turn.Goals.{in-Ok, in-Err}
+
+pub invariant_of-pass : goal.invariant_of-pass
+invariant_of-pass g c =
+    let i = c.pass.invariant in
+    let p = c.play-reply.ensures in
+    let least = i.4 in
+    (p.idle, i.1 ∙ sym (ap (λ b. b.number) p.same), ap (λ (n : ℕ). n + 1) i.2 ∙ sym p.made, i.3 ∙ sym (ap (λ b. b.turns) p.same), omega (arith, c.if-pass.false))
+
+pub returns-clause-memory : goal.returns-clause-memory
+returns-clause-memory g c = elim c.match-reply.branch [
+  | in-Ok w ↦ λ h. cc (sym w.result-is ∙ h)
+  | in-Err w ↦ λ h. rw (sym c.pass.view_is) (w.in-Err.ensures.memory c.args.self.now.base (ap (λ k. k.base) c.pass.view_is ∙ c.requires.lock.1))
+]

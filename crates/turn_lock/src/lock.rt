@@ -1,0 +1,220 @@
+//! The lock: making it with its passes, turns, and closing it.
+
+ghost use Rattle.std.specs.Prelude.{◌≡◌, ◌+◌, ◌-◌, ◌<◌, ◌≤◌, ◌^◌, ◌↔◌, false, [], IfOk, IfErr, IsErrOf, All, map};
+ghost use Rattle.turn_lock.specs.Passes.{badge, badges, roll, Belongs, IsFresh, Entered, Looked, Told};
+ghost use Rattle.turn_lock.specs.Seats.{Fits, Stays, Making, all_gathered};
+
+use crate::fault::TurnFault;
+use crate::logged::Logged;
+use crate::pass::Pass;
+use crate::rule::{Another, Gathering, Key, TurnRule};
+use crate::turn;
+use crate::view::View;
+use atomic_table::{Seat, Shared, Table};
+use fca_model::Memory;
+use std::alloc::Global;
+use std::marker::Model;
+use std::snapshot::Snapshot;
+use std::sync::Wait;
+
+/// Contracts see it as `Lock` of `specs/Passes.antt`.
+#[derive(Drop)]
+pub struct TurnLock<V: Logged> {
+    passes: u8,
+    table: Table<Option<V>, View<V::Base, V::Entry>, Key<V>, TurnRule<V>, Global>,
+}
+
+impl<V: Logged> Model for TurnLock<V> {
+    ghost use Rattle.std.specs.Prelude.{◌≡◌, ◌<◌};
+    ghost use Rattle.turn_lock.specs.Passes.{Lock};
+
+    ghost Value = { Lock V.Base };
+
+    ghost view = { λ s. record { id = s.table.shared.table_id; base = V.base s.table.shared.key.value.value; turns = s.table.shared.key.turns; passes = s.passes } };
+
+    ghost invariant = { λ s. (s.table.shared.table_id.words ≡ 2) × (s.table.shared.table_id.slots ≡ 1) × (0 < s.passes) };
+}
+
+impl<V: Logged> TurnLock<V> {
+    ghost use Rattle.turn_lock.specs.declared.fault.TurnFault.TheVariants as fault;
+
+    /// The lock, and its passes, numbered from 1 in their order. Each pass may make `turns` turns.
+    pub fn new(
+        alloc: Global,
+        value: V,
+        passes: u8,
+        turns: u64,
+    ) -> Result<(TurnLock<V>, Vec<Pass<V>>), Memory>
+        requires count { (1 ≤ passes) × (passes ≤ 64) }
+        requires turns { (1 ≤ turns) × (turns ≤ 2 ^ 48) }
+        requires new { V.history value ≡ [] }
+        ensures lock { IfOk result (λ r. (r.0.base ≡ V.base value) × (r.0.turns ≡ turns) × (r.0.passes ≡ passes)) }
+        ensures passes { IfOk result (λ r. map badge r.1.items ≡ roll r.0) }
+        ensures belong { IfOk result (λ r. All (Belongs r.0) r.1.items) }
+        ensures fresh { IfOk result (λ r. All IsFresh r.1.items) }
+    {
+        TurnLock::make(alloc, value, passes, turns)
+    }
+
+    fn make(
+        alloc: Global,
+        value: V,
+        passes: u8,
+        turns: u64,
+    ) -> Result<(TurnLock<V>, Vec<Pass<V>>), Memory>
+        requires count { (1 ≤ passes) × (passes ≤ 64) }
+        requires turns { (1 ≤ turns) × (turns ≤ 2 ^ 48) }
+        requires new { V.history value ≡ [] }
+        ensures lock { IfOk result (λ r. (r.0.base ≡ V.base value) × (r.0.turns ≡ turns) × (r.0.passes ≡ passes)) }
+        ensures passes { IfOk result (λ r. map badge r.1.items ≡ roll r.0) }
+        ensures fresh { IfOk result (λ r. All IsFresh r.1.items) }
+    {
+        value.told();
+        let key = Key {
+            value: Snapshot::of(&value),
+            turns,
+        };
+        let mut slots = Vec::new(alloc);
+        let Ok(()) = slots.push(Some(value)) else {
+            return Err(Memory);
+        };
+        let Ok((table, mut seat)) = Table::new(alloc, &[0, 0], slots, &key) else {
+            return Err(Memory);
+        };
+        let mut all = make_more(alloc, &table.shared, &mut seat, passes, turns)?;
+        let first = Pass {
+            number: 1,
+            made: 0,
+            turns,
+            seat,
+        };
+        let Ok(()) = all.insert(0, first) else {
+            return Err(Memory);
+        };
+        Ok((TurnLock { passes, table }, all))
+    }
+
+    /// One turn that applies the event.
+    pub fn with_turn<R: Wait>(
+        &self,
+        rt: &R,
+        pass: &mut Pass<V>,
+        event: V::Event,
+    ) -> Result<V::Reply, TurnFault>
+        requires lock { Belongs self.now pass.old }
+        requires admits { V.admits self.now.base event }
+        requires number { V.number event ≡ pass.old.number }
+        ensures same { badge pass.new ≡ badge pass.old }
+        ensures entry { IfOk result (λ reply. Entered V.legal V.by self.now.base pass.old (V.entry event reply) pass.new) }
+        ensures memory { IsErrOf result fault.Memory → Looked V.legal V.by self.now.base pass.old pass.new }
+        ensures spent { IsErrOf result fault.Spent ↔ (pass.old.made ≡ pass.old.turns) }
+        ensures unchanged { IsErrOf result fault.Spent → pass.new ≡ pass.old }
+        ensures within { pass.old.made ≤ pass.old.turns }
+    {
+        if pass.made == pass.turns {
+            return Err(TurnFault::Spent);
+        }
+        let reply = turn::play(&self.table.shared, rt, &mut pass.seat, event);
+        pass.made += 1;
+        match reply {
+            Ok(reply) => Ok(reply),
+            Err(Memory) => Err(TurnFault::Memory),
+        }
+    }
+
+    /// One turn that only looks.
+    pub fn see<R: Wait>(&self, rt: &R, pass: &mut Pass<V>) -> Result<V::Seen, TurnFault>
+        requires lock { Belongs self.now pass.old }
+        ensures same { badge pass.new ≡ badge pass.old }
+        ensures looked { IfOk result (λ seen. Looked V.legal V.by self.now.base pass.old pass.new × V.shows self.now.base pass.new.seen seen) }
+        ensures only { IfErr result (λ e. e ≡ fault.Spent) }
+        ensures spent { IsErrOf result fault.Spent ↔ (pass.old.made ≡ pass.old.turns) }
+        ensures unchanged { IsErrOf result fault.Spent → pass.new ≡ pass.old }
+        ensures within { pass.old.made ≤ pass.old.turns }
+    {
+        if pass.made == pass.turns {
+            return Err(TurnFault::Spent);
+        }
+        let seen = turn::look(&self.table.shared, rt, &mut pass.seat);
+        pass.made += 1;
+        Ok(seen)
+    }
+
+    /// The value, once all passes are back in their order.
+    pub fn close(self, mut passes: Vec<Pass<V>>) -> V
+        requires passes { map badge passes.items ≡ roll self }
+        ensures base { V.base result ≡ self.base }
+        ensures told { Told V.legal V.by self.base (V.history result) passes.items }
+    {
+        let TurnLock { passes: _, table } = self;
+        let first = passes.remove(0);
+        let Pass {
+            number: _,
+            made: _,
+            turns: _,
+            mut seat,
+        } = first;
+        gather(&table.shared, &mut seat, passes);
+        let mut closed = table.close_with(seat);
+        let Some(value) = closed.take(0) else {
+            unreachable!()
+        };
+        closed.free();
+        value
+    }
+}
+
+/// The passes from 2 on, cut off from pass 1.
+fn make_more<V: Logged>(
+    alloc: Global,
+    shared: &Shared<Option<V>, View<V::Base, V::Entry>, Key<V>, TurnRule<V>>,
+    seat: &mut Seat<Option<V>, View<V::Base, V::Entry>>,
+    passes: u8,
+    turns: u64,
+) -> Result<Vec<Pass<V>>, Memory>
+    requires lock { Fits shared.now.table_id seat.old }
+    requires count { (1 ≤ passes) × (passes ≤ 64) }
+    requires first { Making turns 1 seat.old }
+    ensures lock { Stays seat.old seat.new }
+    ensures first { IfOk result (λ _. Making turns passes seat.new × (seat.new.me.0.base ≡ seat.old.me.0.base)) }
+    ensures badges { IfOk result (λ v. map badge v.items ≡ badges seat.old.table_id seat.old.me.0.base turns 2 (passes - 1)) }
+    ensures fresh { IfOk result (λ v. All IsFresh v.items) }
+{
+    let mut others = Vec::new(alloc);
+    for i in 1..passes {
+        let other = shared.split_seat::<Another<V>>(seat);
+        let pass = Pass {
+            number: i + 1,
+            made: 0,
+            turns,
+            seat: other,
+        };
+        let Ok(()) = others.push(pass) else {
+            return Err(Memory);
+        };
+    }
+    Ok(others)
+}
+
+/// All passes are joined to pass 1.
+fn gather<V: Logged>(
+    shared: &Shared<Option<V>, View<V::Base, V::Entry>, Key<V>, TurnRule<V>>,
+    seat: &mut Seat<Option<V>, View<V::Base, V::Entry>>,
+    passes: Vec<Pass<V>>,
+)
+    requires lock { Fits shared.now.table_id seat.old }
+    requires first { (seat.old.me.1 ≡ []) × (seat.old.me.0.number ≡ 1) × (seat.old.me.0.mine ≡ false) }
+    requires others { All (λ p. p.lock ≡ seat.old.table_id) passes.items }
+    ensures lock { Stays seat.old seat.new }
+    ensures gathered { seat.new.me ≡ (all_gathered seat.old.me.0 passes.items, []) }
+{
+    for pass in passes {
+        let Pass {
+            number: _,
+            made: _,
+            turns: _,
+            seat: other,
+        } = pass;
+        shared.join_seat::<Gathering<V>>(seat, other);
+    }
+}

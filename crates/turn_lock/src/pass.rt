@@ -1,0 +1,45 @@
+//! The right to take turns.
+
+ghost use Rattle.std.specs.Prelude.{◌≡◌, ◌≤◌};
+
+use crate::logged::Logged;
+use crate::view::View;
+use atomic_table::Seat;
+use std::marker::Model;
+
+/// Contracts see it as `Known` of `specs/Passes.antt`: the history that it has seen, and its own entries in it.
+#[derive(Drop)]
+pub struct Pass<V: Logged> {
+    pub(crate) number: u8,
+    pub(crate) made: u64,
+    pub(crate) turns: u64,
+    pub(crate) seat: Seat<Option<V>, View<V::Base, V::Entry>>,
+}
+
+impl<V: Logged> Model for Pass<V> {
+    ghost use Rattle.std.specs.Prelude.{◌≡◌, ◌≤◌};
+    ghost use Rattle.turn_lock.specs.Passes.{Known};
+    ghost use Rattle.turn_lock.specs.Seats.{known, IsIdle};
+
+    ghost Value = { Known V.Base V.Entry };
+
+    ghost view = { λ s. known s.seat };
+
+    ghost invariant = { λ s. IsIdle V.by s.seat × (s.number ≡ s.seat.me.0.number) × (s.made ≡ s.seat.me.0.drawn) × (s.turns ≡ s.seat.me.0.turns) × (s.made ≤ s.turns) };
+}
+
+impl<V: Logged> Pass<V> {
+    pub fn number(&self) -> u8
+        ensures { result ≡ self.now.number }
+    {
+        self.number
+    }
+
+    /// The number of turns made so far.
+    pub fn made(&self) -> u64
+        ensures number { result ≡ self.now.made }
+        ensures most { result ≤ self.now.turns }
+    {
+        self.made
+    }
+}

@@ -1,0 +1,154 @@
+//! One turn, step by step.
+
+ghost use mathlib.Core.Option.{none};
+ghost use Rattle.atomic_table.specs.Table.{step};
+ghost use Rattle.std.specs.Bool.{MatchBool};
+ghost use Rattle.std.specs.Prelude.{◌≡◌, ◌+◌, ◌*◌, ◌<◌, false, true, ◌∷◌, [], Some, None, IfOk, OnErr};
+ghost use Rattle.turn_lock.specs.Passes.{badge, Entered, Looked};
+ghost use Rattle.turn_lock.specs.Seats.{known, IsIdle, Waits, Fits, Stays};
+ghost use Rattle.turn_lock.specs.Steps.{Drew, Came, HasTurn, Holds, Grew, ended_view};
+
+use crate::logged::Logged;
+use crate::rule::{Coming, Drawing, Ending, Key, TurnRule};
+use crate::view::View;
+use atomic_table::{Seat, Shared};
+use fca_model::Memory;
+use std::sync::Wait;
+use std::{hint, thread};
+
+/// How often a waiting pass looks before it leaves the processor to other threads between two looks.
+const SPINS: u32 = 64;
+
+fn draw<V: Logged>(
+    shared: &Shared<Option<V>, View<V::Base, V::Entry>, Key<V>, TurnRule<V>>,
+    seat: &mut Seat<Option<V>, View<V::Base, V::Entry>>,
+) -> u64
+    requires lock { Fits shared.now.table_id seat.old }
+    requires idle { IsIdle V.by seat.old }
+    requires left { seat.old.me.0.drawn < seat.old.me.0.turns * seat.old.me.0.stands }
+    ensures lock { Stays seat.old seat.new }
+    ensures drew { Drew (step 1 0 1 0 none) seat.old.me result seat.new.me }
+{
+    shared.fetch_add::<Drawing<V>>(seat, 0, 1)
+}
+
+fn come<V: Logged>(
+    shared: &Shared<Option<V>, View<V::Base, V::Entry>, Key<V>, TurnRule<V>>,
+    seat: &mut Seat<Option<V>, View<V::Base, V::Entry>>,
+) -> u64
+    requires lock { Fits shared.now.table_id seat.old }
+    requires waits { (0 < seat.old.me.0.number) × (seat.old.me.0.mine ≡ false) }
+    ensures lock { Stays seat.old seat.new }
+    ensures came { Came V.base V.history V.legal V.by (step 1 1 0 0 none) seat.old.me result seat.new.me }
+{
+    shared.load::<Coming<V>>(seat, 1)
+}
+
+fn has_come<V: Logged>(
+    shared: &Shared<Option<V>, View<V::Base, V::Entry>, Key<V>, TurnRule<V>>,
+    seat: &mut Seat<Option<V>, View<V::Base, V::Entry>>,
+    ticket: u64,
+) -> bool
+    requires lock { Fits shared.now.table_id seat.old }
+    requires waits { Waits ticket seat.old }
+    ensures lock { Stays seat.old seat.new }
+    ensures come { MatchBool result (HasTurn V.base V.history V.legal V.by seat.old.me seat.new.me) (seat.new.me ≡ seat.old.me) }
+{
+    come(shared, seat) == ticket
+}
+
+/// Waits for the ticket's turn, and takes the value out.
+fn wait<V: Logged, R: Wait>(
+    shared: &Shared<Option<V>, View<V::Base, V::Entry>, Key<V>, TurnRule<V>>,
+    rt: &R,
+    seat: &mut Seat<Option<V>, View<V::Base, V::Entry>>,
+    ticket: u64,
+) -> V
+    requires lock { Fits shared.now.table_id seat.old }
+    requires waits { Waits ticket seat.old }
+    ensures lock { Stays seat.old seat.new }
+    ensures out { Holds V.base V.history V.legal V.by seat.old.me result seat.new.me }
+{
+    let mut looks = 0u32;
+    for _ in rt.forever() {
+        if has_come(shared, seat, ticket) {
+            let Some(value) = shared.exchange(seat, 0, None) else {
+                unreachable!()
+            };
+            return value;
+        }
+        if looks < SPINS {
+            looks += 1;
+            hint::spin_loop();
+        } else {
+            thread::yield_now();
+        }
+    }
+    unreachable!()
+}
+
+/// Gives the value back, and ends the turn.
+fn end<V: Logged>(
+    shared: &Shared<Option<V>, View<V::Base, V::Entry>, Key<V>, TurnRule<V>>,
+    seat: &mut Seat<Option<V>, View<V::Base, V::Entry>>,
+    value: V,
+)
+    requires lock { Fits shared.now.table_id seat.old }
+    requires out { (seat.old.me.1 ≡ (0, None) ∷ []) × (0 < seat.old.me.0.number) × (seat.old.me.0.mine ≡ true) }
+    requires value { (seat.old.me.0.base ≡ Some (V.base value)) × V.legal (V.base value) (V.history value) × Grew V.by seat.old.me.0.number seat.old.me.0.seen (V.history value) }
+    ensures lock { Stays seat.old seat.new }
+    ensures rests { seat.new.me.1 ≡ [] }
+    ensures view { seat.new.me.0 ≡ ended_view V.by (V.history value) seat.old.me.0 }
+{
+    let _none = shared.exchange(seat, 0, Some(value));
+    shared.fetch_add::<Ending<V>>(seat, 1, 1);
+}
+
+/// One turn with this event, by a pass that has a turn left.
+pub fn play<V: Logged, R: Wait>(
+    shared: &Shared<Option<V>, View<V::Base, V::Entry>, Key<V>, TurnRule<V>>,
+    rt: &R,
+    seat: &mut Seat<Option<V>, View<V::Base, V::Entry>>,
+    event: V::Event,
+) -> Result<V::Reply, Memory>
+    requires lock { Fits shared.now.table_id seat.old }
+    requires idle { IsIdle V.by seat.old }
+    requires left { seat.old.me.0.drawn < seat.old.me.0.turns }
+    requires event { (b : V.Base) → seat.old.me.0.base ≡ Some b → V.admits b event }
+    requires number { V.number event ≡ seat.old.me.0.number }
+    ensures lock { Stays seat.old seat.new }
+    ensures idle { IsIdle V.by seat.new }
+    ensures same { badge (known seat.new) ≡ badge (known seat.old) }
+    ensures made { seat.new.me.0.drawn ≡ seat.old.me.0.drawn + 1 }
+    ensures entry { IfOk result (λ reply. (b : V.Base) → seat.old.me.0.base ≡ Some b → Entered V.legal V.by b (known seat.old) (V.entry event reply) (known seat.new)) }
+    ensures memory { OnErr result ((b : V.Base) → seat.old.me.0.base ≡ Some b → Looked V.legal V.by b (known seat.old) (known seat.new)) }
+{
+    let ticket = draw(shared, seat);
+    let mut value = wait(shared, rt, seat, ticket);
+    let reply = value.apply(event);
+    end(shared, seat, value);
+    reply
+}
+
+/// One turn that only looks.
+pub fn look<V: Logged, R: Wait>(
+    shared: &Shared<Option<V>, View<V::Base, V::Entry>, Key<V>, TurnRule<V>>,
+    rt: &R,
+    seat: &mut Seat<Option<V>, View<V::Base, V::Entry>>,
+) -> V::Seen
+    requires lock { Fits shared.now.table_id seat.old }
+    requires idle { IsIdle V.by seat.old }
+    requires left { seat.old.me.0.drawn < seat.old.me.0.turns }
+    ensures lock { Stays seat.old seat.new }
+    ensures idle { IsIdle V.by seat.new }
+    ensures same { badge (known seat.new) ≡ badge (known seat.old) }
+    ensures made { seat.new.me.0.drawn ≡ seat.old.me.0.drawn + 1 }
+    ensures looked { (b : V.Base) → seat.old.me.0.base ≡ Some b → Looked V.legal V.by b (known seat.old) (known seat.new) }
+    ensures shown { (b : V.Base) → seat.old.me.0.base ≡ Some b → V.shows b seat.new.me.0.seen result }
+{
+    let ticket = draw(shared, seat);
+    let value = wait(shared, rt, seat, ticket);
+    let seen = value.seen();
+    end(shared, seat, value);
+    seen
+}
