@@ -1,9 +1,9 @@
 -- What holds of the state at the opening is kept by each event of an expert: of the five changes, a hold that is given back takes nothing away, an open
 -- question may be held, and what a confirmation or a row keeps was shown for lists. With as many holders as experts some question is always free,
 -- since each expert holds one at most.
-use Rattle.std.proofs.Common.{◌≡◌, ◌≢◌, ℕ, zero, suc, ◌+◌, ◌<◌, ◌≤◌, Bool, true, false, not, ◌&&◌, ◌||◌, cond, Option, Some, None, List, [], ◌∷◌, ◌++◌, length, filter, find, option_map, refl, sym, ap, ◌∙◌, subst, arith, inl, inr, eqb, eqb-true, eq-eqb, leb, le-leb, leb-true}
+use Rattle.std.proofs.Common.{◌≡◌, ◌≢◌, ℕ, zero, suc, ◌+◌, ◌<◌, ◌≤◌, Bool, true, false, not, ◌&&◌, ◌||◌, cond, Option, Some, None, List, [], ◌∷◌, ◌++◌, length, find, option_map, refl, sym, ap, ◌∙◌, subst, arith, inl, inr, eqb, eqb-true, leb, le-leb, leb-true}
 use Rattle.std.proofs.lemmas.Bool.{false≢true, and_parts, and_from, cases_Bool, or_parts, or_from, not-true, eqb-false}
-use Rattle.std.proofs.lemmas.List.Folds.{list_all-append, list_any-append, list_all-map}
+use Rattle.std.proofs.lemmas.List.Folds.{list_all-append, list_any-append}
 use Rattle.std.proofs.lemmas.List.Elements.{All-append, All-cons, All-head, All-tail, All-nil, All-filter, All-weaker}
 use Rattle.std.specs.List.{All, list_all, list_any}
 use Rattle.fca_model.specs.declared.TheConstants.{MAX_EXPERTS}
@@ -14,8 +14,8 @@ use Rattle.fca_model.specs.Questions.{has_premise}
 use Rattle.fca_model.specs.Exploration.{State, SetEvent, SetHold, RowName, Settings, rules_of, open_in, held_by, given_back, holders_of, all_held, least_held, asked, draw_reply, reply_to, release, accept, record_row, next, opening, state_after, expert_of, is_expert}
 use Rattle.fca_model.specs.declared.Event.TheVariants.{Draw}
 use Rattle.fca_model.specs.declared.Reply.TheVariants.{AllHeld}
-use Rattle.fca_model.specs.Invariant.{Among, IsHeld, IsAccepted, IsValid, rows_respect, is_holding, distinct_experts}
-use Rattle.fca_model.proofs.ListLemmas.{list_all-mono, list_all-from_none, list_all-filter_kept, All-find, filter_all}
+use Rattle.fca_model.specs.Invariant.{Among, IsHeld, IsValid, rows_respect, is_holding, distinct_experts}
+use Rattle.fca_model.proofs.ListLemmas.{filter_all}
 use Rattle.fca_model.proofs.ClosureLemmas.{holds_by_rows}
 use Rattle.fca_model.proofs.InvariantLemmas.{row_keeps_accepted, row_keeps_held, confirm_keeps_accepted, confirm_keeps_held, draw_gives_held}
 use Rattle.fca_model.proofs.StepLemmas.{by_change}
