@@ -1,7 +1,8 @@
 -- Streams in memory, with a plan of the calls that are to fail.
-use Rattle.std.specs.Prelude.{ℕ, ◌+◌, ◌-◌, Bool, cond, List, length, min, ◌==◌}
+use Rattle.std.specs.Prelude.{ℕ, Bool, cond, List, ◌==◌}
 use Rattle.std.specs.List.{list_any}
 use Rattle.fca_io.specs.Faults.{one_more}
+use Rattle.fca_io.specs.Shelves.{NamedBytes}
 
 -- the numbers of the calls that are to fail, counted from 1, and how many calls were made and faults counted
 pub record Plan : Type 0 where
@@ -36,4 +37,9 @@ pub record Roomy : Type 0 where
   pub bytes : List ℕ
   pub most : ℕ
   pub room : ℕ
+  pub plan : Plan
+
+-- the files of a shelf, the newest first
+pub record Files : Type 0 where
+  pub files : List NamedBytes
   pub plan : Plan

@@ -1,5 +1,6 @@
 -- What a shelf of files tells of a name.
-use Rattle.std.specs.Prelude.{◌≡◌, ◌<◌, ℕ, Option, None, Some, List, length, ⊤}
+use Rattle.std.specs.Prelude.{◌≡◌, ◌<◌, ℕ, Option, None, Some, List, length, find, option_map, ⊤, nat_eq}
+use lib.Pointwise.{pointwise}
 
 -- nothing, or that no file has the name, or the bytes of the file
 abbrev pub Told : Type 0
@@ -15,3 +16,12 @@ abbrev pub MayExceed : Told → ℕ → Type 0
 MayExceed None limit = ⊤
 MayExceed (Some None) limit = ⊥
 MayExceed (Some (Some bytes)) limit = limit < length bytes
+
+-- a name and the bytes under it
+pub record NamedBytes : Type 0 where
+  pub name : List ℕ
+  pub bytes : List ℕ
+
+-- the bytes of the first file of the name
+abbrev pub bytes_under : List NamedBytes → List ℕ → Option (List ℕ)
+bytes_under files name = option_map (λ file. file.bytes) (find (λ file. pointwise nat_eq file.name name) files)

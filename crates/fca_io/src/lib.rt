@@ -6,7 +6,10 @@ mod outside;
 mod steps;
 mod transfer;
 
-pub use memory::{MemorySink, MemorySource, SureSource};
+pub use memory::{MemoryShelf, MemorySink, MemorySource, SureSource};
 pub use outside::{Failed, Put, Shelf, Sink, Source, Taken};
 pub use steps::Steps;
 pub use transfer::{read_all, write_text};
+
+#[cfg(test)]
+mod tests;

@@ -1,4 +1,4 @@
-use Rattle.std.proofs.Common.{arith, ◌≡◌, ◌+◌, ◌++◌, length, take, vec_len, refl}
+use Rattle.std.proofs.Common.{arith, ◌++◌, take, refl}
 use Rattle.std.proofs.KnownBytes.{Consumes-trans}
 use Rattle.fca_io.proofs.Streams.{length-joined, memory-not-long}
 use Rattle.fca_io.proofs.transfer.read_all.Goals as goal

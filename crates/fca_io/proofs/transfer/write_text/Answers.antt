@@ -1,4 +1,4 @@
-use Rattle.std.proofs.Common.{rules, arith, ◌≡◌, ◌++◌, ℕ, List, [], length, take, drop, sym, ap, ◌∙◌, append_assoc, take-append-drop, refl}
+use Rattle.std.proofs.Common.{rules, arith, ◌++◌, take, refl}
 use Rattle.std.proofs.KnownBytes.{Appends-trans}
 use Rattle.fca_io.proofs.Streams.{split-front, not-empty}
 use Rattle.fca_io.proofs.transfer.write_text.Goals as goal

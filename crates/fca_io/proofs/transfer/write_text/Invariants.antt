@@ -1,5 +1,5 @@
 -- The sink gained a front of the text, and the rest is still to be written.
-use Rattle.std.proofs.Common.{◌≡◌, ◌≤◌, ◌++◌, ℕ, List, [], length}
+use Rattle.std.proofs.Common.{◌≡◌, ◌++◌, ℕ, List, [], length}
 use Rattle.std.specs.Io.KnownBytes.{Appends}
 use Rattle.fca_io.proofs.Streams.{Settled}
 use Rattle.fca_io.proofs.transfer.write_text.Given as goal

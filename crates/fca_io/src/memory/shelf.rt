@@ -1,0 +1,103 @@
+//! A shelf in memory.
+
+ghost use Rattle.std.specs.Prelude.{◌≡◌, ◌≢◌, ◌≤◌, ◌<◌, ◌∷◌, [], ℕ, List, length, vec_len, Some, None, Result, IfOk, OnOk, OnErr, IsErrOf};
+ghost use Rattle.std.specs.Option.{option_copied};
+ghost use Rattle.fca_io.specs.Faults.{Rose};
+ghost use Rattle.fca_io.specs.Shelves.{MayHold, MayExceed, bytes_under};
+ghost use Rattle.fca_io.specs.Forms.{planned};
+
+use super::plan::FailingCalls;
+use crate::outside::{Shelf, Taken};
+use fca_model::Memory;
+use std::alloc::Global;
+use std::marker::Model;
+
+/// Bytes under a name.
+#[derive(Drop)]
+struct File {
+    name: Vec<u8>,
+    bytes: Vec<u8>,
+}
+
+impl Model for File {
+    ghost use Rattle.fca_io.specs.Shelves.{NamedBytes};
+
+    ghost Value = { NamedBytes };
+
+    ghost view = { λ f. record { name = f.name.items; bytes = f.bytes.items } };
+}
+
+/// A shelf in memory whose calls fail where a list says so.
+#[derive(Drop)]
+pub struct MemoryShelf {
+    // the newest first
+    files: Vec<File>,
+    calls: FailingCalls,
+}
+
+impl Model for MemoryShelf {
+    ghost use Rattle.fca_io.specs.Forms.{Files};
+
+    ghost Value = { Files };
+
+    ghost view = { λ s. record { files = s.files.items; plan = s.calls } };
+}
+
+impl MemoryShelf {
+    /// An empty shelf, whose fetches with the numbers `fails`, counted from 1, fail.
+    pub fn new(alloc: Global, fails: &[usize]) -> Result<MemoryShelf, Memory>
+        ensures { IfOk result (λ shelf. shelf ≡ record { files = []; plan = planned fails.now }) }
+    {
+        Ok(MemoryShelf {
+            files: Vec::new(alloc),
+            calls: FailingCalls::new(alloc, fails)?,
+        })
+    }
+
+    /// Puts the bytes under the name, in place of what was there.
+    pub fn put(&mut self, name: &[u8], bytes: &[u8]) -> Result<(), Memory>
+        ensures ok { OnOk result (self.new ≡ record self.old { files = record { name = name.now; bytes = bytes.now } ∷ self.old.files }) }
+        ensures err { OnErr result (self.new ≡ self.old) }
+    {
+        let alloc = *self.files.allocator();
+        let file = File {
+            name: Vec::from_slice(alloc, name)?,
+            bytes: Vec::from_slice(alloc, bytes)?,
+        };
+        self.files.insert(0, file)?;
+        Ok(())
+    }
+}
+
+/// The bytes of the first file of the name.
+fn bytes_under<'a>(files: &'a [File], name: &[u8]) -> Option<&'a [u8]>
+    ensures { option_copied result ≡ bytes_under files.now name.now }
+{
+    files
+        .iter()
+        .find(|file| file.name.as_slice() == name)
+        .map(|file| file.bytes.as_slice())
+}
+
+impl Shelf for MemoryShelf {
+    ghost use Rattle.std.specs.Prelude.{Some};
+    ghost use Rattle.fca_io.specs.Shelves.{bytes_under};
+
+    ghost tells = { λ s name. Some (bytes_under s.files name) };
+
+    ghost faults = { λ s _. s.plan.faults };
+
+    fn fetch(&mut self, alloc: Global, name: &[u8], limit: usize) -> Result<Vec<u8>, Taken> {
+        if self.calls.next_fails() {
+            return Err(Taken::Failed);
+        }
+        let Some(bytes) = bytes_under(&self.files, name) else {
+            self.calls.count_fault();
+            return Err(Taken::Failed);
+        };
+        if bytes.len() > limit {
+            return Err(Taken::Long);
+        }
+        Ok(Vec::from_slice(alloc, bytes)?)
+    }
+}
