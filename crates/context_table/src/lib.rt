@@ -1,0 +1,240 @@
+//! Tables: contexts whose objects and attributes have names.
+#![tactic(auto)]
+
+ghost use Rattle.std.specs.Prelude.{◌≡◌, ◌<◌, ◌≤◌, ◌↔◌, ◌∷◌, ◌++◌, ℕ, List, [], None, Some, All, IfOk, IfErr, OnOk, IsErrOf, IsTrue, length, vec_len, slice_get, option_copied, position, bytes_eq};
+ghost use Rattle.context_table.specs.Table.{IsTable, first_repeat};
+
+use derivation::Rows;
+use fca_model::{MAX_OBJECTS, Memory, Name};
+use indexmap::IndexSet;
+use std::alloc::{AllocError, AllocFailed, Global};
+use std::marker::Model;
+use thiserror::Error;
+
+/// Why names and rows make no table.
+#[derive(Debug, Drop, Error)]
+pub enum TableFault {
+    #[error("more objects than a table may have")]
+    TooMany,
+    /// The place of the attribute, counted from 0.
+    #[error("attribute {0} has the name of an earlier one")]
+    DuplicateAttribute(u32),
+    #[error("no memory")]
+    Memory,
+}
+
+impl From<AllocError> for TableFault {
+    ghost use Rattle.context_table.specs.declared.TableFault.TheVariants as fault;
+
+    ghost from_gives = { λ _ e. e ≡ fault.Memory };
+
+    fn from(_error: AllocError) -> TableFault {
+        TableFault::Memory
+    }
+}
+
+/// A context with the names of its objects and attributes, and a title where it has one.
+#[derive(Drop)]
+pub struct Table {
+    title: Option<Name>,
+    objects: Vec<Name>,
+    attributes: IndexSet<Name>,
+    rows: Rows,
+}
+
+impl Model for Table {
+    ghost use Rattle.fca_model.specs.Tables.{NamedContext};
+    ghost use Rattle.context_table.specs.Table.{IsTable};
+
+    ghost Value = { NamedContext };
+
+    ghost view = { λ t. record { title = t.title; objects = t.objects.items; attributes = t.attributes.keys; context = t.rows } };
+
+    ghost invariant = { λ t. IsTable (record { title = t.title; objects = t.objects.items; attributes = t.attributes.keys; context = t.rows }) };
+}
+
+impl Table {
+    /// The table of these names and rows. An attribute with the name of an earlier one is told by the least such place.
+    pub fn new(
+        alloc: Global,
+        title: Option<Name>,
+        objects: Vec<Name>,
+        attributes: Vec<Name>,
+        rows: Rows,
+    ) -> Result<Table, TableFault>
+        requires objects { vec_len objects ≡ length rows.rows }
+        requires attributes { vec_len attributes ≡ rows.width }
+        ensures table { IfOk result (λ t. t ≡ record { title = title; objects = objects.items; attributes = attributes.items; context = rows }) }
+        ensures too_many { IsErrOf result TableFault.TooMany ↔ (MAX_OBJECTS < vec_len objects) }
+        ensures repeated { (i : ℕ) → result ≡ Err (TableFault.DuplicateAttribute i) → first_repeat attributes.items ≡ Some i }
+        ensures differing { OnOk result (first_repeat attributes.items ≡ None) }
+    {
+        if objects.len() > MAX_OBJECTS {
+            return Err(TableFault::TooMany);
+        }
+        let attributes = in_order(alloc, attributes)?;
+        Ok(Table {
+            title,
+            objects,
+            attributes,
+            rows,
+        })
+    }
+
+    /// The title.
+    pub fn title(&self) -> Option<&Name>
+        ensures { option_copied result ≡ self.now.title }
+    {
+        self.title.as_ref()
+    }
+
+    /// The name of object i.
+    pub fn object(&self, i: usize) -> &Name
+        requires { i < length self.now.context.rows }
+        ensures { Some result.now ≡ slice_get self.now.objects i }
+    {
+        &self.objects[i]
+    }
+
+    /// The name of attribute i.
+    pub fn attribute_name(&self, i: u32) -> &Name
+        requires { i < self.now.context.width }
+        ensures { Some result.now ≡ slice_get self.now.attributes i }
+    {
+        &self.attributes.as_slice()[i as usize]
+    }
+
+    /// The rows.
+    pub fn rows(&self) -> &Rows
+        ensures rows { result.now ≡ self.now.context }
+        ensures table { IsTable self.now }
+    {
+        &self.rows
+    }
+
+    /// The place of the attribute with this name.
+    pub fn attribute(&self, name: &Name) -> Option<u32>
+        ensures { result ≡ position (bytes_eq name.now) self.now.attributes }
+    {
+        match self.attributes.get_index_of(name) {
+            Some(place) => Some(place as u32),
+            None => None,
+        }
+    }
+
+    /// Whether both have the same attribute names in the same order.
+    pub fn same_attributes(&self, other: &Table) -> bool
+        ensures { IsTrue result ↔ (self.now.attributes ≡ other.now.attributes) }
+    {
+        self.attributes.as_slice() == other.attributes.as_slice()
+    }
+
+    /// An equal table.
+    pub fn copy(&self) -> Result<Table, Memory>
+        ensures { IfOk result (λ t. t ≡ self.now) }
+    {
+        let alloc = *self.objects.allocator();
+        let title = match &self.title {
+            Some(title) => Some(title.copy()?),
+            None => None,
+        };
+        let objects = copies(alloc, &self.objects)?;
+        let attributes = copies(alloc, self.attributes.as_slice())?;
+        let rows = self.rows.copy()?;
+        match Table::new(alloc, title, objects, attributes, rows) {
+            Ok(table) => Ok(table),
+            Err(_) => Err(Memory),
+        }
+    }
+}
+
+/// The names in their order, or the place of the first that stood before.
+fn in_order(alloc: Global, names: Vec<Name>) -> Result<IndexSet<Name>, TableFault>
+    requires { vec_len names ≤ 256 }
+    ensures names { IfOk result (λ set. set.keys ≡ names.items) }
+    ensures few { ¬ IsErrOf result TableFault.TooMany }
+    ensures repeated { (i : ℕ) → result ≡ Err (TableFault.DuplicateAttribute i) → first_repeat names.items ≡ Some i }
+    ensures differing { OnOk result (first_repeat names.items ≡ None) }
+{
+    let mut set = IndexSet::with_capacity(alloc, names.len())?;
+    let mut place = 0;
+    for name in names {
+        match set.insert_full(name) {
+            Ok((_, true)) => place += 1,
+            Ok((_, false)) => return Err(TableFault::DuplicateAttribute(place)),
+            Err(_) => return Err(TableFault::Memory),
+        }
+    }
+    Ok(set)
+}
+
+/// Copies of the names.
+fn copies(alloc: Global, names: &[Name]) -> Result<Vec<Name>, Memory>
+    ensures { IfOk result (λ v. v.items ≡ names.now) }
+{
+    let mut list = Vec::with_capacity(alloc, names.len())?;
+    for name in names {
+        let copy = name.copy()?;
+        if list.push(copy).is_err() {
+            return Err(Memory);
+        }
+    }
+    Ok(list)
+}
+
+#[cfg(test)]
+mod tests {
+    use super::{Table, TableFault};
+    use attr_bits::Attrs;
+    use derivation::Rows;
+    use fca_model::{Memory, Name};
+    use std::alloc::Global;
+    use std::rt::HostRuntime;
+
+    fn names(alloc: Global, texts: &[&str]) -> Result<Vec<Name>, Memory> {
+        let mut names = Vec::new(alloc);
+        for text in texts {
+            let Ok(name) = Name::new(alloc, text) else {
+                return Err(Memory);
+            };
+            if names.push(name).is_err() {
+                return Err(Memory);
+            }
+        }
+        Ok(names)
+    }
+
+    fn rows(alloc: Global) -> Result<Rows, Memory> {
+        let mut rows = Rows::new(alloc, 2)?;
+        rows.push(Attrs::empty(2).with(0))?;
+        Ok(rows)
+    }
+
+    #[test]
+    fn a_table_has_its_names_and_rows(rt: HostRuntime) -> Result<(), Memory> {
+        let alloc = rt.alloc();
+        let objects = names(alloc, &["g"])?;
+        let attributes = names(alloc, &["a", "b"])?;
+        let Ok(table) = Table::new(alloc, None, objects, attributes, rows(alloc)?) else {
+            return Err(Memory);
+        };
+        let copy = table.copy()?;
+        assert!(&rt; copy.title().is_none());
+        assert!(&rt; copy.object(0).bytes() == b"g".as_slice());
+        assert!(&rt; copy.attribute(copy.attribute_name(1)) == Some(1));
+        assert!(&rt; copy.attribute(copy.object(0)).is_none());
+        assert!(&rt; copy.rows().len() == 1);
+        assert!(&rt; copy.same_attributes(&table));
+        Ok(())
+    }
+
+    #[test]
+    fn an_attribute_stands_once(rt: HostRuntime) -> Result<(), Memory> {
+        let alloc = rt.alloc();
+        let objects = names(alloc, &["g"])?;
+        let attributes = names(alloc, &["a", "a"])?;
+        let made = Table::new(alloc, None, objects, attributes, rows(alloc)?);
+        assert!(&rt; matches!(made, Err(TableFault::DuplicateAttribute(1))));
+        Ok(())
+    }
+}
