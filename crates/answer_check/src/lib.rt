@@ -1,0 +1,131 @@
+//! The verdict on an answer of an expert: which case of the step of an exploration it is.
+#![tactic(auto)]
+
+ghost use Rattle.std.specs.Prelude.{◌≡◌, Option, Some, position};
+ghost use Rattle.fca_model.specs.Sets.{same};
+ghost use Rattle.fca_model.specs.Implications.{Rule};
+ghost use Rattle.fca_model.specs.Exploration.{State, rules_of, row_reply, confirm_reply, first_missing};
+ghost use Rattle.answer_check.specs.Verdicts.{row_verdict, confirm_verdict, reply_to_row, reply_to_confirmation, IsOnRow, IsOnConfirmation};
+
+use attr_bits::Attrs;
+use derivation::Rows;
+use implication_closure::{Implication, ImplicationList, Question};
+
+/// Which case of the step an answer is. A place counts from 0 in the list that it speaks of.
+#[derive(Clone, Copy, Debug)]
+pub enum Verdict {
+    /// The answer is recorded.
+    Take,
+    /// The row lacks this attribute of the premise.
+    Misses(u32),
+    /// The row has the whole conclusion.
+    Keeps,
+    /// The row does not respect the rule at this place.
+    Breaks(usize),
+    /// The row at this place refutes the question that was confirmed.
+    Refuted(usize),
+    /// The row at this place refutes the question already.
+    SupersededRow(usize),
+    /// The accepted implication at this place has the premise already.
+    SupersededBy(usize),
+}
+
+/// The verdict on a row that an expert gives to a question.
+pub fn check_row(rows: &Rows, rules: &ImplicationList, question: &Question, row: &Attrs) -> Verdict
+    ensures reply { (s : State) → s.context ≡ rows.now → rules_of s ≡ rules.now.members
+        → row_reply s (Some question.now) row.now ≡ reply_to_row s result }
+    ensures case { IsOnRow rows.now.rows rules.now.members result }
+{
+    judge_row(rows, rules, question, row)
+}
+
+/// The verdict on a confirmation of a question.
+pub fn check_confirm(rows: &Rows, accepted: &ImplicationList, question: &Question) -> Verdict
+    ensures reply { (s : State) → s.context ≡ rows.now → s.accepted ≡ accepted.now.members
+        → confirm_reply s (Some question.now) ≡ reply_to_confirmation s result }
+    ensures case { IsOnConfirmation rows.now.rows accepted.now.members result }
+{
+    judge_confirmation(rows, accepted, question)
+}
+
+/// The first case of a row that applies.
+fn judge_row(rows: &Rows, rules: &ImplicationList, question: &Question, row: &Attrs) -> Verdict
+    ensures { result ≡ row_verdict rows.now.rows rules.now.members question.now row.now }
+{
+    if let Some(attribute) = question.premise.first_missing(row) {
+        return Verdict::Misses(attribute);
+    }
+    if question.conclusion.within(row) {
+        return Verdict::Keeps;
+    }
+    if let Some(place) = rules.first_broken(row) {
+        return Verdict::Breaks(place);
+    }
+    match rows.refuter(&question.premise, &question.conclusion) {
+        Some(place) => Verdict::SupersededRow(place),
+        None => Verdict::Take,
+    }
+}
+
+/// The first case of a confirmation that applies.
+fn judge_confirmation(rows: &Rows, accepted: &ImplicationList, question: &Question) -> Verdict
+    ensures { result ≡ confirm_verdict rows.now.rows accepted.now.members question.now }
+{
+    if let Some(place) = rows.refuter(&question.premise, &question.conclusion) {
+        return Verdict::Refuted(place);
+    }
+    match first_with_premise(accepted.as_slice(), &question.premise) {
+        Some(place) => Verdict::SupersededBy(place),
+        None => Verdict::Take,
+    }
+}
+
+/// The place of the first implication with the premise.
+fn first_with_premise(members: &[Implication], premise: &Attrs) -> Option<usize>
+    ensures { result ≡ position (λ i. same i.premise premise.now) members.now }
+{
+    members.iter().position(|i| i.premise == *premise)
+}
+
+#[cfg(test)]
+mod tests {
+    use super::{Verdict, check_confirm, check_row};
+    use attr_bits::Attrs;
+    use derivation::Rows;
+    use fca_model::Memory;
+    use implication_closure::{ImplicationList, Question};
+    use std::alloc::Global;
+    use std::rt::HostRuntime;
+
+    /// The rows of a table over the attributes a and b whose one object has a.
+    fn one_row(alloc: Global) -> Result<Rows, Memory> {
+        let mut rows = Rows::new(alloc, 2);
+        rows.push(&Attrs::empty(2).with(0))?;
+        Ok(rows)
+    }
+
+    #[test]
+    fn confirmation_of_a_refuted_question(rt: HostRuntime) -> Result<(), Memory> {
+        let accepted = ImplicationList::new(rt.alloc(), 2)?;
+        let question = Question {
+            premise: Attrs::empty(2),
+            conclusion: Attrs::full(2),
+        };
+        let verdict = check_confirm(&one_row(rt.alloc())?, &accepted, &question);
+        assert!(&rt; matches!(verdict, Verdict::Refuted(0)));
+        Ok(())
+    }
+
+    #[test]
+    fn row_for_a_refuted_question(rt: HostRuntime) -> Result<(), Memory> {
+        let accepted = ImplicationList::new(rt.alloc(), 2)?;
+        let question = Question {
+            premise: Attrs::empty(2),
+            conclusion: Attrs::full(2),
+        };
+        let row = Attrs::empty(2).with(1);
+        let verdict = check_row(&one_row(rt.alloc())?, &accepted, &question, &row);
+        assert!(&rt; matches!(verdict, Verdict::SupersededRow(0)));
+        Ok(())
+    }
+}
