@@ -1,7 +1,7 @@
 -- What is left once all passes are joined.
 -- The view of pass 1 stands for all passes then, so no other view has the turn, and the value is at home. Its history has the
 -- entries that were kept of each pass, and goes on from what each has seen.
-use Rattle.std.proofs.Common.{◌≡◌, ℕ, ◌-◌, ◌<◌, ◌⊎◌, false, zero, suc, List, [], ◌∷◌, ◌++◌, length, get_or, take, drop, map, All, sym, refl, ap, ◌∙◌, subst, inl, inr, ⊎_elim, arith}
+use Rattle.std.proofs.Common.{◌≡◌, ℕ, ◌+◌, ◌-◌, ◌<◌, ◌≤◌, ◌⊎◌, false, zero, suc, List, [], ◌∷◌, ◌++◌, length, get_or, take, drop, map, All, sym, refl, ap, ◌∙◌, subst, inl, inr, ⊎_elim, arith}
 use Rattle.std.proofs.Common.{Option, Some, None, Result, Ok, Err, IfOk}
 use Rattle.std.proofs.lemmas.List.{length-map}
 use mathlib.Core.Option.{some, some-injective}
@@ -33,25 +33,41 @@ module _ {X : Type 0} where
   front [] x l e = absurd (omega arith)
   front (y ∷ xs) x l e = λ i. sym e i ∷ xs
 
-pub if_ok : {T F : Type 0} (P Q : T → Type 0) (r : Result T F) → ((x : T) → P x → Q x) → IfOk r P → IfOk r Q
-if_ok P Q (Ok x) f h = f x h
-if_ok P Q (Err e) f h = tt
+pub if_ok_both : {T F : Type 0} (P P' Q : T → Type 0) (r : Result T F) → ((x : T) → P x → P' x → Q x) → IfOk r P → IfOk r P' → IfOk r Q
+if_ok_both P P' Q (Ok x) f h h' = f x h h'
+if_ok_both P P' Q (Err e) f h h' = tt
 
 module _ {B E : Type 0} where
-  all_same : (id : TableId) (b : Option B) (turns n k : ℕ) (ps : List (Known B E)) → map badge ps ≡ badges id b turns n k → All (λ p. (p.lock ≡ id) × (p.base ≡ b) × (p.turns ≡ turns)) ps
-  all_same id b turns n k [] e i d l = absurd (omega arith)
-  all_same id b turns n zero (p ∷ ps) e i d l = let h = ap length e in absurd (omega arith)
-  all_same id b turns n (suc k) (p ∷ ps) e zero d l = let h = heads (badge p) _ (map badge ps) (badges id b turns (suc n) k) e in (ap (λ x. x.lock) h, ap (λ x. x.base) h, ap (λ x. x.turns) h)
-  all_same id b turns n (suc k) (p ∷ ps) e (suc i) d l = all_same id b turns (suc n) k ps (tails (badge p) _ (map badge ps) (badges id b turns (suc n) k) e) i d (omega arith)
+  -- each pass on the list has the lock, the base and the turns, and a number from n on
+  on_list : (id : TableId) (b : Option B) (turns n k : ℕ) (ps : List (Known B E)) → map badge ps ≡ badges id b turns n k
+      → All (λ p. (p.lock ≡ id) × (p.base ≡ b) × (p.turns ≡ turns) × (n ≤ p.number) × (p.number < n + k)) ps
+  on_list id b turns n k [] e i d l = absurd (omega arith)
+  on_list id b turns n zero (p ∷ ps) e i d l = let h = ap length e in absurd (omega arith)
+  on_list id b turns n (suc k) (p ∷ ps) e zero d l =
+      let h = heads (badge p) _ (map badge ps) (badges id b turns (suc n) k) e in
+      let number : p.number ≡ n = ap (λ x. x.number) h in
+      (ap (λ x. x.lock) h, ap (λ x. x.base) h, ap (λ x. x.turns) h, omega arith, omega arith)
+  on_list id b turns n (suc k) (p ∷ ps) e (suc i) d l =
+      let h = on_list id b turns (suc n) k ps (tails (badge p) _ (map badge ps) (badges id b turns (suc n) k) e) i d (omega arith) in
+      let least = h.3 in
+      let most = h.4 in
+      (h.0, h.1, h.2, omega arith, omega arith)
 
   pub one_lock : (id : TableId) (b : Option B) (turns n k : ℕ) (ps : List (Known B E)) → map badge ps ≡ badges id b turns n k → All (λ p. p.lock ≡ id) ps
-  one_lock id b turns n k ps e i d l = (all_same id b turns n k ps e i d l).0
+  one_lock id b turns n k ps e i d l = (on_list id b turns n k ps e i d l).0
 
   -- each pass on the roll belongs to the lock
-  pub roll-belongs : (l : Lock B) (ps : List (Known B E)) → map badge ps ≡ roll l → All (Belongs l) ps
-  roll-belongs l [] e i d near = absurd (omega arith)
-  roll-belongs l (p ∷ ps) e zero d near = let h = heads (badge p) _ (map badge ps) (badges l.id (Some l.base) l.turns 2 (l.passes - 1)) e in (ap (λ x. x.lock) h, ap (λ x. x.base) h, ap (λ x. x.turns) h)
-  roll-belongs l (p ∷ ps) e (suc i) d near = all_same l.id (Some l.base) l.turns 2 (l.passes - 1) ps (tails (badge p) _ (map badge ps) (badges l.id (Some l.base) l.turns 2 (l.passes - 1)) e) i d (omega arith)
+  pub roll-belongs : (l : Lock B) (ps : List (Known B E)) → 0 < l.passes → map badge ps ≡ roll l → All (Belongs l) ps
+  roll-belongs l [] some_passes e i d near = absurd (omega arith)
+  roll-belongs l (p ∷ ps) some_passes e zero d near =
+      let h = heads (badge p) _ (map badge ps) (badges l.id (Some l.base) l.turns 2 (l.passes - 1)) e in
+      let number : p.number ≡ 1 = ap (λ x. x.number) h in
+      record { lock = ap (λ x. x.lock) h; base = ap (λ x. x.base) h; turns = ap (λ x. x.turns) h; number = (omega arith, omega arith) }
+  roll-belongs l (p ∷ ps) some_passes e (suc i) d near =
+      let h = on_list l.id (Some l.base) l.turns 2 (l.passes - 1) ps (tails (badge p) _ (map badge ps) (badges l.id (Some l.base) l.turns 2 (l.passes - 1)) e) i d (omega arith) in
+      let least = h.3 in
+      let most = h.4 in
+      record { lock = h.0; base = h.1; turns = h.2; number = (omega arith, omega arith) }
 
   pub has_first : (l : Lock B) (ps : List (Known B E)) → map badge ps ≡ roll l → 0 < length ps
   has_first l [] e = let h = ap length e in absurd (omega arith)

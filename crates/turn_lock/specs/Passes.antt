@@ -1,5 +1,5 @@
 -- What contracts see of a lock and of its passes.
-use Rattle.std.specs.Prelude.{◌≡◌, ℕ, zero, suc, ◌+◌, ◌-◌, ◌<◌, ◌⊎◌, List, [], ◌∷◌, ◌++◌, length, All}
+use Rattle.std.specs.Prelude.{◌≡◌, ℕ, zero, suc, ◌+◌, ◌-◌, ◌<◌, ◌≤◌, ◌⊎◌, List, [], ◌∷◌, ◌++◌, length, All}
 use Rattle.std.specs.Prelude.{Option, Some}
 pub use Rattle.atomic_table.specs.Seated.{TableId}
 use Rattle.turn_lock.specs.Histories.{StartsWith, own_of}
@@ -40,8 +40,11 @@ module _ {B E : Type 0} where
   badge p = record { lock = p.lock; number = p.number; base = p.base; turns = p.turns; passes = p.passes }
 
   -- the pass is one of this lock's
-  abbrev pub Belongs : Lock B → Known B E → Type 0
-  Belongs l p = (p.lock ≡ l.id) × (p.base ≡ Some l.base) × (p.turns ≡ l.turns)
+  pub record Belongs (l : Lock B) (p : Known B E) : Type 0 where
+    pub lock : p.lock ≡ l.id
+    pub base : p.base ≡ Some l.base
+    pub turns : p.turns ≡ l.turns
+    pub number : (1 ≤ p.number) × (p.number ≤ l.passes)
 
   -- the pass has made no turn
   abbrev pub IsFresh : Known B E → Type 0

@@ -75,9 +75,7 @@ impl<V: Logged> TurnLock<V> {
             turns,
         };
         let mut slots = Vec::new(alloc);
-        let Ok(()) = slots.push(Some(value)) else {
-            return Err(Memory);
-        };
+        slots.push(Some(value))?;
         let Ok((table, mut seat)) = Table::new(alloc, &[0, 0], slots, &key) else {
             return Err(Memory);
         };
@@ -88,9 +86,7 @@ impl<V: Logged> TurnLock<V> {
             turns,
             seat,
         };
-        let Ok(()) = all.insert(0, first) else {
-            return Err(Memory);
-        };
+        all.insert(0, first)?;
         Ok((TurnLock { passes, table }, all))
     }
 
@@ -189,9 +185,7 @@ fn make_more<V: Logged>(
             turns,
             seat: other,
         };
-        let Ok(()) = others.push(pass) else {
-            return Err(Memory);
-        };
+        others.push(pass)?;
     }
     Ok(others)
 }

@@ -53,9 +53,7 @@ impl Logged for Roll {
 
     fn apply(&mut self, event: u8) -> Result<usize, Memory> {
         let place = self.signed.len();
-        let Ok(()) = self.signed.push((event, place)) else {
-            return Err(Memory);
-        };
+        self.signed.push((event, place))?;
         Ok(place)
     }
 

@@ -10,5 +10,5 @@ invariant_of-pass g c =
 
 pub returns-clause-looked : goal.returns-clause-looked
 returns-clause-looked g c =
-    let based = ap (λ k. k.base) c.pass.view_is ∙ c.requires.lock.1 in
+    let based = ap (λ k. k.base) c.pass.view_is ∙ c.requires.lock.base in
     (rw (sym c.pass.view_is) (c.look-seen.ensures.looked c.args.self.now.base based), c.look-seen.ensures.shown c.args.self.now.base based)

@@ -12,5 +12,5 @@ invariant_of-pass g c =
 pub returns-clause-memory : goal.returns-clause-memory
 returns-clause-memory g c = elim c.match-reply.branch [
   | in-Ok w ↦ λ h. cc (sym w.result-is ∙ h)
-  | in-Err w ↦ λ h. rw (sym c.pass.view_is) (w.in-Err.ensures.memory c.args.self.now.base (ap (λ k. k.base) c.pass.view_is ∙ c.requires.lock.1))
+  | in-Err w ↦ λ h. rw (sym c.pass.view_is) (w.in-Err.ensures.memory c.args.self.now.base (ap (λ k. k.base) c.pass.view_is ∙ c.requires.lock.base))
 ]
