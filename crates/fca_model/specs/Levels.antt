@@ -1,4 +1,9 @@
--- The basis by levels: the members whose premises have one size, and what has been found below a size.
+-- The basis by levels of size.
+--
+-- Whether a set is a pseudo-intent depends on smaller pseudo-intents alone, so the basis can be found size by size: the members whose premise has one size
+-- are a level, and a list that has all members below a size decides which sets of that size are members.
+--
+-- Of one empty row over a, b, c all three members are in the level of size 1.
 use Rattle.std.specs.Prelude.{◌≡◌, ℕ, zero, suc, Bool, true, not, ◌||◌, List, [], ◌++◌, filter, ◌==◌, nat_le, nat_lt}
 use Rattle.std.specs.List.{list_all}
 use Rattle.fca_model.specs.Sets.{Set, size, within, strictly_within}

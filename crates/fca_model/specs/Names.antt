@@ -1,5 +1,6 @@
--- Names: of objects, attributes and experts, and titles of tables.
--- A name is a text of 1 to MAX_NAME_BYTES bytes of UTF-8 without a line break, so that it stands on one line of each format.
+-- Names, of objects, attributes and experts and as titles.
+--
+-- A name is a text of 1 to MAX_NAME_BYTES bytes without a line break, so that it stands on one line in each format. Its bytes are UTF-8.
 use Rattle.std.specs.Prelude.{◌≡◌, ℕ, Bool, ◌||◌, ◌==◌, nat_lt, cond, Option, Some, None, length, IsUtf8}
 use Rattle.std.specs.List.{list_any}
 use Rattle.fca_model.specs.Tables.{Text}

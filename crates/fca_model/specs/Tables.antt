@@ -1,4 +1,6 @@
--- A table: a context whose objects and attributes have names.
+-- Tables: contexts whose objects and attributes have names.
+--
+-- The rows stand in the order of the objects' names, and the attributes are numbered in the order of theirs.
 use Rattle.std.specs.Prelude.{ℕ, Option, List}
 use Rattle.fca_model.specs.Context.{Context}
 
