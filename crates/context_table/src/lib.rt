@@ -33,6 +33,26 @@ impl From<AllocError> for TableFault {
     }
 }
 
+impl From<Memory> for TableFault {
+    ghost use Rattle.context_table.specs.declared.TableFault.TheVariants as fault;
+
+    ghost from_gives = { λ _ e. e ≡ fault.Memory };
+
+    fn from(_error: Memory) -> TableFault {
+        TableFault::Memory
+    }
+}
+
+impl<T: Drop> From<AllocFailed<T>> for TableFault {
+    ghost use Rattle.context_table.specs.declared.TableFault.TheVariants as fault;
+
+    ghost from_gives = { λ _ e. e ≡ fault.Memory };
+
+    fn from(_error: AllocFailed<T>) -> TableFault {
+        TableFault::Memory
+    }
+}
+
 /// A context with the names of its objects and attributes, and a title where it has one.
 #[derive(Drop)]
 pub struct Table {
@@ -159,11 +179,11 @@ fn in_order(alloc: Global, names: Vec<Name>) -> Result<IndexSet<Name>, TableFaul
     let mut set = IndexSet::with_capacity(alloc, names.len())?;
     let mut place = 0;
     for name in names {
-        match set.insert_full(name) {
-            Ok((_, true)) => place += 1,
-            Ok((_, false)) => return Err(TableFault::DuplicateAttribute(place)),
-            Err(_) => return Err(TableFault::Memory),
+        let (_, added) = set.insert_full(name)?;
+        if !added {
+            return Err(TableFault::DuplicateAttribute(place));
         }
+        place += 1;
     }
     Ok(set)
 }
@@ -174,10 +194,7 @@ fn copies(alloc: Global, names: &[Name]) -> Result<Vec<Name>, Memory>
 {
     let mut list = Vec::with_capacity(alloc, names.len())?;
     for name in names {
-        let copy = name.copy()?;
-        if list.push(copy).is_err() {
-            return Err(Memory);
-        }
+        list.push(name.copy()?)?;
     }
     Ok(list)
 }
@@ -191,50 +208,49 @@ mod tests {
     use std::alloc::Global;
     use std::rt::HostRuntime;
 
-    fn names(alloc: Global, texts: &[&str]) -> Result<Vec<Name>, Memory> {
-        let mut names = Vec::new(alloc);
-        for text in texts {
-            let Ok(name) = Name::new(alloc, text) else {
-                return Err(Memory);
-            };
-            if names.push(name).is_err() {
-                return Err(Memory);
-            }
+    fn named(alloc: Global, text: &str) -> Result<Name, TableFault> {
+        match Name::new(alloc, text) {
+            Ok(name) => Ok(name),
+            Err(_) => Err(TableFault::Memory),
         }
-        Ok(names)
     }
 
-    fn rows(alloc: Global) -> Result<Rows, Memory> {
+    fn one_row(alloc: Global) -> Result<Rows, Memory> {
         let mut rows = Rows::new(alloc, 2)?;
         rows.push(Attrs::empty(2).with(0))?;
         Ok(rows)
     }
 
+    // A table with the object g and two attributes.
+    fn table(alloc: Global, first: &str, second: &str) -> Result<Table, TableFault> {
+        let mut objects = Vec::new(alloc);
+        objects.push(named(alloc, "g")?)?;
+        let mut attributes = Vec::new(alloc);
+        attributes.push(named(alloc, first)?)?;
+        attributes.push(named(alloc, second)?)?;
+        let rows = one_row(alloc)?;
+        if objects.len() != rows.len() || attributes.len() != rows.width() as usize {
+            return Err(TableFault::Memory);
+        }
+        Table::new(alloc, None, objects, attributes, rows)
+    }
+
     #[test]
-    fn a_table_has_its_names_and_rows(rt: HostRuntime) -> Result<(), Memory> {
-        let alloc = rt.alloc();
-        let objects = names(alloc, &["g"])?;
-        let attributes = names(alloc, &["a", "b"])?;
-        let Ok(table) = Table::new(alloc, None, objects, attributes, rows(alloc)?) else {
-            return Err(Memory);
-        };
+    fn a_table_has_its_names_and_rows(rt: HostRuntime) -> Result<(), TableFault> {
+        let table = table(rt.alloc(), "a", "b")?;
         let copy = table.copy()?;
+        assert!(&rt; copy.same_attributes(&table));
         assert!(&rt; copy.title().is_none());
+        assert!(&rt; copy.rows().len() == 1 && copy.rows().width() == 2);
         assert!(&rt; copy.object(0).bytes() == b"g".as_slice());
         assert!(&rt; copy.attribute(copy.attribute_name(1)) == Some(1));
         assert!(&rt; copy.attribute(copy.object(0)).is_none());
-        assert!(&rt; copy.rows().len() == 1);
-        assert!(&rt; copy.same_attributes(&table));
         Ok(())
     }
 
     #[test]
-    fn an_attribute_stands_once(rt: HostRuntime) -> Result<(), Memory> {
-        let alloc = rt.alloc();
-        let objects = names(alloc, &["g"])?;
-        let attributes = names(alloc, &["a", "a"])?;
-        let made = Table::new(alloc, None, objects, attributes, rows(alloc)?);
+    fn an_attribute_stands_once(rt: HostRuntime) {
+        let made = table(rt.alloc(), "a", "a");
         assert!(&rt; matches!(made, Err(TableFault::DuplicateAttribute(1))));
-        Ok(())
     }
 }
