@@ -1,6 +1,6 @@
 //! Names of objects, attributes and experts, and titles of tables.
 
-ghost use Rattle.std.specs.Prelude.{◌≡◌, ◌↔◌, Some, None, IfOk, IsErrOf};
+ghost use Rattle.std.specs.Prelude.{◌≡◌, ◌↔◌, nat_lt, length, Some, None, IfOk, IsErrOf};
 ghost use Rattle.std.specs.Str.{bytes_eq};
 ghost use Rattle.std.specs.Ordering.{nat_cmp};
 ghost use Rattle.std.specs.Cmp;
@@ -99,6 +99,12 @@ impl Name {
     }
 }
 
+fn is_long(bytes: &[u8]) -> bool
+    ensures { result ≡ nat_lt MAX_NAME_BYTES (length bytes.now) }
+{
+    bytes.len() > MAX_NAME_BYTES
+}
+
 fn has_line_break(bytes: &[u8]) -> bool
     ensures { result ≡ list_any is_line_break bytes.now }
 {
@@ -111,7 +117,7 @@ fn fault_of(bytes: &[u8]) -> Option<NameFault>
 {
     if bytes.is_empty() {
         Some(NameFault::Empty)
-    } else if bytes.len() > MAX_NAME_BYTES {
+    } else if is_long(bytes) {
         Some(NameFault::Long)
     } else if has_line_break(bytes) {
         Some(NameFault::Line)
