@@ -1,6 +1,5 @@
 -- What a shelf of files tells of a name.
-use Rattle.std.specs.Prelude.{◌≡◌, ◌<◌, ℕ, Option, None, Some, List, length, find, option_map, ⊤, nat_eq}
-use lib.Pointwise.{pointwise}
+use Rattle.std.specs.Prelude.{◌≡◌, ◌<◌, ℕ, Option, None, Some, List, length, find, option_map, bytes_eq, ⊤}
 
 -- nothing, or that no file has the name, or the bytes of the file
 abbrev pub Told : Type 0
@@ -24,4 +23,4 @@ pub record NamedBytes : Type 0 where
 
 -- the bytes of the first file of the name
 abbrev pub bytes_under : List NamedBytes → List ℕ → Option (List ℕ)
-bytes_under files name = option_map (λ file. file.bytes) (find (λ file. pointwise nat_eq file.name name) files)
+bytes_under files name = option_map (λ file. file.bytes) (find (λ file. bytes_eq file.name name) files)
