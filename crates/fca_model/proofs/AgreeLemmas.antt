@@ -58,3 +58,11 @@ module _ (n : ℕ) (few all : List Set) (S : List Rule) (part : list_all (λ row
         rules_same (X ∷ Xs) w =
             let ws = and_parts (eqb (length X) n) (list_all (λ P. eqb (length P) n) Xs) w in
             ap₂ (λ C rest. rule X C ∷ rest) (same_closure X (eqb-true (length X) n ws.0)) (rules_same Xs ws.1)
+
+pub agreeing_basis : (S : List Rule) (K D : Context) → D.width ≡ K.width → list_all (λ row. list_any (same row) D.rows) K.rows ≡ true
+    → list_all (holds D) S ≡ true → list_all (holds D) (basis_known S K) ≡ true → basis_known S K ≡ basis_known S D
+agreeing_basis S K D w part known h =
+    let D' : Context = record { width = K.width; rows = D.rows } in
+    let e : D ≡ D' = ap (λ n. record { width = n; rows = D.rows }) w in
+    same_basis K.width K.rows D.rows S part (subst (λ C. list_all (holds C) S ≡ true) e known) (subst (λ C. list_all (holds C) (basis_known S K) ≡ true) e h)
+    ∙ ap (basis_known S) (sym e)
