@@ -1,0 +1,102 @@
+//! The intents of a context in lectic order, one by one or all at once, and its concepts.
+#![tactic(auto)]
+
+mod walk;
+
+ghost use Rattle.std.specs.Prelude.{◌≡◌, ◌≤◌, ◌<◌, ◌+◌, ◌*◌, IfOk, length, map};
+ghost use Rattle.fca_model.specs.Context.{Context, extent};
+ghost use Rattle.fca_model.specs.Pseudo.{intents};
+ghost use Rattle.lectic_concepts.specs.Concepts.{concepts};
+
+use attr_bits::Attrs;
+use derivation::Rows;
+use fca_io::Steps;
+use fca_model::{Memory, Places};
+use std::alloc::Global;
+use std::marker::Brand;
+use std::sync::ledger::{Blank, Ledger};
+pub use walk::Walk;
+
+/// An intent with its extent.
+#[derive(Drop)]
+pub struct Concept {
+    pub intent: Attrs,
+    pub extent: Places,
+}
+
+/// All intents, each once, in lectic order.
+pub fn all_intents(alloc: Global, rows: &Rows) -> Result<Vec<Attrs>, Memory>
+    ensures { IfOk result (λ all. all.items ≡ intents rows.now) }
+{
+    intents_over::<Brand>(alloc, rows, Blank::new(1))
+}
+
+/// All intents by a walk over a ledger of its own.
+fn intents_over<L: Ledger>(alloc: Global, rows: &Rows, blank: Blank) -> Result<Vec<Attrs>, Memory>
+    requires name { blank.name ≡ L.name }
+    requires parts { blank.parts ≡ L.parts }
+    requires some { 0 < blank.parts }
+    ensures { IfOk result (λ all. all.items ≡ intents rows.now) }
+{
+    let mut steps: Steps<L> = Steps::open(blank);
+    intents_counted(alloc, rows, &mut steps)
+}
+
+/// All intents by a whole walk. Over c intents of n attributes it takes at most n * c + 1 steps.
+pub fn intents_counted<L: Ledger>(
+    alloc: Global,
+    rows: &Rows,
+    steps: &mut Steps<L>,
+) -> Result<Vec<Attrs>, Memory>
+    ensures intents { IfOk result (λ all. all.items ≡ intents rows.now) }
+    ensures few { IfOk result (λ all. steps.new ≤ steps.old + (rows.now.width * length all.items + 1)) }
+{
+    let mut walk = Walk::new(rows);
+    let mut all = Vec::new(alloc);
+    while let Some(intent) = walk.next(steps) {
+        all.push(intent)?;
+    }
+    Ok(all)
+}
+
+/// All concepts, in lectic order of their intents.
+pub fn all_concepts(alloc: Global, rows: &Rows) -> Result<Vec<Concept>, Memory>
+    ensures { IfOk result (λ all. all.items ≡ concepts rows.now) }
+{
+    let intents = all_intents(alloc, rows)?;
+    let mut all = Vec::new(alloc);
+    for intent in &intents {
+        all.push(Concept {
+            intent: *intent,
+            extent: rows.extent(alloc, intent)?,
+        })?;
+    }
+    Ok(all)
+}
+
+#[cfg(test)]
+mod tests {
+    use super::{all_concepts, all_intents};
+    use attr_bits::Attrs;
+    use derivation::Rows;
+    use fca_model::Memory;
+    use std::rt::HostRuntime;
+
+    #[test]
+    fn three_rows_of_one_attribute_each(rt: HostRuntime) -> Result<(), Memory> {
+        let none = Attrs::empty(3);
+        let (a, b, c) = (none.with(0), none.with(1), none.with(2));
+        let mut rows = Rows::new(rt.alloc(), 3)?;
+        for row in [a, b, c] {
+            rows.push(row)?;
+        }
+        let intents = all_intents(rt.alloc(), &rows)?;
+        assert!(&rt; intents.as_slice() == [none, c, b, a, Attrs::full(3)].as_slice());
+        let concepts = all_concepts(rt.alloc(), &rows)?;
+        assert!(&rt; concepts.len() == 5);
+        for (concept, place) in concepts.iter().skip(1).zip([2, 1, 0]) {
+            assert!(&rt; concept.extent.as_slice() == [place].as_slice());
+        }
+        Ok(())
+    }
+}
