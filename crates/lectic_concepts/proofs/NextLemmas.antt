@@ -2,15 +2,15 @@
 -- Then C contains the closure D of the attributes of A before k, with k; so D agrees with A before k too, and the algorithm, at place k, would have
 -- found D. So where the places from i on found nothing, no closed set first differs from A there; and where place i finds B, each closed set that
 -- first differs from A at i contains B, and one that does so before i comes after B.
-use Rattle.std.proofs.Common.{◌≡◌, ◌≢◌, ℕ, zero, suc, ◌+◌, ◌<◌, ◌≤◌, Bool, true, false, not, ◌&&◌, Option, Some, List, [], ◌∷◌, length, get_or, set, refl, sym, ap, ◌∙◌, subst, arith, inl, inr, get_or-set_same, get_or-set_other, length-set, Less, Greater}
-use Rattle.std.proofs.lemmas.Bool.{cases_lt, cases_eq, cases_Bool, false≢true}
+use Rattle.std.proofs.Common.{◌≡◌, ◌≢◌, ℕ, zero, suc, ◌<◌, ◌≤◌, Bool, true, false, not, ◌&&◌, Option, Some, None, eqb, eqb-true, eq-eqb, [], ◌∷◌, length, get_or, set, refl, sym, ap, ◌∙◌, subst, arith, inl, inr, get_or-set_same, get_or-set_other, length-set, Less}
+use Rattle.std.proofs.lemmas.Bool.{cases_lt, cases_eq, false≢true}
+use Rattle.std.specs.Option.{option_eq}
 use Rattle.fca_model.specs.Sets.{Set, within, lectic_cmp}
 use Rattle.fca_model.specs.Context.{Context, closure, is_closed}
 use Rattle.fca_model.specs.Exploration.{first_missing}
-use Rattle.fca_model.proofs.SetLemmas.{same-true, same_from, within_trans, within_from_places, within_at_place, set_within, lectic_first, lectic_flip}
+use Rattle.fca_model.proofs.SetLemmas.{same-true, same_from, within_from_places, within_at_place, set_within, lectic_first, lectic_flip}
 use Rattle.fca_model.proofs.ClosureLemmas.{length-closure, closure_extensive, closure_monotone, closure_idempotent}
 use Rattle.fca_model.proofs.ListLemmas.{bool_iff}
-use Rattle.attr_bits.specs.Difference.{minus}
 use Rattle.attr_bits.specs.WordLaws.{get_or_past}
 use Rattle.attr_bits.proofs.PlaceLemmas.{member_below}
 use Rattle.attr_bits.proofs.DifferenceLemmas.{get_or-minus, first_missing-at, first_missing-some}
@@ -191,3 +191,12 @@ module _ (K : Context) (A P : Set) (i k : ℕ) (e : k ≡ suc i) (wide : length 
 
       pub found_none : first_missing 0 B P ≢ Some i → NoneFrom K A k → NoneFrom K A i
       found_none ne more = none_found (λ h. ne (subst (λ X. first_missing 0 X P ≡ Some i) (sym is) h)) more
+
+-- ---- what `==` says of an option
+
+pub is_some_of : (r : Option ℕ) (i : ℕ) → option_eq eqb r (Some i) ≡ true → r ≡ Some i
+is_some_of None i h = absurd (false≢true h)
+is_some_of (Some x) i h = ap Some (eqb-true x i h)
+
+pub is_none_of : (r : Option ℕ) (i : ℕ) → option_eq eqb r (Some i) ≡ false → r ≢ Some i
+is_none_of r i h e = false≢true (sym h ∙ ap (λ x. option_eq eqb x (Some i)) e ∙ eq-eqb i i refl)

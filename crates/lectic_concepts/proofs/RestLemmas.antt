@@ -1,15 +1,15 @@
 -- From the next intent to the list of those to come: the intents after A are the next one and then those after it, since both lists are in lectic order
 -- and have the same members.
-use Rattle.std.proofs.Common.{◌≡◌, ℕ, Bool, true, false, ◌&&◌, ◌||◌, List, [], ◌∷◌, length, filter, replicate, refl, sym, ap, ◌∙◌, subst, arith, inl, inr, eqb, eqb-true, Ordering, Less, Equal, Greater, get_or}
+use Rattle.std.proofs.Common.{◌≡◌, true, false, ◌||◌, List, [], ◌∷◌, length, replicate, refl, sym, ap, ◌∙◌, subst, arith, inl, inr, eqb, eqb-true, Ordering, Less, Equal, Greater}
 use Rattle.std.proofs.lemmas.Bool.{false≢true, or_cases, or_left, or_right, and_from}
 use Rattle.std.proofs.lemmas.Simd.{get_or-replicate, length-replicate}
 use Rattle.std.specs.List.{list_all, list_any}
 use Rattle.std.specs.Ordering.{is_lt, ordering_reverse}
-use Rattle.fca_model.specs.Sets.{Set, same, within, all_sets, lectic_cmp, increasing}
+use Rattle.fca_model.specs.Sets.{Set, same, all_sets, lectic_cmp, increasing}
 use Rattle.fca_model.specs.Context.{Context, closure, is_closed}
 use Rattle.fca_model.specs.Pseudo.{intents}
 use Rattle.fca_model.specs.SetLaws.{lectic_total}
-use Rattle.fca_model.proofs.SetLemmas.{same_from, same-true, lectic_equal, lectic_flip, all_sets_increasing, all_sets_widths, within_from_places}
+use Rattle.fca_model.proofs.SetLemmas.{same_from, same-true, lectic_equal, all_sets_increasing, all_sets_widths, within_from_places}
 use Rattle.fca_model.proofs.SortedLemmas.{at_member, same_members, increasing-filter, in_filter, of_filter, in_all_sets}
 use Rattle.fca_model.proofs.ListLemmas.{filter_passes}
 use Rattle.lectic_concepts.specs.Walks.{after}
@@ -33,7 +33,7 @@ pub intents_increasing : (K : Context) → increasing (intents K) ≡ true
 unfolding intents
 intents_increasing K = increasing-filter (is_closed K) (all_sets K.width) (all_sets_increasing K.width)
 
-is_less : (o : Ordering) → is_lt o ≡ true → o ≡ Less
+pub is_less : (o : Ordering) → is_lt o ≡ true → o ≡ Less
 is_less Less h = refl
 is_less Equal h = absurd (false≢true h)
 is_less Greater h = absurd (false≢true h)

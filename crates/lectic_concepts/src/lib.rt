@@ -87,9 +87,9 @@ mod tests {
         let none = Attrs::empty(3);
         let (a, b, c) = (none.with(0), none.with(1), none.with(2));
         let mut rows = Rows::new(rt.alloc(), 3)?;
-        for row in [a, b, c] {
-            rows.push(row)?;
-        }
+        rows.push(a)?;
+        rows.push(b)?;
+        rows.push(c)?;
         let intents = all_intents(rt.alloc(), &rows)?;
         assert!(&rt; intents.as_slice() == [none, c, b, a, Attrs::full(3)].as_slice());
         let concepts = all_concepts(rt.alloc(), &rows)?;

@@ -1,6 +1,5 @@
-use Rattle.std.proofs.Common.{◌≡◌, map, take, sym, ap, ◌∙◌, arith}
+use Rattle.std.proofs.Common.{map, ap, ◌∙◌}
 use Rattle.std.proofs.lemmas.List.{take_all}
-use Rattle.fca_model.specs.Pseudo.{intents}
 use Rattle.lectic_concepts.specs.Concepts.{concept_of, concepts}
 use Rattle.lectic_concepts.proofs.all_concepts.Goals as goal
 

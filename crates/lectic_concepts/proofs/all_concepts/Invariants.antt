@@ -1,5 +1,4 @@
 use Rattle.std.proofs.Common.{◌≡◌, map, take}
-use Rattle.fca_model.specs.Context.{extent}
 use Rattle.lectic_concepts.specs.Concepts.{concept_of}
 use Rattle.lectic_concepts.proofs.all_concepts.Given as goal
 

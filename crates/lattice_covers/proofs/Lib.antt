@@ -1,0 +1,4 @@
+pub mod MemberLemmas
+pub mod CandidateLemmas
+pub mod CoverLemmas
+pub mod PlaceLemmas

@@ -1,0 +1,51 @@
+use Rattle.std.proofs.Common.{◌≡◌, ℕ, ◌+◌, ◌<◌, true, not, List, ◌++◌, drop, filter, length, get_or, sym, ap, ◌∙◌, subst, append_assoc}
+use Rattle.std.proofs.lemmas.List.{at_drop_more, at_drop_all, append-nil}
+use Rattle.std.specs.List.{flat_map, enumerate_from, list_any}
+use Rattle.fca_model.specs.Sets.{Set, same, increasing}
+use Rattle.fca_model.specs.Context.{Context}
+use Rattle.fca_model.specs.Pseudo.{intents, covers, covers_of, is_cover}
+use Rattle.lectic_concepts.proofs.RestLemmas.{of_intents, intents_increasing}
+use Rattle.lattice_covers.specs.Neighbours.{LeadUp, has_smaller, pairs_with}
+use Rattle.lattice_covers.proofs.MemberLemmas.{in_at}
+use Rattle.lattice_covers.proofs.CoverLemmas.{covers_are_minimal}
+use Rattle.lattice_covers.proofs.PlaceLemmas.{row_of, pairs_with-filter}
+use Rattle.lattice_covers.proofs.covers.Goals as goal
+
+module _ (K : Context) (Xs : List Set) (all : Xs ≡ intents K) (i : ℕ) (A : Set) (inside : i < length Xs) (is : A ≡ get_or Xs i A) where
+  wide : length A ≡ K.width
+  wide = (of_intents K A (subst (λ Ys. list_any (same A) Ys ≡ true) all (subst (λ X. list_any (same X) Xs ≡ true) (sym is) (in_at Xs i A inside)))).wide
+
+  -- the pairs of the intent at place i are those of its minimal candidates
+  row_is : (Cs : List Set) → LeadUp K A Cs → pairs_with Xs i (filter (λ X. not (has_smaller Cs X)) Cs) ≡ row_of Xs (i, A)
+  row_is Cs lead =
+      ap (pairs_with Xs i) (covers_are_minimal K A Cs lead ∙ ap (λ Ys. filter (is_cover Ys A) Ys) (sym all))
+      ∙ sym (pairs_with-filter Xs (subst (λ Ys. increasing Ys ≡ true) (sym all) (intents_increasing K)) (is_cover Xs A) i)
+
+  more : (old new : List (ℕ × ℕ)) (Cs : List Set) → LeadUp K A Cs → new ≡ old ++ pairs_with Xs i (filter (λ X. not (has_smaller Cs X)) Cs)
+      → old ++ flat_map (row_of Xs) (enumerate_from i (drop i Xs)) ≡ covers_of Xs → new ++ flat_map (row_of Xs) (enumerate_from (i + 1) (drop (i + 1) Xs)) ≡ covers_of Xs
+  more old new Cs lead made h =
+      let left = flat_map (row_of Xs) (enumerate_from (i + 1) (drop (i + 1) Xs)) in
+      ap (λ p. p ++ left) (made ∙ ap (λ r. old ++ r) (row_is Cs lead)) ∙ append_assoc old (row_of Xs (i, A)) left
+      ∙ ap (λ r. old ++ r) (ap (λ X. row_of Xs (i, X) ++ left) is ∙ sym (at_drop_more (λ Ys. flat_map (row_of Xs) (enumerate_from i Ys)) Xs i A inside)) ∙ h
+
+pub upper_candidates-requires : goal.upper_candidates-requires
+upper_candidates-requires c = wide c.args.rows.now c.args.intents.now c.requires c.loop-i.i c.index-intents-i.result c.loop-i-test.true c.index-intents-i.is
+
+pub add_pairs-requires : goal.add_pairs-requires
+add_pairs-requires c = subst (λ (Ys : List Set). increasing Ys ≡ true) (sym c.requires) (intents_increasing c.args.rows.now)
+
+pub loop-i-preserved : goal.loop-i-preserved
+loop-i-preserved c =
+    let Cs : List Set = c.in_ok-candidates.candidates.items in
+    more c.args.rows.now c.args.intents.now c.requires c.loop-i.i c.index-intents-i.result c.loop-i-test.true c.index-intents-i.is c.loop-i.pairs.items c.add_pairs.new.pairs.items Cs
+    c.in_ok-candidates.ensures
+    (c.in_ok-add_pairs.ensures ∙ ap (λ (Ys : List Set). c.loop-i.pairs.items ++ pairs_with c.args.intents.now c.loop-i.i (filter (λ X. not (has_smaller Ys X)) Ys)) c.deref.ensures.value)
+    c.loop-i.invariant
+
+pub returns : goal.returns
+unfolding covers
+returns c =
+    let Xs : List Set = c.args.intents.now in
+    sym (append-nil c.loop-i.pairs.items)
+    ∙ ap (λ q. c.loop-i.pairs.items ++ q) (sym (at_drop_all (λ Ys. flat_map (row_of Xs) (enumerate_from c.loop-i.i Ys)) Xs c.loop-i.i c.loop-i-test.false))
+    ∙ c.loop-i.invariant ∙ ap covers_of c.requires

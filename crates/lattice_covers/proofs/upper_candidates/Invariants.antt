@@ -1,0 +1,12 @@
+use Rattle.std.proofs.Common.{◌≤◌}
+use Rattle.lattice_covers.proofs.CandidateLemmas.{IsReached}
+use Rattle.lattice_covers.proofs.upper_candidates.Given as goal
+
+abbrev pub invariant-loop-i : goal.invariant-loop-i
+invariant-loop-i l = record {
+  inside : l.i ≤ l.rows.width;
+  reached : IsReached l.rows l.a l.i l.candidates.items;
+}
+
+abbrev pub decreases-loop-i : goal.decreases-loop-i
+decreases-loop-i l = l.i

@@ -1,0 +1,102 @@
+//! The covers among the intents of a context, found by upper neighbours.
+#![tactic(auto)]
+
+ghost use Rattle.std.specs.Prelude.{◌≡◌, ◌++◌, true, not, filter, length, IfOk, OnOk};
+ghost use Rattle.fca_model.specs.Sets.{increasing};
+ghost use Rattle.fca_model.specs.Pseudo.{intents as closed_sets, covers};
+ghost use Rattle.lattice_covers.specs.Neighbours.{LeadUp, has_smaller, place_in, pairs_with};
+
+use attr_bits::Attrs;
+use derivation::Rows;
+use fca_model::Memory;
+use std::alloc::Global;
+
+/// The pairs of places of intents of which the second is an upper neighbour of the first, ordered by the first and then the second.
+pub fn covers(alloc: Global, rows: &Rows, intents: &[Attrs]) -> Result<Vec<(usize, usize)>, Memory>
+    requires { intents.now ≡ closed_sets rows.now }
+    ensures { IfOk result (λ pairs. pairs.items ≡ covers rows.now) }
+{
+    let mut pairs = Vec::new(alloc);
+    for (i, a) in intents.iter().enumerate() {
+        let candidates = upper_candidates(alloc, rows, a)?;
+        add_pairs(&mut pairs, intents, i, &candidates)?;
+    }
+    Ok(pairs)
+}
+
+/// The closures of a with one attribute that a lacks, where that is the least new attribute of the closure. Of each intent above a, one of them is a part.
+fn upper_candidates(alloc: Global, rows: &Rows, a: &Attrs) -> Result<Vec<Attrs>, Memory>
+    requires { length a.now ≡ rows.now.width }
+    ensures { IfOk result (λ candidates. LeadUp rows.now a.now candidates.items) }
+{
+    let mut candidates = Vec::new(alloc);
+    let mut i = rows.width();
+    while i > 0 {
+        i -= 1;
+        if !a.has(i) {
+            let closed = rows.closure(&a.with(i));
+            if closed.first_missing(a) == Some(i) {
+                candidates.push(closed)?;
+            }
+        }
+    }
+    Ok(candidates)
+}
+
+/// Puts the pairs of i with the places of the minimal candidates last.
+fn add_pairs(
+    pairs: &mut Vec<(usize, usize)>,
+    intents: &[Attrs],
+    i: usize,
+    candidates: &[Attrs],
+) -> Result<(), Memory>
+    requires { increasing intents.now ≡ true }
+    ensures { OnOk result (pairs.new.items ≡ pairs.old.items
+        ++ pairs_with intents.now i (filter (λ X. not (has_smaller candidates.now X)) candidates.now)) }
+{
+    for x in candidates {
+        if !has_smaller(candidates, x) {
+            pairs.push((i, place_in(intents, x)))?;
+        }
+    }
+    Ok(())
+}
+
+/// Whether a set of the list lies strictly within x.
+fn has_smaller(sets: &[Attrs], x: &Attrs) -> bool
+    ensures { result ≡ has_smaller sets.now x.now }
+{
+    sets.iter().any(|set| set.within(x) && set != x)
+}
+
+/// How many of the sets, which are in lectic order, come before x.
+fn place_in(sets: &[Attrs], x: &Attrs) -> usize
+    requires { increasing sets.now ≡ true }
+    ensures { result ≡ place_in sets.now x.now }
+{
+    sets.partition_point(|set| set.lectic_cmp(x).is_lt())
+}
+
+#[cfg(test)]
+mod tests {
+    use super::covers;
+    use attr_bits::Attrs;
+    use derivation::Rows;
+    use fca_model::Memory;
+    use lectic_concepts::all_intents;
+    use std::rt::HostRuntime;
+
+    #[test]
+    fn three_rows_of_one_attribute_each(rt: HostRuntime) -> Result<(), Memory> {
+        let none = Attrs::empty(3);
+        let mut rows = Rows::new(rt.alloc(), 3)?;
+        rows.push(none.with(0))?;
+        rows.push(none.with(1))?;
+        rows.push(none.with(2))?;
+        let intents = all_intents(rt.alloc(), &rows)?;
+        let pairs = covers(rt.alloc(), &rows, &intents)?;
+        let expected = [(0, 1), (0, 2), (0, 3), (1, 4), (2, 4), (3, 4)];
+        assert!(&rt; pairs.as_slice() == expected.as_slice());
+        Ok(())
+    }
+}
