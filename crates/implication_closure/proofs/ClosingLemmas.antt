@@ -10,8 +10,8 @@ use Rattle.std.specs.List.{list_all, prefix_len}
 use Rattle.fca_model.specs.Sets.{Set, size, within, same, join}
 use Rattle.fca_model.specs.Implications.{Rule, rule, respects, respects_all, follows}
 use Rattle.fca_model.proofs.SetLemmas.{within_refl, within_trans, strictly_from, size_strict, length-join, within-join, within-join_right, join_within, size_le, same-true, same_from, all_sets_at, all_sets_from}
-use Rattle.fca_model.proofs.ClosureLemmas.{respects_at, respects_from, implies_at, implies_from}
-use Rattle.fca_model.proofs.PseudoLemmas.{list_all-mono, bool_iff}
+use Rattle.fca_model.proofs.ClosureLemmas.{respects_at, respects_from}
+use Rattle.fca_model.proofs.ListLemmas.{list_all-mono, bool_iff, implies_at, implies_from}
 use Rattle.implication_closure.specs.Closing.{has_width, HaveWidth, IsClosure, IsPass}
 
 -- the set does not respect the member
