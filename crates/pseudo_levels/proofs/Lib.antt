@@ -1,0 +1,3 @@
+pub mod CandidateLemmas
+pub mod ReachLemmas
+pub mod LevelLemmas

@@ -1,0 +1,54 @@
+//! Which candidates are members of the basis, by the members of smaller size.
+
+ghost use Rattle.std.specs.Prelude.{◌≡◌, [], IfOk, map};
+ghost use Rattle.fca_model.specs.Levels.{absorbs_all};
+ghost use Rattle.pseudo_levels.specs.Search.{judged};
+
+use attr_bits::Attrs;
+use derivation::Rows;
+use fca_model::Memory;
+use implication_closure::Implication;
+use std::alloc::Global;
+
+/// The answer for each candidate, in their order.
+pub fn judge_all(
+    alloc: Global,
+    rows: &Rows,
+    smaller: &[Implication],
+    candidates: &[Attrs],
+) -> Result<Vec<Option<Implication>>, Memory>
+    ensures { IfOk result (λ answers. answers.items ≡ map (judged [] rows.now smaller.now) candidates.now) }
+{
+    Ok(
+        candidates
+            .iter()
+            .map(|set| judge(rows, smaller, set))
+            .collect(alloc)?,
+    )
+}
+
+/// The set's implication to its closure, where it is a member of the basis by the smaller ones.
+pub(crate) fn judge(rows: &Rows, smaller: &[Implication], set: &Attrs) -> Option<Implication>
+    ensures { result ≡ judged [] rows.now smaller.now set.now }
+{
+    if !absorbs_all(smaller, set) {
+        return None;
+    }
+    let closure = rows.closure(set);
+    if closure == *set {
+        None
+    } else {
+        Some(Implication {
+            premise: *set,
+            conclusion: closure,
+        })
+    }
+}
+
+/// Whether the set takes in the conclusion of each premise that lies strictly within it.
+fn absorbs_all(smaller: &[Implication], set: &Attrs) -> bool
+    ensures { result ≡ absorbs_all smaller.now set.now }
+{
+    smaller.iter().all(|i| !(i.premise.within(set) && i.premise != *set)
+        || i.conclusion.within(set))
+}
