@@ -1,15 +1,17 @@
 -- Sets put among candidates. A set that is inserted into a list in lectic order is there afterwards, and so is all that was there.
-use Rattle.std.proofs.Common.{◌≡◌, ℕ, ◌+◌, ◌<◌, ◌≤◌, Bool, true, false, ◌&&◌, ◌||◌, List, [], ◌∷◌, length, get_or, set, refl, sym, ap, ◌∙◌, subst, arith, inl, inr, Ordering, Less, Equal, Greater, eqb, eq-eqb, length-set, replicate}
+use Rattle.std.proofs.Common.{◌≡◌, ℕ, ◌+◌, ◌<◌, Bool, true, false, ◌||◌, List, [], ◌∷◌, ◌++◌, length, get_or, set, take, refl, sym, ap, ◌∙◌, subst, arith, inl, inr, Ordering, Less, Equal, Greater, eqb, eqb-true, eq-eqb}
 use Rattle.std.proofs.lemmas.Bool.{false≢true, and_parts, and_from, cases_lt, or_cases, or_left, or_right}
-use Rattle.std.proofs.lemmas.Simd.{length-replicate}
+use Rattle.std.proofs.lemmas.List.{take_more}
+use Rattle.std.proofs.lemmas.List.Folds.{list_any-append}
+use Rattle.std.proofs.lemmas.List.Sums.{AllPass-from_list_all}
 use Rattle.std.specs.List.{list_all, list_any, AllByRecursion}
 use Rattle.std.specs.List.Sorted.{IsStrictlySortedBy}
 use Rattle.std.specs.Ordering.{is_lt, match_ordering}
 use Rattle.std.specs.BTreeSet.{insert_key}
-use Rattle.fca_model.specs.Sets.{Set, same, within, increasing, lectic_cmp}
+use Rattle.fca_model.specs.Sets.{Set, same, increasing, lectic_cmp}
 use Rattle.fca_model.proofs.SetLemmas.{same_refl, same-true, lectic_equal}
 use Rattle.fca_model.proofs.ListLemmas.{list_any-mono}
-use Rattle.pseudo_levels.specs.Search.{Has, HasLarger, AreWide, Grows}
+use Rattle.pseudo_levels.specs.Search.{Has, HasLarger, HaveLarger, AreWide, Grows}
 
 -- ---- the keys of a tree
 
@@ -89,3 +91,20 @@ larger_skips Xs C m g t i l f = elim (cases_lt i m) [
   | inl lt ↦ g i lt f
   | inr le ↦ let e : i ≡ m = omega arith in absurd (false≢true (sym f ∙ ap (λ j. get_or C j false) e ∙ t))
 ]
+
+pub larger_one : (n i : ℕ) (Cs mid new : List Set) (C : Set) → i < length Cs → C ≡ get_or Cs i C → Grows n mid new → HaveLarger (take i Cs) mid → HasLarger C (length C) new → HaveLarger (take (i + 1) Cs) new
+larger_one n i Cs mid new C l is more all one D h j lt f =
+    let split = sym (list_any-append (same D) (take i Cs) (C ∷ [])) ∙ ap (λ Zs. list_any (same D) Zs) (sym (take_more Cs i C l ∙ ap (λ Y. take i Cs ++ Y ∷ []) (sym is))) ∙ h in
+    elim (or_cases (list_any (same D) (take i Cs)) (same D C || false) split) [
+      | inl first ↦ more.kept (same (set D j true)) (all D first j lt f)
+      | inr here ↦ elim (or_cases (same D C) false here) [
+        | inl e ↦
+            let d = same-true D C e in
+            subst (λ Z. Has (set Z j true) new) (sym d) (one j (subst (λ Z. j < length Z) d lt) (subst (λ Z. get_or Z j false ≡ false) d f))
+        | inr other ↦ absurd (false≢true other)
+      ]
+    ]
+
+-- the set at a place has the width of all
+pub wide_at : (n i : ℕ) (Cs : List Set) (C : Set) → AreWide n Cs → i < length Cs → C ≡ get_or Cs i C → length C ≡ n
+wide_at n i Cs C w l is = eqb-true (length C) n (ap (λ (Y : Set). eqb (length Y) n) is ∙ AllPass-from_list_all (λ (Y : Set). eqb (length Y) n) Cs w i C l)

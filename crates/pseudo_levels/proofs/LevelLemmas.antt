@@ -2,7 +2,7 @@
 -- and respects what was found, so a candidate of size k at least lies within it, and is it. Each larger set that the candidates of
 -- size k lead to contains a member or a set that is settled. And once the closures of the members have grown, and the members
 -- are found, the larger candidates lead to all.
-use Rattle.std.proofs.Common.{◌≡◌, ℕ, zero, suc, ◌+◌, ◌<◌, ◌≤◌, Bool, true, false, not, ◌&&◌, ◌||◌, cond, Option, Some, None, List, [], ◌∷◌, ◌++◌, map, length, filter, filter_map, refl, sym, ap, ap₂, ◌∙◌, subst, arith, inl, inr, eqb, eqb-true, eq-eqb, leb, le-leb, leb-true, replicate}
+use Rattle.std.proofs.Common.{◌≡◌, ℕ, zero, suc, Bool, true, false, not, ◌&&◌, ◌||◌, cond, Some, None, List, [], ◌∷◌, ◌++◌, map, length, filter, refl, sym, ap, ◌∙◌, subst, arith, inl, inr, eqb, eqb-true, eq-eqb, leb, le-leb, leb-true, replicate}
 use Rattle.std.proofs.lemmas.Bool.{false≢true, and_parts, and_from, or_cases, or_left, or_right}
 use Rattle.std.proofs.lemmas.List.Folds.{list_all-append}
 use Rattle.std.proofs.lemmas.Simd.{length-replicate}
@@ -13,7 +13,7 @@ use Rattle.fca_model.specs.Context.{Context, closure, is_closed}
 use Rattle.fca_model.specs.Implications.{Rule, rule, respects, respects_all}
 use Rattle.fca_model.specs.Pseudo.{basis_known, pseudo_known}
 use Rattle.fca_model.specs.Levels.{level_of, absorbs_all, HasBelow}
-use Rattle.fca_model.proofs.ListLemmas.{implies_from, implies_at, list_all-mono, list_all-filter, list_all-filter_kept, list_all-and, list_any-mono₂, list_any_at, filter_passes}
+use Rattle.fca_model.proofs.ListLemmas.{implies_from, list_all-mono, list_all-filter, list_all-filter_kept, list_all-and, list_any-mono₂, list_any_at, filter_passes}
 use Rattle.fca_model.proofs.SetLemmas.{same_refl, same_from, same_by_size, size_mono, all_sets_increasing, all_sets_widths}
 use Rattle.fca_model.proofs.SortedLemmas.{at_member, same_members, increasing-filter, in_filter, of_filter, in_all_sets}
 use Rattle.fca_model.proofs.ClosureLemmas.{length-closure, closure_extensive, closure_idempotent, respects_at}
@@ -51,6 +51,12 @@ each_image f [] = refl
 each_image f (x ∷ xs) = and_from (list_any (same (f x)) (f x ∷ map f xs)) (list_all (λ y. list_any (same (f y)) (f x ∷ map f xs)) xs)
     (or_left (same (f x) (f x)) (list_any (same (f x)) (map f xs)) (same_refl (f x)))
     (list_all-mono (λ y. list_any (same (f y)) (map f xs)) (λ y. list_any (same (f y)) (f x ∷ map f xs)) (λ y h. or_right (same (f y) (f x)) (list_any (same (f y)) (map f xs)) h) xs (each_image f xs))
+
+-- what the implication of each pseudo-intent of the size passes, all members of the level pass
+pub level_all : (S : List Rule) (K : Context) (k : ℕ) (p : Rule → Bool) → ((P : Set) → length P ≡ K.width → pseudo_known S K P ≡ true → size P ≡ k → p (rule P (closure K P)) ≡ true) → list_all p (level_of S K k) ≡ true
+unfolding level_of
+level_all S K k p h = list_all-filter p (λ i. eqb (size i.premise) k) (basis_known S K) ∙ basis_all S K (λ i. not (eqb (size i.premise) k) || p i)
+    (λ P e q. implies_from (eqb (size P) k) (p (rule P (closure K P))) (λ t. h P e q (eqb-true (size P) k t)))
 
 module _ (S : List Rule) (K : Context) (k : ℕ) (found : List Rule) (below : HasBelow S K k found) where
   -- the answers for sets of the size are their implications where they are pseudo-intents
@@ -128,12 +134,11 @@ module _ (S : List Rule) (K : Context) (k : ℕ) (found : List Rule) (below : Ha
   closes i = (eqb (length i.conclusion) K.width && is_closed K i.conclusion) && leb k (size i.conclusion)
 
   level_closes : list_all closes (level_of S K k) ≡ true
-  unfolding level_of
-  level_closes = list_all-filter closes (λ i. eqb (size i.premise) k) (basis_known S K) ∙ basis_all S K (λ i. not (eqb (size i.premise) k) || closes i) (λ P e q. implies_from (eqb (size P) k) (closes (rule P (closure K P))) (λ t.
+  level_closes = level_all S K k closes (λ P e q t.
       let C = closure K P in
       and_from (eqb (length C) K.width && is_closed K C) (leb k (size C))
       (and_from (eqb (length C) K.width) (is_closed K C) (eq-eqb (length C) K.width (length-closure K P)) (same_from C (closure K C) (sym (closure_idempotent K P e))))
-      (le-leb k (size C) (omega (arith, size_mono P C (closure_extensive K P e), eqb-true (size P) k t)))))
+      (le-leb k (size C) (omega (arith, size_mono P C (closure_extensive K P e)))))
 
   -- once the members are found, and their closures have grown
   pub leads_next : (members : List Rule) (mid new : List Set) → IsOpened S K k found members mid → HaveLarger (map (λ i. i.conclusion) members) new → Grows K.width mid new → LeadsAll S K (suc k) (found ++ members) new

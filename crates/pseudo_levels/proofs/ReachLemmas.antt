@@ -4,8 +4,8 @@
 use Rattle.std.proofs.Common.{◌≡◌, ℕ, zero, suc, ◌+◌, ◌<◌, ◌≤◌, Bool, true, false, not, ◌&&◌, ◌||◌, cond, Option, Some, None, List, [], ◌∷◌, ◌++◌, map, length, filter, get_or, set, take, refl, sym, ap, ◌∙◌, subst, arith, inl, inr, eqb, eq-eqb, leb, le-leb, leb-true}
 use Rattle.std.proofs.lemmas.Bool.{false≢true, and_parts, and_from, cases_Bool, cases_lt, or_cases, or_left, or_right}
 use Rattle.std.proofs.lemmas.List.{take_more}
-use Rattle.std.proofs.lemmas.List.Folds.{list_all-append}
-use Rattle.std.specs.List.{list_all, list_any}
+use Rattle.std.proofs.lemmas.List.Folds.{list_all-append, list_any-append}
+use Rattle.std.specs.List.{list_any}
 use Rattle.std.specs.Option.{is_some}
 use Rattle.fca_model.specs.Sets.{Set, size, within, same, strictly_within}
 use Rattle.fca_model.specs.Context.{Context, closure, is_closed}
@@ -17,14 +17,6 @@ use Rattle.fca_model.proofs.ListLemmas.{implies_from, list_all-mono}
 use Rattle.implication_closure.specs.Closing.{IsClosure}
 use Rattle.pseudo_levels.specs.Search.{judged, Has, HasLarger, leads, Grows, IsSettled}
 use Rattle.pseudo_levels.proofs.CandidateLemmas.{any_has}
-
-pub list_any-append : {X : Type 0} (p : X → Bool) (xs ys : List X) → list_any p (xs ++ ys) ≡ (list_any p xs || list_any p ys)
-list_any-append p [] ys = refl
-list_any-append p (x ∷ xs) ys = ap (λ b. p x || b) (list_any-append p xs ys) ∙ or_assoc (p x) (list_any p xs) (list_any p ys)
-  where
-    or_assoc : (a b c : Bool) → (a || (b || c)) ≡ ((a || b) || c)
-    or_assoc true b c = refl
-    or_assoc false b c = refl
 
 -- what leads on is larger, or of the size
 pub split_leads : (k : ℕ) (P : Set) (Xs : List Set) → leads k Xs P ≡ true → (leads (suc k) Xs P || list_any (λ X. within X P) (filter (λ X. eqb (size X) k) Xs)) ≡ true

@@ -1,8 +1,8 @@
 //! The sets among which the members of the basis are found.
 
-ghost use Rattle.std.specs.Prelude.{◌≡◌, ◌∷◌, [], OnOk, IfOk, length, filter, replicate, false, true, ◌≤◌, ◌==◌};
+ghost use Rattle.std.specs.Prelude.{◌≡◌, ℕ, ◌∷◌, [], OnOk, IfOk, length, filter, replicate, false, true, ◌≤◌, ◌==◌};
 ghost use Rattle.fca_model.specs.Sets.{size, increasing};
-ghost use Rattle.pseudo_levels.specs.Search.{Has, HasLarger, HaveLarger, Grows};
+ghost use Rattle.pseudo_levels.specs.Search.{AreWide, Has, HasLarger, HaveLarger, Grows};
 
 use attr_bits::Attrs;
 use fca_model::{MAX_ATTRIBUTES, Memory};
@@ -54,6 +54,17 @@ impl Candidates {
             if !set.has(i) {
                 self.add(set.with(i))?;
             }
+        }
+        Ok(())
+    }
+
+    /// Puts each of the sets with each further attribute among them.
+    pub fn grow_all(&mut self, sets: &[Attrs]) -> Result<(), Memory>
+        ensures grown { OnOk result (HaveLarger sets.now self.new) }
+        ensures grows { (n : ℕ) → AreWide n sets.now → Grows n self.old self.new }
+    {
+        for set in sets {
+            self.grow(set)?;
         }
         Ok(())
     }

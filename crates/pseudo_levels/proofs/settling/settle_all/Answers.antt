@@ -1,8 +1,8 @@
-use Rattle.std.proofs.Common.{◌≡◌, ◌∙◌, ◌+◌, [], ap, sym, subst, take, eqb, eqb-true, not}
+use Rattle.std.proofs.Common.{◌∙◌, ◌+◌, [], ap, sym, subst, take, eqb, eqb-true, not}
 use Rattle.std.proofs.lemmas.List.Sums.{AllPass-from_list_all}
 use Rattle.fca_model.specs.Sets.{Set, size}
 use Rattle.implication_closure.specs.Closing.{Fits}
-use Rattle.pseudo_levels.specs.Search.{judged, IsSettled, Grows}
+use Rattle.pseudo_levels.specs.Search.{IsSettled, Grows}
 use Rattle.pseudo_levels.proofs.CandidateLemmas.{grows_trans}
 use Rattle.pseudo_levels.proofs.ReachLemmas.{settled_set, settled_member}
 use Rattle.pseudo_levels.proofs.settling.settle_all.Goals as goal

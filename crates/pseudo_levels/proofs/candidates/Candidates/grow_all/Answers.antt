@@ -1,0 +1,15 @@
+use Rattle.std.proofs.Common.{length, subst}
+use Rattle.pseudo_levels.specs.Search.{Grows}
+use Rattle.pseudo_levels.proofs.CandidateLemmas.{grows_trans, larger_one, wide_at}
+use Rattle.pseudo_levels.proofs.candidates.Candidates.grow_all.Goals as goal
+
+pub loop-set-preserved : goal.loop-set-preserved
+loop-set-preserved c =
+    let Cs = c.args.sets.now in
+    let C = c.set-item.result in
+    let new = c.grow.new.self in
+    record {
+      grown = larger_one (length C) c.loop-set.set-index Cs c.loop-set.self new C c.loop-set-test.true c.set-item.is c.grow.ensures.grows c.loop-set.invariant.grown c.in_ok-grow.ensures.grown;
+      grows = λ n w. grows_trans n c.args.self.now c.loop-set.self new (c.loop-set.invariant.grows n w)
+          (subst (λ m. Grows m c.loop-set.self new) (wide_at n c.loop-set.set-index Cs C w c.loop-set-test.true c.set-item.is) c.grow.ensures.grows);
+    }
