@@ -2,9 +2,9 @@
 -- and respects what was found, so a candidate of size k at least lies within it, and is it. Each larger set that the candidates of
 -- size k lead to contains a member or a set that is settled. And once the closures of the members have grown, and the members
 -- are found, the larger candidates lead to all.
-use Rattle.std.proofs.Common.{◌≡◌, ℕ, zero, suc, Bool, true, false, not, ◌&&◌, ◌||◌, cond, Some, None, List, [], ◌∷◌, ◌++◌, map, length, filter, refl, sym, ap, ◌∙◌, subst, arith, inl, inr, eqb, eqb-true, eq-eqb, leb, le-leb, leb-true, replicate}
+use Rattle.std.proofs.Common.{◌≡◌, ℕ, zero, suc, ◌+◌, Bool, true, false, not, ◌&&◌, ◌||◌, cond, Some, None, List, [], ◌∷◌, ◌++◌, map, length, filter, refl, sym, ap, ap₂, ◌∙◌, subst, arith, inl, inr, eqb, eqb-true, eq-eqb, leb, le-leb, leb-true, replicate}
 use Rattle.std.proofs.lemmas.Bool.{false≢true, and_parts, and_from, or_cases, or_left, or_right}
-use Rattle.std.proofs.lemmas.List.Folds.{list_all-append}
+use Rattle.std.proofs.lemmas.List.Folds.{list_all-append, list_all-map}
 use Rattle.std.proofs.lemmas.Simd.{length-replicate}
 use Rattle.std.specs.List.{list_all, list_any}
 use Rattle.std.specs.Option.{is_some}
@@ -12,13 +12,14 @@ use Rattle.fca_model.specs.Sets.{Set, size, within, same, all_sets, increasing}
 use Rattle.fca_model.specs.Context.{Context, closure, is_closed}
 use Rattle.fca_model.specs.Implications.{Rule, rule, respects, respects_all}
 use Rattle.fca_model.specs.Pseudo.{basis_known, pseudo_known}
-use Rattle.fca_model.specs.Levels.{level_of, absorbs_all, HasBelow}
+use Rattle.fca_model.specs.Levels.{level_of, levels_below, by_size, absorbs_all, HasBelow}
 use Rattle.fca_model.proofs.ListLemmas.{implies_from, list_all-mono, list_all-filter, list_all-filter_kept, list_all-and, list_any-mono₂, list_any_at, filter_passes}
 use Rattle.fca_model.proofs.SetLemmas.{same_refl, same_from, same_by_size, size_mono, all_sets_increasing, all_sets_widths}
 use Rattle.fca_model.proofs.SortedLemmas.{at_member, same_members, increasing-filter, in_filter, of_filter, in_all_sets}
 use Rattle.fca_model.proofs.ClosureLemmas.{length-closure, closure_extensive, closure_idempotent, respects_at}
 use Rattle.fca_model.proofs.PseudoLemmas.{pseudo_parts, basis_all}
-use Rattle.fca_model.proofs.LevelLemmas.{pseudo_by_found, respects_found, level_is}
+use Rattle.fca_model.proofs.LevelLemmas.{pseudo_by_found, respects_found, level_is, has_below}
+use Rattle.implication_closure.specs.Closing.{has_width, HaveWidth}
 use Rattle.pseudo_levels.specs.Search.{judged, members_of, AreWide, Has, HasLarger, HaveLarger, Grows, leads, LeadsAll, LeadsOn, IsSettled, IsOpened}
 use Rattle.pseudo_levels.proofs.ReachLemmas.{split_leads, larger_leads, leads_by}
 
@@ -177,3 +178,39 @@ pub first_wide : (K : Context) (Xs : List Set) → Xs ≡ replicate K.width fals
 first_wide K Xs is =
     let E : Set = replicate K.width false in
     subst (λ Zs. AreWide K.width Zs) (sym is) (and_from (eqb (length E) K.width) true (eq-eqb (length E) K.width (length-replicate K.width false)) refl)
+
+-- ---- the loop over the sizes
+
+pub levels_none : (S : List Rule) (K : Context) → [] ≡ levels_below 0 S K
+unfolding levels_below
+levels_none S K = refl
+
+pub levels_next : (S : List Rule) (K : Context) (k : ℕ) (found members more : List Rule) → found ≡ levels_below k S K → members ≡ level_of S K k → more ≡ found ++ members → more ≡ levels_below (k + 1) S K
+unfolding levels_below
+levels_next S K k found members more a b c =
+    let next : suc k ≡ k + 1 = omega arith in
+    c ∙ ap₂ (λ xs ys. xs ++ ys) a b ∙ ap (λ j. levels_below j S K) next
+
+pub leads_more : (S : List Rule) (K : Context) (k : ℕ) (found members more : List Rule) (mid new : List Set) → HasBelow S K k found → IsOpened S K k found members mid → HaveLarger (map (λ i. i.conclusion) members) new → Grows K.width mid new
+    → more ≡ found ++ members → LeadsAll S K (k + 1) more new
+leads_more S K k found members more mid new below opened grown grows e =
+    let next : suc k ≡ k + 1 = omega arith in
+    subst (λ m. LeadsAll S K m more new) next (subst (λ js. LeadsAll S K (suc k) js new) (sym e) (leads_next S K k found below members mid new opened grown grows))
+
+pub levels_all : (S : List Rule) (K : Context) (k : ℕ) (found : List Rule) → k ≡ K.width + 1 → found ≡ levels_below k S K → found ≡ by_size S K
+unfolding by_size
+levels_all S K k found e f = let n : k ≡ suc K.width = omega arith in f ∙ ap (λ j. levels_below j S K) n
+
+pub found_below : (S : List Rule) (K : Context) (k : ℕ) (found : List Rule) → found ≡ levels_below k S K → HasBelow S K k found
+found_below S K k found e = subst (λ zs. HasBelow S K k zs) (sym e) (has_below S K k)
+
+-- the members of a level have the width, and so have their conclusions
+pub members_wide : (S : List Rule) (K : Context) (k : ℕ) (members : List Rule) → members ≡ level_of S K k → HaveWidth K.width members
+members_wide S K k members e = subst (λ zs. HaveWidth K.width zs) (sym e) (level_all S K k (has_width K.width) (λ P w q s.
+    and_from (eqb (length P) K.width) (eqb (length (closure K P)) K.width) (eq-eqb (length P) K.width w) (eq-eqb (length (closure K P)) K.width (length-closure K P))))
+
+pub conclusions_grow : (S : List Rule) (K : Context) (k : ℕ) (members : List Rule) (Cs old new : List Set) → members ≡ level_of S K k → Cs ≡ map (λ i. i.conclusion) members → ((n : ℕ) → AreWide n Cs → Grows n old new) → Grows K.width old new
+conclusions_grow S K k members Cs old new e c more =
+    let wide = level_all S K k (λ i. eqb (length i.conclusion) K.width) (λ P w q s. eq-eqb (length (closure K P)) K.width (length-closure K P)) in
+    let cs = c ∙ ap (map (λ (i : Rule). i.conclusion)) e in
+    more K.width (subst (λ Zs. AreWide K.width Zs) (sym cs) (list_all-map (λ X. eqb (length X) K.width) (λ (i : Rule). i.conclusion) (level_of S K k) ∙ wide))

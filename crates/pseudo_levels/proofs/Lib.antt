@@ -1,3 +1,4 @@
 pub mod CandidateLemmas
 pub mod ReachLemmas
 pub mod LevelLemmas
+pub mod LeastLemmas

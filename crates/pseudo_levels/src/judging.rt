@@ -7,10 +7,50 @@ ghost use Rattle.pseudo_levels.specs.Search.{judged};
 use attr_bits::Attrs;
 use derivation::Rows;
 use fca_model::Memory;
-use implication_closure::Implication;
+use implication_closure::{Implication, ImplicationList};
+use rayon::prelude::*;
 use std::alloc::Global;
+use std::thread::Threads;
 
-/// The answer for each candidate, in their order.
+/// The answer for each candidate, in their order, from as many threads as serve.
+pub fn level<R: Threads + Sync>(
+    rt: &R,
+    alloc: Global,
+    rows: &Rows,
+    smaller: &ImplicationList,
+    candidates: &[Attrs],
+) -> Result<Vec<Option<Implication>>, Memory>
+    ensures { IfOk result (λ answers. answers.items ≡ map (judged [] rows.now smaller.now.members) candidates.now) }
+{
+    judge_in_threads(rt, alloc, rows, smaller.as_slice(), candidates)
+}
+
+/// The same, over a slice.
+fn judge_in_threads<R: Threads + Sync>(
+    rt: &R,
+    alloc: Global,
+    rows: &Rows,
+    smaller: &[Implication],
+    candidates: &[Attrs],
+) -> Result<Vec<Option<Implication>>, Memory>
+    ensures { IfOk result (λ answers. answers.items ≡ map (judged [] rows.now smaller.now) candidates.now) }
+{
+    let answers = candidates
+        .par_iter()
+        .map(
+            |set: &Attrs| -> Option<Implication>
+                ensures { result ≡ judged [] rows.entry.now smaller.entry.now set.now }
+            { judge(rows, smaller, set) },
+        )
+        .with_min_len(1)
+        .collect::<Vec<_>>(rt, alloc);
+    match answers {
+        Ok(answers) => Ok(answers),
+        Err(_) => Err(Memory),
+    }
+}
+
+/// The answer for each candidate, in their order, from this thread.
 pub fn judge_all(
     alloc: Global,
     rows: &Rows,

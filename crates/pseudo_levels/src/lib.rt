@@ -6,6 +6,57 @@ mod candidates;
 mod judging;
 mod settling;
 
+ghost use Rattle.std.specs.Prelude.{◌≡◌, ◌++◌, [], OnOk, IfOk, map};
+ghost use Rattle.fca_model.specs.Levels.{by_size};
+ghost use Rattle.implication_closure.specs.Closing.{HaveWidth};
+ghost use Rattle.pseudo_levels.specs.LeastBasis.{IsLeastBasis};
+
+use attr_bits::Attrs;
 pub use candidates::Candidates;
-pub use judging::judge_all;
+use derivation::Rows;
+use fca_model::Memory;
+use implication_closure::{Implication, ImplicationList};
+pub use judging::{judge_all, level};
 pub use settling::open_level;
+use std::alloc::Global;
+use std::thread::Threads;
+
+/// The members of the basis, by size of the premise and then in lectic order of it.
+pub fn basis_by_levels<R: Threads + Sync>(
+    rt: &R,
+    alloc: Global,
+    rows: &Rows,
+) -> Result<ImplicationList, Memory>
+    ensures members { IfOk result (λ basis. basis ≡ record { width = rows.now.width; members = by_size [] rows.now }) }
+    ensures least { IfOk result (λ basis. IsLeastBasis rows.now basis.members) }
+{
+    let mut found = ImplicationList::new(alloc, rows.width())?;
+    let mut candidates = Candidates::new(alloc, rows.width())?;
+    for size in 0..rows.width() + 1 {
+        let sets = candidates.of_size(alloc, size)?;
+        let answers = level(rt, alloc, rows, &found, &sets)?;
+        let members = open_level(alloc, &mut candidates, rows, &found, &sets, &answers, size)?;
+        let closures = conclusions(alloc, &members)?;
+        candidates.grow_all(&closures)?;
+        append(&mut found, &members)?;
+    }
+    Ok(found)
+}
+
+/// The conclusion of each implication.
+fn conclusions(alloc: Global, members: &[Implication]) -> Result<Vec<Attrs>, Memory>
+    ensures { IfOk result (λ conclusions. conclusions.items ≡ map (λ i. i.conclusion) members.now) }
+{
+    Ok(members.iter().map(|i| i.conclusion).collect(alloc)?)
+}
+
+/// Puts the implications last.
+fn append(list: &mut ImplicationList, more: &[Implication]) -> Result<(), Memory>
+    requires { HaveWidth list.old.width more.now }
+    ensures { OnOk result (list.new ≡ record list.old { members = list.old.members ++ more.now }) }
+{
+    for i in more {
+        list.push(*i)?;
+    }
+    Ok(())
+}
