@@ -1,0 +1,60 @@
+-- Sets and implications as texts, by the names of the attributes.
+use Rattle.std.specs.Prelude.{ℕ, ◌+◌, Bool, true, false, cond, List, [], ◌∷◌, ◌++◌, map, codes, decimal}
+use Rattle.fca_model.specs.Sets.{Set}
+use Rattle.fca_model.specs.Tables.{Text}
+use Rattle.fca_model.specs.Implications.{Rule}
+use Rattle.attr_bits.specs.Difference.{minus}
+
+-- what stands at the end of each line
+abbrev pub line_end : Text
+line_end = codes "\n"
+
+-- the number of the thing at a place: places are counted from 0, and in texts from 1
+abbrev pub ordinal : ℕ → Text
+ordinal place = decimal (place + 1)
+
+-- ---- sets
+
+-- `X` for a member and `.` for none
+abbrev pub mark_of : Bool → ℕ
+mark_of true = 88
+mark_of false = 46
+
+-- one mark for each attribute, and a dash where there are no attributes
+abbrev pub pattern : Set → Text
+pattern [] = codes "-"
+pattern (a ∷ A) = map mark_of (a ∷ A)
+
+-- the names of the members, in the order of the attributes
+abbrev pub names_of : List Text → Set → List Text
+names_of [] A = []
+names_of (name ∷ names) [] = []
+names_of (name ∷ names) (a ∷ A) = cond a (name ∷ names_of names A) (names_of names A)
+
+-- each text behind a comma and a space
+abbrev pub continued : List Text → Text
+continued [] = []
+continued (x ∷ xs) = codes ", " ++ (x ++ continued xs)
+
+-- the texts with a comma and a space between two of them
+abbrev pub listed : List Text → Text
+listed [] = []
+listed (x ∷ xs) = x ++ continued xs
+
+-- a list of names in braces
+abbrev pub braced : List Text → Text
+braced names = codes "{" ++ (listed names ++ codes "}")
+
+-- a set of attributes by the names of its members
+abbrev pub braces_text : List Text → Set → Text
+braces_text attributes A = braced (names_of attributes A)
+
+-- ---- implications
+
+-- `{a, b} -> {c}`: behind the arrow stands only what the premise lacks
+abbrev pub arrow_text : List Text → Rule → Text
+arrow_text attributes i = braces_text attributes i.premise ++ (codes " -> " ++ braces_text attributes (minus i.conclusion i.premise))
+
+-- the patterns of both sets, and the arrow text
+abbrev pub full_text : List Text → Rule → Text
+full_text attributes i = pattern i.premise ++ (codes " " ++ (pattern i.conclusion ++ (codes " " ++ arrow_text attributes i)))

@@ -1,0 +1,67 @@
+//! The request of a line of a session.
+
+ghost use Rattle.std.specs.Prelude.{◌≡◌, ◌≤◌, ◌⊎◌, Ok, Err, IfOk, IfErr};
+ghost use Rattle.fca_model.specs.declared.TheConstants.{MAX_ATTRIBUTES};
+ghost use Rattle.expert_wire.specs.Requests.{request_form, request_of};
+
+use attr_bits::Attrs;
+use fca_model::Name;
+use std::alloc::Global;
+use thiserror::Error;
+
+use crate::scripts::without_return;
+use crate::words::{read_row, split_word, text_of};
+
+/// What an expert asks for in a session.
+#[derive(Drop)]
+pub enum Request {
+    Draw,
+    Confirm,
+    Row { name: Name, row: Attrs },
+    Leave,
+    Quit,
+}
+
+/// Why a line is no request.
+#[derive(Debug, Drop, Error)]
+pub enum RequestFault {
+    #[error("the line has the shape of no request")]
+    Line,
+    #[error("the pattern has another width")]
+    Width,
+    #[error("memory was refused")]
+    Memory,
+}
+
+/// The request of the bytes before a line feed, where rows have width n. One carriage return at their end is dropped.
+pub fn read_request(alloc: Global, line: &[u8], n: u32) -> Result<Request, RequestFault>
+    requires { n ≤ MAX_ATTRIBUTES }
+    ensures ok { IfOk result (λ request. request_form line.now n ≡ Ok request) }
+    ensures refused { IfErr result (λ e. (e ≡ RequestFault.Memory) ⊎ (request_form line.now n ≡ Err e)) }
+{
+    match text_of(without_return(line)) {
+        Some(text) => request_of(alloc, text, n),
+        None => Err(RequestFault::Line),
+    }
+}
+
+fn request_of(alloc: Global, text: &str, n: u32) -> Result<Request, RequestFault>
+    requires { n ≤ MAX_ATTRIBUTES }
+    ensures ok { IfOk result (λ request. request_of n text.now ≡ Ok request) }
+    ensures refused { IfErr result (λ e. (e ≡ RequestFault.Memory) ⊎ (request_of n text.now ≡ Err e)) }
+{
+    match text {
+        "draw" => Ok(Request::Draw),
+        "confirm" => Ok(Request::Confirm),
+        "leave" => Ok(Request::Leave),
+        "quit" => Ok(Request::Quit),
+        _ => {
+            let (verb, words) = split_word(text);
+            if verb != "row" {
+                return Err(RequestFault::Line);
+            }
+            let (name, row) = read_row(alloc, words, n)?;
+            Ok(Request::Row { name, row })
+        }
+    }
+}
