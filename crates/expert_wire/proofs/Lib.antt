@@ -1,2 +1,4 @@
 pub mod WordLemmas
 pub mod ScriptLemmas
+pub mod WriteLemmas
+pub mod ListedLemmas

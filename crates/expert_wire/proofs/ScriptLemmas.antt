@@ -51,25 +51,25 @@ slice_split-whole [] h = refl
 slice_split-whole (byte ∷ text) h = elim (cases_Bool (is_line_feed byte)) [
   | inl t ↦ absurd (let none : suc (length text) ≤ 0 = subst (λ b. suc (length text) ≤ cond (not b) (1 + position_or_len is_line_feed text) 0) t h in omega arith)
   | inr f ↦
-    let later : suc (length text) ≤ 1 + position_or_len is_line_feed text = subst (λ b. suc (length text) ≤ cond (not b) (1 + position_or_len is_line_feed text) 0) f h in
-    ap (λ b. cond b ([] ∷ slice_split is_line_feed text) (onto_first byte (slice_split is_line_feed text))) f
-    ∙ ap (onto_first byte) (slice_split-whole text (omega arith))
+      let later : suc (length text) ≤ 1 + position_or_len is_line_feed text = subst (λ b. suc (length text) ≤ cond (not b) (1 + position_or_len is_line_feed text) 0) f h in
+      ap (λ b. cond b ([] ∷ slice_split is_line_feed text) (onto_first byte (slice_split is_line_feed text))) f
+      ∙ ap (onto_first byte) (slice_split-whole text (omega arith))
 ]
 
 -- the first line of a text that isn't empty, and the lines behind it
 pub lines-cons : (text : Text) → 0 < length text → lines text ≡ strip_carriage_return (before_first is_line_feed text) ∷ lines (after_first is_line_feed text)
 lines-cons text h = elim (cases_lt (position_or_len is_line_feed text) (length text)) [
   | inl lt ↦
-    let behind = slice_split is_line_feed (after_first is_line_feed text) in
-    let some : 0 < length behind = omega (arith, length-slice_split is_line_feed (after_first is_line_feed text)) in
-    ap (λ pieces. map strip_carriage_return (without_empty_end pieces)) (slice_split_first is_line_feed text 0 lt)
-    ∙ ap (map strip_carriage_return) (without_empty_end-cons (before_first is_line_feed text) behind some)
+      let behind = slice_split is_line_feed (after_first is_line_feed text) in
+      let some : 0 < length behind = omega (arith, length-slice_split is_line_feed (after_first is_line_feed text)) in
+      ap (λ pieces. map strip_carriage_return (without_empty_end pieces)) (slice_split_first is_line_feed text 0 lt)
+      ∙ ap (map strip_carriage_return) (without_empty_end-cons (before_first is_line_feed text) behind some)
   | inr le ↦
-    let all : take (position_or_len is_line_feed text) text ≡ text = take_all (position_or_len is_line_feed text) text le in
-    let none : drop (position_or_len is_line_feed text + 1) text ≡ [] = drop_of_length-le text (omega arith) in
-    ap (λ pieces. map strip_carriage_return (without_empty_end pieces)) (slice_split-whole text le)
-    ∙ ap (map strip_carriage_return) (unless_empty-cons text h)
-    ∙ rw (all, none) refl
+      let all : take (position_or_len is_line_feed text) text ≡ text = take_all (position_or_len is_line_feed text) text le in
+      let none : drop (position_or_len is_line_feed text + 1) text ≡ [] = drop_of_length-le text (omega arith) in
+      ap (λ pieces. map strip_carriage_return (without_empty_end pieces)) (slice_split-whole text le)
+      ∙ ap (map strip_carriage_return) (unless_empty-cons text h)
+      ∙ rw (all, none) refl
 ]
 
 some_left : (n : ℕ) (b : Bool) → b ≡ (n == 0) → b ≡ false → 0 < n
@@ -81,8 +81,7 @@ pub lines-cut : (text line behind : Text) (b : Bool) → b ≡ (length text == 0
     → (lines text ≡ line ∷ lines behind) × (length behind < length text)
 lines-cut text line behind b e h front back =
     let some : 0 < length text = some_left (length text) b e h in
-    let less : length (drop (position_or_len is_line_feed text + 1) text) < length text = omega (arith, length-drop (position_or_len is_line_feed text + 1) text) in
-    (
+    let less : length (drop (position_or_len is_line_feed text + 1) text) < length text = omega (arith, length-drop (position_or_len is_line_feed text + 1) text) in (
       lines-cons text some ∙ rw (front, back) refl,
       rw back less,
     )
@@ -141,7 +140,6 @@ pub to_come-fault : (n : ℕ) (first : Bool) (k : ℕ) (x : Text) (ls : List Tex
 to_come-fault n first k x ls told h events fault e =
     ap (resumed events) (to_come-told n first k x ls told h)
     ∙ ap (λ r. resumed events (all_events (r ∷ map (λ l. event_of n l.0 l.1) (later_said k ls)))) e
-
 
 -- behind the last line nothing is to come
 pub to_come-end : (n : ℕ) (first : Bool) (k : ℕ) (events : List SetEvent) → resumed events (to_come n first k []) ≡ Ok events

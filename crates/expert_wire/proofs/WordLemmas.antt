@@ -1,6 +1,6 @@
 -- Patterns and numerals, as the code reads them. A set is filled mark by mark: `crossed_to i` is the set after the first i
 -- marks, and one more mark sets at most its own place. A numeral is what std's `parse` reads.
-use Rattle.std.proofs.Common.{◌≡◌, ℕ, zero, suc, ◌+◌, ◌<◌, ◌≤◌, ◌&&◌, Bool, true, false, cond, List, [], ◌∷◌, map, length, get_or, set, replicate, Option, Some, None, Result, Ok, Err, refl, ap, sym, ◌∙◌, inl, inr, arith, rules, ltb, leb, nat_lt, nat_le}
+use Rattle.std.proofs.Common.{◌≡◌, ℕ, zero, suc, ◌<◌, ◌≤◌, true, false, cond, List, [], ◌∷◌, map, length, get_or, set, replicate, Some, None, Result, Ok, Err, refl, ap, sym, inl, inr, arith, rules, nat_lt, nat_le}
 use Rattle.std.proofs.lemmas.Result.{OkIff-at_ok, OkIff-at_err}
 use borrow.Author.Tests.{ltb-true, leb-true}
 use Rattle.std.proofs.lemmas.Bool.{and_parts, cases_Bool}
@@ -58,11 +58,11 @@ numerals = numerals_by_value _ tells_digits
 pub no_expert : {E : Type 0} (r : Result ℕ E) (e : E) (ds : List ℕ) → r ≡ Err e → is_numeral ds ≡ true → ParsesUnsigned 8 10 ds r → None ≡ cond (is_expert (value_of ds)) (Some (value_of ds)) None
 no_expert r e ds failed h parsed = elim (cases_Bool (is_expert (value_of ds))) [
   | inl t ↦
-    let numeral = and_parts (nat_lt 0 (length ds)) (list_all is_ascii_digit ds) h in
-    let bounds = and_parts (nat_le 1 (value_of ds)) (nat_le (value_of ds) MAX_EXPERTS) t in
-    let some : 0 < length ds = ltb-true 0 (length ds) numeral.0 in
-    let few : value_of ds ≤ MAX_EXPERTS = leb-true (value_of ds) MAX_EXPERTS bounds.1 in
-    absurd (OkIff-at_err r _ (value_of ds) e (parse_digits numerals 8 ds r parsed numeral.1) failed (some, omega arith))
+      let numeral = and_parts (nat_lt 0 (length ds)) (list_all is_ascii_digit ds) h in
+      let bounds = and_parts (nat_le 1 (value_of ds)) (nat_le (value_of ds) MAX_EXPERTS) t in
+      let some : 0 < length ds = ltb-true 0 (length ds) numeral.0 in
+      let few : value_of ds ≤ MAX_EXPERTS = leb-true (value_of ds) MAX_EXPERTS bounds.1 in
+      absurd (OkIff-at_err r _ (value_of ds) e (parse_digits numerals 8 ds r parsed numeral.1) failed (some, omega arith))
   | inr f ↦ rw f refl
 ]
 

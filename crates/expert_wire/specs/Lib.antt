@@ -1,3 +1,4 @@
+pub mod Parts
 pub mod Texts
 pub mod Replies
 pub mod Words

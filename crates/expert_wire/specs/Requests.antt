@@ -1,5 +1,5 @@
 -- The lines of a session: what each of them asks for.
-use Rattle.std.specs.Prelude.{ℕ, cond, Result, Ok, Err, List, bytes_eq, codes}
+use Rattle.std.specs.Prelude.{ℕ, cond, Result, Ok, Err, bytes_eq, codes}
 use Rattle.std.specs.Str.{is_utf8}
 use Rattle.std.specs.Str.Lines.{strip_carriage_return}
 use Rattle.fca_model.specs.Sets.{Set}

@@ -1,5 +1,5 @@
 -- Scripts: the lines of a text, and the events that the lines of a script say.
-use Rattle.std.specs.Prelude.{ℕ, Bool, true, false, not, ◌&&◌, ◌||◌, ◌==◌, cond, Result, Ok, Err, List, [], ◌∷◌, map, filter, slice_index, bytes_eq, codes}
+use Rattle.std.specs.Prelude.{ℕ, Bool, not, ◌||◌, ◌==◌, cond, Result, Ok, Err, List, [], ◌∷◌, map, filter, slice_index, bytes_eq, codes}
 use Rattle.std.specs.List.{list_all, enumerate_from, slice_split}
 use Rattle.std.specs.Str.{is_utf8}
 use Rattle.std.specs.Str.Lines.{strip_carriage_return}

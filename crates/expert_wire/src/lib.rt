@@ -1,9 +1,17 @@
 //! What experts write and are answered, as texts: requests, replies, scripts and transcripts.
 #![tactic(auto)]
 
+mod draft;
+mod parts;
+mod replies;
 mod requests;
-mod words;
 mod scripts;
+mod transcript;
+mod words;
 
+pub use draft::Draft;
+pub use parts::Part;
+pub use replies::{Reply, write_reply};
 pub use requests::{Request, RequestFault, read_request};
 pub use scripts::{Event, ScriptFault, read_script};
+pub use transcript::{Entry, transcript_text, write_transcript};

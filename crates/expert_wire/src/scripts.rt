@@ -7,13 +7,12 @@ ghost use Rattle.fca_model.specs.declared.TheConstants.{MAX_ATTRIBUTES};
 ghost use Rattle.expert_wire.specs.Replies.{heading};
 ghost use Rattle.expert_wire.specs.Scripts.{script_form, event_of, event_of_words, expert_in, row_event, is_skipped, is_blank_byte, is_line_feed};
 
+use crate::RequestFault;
+use crate::words::{expert_of, is_numeral, read_row, split_word, text_of};
 use attr_bits::Attrs;
 use fca_model::Name;
 use std::alloc::{AllocFailed, Global};
 use thiserror::Error;
-
-use crate::RequestFault;
-use crate::words::{expert_of, is_numeral, read_row, split_word, text_of};
 
 /// An event of an exploration.
 pub type Event = fca_model::Event<Name, Attrs>;

@@ -7,11 +7,10 @@ ghost use Rattle.std.specs.Str.{is_utf8};
 ghost use Rattle.fca_model.specs.declared.TheConstants.{MAX_ATTRIBUTES};
 ghost use Rattle.expert_wire.specs.Words.{first_word, later_words, is_numeral, is_expert, is_cross, is_mark, value_of, set_marked, named_row};
 
+use crate::RequestFault;
 use attr_bits::Attrs;
 use fca_model::{MAX_EXPERTS, Name, NameFault};
 use std::alloc::Global;
-
-use crate::RequestFault;
 
 /// The text of the bytes, if they are UTF-8.
 pub(crate) fn text_of(bytes: &[u8]) -> Option<&str>

@@ -1,9 +1,9 @@
-use Rattle.std.proofs.Common.{◌≡◌, ◌<◌, ◌≤◌, ◌+◌, ◌++◌, ◌∷◌, [], Bool, true, false, not, length, sym, ap, ◌∙◌, ◌⊎◌, inl, inr, arith, add-one, Ok, Err}
+use Rattle.std.proofs.Common.{◌≡◌, ◌+◌, true, false, sym, ap, ◌∙◌, ◌⊎◌, inl, inr, arith}
 use Rattle.std.specs.Str.{bytes_eq}
 use Rattle.std.proofs.lemmas.Result.{err_from_is_err_and}
 use Rattle.expert_wire.specs.Replies.{heading}
-use Rattle.expert_wire.specs.Scripts.{is_skipped, script_form, event_of, lines}
-use Rattle.expert_wire.proofs.ScriptLemmas.{script_form-to_come, resumed, to_come, lines-cut, to_come-skipped, to_come-heading, to_come-event, to_come-fault, to_come-end}
+use Rattle.expert_wire.specs.Scripts.{is_skipped, lines}
+use Rattle.expert_wire.proofs.ScriptLemmas.{script_form-to_come, resumed, to_come, lines-cut, to_come-skipped, to_come-heading, to_come-event, to_come-fault}
 use Rattle.expert_wire.proofs.scripts.read_script.Goals as goal
 use Rattle.expert_wire.proofs.scripts.read_script.Goals.{then-not-is_first-via-then-not-is_first, then-not-is_first-via-else-not-is_first+then-not-is_heading}
 
@@ -20,8 +20,8 @@ loop-rest-preserved-then-is_skipped c =
     record {
       counted = let less = cut.1 in let counted = c.loop-rest.invariant.counted in omega arith;
       said =
-        sym (ap (λ ls. resumed c.loop-rest.events.items (to_come c.args.n c.loop-rest.is_first (c.loop-rest.number + 1) ls)) cut.0 ∙ ap (resumed c.loop-rest.events.items) (to_come-skipped c.args.n c.loop-rest.is_first (c.loop-rest.number + 1) c.split_line.result.0.now (lines c.split_line.result.1.now) skip))
-        ∙ c.loop-rest.invariant.said;
+          sym (ap (λ ls. resumed c.loop-rest.events.items (to_come c.args.n c.loop-rest.is_first (c.loop-rest.number + 1) ls)) cut.0 ∙ ap (resumed c.loop-rest.events.items) (to_come-skipped c.args.n c.loop-rest.is_first (c.loop-rest.number + 1) c.split_line.result.0.now (lines c.split_line.result.1.now) skip))
+          ∙ c.loop-rest.invariant.said;
     }
 
 pub returns-in_err-read_event-clause-refused : goal.returns-in_err-read_event-clause-refused
@@ -49,7 +49,7 @@ loop-rest-preserved-in_ok-push c =
     record {
       counted = let less = cut.1 in let counted = c.loop-rest.invariant.counted in omega arith;
       said =
-        rw c.in_ok-push.ensures.items (sym (ap (λ ls. resumed c.loop-rest.events.items (to_come c.args.n c.loop-rest.is_first (c.loop-rest.number + 1) ls)) cut.0 ∙ to_come-event c.args.n c.loop-rest.is_first (c.loop-rest.number + 1) c.split_line.result.0.now (lines c.split_line.result.1.now) told none c.loop-rest.events.items c.in_ok-read_event.field-0 c.in_ok-read_event.ensures.ok) ∙ c.loop-rest.invariant.said);
+          rw c.in_ok-push.ensures.items (sym (ap (λ ls. resumed c.loop-rest.events.items (to_come c.args.n c.loop-rest.is_first (c.loop-rest.number + 1) ls)) cut.0 ∙ to_come-event c.args.n c.loop-rest.is_first (c.loop-rest.number + 1) c.split_line.result.0.now (lines c.split_line.result.1.now) told none c.loop-rest.events.items c.in_ok-read_event.field-0 c.in_ok-read_event.ensures.ok) ∙ c.loop-rest.invariant.said);
     }
 
 pub loop-rest-preserved : goal.loop-rest-preserved
@@ -60,7 +60,7 @@ loop-rest-preserved c =
     record {
       counted = let less = cut.1 in let counted = c.loop-rest.invariant.counted in omega arith;
       said =
-        sym (ap (λ ls. resumed c.loop-rest.events.items (to_come c.args.n true (c.loop-rest.number + 1) ls)) cut.0 ∙ ap (resumed c.loop-rest.events.items) (to_come-heading c.args.n (c.loop-rest.number + 1) c.split_line.result.0.now (lines c.split_line.result.1.now) told head))
-        ∙ ap (λ b. resumed c.loop-rest.events.items (to_come c.args.n b (c.loop-rest.number + 1) (lines c.loop-rest.rest.now))) (sym c.if-not-is_first.false)
-        ∙ c.loop-rest.invariant.said;
+          sym (ap (λ ls. resumed c.loop-rest.events.items (to_come c.args.n true (c.loop-rest.number + 1) ls)) cut.0 ∙ ap (resumed c.loop-rest.events.items) (to_come-heading c.args.n (c.loop-rest.number + 1) c.split_line.result.0.now (lines c.split_line.result.1.now) told head))
+          ∙ ap (λ b. resumed c.loop-rest.events.items (to_come c.args.n b (c.loop-rest.number + 1) (lines c.loop-rest.rest.now))) (sym c.if-not-is_first.false)
+          ∙ c.loop-rest.invariant.said;
     }

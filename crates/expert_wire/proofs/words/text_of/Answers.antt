@@ -1,4 +1,3 @@
-use Rattle.std.specs.Str.{IsValidUpTo}
 use Rattle.expert_wire.proofs.WordLemmas.{utf8_ok}
 use Rattle.expert_wire.proofs.words.text_of.Goals as goal
 

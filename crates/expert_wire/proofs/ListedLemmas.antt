@@ -1,0 +1,104 @@
+-- Marks and names, written one by one. `bridged` is what is still to be written of a list: the next name comes behind nothing
+-- where it is the first, else behind a comma and a space.
+use Rattle.std.proofs.Common.{◌≡◌, ℕ, suc, ◌<◌, ◌≤◌, true, false, List, [], ◌∷◌, ◌++◌, length, drop, get_or, refl, sym, ap, ◌∙◌, append_assoc, arith, min, cond, inl, inr, Some, take, map, ap₂}
+use Rattle.std.proofs.Math.Nat.{le-min}
+use Rattle.std.proofs.lemmas.Bool.{cases_lt}
+use Rattle.std.proofs.lemmas.Option.{get_or_from_slice_get}
+use Rattle.std.proofs.Math.Seq.{drop-cons}
+use Rattle.std.proofs.Math.ListN.{drop_of_length-le}
+use Rattle.std.specs.Prelude.{codes, slice_get}
+use Rattle.fca_model.specs.Sets.{Set}
+use Rattle.fca_model.specs.Tables.{Text}
+use Rattle.expert_wire.specs.Texts.{names_of, continued, listed, mark_of, pattern, ordinal, line_end, braces_text, full_text}
+use Rattle.expert_wire.specs.Replies.{numbered_rule}
+use Rattle.fca_model.specs.Implications.{Rule}
+use Rattle.attr_bits.specs.Difference.{minus}
+
+abbrev pub bridged : Text → List Text → Text
+bridged between [] = []
+bridged between (x ∷ xs) = between ++ (x ++ continued xs)
+
+pub bridged-first : (xs : List Text) → bridged [] xs ≡ listed xs
+bridged-first [] = refl
+bridged-first (x ∷ xs) = refl
+
+pub bridged-next : (xs : List Text) → bridged (codes ", ") xs ≡ continued xs
+bridged-next [] = refl
+bridged-next (x ∷ xs) = refl
+
+names_of-no_member : (names : List Text) → names_of names [] ≡ []
+names_of-no_member [] = refl
+names_of-no_member (name ∷ names) = refl
+
+-- the names of the members from place i on
+abbrev pub names_from : ℕ → List Text → Set → List Text
+names_from i names A = names_of (drop i names) (drop i A)
+
+-- one place further
+names_of-drop : (i : ℕ) (names : List Text) (A : Set) → i < length names → i < length A → names_from i names A ≡ names_of (get_or names i [] ∷ drop (suc i) names) (get_or A i false ∷ drop (suc i) A)
+names_of-drop i names A h k = ap (λ xs. names_of xs (drop i A)) (drop-cons names i [] h) ∙ ap (names_of (get_or names i [] ∷ drop (suc i) names)) (drop-cons A i false k)
+
+pub names_from-member : (i : ℕ) (names : List Text) (A : Set) → i < length names → i < length A → get_or A i false ≡ true → names_from i names A ≡ get_or names i [] ∷ names_from (suc i) names A
+names_from-member i names A h k e = names_of-drop i names A h k ∙ ap (λ a. cond a (get_or names i [] ∷ names_from (suc i) names A) (names_from (suc i) names A)) e
+
+pub names_from-none : (i : ℕ) (names : List Text) (A : Set) → i < length names → i < length A → get_or A i false ≡ false → names_from i names A ≡ names_from (suc i) names A
+names_from-none i names A h k e = names_of-drop i names A h k ∙ ap (λ a. cond a (get_or names i [] ∷ names_from (suc i) names A) (names_from (suc i) names A)) e
+
+-- behind the last name, or the last place of the set, there is none
+pub names_from-end : (i : ℕ) (names : List Text) (A : Set) → min (length A) (length names) ≤ i → names_from i names A ≡ []
+names_from-end i names A h = elim (cases_lt i (length names)) [
+  | inl lt ↦ ap (names_of (drop i names)) (drop_of_length-le A (few lt)) ∙ names_of-no_member (drop i names)
+  | inr le ↦ ap (λ xs. names_of xs (drop i A)) (drop_of_length-le names le)
+]
+  where
+    few : i < length names → length A ≤ i
+    few lt = elim (cases_lt i (length A)) [
+      | inl short ↦ absurd (let both : suc i ≤ min (length A) (length names) = le-min (omega arith) (omega arith) in omega arith)
+      | inr le ↦ le
+    ]
+
+-- what is still to be written, where the next place is a member
+pub bridged-member : (between : Text) (i : ℕ) (names : List Text) (A : Set) (name tail : Text) → i < length names → i < length A → get_or A i false ≡ true → Some name ≡ slice_get names i
+    → bridged between (names_from i names A) ++ tail ≡ (between ++ name) ++ (bridged (codes ", ") (names_from (suc i) names A) ++ tail)
+bridged-member between i names A name tail h k e named =
+    ap (λ xs. bridged between xs ++ tail) (names_from-member i names A h k e)
+    ∙ ap (λ x. (between ++ (x ++ continued (names_from (suc i) names A))) ++ tail) (get_or_from_slice_get names i name [] (sym named))
+    ∙ ap (λ x. (between ++ (name ++ x)) ++ tail) (sym (bridged-next (names_from (suc i) names A)))
+    ∙ simp append_assoc
+
+-- ---- marks
+
+-- marks that were filled in place by place
+pub marks_filled : (A : Set) (marks : Text) → length A ≤ length marks → ((k : ℕ) → k < length A → get_or marks k 0 ≡ mark_of (get_or A k false)) → take (length A) marks ≡ map mark_of A
+marks_filled [] marks h f = refl
+marks_filled (a ∷ A) [] h f = absurd (omega arith)
+marks_filled (a ∷ A) (m ∷ marks) h f = ap₂ (λ x xs. x ∷ xs) (f 0 (omega arith)) (marks_filled A marks (omega arith) (λ k l. f (suc k) (omega arith)))
+
+pub pattern-some : (A : Set) → 0 < length A → pattern A ≡ map mark_of A
+pattern-some [] h = absurd (omega arith)
+pattern-some (a ∷ A) h = refl
+
+-- ---- lines of implications
+
+-- the parts of a full text, in a line
+pub question_parts : (attributes : List Text) (words : Text) (i : Rule) (gained : Set) → gained ≡ minus i.conclusion i.premise
+    → words ++ (pattern i.premise ++ (codes " " ++ (pattern i.conclusion ++ (codes " " ++ (braces_text attributes i.premise ++ (codes " -> " ++ (braces_text attributes gained ++ line_end)))))))
+    ≡ (words ++ full_text attributes i) ++ line_end
+question_parts attributes words i gained e =
+    ap (λ A. words ++ (pattern i.premise ++ (codes " " ++ (pattern i.conclusion ++ (codes " " ++ (braces_text attributes i.premise ++ (codes " -> " ++ (braces_text attributes A ++ line_end)))))))) e
+    ∙ regroup words (pattern i.premise) (codes " ") (pattern i.conclusion) (codes " ") (braces_text attributes i.premise) (codes " -> ") (braces_text attributes (minus i.conclusion i.premise)) line_end
+  where
+    regroup : (a b c d e f g h k : Text) → a ++ (b ++ (c ++ (d ++ (e ++ (f ++ (g ++ (h ++ k))))))) ≡ (a ++ (b ++ (c ++ (d ++ (e ++ (f ++ (g ++ h))))))) ++ k
+    regroup a b c d e f g h k = simp append_assoc
+
+-- the same behind a number
+pub rule_parts : (attributes : List Text) (words : Text) (place : ℕ) (i : Rule) (gained : Set) → gained ≡ minus i.conclusion i.premise
+    → words ++ (ordinal place ++ (codes " " ++ (pattern i.premise ++ (codes " " ++ (pattern i.conclusion ++ (codes " " ++ (braces_text attributes i.premise ++ (codes " -> " ++ (braces_text attributes gained ++ line_end)))))))))
+    ≡ (words ++ numbered_rule attributes place i) ++ line_end
+rule_parts attributes words place i gained e =
+    regroup words (ordinal place) (codes " ") (pattern i.premise ++ (codes " " ++ (pattern i.conclusion ++ (codes " " ++ (braces_text attributes i.premise ++ (codes " -> " ++ (braces_text attributes gained ++ line_end)))))))
+    ∙ question_parts attributes (words ++ (ordinal place ++ codes " ")) i gained e
+    ∙ ap (λ z. z ++ line_end) (sym (regroup words (ordinal place) (codes " ") (full_text attributes i)))
+  where
+    regroup : (a b c d : Text) → a ++ (b ++ (c ++ d)) ≡ (a ++ (b ++ c)) ++ d
+    regroup a b c d = simp append_assoc

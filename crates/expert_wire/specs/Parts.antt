@@ -1,0 +1,32 @@
+-- The parts of a line, and what a call that writes a text does to a sink.
+use Rattle.std.specs.Prelude.{◌≤◌, ℕ, Option, Result, List, decimal, OnOk, OnErr}
+use Rattle.std.specs.List.{flat_map}
+use Rattle.std.specs.Io.KnownBytes.{Appends, Keeps}
+use Rattle.fca_io.specs.Faults.{Rose}
+use Rattle.fca_io.specs.Transfers.{AppendsFront}
+use Rattle.fca_io.specs.declared.outside.Put.{Put}
+use Rattle.fca_model.specs.Tables.{Text}
+use Rattle.expert_wire.specs.declared.parts.Part.{Part}
+use Rattle.expert_wire.specs.declared.parts.Part.TheVariants.{Bytes, Number, Ordinal, Pattern, Braces}
+use Rattle.expert_wire.specs.Texts.{ordinal, pattern, braces_text}
+
+-- the text of a part, where the attributes have these names
+abbrev pub part_text : List Text → Part → Text
+part_text attributes (Bytes bytes) = bytes.now
+part_text attributes (Number n) = decimal n
+part_text attributes (Ordinal place) = ordinal place
+part_text attributes (Pattern A) = pattern A
+part_text attributes (Braces A) = braces_text attributes A
+
+-- the text of parts, one behind the other
+abbrev pub parts_text : List Text → List Part → Text
+parts_text attributes parts = flat_map (part_text attributes) parts
+
+-- what a call that writes a text leaves of a sink: all of the text where it succeeds, else a front of it and one fault more
+pub record Writes (held held' : Option Text) (faults faults' : ℕ) (other other' : Option Text) (aside aside' : ℕ) (text : Text) (result : Result (Unit {0}) Put) : Type 0 where
+  pub whole : OnOk result (Appends held held' text)
+  pub front : AppendsFront held held' text
+  pub failed : OnErr result (Rose faults faults')
+  pub later : faults ≤ faults'
+  pub beside : Keeps other other'
+  pub later_beside : aside ≤ aside'

@@ -1,0 +1,131 @@
+//! A text that grows in memory.
+
+ghost use Rattle.std.specs.Prelude.{◌≡◌, ◌<◌, ◌≤◌, ◌++◌, [], length, Some, OnOk, OnErr, IfOk};
+ghost use Rattle.std.specs.Io.KnownBytes.{WriteAppends};
+ghost use Rattle.fca_io.specs.Faults.{Rose};
+ghost use Rattle.expert_wire.specs.Parts.{parts_text};
+ghost use Rattle.expert_wire.specs.Texts.{line_end, full_text};
+ghost use Rattle.expert_wire.specs.Replies.{reply_line, numbered_rule};
+
+use crate::parts::{Part, write_parts};
+use crate::replies::{Implication, Reply, write_question, write_reply, write_rule};
+use context_table::Table;
+use fca_io::{Failed, Sink};
+use fca_model::Memory;
+use std::alloc::Global;
+use std::marker::Model;
+
+/// A text that is written line by line; contracts see its bytes. After `Memory` it holds a front of what was to be written.
+#[derive(Drop)]
+pub struct Draft {
+    sink: Growing,
+}
+
+impl Model for Draft {
+    ghost use Rattle.std.specs.Prelude.{List, ℕ};
+
+    ghost Value = { List ℕ };
+
+    ghost view = { λ d. d.sink.bytes.items };
+}
+
+impl Draft {
+    /// An empty text; it takes no memory yet.
+    pub fn new(alloc: Global) -> Draft
+        ensures { result ≡ [] }
+    {
+        Draft {
+            sink: Growing {
+                bytes: Vec::new(alloc),
+                faults: 0,
+            },
+        }
+    }
+
+    /// The text.
+    pub fn into_bytes(self) -> Vec<u8>
+        ensures { result.items ≡ self }
+    {
+        self.sink.bytes
+    }
+
+    /// Appends the parts.
+    pub fn parts(&mut self, table: &Table, parts: &[Part<'_>]) -> Result<(), Memory>
+        ensures { OnOk result (self.new ≡ self.old ++ parts_text table.now.attributes parts.now) }
+    {
+        match write_parts(&mut self.sink, table, parts) {
+            Ok(()) => Ok(()),
+            Err(_) => Err(Memory),
+        }
+    }
+
+    /// Appends the line of the reply.
+    pub fn reply(&mut self, table: &Table, reply: &Reply) -> Result<(), Memory>
+        ensures { OnOk result (self.new ≡ self.old ++ reply_line table.now.attributes reply.now) }
+    {
+        match write_reply(&mut self.sink, table, reply) {
+            Ok(()) => Ok(()),
+            Err(_) => Err(Memory),
+        }
+    }
+
+    /// Appends a line of the words and the full text of the question.
+    pub fn question(
+        &mut self,
+        table: &Table,
+        words: &[u8],
+        question: &Implication,
+    ) -> Result<(), Memory>
+        ensures { OnOk result (self.new ≡ self.old ++ ((words.now ++ full_text table.now.attributes question.now) ++ line_end)) }
+    {
+        match write_question(&mut self.sink, table, words, question) {
+            Ok(()) => Ok(()),
+            Err(_) => Err(Memory),
+        }
+    }
+
+    /// Appends a line of the words, the number of the place, and the full text of the rule.
+    pub fn rule(
+        &mut self,
+        table: &Table,
+        words: &[u8],
+        place: usize,
+        rule: &Implication,
+    ) -> Result<(), Memory>
+        ensures { OnOk result (self.new ≡ self.old ++ ((words.now ++ numbered_rule table.now.attributes place rule.now) ++ line_end)) }
+    {
+        match write_rule(&mut self.sink, table, words, place, rule) {
+            Ok(()) => Ok(()),
+            Err(_) => Err(Memory),
+        }
+    }
+}
+
+/// Bytes that grow as they are written; a refused growth is a fault.
+#[derive(Drop)]
+struct Growing {
+    bytes: Vec<u8>,
+    faults: u64,
+}
+
+impl Sink for Growing {
+    ghost use Rattle.std.specs.Prelude.{Some, None};
+
+    ghost held = { λ s. Some s.bytes.items };
+
+    ghost faults = { λ s. s.faults };
+
+    ghost beside = { λ _. None };
+
+    ghost faults_beside = { λ _. 0 };
+
+    fn write(&mut self, from: &[u8]) -> Result<usize, Failed> {
+        match self.bytes.extend_from_slice(from) {
+            Ok(()) => Ok(from.len()),
+            Err(_) => {
+                self.faults = self.faults.saturating_add(1);
+                Err(Failed)
+            }
+        }
+    }
+}

@@ -1,0 +1,117 @@
+//! Lines as they are written, part by part.
+
+ghost use Rattle.std.specs.Prelude.{◌≡◌, ◌≤◌, ◌++◌, ℕ, decimal, OnOk, OnErr, slice_range, length, map, take};
+ghost use Rattle.fca_model.specs.declared.TheConstants.{MAX_ATTRIBUTES};
+ghost use Rattle.expert_wire.specs.Texts.{ordinal, pattern, mark_of, braces_text};
+ghost use Rattle.expert_wire.specs.Parts.{part_text, parts_text, Writes};
+
+use attr_bits::Attrs;
+use context_table::Table;
+use fca_io::{Put, Sink, write_text};
+use fca_model::MAX_ATTRIBUTES;
+use itoa::Buffer;
+
+/// The length of the longest pattern.
+const WIDEST: usize = MAX_ATTRIBUTES as usize;
+
+/// A part of a line.
+#[derive(Clone, Copy)]
+pub enum Part<'a> {
+    Bytes(&'a [u8]),
+    /// A number in decimal digits.
+    Number(u64),
+    /// The number, from 1 on, of what stands at a place.
+    Ordinal(usize),
+    Pattern(Attrs),
+    /// The names of the members of a set of attributes.
+    Braces(Attrs),
+}
+
+/// Writes the parts one behind the other. It takes no memory.
+pub fn write_parts<K: Sink>(sink: &mut K, table: &Table, parts: &[Part<'_>]) -> Result<(), Put>
+    ensures { Writes (K.held sink.old) (K.held sink.new) (K.faults sink.old) (K.faults sink.new) (K.beside sink.old) (K.beside sink.new)
+        (K.faults_beside sink.old) (K.faults_beside sink.new) (parts_text table.now.attributes parts.now) result }
+{
+    for part in parts {
+        write_part(sink, table, part)?;
+    }
+    Ok(())
+}
+
+fn write_part<K: Sink>(sink: &mut K, table: &Table, part: &Part<'_>) -> Result<(), Put>
+    ensures { Writes (K.held sink.old) (K.held sink.new) (K.faults sink.old) (K.faults sink.new) (K.beside sink.old) (K.beside sink.new)
+        (K.faults_beside sink.old) (K.faults_beside sink.new) (part_text table.now.attributes part.now) result }
+{
+    match part {
+        Part::Bytes(bytes) => write_bytes(sink, bytes),
+        Part::Number(number) => write_bytes(sink, Buffer::new().format(*number).as_bytes()),
+        Part::Ordinal(place) => write_bytes(
+            sink,
+            Buffer::new().format(*place as u128 + 1).as_bytes(),
+        ),
+        Part::Pattern(set) => write_pattern(sink, set),
+        Part::Braces(set) => write_braces(sink, table, set),
+    }
+}
+
+fn write_bytes<K: Sink>(sink: &mut K, bytes: &[u8]) -> Result<(), Put>
+    ensures { Writes (K.held sink.old) (K.held sink.new) (K.faults sink.old) (K.faults sink.new) (K.beside sink.old) (K.beside sink.new)
+        (K.faults_beside sink.old) (K.faults_beside sink.new) bytes.now result }
+{
+    write_text(sink, bytes)
+}
+
+fn write_pattern<K: Sink>(sink: &mut K, set: &Attrs) -> Result<(), Put>
+    ensures { Writes (K.held sink.old) (K.held sink.new) (K.faults sink.old) (K.faults sink.new) (K.beside sink.old) (K.beside sink.new)
+        (K.faults_beside sink.old) (K.faults_beside sink.new) (pattern set.now) result }
+{
+    let width = set.width() as usize;
+    if width == 0 {
+        return write_bytes(sink, b"-");
+    }
+    let marks = marks_of(set);
+    write_bytes(sink, &marks[..width])
+}
+
+/// The marks of the attributes, at the front.
+fn marks_of(set: &Attrs) -> [u8; WIDEST]
+    requires { length set.now ≤ MAX_ATTRIBUTES }
+    ensures long { length result ≡ MAX_ATTRIBUTES }
+    ensures front { take (length set.now) result ≡ map mark_of set.now }
+{
+    let mut marks = [b'.'; WIDEST];
+    for attribute in 0..set.width() {
+        marks[attribute as usize] = mark_of(set.has(attribute));
+    }
+    marks
+}
+
+fn mark_of(is_member: bool) -> u8
+    ensures { result ≡ mark_of is_member }
+{
+    if is_member { b'X' } else { b'.' }
+}
+
+fn write_braces<K: Sink>(sink: &mut K, table: &Table, set: &Attrs) -> Result<(), Put>
+    ensures { Writes (K.held sink.old) (K.held sink.new) (K.faults sink.old) (K.faults sink.new) (K.beside sink.old) (K.beside sink.new)
+        (K.faults_beside sink.old) (K.faults_beside sink.new) (braces_text table.now.attributes set.now) result }
+{
+    write_bytes(sink, b"{")?;
+    let mut between = b"".as_slice();
+    for attribute in 0..set.width().min(table.rows().width()) {
+        if !set.has(attribute) {
+            continue;
+        }
+        write_both(sink, between, table.attribute_name(attribute).bytes())?;
+        between = b", ".as_slice();
+    }
+    write_bytes(sink, b"}")
+}
+
+fn write_both<K: Sink>(sink: &mut K, first: &[u8], second: &[u8]) -> Result<(), Put>
+    ensures { Writes (K.held sink.old) (K.held sink.new) (K.faults sink.old) (K.faults sink.new) (K.beside sink.old) (K.beside sink.new)
+        (K.faults_beside sink.old) (K.faults_beside sink.new) (first.now ++ second.now) result }
+{
+    write_bytes(sink, first)?;
+    write_bytes(sink, second)
+}

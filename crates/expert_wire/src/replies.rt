@@ -1,0 +1,183 @@
+//! The line of a reply.
+
+ghost use Rattle.std.specs.Prelude.{◌≡◌, ◌≤◌, ◌++◌, ℕ, OnOk, OnErr, codes};
+ghost use Rattle.std.specs.Io.KnownBytes.{Appends, Keeps};
+ghost use Rattle.fca_io.specs.Faults.{Rose};
+ghost use Rattle.fca_io.specs.Transfers.{AppendsFront};
+ghost use Rattle.expert_wire.specs.Texts.{line_end, ordinal, full_text};
+ghost use Rattle.expert_wire.specs.Replies.{attribute_name, numbered_row, numbered_rule, reply_line};
+ghost use Rattle.expert_wire.specs.Parts.{Writes};
+
+use crate::parts::{Part, write_parts};
+use attr_bits::Attrs;
+use context_table::Table;
+use fca_io::{Put, Sink};
+
+/// A premise with a conclusion.
+pub type Implication = fca_model::Implication<Attrs>;
+
+/// A reply to an event.
+pub type Reply = fca_model::Reply<Attrs>;
+
+/// Writes the line of the reply, part by part; it takes no memory. After an `Err` the sink holds a front of the line.
+pub fn write_reply<K: Sink>(sink: &mut K, table: &Table, reply: &Reply) -> Result<(), Put>
+    ensures whole { OnOk result (Appends (K.held sink.old) (K.held sink.new) (reply_line table.now.attributes reply.now)) }
+    ensures front { AppendsFront (K.held sink.old) (K.held sink.new) (reply_line table.now.attributes reply.now) }
+
+    ensures failed { OnErr result (Rose (K.faults sink.old) (K.faults sink.new)) }
+    ensures later { K.faults sink.old ≤ K.faults sink.new }
+
+    ensures beside { Keeps (K.beside sink.old) (K.beside sink.new) }
+    ensures later_beside { K.faults_beside sink.old ≤ K.faults_beside sink.new }
+{
+    match reply {
+        Reply::Ask(question) => write_question(sink, table, b"ask ", question),
+        Reply::Done => write_words(sink, table, b"done"),
+        Reply::AllHeld => write_words(sink, table, b"all held"),
+        Reply::Accepted(place) => write_place(sink, table, b"accepted ", *place),
+        Reply::Taken(place) => write_place(sink, table, b"taken ", *place),
+        Reply::Left => write_words(sink, table, b"left"),
+        Reply::NotHeld => write_words(sink, table, b"not held"),
+        Reply::Misses(attribute) => write_misses(sink, table, *attribute),
+        Reply::Keeps => write_words(sink, table, b"keeps"),
+        Reply::Breaks(place, rule) => write_rule(sink, table, b"breaks ", *place, rule),
+        Reply::Refuted(place, row) => write_row(sink, table, b"refuted ", *place, row),
+        Reply::SupersededRow(place, row) => write_row(sink, table, b"superseded row ", *place, row),
+        Reply::SupersededBy(place, rule) => write_rule(
+            sink,
+            table,
+            b"superseded accepted ",
+            *place,
+            rule,
+        ),
+    }
+}
+
+pub(crate) fn write_words<K: Sink>(sink: &mut K, table: &Table, words: &[u8]) -> Result<(), Put>
+    ensures { Writes (K.held sink.old) (K.held sink.new) (K.faults sink.old) (K.faults sink.new) (K.beside sink.old) (K.beside sink.new)
+        (K.faults_beside sink.old) (K.faults_beside sink.new) (words.now ++ line_end) result }
+{
+    write_parts(sink, table, &[Part::Bytes(words), Part::Bytes(b"\n")])
+}
+
+fn write_place<K: Sink>(sink: &mut K, table: &Table, words: &[u8], place: usize) -> Result<(), Put>
+    ensures { Writes (K.held sink.old) (K.held sink.new) (K.faults sink.old) (K.faults sink.new) (K.beside sink.old) (K.beside sink.new)
+        (K.faults_beside sink.old) (K.faults_beside sink.new) ((words.now ++ ordinal place) ++ line_end) result }
+{
+    write_parts(
+        sink,
+        table,
+        &[Part::Bytes(words), Part::Ordinal(place), Part::Bytes(b"\n")],
+    )
+}
+
+fn write_row<K: Sink>(
+    sink: &mut K,
+    table: &Table,
+    words: &[u8],
+    place: usize,
+    row: &Attrs,
+) -> Result<(), Put>
+    ensures { Writes (K.held sink.old) (K.held sink.new) (K.faults sink.old) (K.faults sink.new) (K.beside sink.old) (K.beside sink.new)
+        (K.faults_beside sink.old) (K.faults_beside sink.new) ((words.now ++ numbered_row place row.now) ++ line_end) result }
+{
+    write_parts(
+        sink,
+        table,
+        &[
+            Part::Bytes(words),
+            Part::Ordinal(place),
+            Part::Bytes(b" "),
+            Part::Pattern(*row),
+            Part::Bytes(b"\n"),
+        ],
+    )
+}
+
+/// The words, the number of the place, and the full text of the rule.
+pub(crate) fn write_rule<K: Sink>(
+    sink: &mut K,
+    table: &Table,
+    words: &[u8],
+    place: usize,
+    rule: &Implication,
+) -> Result<(), Put>
+    ensures { Writes (K.held sink.old) (K.held sink.new) (K.faults sink.old) (K.faults sink.new) (K.beside sink.old) (K.beside sink.new)
+        (K.faults_beside sink.old) (K.faults_beside sink.new) ((words.now ++ numbered_rule table.now.attributes place rule.now) ++ line_end) result }
+{
+    let gained = rule.conclusion.minus(&rule.premise);
+    write_parts(
+        sink,
+        table,
+        &[
+            Part::Bytes(words),
+            Part::Ordinal(place),
+            Part::Bytes(b" "),
+            Part::Pattern(rule.premise),
+            Part::Bytes(b" "),
+            Part::Pattern(rule.conclusion),
+            Part::Bytes(b" "),
+            Part::Braces(rule.premise),
+            Part::Bytes(b" -> "),
+            Part::Braces(gained),
+            Part::Bytes(b"\n"),
+        ],
+    )
+}
+
+/// The words, and the full text of the question.
+pub(crate) fn write_question<K: Sink>(
+    sink: &mut K,
+    table: &Table,
+    words: &[u8],
+    question: &Implication,
+) -> Result<(), Put>
+    ensures { Writes (K.held sink.old) (K.held sink.new) (K.faults sink.old) (K.faults sink.new) (K.beside sink.old) (K.beside sink.new)
+        (K.faults_beside sink.old) (K.faults_beside sink.new) ((words.now ++ full_text table.now.attributes question.now) ++ line_end) result }
+{
+    let gained = question.conclusion.minus(&question.premise);
+    write_parts(
+        sink,
+        table,
+        &[
+            Part::Bytes(words),
+            Part::Pattern(question.premise),
+            Part::Bytes(b" "),
+            Part::Pattern(question.conclusion),
+            Part::Bytes(b" "),
+            Part::Braces(question.premise),
+            Part::Bytes(b" -> "),
+            Part::Braces(gained),
+            Part::Bytes(b"\n"),
+        ],
+    )
+}
+
+fn write_misses<K: Sink>(sink: &mut K, table: &Table, attribute: u32) -> Result<(), Put>
+    ensures { Writes (K.held sink.old) (K.held sink.new) (K.faults sink.old) (K.faults sink.new) (K.beside sink.old) (K.beside sink.new)
+        (K.faults_beside sink.old) (K.faults_beside sink.new)
+        ((codes "misses " ++ (ordinal attribute ++ (codes " " ++ attribute_name table.now.attributes attribute))) ++ line_end) result }
+{
+    write_parts(
+        sink,
+        table,
+        &[
+            Part::Bytes(b"misses "),
+            Part::Ordinal(attribute as usize),
+            Part::Bytes(b" "),
+            Part::Bytes(name_of(table, attribute)),
+            Part::Bytes(b"\n"),
+        ],
+    )
+}
+
+/// The name of the attribute, or nothing where there is none.
+fn name_of(table: &Table, attribute: u32) -> &[u8]
+    ensures { result.now ≡ attribute_name table.now.attributes attribute }
+{
+    if attribute < table.rows().width() {
+        table.attribute_name(attribute).bytes()
+    } else {
+        b""
+    }
+}
