@@ -1,6 +1,6 @@
 //! Names of objects, attributes and experts, and titles of tables.
 
-ghost use Rattle.std.specs.Prelude.{◌≡◌, ◌↔◌, nat_lt, length, Some, None, IfOk, IsErrOf};
+ghost use Rattle.std.specs.Prelude.{◌≡◌, ◌↔◌, nat_lt, length, Some, None, IfOk, OnOk, IsErrOf};
 ghost use Rattle.std.specs.Str.{bytes_eq};
 ghost use Rattle.std.specs.Ordering.{nat_cmp};
 ghost use Rattle.std.specs.Cmp;
@@ -62,6 +62,7 @@ impl Name {
     /// The name with this text.
     pub fn new(alloc: Global, text: &str) -> Result<Name, NameFault>
         ensures named { IfOk result (λ name. name ≡ text.now) }
+        ensures faultless { OnOk result (name_fault text.now ≡ None) }
         ensures empty { IsErrOf result NameFault.Empty ↔ (name_fault text.now ≡ Some NameFault.Empty) }
         ensures long { IsErrOf result NameFault.Long ↔ (name_fault text.now ≡ Some NameFault.Long) }
         ensures line { IsErrOf result NameFault.Line ↔ (name_fault text.now ≡ Some NameFault.Line) }
