@@ -1,0 +1,116 @@
+-- The Burmeister form of a table, place by place: what the lines of a file say, or the first fault.
+use Rattle.std.specs.Prelude.{◌≡◌, ◌⊎◌, MatchResult, ℕ, ◌+◌, ◌==◌, zero, suc, cond, List, [], ◌∷◌, ◌++◌, Result, Ok, Err, length, ◌&&◌}
+use Rattle.std.specs.Str.Lossy.{utf8_valid_len}
+use Rattle.fca_model.specs.Sets.{Set}
+use Rattle.fca_model.specs.Tables.{Text, NamedContext}
+use Rattle.fca_model.specs.declared.TheConstants.{MAX_ATTRIBUTES, MAX_OBJECTS}
+use Rattle.cxt_format.specs.Lines.{Line, Left, lines_of}
+use Rattle.cxt_format.specs.Words.{is_blank_line, mark_form, title_form, count_form, name_form, attribute_form, row_form}
+use Rattle.cxt_format.specs.declared.read.Head.{Head}
+use Rattle.cxt_format.specs.declared.CxtFault.{CxtFault}
+use Rattle.cxt_format.specs.declared.CxtFault.TheVariants as fault
+
+-- the code says what the form says, unless memory was refused
+abbrev pub Tells : {X : Type 0} → Result X CxtFault → Result X CxtFault → Type 0
+Tells told form = MatchResult told (λ x. form ≡ Ok x) (λ e. (e ≡ fault.Memory) ⊎ (form ≡ Err e))
+
+-- what was read, with what is left, or the first fault
+abbrev pub Taken : Type 0 → Type 0
+Taken X = Result (X × Left) CxtFault
+
+-- the code took what the form takes, seen in this way, and left these lines, unless memory was refused
+abbrev pub Takes : {X Y : Type 0} → (X → Y) → Result X CxtFault → Taken Y → Left → Type 0
+Takes view told form left = MatchResult told (λ x. form ≡ Ok (view x, left)) (λ e. (e ≡ fault.Memory) ⊎ (form ≡ Err e))
+
+-- goes on with what was read
+abbrev pub then : {X Y : Type 0} → Result X CxtFault → (X → Result Y CxtFault) → Result Y CxtFault
+then (Ok x) next = next x
+then (Err e) next = Err e
+
+abbrev pub next_of : {X : Type 0} → (ℕ → Line → Result X CxtFault) → ℕ → List Line → Taken X
+next_of form k [] = Err (fault.Ended k)
+next_of form k (line ∷ lines) = then (form k line) (λ x. Ok (x, record { number = k + 1; lines = lines }))
+
+-- what the form makes of the next line, which there must be
+abbrev pub next : {X : Type 0} → (ℕ → Line → Result X CxtFault) → Left → Taken X
+next form left = next_of form left.number left.lines
+
+abbrev pub after_blanks_of : ℕ → List Line → Left
+after_blanks_of k [] = record { number = k; lines = [] }
+after_blanks_of k (line ∷ lines) = cond (is_blank_line line) (after_blanks_of (k + 1) lines) (record { number = k; lines = line ∷ lines })
+
+-- what is left after the blank lines at the front
+abbrev pub after_blanks : Left → Left
+after_blanks left = after_blanks_of left.number left.lines
+
+abbrev pub after_blank_of : ℕ → List Line → Left
+after_blank_of k [] = record { number = k; lines = [] }
+after_blank_of k (line ∷ lines) = cond (is_blank_line line) (record { number = k + 1; lines = lines }) (record { number = k; lines = line ∷ lines })
+
+-- what is left after the next line, where that is blank
+abbrev pub after_blank : Left → Left
+after_blank left = after_blank_of left.number left.lines
+
+-- n more of what `take` takes, which may look at those before
+abbrev pub more : {X : Type 0} → (List X → Left → Taken X) → List X → ℕ → Left → Taken (List X)
+more take xs zero left = Ok (xs, left)
+more take xs (suc n) left = then (take xs left) (λ p. more take (xs ++ p.0 ∷ []) n p.1)
+
+-- n more names of objects, one on each line
+abbrev pub objects_form : List Text → ℕ → Left → Taken (List Text)
+objects_form names n left = more (λ before. next name_form) names n left
+
+-- n more names of attributes, one on each line, each different from those before
+abbrev pub attributes_form : List Text → ℕ → Left → Taken (List Text)
+attributes_form names n left = more (λ before. next (attribute_form before)) names n left
+
+-- the next row, after blank lines; where there are no attributes, no line is read
+abbrev pub next_row : ℕ → Left → Taken Set
+next_row zero left = Ok ([], left)
+next_row (suc width) left = next (row_form (suc width)) (after_blanks left)
+
+-- n more rows
+abbrev pub rows_form : ℕ → List Set → ℕ → Left → Taken (List Set)
+rows_form width rows n left = more (λ before. next_row width) rows n left
+
+abbrev pub end_of : ℕ → List Line → Result (Unit {0}) CxtFault
+end_of k [] = Ok tt
+end_of k (line ∷ lines) = Err (fault.Trailing k)
+
+-- only blank lines are left
+abbrev pub end_form : Left → Result (Unit {0}) CxtFault
+end_form left = let rest = after_blanks left in end_of rest.number rest.lines
+
+-- the letter B, the title, the numbers of objects and of attributes, and a blank line, which may be missing
+abbrev pub head_form : Left → Taken Head
+head_form left =
+    then (next mark_form left) (λ mark.
+    then (next title_form mark.1) (λ title.
+    then (next (count_form MAX_OBJECTS) title.1) (λ objects.
+    then (next (count_form MAX_ATTRIBUTES) objects.1) (λ attributes.
+    Ok (record { title = title.0; objects = objects.0; attributes = attributes.0 }, after_blank attributes.1)))))
+
+-- the names of the objects and of the attributes, the rows, and blank lines
+abbrev pub body_form : Head → Left → Result NamedContext CxtFault
+body_form head left =
+    then (objects_form [] head.objects left) (λ objects.
+    then (attributes_form [] head.attributes objects.1) (λ attributes.
+    then (rows_form head.attributes [] head.objects attributes.1) (λ rows.
+    then (end_form rows.1) (λ rest.
+    Ok (record { title = head.title; objects = objects.0; attributes = attributes.0; context = record { width = head.attributes; rows = rows.0 } })))))
+
+-- the table that the lines write
+abbrev pub table_form : List Line → Result NamedContext CxtFault
+table_form lines = then (head_form (record { number = 1; lines = lines })) (λ head. body_form head.0 head.1)
+
+-- the bytes without the byte order mark before them, if there is one
+abbrev pub without_mark : List ℕ → List ℕ
+without_mark (a ∷ b ∷ c ∷ bytes) = cond ((a == 239) && (b == 187) && (c == 191)) bytes (a ∷ b ∷ c ∷ bytes)
+without_mark bytes = bytes
+
+-- the table that the bytes of a file write, or the first fault: bytes that are not UTF-8, then the first line at fault
+unfoldable pub cxt_form : List ℕ → Result NamedContext CxtFault
+cxt_form bytes =
+    cond (utf8_valid_len bytes == length bytes)
+    (table_form (lines_of (without_mark bytes)))
+    (Err (fault.NotUtf8 (utf8_valid_len bytes)))

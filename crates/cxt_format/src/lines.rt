@@ -1,0 +1,114 @@
+//! The lines of a text, one after the other.
+
+ghost use Rattle.std.specs.Prelude.{◌≡◌, ◌+◌, ◌<◌, ◌^◌, ◌∷◌, [], MatchOption, length};
+ghost use Rattle.cxt_format.specs.Lines.{lines_of, pieces, Left};
+ghost use Rattle.cxt_format.specs.Lines as line;
+ghost use Rattle.cxt_format.specs.Form.{after_blank, after_blanks};
+
+use crate::words::is_blank_line;
+use std::marker::Model;
+
+/// What is left of a text.
+#[derive(Drop)]
+pub struct Lines<'a> {
+    rest: &'a str,
+    number: usize,
+}
+
+impl<'a> Model for Lines<'a> {
+    ghost use Rattle.std.specs.Prelude.{◌+◌, ◌≤◌, ◌^◌, length};
+    ghost use Rattle.cxt_format.specs.Lines.{Left, lines_of};
+
+    ghost Value = { Left };
+
+    ghost view = { λ l. record { number = l.number; lines = lines_of l.rest.now } };
+
+    ghost invariant = { λ l. l.number + length l.rest.now ≤ 2 ^ 63 };
+}
+
+impl<'a> Lines<'a> {
+    /// The lines of the text.
+    pub fn new(text: &'a str) -> Lines<'a>
+        requires { length text.now < 2 ^ 63 }
+        ensures { result ≡ record { number = 1; lines = lines_of text.now } }
+    {
+        Lines {
+            rest: text,
+            number: 1,
+        }
+    }
+
+    /// The number of the next line.
+    pub fn number(&self) -> usize
+        ensures { result ≡ self.now.number }
+    {
+        self.number
+    }
+
+    /// The next line.
+    pub fn next(&mut self) -> Option<&'a str>
+        ensures { MatchOption result
+            ((self.old.lines ≡ []) × (self.new ≡ self.old))
+            (λ line. (self.old.lines ≡ line.now ∷ self.new.lines) × (self.new.number ≡ self.old.number + 1)) }
+    {
+        if self.rest.is_empty() {
+            return None;
+        }
+        let (piece, rest) = split_line(self.rest);
+        self.rest = rest;
+        self.number += 1;
+        Some(without_return(piece))
+    }
+
+    /// The next line that is not blank, with its number.
+    pub fn next_filled(&mut self) -> Option<(usize, &'a str)>
+        ensures { MatchOption result
+            ((self.new ≡ after_blanks self.old) × (self.new.lines ≡ []))
+            (λ p. after_blanks self.old ≡ record { number = p.0; lines = p.1.now ∷ self.new.lines } × (self.new.number ≡ p.0 + 1)) }
+    {
+        loop {
+            let number = self.number();
+            match self.next() {
+                Some(line) => {
+                    if !is_blank_line(line.as_bytes()) {
+                        return Some((number, line));
+                    }
+                }
+                None => return None,
+            }
+        }
+    }
+
+    /// Skips the next line where it is blank.
+    pub fn skip_blank(&mut self)
+        ensures { self.new ≡ after_blank self.old }
+    {
+        let rest = self.rest;
+        let number = self.number;
+        if let Some(line) = self.next()
+            && !is_blank_line(line.as_bytes())
+        {
+            self.rest = rest;
+            self.number = number;
+        }
+    }
+}
+
+/// The text before the first line feed, and the text after it.
+fn split_line(text: &str) -> (&str, &str)
+    requires { 0 < length text.now }
+    ensures lines { pieces text.now ≡ result.0.now ∷ pieces result.1.now }
+    ensures shorter { length result.1.now < length text.now }
+{
+    match text.split_once('\n') {
+        Some(parts) => parts,
+        None => (text, ""),
+    }
+}
+
+/// The piece without the carriage return at its end.
+fn without_return(piece: &str) -> &str
+    ensures { result.now ≡ line.without_return piece.now }
+{
+    piece.strip_suffix('\r').unwrap_or(piece)
+}
