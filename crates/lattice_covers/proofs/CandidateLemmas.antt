@@ -1,22 +1,20 @@
 -- Candidates for the upper neighbours of A. An intent B above A has a least attribute k that A lacks. The closure of A with k lies within B, so k is its least
 -- new attribute too, and it is a candidate. From the last attribute on, each candidate comes before the next in the lectic order.
-use Rattle.std.proofs.Common.{◌≡◌, ◌≢◌, ℕ, suc, ◌≤◌, Bool, true, false, not, ◌&&◌, Some, List, [], ◌∷◌, ◌++◌, length, get_or, set, refl, sym, ap, ◌∙◌, subst, arith, inl, inr, get_or-set_same, get_or-set_other, length-set, Ordering, Less, Equal, Greater}
+use Rattle.std.proofs.Common.{◌≡◌, ◌≢◌, ℕ, suc, ◌≤◌, true, false, Some, List, [], ◌∷◌, ◌++◌, length, get_or, set, refl, sym, ap, ◌∙◌, subst, arith, inl, inr}
 use Rattle.std.proofs.lemmas.Bool.{cases_eq, false≢true}
 use Rattle.std.specs.List.{list_any}
-use Rattle.std.specs.Ordering.{is_lt, ordering_reverse}
-use Rattle.fca_model.specs.Sets.{Set, within, strictly_within, lectic_cmp, increasing}
-use Rattle.fca_model.specs.SetLaws.{lectic_total}
+use Rattle.std.specs.Ordering.{is_lt}
+use Rattle.fca_model.specs.Sets.{Set, within, increasing}
 use Rattle.fca_model.specs.Context.{Context, closure}
 use Rattle.fca_model.specs.Exploration.{first_missing}
-use Rattle.fca_model.proofs.SetLemmas.{within_at_place, within_from_places, set_within, lectic_first, lectic_equal, strictly-parts, strictly_from}
-use Rattle.fca_model.proofs.ClosureLemmas.{closure_extensive}
+use Rattle.fca_model.proofs.SetLemmas.{within_at_place, lectic_first, strictly-parts, strictly_from}
 use Rattle.fca_model.proofs.ListLemmas.{bool_iff}
 use Rattle.attr_bits.proofs.PlaceLemmas.{member_below}
-use Rattle.attr_bits.proofs.DifferenceLemmas.{get_or-minus, first_missing-at, first_missing-some}
-use Rattle.lectic_concepts.proofs.NextLemmas.{IsAbove, IsIntent, above_from_less, within_not_after, closed-closure, closure_least}
-use Rattle.lectic_concepts.proofs.RestLemmas.{in_intents, of_intents}
+use Rattle.attr_bits.proofs.DifferenceLemmas.{first_missing-from, first_missing-parts}
+use Rattle.lectic_concepts.proofs.AboveLemmas.{IsAbove, above_from_strictly}
+use Rattle.lectic_concepts.proofs.IntentLemmas.{IsIntent, In, in_intents, of_intents, intent_with, has_with, within_with, with_least}
 use Rattle.lattice_covers.specs.Neighbours.{LeadUp}
-use Rattle.lattice_covers.proofs.MemberLemmas.{In, of_push, any_old, any_new, increasing-push}
+use Rattle.lattice_covers.proofs.MemberLemmas.{of_push, any_old, any_new, increasing-push}
 
 -- X is an intent that contains A and has its least new attribute from place i on
 pub record IsUpper (K : Context) (A : Set) (i : ℕ) (X : Set) : Type 0 where
@@ -43,6 +41,9 @@ module _ (K : Context) (A : Set) (i k : ℕ) (e : k ≡ suc i) (wide : length A 
   earlier : (X : Set) → IsUpper K A k X → IsUpper K A i X
   earlier X u = record { intent = u.intent; larger = u.larger; new = u.new; from = omega (arith, u.from); above = u.above }
 
+  later : (X : Set) (u : IsUpper K A i X) → u.new ≢ i → IsUpper K A k X
+  later X u other = record { intent = u.intent; larger = u.larger; new = u.new; from = omega (arith, u.from); above = u.above }
+
   -- where no intent has its least new attribute at i
   nothing_new : ((B : Set) → IsIntent K B → within A B ≡ true → IsAbove A B i → ⊥) → IsReached K A i Cs
   nothing_new none = record {
@@ -50,40 +51,25 @@ module _ (K : Context) (A : Set) (i k : ℕ) (e : k ≡ suc i) (wide : length A 
     sound = λ X h. earlier X (r.sound X h);
     complete = λ B u. elim (cases_eq u.new i) [
       | inl here ↦ absurd (none B u.intent u.larger (subst (λ k. IsAbove A B k) here u.above))
-      | inr other ↦ r.complete B (record { intent = u.intent; larger = u.larger; new = u.new; from = omega (arith, u.from); above = u.above })
+      | inr other ↦ r.complete B (later B u other)
     ];
   }
 
   pub reached_at_member : get_or A i false ≡ true → IsReached K A i Cs
   reached_at_member h = nothing_new (λ B b l w. false≢true (sym w.lacks ∙ h))
 
+  -- D is the closure that is tried at place i
   module _ (lacks : get_or A i false ≡ false) (D : Set) (is : D ≡ closure K (set A i true)) where
-    long : length (set A i true) ≡ K.width
-    long = length-set A i true ∙ wide
-
-    intent : IsIntent K D
-    intent = subst (λ X. IsIntent K X) (sym is) (closed-closure K (set A i true) long)
-
-    bigger : within (set A i true) D ≡ true
-    bigger = subst (λ X. within (set A i true) X ≡ true) (sym is) (closure_extensive K (set A i true) long)
-
     has : get_or D i false ≡ true
-    has = within_at_place (set A i true) D bigger i (get_or-set_same A i true false (omega arith))
+    has = has_with K A i wide (omega arith) D is
 
     larger : within A D ≡ true
-    larger = within_from_places A D (λ j l t. elim (cases_eq j i) [
-      | inl here ↦ ap (λ x. get_or D x false) here ∙ has
-      | inr other ↦ within_at_place (set A i true) D bigger j (get_or-set_other A i j true false other ∙ t)
-    ])
-
-    in_each : (B : Set) → IsIntent K B → within A B ≡ true → IsAbove A B i → within D B ≡ true
-    in_each B b l w = subst (λ X. within X B ≡ true) (sym is) (closure_least K (set A i true) B b (set_within A B i l w.has))
+    larger = within_with K A i wide (omega arith) D is
 
     pub reached_with : first_missing 0 D A ≡ Some i → IsReached K A i (Cs ++ D ∷ [])
     reached_with found =
-        let m = first_missing-some D A i found in
         let above : IsAbove A D i = record {
-          before = λ j l. bool_iff (get_or A j false) (get_or D j false) (within_at_place A D larger j) (kept (get_or D j false) (get_or A j false) (sym (get_or-minus D A j) ∙ m.1 j l));
+          before = λ j l. bool_iff (get_or A j false) (get_or D j false) (within_at_place A D larger j) ((first_missing-parts D A i found).2 j l);
           lacks = lacks;
           has = has;
         } in
@@ -93,40 +79,20 @@ module _ (K : Context) (A : Set) (i k : ℕ) (e : k ≡ suc i) (wide : length A 
               ap is_lt (lectic_first X D i (λ j l. sym (u.above.before j (omega (arith, u.from))) ∙ above.before j l) (sym (u.above.before i (omega (arith, u.from))) ∙ lacks) has));
           sound = λ X h. elim (of_push X D Cs h) [
             | inl old ↦ earlier X (r.sound X old)
-            | inr same_set ↦ subst (λ X. IsUpper K A i X) (sym same_set) (record { intent = intent; larger = larger; new = i; from = omega arith; above = above })
+            | inr same_set ↦ subst (λ X. IsUpper K A i X) (sym same_set)
+                (record { intent = intent_with K A i wide (omega arith) D is; larger = larger; new = i; from = omega arith; above = above })
           ];
           complete = λ B u. elim (cases_eq u.new i) [
-            | inl here ↦ any_new (λ C. within C B) D Cs (in_each B u.intent u.larger (subst (λ k. IsAbove A B k) here u.above))
-            | inr other ↦ any_old (λ C. within C B) D Cs (r.complete B (record { intent = u.intent; larger = u.larger; new = u.new; from = omega (arith, u.from); above = u.above }))
+            | inl here ↦ any_new (λ C. within C B) D Cs (with_least K A i wide (omega arith) D is B u.intent u.larger (subst (λ k. IsAbove A B k) here u.above).has)
+            | inr other ↦ any_old (λ C. within C B) D Cs (r.complete B (later B u other))
           ];
         }
-      where
-        kept : (a b : Bool) → (a && not b) ≡ false → a ≡ true → b ≡ true
-        kept true true h t = refl
-        kept true false h t = absurd (false≢true (sym h))
-        kept false b h t = absurd (false≢true t)
 
     pub reached_without : first_missing 0 D A ≢ Some i → IsReached K A i Cs
-    reached_without ne = nothing_new (λ B b l w. ne (first_missing-at 0 D A i (get_or-minus D A i ∙ new has lacks)
-        (λ j lt. get_or-minus D A j ∙ old (get_or D j false) (get_or A j false) (λ t. w.before j lt ∙ within_at_place D B (in_each B b l w) j t)) ∙ ap Some (omega arith)))
-      where
-        new : {a b : Bool} → a ≡ true → b ≡ false → (a && not b) ≡ true
-        new {a} {b} ha hb = rw (ha, hb) refl
-
-        old : (a b : Bool) → (a ≡ true → b ≡ true) → (a && not b) ≡ false
-        old true b h = rw (h refl) refl
-        old false b h = refl
+    reached_without ne = nothing_new (λ B b l w. ne (first_missing-from D A i has lacks
+      (λ j lt t. w.before j lt ∙ within_at_place D B (with_least K A i wide (omega arith) D is B b l w.has) j t)))
 
 -- ---- all places
-
--- a set that contains A strictly has a least new attribute
-least_new : (A B : Set) → length A ≡ length B → strictly_within A B ≡ true → (k : ℕ) × IsAbove A B k
-least_new A B e h = cases (lectic_cmp A B) refl
-  where
-    cases : (o : Ordering) → lectic_cmp A B ≡ o → (k : ℕ) × IsAbove A B k
-    cases Less less = above_from_less A B e less
-    cases Equal equal = absurd ((strictly-parts A B h).1 (lectic_equal A B equal))
-    cases Greater greater = absurd (within_not_after A B e (strictly-parts A B h).0 (lectic_total.antisymm B A ∙ ap ordering_reverse greater))
 
 pub lead_up : (K : Context) (A : Set) (Cs : List Set) → length A ≡ K.width → IsReached K A 0 Cs → LeadUp K A Cs
 lead_up K A Cs wide r = record {
@@ -136,6 +102,6 @@ lead_up K A Cs wide r = record {
       (in_intents K X u.intent, strictly_from A X u.larger (λ same_set. false≢true (sym u.above.lacks ∙ ap (λ Y. get_or Y u.new false) same_set ∙ u.above.has)));
   complete = λ B h s.
       let b = of_intents K B h in
-      let w = least_new A B (wide ∙ sym b.wide) s in
+      let w = above_from_strictly A B (wide ∙ sym b.wide) s in
       r.complete B (record { intent = b; larger = (strictly-parts A B s).0; new = w.0; from = omega arith; above = w.1 });
 }

@@ -8,9 +8,9 @@ use Rattle.fca_model.specs.Context.{Context}
 use Rattle.fca_model.specs.Pseudo.{intents, is_cover}
 use Rattle.fca_model.proofs.SetLemmas.{within_trans, within_antisymm, strictly-parts, strictly_from, same_decides}
 use Rattle.fca_model.proofs.SortedLemmas.{at_member, same_members, increasing-filter, in_filter, of_filter}
-use Rattle.lectic_concepts.proofs.RestLemmas.{of_intents, intents_increasing}
+use Rattle.lectic_concepts.proofs.IntentLemmas.{In, of_intents, intents_increasing}
 use Rattle.lattice_covers.specs.Neighbours.{LeadUp, has_smaller}
-use Rattle.lattice_covers.proofs.MemberLemmas.{In, all_from_members, member_of_any, any_from_member}
+use Rattle.lattice_covers.proofs.MemberLemmas.{all_from_members, member_of_any, any_from_member}
 
 module _ (K : Context) (A : Set) (Cs : List Set) (h : LeadUp K A Cs) where
   -- an intent strictly between

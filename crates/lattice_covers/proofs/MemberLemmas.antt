@@ -6,10 +6,7 @@ use Rattle.std.specs.List.{list_all, list_any}
 use Rattle.std.specs.Ordering.{is_lt}
 use Rattle.fca_model.specs.Sets.{Set, same, lectic_cmp, increasing}
 use Rattle.fca_model.proofs.SetLemmas.{same-true, same_refl}
-
--- X is in the list
-abbrev pub In : Set → List Set → Type 0
-In X Xs = list_any (same X) Xs ≡ true
+use Rattle.lectic_concepts.proofs.IntentLemmas.{In}
 
 -- a test that each member passes
 pub all_from_members : (p : Set → Bool) (Xs : List Set) → ((X : Set) → In X Xs → p X ≡ true) → list_all p Xs ≡ true

@@ -1,2 +1,4 @@
+pub mod AboveLemmas
+pub mod IntentLemmas
 pub mod NextLemmas
 pub mod RestLemmas

@@ -4,7 +4,7 @@ use Rattle.std.specs.List.{flat_map, enumerate_from, list_any}
 use Rattle.fca_model.specs.Sets.{Set, same, increasing}
 use Rattle.fca_model.specs.Context.{Context}
 use Rattle.fca_model.specs.Pseudo.{intents, covers, covers_of, is_cover}
-use Rattle.lectic_concepts.proofs.RestLemmas.{of_intents, intents_increasing}
+use Rattle.lectic_concepts.proofs.IntentLemmas.{of_intents, intents_increasing}
 use Rattle.lattice_covers.specs.Neighbours.{LeadUp, has_smaller, pairs_with}
 use Rattle.lattice_covers.proofs.MemberLemmas.{in_at}
 use Rattle.lattice_covers.proofs.CoverLemmas.{covers_are_minimal}
