@@ -230,7 +230,7 @@ holders_of-le P (h ∷ hs) = elim (same h.question.premise P) as (λ b. cond b 1
 ]
 
 -- without e's own hold, fewer experts hold a question than there are
-others_fewer : (e : ℕ) (q : Rule) (hs : List SetHold) → is_expert e ≡ true → distinct_experts hs ≡ true → length (given_back e hs) < MAX_EXPERTS
+pub others_fewer : (e : ℕ) (q : Rule) (hs : List SetHold) → is_expert e ≡ true → distinct_experts hs ≡ true → length (given_back e hs) < MAX_EXPERTS
 others_fewer e q hs i d =
     let mine : SetHold = record { expert = e; question = q } in
     let all_distinct = distinct_from mine (given_back e hs) i (none_held e hs) (distinct_experts-given_back e hs d) in
