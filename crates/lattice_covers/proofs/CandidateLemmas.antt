@@ -90,7 +90,7 @@ module _ (K : Context) (A : Set) (i k : ℕ) (e : k ≡ suc i) (wide : length A 
 
     pub reached_without : first_missing 0 D A ≢ Some i → IsReached K A i Cs
     reached_without ne = nothing_new (λ B b l w. ne (first_missing-from D A i has lacks
-      (λ j lt t. w.before j lt ∙ within_at_place D B (with_least K A i wide (omega arith) D is B b l w.has) j t)))
+        (λ j lt t. w.before j lt ∙ within_at_place D B (with_least K A i wide (omega arith) D is B b l w.has) j t)))
 
 -- ---- all places
 
