@@ -1,0 +1,6 @@
+pub mod RetainLemmas
+pub mod HolderLemmas
+pub mod FewestLemmas
+pub mod ReplyLemmas
+pub mod KeptLemmas
+pub mod CourseLemmas

@@ -1,0 +1,4 @@
+pub mod History
+pub mod Basis
+pub mod Fewest
+pub mod Kept

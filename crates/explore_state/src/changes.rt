@@ -1,0 +1,134 @@
+//! What an event does, once its reply is known.
+
+ghost use Rattle.std.specs.Prelude.{◌≡◌, ◌≤◌, ◌<◌, ◌++◌, ◌∷◌, [], ℕ, List, OnOk, OnErr, IsOk, Some, true, false, length, vec_capacity};
+ghost use Rattle.fca_model.specs.Context.{Context};
+ghost use Rattle.fca_model.specs.Implications.{Rule, respects_all};
+ghost use Rattle.fca_model.specs.declared.Event.TheVariants.{Confirm};
+ghost use Rattle.fca_model.specs.declared.Reply.TheVariants.{Taken};
+ghost use Rattle.fca_model.specs.declared.TheConstants.{MAX_EXPERTS};
+ghost use Rattle.fca_model.specs.Exploration.{State, RowName, held_by, given_back, after, after_draw, after_confirm, after_row};
+ghost use Rattle.explore_state.specs.History.{is_recorded};
+ghost use Rattle.explore_state.specs.Kept.{IsShown, IsDue, IsTimely, with_held};
+
+use crate::holds::{give_back, held_in};
+use crate::{Event, Hold, Reply};
+use attr_bits::Attrs;
+use fca_model::Memory;
+use level_queue::LevelQueue;
+
+/// Changes the queue and the holds as the event does that got this reply.
+pub(crate) fn change(
+    queue: &mut LevelQueue,
+    held: &mut Vec<Hold>,
+    event: &Event,
+    reply: &Reply,
+) -> Result<(), Memory>
+    requires due { IsDue queue.old.context queue.old.accepted held.old.items event.now reply.now }
+    requires room { MAX_EXPERTS ≤ vec_capacity held.old }
+    ensures ok { (s : State) → IsShown s queue.old.context queue.old.accepted held.old.items
+        → OnOk result (IsShown (after s event.now reply.now) queue.new.context queue.new.accepted held.new.items) }
+    ensures err { OnErr result ((queue.new ≡ queue.old) × (held.new.items ≡ held.old.items)) }
+    ensures room { vec_capacity held.new ≡ vec_capacity held.old }
+    ensures succeeds { is_recorded reply.now ≡ false → IsOk result }
+{
+    match event {
+        Event::Draw { expert } => {
+            after_draw(held, *expert, reply);
+            Ok(())
+        }
+        Event::Confirm { expert } => after_confirmation(queue, held, *expert, reply),
+        Event::Row { expert, row, .. } => after_row(queue, held, *expert, row, reply),
+        Event::Leave { expert } => {
+            give_back(held, *expert);
+            Ok(())
+        }
+    }
+}
+
+/// The expert gives its hold back, and holds what it was asked.
+fn after_draw(held: &mut Vec<Hold>, expert: u8, reply: &Reply)
+    requires room { length (given_back expert held.old.items) < vec_capacity held.old }
+    ensures shown { (s : State) (K : Context) (acc : List Rule) → IsShown s K acc held.old.items → IsShown (after_draw expert s reply.now) K acc held.new.items }
+    ensures room { vec_capacity held.new ≡ vec_capacity held.old }
+{
+    give_back(held, expert);
+    if let Reply::Ask(question) = reply {
+        held.push_reserved(Hold {
+            expert,
+            question: *question,
+        });
+    }
+}
+
+/// What was confirmed is accepted where it is due, and the hold is given back.
+fn after_confirmation(
+    queue: &mut LevelQueue,
+    held: &mut Vec<Hold>,
+    expert: u8,
+    reply: &Reply,
+) -> Result<(), Memory>
+    requires due { IsDue queue.old.context queue.old.accepted held.old.items (Confirm expert) reply.now }
+    ensures ok { (s : State) → IsShown s queue.old.context queue.old.accepted held.old.items
+        → OnOk result (IsShown (after_confirm expert s reply.now) queue.new.context queue.new.accepted held.new.items) }
+    ensures err { OnErr result ((queue.new ≡ queue.old) × (held.new.items ≡ held.old.items)) }
+    ensures room { vec_capacity held.new ≡ vec_capacity held.old }
+    ensures succeeds { is_recorded reply.now ≡ false → IsOk result }
+{
+    match reply {
+        Reply::NotHeld => Ok(()),
+        Reply::Accepted(_) => {
+            accept_held(queue, held, expert)?;
+            give_back(held, expert);
+            Ok(())
+        }
+        _ => {
+            give_back(held, expert);
+            Ok(())
+        }
+    }
+}
+
+/// Accepts the question that the expert holds.
+fn accept_held(queue: &mut LevelQueue, held: &[Hold], expert: u8) -> Result<(), Memory>
+    requires { (q : Rule) → held_by expert held.now ≡ Some q → IsTimely queue.old.context queue.old.accepted q }
+    ensures ok { OnOk result (queue.new ≡ record { context = queue.old.context; accepted = with_held (held_by expert held.now) queue.old.accepted }) }
+    ensures err { OnErr result (queue.new ≡ queue.old) }
+{
+    let Some(question) = held_in(held, expert) else {
+        return Ok(());
+    };
+    match queue.place_of(&question) {
+        Some(place) => queue.accept(place),
+        None => unreachable!(),
+    }
+}
+
+/// A row that was taken is recorded, and the hold is given back where the question is settled.
+fn after_row(
+    queue: &mut LevelQueue,
+    held: &mut Vec<Hold>,
+    expert: u8,
+    row: &Attrs,
+    reply: &Reply,
+) -> Result<(), Memory>
+    requires wide { length row.now ≡ queue.old.context.width }
+    requires respecting { (k : ℕ) → reply.now ≡ Taken k → respects_all queue.old.accepted row.now ≡ true }
+    ensures ok { (s : State) (name : RowName) → IsShown s queue.old.context queue.old.accepted held.old.items
+        → OnOk result (IsShown (after_row expert name row.now s reply.now) queue.new.context queue.new.accepted held.new.items) }
+    ensures err { OnErr result ((queue.new ≡ queue.old) × (held.new.items ≡ held.old.items)) }
+    ensures room { vec_capacity held.new ≡ vec_capacity held.old }
+    ensures succeeds { is_recorded reply.now ≡ false → IsOk result }
+{
+    match reply {
+        Reply::Taken(_) => {
+            queue.take_row(*row)?;
+            give_back(held, expert);
+            Ok(())
+        }
+        Reply::SupersededRow(..) => {
+            give_back(held, expert);
+            Ok(())
+        }
+        _ => Ok(()),
+    }
+}

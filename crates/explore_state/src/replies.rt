@@ -1,0 +1,80 @@
+//! The reply to each event, which changes nothing.
+
+ghost use Rattle.std.specs.Prelude.{◌≡◌, ◌<◌, [], Some, length};
+ghost use Rattle.fca_model.specs.Exploration.{State, given_back, draw_reply, confirm_reply, row_reply};
+ghost use Rattle.explore_state.specs.Fewest.{IsFewest};
+
+use crate::holds::holders;
+use crate::{Hold, Question, Reply};
+use answer_check::{Verdict, check_confirm, check_row};
+use attr_bits::Attrs;
+use derivation::Rows;
+use implication_closure::ImplicationList;
+
+/// The reply to a draw of the expert, where at most so many experts may hold one question.
+pub(crate) fn reply_to_draw(questions: &[Question], held: &[Hold], expert: u8, most: usize) -> Reply
+    ensures { result ≡ draw_reply most (given_back expert held.now) questions.now }
+{
+    if questions.is_empty() {
+        return Reply::Done;
+    }
+    let question = &questions[fewest_held(questions, held, expert)];
+    if holders(held, expert, &question.premise) >= most {
+        return Reply::AllHeld;
+    }
+    Reply::Ask(*question)
+}
+
+/// The place of the first question whose premise is held by the fewest other experts.
+fn fewest_held(questions: &[Question], held: &[Hold], expert: u8) -> usize
+    requires { 0 < length questions.now }
+    ensures { IsFewest (given_back expert held.now) questions.now (length questions.now) result }
+{
+    let mut best = 0;
+    let mut fewest = holders(held, expert, &questions[0].premise);
+    for place in 1..questions.len() {
+        let count = holders(held, expert, &questions[place].premise);
+        if count < fewest {
+            best = place;
+            fewest = count;
+        }
+    }
+    best
+}
+
+/// The reply to a confirmation of the question.
+pub(crate) fn reply_to_confirmation(
+    rows: &Rows,
+    accepted: &ImplicationList,
+    question: &Question,
+) -> Reply
+    ensures { (s : State) → s.context ≡ rows.now → s.accepted ≡ accepted.now.members → s.settings.known ≡ []
+        → result ≡ confirm_reply s (Some question.now) }
+{
+    match check_confirm(rows, accepted, question) {
+        Verdict::Take => Reply::Accepted(accepted.as_slice().len()),
+        Verdict::Refuted(place) => Reply::Refuted(place, rows.get(place)),
+        Verdict::SupersededBy(place) => Reply::SupersededBy(place, accepted.as_slice()[place]),
+        _ => unreachable!(),
+    }
+}
+
+/// The reply to a row for the question.
+pub(crate) fn reply_to_row(
+    rows: &Rows,
+    rules: &ImplicationList,
+    question: &Question,
+    row: &Attrs,
+) -> Reply
+    ensures { (s : State) → s.context ≡ rows.now → s.accepted ≡ rules.now.members → s.settings.known ≡ []
+        → result ≡ row_reply s (Some question.now) row.now }
+{
+    match check_row(rows, rules, question, row) {
+        Verdict::Take => Reply::Taken(rows.len()),
+        Verdict::Misses(attribute) => Reply::Misses(attribute),
+        Verdict::Keeps => Reply::Keeps,
+        Verdict::Breaks(place) => Reply::Breaks(place, rules.as_slice()[place]),
+        Verdict::SupersededRow(place) => Reply::SupersededRow(place, rows.get(place)),
+        _ => unreachable!(),
+    }
+}
