@@ -2,3 +2,4 @@ pub mod MemberLemmas
 pub mod CandidateLemmas
 pub mod CoverLemmas
 pub mod PlaceLemmas
+pub mod Examples

@@ -2,3 +2,4 @@ pub mod AboveLemmas
 pub mod IntentLemmas
 pub mod NextLemmas
 pub mod RestLemmas
+pub mod Examples
