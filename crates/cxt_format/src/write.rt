@@ -1,0 +1,104 @@
+//! The writer.
+
+ghost use Rattle.std.specs.Prelude.{◌≡◌, ◌++◌, ◌∷◌, [], IfOk, OnOk, Ok, map};
+ghost use Rattle.std.specs.Option.{ForSome};
+ghost use Rattle.std.specs.Fmt.{decimal};
+ghost use Rattle.fca_model.specs.Names.{IsName};
+ghost use Rattle.cxt_format.specs.Lines.{text_of};
+ghost use Rattle.cxt_format.specs.Form.{cxt_form};
+ghost use Rattle.cxt_format.specs.Written.{EachName, cxt_text, head_lines, row_line, title_line};
+
+use attr_bits::Attrs;
+use context_table::Table;
+use derivation::Rows;
+use fca_model::Memory;
+use std::alloc::Global;
+
+/// The written form of the table.
+pub fn write_cxt(alloc: Global, table: &Table) -> Result<Vec<u8>, Memory>
+    ensures written { IfOk result (λ text. text.items ≡ cxt_text table.now) }
+    ensures reads_back { IfOk result (λ text. cxt_form text.items ≡ Ok table.now) }
+{
+    let mut text = Vec::new(alloc);
+    write_head(alloc, &mut text, table)?;
+    write_objects(&mut text, table)?;
+    write_attributes(&mut text, table)?;
+    write_rows(&mut text, table.rows())?;
+    Ok(text)
+}
+
+fn write_head(alloc: Global, text: &mut Vec<u8>, table: &Table) -> Result<(), Memory>
+    ensures written { OnOk result (text.new.items ≡ text.old.items ++ text_of (head_lines table.now)) }
+    ensures named { OnOk result (ForSome table.now.title IsName) }
+{
+    write_line(text, b"B")?;
+    write_title(text, table)?;
+    write_number(alloc, text, table.rows().len())?;
+    write_number(alloc, text, table.rows().width() as usize)?;
+    write_line(text, b"")?;
+    Ok(())
+}
+
+fn write_title(text: &mut Vec<u8>, table: &Table) -> Result<(), Memory>
+    ensures written { OnOk result (text.new.items ≡ text.old.items ++ title_line table.now.title ++ 10 ∷ []) }
+    ensures named { OnOk result (ForSome table.now.title IsName) }
+{
+    match table.title() {
+        Some(title) => write_line(text, title.bytes()),
+        None => write_line(text, b""),
+    }
+}
+
+fn write_number(alloc: Global, text: &mut Vec<u8>, number: usize) -> Result<(), Memory>
+    ensures { OnOk result (text.new.items ≡ text.old.items ++ decimal number ++ 10 ∷ []) }
+{
+    let digits = format!(in alloc; "{number}")?;
+    write_line(text, digits.as_bytes())
+}
+
+fn write_objects(text: &mut Vec<u8>, table: &Table) -> Result<(), Memory>
+    ensures written { OnOk result (text.new.items ≡ text.old.items ++ text_of table.now.objects) }
+    ensures named { OnOk result (EachName table.now.objects) }
+{
+    for i in 0..table.rows().len() {
+        write_line(text, table.object(i).bytes())?;
+    }
+    Ok(())
+}
+
+fn write_attributes(text: &mut Vec<u8>, table: &Table) -> Result<(), Memory>
+    ensures written { OnOk result (text.new.items ≡ text.old.items ++ text_of table.now.attributes) }
+    ensures named { OnOk result (EachName table.now.attributes) }
+{
+    for i in 0..table.rows().width() {
+        write_line(text, table.attribute_name(i).bytes())?;
+    }
+    Ok(())
+}
+
+fn write_rows(text: &mut Vec<u8>, rows: &Rows) -> Result<(), Memory>
+    ensures { OnOk result (text.new.items ≡ text.old.items ++ text_of (map row_line rows.now.rows)) }
+{
+    for i in 0..rows.len() {
+        write_row(text, &rows.get(i))?;
+    }
+    Ok(())
+}
+
+fn write_row(text: &mut Vec<u8>, row: &Attrs) -> Result<(), Memory>
+    ensures { OnOk result (text.new.items ≡ text.old.items ++ row_line row.now ++ 10 ∷ []) }
+{
+    for i in 0..row.width() {
+        text.push(if row.has(i) { b'X' } else { b'.' })?;
+    }
+    text.push(b'\n')?;
+    Ok(())
+}
+
+fn write_line(text: &mut Vec<u8>, line: &[u8]) -> Result<(), Memory>
+    ensures { OnOk result (text.new.items ≡ text.old.items ++ line.now ++ 10 ∷ []) }
+{
+    text.extend_from_slice(line)?;
+    text.push(b'\n')?;
+    Ok(())
+}
