@@ -30,9 +30,7 @@ fn upper_candidates(alloc: Global, rows: &Rows, a: &Attrs) -> Result<Vec<Attrs>,
     ensures { IfOk result (λ candidates. LeadUp rows.now a.now candidates.items) }
 {
     let mut candidates = Vec::new(alloc);
-    let mut i = rows.width();
-    while i > 0 {
-        i -= 1;
+    for i in (0..rows.width()).rev() {
         if !a.has(i) {
             let closed = rows.closure(&a.with(i));
             if closed.first_missing(a) == Some(i) {

@@ -7,6 +7,3 @@ invariant-loop-i l = record {
   inside : l.i ≤ l.rows.width;
   reached : IsReached l.rows l.a l.i l.candidates.items;
 }
-
-abbrev pub decreases-loop-i : goal.decreases-loop-i
-decreases-loop-i l = l.i
