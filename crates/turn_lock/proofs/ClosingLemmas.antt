@@ -19,19 +19,19 @@ use Rattle.turn_lock.proofs.HistoryLemmas.{All-among}
 use Rattle.turn_lock.proofs.MakingLemmas.{length-badges, stays_one, has_joined, keeps_seen, has_seen}
 
 module _ {X : Type 0} where
-  pub heads : (x y : X) (xs ys : List X) → x ∷ xs ≡ y ∷ ys → x ≡ y
+  heads : (x y : X) (xs ys : List X) → x ∷ xs ≡ y ∷ ys → x ≡ y
   heads x y xs ys e = ap (λ l. get_or l 0 x) e
 
-  pub tails : (x y : X) (xs ys : List X) → x ∷ xs ≡ y ∷ ys → xs ≡ ys
+  tails : (x y : X) (xs ys : List X) → x ∷ xs ≡ y ∷ ys → xs ≡ ys
   tails x y xs ys e = ap (drop 1) e
 
   pub same_value : (x y : X) → Some x ≡ Some y → x ≡ y
   same_value x y e = ap (λ (o : Option X). elim o [ None ↦ x | Some z ↦ z ]) e
 
   -- what `remove(0)` takes and leaves
-  pub front : (xs : List X) (x : X) → 0 < length xs → x ≡ get_or xs 0 x → xs ≡ x ∷ (take 0 xs ++ drop 1 xs)
+  front : (xs : List X) (x : X) → 0 < length xs → x ≡ get_or xs 0 x → x ∷ (take 0 xs ++ drop 1 xs) ≡ xs
   front [] x l e = absurd (omega arith)
-  front (y ∷ xs) x l e = λ i. sym e i ∷ xs
+  front (y ∷ xs) x l e = λ i. e i ∷ xs
 
 pub if_ok_both : {T F : Type 0} (P P' Q : T → Type 0) (r : Result T F) → ((x : T) → P x → P' x → Q x) → IfOk r P → IfOk r P' → IfOk r Q
 if_ok_both P P' Q (Ok x) f h h' = f x h h'
@@ -53,7 +53,7 @@ module _ {B E : Type 0} where
       let most = h.4 in
       (h.0, h.1, h.2, omega arith, omega arith)
 
-  pub one_lock : (id : TableId) (b : Option B) (turns n k : ℕ) (ps : List (Known B E)) → map badge ps ≡ badges id b turns n k → All (λ p. p.lock ≡ id) ps
+  one_lock : (id : TableId) (b : Option B) (turns n k : ℕ) (ps : List (Known B E)) → map badge ps ≡ badges id b turns n k → All (λ p. p.lock ≡ id) ps
   one_lock id b turns n k ps e i d l = (on_list id b turns n k ps e i d l).0
 
   -- each pass on the roll belongs to the lock
@@ -69,12 +69,25 @@ module _ {B E : Type 0} where
       let most = h.4 in
       record { lock = h.0; base = h.1; turns = h.2; number = (omega arith, omega arith) }
 
-  pub has_first : (l : Lock B) (ps : List (Known B E)) → map badge ps ≡ roll l → 0 < length ps
+  has_first : (l : Lock B) (ps : List (Known B E)) → map badge ps ≡ roll l → 0 < length ps
   has_first l [] e = let h = ap length e in absurd (omega arith)
   has_first l (p ∷ ps) e = omega arith
 
+module _ {V B E : Type 0} where
+  -- pass 1, as it was taken off the list, and the rest are all
+  pub whole : (l : Lock B) (all rest : List (Known B E)) (p : Known B E) (t : Seat (Option V) (View B E)) → map badge all ≡ roll l → p ≡ get_or all 0 p → rest ≡ take 0 all ++ drop 1 all → known t ≡ p → known t ∷ rest ≡ all
+  whole l all rest p t passes first left is = ap (λ (p : Known B E). p ∷ rest) is ∙ (ap (λ ps. p ∷ ps) left ∙ front all p (has_first l all passes) first)
+
+  -- the rest are of its lock
+  pub rest_of_lock : (l : Lock B) (t : Seat (Option V) (View B E)) (rest all : List (Known B E)) → known t ∷ rest ≡ all → map badge all ≡ roll l → All (λ p. p.lock ≡ t.table_id) rest
+  rest_of_lock l t rest all these passes =
+      let are = ap (map badge) these ∙ passes in
+      let others = badges l.id (Some l.base) l.turns 2 (l.passes - 1) in
+      let first = heads (badge (known t)) _ (map badge rest) others are in
+      subst (λ id. All (λ p. p.lock ≡ id) rest) (sym (ap (λ x. x.lock) first)) (one_lock l.id (Some l.base) l.turns 2 (l.passes - 1) rest (tails (badge (known t)) _ (map badge rest) others are))
+
 module _ {V B E : Type 0} (base_of : V → B) (history_of : V → List E) (legal : B → List E → Type 0) (by : E → ℕ) where
-  pub closing : (b : B) (turns id : ℕ) (l : Lock B) (t : Seat (Option V) (View B E)) (ps : List (Known B E)) (s : State (Option V) (View B E)) → Turned base_of history_of legal by b turns s
+  closing : (b : B) (turns id : ℕ) (l : Lock B) (t : Seat (Option V) (View B E)) (ps : List (Known B E)) (s : State (Option V) (View B E)) → Turned base_of history_of legal by b turns s
       → get_elem? s.views id ≡ some (all_gathered t.me.0 ps) → t.me.0.mine ≡ false → t.me.0.stands ≡ 1 → map badge (known t ∷ ps) ≡ roll l → 0 < l.passes
       → (value : V) × (s.homes ≡ some (Some value) ∷ []) × (base_of value ≡ b) × Told legal by b (history_of value) (known t ∷ ps)
   closing b turns id l t ps s r at idle one are some_passes =

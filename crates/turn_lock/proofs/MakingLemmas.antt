@@ -1,7 +1,7 @@
 -- Passes that are made, and passes that are joined.
 -- Each pass that is cut off from pass 1 has the next number, so the badges come in their order. As the passes are joined to
 -- pass 1, its view keeps the entries of each and what each has seen.
-use Rattle.std.proofs.Common.{◌≡◌, ℕ, ◌+◌, ◌⊎◌, zero, suc, List, [], ◌∷◌, ◌++◌, length, All, refl, ap, ◌∙◌, inl, inr, ⊎_elim, arith}
+use Rattle.std.proofs.Common.{◌≡◌, ℕ, ◌+◌, ◌⊎◌, zero, suc, List, [], ◌∷◌, ◌++◌, length, refl, ap, ◌∙◌, inl, inr, ⊎_elim, arith}
 use Rattle.std.proofs.Common.{Option}
 use Rattle.atomic_table.specs.Seated.{TableId}
 use Rattle.atomic_table.specs.declared.shared.Seat.{Seat}
@@ -12,16 +12,6 @@ use Rattle.turn_lock.specs.Steps.{one_more, newcomer, joined_with}
 use Rattle.turn_lock.specs.Passes.{Known, badge, badges, IsFresh}
 use Rattle.turn_lock.specs.Seats.{known, Making, gathered, all_gathered}
 use Rattle.turn_lock.proofs.HistoryLemmas.{among_left, among_right}
-
-pub All-one : {X : Type 0} (P : X → Type 0) (x : X) → P x → All P (x ∷ [])
-All-one P x p zero d h = p
-All-one P x p (suc k) d h = absurd (omega arith)
-
-pub All-head : {X : Type 0} (P : X → Type 0) (x : X) (xs : List X) → All P (x ∷ xs) → P x
-All-head P x xs h = h 0 x (omega arith)
-
-pub All-rest : {X : Type 0} (P : X → Type 0) (x : X) (xs : List X) → All P (x ∷ xs) → All P xs
-All-rest P x xs h k d l = h (suc k) d (omega arith)
 
 module _ {B : Type 0} where
   pub badges-push : (id : TableId) (b : Option B) (turns n k m : ℕ) → m ≡ n + k → badges id b turns n (suc k) ≡ badges id b turns n k ++ record { lock = id; number = m; base = b; turns = turns; passes = 0 } ∷ []

@@ -1,8 +1,9 @@
 use Rattle.std.proofs.Common.{◌≡◌, ◌∙◌, ap, sym, subst, ◌∷◌, All, arith}
+use Rattle.std.proofs.lemmas.List.Elements.{All-head, All-tail}
 use Rattle.turn_lock.specs.Passes.{Known}
 use Rattle.turn_lock.specs.Seats.{all_gathered}
 use Rattle.turn_lock.proofs.StepLemmas.{joins}
-use Rattle.turn_lock.proofs.MakingLemmas.{All-head, All-rest, one_joins}
+use Rattle.turn_lock.proofs.MakingLemmas.{one_joins}
 use Rattle.turn_lock.proofs.lock.gather.Goals as goal
 
 pub join_seat-requires : goal.join_seat-requires
@@ -33,7 +34,7 @@ loop-pass-preserved g c =
       ap (λ z. z.1) e.2 ∙ i.2,
       ap (λ w. w.number) v ∙ i.3,
       ap (λ w. w.mine) v ∙ i.4,
-      All-rest (λ (p : Known _ _). p.lock ≡ c.args.seat.now.table_id) c.in-Some.pass rest (subst (All (λ (p : Known _ _). p.lock ≡ c.args.seat.now.table_id)) c.in-Some.ensures.steps.0 i.5),
+      All-tail (λ (p : Known _ _). p.lock ≡ c.args.seat.now.table_id) c.in-Some.pass rest (subst (All (λ (p : Known _ _). p.lock ≡ c.args.seat.now.table_id)) c.in-Some.ensures.steps.0 i.5),
       ap (λ w. all_gathered w rest) v ∙ (one_joins c.loop-pass.seat.me.0 c.pass.inside.seat rest idle.stands
           ∙ (ap (λ p. all_gathered c.loop-pass.seat.me.0 (p ∷ rest)) c.pass.view_is ∙ (ap (all_gathered c.loop-pass.seat.me.0) (sym c.in-Some.ensures.steps.0) ∙ i.6))),
     )

@@ -1,10 +1,10 @@
 use Rattle.std.proofs.Common.{◌≡◌, ◌∙◌, ap, sym, suc, ◌+◌, ◌++◌, ◌∷◌, [], length, map, arith, length-append}
-use Rattle.std.proofs.lemmas.List.Elements.{All-append}
+use Rattle.std.proofs.lemmas.List.Elements.{All-push}
 use mathlib.Core.List.{map-append}
 use Rattle.turn_lock.specs.Passes.{badge, badges, IsFresh}
 use Rattle.turn_lock.specs.Seats.{known}
 use Rattle.turn_lock.proofs.StepLemmas.{splits}
-use Rattle.turn_lock.proofs.MakingLemmas.{All-one, badges-push, makes, is_new}
+use Rattle.turn_lock.proofs.MakingLemmas.{badges-push, makes, is_new}
 use Rattle.turn_lock.proofs.lock.make_more.Goals as goal
 
 pub split_seat-other-requires : goal.split_seat-other-requires
@@ -39,5 +39,5 @@ loop-i-preserved g c =
       makes c.args.turns c.loop-i.i c.loop-i.seat c.split_seat-other.new.seat e.2 i.4,
       ap (λ z. z.0.base) e.2 ∙ i.5,
       ap (map badge) items ∙ (map-append badge old (pass ∷ []) ∙ ((λ j. i.6 j ++ new.0 j ∷ []) ∙ (sym (badges-push c.args.seat.now.table_id c.args.seat.now.me.0.base c.args.turns 2 (length old) (c.loop-i.i + 1) (omega (arith, n))) ∙ ap (badges c.args.seat.now.table_id c.args.seat.now.me.0.base c.args.turns 2) (sym long')))),
-      rw items (All-append IsFresh old (pass ∷ []) i.7 (All-one IsFresh pass new.1)),
+      rw items (All-push IsFresh old pass i.7 new.1),
     )
