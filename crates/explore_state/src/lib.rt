@@ -1,7 +1,7 @@
 //! Explorations: the questions open in a table, what experts draw and answer, and the journal of it.
 #![tactic(auto)]
 
-ghost use Rattle.std.specs.Prelude.{◌≡◌, ◌≢◌, ◌≤◌, ◌<◌, ◌+◌, ◌↔◌, ◌==◌, ℕ, [], IsOk, IfOk, OnOk, OnErr, IsErrOf, IsNone, IfSome, true, false, vec_len, vec_capacity};
+ghost use Rattle.std.specs.Prelude.{◌≡◌, ◌≢◌, ◌≤◌, ◌<◌, ◌+◌, ◌↔◌, ◌==◌, ℕ, [], IsOk, IfOk, OnOk, OnErr, IsErrOf, IsNone, IfSome, true, false, vec_len, vec_capacity, All};
 ghost use Rattle.std.specs.List.{list_all};
 ghost use Rattle.fca_model.specs.Sets.{size};
 ghost use Rattle.fca_model.specs.Implications.{Rule, holds};
@@ -9,6 +9,7 @@ ghost use Rattle.fca_model.specs.Invariant.{Among, IsAccepted, IsValid};
 ghost use Rattle.fca_model.specs.declared.Event.TheVariants.{Draw, Confirm, Row, Leave};
 ghost use Rattle.fca_model.specs.declared.Reply.TheVariants.{Ask, Done, AllHeld};
 ghost use Rattle.fca_model.specs.Exploration.{plain, reply_to, held_by, is_expert, IsLegal};
+ghost use Rattle.fca_model.specs.Widths.{HasWideReply};
 ghost use Rattle.explore_state.specs.History.{opening_state, state_of, open_of, Admits, IsStep, IsSame, is_recorded};
 ghost use Rattle.explore_state.specs.Basis.{IsBasis, IsRecorded};
 
@@ -257,7 +258,9 @@ impl Explore {
         ensures entries { result.now ≡ self.now.journal }
         ensures legal { IsLegal (opening_state self.now.opening) result.now }
         ensures valid { IsValid (state_of self.now) }
+        ensures wide { All (λ entry. HasWideReply self.now.opening.table.context.width entry.reply) self.now.journal }
     {
+        let _rows = self.table.rows();
         &self.journal
     }
 

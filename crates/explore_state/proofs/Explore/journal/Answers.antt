@@ -1,8 +1,11 @@
-use Rattle.std.proofs.Common.{subst, refl}
+use Rattle.std.proofs.Common.{subst, refl, All}
+use Rattle.std.proofs.lemmas.List.Elements.{All-nil}
 use Rattle.fca_model.specs.Invariant.{IsValid}
-use Rattle.fca_model.specs.Exploration.{plain}
-use Rattle.explore_state.specs.History.{Opening, state_of}
-use Rattle.explore_state.proofs.KeptLemmas.{kept_valid}
+use Rattle.fca_model.specs.Exploration.{plain, SetEntry}
+use Rattle.fca_model.specs.Widths.{IsWide, HasWideReply}
+use Rattle.fca_model.proofs.WidthLemmas.{legal_wide}
+use Rattle.explore_state.specs.History.{Opening, History, opening_state, state_of}
+use Rattle.explore_state.proofs.KeptLemmas.{opened_valid, kept_valid}
 use Rattle.explore_state.proofs.Explore.journal.Goals as goal
 
 pub returns-clause-valid : goal.returns-clause-valid
@@ -10,3 +13,10 @@ returns-clause-valid c =
     let i = c.self.inside in
     let o : Opening = record { table = i.table; experts = i.experts; settings = plain } in
     subst (λ h. IsValid (state_of h)) c.self.view_is (kept_valid o i.journal.items i.queue.context i.queue.accepted i.held.items c.self.invariant.kept refl)
+
+pub returns-clause-wide : goal.returns-clause-wide
+returns-clause-wide c =
+    let i = c.self.inside in
+    let o : Opening = record { table = i.table; experts = i.experts; settings = plain } in
+    subst (λ (h : History). All (λ (entry : SetEntry). HasWideReply h.opening.table.context.width entry.reply) h.journal) c.self.view_is
+    (legal_wide (opening_state o) (opened_valid o refl) c.rows-rows.ensures.table.even (All-nil (IsWide i.table.context.width)) i.journal.items c.self.invariant.kept.legal)
