@@ -1,0 +1,177 @@
+//! The gate: opening it over an exploration, the turns of experts, and closing it.
+
+ghost use Rattle.std.specs.Prelude.{◌≡◌, ◌≤◌, ◌^◌, ◌↔◌, true, [], IsErrOf, IfOk, IfErr, All, map, length};
+ghost use Rattle.fca_model.specs.declared.Event.TheVariants.{Draw, Confirm, Row, Leave};
+ghost use Rattle.fca_model.specs.Exploration.{expert_of, has_width};
+ghost use Rattle.fca_model.specs.Widths.{HasWideReply};
+ghost use Rattle.turn_lock.specs.Passes.{badge, roll, Belongs, IsFresh};
+ghost use Rattle.turn_lock.specs.declared.fault.TurnFault.TheVariants as fault;
+ghost use Rattle.expert_gate.specs.Turns.{numbers_after, Answers, Looks, HasClosed};
+
+use crate::shared::{Seen, SharedExplore};
+use attr_bits::Attrs;
+use explore_state::{Event, Explore, Reply};
+use fca_model::{Memory, Name};
+use std::alloc::Global;
+use std::marker::Model;
+use std::sync::Wait;
+use turn_lock::{Pass, TurnFault, TurnLock};
+
+/// The pass of one expert. It has the expert's number.
+pub type ExpertPass = Pass<SharedExplore>;
+
+/// Contracts see it as its lock, whose base is the opening of the exploration and which has a pass for each expert.
+#[derive(Drop)]
+pub struct Gate {
+    width: u32,
+    lock: TurnLock<SharedExplore>,
+}
+
+impl Model for Gate {
+    ghost use Rattle.std.specs.Prelude.{◌≡◌};
+    ghost use Rattle.explore_state.specs.History.{Opening};
+    ghost use Rattle.turn_lock.specs.Passes.{Lock};
+
+    ghost Value = { Lock Opening };
+
+    ghost view = { λ s. s.lock };
+
+    ghost invariant = { λ s. record {
+      width : s.width ≡ s.lock.base.table.context.width;
+      experts : s.lock.passes ≡ s.lock.base.experts;
+    } };
+}
+
+impl Gate {
+    /// The gate of a new exploration, and a pass for each of its experts, in their order. Each may make `turns` turns.
+    pub fn open(
+        alloc: Global,
+        explore: Explore,
+        turns: u64,
+    ) -> Result<(Gate, Vec<ExpertPass>), Memory>
+        requires turns { (1 ≤ turns) × (turns ≤ 2 ^ 48) }
+        requires new { explore.journal ≡ [] }
+        ensures opening { IfOk result (λ r. r.0.base ≡ explore.opening) }
+        ensures counts { IfOk result (λ r. (r.0.turns ≡ turns) × (r.0.passes ≡ explore.opening.experts)) }
+        ensures passes { IfOk result (λ r. map badge r.1.items ≡ roll r.0) }
+        ensures belong { IfOk result (λ r. All (Belongs r.0) r.1.items) }
+        ensures fresh { IfOk result (λ r. All IsFresh r.1.items) }
+    {
+        let width = explore.table().rows().width();
+        let experts = explore.experts();
+        let (lock, passes) = TurnLock::new(alloc, SharedExplore { explore }, experts, turns)?;
+        Ok((Gate { width, lock }, passes))
+    }
+
+    /// The number of attributes.
+    pub fn width(&self) -> u32
+        ensures { result ≡ self.now.base.table.context.width }
+    {
+        self.width
+    }
+
+    /// The pass's expert asks for a question.
+    pub fn draw<R: Wait>(&self, rt: &R, pass: &mut ExpertPass) -> Result<Reply, TurnFault>
+        requires lock { Belongs self.now pass.old }
+        ensures same { badge pass.new ≡ badge pass.old }
+        ensures entry { IfOk result (λ reply. Answers self.now.base pass.old (Draw pass.old.number) reply pass.new) }
+        ensures wide { IfOk result (HasWideReply self.now.base.table.context.width) }
+        ensures memory { IsErrOf result fault.Memory → Looks self.now.base pass.old pass.new }
+        ensures spent { IsErrOf result fault.Spent ↔ (pass.old.made ≡ pass.old.turns) }
+        ensures unchanged { IsErrOf result fault.Spent → pass.new ≡ pass.old }
+        ensures within { pass.old.made ≤ pass.old.turns }
+    {
+        let expert = pass.number();
+        self.turn(rt, pass, Event::Draw { expert })
+    }
+
+    /// The pass's expert confirms the question that it holds.
+    pub fn confirm<R: Wait>(&self, rt: &R, pass: &mut ExpertPass) -> Result<Reply, TurnFault>
+        requires lock { Belongs self.now pass.old }
+        ensures same { badge pass.new ≡ badge pass.old }
+        ensures entry { IfOk result (λ reply. Answers self.now.base pass.old (Confirm pass.old.number) reply pass.new) }
+        ensures wide { IfOk result (HasWideReply self.now.base.table.context.width) }
+        ensures memory { IsErrOf result fault.Memory → Looks self.now.base pass.old pass.new }
+        ensures spent { IsErrOf result fault.Spent ↔ (pass.old.made ≡ pass.old.turns) }
+        ensures unchanged { IsErrOf result fault.Spent → pass.new ≡ pass.old }
+        ensures within { pass.old.made ≤ pass.old.turns }
+    {
+        let expert = pass.number();
+        self.turn(rt, pass, Event::Confirm { expert })
+    }
+
+    /// The pass's expert answers with a counterexample: an object of this name, with this row.
+    pub fn row<R: Wait>(
+        &self,
+        rt: &R,
+        pass: &mut ExpertPass,
+        name: Name,
+        row: Attrs,
+    ) -> Result<Reply, TurnFault>
+        requires lock { Belongs self.now pass.old }
+        requires width { length row ≡ self.now.base.table.context.width }
+        ensures same { badge pass.new ≡ badge pass.old }
+        ensures entry { IfOk result (λ reply. Answers self.now.base pass.old (Row pass.old.number name row) reply pass.new) }
+        ensures wide { IfOk result (HasWideReply self.now.base.table.context.width) }
+        ensures memory { IsErrOf result fault.Memory → Looks self.now.base pass.old pass.new }
+        ensures spent { IsErrOf result fault.Spent ↔ (pass.old.made ≡ pass.old.turns) }
+        ensures unchanged { IsErrOf result fault.Spent → pass.new ≡ pass.old }
+        ensures within { pass.old.made ≤ pass.old.turns }
+    {
+        let expert = pass.number();
+        self.turn(rt, pass, Event::Row { expert, name, row })
+    }
+
+    /// The pass's expert gives back what it holds.
+    pub fn leave<R: Wait>(&self, rt: &R, pass: &mut ExpertPass) -> Result<Reply, TurnFault>
+        requires lock { Belongs self.now pass.old }
+        ensures same { badge pass.new ≡ badge pass.old }
+        ensures entry { IfOk result (λ reply. Answers self.now.base pass.old (Leave pass.old.number) reply pass.new) }
+        ensures wide { IfOk result (HasWideReply self.now.base.table.context.width) }
+        ensures memory { IsErrOf result fault.Memory → Looks self.now.base pass.old pass.new }
+        ensures spent { IsErrOf result fault.Spent ↔ (pass.old.made ≡ pass.old.turns) }
+        ensures unchanged { IsErrOf result fault.Spent → pass.new ≡ pass.old }
+        ensures within { pass.old.made ≤ pass.old.turns }
+    {
+        let expert = pass.number();
+        self.turn(rt, pass, Event::Leave { expert })
+    }
+
+    /// One turn with an event of the pass's expert.
+    fn turn<R: Wait>(&self, rt: &R, pass: &mut ExpertPass, event: Event) -> Result<Reply, TurnFault>
+        requires lock { Belongs self.now pass.old }
+        requires expert { expert_of event ≡ pass.old.number }
+        requires width { has_width self.now.base.table.context.width event ≡ true }
+        ensures same { badge pass.new ≡ badge pass.old }
+        ensures entry { IfOk result (λ reply. Answers self.now.base pass.old event reply pass.new) }
+        ensures wide { IfOk result (HasWideReply self.now.base.table.context.width) }
+        ensures memory { IsErrOf result fault.Memory → Looks self.now.base pass.old pass.new }
+        ensures spent { IsErrOf result fault.Spent ↔ (pass.old.made ≡ pass.old.turns) }
+        ensures unchanged { IsErrOf result fault.Spent → pass.new ≡ pass.old }
+        ensures within { pass.old.made ≤ pass.old.turns }
+    {
+        self.lock.with_turn(rt, pass, event)
+    }
+
+    /// One turn that only looks.
+    pub fn see<R: Wait>(&self, rt: &R, pass: &mut ExpertPass) -> Result<Seen, TurnFault>
+        requires lock { Belongs self.now pass.old }
+        ensures same { badge pass.new ≡ badge pass.old }
+        ensures looked { IfOk result (λ seen. Looks self.now.base pass.old pass.new × (seen ≡ numbers_after self.now.base pass.new.seen)) }
+        ensures only { IfErr result (λ e. e ≡ fault.Spent) }
+        ensures spent { IsErrOf result fault.Spent ↔ (pass.old.made ≡ pass.old.turns) }
+        ensures unchanged { IsErrOf result fault.Spent → pass.new ≡ pass.old }
+        ensures within { pass.old.made ≤ pass.old.turns }
+    {
+        self.lock.see(rt, pass)
+    }
+
+    /// The exploration, once all passes are back in their order.
+    pub fn close(self, passes: Vec<ExpertPass>) -> Explore
+        requires passes { map badge passes.items ≡ roll self }
+        ensures opening { result.opening ≡ self.base }
+        ensures told { HasClosed self.base result.journal passes.items }
+    {
+        self.lock.close(passes).explore
+    }
+}

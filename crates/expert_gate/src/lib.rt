@@ -1,0 +1,16 @@
+//! One exploration that many experts share: each has a pass, and every call of an expert is one turn of it.
+#![tactic(auto)]
+
+mod desk;
+mod gate;
+mod seated;
+mod shared;
+mod solo;
+#[cfg(test)]
+mod tests;
+
+pub use desk::Desk;
+pub use gate::{ExpertPass, Gate};
+pub use seated::Seated;
+pub use shared::{Opened, Seen, SharedExplore};
+pub use solo::Solo;
