@@ -3,7 +3,7 @@
 -- attribute that X lacks, and X with that attribute lies within P.
 use Rattle.std.proofs.Common.{◌≡◌, ℕ, zero, suc, ◌+◌, ◌<◌, ◌≤◌, Bool, true, false, not, ◌&&◌, ◌||◌, cond, Option, Some, None, List, [], ◌∷◌, ◌++◌, map, length, filter, get_or, set, take, refl, sym, ap, ◌∙◌, subst, arith, inl, inr, eqb, eq-eqb, leb, le-leb, leb-true}
 use Rattle.std.proofs.lemmas.Bool.{false≢true, and_parts, and_from, cases_Bool, cases_lt, or_cases, or_left, or_right}
-use Rattle.std.proofs.lemmas.List.{take_more}
+use Rattle.std.proofs.lemmas.List.{take_more, get_or_default}
 use Rattle.std.proofs.lemmas.List.Folds.{list_all-append, list_any-append}
 use Rattle.std.specs.List.{list_any}
 use Rattle.std.specs.Option.{is_some}
@@ -59,12 +59,6 @@ answer_at f Xs answers i X a e l x y = y ∙ ap (λ zs. get_or zs i a) e ∙ at 
     at [] j h = absurd (omega arith)
     at (Y ∷ Ys) zero h = refl
     at (Y ∷ Ys) (suc j) h = at Ys j (omega arith)
-
--- in range the default of a look-up does not matter
-get_or-default : {X : Type 0} (xs : List X) (i : ℕ) (a b : X) → i < length xs → get_or xs i a ≡ get_or xs i b
-get_or-default [] i a b h = absurd (omega arith)
-get_or-default (x ∷ xs) zero a b h = refl
-get_or-default (x ∷ xs) (suc i) a b h = get_or-default xs i a b (omega arith)
 
 module _ (S : List Rule) (K : Context) where
   -- a closed set within one that is not, with one attribute more
@@ -138,6 +132,6 @@ module _ (S : List Rule) (K : Context) where
       → IsSettled S K k found (take i Xs) mid → IsSettled S K k found (take (i + 1) Xs) mid
   settled_member k i found Xs mid answers a l e at m st =
       let X = get_or Xs i [] in
-      let is : X ≡ get_or Xs i X = get_or-default Xs i [] X l in
+      let is : X ≡ get_or Xs i X = get_or_default Xs i [] X l in
       settled_more k i found Xs mid mid X l is (record { kept = λ p h. h; wide = λ w. w }) st
       (member_settles k found X mid (ap is_some (sym (answer_at (judged S K found) Xs answers i X a e l is at)) ∙ m))
