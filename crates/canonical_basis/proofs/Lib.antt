@@ -1,1 +1,4 @@
 pub mod DerivationLemmas
+pub mod OrderLemmas
+pub mod ListLemmas
+pub mod ReduceLemmas

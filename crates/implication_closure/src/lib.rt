@@ -59,6 +59,18 @@ impl ImplicationList {
         Ok(())
     }
 
+    /// Puts the implications last; where memory is refused, some of them may be there.
+    pub fn extend_from_slice(&mut self, more: &[Implication]) -> Result<(), Memory>
+        requires { HaveWidth self.old.width more.now }
+        ensures ok { OnOk result (self.new ≡ record self.old { members = self.old.members ++ more.now }) }
+        ensures width { self.new.width ≡ self.old.width }
+    {
+        for i in more {
+            self.push(*i)?;
+        }
+        Ok(())
+    }
+
     /// Takes the last implication away, if there is one.
     pub fn pop(&mut self)
         ensures { (J : RuleList) (i : Rule) → self.old ≡ record { width = J.width; members = J.members ++ i ∷ [] } → self.new ≡ J }
@@ -78,6 +90,7 @@ impl ImplicationList {
     pub fn width(&self) -> u32
         ensures width { result ≡ self.now.width }
         ensures narrow { result ≤ MAX_ATTRIBUTES }
+        ensures even { HaveWidth self.now.width self.now.members }
     {
         self.width
     }

@@ -6,9 +6,8 @@ mod candidates;
 mod judging;
 mod settling;
 
-ghost use Rattle.std.specs.Prelude.{◌≡◌, ◌++◌, [], OnOk, IfOk, map};
+ghost use Rattle.std.specs.Prelude.{◌≡◌, [], IfOk, map};
 ghost use Rattle.fca_model.specs.Levels.{by_size};
-ghost use Rattle.implication_closure.specs.Closing.{HaveWidth};
 ghost use Rattle.pseudo_levels.specs.LeastBasis.{IsLeastBasis};
 
 use attr_bits::Attrs;
@@ -38,7 +37,7 @@ pub fn basis_by_levels<R: Threads + Sync>(
         let members = open_level(alloc, &mut candidates, rows, &found, &sets, &answers, size)?;
         let closures = conclusions(alloc, &members)?;
         candidates.grow_all(&closures)?;
-        append(&mut found, &members)?;
+        found.extend_from_slice(&members)?;
     }
     Ok(found)
 }
@@ -48,15 +47,4 @@ fn conclusions(alloc: Global, members: &[Implication]) -> Result<Vec<Attrs>, Mem
     ensures { IfOk result (λ conclusions. conclusions.items ≡ map (λ i. i.conclusion) members.now) }
 {
     Ok(members.iter().map(|i| i.conclusion).collect(alloc)?)
-}
-
-/// Puts the implications last.
-fn append(list: &mut ImplicationList, more: &[Implication]) -> Result<(), Memory>
-    requires { HaveWidth list.old.width more.now }
-    ensures { OnOk result (list.new ≡ record list.old { members = list.old.members ++ more.now }) }
-{
-    for i in more {
-        list.push(*i)?;
-    }
-    Ok(())
 }

@@ -20,8 +20,8 @@ loop-size-init g c =
 pub open_level-requires-clause-below : goal.open_level-requires-clause-below
 open_level-requires-clause-below g c = found_below [] c.args.rows.now c.loop-size.size c.loop-size.found.members c.loop-size.invariant.members
 
-pub append-requires : goal.append-requires
-append-requires g c =
+pub extend_from_slice-requires : goal.extend_from_slice-requires
+extend_from_slice-requires g c =
     subst (λ n. HaveWidth n c.deref-in-loop-size-5.result.now) (sym c.loop-size.invariant.width) (subst (λ ms. HaveWidth c.args.rows.now.width ms) (sym c.deref-in-loop-size-5.ensures.value)
     (members_wide [] c.args.rows.now c.loop-size.size c.in_ok-members.members.items c.in_ok-members.ensures.opened.members_are))
 
@@ -36,11 +36,11 @@ loop-size-preserved g c =
     let members = c.in_ok-members.members.items in
     let closures = c.deref-in-loop-size-4.ensures.value ∙ c.in_ok-closures.ensures ∙ ap (map (λ (i : Rule). i.conclusion)) c.deref-in-loop-size-3.ensures.value in
     let grows = conclusions_grow [] K k members c.deref-in-loop-size-4.result.now mid new opened.members_are closures c.grow_all.ensures.grows in
-    let more = ap (λ (l : RuleList). l.members) c.in_ok-append.ensures ∙ ap (λ ms. found ++ ms) c.deref-in-loop-size-5.ensures.value in
+    let more = ap (λ (l : RuleList). l.members) c.in_ok-extend_from_slice.ensures.ok ∙ ap (λ ms. found ++ ms) c.deref-in-loop-size-5.ensures.value in
     record {
-      width = ap (λ (l : RuleList). l.width) c.in_ok-append.ensures ∙ c.loop-size.invariant.width;
-      members = levels_next [] K k found members c.append.new.list.members c.loop-size.invariant.members opened.members_are more;
-      leads_all = leads_more [] K k found members c.append.new.list.members mid new (found_below [] K k found c.loop-size.invariant.members) opened
+      width = ap (λ (l : RuleList). l.width) c.in_ok-extend_from_slice.ensures.ok ∙ c.loop-size.invariant.width;
+      members = levels_next [] K k found members c.extend_from_slice.new.self.members c.loop-size.invariant.members opened.members_are more;
+      leads_all = leads_more [] K k found members c.extend_from_slice.new.self.members mid new (found_below [] K k found c.loop-size.invariant.members) opened
           (subst (λ Cs. HaveLarger Cs new) closures c.in_ok-grow_all.ensures.grown) grows more;
       wide = grows.wide (c.open_level.ensures.grows.wide c.loop-size.invariant.wide);
     }
