@@ -96,13 +96,13 @@ script_form-to_come bytes n = resumed-nil (to_come n true 1 (lines bytes))
 
 -- ---- one line
 
-abbrev later_said : ℕ → List Text → List (ℕ × Text)
+abbrev pub later_said : ℕ → List Text → List (ℕ × Text)
 later_said k ls = said_from (k + 1) ls
 
-said_from-skipped : (k : ℕ) (x : Text) (ls : List Text) → is_skipped x ≡ true → said_from k (x ∷ ls) ≡ later_said k ls
+pub said_from-skipped : (k : ℕ) (x : Text) (ls : List Text) → is_skipped x ≡ true → said_from k (x ∷ ls) ≡ later_said k ls
 said_from-skipped k x ls skip = ap (λ b. cond (not b) ((k, x) ∷ later_said k ls) (later_said k ls)) skip
 
-said_from-told : (k : ℕ) (x : Text) (ls : List Text) → is_skipped x ≡ false → said_from k (x ∷ ls) ≡ (k, x) ∷ later_said k ls
+pub said_from-told : (k : ℕ) (x : Text) (ls : List Text) → is_skipped x ≡ false → said_from k (x ∷ ls) ≡ (k, x) ∷ later_said k ls
 said_from-told k x ls told = ap (λ b. cond (not b) ((k, x) ∷ later_said k ls) (later_said k ls)) told
 
 pub to_come-skipped : (n : ℕ) (first : Bool) (k : ℕ) (x : Text) (ls : List Text) → is_skipped x ≡ true → to_come n first k (x ∷ ls) ≡ to_come n first (k + 1) ls

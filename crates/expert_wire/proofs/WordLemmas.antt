@@ -17,7 +17,8 @@ use Rattle.std.proofs.lemmas.Str.Parse.{IsNumeralModel, IsDigitsTest, numerals_b
 use Rattle.std.specs.Str.Parse.{digits_value}
 use Rattle.fca_model.specs.Sets.{Set}
 use Rattle.fca_model.specs.declared.TheConstants.{MAX_EXPERTS}
-use Rattle.expert_wire.specs.Words.{is_cross, is_numeral, is_expert, value_of}
+use Rattle.fca_model.specs.Exploration.{is_expert}
+use Rattle.expert_wire.specs.Words.{is_cross, is_numeral, value_of}
 
 -- the set whose first i places are as marked, and whose others are empty
 abbrev pub crossed_to : ℕ → List ℕ → Set

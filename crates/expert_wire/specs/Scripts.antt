@@ -1,18 +1,19 @@
 -- Scripts: the lines of a text, and the events that the lines of a script say.
-use Rattle.std.specs.Prelude.{ℕ, Bool, not, ◌||◌, ◌==◌, cond, Result, Ok, Err, List, [], ◌∷◌, map, filter, slice_index, bytes_eq, codes}
+use Rattle.std.specs.Prelude.{◌≡◌, ⊤, ℕ, Bool, true, not, ◌||◌, ◌==◌, cond, Result, Ok, Err, List, [], ◌∷◌, map, filter, slice_index, bytes_eq, codes}
 use Rattle.std.specs.List.{list_all, enumerate_from, slice_split}
 use Rattle.std.specs.Str.{is_utf8}
 use Rattle.std.specs.Str.Lines.{strip_carriage_return}
 use Rattle.fca_model.specs.Sets.{Set}
 use Rattle.fca_model.specs.Tables.{Text}
-use Rattle.fca_model.specs.Exploration.{SetEvent}
+use Rattle.fca_model.specs.Names.{IsName}
+use Rattle.fca_model.specs.Exploration.{SetEvent, SetEntry, expert_of, has_width, is_expert}
 use Rattle.fca_model.specs.declared.Event.TheVariants.{Draw, Confirm, Row, Leave}
 use Rattle.expert_wire.specs.declared.requests.RequestFault.{RequestFault}
 use Rattle.expert_wire.specs.declared.requests.RequestFault.TheVariants.{Line, Width, Memory as RequestMemory}
 use Rattle.expert_wire.specs.declared.scripts.ScriptFault.{ScriptFault}
 use Rattle.expert_wire.specs.declared.scripts.ScriptFault.TheVariants.{BadLine, BadExpert, BadWidth, Memory}
 use Rattle.expert_wire.specs.Replies.{heading}
-use Rattle.expert_wire.specs.Words.{first_word, later_words, is_numeral, value_of, is_expert, named_row}
+use Rattle.expert_wire.specs.Words.{first_word, later_words, is_numeral, value_of, named_row}
 
 -- ---- the lines of a text
 
@@ -109,3 +110,20 @@ events_said n said = all_events (map (λ l. event_of n l.0 l.1) said)
 -- the events that a script says, where rows have width n, or its first fault
 unfoldable pub script_form : Text → ℕ → Result (List SetEvent) ScriptFault
 script_form bytes n = events_said n (behind_heading (said_from 1 (lines bytes)))
+
+-- ---- what a script can say
+
+-- the name of a row is a name
+abbrev pub IsNamed : SetEvent → Type 0
+IsNamed (Row e name r) = IsName name
+IsNamed event = ⊤
+
+-- an event of an expert, whose row, if it has one, has the width and a name
+pub record CanBeSaid (n : ℕ) (event : SetEvent) : Type 0 where
+  pub expert : is_expert (expert_of event) ≡ true
+  pub wide : has_width n event ≡ true
+  pub named : IsNamed event
+
+abbrev pub EachCanBeSaid : ℕ → List SetEntry → Type 0
+EachCanBeSaid n [] = ⊤
+EachCanBeSaid n (entry ∷ H) = CanBeSaid n entry.event × EachCanBeSaid n H

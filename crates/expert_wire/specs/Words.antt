@@ -31,9 +31,6 @@ is_numeral word = nat_lt 0 (length word) && list_all is_ascii_digit word
 abbrev pub value_of : Text → ℕ
 value_of word = digits_value 10 word
 
-abbrev pub is_expert : ℕ → Bool
-is_expert e = nat_le 1 e && nat_le e MAX_EXPERTS
-
 -- ---- sets
 
 abbrev pub is_cross : ℕ → Bool

@@ -2,6 +2,7 @@
 #![tactic(auto)]
 
 mod draft;
+pub mod laws;
 mod parts;
 mod replies;
 mod requests;

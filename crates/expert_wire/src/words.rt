@@ -5,7 +5,8 @@ ghost use Rattle.std.specs.List.{list_all};
 ghost use Rattle.std.specs.Char.{is_ascii_digit};
 ghost use Rattle.std.specs.Str.{is_utf8};
 ghost use Rattle.fca_model.specs.declared.TheConstants.{MAX_ATTRIBUTES};
-ghost use Rattle.expert_wire.specs.Words.{first_word, later_words, is_numeral, is_expert, is_cross, is_mark, value_of, set_marked, named_row};
+ghost use Rattle.fca_model.specs.Exploration.{is_expert};
+ghost use Rattle.expert_wire.specs.Words.{first_word, later_words, is_numeral, is_cross, is_mark, value_of, set_marked, named_row};
 
 use crate::RequestFault;
 use attr_bits::Attrs;

@@ -1,5 +1,5 @@
 use Rattle.std.proofs.Common.{◌∙◌, ap, cond, Some, None}
-use Rattle.expert_wire.specs.Words.{is_expert}
+use Rattle.fca_model.specs.Exploration.{is_expert}
 use Rattle.expert_wire.proofs.WordLemmas.{no_expert, parsed_value}
 use Rattle.expert_wire.proofs.words.expert_of.Goals as goal
 

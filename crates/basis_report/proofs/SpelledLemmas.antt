@@ -1,0 +1,96 @@
+-- The text of an exploration spells its history: each line of the sections begins with `#` and is skipped, so a script reads just the
+-- events of the transcript, and a legal history is the journal of its events.
+use Rattle.std.proofs.Common.{◌≡◌, ℕ, ◌+◌, true, false, List, [], ◌∷◌, ◌++◌, length, filter, Ok, refl, sym, ap, ◌∙◌, subst, append_assoc}
+use Rattle.std.specs.Prelude.{codes, decimal, is_none}
+use Rattle.std.specs.List.{list_any, list_all, flat_map, enumerate_from}
+use Rattle.std.proofs.lemmas.Bool.{and_parts}
+use Rattle.fca_model.specs.Names.{is_line_break, IsName}
+use Rattle.fca_model.specs.Tables.{Text, NamedContext}
+use Rattle.fca_model.specs.Implications.{Rule}
+use Rattle.fca_model.specs.Exploration.{State, Settings, SetEvent, SetReply, SetEntry, IsLegal, opening, open_in, events_of, journal_of, expert_of, has_width, is_expert}
+use Rattle.fca_model.specs.declared.Event.TheVariants.{Draw, Confirm, Row, Leave}
+use Rattle.fca_model.specs.declared.Reply.TheVariants.{Ask, Done, AllHeld, Accepted, Taken, Left, NotHeld, Misses, Keeps, Breaks, Refuted, SupersededRow, SupersededBy}
+use Rattle.expert_wire.specs.Texts.{line_end, ordinal, pattern, arrow_text, full_text}
+use Rattle.expert_wire.specs.Replies.{numbered_rule, transcript}
+use Rattle.expert_wire.specs.Words.{is_name}
+use Rattle.expert_wire.specs.Scripts.{CanBeSaid, EachCanBeSaid, IsNamed, script_form}
+use Rattle.expert_wire.proofs.ReadLemmas.{pattern_no_break}
+use Rattle.expert_wire.proofs.SkipLemmas.{Skips, Skips-nil, Skips-append, Skips-comment, Skips-flat_map, no_break-append, no_break-decimal, no_break-name, no_break-arrow, no_break-full, no_break-rule, script_form-transcript}
+use Rattle.basis_report.specs.Reports.{counted, arrow_line, arrow_lines}
+use Rattle.basis_report.specs.Explorations.{is_recorded, recorded_line, recorded_section, accepted_section, open_section, in_lectic_order, basis_section, sections, state_of_text, explore_text, events_read, spelled, EachNamed}
+
+-- ---- each section is skipped
+
+Skips-counted : (words : Text) (n : ℕ) → list_any is_line_break words ≡ false → Skips (counted (codes "# " ++ words) n)
+Skips-counted words n h = subst Skips (ap (λ t. codes "# " ++ t) (append_assoc words (decimal n) line_end)) (Skips-comment (words ++ decimal n) (no_break-append words (decimal n) h (no_break-decimal n)))
+
+Skips-recorded : (event : SetEvent) (reply : SetReply) → IsNamed event → Skips (recorded_line event reply)
+Skips-recorded (Row e name r) (Taken place) h =
+    Skips-comment (ordinal place ++ (codes " " ++ (pattern r ++ (codes " " ++ name))))
+    (no_break-append (ordinal place) (codes " " ++ (pattern r ++ (codes " " ++ name))) (no_break-decimal (place + 1))
+    (no_break-append (pattern r) (codes " " ++ name) (pattern_no_break r) (no_break-name name (ap is_none h.faultless))))
+Skips-recorded event reply h = Skips-nil
+
+Skips-recorded_lines : (H : List SetEntry) → EachNamed H → Skips (flat_map (λ entry. recorded_line entry.event entry.reply) H)
+Skips-recorded_lines [] h = Skips-nil
+Skips-recorded_lines (entry ∷ H) h =
+    Skips-append (recorded_line entry.event entry.reply) (flat_map (λ e. recorded_line e.event e.reply) H) (Skips-recorded entry.event entry.reply h.0) (Skips-recorded_lines H h.1)
+
+Skips-recorded_section : (H : List SetEntry) → EachNamed H → Skips (recorded_section H)
+Skips-recorded_section H h =
+    let n = length (filter (λ entry. is_recorded entry.event entry.reply) H) in
+    Skips-append (counted (codes "# recorded ") n) (flat_map (λ entry. recorded_line entry.event entry.reply) H) (Skips-counted (codes "recorded ") n refl) (Skips-recorded_lines H h)
+
+Skips-accepted_section : (attributes : List Text) (k : ℕ) (acc : List Rule) → list_all is_name attributes ≡ true → Skips (accepted_section attributes k acc)
+Skips-accepted_section attributes k acc h =
+    Skips-append (counted (codes "# accepted ") (length acc)) (flat_map (λ x. (codes "# " ++ numbered_rule attributes x.0 x.1) ++ line_end) (enumerate_from k acc)) (Skips-counted (codes "accepted ") (length acc) refl)
+    (Skips-flat_map (λ x. (codes "# " ++ numbered_rule attributes x.0 x.1) ++ line_end) (enumerate_from k acc) (λ x. Skips-comment (numbered_rule attributes x.0 x.1) (no_break-rule attributes x.0 x.1 h)))
+
+Skips-open_section : (attributes : List Text) (J : List Rule) → list_all is_name attributes ≡ true → Skips (open_section attributes J)
+Skips-open_section attributes J h =
+    Skips-append (counted (codes "# open ") (length J)) (flat_map (λ i. (codes "# " ++ full_text attributes i) ++ line_end) J) (Skips-counted (codes "open ") (length J) refl)
+    (Skips-flat_map (λ i. (codes "# " ++ full_text attributes i) ++ line_end) J (λ i. Skips-comment (full_text attributes i) (no_break-full attributes i h)))
+
+Skips-arrow : (attributes : List Text) (place : ℕ) (i : Rule) → list_all is_name attributes ≡ true → Skips (arrow_line (codes "# ") attributes place i)
+Skips-arrow attributes place i h =
+    subst Skips (regroup (ordinal place) (arrow_text attributes i))
+    (Skips-comment (ordinal place ++ (codes " " ++ arrow_text attributes i)) (no_break-append (ordinal place) (codes " " ++ arrow_text attributes i) (no_break-decimal (place + 1)) (no_break-arrow attributes i h)))
+  where
+    regroup : (a b : Text) → codes "# " ++ ((a ++ (codes " " ++ b)) ++ line_end) ≡ codes "# " ++ (a ++ (codes " " ++ (b ++ line_end)))
+    regroup a b = simp append_assoc
+
+Skips-basis_section : (attributes : List Text) (acc J : List Rule) → list_all is_name attributes ≡ true → Skips (basis_section attributes acc J)
+Skips-basis_section attributes acc (q ∷ J) h = Skips-nil
+Skips-basis_section attributes acc [] h =
+    Skips-append (counted (codes "# basis ") (length acc)) (arrow_lines (codes "# ") attributes (in_lectic_order acc)) (Skips-counted (codes "basis ") (length acc) refl)
+    (Skips-flat_map (λ x. arrow_line (codes "# ") attributes x.0 x.1) (enumerate_from 0 (in_lectic_order acc)) (λ x. Skips-arrow attributes x.0 x.1 h))
+
+Skips-sections : (attributes : List Text) (H : List SetEntry) (s : State) → list_all is_name attributes ≡ true → EachNamed H → Skips (sections attributes H s)
+Skips-sections attributes H s names named =
+    let accepted = accepted_section attributes (length s.settings.known) s.accepted in
+    let open_ = open_section attributes (open_in s) in
+    let found = basis_section attributes s.accepted (open_in s) in
+    Skips-append (recorded_section H) (accepted ++ (open_ ++ found)) (Skips-recorded_section H named)
+    (Skips-append accepted (open_ ++ found) (Skips-accepted_section attributes (length s.settings.known) s.accepted names)
+    (Skips-append open_ found (Skips-open_section attributes (open_in s) names) (Skips-basis_section attributes s.accepted (open_in s) names)))
+
+-- ---- the events are those of the history
+
+each_said : (n : ℕ) (H : List SetEntry) → list_all (λ entry. is_expert (expert_of entry.event)) H ≡ true → list_all (λ entry. has_width n entry.event) H ≡ true → EachNamed H → EachCanBeSaid n H
+each_said n [] experts widths named = tt
+each_said n (entry ∷ H) experts widths named =
+    let e = and_parts (is_expert (expert_of entry.event)) (list_all (λ x. is_expert (expert_of x.event)) H) experts in
+    let w = and_parts (has_width n entry.event) (list_all (λ x. has_width n x.event) H) widths in
+    (record { expert = e.0; wide = w.0; named = named.0 }, each_said n H e.1 w.1 named.1)
+
+pub script_form-explore_text : (t : NamedContext) (settings : Settings) (H : List SetEntry) → list_all is_name t.attributes ≡ true → EachNamed H → IsLegal (opening t.context t.objects settings) H
+    → script_form (explore_text t settings H) t.context.width ≡ Ok (events_of H)
+unfolding explore_text
+script_form-explore_text t settings H names named legal =
+    script_form-transcript t.context.width t.attributes H (sections t.attributes H (state_of_text t settings H)) names (each_said t.context.width H legal.experts legal.widths named)
+    (Skips-sections t.attributes H (state_of_text t settings H) names named)
+
+pub spelled-explore_text : (t : NamedContext) (settings : Settings) (H : List SetEntry) → list_all is_name t.attributes ≡ true → EachNamed H → IsLegal (opening t.context t.objects settings) H
+    → spelled t settings (explore_text t settings H) ≡ H
+spelled-explore_text t settings H names named legal =
+    ap (λ r. journal_of (opening t.context t.objects settings) (events_read r)) (script_form-explore_text t settings H names named legal) ∙ legal.replayed

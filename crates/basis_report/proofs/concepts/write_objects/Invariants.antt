@@ -1,0 +1,9 @@
+use Rattle.std.proofs.Common.{◌≡◌, ◌++◌, codes, drop}
+use Rattle.expert_wire.specs.Texts.{braced}
+use Rattle.expert_wire.proofs.ListedLemmas.{bridged}
+use Rattle.basis_report.specs.Reports.{names_at}
+use Rattle.basis_report.proofs.concepts.write_objects.Given as goal
+
+abbrev pub invariant-loop-place : goal.invariant-loop-place
+invariant-loop-place l =
+    l.draft ++ (bridged l.between (names_at l.table.objects (drop l.place-index l.places)) ++ codes "}") ≡ l.fn.draft ++ braced (names_at l.table.objects l.places)

@@ -1,0 +1,86 @@
+-- The text of an exploration: its transcript, and what came of it.
+use Rattle.std.specs.Prelude.{⊤, ℕ, Result, Ok, Err, Bool, true, false, List, [], ◌∷◌, ◌++◌, filter, length, cond, codes}
+use Rattle.std.specs.List.{flat_map, enumerate_from}
+use Rattle.std.specs.Ordering.{is_lt}
+use Rattle.fca_model.specs.Sets.{lectic_cmp}
+use Rattle.fca_model.specs.Tables.{Text, NamedContext}
+use Rattle.fca_model.specs.Implications.{Rule}
+use Rattle.fca_model.specs.Exploration.{State, Settings, SetEvent, SetReply, SetEntry, opening, open_in, state_after, events_of, journal_of}
+use Rattle.fca_model.specs.declared.Event.TheVariants.{Row}
+use Rattle.fca_model.specs.declared.Reply.TheVariants.{Taken}
+use Rattle.expert_wire.specs.declared.scripts.ScriptFault.{ScriptFault}
+use Rattle.expert_wire.specs.Scripts.{IsNamed, script_form}
+use Rattle.expert_wire.specs.Texts.{line_end, ordinal, pattern, full_text}
+use Rattle.expert_wire.specs.Replies.{transcript, numbered_rule}
+use Rattle.basis_report.specs.Reports.{counted, arrow_lines}
+
+-- ---- the recorded rows
+
+-- a row that an entry records, with its place among all rows
+abbrev pub is_recorded : SetEvent → SetReply → Bool
+is_recorded (Row e name r) (Taken place) = true
+is_recorded event reply = false
+
+-- `# I PATTERN NAME`
+abbrev pub recorded_line : SetEvent → SetReply → Text
+recorded_line (Row e name r) (Taken place) = codes "# " ++ (ordinal place ++ (codes " " ++ (pattern r ++ (codes " " ++ (name ++ line_end)))))
+recorded_line event reply = []
+
+abbrev pub recorded_section : List SetEntry → Text
+recorded_section H =
+    counted (codes "# recorded ") (length (filter (λ entry. is_recorded entry.event entry.reply) H))
+    ++ flat_map (λ entry. recorded_line entry.event entry.reply) H
+
+-- ---- implications
+
+-- the accepted implications, each with its number among the rules, of which k are known beforehand
+abbrev pub accepted_section : List Text → ℕ → List Rule → Text
+accepted_section attributes k acc =
+    counted (codes "# accepted ") (length acc) ++ flat_map (λ x. (codes "# " ++ numbered_rule attributes x.0 x.1) ++ line_end) (enumerate_from k acc)
+
+abbrev pub open_section : List Text → List Rule → Text
+open_section attributes J = counted (codes "# open ") (length J) ++ flat_map (λ i. (codes "# " ++ full_text attributes i) ++ line_end) J
+
+-- an implication put before the first whose premise does not come before its own
+abbrev pub placed : Rule → List Rule → List Rule
+placed i [] = i ∷ []
+placed i (j ∷ J) = cond (is_lt (lectic_cmp j.premise i.premise)) (j ∷ placed i J) (i ∷ j ∷ J)
+
+-- the implications in the lectic order of their premises
+abbrev pub in_lectic_order : List Rule → List Rule
+in_lectic_order [] = []
+in_lectic_order (i ∷ J) = placed i (in_lectic_order J)
+
+-- the basis, where no question is open
+abbrev pub basis_section : List Text → List Rule → List Rule → Text
+basis_section attributes acc [] = counted (codes "# basis ") (length acc) ++ arrow_lines (codes "# ") attributes (in_lectic_order acc)
+basis_section attributes acc (q ∷ J) = []
+
+-- the four sections behind the transcript
+abbrev pub sections : List Text → List SetEntry → State → Text
+sections attributes H s =
+    recorded_section H ++ (accepted_section attributes (length s.settings.known) s.accepted ++ (open_section attributes (open_in s) ++ basis_section attributes s.accepted (open_in s)))
+
+-- the state after the events of a history that began with the table
+abbrev pub state_of_text : NamedContext → Settings → List SetEntry → State
+state_of_text t settings H = state_after (opening t.context t.objects settings) (events_of H)
+
+-- the text of a history that began with the table under plain settings
+unfoldable pub explore_text : NamedContext → Settings → List SetEntry → Text
+explore_text t settings H = transcript t.attributes H ++ sections t.attributes H (state_of_text t settings H)
+
+-- ---- the history that a text spells
+
+-- the events of a script, and none where it has a fault
+abbrev pub events_read : Result (List SetEvent) ScriptFault → List SetEvent
+events_read (Ok events) = events
+events_read (Err fault) = []
+
+-- the journal of the events that a text says, from the table under these settings
+abbrev pub spelled : NamedContext → Settings → Text → List SetEntry
+spelled t settings text = journal_of (opening t.context t.objects settings) (events_read (script_form text t.context.width))
+
+-- the names of the rows of a history are names
+abbrev pub EachNamed : List SetEntry → Type 0
+EachNamed [] = ⊤
+EachNamed (entry ∷ H) = IsNamed entry.event × EachNamed H

@@ -1,0 +1,95 @@
+//! The texts of concepts and of their covers.
+
+ghost use Rattle.std.specs.Prelude.{◌≡◌, ◌++◌, ℕ, [], length, codes, IfOk, OnOk, slice_get, unwrap_or};
+ghost use Rattle.std.specs.List.{flat_map, enumerate_from};
+ghost use Rattle.expert_wire.specs.Texts.{braced};
+ghost use Rattle.basis_report.specs.Reports.{counted, names_at, concept_line, concepts_text, cover_line, lattice_text};
+
+use context_table::Table;
+use expert_wire::{Draft, Part};
+use fca_model::Memory;
+use lectic_concepts::Concept;
+use std::alloc::Global;
+
+/// The concepts, one a line.
+pub fn concepts_text(alloc: Global, table: &Table, concepts: &[Concept]) -> Result<Vec<u8>, Memory>
+    ensures { IfOk result (λ v. v.items ≡ concepts_text table.now concepts.now) }
+{
+    let mut draft = Draft::new(alloc);
+    write_concepts(&mut draft, table, concepts)?;
+    Ok(draft.into_bytes())
+}
+
+/// The concepts and then the covers, one a line.
+pub fn lattice_text(
+    alloc: Global,
+    table: &Table,
+    concepts: &[Concept],
+    covers: &[(usize, usize)],
+) -> Result<Vec<u8>, Memory>
+    ensures { IfOk result (λ v. v.items ≡ lattice_text table.now concepts.now covers.now) }
+{
+    let mut draft = Draft::new(alloc);
+    write_concepts(&mut draft, table, concepts)?;
+    write_covers(&mut draft, table, covers)?;
+    Ok(draft.into_bytes())
+}
+
+fn write_concepts(draft: &mut Draft, table: &Table, concepts: &[Concept]) -> Result<(), Memory>
+    ensures { OnOk result (draft.new ≡ draft.old ++ concepts_text table.now concepts.now) }
+{
+    write_counted(draft, table, b"concepts ", concepts.len())?;
+    for (place, concept) in concepts.iter().enumerate() {
+        write_concept(draft, table, place, concept)?;
+    }
+    Ok(())
+}
+
+fn write_covers(draft: &mut Draft, table: &Table, covers: &[(usize, usize)]) -> Result<(), Memory>
+    ensures { OnOk result (draft.new ≡ draft.old ++ (counted (codes "covers ") (length covers.now) ++ flat_map cover_line covers.now)) }
+{
+    write_counted(draft, table, b"covers ", covers.len())?;
+    for pair in covers {
+        draft.parts(table, &[Part::Ordinal(pair.0), Part::Bytes(b" "), Part::Ordinal(pair.1), Part::Bytes(b"\n")])?;
+    }
+    Ok(())
+}
+
+/// The line that heads a list of so many members.
+pub(crate) fn write_counted(draft: &mut Draft, table: &Table, words: &[u8], count: usize) -> Result<(), Memory>
+    ensures { OnOk result (draft.new ≡ draft.old ++ counted words.now count) }
+{
+    draft.parts(table, &[Part::Bytes(words), Part::Number(count as u64), Part::Bytes(b"\n")])
+}
+
+fn write_concept(draft: &mut Draft, table: &Table, place: usize, concept: &Concept) -> Result<(), Memory>
+    ensures { OnOk result (draft.new ≡ draft.old ++ concept_line table.now place concept.now) }
+{
+    draft.parts(table, &[Part::Ordinal(place), Part::Bytes(b" "), Part::Braces(concept.intent), Part::Bytes(b" | ")])?;
+    write_objects(draft, table, concept.extent.as_slice())?;
+    draft.parts(table, &[Part::Bytes(b"\n")])
+}
+
+/// The names of the objects at these places, in braces.
+fn write_objects(draft: &mut Draft, table: &Table, places: &[usize]) -> Result<(), Memory>
+    ensures { OnOk result (draft.new ≡ draft.old ++ braced (names_at table.now.objects places.now)) }
+{
+    draft.parts(table, &[Part::Bytes(b"{")])?;
+    let mut between = b"".as_slice();
+    for place in places {
+        draft.parts(table, &[Part::Bytes(between), Part::Bytes(object_name(table, *place))])?;
+        between = b", ".as_slice();
+    }
+    draft.parts(table, &[Part::Bytes(b"}")])
+}
+
+/// The name of the object, or nothing where there is none.
+pub(crate) fn object_name(table: &Table, place: usize) -> &[u8]
+    ensures { result.now ≡ unwrap_or (slice_get table.now.objects place) [] }
+{
+    if place < table.rows().len() {
+        table.object(place).bytes()
+    } else {
+        b""
+    }
+}

@@ -1,0 +1,50 @@
+//! The texts of lists of implications.
+
+ghost use Rattle.std.specs.Prelude.{◌≡◌, ◌++◌, ℕ, codes, IfOk, OnOk};
+ghost use Rattle.basis_report.specs.Reports.{arrow_line, arrow_lines, basis_text};
+
+use context_table::Table;
+use expert_wire::{Draft, Part};
+use fca_model::Memory;
+use implication_closure::{Implication, ImplicationList};
+use std::alloc::Global;
+
+use crate::concepts::write_counted;
+
+/// The members of the list, one a line.
+pub fn basis_text(alloc: Global, table: &Table, list: &ImplicationList) -> Result<Vec<u8>, Memory>
+    ensures { IfOk result (λ v. v.items ≡ basis_text table.now.attributes list.now.members) }
+{
+    let mut draft = Draft::new(alloc);
+    write_counted(&mut draft, table, b"basis ", list.as_slice().len())?;
+    write_arrows(&mut draft, table, b"", list.as_slice())?;
+    Ok(draft.into_bytes())
+}
+
+/// The implications, one a line behind the words, numbered from 1.
+pub(crate) fn write_arrows(draft: &mut Draft, table: &Table, words: &[u8], list: &[Implication]) -> Result<(), Memory>
+    ensures { OnOk result (draft.new ≡ draft.old ++ arrow_lines words.now table.now.attributes list.now) }
+{
+    for (place, implication) in list.iter().enumerate() {
+        write_arrow(draft, table, words, place, implication)?;
+    }
+    Ok(())
+}
+
+fn write_arrow(draft: &mut Draft, table: &Table, words: &[u8], place: usize, implication: &Implication) -> Result<(), Memory>
+    ensures { OnOk result (draft.new ≡ draft.old ++ arrow_line words.now table.now.attributes place implication.now) }
+{
+    let gained = implication.conclusion.minus(&implication.premise);
+    draft.parts(
+        table,
+        &[
+            Part::Bytes(words),
+            Part::Ordinal(place),
+            Part::Bytes(b" "),
+            Part::Braces(implication.premise),
+            Part::Bytes(b" -> "),
+            Part::Braces(gained),
+            Part::Bytes(b"\n"),
+        ],
+    )
+}

@@ -1,0 +1,192 @@
+-- A transcript, with more lines behind it that begin with `#`, is read as its events. No text that a line is made of has a line break,
+-- so the lines of the text are the lines that were written. `Skips` is said of a text of skipped lines: before any other text it only
+-- moves the numbers of the lines on. Then the events come one by one, each behind the skipped line of the reply before it.
+use Rattle.std.proofs.Common.{◌≡◌, ◌<◌, ◌≤◌, ℕ, zero, suc, ◌+◌, ◌-◌, Bool, true, false, not, ◌||◌, cond, List, [], ◌∷◌, ◌++◌, map, length, take, get_or, Option, Some, None, Ok, refl, sym, ap, ap₂, ◌∙◌, subst, arith, append_assoc, append-nil, length-append, inl, inr}
+use Rattle.std.specs.Char.{is_ascii_digit}
+use Rattle.std.specs.Prelude.{codes, decimal, is_none, unwrap_or, slice_get, bytes_eq, ◌==◌, nat_lt}
+use Rattle.std.specs.List.{list_any, list_all, before_first, after_first, flat_map}
+use Rattle.std.specs.Str.Lines.{strip_carriage_return}
+use Rattle.std.proofs.lemmas.Bool.{false≢true, cases_Bool, or_parts, and_parts, and_from, or_from}
+use Rattle.std.proofs.lemmas.List.Folds.{list_any-append}
+use Rattle.fca_model.specs.Sets.{Set}
+use Rattle.fca_model.specs.Tables.{Text}
+use Rattle.fca_model.specs.Names.{name_fault, is_line_break, IsName}
+use Rattle.fca_model.specs.declared.TheConstants.{MAX_NAME_BYTES}
+use Rattle.fca_model.specs.declared.names.NameFault.TheVariants.{Empty, Long, Line}
+use Rattle.fca_model.specs.Implications.{Rule}
+use Rattle.fca_model.specs.Exploration.{SetEvent, SetReply, SetEntry, events_of}
+use Rattle.fca_model.specs.declared.Event.TheVariants.{Draw, Confirm, Row, Leave}
+use Rattle.fca_model.specs.declared.Reply.TheVariants.{Ask, Done, AllHeld, Accepted, Taken, Left, NotHeld, Misses, Keeps, Breaks, Refuted, SupersededRow, SupersededBy}
+use Rattle.attr_bits.specs.Difference.{minus}
+use Rattle.expert_wire.specs.Texts.{line_end, ordinal, pattern, names_of, continued, listed, braced, braces_text, arrow_text, full_text}
+use Rattle.expert_wire.specs.Replies.{attribute_name, numbered_row, numbered_rule, reply_text, event_text, entry_lines, entries_text, heading, transcript}
+use Rattle.expert_wire.specs.Words.{is_name}
+use Rattle.expert_wire.specs.Scripts.{is_line_feed, lines, is_skipped, said_from, behind_heading, with_event, all_events, events_said, event_of, script_form, CanBeSaid, EachCanBeSaid}
+use Rattle.expert_wire.proofs.ScriptLemmas.{lines-cons, said_from-skipped, said_from-told}
+use Rattle.expert_wire.proofs.ReadLemmas.{before_first-at, after_first-at, list_any-excluded, digit_no_break, decimal_digits, pattern_no_break, event_of-event_text}
+
+-- ---- texts without a line break
+
+pub no_break-append : (a b : Text) → list_any is_line_break a ≡ false → list_any is_line_break b ≡ false → list_any is_line_break (a ++ b) ≡ false
+no_break-append a b h k = list_any-append is_line_break a b ∙ or_from (list_any is_line_break a) (list_any is_line_break b) h k
+
+pub no_break-decimal : (n : ℕ) → list_any is_line_break (decimal n) ≡ false
+no_break-decimal n = list_any-excluded is_ascii_digit is_line_break (decimal n) digit_no_break (decimal_digits n)
+
+break_is_fault : (a b c : Bool) → c ≡ true → is_none (cond a (Some Empty) (cond b (Some Long) (cond c (Some Line) None))) ≡ false
+break_is_fault true b c h = refl
+break_is_fault false true c h = refl
+break_is_fault false false true h = refl
+break_is_fault false false false h = absurd (false≢true h)
+
+pub no_break-name : (name : Text) → is_name name ≡ true → list_any is_line_break name ≡ false
+unfolding name_fault
+no_break-name name h = elim (cases_Bool (list_any is_line_break name)) [
+  | inl t ↦ absurd (false≢true (sym (break_is_fault (length name == 0) (nat_lt MAX_NAME_BYTES (length name)) (list_any is_line_break name) t) ∙ h))
+  | inr f ↦ f
+]
+
+no_break-names_of : (attributes : List Text) (A : Set) → list_all is_name attributes ≡ true → list_all is_name (names_of attributes A) ≡ true
+no_break-names_of [] A h = refl
+no_break-names_of (name ∷ names) [] h = refl
+no_break-names_of (name ∷ names) (true ∷ A) h = let parts = and_parts (is_name name) (list_all is_name names) h in and_from (is_name name) (list_all is_name (names_of names A)) parts.0 (no_break-names_of names A parts.1)
+no_break-names_of (name ∷ names) (false ∷ A) h = no_break-names_of names A (and_parts (is_name name) (list_all is_name names) h).1
+
+no_break-continued : (names : List Text) → list_all is_name names ≡ true → list_any is_line_break (continued names) ≡ false
+no_break-continued [] h = refl
+no_break-continued (name ∷ names) h =
+    let parts = and_parts (is_name name) (list_all is_name names) h in no_break-append name (continued names) (no_break-name name parts.0) (no_break-continued names parts.1)
+
+pub no_break-braced : (names : List Text) → list_all is_name names ≡ true → list_any is_line_break (braced names) ≡ false
+no_break-braced [] h = refl
+no_break-braced (name ∷ names) h =
+    let parts = and_parts (is_name name) (list_all is_name names) h in
+    no_break-append (name ++ continued names) (codes "}") (no_break-append name (continued names) (no_break-name name parts.0) (no_break-continued names parts.1)) refl
+
+pub no_break-arrow : (attributes : List Text) (i : Rule) → list_all is_name attributes ≡ true → list_any is_line_break (arrow_text attributes i) ≡ false
+no_break-arrow attributes i h =
+    no_break-append (braces_text attributes i.premise) (codes " -> " ++ braces_text attributes (minus i.conclusion i.premise)) (no_break-braced (names_of attributes i.premise) (no_break-names_of attributes i.premise h))
+    (no_break-braced (names_of attributes (minus i.conclusion i.premise)) (no_break-names_of attributes (minus i.conclusion i.premise) h))
+
+pub no_break-full : (attributes : List Text) (i : Rule) → list_all is_name attributes ≡ true → list_any is_line_break (full_text attributes i) ≡ false
+no_break-full attributes i h =
+    no_break-append (pattern i.premise) (codes " " ++ (pattern i.conclusion ++ (codes " " ++ arrow_text attributes i))) (pattern_no_break i.premise)
+    (no_break-append (pattern i.conclusion) (codes " " ++ arrow_text attributes i) (pattern_no_break i.conclusion) (no_break-arrow attributes i h))
+
+no_break-row : (place : ℕ) (r : Set) → list_any is_line_break (numbered_row place r) ≡ false
+no_break-row place r = no_break-append (ordinal place) (codes " " ++ pattern r) (no_break-decimal (place + 1)) (pattern_no_break r)
+
+pub no_break-rule : (attributes : List Text) (place : ℕ) (i : Rule) → list_all is_name attributes ≡ true → list_any is_line_break (numbered_rule attributes place i) ≡ false
+no_break-rule attributes place i h = no_break-append (ordinal place) (codes " " ++ full_text attributes i) (no_break-decimal (place + 1)) (no_break-full attributes i h)
+
+no_break-attribute : (attributes : List Text) (m : ℕ) → list_all is_name attributes ≡ true → list_any is_line_break (attribute_name attributes m) ≡ false
+no_break-attribute [] m h = refl
+no_break-attribute (name ∷ names) zero h = no_break-name name (and_parts (is_name name) (list_all is_name names) h).0
+no_break-attribute (name ∷ names) (suc m) h = no_break-attribute names m (and_parts (is_name name) (list_all is_name names) h).1
+
+pub no_break-reply : (attributes : List Text) (reply : SetReply) → list_all is_name attributes ≡ true → list_any is_line_break (reply_text attributes reply) ≡ false
+no_break-reply attributes (Ask q) h = no_break-full attributes q h
+no_break-reply attributes Done h = refl
+no_break-reply attributes AllHeld h = refl
+no_break-reply attributes (Accepted place) h = no_break-decimal (place + 1)
+no_break-reply attributes (Taken place) h = no_break-decimal (place + 1)
+no_break-reply attributes Left h = refl
+no_break-reply attributes NotHeld h = refl
+no_break-reply attributes (Misses m) h = no_break-append (ordinal m) (codes " " ++ attribute_name attributes m) (no_break-decimal (m + 1)) (no_break-attribute attributes m h)
+no_break-reply attributes Keeps h = refl
+no_break-reply attributes (Breaks place i) h = no_break-rule attributes place i h
+no_break-reply attributes (Refuted place r) h = no_break-row place r
+no_break-reply attributes (SupersededRow place r) h = no_break-row place r
+no_break-reply attributes (SupersededBy place i) h = no_break-rule attributes place i h
+
+no_break-event : (n : ℕ) (event : SetEvent) → CanBeSaid n event → list_any is_line_break (event_text event) ≡ false
+no_break-event n (Draw e) h = no_break-decimal e
+no_break-event n (Confirm e) h = no_break-decimal e
+no_break-event n (Leave e) h = no_break-decimal e
+no_break-event n (Row e name r) h =
+    no_break-append (decimal e) (codes " " ++ (pattern r ++ (codes " " ++ name))) (no_break-decimal e)
+    (no_break-append (pattern r) (codes " " ++ name) (pattern_no_break r) (no_break-name name (ap is_none h.named.faultless)))
+
+-- ---- one line
+
+no_feed : (l : Text) → list_any is_line_break l ≡ false → list_any is_line_feed l ≡ false
+no_feed [] h = refl
+no_feed (b ∷ l) h =
+    let parts = or_parts (is_line_break b) (list_any is_line_break l) h in
+    or_from (is_line_feed b) (list_any is_line_feed l) (or_parts (b == 10) (b == 13) parts.0).0 (no_feed l parts.1)
+
+no_return : (l : Text) → list_any is_line_break l ≡ false → (i : ℕ) → (get_or l i 0 == 13) ≡ false
+no_return [] h i = refl
+no_return (b ∷ l) h zero = (or_parts (b == 10) (b == 13) (or_parts (is_line_break b) (list_any is_line_break l) h).0).1
+no_return (b ∷ l) h (suc i) = no_return l (or_parts (is_line_break b) (list_any is_line_break l) h).1 i
+
+strip-line : (l : Text) → list_any is_line_break l ≡ false → strip_carriage_return l ≡ l
+strip-line l h = ap (λ b. cond b (take (length l - 1) l) l) (no_return l h (length l - 1))
+
+pub lines-line : (l rest : Text) → list_any is_line_break l ≡ false → lines (l ++ (10 ∷ rest)) ≡ l ∷ lines rest
+lines-line l rest h =
+    lines-cons (l ++ (10 ∷ rest)) (omega (arith, length-append l (10 ∷ rest)))
+    ∙ ap₂ (λ x t. strip_carriage_return x ∷ lines t) (before_first-at is_line_feed l 10 rest (no_feed l h) refl) (after_first-at is_line_feed l 10 rest (no_feed l h) refl)
+    ∙ ap (λ x. x ∷ lines rest) (strip-line l h)
+
+-- ---- skipped lines
+
+abbrev pub Skips : Text → Type 0
+Skips text = (k : ℕ) (rest : Text) → (m : ℕ) × (said_from k (lines (text ++ rest)) ≡ said_from m (lines rest))
+
+pub Skips-nil : Skips []
+Skips-nil k rest = (k, refl)
+
+pub Skips-append : (a b : Text) → Skips a → Skips b → Skips (a ++ b)
+Skips-append a b f g k rest =
+    let x = f k (b ++ rest) in
+    let y = g x.0 rest in
+    (y.0, ap (λ t. said_from k (lines t)) (append_assoc a b rest) ∙ x.1 ∙ y.1)
+
+pub Skips-comment : (body : Text) → list_any is_line_break body ≡ false → Skips (codes "# " ++ (body ++ line_end))
+Skips-comment body h k rest =
+    let line = codes "# " ++ body in
+    (
+      k + 1,
+      ap (λ t. said_from k (lines (codes "# " ++ t))) (append_assoc body line_end rest)
+      ∙ ap (said_from k) (lines-line line rest h)
+      ∙ said_from-skipped k line (lines rest) refl,
+    )
+
+pub Skips-flat_map : {X : Type 0} (f : X → Text) (xs : List X) → ((x : X) → Skips (f x)) → Skips (flat_map f xs)
+Skips-flat_map f [] h = Skips-nil
+Skips-flat_map f (x ∷ xs) h = Skips-append (f x) (flat_map f xs) (h x) (Skips-flat_map f xs h)
+
+-- ---- the transcript
+
+told_event : (event : SetEvent) → is_skipped (event_text event) ≡ false
+told_event (Draw e) = refl
+told_event (Confirm e) = refl
+told_event (Leave e) = refl
+told_event (Row e name r) = refl
+
+entries-said : (n k : ℕ) (attributes : List Text) (H : List SetEntry) (tail : Text) → list_all is_name attributes ≡ true → EachCanBeSaid n H → Skips tail
+    → events_said n (said_from k (lines (entries_text attributes H ++ tail))) ≡ Ok (events_of H)
+entries-said n k attributes [] tail names said skips =
+    let x = skips k [] in ap (events_said n) (ap (λ t. said_from k (lines t)) (sym (append-nil tail)) ∙ x.1)
+entries-said n k attributes (entry ∷ H) tail names said skips =
+    let more = entries_text attributes H ++ tail in
+    let comment = codes "# " ++ (reply_text attributes entry.reply ++ line_end) in
+    let x = Skips-comment (reply_text attributes entry.reply) (no_break-reply attributes entry.reply names) (k + 1) more in
+    ap (λ t. events_said n (said_from k (lines t))) (regroup (event_text entry.event) comment (entries_text attributes H) tail)
+    ∙ ap (λ ls. events_said n (said_from k ls)) (lines-line (event_text entry.event) (comment ++ more) (no_break-event n entry.event said.0))
+    ∙ ap (events_said n) (said_from-told k (event_text entry.event) (lines (comment ++ more)) (told_event entry.event) ∙ ap (λ ls. (k, event_text entry.event) ∷ ls) x.1)
+    ∙ ap (λ r. all_events (r ∷ map (λ l. event_of n l.0 l.1) (said_from x.0 (lines more)))) (event_of-event_text n k entry.event said.0)
+    ∙ ap (with_event entry.event) (entries-said n x.0 attributes H tail names said.1 skips)
+  where
+    regroup : (a b c d : Text) → ((a ++ (line_end ++ b)) ++ c) ++ d ≡ a ++ (10 ∷ (b ++ (c ++ d)))
+    regroup a b c d = simp append_assoc
+
+pub script_form-transcript : (n : ℕ) (attributes : List Text) (H : List SetEntry) (tail : Text) → list_all is_name attributes ≡ true → EachCanBeSaid n H → Skips tail
+    → script_form (transcript attributes H ++ tail) n ≡ Ok (events_of H)
+unfolding script_form
+script_form-transcript n attributes H tail names said skips =
+    let rest = entries_text attributes H ++ tail in
+    ap (λ ls. events_said n (behind_heading (said_from 1 ls))) (lines-line heading rest refl)
+    ∙ ap (λ said. events_said n (behind_heading said)) (said_from-told 1 heading (lines rest) refl)
+    ∙ entries-said n 2 attributes H tail names said skips
