@@ -256,6 +256,7 @@ impl Explore {
     /// Each event with its reply, the oldest first.
     pub fn journal(&self) -> &[Entry]
         ensures entries { result.now ≡ self.now.journal }
+        ensures plain { self.now.opening.settings ≡ plain }
         ensures legal { IsLegal (opening_state self.now.opening) result.now }
         ensures valid { IsValid (state_of self.now) }
         ensures wide { All (λ entry. HasWideReply self.now.opening.table.context.width entry.reply) self.now.journal }
