@@ -1,19 +1,19 @@
 -- The text of an exploration spells its history: each line of the sections begins with `#` and is skipped, so a script reads just the
 -- events of the transcript, and a legal history is the journal of its events.
-use Rattle.std.proofs.Common.{◌≡◌, ℕ, ◌+◌, true, false, List, [], ◌∷◌, ◌++◌, length, filter, Ok, refl, sym, ap, ◌∙◌, subst, append_assoc}
+use Rattle.std.proofs.Common.{◌≡◌, ℕ, ◌+◌, true, false, List, [], ◌∷◌, ◌++◌, length, filter, Ok, refl, ap, ◌∙◌, subst, append_assoc}
 use Rattle.std.specs.Prelude.{codes, decimal, is_none}
 use Rattle.std.specs.List.{list_any, list_all, flat_map, enumerate_from}
 use Rattle.std.proofs.lemmas.Bool.{and_parts}
-use Rattle.fca_model.specs.Names.{is_line_break, IsName}
+use Rattle.fca_model.specs.Names.{is_line_break}
 use Rattle.fca_model.specs.Tables.{Text, NamedContext}
 use Rattle.fca_model.specs.Implications.{Rule}
 use Rattle.fca_model.specs.Exploration.{State, Settings, SetEvent, SetReply, SetEntry, IsLegal, opening, open_in, events_of, journal_of, expert_of, has_width, is_expert}
-use Rattle.fca_model.specs.declared.Event.TheVariants.{Draw, Confirm, Row, Leave}
-use Rattle.fca_model.specs.declared.Reply.TheVariants.{Ask, Done, AllHeld, Accepted, Taken, Left, NotHeld, Misses, Keeps, Breaks, Refuted, SupersededRow, SupersededBy}
+use Rattle.fca_model.specs.declared.Event.TheVariants.{Row}
+use Rattle.fca_model.specs.declared.Reply.TheVariants.{Taken}
 use Rattle.expert_wire.specs.Texts.{line_end, ordinal, pattern, arrow_text, full_text}
-use Rattle.expert_wire.specs.Replies.{numbered_rule, transcript}
+use Rattle.expert_wire.specs.Replies.{numbered_rule}
 use Rattle.expert_wire.specs.Words.{is_name}
-use Rattle.expert_wire.specs.Scripts.{CanBeSaid, EachCanBeSaid, IsNamed, script_form}
+use Rattle.expert_wire.specs.Scripts.{EachCanBeSaid, IsNamed, script_form}
 use Rattle.expert_wire.proofs.ReadLemmas.{pattern_no_break}
 use Rattle.expert_wire.proofs.SkipLemmas.{Skips, Skips-nil, Skips-append, Skips-comment, Skips-flat_map, no_break-append, no_break-decimal, no_break-name, no_break-arrow, no_break-full, no_break-rule, script_form-transcript}
 use Rattle.basis_report.specs.Reports.{counted, arrow_line, arrow_lines}
@@ -24,11 +24,15 @@ use Rattle.basis_report.specs.Explorations.{is_recorded, recorded_line, recorded
 Skips-counted : (words : Text) (n : ℕ) → list_any is_line_break words ≡ false → Skips (counted (codes "# " ++ words) n)
 Skips-counted words n h = subst Skips (ap (λ t. codes "# " ++ t) (append_assoc words (decimal n) line_end)) (Skips-comment (words ++ decimal n) (no_break-append words (decimal n) h (no_break-decimal n)))
 
+grouped : (a b c : Text) → codes "# " ++ ((a ++ (codes " " ++ (b ++ (codes " " ++ c)))) ++ line_end) ≡ codes "# " ++ (a ++ (codes " " ++ (b ++ (codes " " ++ (c ++ line_end)))))
+grouped a b c = simp append_assoc
+
 Skips-recorded : (event : SetEvent) (reply : SetReply) → IsNamed event → Skips (recorded_line event reply)
 Skips-recorded (Row e name r) (Taken place) h =
-    Skips-comment (ordinal place ++ (codes " " ++ (pattern r ++ (codes " " ++ name))))
+    subst Skips (grouped (ordinal place) (pattern r) name)
+    (Skips-comment (ordinal place ++ (codes " " ++ (pattern r ++ (codes " " ++ name))))
     (no_break-append (ordinal place) (codes " " ++ (pattern r ++ (codes " " ++ name))) (no_break-decimal (place + 1))
-    (no_break-append (pattern r) (codes " " ++ name) (pattern_no_break r) (no_break-name name (ap is_none h.faultless))))
+    (no_break-append (pattern r) (codes " " ++ name) (pattern_no_break r) (no_break-name name (ap is_none h.faultless)))))
 Skips-recorded event reply h = Skips-nil
 
 Skips-recorded_lines : (H : List SetEntry) → EachNamed H → Skips (flat_map (λ entry. recorded_line entry.event entry.reply) H)

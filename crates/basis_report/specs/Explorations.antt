@@ -1,10 +1,10 @@
 -- The text of an exploration: its transcript, and what came of it.
-use Rattle.std.specs.Prelude.{⊤, ℕ, Result, Ok, Err, Bool, true, false, List, [], ◌∷◌, ◌++◌, filter, length, cond, codes}
+use Rattle.std.specs.Prelude.{⊤, ℕ, Result, Ok, Err, Bool, true, false, List, [], ◌∷◌, ◌++◌, map, fold, filter, length, codes}
 use Rattle.std.specs.List.{flat_map, enumerate_from}
-use Rattle.std.specs.Ordering.{is_lt}
-use Rattle.fca_model.specs.Sets.{lectic_cmp}
+use Rattle.std.specs.BTreeMap.{insert_entry}
+use Rattle.fca_model.specs.Sets.{Set, lectic_cmp}
 use Rattle.fca_model.specs.Tables.{Text, NamedContext}
-use Rattle.fca_model.specs.Implications.{Rule}
+use Rattle.fca_model.specs.Implications.{Rule, rule}
 use Rattle.fca_model.specs.Exploration.{State, Settings, SetEvent, SetReply, SetEntry, opening, open_in, state_after, events_of, journal_of}
 use Rattle.fca_model.specs.declared.Event.TheVariants.{Row}
 use Rattle.fca_model.specs.declared.Reply.TheVariants.{Taken}
@@ -41,15 +41,13 @@ accepted_section attributes k acc =
 abbrev pub open_section : List Text → List Rule → Text
 open_section attributes J = counted (codes "# open ") (length J) ++ flat_map (λ i. (codes "# " ++ full_text attributes i) ++ line_end) J
 
--- an implication put before the first whose premise does not come before its own
-abbrev pub placed : Rule → List Rule → List Rule
-placed i [] = i ∷ []
-placed i (j ∷ J) = cond (is_lt (lectic_cmp j.premise i.premise)) (j ∷ placed i J) (i ∷ j ∷ J)
+-- the conclusions by their premises, which are in lectic order
+abbrev pub by_premise : List Rule → List (Set × Set)
+by_premise J = fold (λ entries i. insert_entry lectic_cmp entries i.premise i.conclusion) [] J
 
--- the implications in the lectic order of their premises
+-- implications with different premises, in the lectic order of the premises
 abbrev pub in_lectic_order : List Rule → List Rule
-in_lectic_order [] = []
-in_lectic_order (i ∷ J) = placed i (in_lectic_order J)
+in_lectic_order J = map (λ entry. rule entry.0 entry.1) (by_premise J)
 
 -- the basis, where no question is open
 abbrev pub basis_section : List Text → List Rule → List Rule → Text

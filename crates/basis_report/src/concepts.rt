@@ -50,22 +50,55 @@ fn write_covers(draft: &mut Draft, table: &Table, covers: &[(usize, usize)]) -> 
 {
     write_counted(draft, table, b"covers ", covers.len())?;
     for pair in covers {
-        draft.parts(table, &[Part::Ordinal(pair.0), Part::Bytes(b" "), Part::Ordinal(pair.1), Part::Bytes(b"\n")])?;
+        draft.parts(
+            table,
+            &[
+                Part::Ordinal(pair.0),
+                Part::Bytes(b" "),
+                Part::Ordinal(pair.1),
+                Part::Bytes(b"\n"),
+            ],
+        )?;
     }
     Ok(())
 }
 
 /// The line that heads a list of so many members.
-pub(crate) fn write_counted(draft: &mut Draft, table: &Table, words: &[u8], count: usize) -> Result<(), Memory>
+pub(crate) fn write_counted(
+    draft: &mut Draft,
+    table: &Table,
+    words: &[u8],
+    count: usize,
+) -> Result<(), Memory>
     ensures { OnOk result (draft.new ≡ draft.old ++ counted words.now count) }
 {
-    draft.parts(table, &[Part::Bytes(words), Part::Number(count as u64), Part::Bytes(b"\n")])
+    draft.parts(
+        table,
+        &[
+            Part::Bytes(words),
+            Part::Number(count as u64),
+            Part::Bytes(b"\n"),
+        ],
+    )
 }
 
-fn write_concept(draft: &mut Draft, table: &Table, place: usize, concept: &Concept) -> Result<(), Memory>
+fn write_concept(
+    draft: &mut Draft,
+    table: &Table,
+    place: usize,
+    concept: &Concept,
+) -> Result<(), Memory>
     ensures { OnOk result (draft.new ≡ draft.old ++ concept_line table.now place concept.now) }
 {
-    draft.parts(table, &[Part::Ordinal(place), Part::Bytes(b" "), Part::Braces(concept.intent), Part::Bytes(b" | ")])?;
+    draft.parts(
+        table,
+        &[
+            Part::Ordinal(place),
+            Part::Bytes(b" "),
+            Part::Braces(concept.intent),
+            Part::Bytes(b" | "),
+        ],
+    )?;
     write_objects(draft, table, concept.extent.as_slice())?;
     draft.parts(table, &[Part::Bytes(b"\n")])
 }
@@ -77,7 +110,13 @@ fn write_objects(draft: &mut Draft, table: &Table, places: &[usize]) -> Result<(
     draft.parts(table, &[Part::Bytes(b"{")])?;
     let mut between = b"".as_slice();
     for place in places {
-        draft.parts(table, &[Part::Bytes(between), Part::Bytes(object_name(table, *place))])?;
+        draft.parts(
+            table,
+            &[
+                Part::Bytes(between),
+                Part::Bytes(object_name(table, *place)),
+            ],
+        )?;
         between = b", ".as_slice();
     }
     draft.parts(table, &[Part::Bytes(b"}")])

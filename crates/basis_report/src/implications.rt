@@ -3,13 +3,12 @@
 ghost use Rattle.std.specs.Prelude.{◌≡◌, ◌++◌, ℕ, codes, IfOk, OnOk};
 ghost use Rattle.basis_report.specs.Reports.{arrow_line, arrow_lines, basis_text};
 
+use crate::concepts::write_counted;
 use context_table::Table;
 use expert_wire::{Draft, Part};
 use fca_model::Memory;
 use implication_closure::{Implication, ImplicationList};
 use std::alloc::Global;
-
-use crate::concepts::write_counted;
 
 /// The members of the list, one a line.
 pub fn basis_text(alloc: Global, table: &Table, list: &ImplicationList) -> Result<Vec<u8>, Memory>
@@ -22,7 +21,12 @@ pub fn basis_text(alloc: Global, table: &Table, list: &ImplicationList) -> Resul
 }
 
 /// The implications, one a line behind the words, numbered from 1.
-pub(crate) fn write_arrows(draft: &mut Draft, table: &Table, words: &[u8], list: &[Implication]) -> Result<(), Memory>
+pub(crate) fn write_arrows(
+    draft: &mut Draft,
+    table: &Table,
+    words: &[u8],
+    list: &[Implication],
+) -> Result<(), Memory>
     ensures { OnOk result (draft.new ≡ draft.old ++ arrow_lines words.now table.now.attributes list.now) }
 {
     for (place, implication) in list.iter().enumerate() {
@@ -31,7 +35,13 @@ pub(crate) fn write_arrows(draft: &mut Draft, table: &Table, words: &[u8], list:
     Ok(())
 }
 
-fn write_arrow(draft: &mut Draft, table: &Table, words: &[u8], place: usize, implication: &Implication) -> Result<(), Memory>
+fn write_arrow(
+    draft: &mut Draft,
+    table: &Table,
+    words: &[u8],
+    place: usize,
+    implication: &Implication,
+) -> Result<(), Memory>
     ensures { OnOk result (draft.new ≡ draft.old ++ arrow_line words.now table.now.attributes place implication.now) }
 {
     let gained = implication.conclusion.minus(&implication.premise);

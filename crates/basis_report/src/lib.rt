@@ -2,8 +2,10 @@
 #![tactic(auto)]
 
 mod concepts;
+mod explorations;
 mod implications;
 pub mod laws;
 
 pub use concepts::{concepts_text, lattice_text};
+pub use explorations::explore_text;
 pub use implications::basis_text;

@@ -1,20 +1,19 @@
 -- What is written is read back. A word without a space is cut off at the space behind it; decimal digits are a numeral with their
 -- number as value; the pattern of a set marks the set. So the line of an event, by an expert and with a row of the width and a name
 -- that is a name, says just this event.
-use Rattle.std.proofs.Common.{◌≡◌, ◌<◌, ◌≤◌, ℕ, zero, suc, ◌+◌, ◌-◌, ◌/◌, ◌%◌, ◌^◌, Bool, true, false, not, ◌&&◌, ◌||◌, cond, List, [], ◌∷◌, ◌++◌, map, length, take, drop, get_or, Option, Some, None, Result, Ok, Err, refl, sym, ap, ap₂, ◌∙◌, subst, arith, inl, inr, eqb, ltb, leb, ne_eqb, ◌≢◌, append_assoc}
+use Rattle.std.proofs.Common.{◌≡◌, ◌<◌, ◌≤◌, ℕ, zero, suc, ◌+◌, ◌/◌, ◌%◌, ◌^◌, Bool, true, false, not, ◌&&◌, cond, List, [], ◌∷◌, ◌++◌, map, length, take, drop, get_or, Some, None, Ok, Err, refl, ap, ap₂, ◌∙◌, subst, arith, eqb, ltb, ne_eqb, ◌≢◌, append_assoc}
 use Rattle.std.specs.Prelude.{codes, decimal, IsUtf8, IsAscii, is_none, nat_lt, nat_le, ◌==◌, bytes_eq}
 use Rattle.std.specs.List.{list_any, list_all, position_or_len, before_first, after_first}
 use Rattle.std.specs.Char.{is_ascii_digit}
 use Rattle.std.specs.Fmt.{digits, digits_onto, digit_glyph}
-use Rattle.std.proofs.lemmas.Bool.{false≢true, cases_Bool, or_parts, and_parts, and_from, or_from, lt-ltb, le-leb, leb-true, ltb-true}
+use Rattle.std.proofs.lemmas.Bool.{or_parts, and_parts, and_from, or_from, lt-ltb, le-leb, leb-true, ltb-true}
 use Rattle.std.proofs.Math.Seq.{take-append_seam}
-use Rattle.std.specs.Str.{is_utf8}
 use Rattle.std.proofs.lemmas.Str.{IsUtf8-append, IsUtf8-from_ascii, is_utf8-from_IsUtf8}
 use Rattle.std.proofs.lemmas.Fmt.{digits_value-decimal, decimal_nonempty}
 use Rattle.fca_model.specs.declared.TheConstants.{MAX_EXPERTS}
 use Rattle.fca_model.specs.declared.Event.TheVariants.{Draw, Confirm, Row, Leave}
 use Rattle.fca_model.specs.Names.{is_line_break, IsName}
-use Rattle.fca_model.specs.Exploration.{SetEvent, is_expert, has_width}
+use Rattle.fca_model.specs.Exploration.{SetEvent, is_expert}
 use Rattle.fca_model.specs.Sets.{Set}
 use Rattle.fca_model.specs.Tables.{Text}
 use Rattle.expert_wire.specs.Texts.{pattern, mark_of}

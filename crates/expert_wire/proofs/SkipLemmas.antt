@@ -1,16 +1,16 @@
 -- A transcript, with more lines behind it that begin with `#`, is read as its events. No text that a line is made of has a line break,
 -- so the lines of the text are the lines that were written. `Skips` is said of a text of skipped lines: before any other text it only
 -- moves the numbers of the lines on. Then the events come one by one, each behind the skipped line of the reply before it.
-use Rattle.std.proofs.Common.{◌≡◌, ◌<◌, ◌≤◌, ℕ, zero, suc, ◌+◌, ◌-◌, Bool, true, false, not, ◌||◌, cond, List, [], ◌∷◌, ◌++◌, map, length, take, get_or, Option, Some, None, Ok, refl, sym, ap, ap₂, ◌∙◌, subst, arith, append_assoc, append-nil, length-append, inl, inr}
+use Rattle.std.proofs.Common.{◌≡◌, ℕ, zero, suc, ◌+◌, ◌-◌, Bool, true, false, cond, List, [], ◌∷◌, ◌++◌, map, length, take, get_or, Some, None, Ok, refl, sym, ap, ap₂, ◌∙◌, arith, append_assoc, append-nil, length-append, inl, inr}
 use Rattle.std.specs.Char.{is_ascii_digit}
-use Rattle.std.specs.Prelude.{codes, decimal, is_none, unwrap_or, slice_get, bytes_eq, ◌==◌, nat_lt}
-use Rattle.std.specs.List.{list_any, list_all, before_first, after_first, flat_map}
+use Rattle.std.specs.Prelude.{codes, decimal, is_none, ◌==◌, nat_lt}
+use Rattle.std.specs.List.{list_any, list_all, flat_map}
 use Rattle.std.specs.Str.Lines.{strip_carriage_return}
 use Rattle.std.proofs.lemmas.Bool.{false≢true, cases_Bool, or_parts, and_parts, and_from, or_from}
 use Rattle.std.proofs.lemmas.List.Folds.{list_any-append}
 use Rattle.fca_model.specs.Sets.{Set}
 use Rattle.fca_model.specs.Tables.{Text}
-use Rattle.fca_model.specs.Names.{name_fault, is_line_break, IsName}
+use Rattle.fca_model.specs.Names.{name_fault, is_line_break}
 use Rattle.fca_model.specs.declared.TheConstants.{MAX_NAME_BYTES}
 use Rattle.fca_model.specs.declared.names.NameFault.TheVariants.{Empty, Long, Line}
 use Rattle.fca_model.specs.Implications.{Rule}
@@ -18,8 +18,8 @@ use Rattle.fca_model.specs.Exploration.{SetEvent, SetReply, SetEntry, events_of}
 use Rattle.fca_model.specs.declared.Event.TheVariants.{Draw, Confirm, Row, Leave}
 use Rattle.fca_model.specs.declared.Reply.TheVariants.{Ask, Done, AllHeld, Accepted, Taken, Left, NotHeld, Misses, Keeps, Breaks, Refuted, SupersededRow, SupersededBy}
 use Rattle.attr_bits.specs.Difference.{minus}
-use Rattle.expert_wire.specs.Texts.{line_end, ordinal, pattern, names_of, continued, listed, braced, braces_text, arrow_text, full_text}
-use Rattle.expert_wire.specs.Replies.{attribute_name, numbered_row, numbered_rule, reply_text, event_text, entry_lines, entries_text, heading, transcript}
+use Rattle.expert_wire.specs.Texts.{line_end, ordinal, pattern, names_of, continued, braced, braces_text, arrow_text, full_text}
+use Rattle.expert_wire.specs.Replies.{attribute_name, numbered_row, numbered_rule, reply_text, event_text, entries_text, heading, transcript}
 use Rattle.expert_wire.specs.Words.{is_name}
 use Rattle.expert_wire.specs.Scripts.{is_line_feed, lines, is_skipped, said_from, behind_heading, with_event, all_events, events_said, event_of, script_form, CanBeSaid, EachCanBeSaid}
 use Rattle.expert_wire.proofs.ScriptLemmas.{lines-cons, said_from-skipped, said_from-told}
@@ -145,12 +145,11 @@ Skips-append a b f g k rest =
 
 pub Skips-comment : (body : Text) → list_any is_line_break body ≡ false → Skips (codes "# " ++ (body ++ line_end))
 Skips-comment body h k rest =
-    let line = codes "# " ++ body in
-    (
+    let line = codes "# " ++ body in (
       k + 1,
       ap (λ t. said_from k (lines (codes "# " ++ t))) (append_assoc body line_end rest)
-      ∙ ap (said_from k) (lines-line line rest h)
-      ∙ said_from-skipped k line (lines rest) refl,
+          ∙ ap (said_from k) (lines-line line rest h)
+          ∙ said_from-skipped k line (lines rest) refl,
     )
 
 pub Skips-flat_map : {X : Type 0} (f : X → Text) (xs : List X) → ((x : X) → Skips (f x)) → Skips (flat_map f xs)

@@ -8,8 +8,9 @@ ghost use Rattle.expert_wire.specs.Texts.{line_end, full_text};
 ghost use Rattle.expert_wire.specs.Replies.{reply_line, numbered_rule};
 
 use crate::parts::{Part, write_parts};
-use crate::replies::{Implication, Reply, write_question, write_reply, write_rule};
+use crate::replies::{write_question, write_reply, write_rule};
 use context_table::Table;
+use explore_state::{Implication, Reply};
 use fca_io::{Failed, Sink};
 use fca_model::Memory;
 use std::alloc::Global;

@@ -12,7 +12,7 @@ mod words;
 
 pub use draft::Draft;
 pub use parts::Part;
-pub use replies::{Reply, write_reply};
+pub use replies::write_reply;
 pub use requests::{Request, RequestFault, read_request};
-pub use scripts::{Event, ScriptFault, read_script};
-pub use transcript::{Entry, transcript_text, write_transcript};
+pub use scripts::{ScriptFault, read_script};
+pub use transcript::{transcript_text, write_transcript};

@@ -11,13 +11,8 @@ ghost use Rattle.expert_wire.specs.Parts.{Writes};
 use crate::parts::{Part, write_parts};
 use attr_bits::Attrs;
 use context_table::Table;
+use explore_state::{Implication, Reply};
 use fca_io::{Put, Sink};
-
-/// A premise with a conclusion.
-pub type Implication = fca_model::Implication<Attrs>;
-
-/// A reply to an event.
-pub type Reply = fca_model::Reply<Attrs>;
 
 /// Writes the line of the reply, part by part; it takes no memory. After an `Err` the sink holds a front of the line.
 pub fn write_reply<K: Sink>(sink: &mut K, table: &Table, reply: &Reply) -> Result<(), Put>

@@ -9,13 +9,9 @@ ghost use Rattle.expert_wire.specs.Scripts.{script_form, event_of, event_of_word
 
 use crate::RequestFault;
 use crate::words::{expert_of, is_numeral, read_row, split_word, text_of};
-use attr_bits::Attrs;
-use fca_model::Name;
+use explore_state::Event;
 use std::alloc::{AllocFailed, Global};
 use thiserror::Error;
-
-/// An event of an exploration.
-pub type Event = fca_model::Event<Name, Attrs>;
 
 /// Why a text is no script: lines are numbered from 1, and the first line at fault is told.
 #[derive(Debug, Drop, Error)]

@@ -6,14 +6,10 @@ ghost use Rattle.expert_wire.specs.Replies.{event_text, entries_text, entry_line
 
 use crate::draft::Draft;
 use crate::parts::Part;
-use crate::scripts::Event;
-use attr_bits::Attrs;
 use context_table::Table;
-use fca_model::{Memory, Name};
+use explore_state::{Entry, Event};
+use fca_model::Memory;
 use std::alloc::Global;
-
-/// An event with its reply.
-pub type Entry = fca_model::Entry<Name, Attrs>;
 
 /// The transcript of the journal.
 pub fn transcript_text(alloc: Global, table: &Table, journal: &[Entry]) -> Result<Vec<u8>, Memory>

@@ -1,0 +1,144 @@
+//! The text of an exploration.
+
+ghost use Rattle.std.specs.Prelude.{◌≡◌, ◌++◌, length, filter, IfOk, OnOk};
+ghost use Rattle.std.specs.List.{flat_map};
+ghost use Rattle.basis_report.specs.Explorations.{is_recorded, recorded_line, recorded_section, accepted_section, open_section, by_premise, in_lectic_order, basis_section, explore_text};
+
+use crate::concepts::write_counted;
+use crate::implications::write_arrows;
+use attr_bits::Attrs;
+use context_table::Table;
+use expert_wire::{Draft, Part, write_transcript};
+use explore_state::{Entry, Event, Explore, Implication, Question, Reply};
+use fca_model::Memory;
+use std::alloc::Global;
+use std::collections::BTreeMap;
+
+/// The transcript of the exploration, and then what came of it. Replayed on the same table the text gives itself.
+pub fn explore_text(alloc: Global, explore: &Explore) -> Result<Vec<u8>, Memory>
+    ensures { IfOk result (λ v. v.items ≡ explore_text explore.now.opening.table explore.now.opening.settings explore.now.journal) }
+{
+    let table = explore.table();
+    let mut draft = Draft::new(alloc);
+    write_transcript(&mut draft, table, explore.journal())?;
+    write_recorded(&mut draft, table, explore.journal())?;
+    write_accepted(&mut draft, table, explore.accepted())?;
+    write_open(&mut draft, table, explore.open_questions())?;
+    write_basis(
+        alloc,
+        &mut draft,
+        table,
+        explore.accepted(),
+        explore.open_questions(),
+    )?;
+    Ok(draft.into_bytes())
+}
+
+fn write_recorded(draft: &mut Draft, table: &Table, journal: &[Entry]) -> Result<(), Memory>
+    ensures { OnOk result (draft.new ≡ draft.old ++ recorded_section journal.now) }
+{
+    write_counted(draft, table, b"# recorded ", recorded_count(journal))?;
+    for entry in journal {
+        write_row(draft, table, entry)?;
+    }
+    Ok(())
+}
+
+fn recorded_count(journal: &[Entry]) -> usize
+    ensures { result ≡ length (filter (λ entry. is_recorded entry.event entry.reply) journal.now) }
+{
+    journal.iter().filter(|entry| is_recorded(entry)).count()
+}
+
+fn is_recorded(entry: &Entry) -> bool
+    ensures { result ≡ is_recorded entry.now.event entry.now.reply }
+{
+    matches!(
+        (&entry.event, &entry.reply),
+        (Event::Row { .. }, Reply::Taken(_))
+    )
+}
+
+/// The line of the row, if the entry records one.
+fn write_row(draft: &mut Draft, table: &Table, entry: &Entry) -> Result<(), Memory>
+    ensures { OnOk result (draft.new ≡ draft.old ++ recorded_line entry.now.event entry.now.reply) }
+{
+    match (&entry.event, &entry.reply) {
+        (Event::Row { name, row, .. }, Reply::Taken(place)) => draft.parts(
+            table,
+            &[
+                Part::Bytes(b"# "),
+                Part::Ordinal(*place),
+                Part::Bytes(b" "),
+                Part::Pattern(*row),
+                Part::Bytes(b" "),
+                Part::Bytes(name.bytes()),
+                Part::Bytes(b"\n"),
+            ],
+        ),
+        _ => Ok(()),
+    }
+}
+
+fn write_accepted(draft: &mut Draft, table: &Table, accepted: &[Implication]) -> Result<(), Memory>
+    ensures { OnOk result (draft.new ≡ draft.old ++ accepted_section table.now.attributes 0 accepted.now) }
+{
+    write_counted(draft, table, b"# accepted ", accepted.len())?;
+    for (place, implication) in accepted.iter().enumerate() {
+        draft.rule(table, b"# ", place, implication)?;
+    }
+    Ok(())
+}
+
+fn write_open(draft: &mut Draft, table: &Table, questions: &[Question]) -> Result<(), Memory>
+    ensures { OnOk result (draft.new ≡ draft.old ++ open_section table.now.attributes questions.now) }
+{
+    write_counted(draft, table, b"# open ", questions.len())?;
+    for question in questions {
+        draft.question(table, b"# ", question)?;
+    }
+    Ok(())
+}
+
+/// The accepted implications in the lectic order of their premises, where no question is open.
+fn write_basis(
+    alloc: Global,
+    draft: &mut Draft,
+    table: &Table,
+    accepted: &[Implication],
+    questions: &[Question],
+) -> Result<(), Memory>
+    ensures { OnOk result (draft.new ≡ draft.old ++ basis_section table.now.attributes accepted.now questions.now) }
+{
+    if !questions.is_empty() {
+        return Ok(());
+    }
+    write_counted(draft, table, b"# basis ", accepted.len())?;
+    let ordered = in_lectic_order(alloc, accepted)?;
+    write_arrows(draft, table, b"# ", &ordered)
+}
+
+fn in_lectic_order(alloc: Global, accepted: &[Implication]) -> Result<Vec<Implication>, Memory>
+    ensures { IfOk result (λ v. v.items ≡ in_lectic_order accepted.now) }
+{
+    let conclusions = by_premise(alloc, accepted)?;
+    let mut ordered = Vec::with_capacity(alloc, conclusions.len())?;
+    for (premise, conclusion) in &conclusions {
+        ordered.push(Implication {
+            premise: *premise,
+            conclusion: *conclusion,
+        })?;
+    }
+    Ok(ordered)
+}
+
+/// The conclusions by their premises.
+fn by_premise(alloc: Global, accepted: &[Implication]) -> Result<BTreeMap<Attrs, Attrs>, Memory>
+    ensures { IfOk result (λ m. m.entries ≡ by_premise accepted.now) }
+{
+    let mut conclusions = BTreeMap::new(alloc);
+    for implication in accepted {
+        conclusions.insert(implication.premise, implication.conclusion)?;
+    }
+    Ok(conclusions)
+}
