@@ -3,7 +3,7 @@ use Rattle.std.proofs.Common.{◌≡◌, refl, false, true, [], ◌∷◌, List}
 use Rattle.std.specs.Prelude.{codes}
 use Rattle.fca_model.specs.Sets.{Set}
 use Rattle.fca_model.proofs.Examples.{s}
-use Rattle.lattice_covers.specs.Neighbours.{has_smaller, place_in, pairs_with}
+use Rattle.lattice_covers.specs.Neighbours.{has_smaller, pairs_with}
 
 abbrev three : List Set
 three = s (codes "..X") ∷ s (codes ".X.") ∷ s (codes "X..") ∷ []
