@@ -12,7 +12,8 @@ pub record IsBasis (K : Context) (J : List Rule) : Type 0 where
   pub members : SameMembers J (basis K)
   pub once : length J ≡ length (basis K)
   pub sorted : (L : List Rule) → SameMembers L J → increasing (premises L) ≡ true → L ≡ basis K
-  pub complete : (i : Rule) → length i.premise ≡ K.width → length i.conclusion ≡ K.width → holds K i ≡ follows K.width J i
+  pub complete : (i : Rule) → length i.premise ≡ K.width → length i.conclusion ≡ K.width
+      → holds K i ≡ follows K.width J i
   pub least : (L : List Rule) → equivalent K.width L J ≡ true → length J ≤ length L
 
 -- The rows of K are those of the table and then the recorded ones. The concepts of the table, the recorded rows and the accepted

@@ -8,8 +8,10 @@ use Rattle.fca_model.specs.Exploration.{SetHold, holders_of}
 abbrev pub is_other : ℕ → Set → SetHold → Bool
 is_other e P h = not (h.expert == e) && same h.question.premise P
 
--- among the first n questions, the one at place b is the first whose premise is held by the fewest
+-- Among the first n questions, the one at place b is the first whose premise is held by the fewest.
 pub record IsFewest (hs : List SetHold) (J : List Rule) (n b : ℕ) : Type 0 where
   pub in_range : b < n
-  pub fewest : (k : ℕ) (d : Rule) → k < n → holders_of (slice_index_or J b d).premise hs ≤ holders_of (slice_index_or J k d).premise hs
-  pub first : (k : ℕ) (d : Rule) → k < b → holders_of (slice_index_or J b d).premise hs < holders_of (slice_index_or J k d).premise hs
+  pub fewest : (k : ℕ) (d : Rule) → k < n
+      → holders_of (slice_index_or J b d).premise hs ≤ holders_of (slice_index_or J k d).premise hs
+  pub first : (k : ℕ) (d : Rule) → k < b
+      → holders_of (slice_index_or J b d).premise hs < holders_of (slice_index_or J k d).premise hs

@@ -20,7 +20,8 @@ pub record IsKept (o : Opening) (J : List SetEntry) (K : Context) (acc : List Ru
   pub experts : is_expert o.experts ≡ true
 
 -- the reply is the one to the event, in a state that has these rows, accepted implications and holds
-pub record IsDue (K : Context) (acc : List Rule) (hs : List SetHold) (event : SetEvent) (answer : SetReply) : Type 0 where
+pub record IsDue (K : Context) (acc : List Rule) (hs : List SetHold) (event : SetEvent)
+    (answer : SetReply) : Type 0 where
   pub state : State
   pub shown : IsShown state K acc hs
   pub settings : state.settings ≡ plain

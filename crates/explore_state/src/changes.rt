@@ -26,7 +26,8 @@ pub(crate) fn change(
     requires due { IsDue queue.old.context queue.old.accepted held.old.items event.now reply.now }
     requires room { MAX_EXPERTS ≤ vec_capacity held.old }
     ensures ok { (s : State) → IsShown s queue.old.context queue.old.accepted held.old.items
-        → OnOk result (IsShown (after s event.now reply.now) queue.new.context queue.new.accepted held.new.items) }
+        → OnOk result (IsShown (after s event.now reply.now)
+        queue.new.context queue.new.accepted held.new.items) }
     ensures err { OnErr result ((queue.new ≡ queue.old) × (held.new.items ≡ held.old.items)) }
     ensures room { vec_capacity held.new ≡ vec_capacity held.old }
     ensures succeeds { is_recorded reply.now ≡ false → IsOk result }
@@ -48,7 +49,8 @@ pub(crate) fn change(
 /// The expert gives its hold back, and holds what it was asked.
 fn after_draw(held: &mut Vec<Hold>, expert: u8, reply: &Reply)
     requires room { length (given_back expert held.old.items) < vec_capacity held.old }
-    ensures shown { (s : State) (K : Context) (acc : List Rule) → IsShown s K acc held.old.items → IsShown (after_draw expert s reply.now) K acc held.new.items }
+    ensures shown { (s : State) (K : Context) (acc : List Rule) → IsShown s K acc held.old.items
+        → IsShown (after_draw expert s reply.now) K acc held.new.items }
     ensures room { vec_capacity held.new ≡ vec_capacity held.old }
 {
     give_back(held, expert);
@@ -69,7 +71,8 @@ fn after_confirmation(
 ) -> Result<(), Memory>
     requires due { IsDue queue.old.context queue.old.accepted held.old.items (Confirm expert) reply.now }
     ensures ok { (s : State) → IsShown s queue.old.context queue.old.accepted held.old.items
-        → OnOk result (IsShown (after_confirm expert s reply.now) queue.new.context queue.new.accepted held.new.items) }
+        → OnOk result (IsShown (after_confirm expert s reply.now)
+        queue.new.context queue.new.accepted held.new.items) }
     ensures err { OnErr result ((queue.new ≡ queue.old) × (held.new.items ≡ held.old.items)) }
     ensures room { vec_capacity held.new ≡ vec_capacity held.old }
     ensures succeeds { is_recorded reply.now ≡ false → IsOk result }
@@ -90,8 +93,12 @@ fn after_confirmation(
 
 /// Accepts the question that the expert holds.
 fn accept_held(queue: &mut LevelQueue, held: &[Hold], expert: u8) -> Result<(), Memory>
-    requires { (q : Rule) → held_by expert held.now ≡ Some q → IsTimely queue.old.context queue.old.accepted q }
-    ensures ok { OnOk result (queue.new ≡ record { context = queue.old.context; accepted = with_held (held_by expert held.now) queue.old.accepted }) }
+    requires { (q : Rule) → held_by expert held.now ≡ Some q
+        → IsTimely queue.old.context queue.old.accepted q }
+    ensures ok { OnOk result (queue.new ≡ record {
+      context = queue.old.context;
+      accepted = with_held (held_by expert held.now) queue.old.accepted;
+    }) }
     ensures err { OnErr result (queue.new ≡ queue.old) }
 {
     let Some(question) = held_in(held, expert) else {
@@ -112,9 +119,12 @@ fn after_row(
     reply: &Reply,
 ) -> Result<(), Memory>
     requires wide { length row.now ≡ queue.old.context.width }
-    requires respecting { (k : ℕ) → reply.now ≡ Taken k → respects_all queue.old.accepted row.now ≡ true }
-    ensures ok { (s : State) (name : RowName) → IsShown s queue.old.context queue.old.accepted held.old.items
-        → OnOk result (IsShown (after_row expert name row.now s reply.now) queue.new.context queue.new.accepted held.new.items) }
+    requires respecting { (k : ℕ) → reply.now ≡ Taken k
+        → respects_all queue.old.accepted row.now ≡ true }
+    ensures ok { (s : State) (name : RowName)
+        → IsShown s queue.old.context queue.old.accepted held.old.items
+        → OnOk result (IsShown (after_row expert name row.now s reply.now)
+        queue.new.context queue.new.accepted held.new.items) }
     ensures err { OnErr result ((queue.new ≡ queue.old) × (held.new.items ≡ held.old.items)) }
     ensures room { vec_capacity held.new ≡ vec_capacity held.old }
     ensures succeeds { is_recorded reply.now ≡ false → IsOk result }

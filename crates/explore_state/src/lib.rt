@@ -97,15 +97,18 @@ impl Model for Explore {
     } };
 
     ghost invariant = { λ a. record {
-      kept : IsKept (record { table = a.table; experts = a.experts; settings = plain }) a.journal.items a.queue.context a.queue.accepted a.held.items;
+      kept : IsKept (record { table = a.table; experts = a.experts; settings = plain })
+          a.journal.items a.queue.context a.queue.accepted a.held.items;
       room : MAX_EXPERTS ≤ vec_capacity a.held;
     } };
 }
 
 impl Explore {
-    /// The table, explored by experts numbered from 1: nothing is accepted, nothing is held, and the journal is empty.
+    /// The table, explored by experts numbered from 1: nothing is accepted, nothing is held, and the
+    /// journal is empty.
     pub fn open(alloc: Global, table: Table, experts: u8) -> Result<Explore, OpenFault>
-        ensures opening { IfOk result (λ explore. explore.opening ≡ record { table = table; experts = experts; settings = plain }) }
+        ensures opening { IfOk result (λ explore. explore.opening
+            ≡ record { table = table; experts = experts; settings = plain }) }
         ensures journal { IfOk result (λ explore. explore.journal ≡ []) }
         ensures bad_experts { IsErrOf result (OpenFault.BadExperts experts) ↔ (is_expert experts ≡ false) }
         ensures count { (n : ℕ) → IsErrOf result (OpenFault.BadExperts n) → n ≡ experts }
@@ -124,12 +127,14 @@ impl Explore {
         })
     }
 
-    /// Does what the event asks, and puts it with its reply on the journal. After `Memory` a name that was handed in is dropped.
+    /// Does what the event asks, and puts it with its reply on the journal. After `Memory` a name that
+    /// was handed in is dropped.
     pub fn apply(&mut self, event: Event) -> Result<Reply, Memory>
         requires { Admits self.old.opening event }
         ensures ok { IfOk result (λ reply. IsStep self.old self.new event reply) }
         ensures err { OnErr result (IsSame self.old self.new) }
-        ensures spare { 1 ≤ self.old.spare → is_recorded (reply_to (state_of self.old) event) ≡ false → IsOk result × (self.new.spare + 1 ≡ self.old.spare) }
+        ensures spare { 1 ≤ self.old.spare → is_recorded (reply_to (state_of self.old) event) ≡ false
+            → IsOk result × (self.new.spare + 1 ≡ self.old.spare) }
     {
         let reply = self.reply_to(&event);
         make_room(&mut self.journal)?;
@@ -146,10 +151,12 @@ impl Explore {
         requires { Admits self.old.opening (Draw e) }
         ensures ok { IfOk result (λ reply. IsStep self.old self.new (Draw e) reply) }
         ensures done { IfOk result (λ reply. (reply ≡ Done) ↔ (open_of self.old ≡ [])) }
-        ensures asked { IfOk result (λ reply. (q : Rule) → reply ≡ Ask q → Among (open_of self.old) q) }
+        ensures asked { IfOk result (λ reply. (q : Rule) → reply ≡ Ask q
+            → Among (open_of self.old) q) }
         ensures free { IfOk result (λ reply. reply ≢ AllHeld) }
         ensures err { OnErr result (IsSame self.old self.new) }
-        ensures spare { 1 ≤ self.old.spare → IsOk result × (self.new.spare + 1 ≡ self.old.spare) }
+        ensures spare { 1 ≤ self.old.spare
+            → IsOk result × (self.new.spare + 1 ≡ self.old.spare) }
     {
         let _table = &self.table;
         self.apply(Event::Draw { expert: e })
@@ -160,7 +167,8 @@ impl Explore {
         requires { Admits self.old.opening (Confirm e) }
         ensures ok { IfOk result (λ reply. IsStep self.old self.new (Confirm e) reply) }
         ensures err { OnErr result (IsSame self.old self.new) }
-        ensures spare { 1 ≤ self.old.spare → is_recorded (reply_to (state_of self.old) (Confirm e)) ≡ false → IsOk result × (self.new.spare + 1 ≡ self.old.spare) }
+        ensures spare { 1 ≤ self.old.spare → is_recorded (reply_to (state_of self.old) (Confirm e)) ≡ false
+            → IsOk result × (self.new.spare + 1 ≡ self.old.spare) }
     {
         self.apply(Event::Confirm { expert: e })
     }
@@ -170,7 +178,9 @@ impl Explore {
         requires { Admits self.old.opening (Row e name row) }
         ensures ok { IfOk result (λ reply. IsStep self.old self.new (Row e name row) reply) }
         ensures err { OnErr result (IsSame self.old self.new) }
-        ensures spare { 1 ≤ self.old.spare → is_recorded (reply_to (state_of self.old) (Row e name row)) ≡ false → IsOk result × (self.new.spare + 1 ≡ self.old.spare) }
+        ensures spare { 1 ≤ self.old.spare
+            → is_recorded (reply_to (state_of self.old) (Row e name row)) ≡ false
+            → IsOk result × (self.new.spare + 1 ≡ self.old.spare) }
     {
         self.apply(Event::Row {
             expert: e,
@@ -184,7 +194,8 @@ impl Explore {
         requires { Admits self.old.opening (Leave e) }
         ensures ok { IfOk result (λ reply. IsStep self.old self.new (Leave e) reply) }
         ensures err { OnErr result (IsSame self.old self.new) }
-        ensures spare { 1 ≤ self.old.spare → IsOk result × (self.new.spare + 1 ≡ self.old.spare) }
+        ensures spare { 1 ≤ self.old.spare
+            → IsOk result × (self.new.spare + 1 ≡ self.old.spare) }
     {
         self.apply(Event::Leave { expert: e })
     }
@@ -216,7 +227,8 @@ impl Explore {
     /// The rows of the table and then the recorded ones.
     pub fn rows(&self) -> &Rows
         ensures rows { result.now ≡ (state_of self.now).context }
-        ensures recorded { IsRecorded self.now.opening.table.context result.now (state_of self.now).accepted }
+        ensures recorded { IsRecorded self.now.opening.table.context result.now
+            (state_of self.now).accepted }
     {
         self.queue.rows()
     }
@@ -241,7 +253,8 @@ impl Explore {
     /// The size of the open premises.
     pub fn level(&self) -> Option<u32>
         ensures none { IsNone result ↔ (open_of self.now ≡ []) }
-        ensures size { IfSome result (λ k. list_all (λ q. size q.premise == k) (open_of self.now) ≡ true) }
+        ensures size { IfSome result (λ k.
+            list_all (λ q. size q.premise == k) (open_of self.now) ≡ true) }
     {
         self.queue.level()
     }
@@ -298,7 +311,8 @@ fn make_room(journal: &mut Vec<Entry>) -> Result<(), AllocError>
     ensures entries { journal.new.items ≡ journal.old.items }
     ensures len { vec_len journal.new ≡ vec_len journal.old }
     ensures ok { OnOk result (vec_len journal.new < vec_capacity journal.new) }
-    ensures spare { vec_len journal.old < vec_capacity journal.old → IsOk result × (vec_capacity journal.new ≡ vec_capacity journal.old) }
+    ensures spare { vec_len journal.old < vec_capacity journal.old
+        → IsOk result × (vec_capacity journal.new ≡ vec_capacity journal.old) }
 {
     if journal.len() == journal.capacity() {
         journal.reserve(1)?;
@@ -306,9 +320,90 @@ fn make_room(journal: &mut Vec<Entry>) -> Result<(), AllocError>
     Ok(())
 }
 
-/// The same reply.
+/// The same reply. A value that holds sets is passed on by value once, so it is copied here.
 fn again(reply: &Reply) -> Reply
     ensures { result ≡ reply.now }
 {
     *reply
+}
+
+#[cfg(test)]
+mod tests {
+    use super::{Explore, OpenFault, Reply};
+    use attr_bits::Attrs;
+    use context_table::Table;
+    use derivation::Rows;
+    use fca_model::{Memory, Name};
+    use std::alloc::Global;
+    use std::rt::HostRuntime;
+
+    fn name(alloc: Global, text: &str) -> Result<Name, Memory> {
+        Name::new(alloc, text).map_err(|_| Memory)
+    }
+
+    /// The table over the attributes a, b and c whose one object o has none of them.
+    fn bare_table(alloc: Global) -> Result<Table, Memory>
+        ensures { IfOk result (λ table. table.context.width ≡ 3) }
+    {
+        let mut objects = Vec::new(alloc);
+        objects.push(name(alloc, "o")?)?;
+        let mut attributes = Vec::new(alloc);
+        attributes.push(name(alloc, "a")?)?;
+        attributes.push(name(alloc, "b")?)?;
+        attributes.push(name(alloc, "c")?)?;
+        let mut rows = Rows::new(alloc, 3)?;
+        rows.push(Attrs::empty(3))?;
+        Table::new(alloc, None, objects, attributes, rows).map_err(|_| Memory)
+    }
+
+    /// Its exploration by one expert, which was asked.
+    fn asked(alloc: Global) -> Result<Explore, OpenFault>
+        ensures experts { IfOk result (λ explore. explore.opening.experts ≡ 1) }
+        ensures width { IfOk result (λ explore. explore.opening.table.context.width ≡ 3) }
+    {
+        let mut explore = Explore::open(alloc, bare_table(alloc)?, 1)?;
+        explore.draw(1)?;
+        Ok(explore)
+    }
+
+    #[test]
+    fn an_expert_confirms(rt: HostRuntime) -> Result<(), OpenFault> {
+        let mut explore = asked(rt.alloc())?;
+        assert!(&rt; explore.open_questions().len() == 3);
+        assert!(&rt; explore.level() == Some(1));
+        let reply = explore.confirm(1)?;
+        assert!(&rt; matches!(reply, Reply::Accepted(0)));
+        assert!(&rt; explore.accepted().len() == 1);
+        Ok(())
+    }
+
+    #[test]
+    fn an_expert_gives_a_row(rt: HostRuntime) -> Result<(), OpenFault> {
+        let alloc = rt.alloc();
+        let mut explore = asked(alloc)?;
+        let reply = explore.row(1, name(alloc, "u")?, Attrs::full(3))?;
+        assert!(&rt; matches!(reply, Reply::Keeps));
+        assert!(&rt; explore.held(1).is_some());
+        assert!(&rt; explore.rows().len() == explore.table().rows().len());
+        Ok(())
+    }
+
+    #[test]
+    fn an_expert_leaves(rt: HostRuntime) -> Result<(), OpenFault> {
+        let mut explore = asked(rt.alloc())?;
+        explore.reserve(1)?;
+        let reply = explore.leave(1)?;
+        assert!(&rt; matches!(reply, Reply::Left));
+        assert!(&rt; explore.journal().len() == 2);
+        assert!(&rt; explore.experts() == 1);
+        Ok(())
+    }
+
+    #[test]
+    fn too_many_experts(rt: HostRuntime) -> Result<(), Memory> {
+        let alloc = rt.alloc();
+        let opened = Explore::open(alloc, bare_table(alloc)?, 65);
+        assert!(&rt; matches!(opened, Err(OpenFault::BadExperts(65))));
+        Ok(())
+    }
 }

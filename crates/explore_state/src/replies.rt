@@ -48,8 +48,8 @@ pub(crate) fn reply_to_confirmation(
     accepted: &ImplicationList,
     question: &Question,
 ) -> Reply
-    ensures { (s : State) → s.context ≡ rows.now → s.accepted ≡ accepted.now.members → s.settings.known ≡ []
-        → result ≡ confirm_reply s (Some question.now) }
+    ensures { (s : State) → s.context ≡ rows.now → s.accepted ≡ accepted.now.members
+        → s.settings.known ≡ [] → result ≡ confirm_reply s (Some question.now) }
 {
     match check_confirm(rows, accepted, question) {
         Verdict::Take => Reply::Accepted(accepted.as_slice().len()),
@@ -66,8 +66,8 @@ pub(crate) fn reply_to_row(
     question: &Question,
     row: &Attrs,
 ) -> Reply
-    ensures { (s : State) → s.context ≡ rows.now → s.accepted ≡ rules.now.members → s.settings.known ≡ []
-        → result ≡ row_reply s (Some question.now) row.now }
+    ensures { (s : State) → s.context ≡ rows.now → s.accepted ≡ rules.now.members
+        → s.settings.known ≡ [] → result ≡ row_reply s (Some question.now) row.now }
 {
     match check_row(rows, rules, question, row) {
         Verdict::Take => Reply::Taken(rows.len()),
