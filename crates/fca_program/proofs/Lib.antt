@@ -1,0 +1,5 @@
+pub mod TextLemmas
+pub mod ReadingLemmas
+pub mod ReplayLemmas
+pub mod ScriptLemmas
+pub mod CourseLemmas

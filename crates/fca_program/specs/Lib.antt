@@ -1,0 +1,5 @@
+pub mod Readings
+pub mod Commands
+pub mod Outputs
+pub mod Endings
+pub mod Headline

@@ -1,0 +1,71 @@
+-- What each command writes.
+use Rattle.std.specs.Prelude.{ℕ, Bool, ◌&&◌, Option, List, [], length, nat_lt}
+use Rattle.fca_model.specs.Tables.{Text, NamedContext}
+use Rattle.fca_model.specs.Implications.{Rule}
+use Rattle.fca_model.specs.Questions.{open_questions}
+use Rattle.fca_model.specs.declared.TheConstants.{MAX_EXPERTS}
+use Rattle.fca_model.specs.Exploration.{SetEvent, SetEntry, State, plain, journal_of, state_after, events_of, is_expert, expert_of, has_width}
+use Rattle.fca_io.specs.Shelves.{Told}
+use Rattle.cxt_format.specs.Form.{cxt_form}
+use Rattle.expert_wire.specs.Scripts.{script_form}
+use Rattle.explore_state.specs.History.{Opening, History, opening_state}
+use Rattle.basis_report.specs.Explorations.{explore_text}
+use Rattle.fca_program.specs.Readings.{Reading, then, file_read, input_read}
+use Rattle.fca_program.specs.Readings.Reading.{Read}
+use Rattle.fca_program.specs.declared.command.Command.{Command}
+use Rattle.fca_program.specs.declared.command.Command.TheVariants.{Replay}
+
+-- a text, and whether it leaves a question open
+pub record Output : Type 0 where
+  pub text : Text
+  pub is_open : Bool
+
+-- the table in the file of the name, of which this is told
+abbrev pub table_read : Text → Told → Reading NamedContext
+table_read file told = file_read cxt_form told
+
+-- the events of the script on the input, whose rows have width n
+abbrev pub script_read : ℕ → Option Text → Reading (List SetEvent)
+script_read n input = input_read (λ bytes. script_form bytes n) input
+
+-- an event of an expert, with a row of width n where it has one
+abbrev pub may_apply : ℕ → SetEvent → Bool
+may_apply n event = is_expert (expert_of event) && has_width n event
+
+-- an exploration: what it was opened with, and its journal
+pub record Recorded : Type 0 where
+  pub opening : Opening
+  pub journal : List SetEntry
+
+-- what an exploration has recorded
+abbrev pub recorded : History → Recorded
+recorded h = record { opening = h.opening; journal = h.journal }
+
+-- the table as the opening of an exploration
+abbrev pub opening_of : NamedContext → Opening
+opening_of table = record { table = table; experts = MAX_EXPERTS; settings = plain }
+
+-- the exploration of the table by the events
+abbrev pub explored : NamedContext → List SetEvent → Recorded
+explored table events = record { opening = opening_of table; journal = journal_of (opening_state (opening_of table)) events }
+
+-- the exploration that `replay` records
+abbrev pub replayed : Text → (Text → Told) → Option Text → Reading Recorded
+replayed file files input =
+    then (table_read file (files file)) (λ table. then (script_read table.context.width input) (λ events. Read (explored table events)))
+
+-- the state after its last event
+abbrev pub last_state : Recorded → State
+last_state r = state_after (opening_state r.opening) (events_of r.journal)
+
+-- the questions open after it
+abbrev pub open_at : Recorded → List Rule
+open_at r = open_questions [] (last_state r).context (last_state r).accepted
+
+-- the text of an exploration
+abbrev pub exploration_output : Recorded → Output
+exploration_output r = record { text = explore_text r.opening.table r.opening.settings r.journal; is_open = nat_lt 0 (length (open_at r)) }
+
+-- what the command writes, where the files and the input hold this
+abbrev pub output : Command → (Text → Told) → Option Text → Reading Output
+output (Replay file) files input = then (replayed file files input) (λ r. Read (exploration_output r))

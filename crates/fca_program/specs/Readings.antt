@@ -1,0 +1,54 @@
+-- What is read of the outside: whole files and a whole input, each in a form. The outside may not tell what it holds.
+use Rattle.std.specs.Prelude.{◌≡◌, ℕ, nat_le, cond, List, length, Option, Some, None, Result, Ok, Err, ⊤}
+use Rattle.fca_model.specs.Tables.{Text}
+use Rattle.fca_model.specs.declared.TheConstants.{FILE_BYTES}
+use Rattle.fca_io.specs.Shelves.{Told}
+
+-- what reading comes to, where no call of the outside fails and memory is there
+pub data Reading (X : Type 0) : Type 0 where
+  Untold : Reading X
+  Refused : Reading X
+  Read : X → Reading X
+
+-- one reading after the other
+abbrev pub then : {X Y : Type 0} → Reading X → (X → Reading Y) → Reading Y
+then Untold next = Untold
+then Refused next = Refused
+then (Read x) next = next x
+
+abbrev pub formed : {X E : Type 0} → Result X E → Reading X
+formed (Ok x) = Read x
+formed (Err fault) = Refused
+
+-- bytes in a form: too many are refused, and those that have not the form
+abbrev pub bytes_read : {X E : Type 0} → (Text → Result X E) → Text → Reading X
+bytes_read form bytes = cond (nat_le (length bytes) FILE_BYTES) (formed (form bytes)) Refused
+
+-- a file in a form. That there is no such file is a fault, and no reading
+abbrev pub file_read : {X E : Type 0} → (Text → Result X E) → Told → Reading X
+file_read form None = Untold
+file_read form (Some None) = Untold
+file_read form (Some (Some bytes)) = bytes_read form bytes
+
+-- all that is left of the input in a form
+abbrev pub input_read : {X E : Type 0} → (Text → Result X E) → Option Text → Reading X
+input_read form None = Untold
+input_read form (Some bytes) = bytes_read form bytes
+
+-- x may have been read
+abbrev pub MayRead : {X : Type 0} → Reading X → X → Type 0
+MayRead Untold x = ⊤
+MayRead Refused x = ⊥
+MayRead (Read y) x = x ≡ y
+
+-- the reading may be refused
+abbrev pub MayRefuse : {X : Type 0} → Reading X → Type 0
+MayRefuse Untold = ⊤
+MayRefuse Refused = ⊤
+MayRefuse (Read y) = ⊥
+
+-- the reading is not refused, and P holds of what was read
+abbrev pub IfRead : {X : Type 0} → Reading X → (X → Type 0) → Type 0
+IfRead Untold P = ⊤
+IfRead Refused P = ⊥
+IfRead (Read x) P = P x

@@ -1,0 +1,132 @@
+//! The real ends: the files and the standard streams of the system. They tell nothing of what they hold.
+
+ghost use Rattle.std.specs.Prelude.{◌≡◌, ◌≤◌};
+ghost use Rattle.fca_io.specs.Faults.{one_more};
+
+use fca_io::{Failed, Shelf, Sink, Source, Taken, read_all};
+use std::alloc::Global;
+use std::fs;
+use std::io::{Read, Write};
+use std::rt::Files;
+
+/// What is read of the system.
+#[derive(Drop)]
+pub struct StdInput<T> {
+    inner: T,
+    faults: u64,
+}
+
+impl<T> StdInput<T> {
+    pub fn new(inner: T) -> StdInput<T>
+        ensures { result.faults ≡ 0 }
+    {
+        StdInput { inner, faults: 0 }
+    }
+}
+
+impl<T: Read> Source for StdInput<T> {
+    ghost use Rattle.std.specs.Prelude.{None};
+
+    ghost left = { λ _. None };
+
+    ghost faults = { λ s. s.faults };
+
+    ghost beside = { λ _. None };
+
+    ghost faults_beside = { λ _. 0 };
+
+    fn read(&mut self, into: &mut [u8]) -> Result<usize, Failed> {
+        match self.inner.read(into) {
+            Ok(count) => Ok(count),
+            Err(_) => {
+                self.faults = self.faults.saturating_add(1);
+                Err(Failed)
+            }
+        }
+    }
+}
+
+/// What is written to the system. A write that takes nothing is a fault.
+#[derive(Drop)]
+pub struct StdOutput<T> {
+    inner: T,
+    faults: u64,
+}
+
+/// What is written to the error stream of the system.
+pub type StdFault<T> = StdOutput<T>;
+
+impl<T> StdOutput<T> {
+    pub fn new(inner: T) -> StdOutput<T>
+        ensures { result.faults ≡ 0 }
+    {
+        StdOutput { inner, faults: 0 }
+    }
+}
+
+impl<T: Write> Sink for StdOutput<T> {
+    ghost use Rattle.std.specs.Prelude.{None};
+
+    ghost held = { λ _. None };
+
+    ghost faults = { λ s. s.faults };
+
+    ghost beside = { λ _. None };
+
+    ghost faults_beside = { λ _. 0 };
+
+    fn write(&mut self, from: &[u8]) -> Result<usize, Failed> {
+        match self.inner.write(from) {
+            Ok(count) if count > 0 => Ok(count),
+            _ => {
+                self.faults = self.faults.saturating_add(1);
+                Err(Failed)
+            }
+        }
+    }
+}
+
+/// The files of the system.
+#[derive(Drop)]
+pub struct FileShelf<'a, R: Files> {
+    rt: &'a R,
+    faults: u64,
+}
+
+impl<'a, R: Files> FileShelf<'a, R> {
+    pub fn new(rt: &'a R) -> FileShelf<'a, R>
+        ensures { result.faults ≡ 0 }
+    {
+        FileShelf { rt, faults: 0 }
+    }
+
+    fn count_fault(&mut self) -> Taken
+        ensures fault { result ≡ Taken.Failed }
+        ensures counted { self.new.faults ≡ one_more self.old.faults }
+        ensures later { self.old.faults ≤ self.new.faults }
+    {
+        self.faults = self.faults.saturating_add(1);
+        Taken::Failed
+    }
+}
+
+impl<'a, R: Files> Shelf for FileShelf<'a, R> {
+    ghost use Rattle.std.specs.Prelude.{None};
+
+    ghost tells = { λ _ _. None };
+
+    ghost faults = { λ s _. s.faults };
+
+    fn fetch(&mut self, alloc: Global, name: &[u8], limit: usize) -> Result<Vec<u8>, Taken> {
+        let Ok(path) = str::from_utf8(name) else {
+            return Err(self.count_fault());
+        };
+        let Ok(file) = fs::open(self.rt, path) else {
+            return Err(self.count_fault());
+        };
+        match read_all(alloc, &mut StdInput::new(file), limit) {
+            Err(Taken::Failed) => Err(self.count_fault()),
+            taken => taken,
+        }
+    }
+}

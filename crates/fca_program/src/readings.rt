@@ -1,0 +1,86 @@
+//! A file as a table, and the input as a script.
+
+ghost use Rattle.std.specs.Prelude.{◌≡◌, ◌≤◌, ℕ, List, IfOk, IfErr, OnOk, length, true, Result};
+ghost use Rattle.std.specs.List.{list_all};
+ghost use Rattle.std.specs.Io.KnownBytes.{IsAtEnd};
+ghost use Rattle.fca_model.specs.declared.TheConstants.{MAX_ATTRIBUTES, FILE_BYTES};
+ghost use Rattle.fca_io.specs.Faults.{Rose};
+ghost use Rattle.expert_wire.specs.Scripts.{script_form};
+ghost use Rattle.cxt_format.specs.Form.{cxt_form};
+ghost use Rattle.fca_program.specs.Readings.{formed, MayRead};
+ghost use Rattle.fca_program.specs.Outputs.{may_apply, table_read, script_read};
+ghost use Rattle.fca_program.specs.Endings.{stop_status, Stops, taken_status};
+
+use crate::stop::{Origin, Stop};
+use context_table::Table;
+use cxt_format::{CxtFault, read_cxt};
+use expert_wire::{ScriptFault, read_script};
+use explore_state::Event;
+use fca_io::{Shelf, Source, Taken, read_all};
+use fca_model::{FILE_BYTES, Word};
+use std::alloc::Global;
+
+/// Why bytes of this origin were not taken.
+fn not_taken(taken: Taken, origin: Origin) -> Stop
+    ensures { stop_status result ≡ taken_status taken }
+{
+    match taken {
+        Taken::Failed => Stop::Fault(origin),
+        Taken::Long => Stop::TooLong(origin),
+        Taken::Memory => Stop::Memory,
+    }
+}
+
+/// The table in the file of the name.
+pub fn table_under<H: Shelf>(alloc: Global, shelf: &mut H, file: &Word) -> Result<Table, Stop>
+    ensures table { IfOk result (λ table. MayRead (table_read file.now (H.tells shelf.old file.now)) table) }
+    ensures stop { IfErr result (λ stop. Stops (table_read file.now (H.tells shelf.old file.now))
+        (Rose (H.faults shelf.old file.now) (H.faults shelf.new file.now)) (stop_status stop)) }
+{
+    let bytes = match shelf.fetch(alloc, file.bytes(), FILE_BYTES) {
+        Ok(bytes) => bytes,
+        Err(taken) => return Err(not_taken(taken, Origin::File)),
+    };
+    table_of(alloc, &bytes)
+}
+
+/// The table whose form the bytes are.
+fn table_of(alloc: Global, bytes: &[u8]) -> Result<Table, Stop>
+    ensures table { IfOk result (λ table. MayRead (formed (cxt_form bytes.now)) table) }
+    ensures stop { IfErr result (λ stop. Stops (formed (cxt_form bytes.now)) ⊥ (stop_status stop)) }
+{
+    match read_cxt(alloc, bytes) {
+        Ok(table) => Ok(table),
+        Err(CxtFault::Memory) => Err(Stop::Memory),
+        Err(fault) => Err(Stop::NoTable(Origin::File, fault)),
+    }
+}
+
+/// The events of the script on the input, whose rows have width n.
+pub fn script_on<S: Source>(alloc: Global, input: &mut S, n: u32) -> Result<Vec<Event>, Stop>
+    requires { n ≤ MAX_ATTRIBUTES }
+    ensures script { IfOk result (λ events. MayRead (script_read n (S.left input.old)) events.items) }
+    ensures fits { IfOk result (λ events. list_all (may_apply n) events.items ≡ true) }
+    ensures end { OnOk result (IsAtEnd (S.left input.new)) }
+    ensures stop { IfErr result (λ stop. Stops (script_read n (S.left input.old)) (Rose (S.faults input.old) (S.faults input.new)) (stop_status stop)) }
+{
+    let bytes = match read_all(alloc, input, FILE_BYTES) {
+        Ok(bytes) => bytes,
+        Err(taken) => return Err(not_taken(taken, Origin::Input)),
+    };
+    script_of(alloc, &bytes, n)
+}
+
+/// The events of the script that the bytes are.
+fn script_of(alloc: Global, bytes: &[u8], n: u32) -> Result<Vec<Event>, Stop>
+    requires { n ≤ MAX_ATTRIBUTES }
+    ensures script { IfOk result (λ events. MayRead (formed (script_form bytes.now n)) events.items) }
+    ensures fits { IfOk result (λ events. list_all (may_apply n) events.items ≡ true) }
+    ensures stop { IfErr result (λ stop. Stops (formed (script_form bytes.now n)) ⊥ (stop_status stop)) }
+{
+    match read_script(alloc, bytes, n) {
+        Ok(events) => Ok(events),
+        Err(ScriptFault::Memory) => Err(Stop::Memory),
+        Err(fault) => Err(Stop::NoScript(fault)),
+    }
+}

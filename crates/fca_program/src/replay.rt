@@ -1,0 +1,65 @@
+//! The exploration that a script records.
+
+ghost use Rattle.std.specs.Prelude.{◌≡◌, ◌⊎◌, IfOk, IfErr, OnOk, true};
+ghost use Rattle.std.specs.List.{list_all};
+ghost use Rattle.std.specs.Io.KnownBytes.{IsAtEnd};
+ghost use Rattle.fca_io.specs.Faults.{Rose};
+ghost use Rattle.fca_program.specs.Readings.{MayRead, IfRead};
+ghost use Rattle.fca_program.specs.Headline.{IsExplored};
+ghost use Rattle.fca_program.specs.Outputs.{may_apply, replayed, explored, recorded, exploration_output};
+ghost use Rattle.fca_program.specs.Endings.{stop_status, Stops};
+
+use crate::answer::Answer;
+use crate::readings::{script_on, table_under};
+use crate::stop::Stop;
+use basis_report::explore_text;
+use context_table::Table;
+use explore_state::{Event, Explore};
+use fca_io::{Shelf, Source};
+use fca_model::{MAX_EXPERTS, Memory, Word};
+use std::alloc::Global;
+
+/// The exploration of the table in the file by the script on the input.
+pub fn replay<H: Shelf, S: Source>(
+    alloc: Global,
+    shelf: &mut H,
+    input: &mut S,
+    file: &Word,
+) -> Result<Explore, Stop>
+    ensures exploration { IfOk result (λ explore. MayRead (replayed file.now (H.tells shelf.old) (S.left input.old)) (recorded explore)) }
+    ensures explored { OnOk result (IfRead (replayed file.now (H.tells shelf.old) (S.left input.old)) IsExplored) }
+    ensures end { OnOk result (IsAtEnd (S.left input.new)) }
+    ensures stop { IfErr result (λ stop. Stops (replayed file.now (H.tells shelf.old) (S.left input.old))
+        (Rose (H.faults shelf.old file.now) (H.faults shelf.new file.now) ⊎ Rose (S.faults input.old) (S.faults input.new)) (stop_status stop)) }
+{
+    let table = table_under(alloc, shelf, file)?;
+    let events = script_on(alloc, input, table.rows().width())?;
+    match explored(alloc, table, events) {
+        Ok(explore) => Ok(explore),
+        Err(Memory) => Err(Stop::Memory),
+    }
+}
+
+/// The exploration of the table after the events.
+fn explored(alloc: Global, table: Table, events: Vec<Event>) -> Result<Explore, Memory>
+    requires { list_all (may_apply table.context.width) events.items ≡ true }
+    ensures { IfOk result (λ explore. recorded explore ≡ explored table events.items) }
+{
+    let Ok(mut explore) = Explore::open(alloc, table, MAX_EXPERTS) else {
+        return Err(Memory);
+    };
+    for event in events {
+        explore.apply(event)?;
+    }
+    Ok(explore)
+}
+
+/// The text of an exploration.
+pub fn exploration_answer(alloc: Global, explore: &Explore) -> Result<Answer, Memory>
+    ensures { IfOk result (λ answer. answer ≡ exploration_output (recorded explore.now)) }
+{
+    Ok(Answer {
+        text: explore_text(alloc, explore)?,
+        is_open: !explore.open_questions().is_empty(),
+    })
+}

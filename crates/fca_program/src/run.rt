@@ -1,0 +1,127 @@
+//! The top call.
+
+ghost use Rattle.std.specs.Prelude.{◌≡◌, ◌⊎◌, false, Result, Some, IfSome, IfOk, IfErr, OnOk, MatchOption};
+ghost use Rattle.std.specs.Io.KnownBytes.{Appends, IsAtEnd};
+ghost use Rattle.fca_io.specs.Faults.{Rose};
+ghost use Rattle.fca_io.specs.Transfers.{AppendsFront};
+ghost use Rattle.fca_program.specs.Commands.{command_form, reads_input};
+ghost use Rattle.fca_program.specs.Readings.{IfRead, MayRead};
+ghost use Rattle.fca_program.specs.Outputs.{output};
+ghost use Rattle.fca_program.specs.Headline.{HasCourse};
+ghost use Rattle.fca_program.specs.Endings.{Ends, Stops, FaultRose, MayReachEnd, IsWhole, IsSilent, stop_status};
+
+use crate::answer::{Answer, conclude};
+use crate::command::{Command, command_of};
+use crate::replay::{exploration_answer, replay};
+use crate::report::report;
+use crate::stop::Stop;
+use fca_io::{Shelf, Sink, Source};
+use fca_model::{Memory, Word};
+use std::alloc::Global;
+use std::thread::Threads;
+
+/// Runs the command that the words are, and gives the status of the program.
+pub fn run<R: Threads + Sync, H: Shelf, S: Source, K: Sink, E: Sink>(
+    rt: &R,
+    alloc: Global,
+    words: &[Word],
+    shelf: &mut H,
+    input: &mut S,
+    out: &mut K,
+    err: &mut E,
+) -> u8
+    // Which status comes. What the shelf and the input do not tell is not spoken of.
+    ensures status { MatchOption (command_form words.now) ((result ≡ 1) ⊎ (result ≡ 5))
+        (λ command. Ends (output command (H.tells shelf.old) (S.left input.old)) result) }
+    ensures read_fault { result ≡ 3 → IfSome (command_form words.now)
+        (λ command. FaultRose command (H.faults shelf.old) (H.faults shelf.new) (S.faults input.old) (S.faults input.new)) }
+    ensures write_fault { result ≡ 4 → Rose (K.faults out.old) (K.faults out.new) }
+
+    // What out gained.
+    ensures plain_output { IsWhole result → IfSome (command_form words.now) (λ command.
+        IfRead (output command (H.tells shelf.old) (S.left input.old)) (λ o. Appends (K.held out.old) (K.held out.new) o.text)) }
+    ensures partial_output { result ≡ 4 → IfSome (command_form words.now) (λ command.
+        IfRead (output command (H.tells shelf.old) (S.left input.old)) (λ o. AppendsFront (K.held out.old) (K.held out.new) o.text)) }
+    ensures no_output { IsSilent result → out.new ≡ out.old }
+
+    // The questions written as open are the smallest pseudo-intents that are not accepted; where none is, the accepted
+    // implications are the basis of the recorded context.
+    ensures explored { IsWhole result → IfSome (command_form words.now) (λ command. HasCourse command (H.tells shelf.old) (S.left input.old)) }
+
+    // What else was touched.
+    ensures read_to_end { IsWhole result → IfSome (command_form words.now) (λ command. MayReachEnd command (S.left input.new)) }
+    ensures input_kept { IfSome (command_form words.now) (λ command. reads_input command ≡ false → input.new ≡ input.old) }
+    ensures quiet { IsWhole result → err.new ≡ err.old }
+{
+    match command_of(alloc, words) {
+        Ok(Some(command)) => run_plain(rt, alloc, &command, shelf, input, out, err),
+        Ok(None) => stopped(err, &Stop::NoCommand),
+        Err(Memory) => stopped(err, &Stop::Memory),
+    }
+}
+
+/// Tells on err why there was no command to run.
+fn stopped<E: Sink>(err: &mut E, stop: &Stop) -> u8
+    ensures { result ≡ stop_status stop.now }
+{
+    report(err, b"", stop);
+    stop.status()
+}
+
+/// Runs a command that waits for nobody.
+pub fn run_plain<R: Threads + Sync, H: Shelf, S: Source, K: Sink, E: Sink>(
+    _rt: &R,
+    alloc: Global,
+    command: &Command,
+    shelf: &mut H,
+    input: &mut S,
+    out: &mut K,
+    err: &mut E,
+) -> u8
+    // Which status comes.
+    ensures status { Ends (output command.now (H.tells shelf.old) (S.left input.old)) result }
+    ensures read_fault { result ≡ 3 → FaultRose command.now (H.faults shelf.old) (H.faults shelf.new) (S.faults input.old) (S.faults input.new) }
+    ensures write_fault { result ≡ 4 → Rose (K.faults out.old) (K.faults out.new) }
+
+    // What out gained.
+    ensures plain_output { IsWhole result → IfRead (output command.now (H.tells shelf.old) (S.left input.old)) (λ o. Appends (K.held out.old) (K.held out.new) o.text) }
+    ensures partial_output { result ≡ 4 → IfRead (output command.now (H.tells shelf.old) (S.left input.old)) (λ o. AppendsFront (K.held out.old) (K.held out.new) o.text) }
+    ensures no_output { IsSilent result → out.new ≡ out.old }
+
+    // The questions written as open are the smallest pseudo-intents that are not accepted; where none is, the accepted
+    // implications are the basis of the recorded context.
+    ensures explored { IsWhole result → HasCourse command.now (H.tells shelf.old) (S.left input.old) }
+
+    // What else was touched.
+    ensures read_to_end { IsWhole result → MayReachEnd command.now (S.left input.new) }
+    ensures input_kept { reads_input command.now ≡ false → input.new ≡ input.old }
+    ensures quiet { IsWhole result → err.new ≡ err.old }
+{
+    let answer = answer_to(alloc, command, shelf, input);
+    conclude(answer, command.file(), out, err)
+}
+
+/// What the command is to write.
+fn answer_to<H: Shelf, S: Source>(
+    alloc: Global,
+    command: &Command,
+    shelf: &mut H,
+    input: &mut S,
+) -> Result<Answer, Stop>
+    ensures output { IfOk result (λ answer. MayRead (output command.now (H.tells shelf.old) (S.left input.old)) answer) }
+    ensures stop { IfErr result (λ stop. Stops (output command.now (H.tells shelf.old) (S.left input.old))
+        (FaultRose command.now (H.faults shelf.old) (H.faults shelf.new) (S.faults input.old) (S.faults input.new)) (stop_status stop)) }
+    ensures explored { OnOk result (HasCourse command.now (H.tells shelf.old) (S.left input.old)) }
+    ensures end { OnOk result (MayReachEnd command.now (S.left input.new)) }
+    ensures kept { reads_input command.now ≡ false → input.new ≡ input.old }
+{
+    match command {
+        Command::Replay { file } => {
+            let explore = replay(alloc, shelf, input, file)?;
+            match exploration_answer(alloc, &explore) {
+                Ok(answer) => Ok(answer),
+                Err(Memory) => Err(Stop::Memory),
+            }
+        }
+    }
+}

@@ -1,0 +1,40 @@
+//! Why a command stops before it has a text to write.
+
+ghost use Rattle.std.specs.Prelude.{◌≡◌};
+ghost use Rattle.fca_program.specs.Endings.{stop_status};
+
+use cxt_format::CxtFault;
+use expert_wire::ScriptFault;
+
+/// What a command reads.
+#[derive(Clone, Copy)]
+pub enum Origin {
+    /// The file that its words name.
+    File,
+    Input,
+}
+
+/// Why there is no text to write.
+#[derive(Drop)]
+pub enum Stop {
+    NoCommand,
+    TooLong(Origin),
+    NoTable(Origin, CxtFault),
+    NoScript(ScriptFault),
+    Fault(Origin),
+    Memory,
+}
+
+impl Stop {
+    /// The status of the program.
+    pub fn status(&self) -> u8
+        ensures { result ≡ stop_status self.now }
+    {
+        match self {
+            Stop::NoCommand => 1,
+            Stop::TooLong(_) | Stop::NoTable(..) | Stop::NoScript(_) => 2,
+            Stop::Fault(_) => 3,
+            Stop::Memory => 5,
+        }
+    }
+}
