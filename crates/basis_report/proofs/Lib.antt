@@ -1,2 +1,3 @@
 pub mod SpelledLemmas
 pub mod ExplorationLemmas
+pub mod OrderLemmas
