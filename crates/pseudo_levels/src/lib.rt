@@ -48,3 +48,30 @@ fn conclusions(alloc: Global, members: &[Implication]) -> Result<Vec<Attrs>, Mem
 {
     Ok(members.iter().map(|i| i.conclusion).collect(alloc)?)
 }
+
+#[cfg(test)]
+mod tests {
+    use super::basis_by_levels;
+    use attr_bits::Attrs;
+    use derivation::Rows;
+    use fca_model::Memory;
+    use std::rt::HostRuntime;
+
+    // Three attributes, each of one object alone.
+    #[test]
+    fn basis_of_the_nominal_scale(rt: HostRuntime) -> Result<(), Memory> {
+        let none = Attrs::empty(3);
+        let mut rows = Rows::new(rt.alloc(), 3)?;
+        for i in 0..3 {
+            rows.push(none.with(i))?;
+        }
+        let basis = basis_by_levels(&rt, rt.alloc(), &rows)?;
+        let members = basis.as_slice();
+        assert!(&rt; members.len() == 3);
+        assert!(&rt; members[0].premise == none.with(1).with(2));
+        assert!(&rt; members[1].premise == none.with(0).with(2));
+        assert!(&rt; members[2].premise == none.with(0).with(1));
+        assert!(&rt; members[2].conclusion == Attrs::full(3));
+        Ok(())
+    }
+}
