@@ -5,7 +5,7 @@ ghost use Rattle.std.specs.Prelude.{◌≡◌, ◌<◌, ◌≤◌, ◌↔◌, �
 ghost use Rattle.context_table.specs.Table.{IsTable, first_repeat};
 
 use derivation::Rows;
-use fca_model::{MAX_OBJECTS, Memory, Name};
+use fca_model::{MAX_ATTRIBUTES, MAX_OBJECTS, Memory, Name};
 use indexmap::IndexSet;
 use std::alloc::{AllocError, AllocFailed, Global};
 use std::marker::Model;
@@ -170,7 +170,7 @@ impl Table {
 
 /// The names in their order, or the place of the first that stood before.
 fn in_order(alloc: Global, names: Vec<Name>) -> Result<IndexSet<Name>, TableFault>
-    requires { vec_len names ≤ 256 }
+    requires { vec_len names ≤ MAX_ATTRIBUTES }
     ensures names { IfOk result (λ set. set.keys ≡ names.items) }
     ensures few { ¬ IsErrOf result TableFault.TooMany }
     ensures repeated { (i : ℕ) → result ≡ Err (TableFault.DuplicateAttribute i) → first_repeat names.items ≡ Some i }
