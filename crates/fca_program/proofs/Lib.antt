@@ -1,5 +1,4 @@
 pub mod TextLemmas
-pub mod ReadingLemmas
 pub mod ReplayLemmas
 pub mod ScriptLemmas
 pub mod CourseLemmas

@@ -1,5 +1,5 @@
 -- How a call of the program ends: its status, and what it says of the outside.
-use Rattle.std.specs.Prelude.{◌≡◌, ◌⊎◌, ℕ, cond, Option}
+use Rattle.std.specs.Prelude.{◌≡◌, ◌⊎◌, ℕ, cond, Option, ⊤}
 use Rattle.std.specs.Io.KnownBytes.{IsAtEnd}
 use Rattle.fca_model.specs.Tables.{Text}
 use Rattle.fca_io.specs.Faults.{Rose}
@@ -9,7 +9,7 @@ use Rattle.fca_program.specs.Readings.{Reading, MayRefuse}
 use Rattle.fca_program.specs.Readings.Reading.{Untold, Refused, Read}
 use Rattle.fca_program.specs.Outputs.{Output}
 use Rattle.fca_program.specs.declared.command.Command.{Command}
-use Rattle.fca_program.specs.declared.command.Command.TheVariants.{Replay}
+use Rattle.fca_program.specs.declared.command.Command.TheVariants.{Concepts, Lattice, Basis, Convert, Replay}
 use Rattle.fca_program.specs.declared.stop.Stop.{Stop}
 use Rattle.fca_program.specs.declared.stop.Stop.TheVariants.{NoCommand, TooLong, NoTable, NoScript, Fault, Memory}
 
@@ -56,6 +56,10 @@ Ends reading status = Finishes reading status ⊎ IsCutOff status
 
 -- a count of faults rose for a file of the command, or for the input where the command reads it
 abbrev pub FaultRose : Command → (Text → ℕ) → (Text → ℕ) → ℕ → ℕ → Type 0
+FaultRose (Concepts file) files files' input input' = Rose (files file) (files' file)
+FaultRose (Lattice file) files files' input input' = Rose (files file) (files' file)
+FaultRose (Basis file) files files' input input' = Rose (files file) (files' file)
+FaultRose (Convert file to) files files' input input' = Rose (files file) (files' file)
 FaultRose (Replay file) files files' input input' = Rose (files file) (files' file) ⊎ Rose input input'
 
 -- a reading stopped with this status: 2 where it may be refused, 3 where a count of faults rose, or 5
@@ -67,6 +71,7 @@ pub record Stops {X : Type 0} (reading : Reading X) (rose : Type 0) (status : �
 -- an input that the command reads is at its end
 abbrev pub MayReachEnd : Command → Option Text → Type 0
 MayReachEnd (Replay file) left = IsAtEnd left
+MayReachEnd _ left = ⊤
 
 -- the status of a call that had this to write
 abbrev pub EndsAnswer : Output → ℕ → Type 0

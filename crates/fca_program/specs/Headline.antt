@@ -1,5 +1,5 @@
 -- What is promised of an exploration, whatever its events were.
-use Rattle.std.specs.Prelude.{◌≡◌, ◌↔◌, ◌++◌, ◌∷◌, ℕ, List, [], Option}
+use Rattle.std.specs.Prelude.{◌≡◌, ◌↔◌, ◌++◌, ◌∷◌, ℕ, List, [], Option, ⊤}
 use Rattle.fca_model.specs.Implications.{Rule}
 use Rattle.fca_model.specs.Exploration.{SetEntry, SetReply, State, open_in, state_after, events_of, IsLegal}
 use Rattle.fca_model.specs.declared.Event.TheVariants.{Draw}
@@ -29,3 +29,4 @@ pub record IsExplored (r : Recorded) : Type 0 where
 -- where the command explores, this holds of what it recorded
 abbrev pub HasCourse : Command → (Text → Told) → Option Text → Type 0
 HasCourse (Replay file) files input = IfRead (replayed file files input) IsExplored
+HasCourse _ files input = ⊤

@@ -1,19 +1,25 @@
 -- What each command writes.
-use Rattle.std.specs.Prelude.{ℕ, Bool, ◌&&◌, Option, List, [], length, nat_lt}
+use Rattle.std.specs.Prelude.{ℕ, Bool, false, ◌&&◌, Option, List, [], length, nat_lt}
 use Rattle.fca_model.specs.Tables.{Text, NamedContext}
 use Rattle.fca_model.specs.Implications.{Rule}
 use Rattle.fca_model.specs.Questions.{open_questions}
 use Rattle.fca_model.specs.declared.TheConstants.{MAX_EXPERTS}
 use Rattle.fca_model.specs.Exploration.{SetEvent, SetEntry, State, plain, journal_of, state_after, events_of, is_expert, expert_of, has_width}
 use Rattle.fca_io.specs.Shelves.{Told}
+use Rattle.fca_model.specs.Pseudo.{basis, covers}
+use Rattle.lectic_concepts.specs.Concepts.{concepts}
 use Rattle.cxt_format.specs.Form.{cxt_form}
+use Rattle.cxt_format.specs.Written.{cxt_text}
 use Rattle.expert_wire.specs.Scripts.{script_form}
 use Rattle.explore_state.specs.History.{Opening, History, opening_state}
 use Rattle.basis_report.specs.Explorations.{explore_text}
+use Rattle.basis_report.specs.Reports.{concepts_text, lattice_text, basis_text}
 use Rattle.fca_program.specs.Readings.{Reading, then, file_read, input_read}
 use Rattle.fca_program.specs.Readings.Reading.{Read}
 use Rattle.fca_program.specs.declared.command.Command.{Command}
-use Rattle.fca_program.specs.declared.command.Command.TheVariants.{Replay}
+use Rattle.fca_program.specs.declared.command.Command.TheVariants.{Concepts, Lattice, Basis, Convert, Replay}
+use Rattle.fca_program.specs.declared.command.Form.{Form}
+use Rattle.fca_program.specs.declared.command.Form.TheVariants.{Cxt}
 
 -- a text, and whether it leaves a question open
 pub record Output : Type 0 where
@@ -66,6 +72,38 @@ open_at r = open_questions [] (last_state r).context (last_state r).accepted
 abbrev pub exploration_output : Recorded → Output
 exploration_output r = record { text = explore_text r.opening.table r.opening.settings r.journal; is_open = nat_lt 0 (length (open_at r)) }
 
+-- what `replay` writes
+abbrev pub replay_output : Text → (Text → Told) → Option Text → Reading Output
+replay_output file files input = then (replayed file files input) (λ r. Read (exploration_output r))
+
+-- ---- what is written of one table
+
+abbrev pub table_concepts : NamedContext → Text
+table_concepts table = concepts_text table (concepts table.context)
+
+abbrev pub table_lattice : NamedContext → Text
+table_lattice table = lattice_text table (concepts table.context) (covers table.context)
+
+abbrev pub table_basis : NamedContext → Text
+table_basis table = basis_text table.attributes (basis table.context)
+
+abbrev pub table_written : Form → NamedContext → Text
+table_written Cxt table = cxt_text table
+
+-- a text that leaves no question open
+abbrev pub finished : Text → Output
+finished text = record { text = text; is_open = false }
+
+-- what is written of the table in the file
+abbrev pub of_table : (NamedContext → Text) → Text → (Text → Told) → Reading Output
+of_table text file files = then (table_read file (files file)) (λ table. Read (finished (text table)))
+
+-- ---- all commands
+
 -- what the command writes, where the files and the input hold this
 abbrev pub output : Command → (Text → Told) → Option Text → Reading Output
-output (Replay file) files input = then (replayed file files input) (λ r. Read (exploration_output r))
+output (Concepts file) files input = of_table table_concepts file files
+output (Lattice file) files input = of_table table_lattice file files
+output (Basis file) files input = of_table table_basis file files
+output (Convert file to) files input = of_table (table_written to) file files
+output (Replay file) files input = replay_output file files input

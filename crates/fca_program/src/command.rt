@@ -3,14 +3,24 @@
 ghost use Rattle.std.specs.Prelude.{◌≡◌, ◌==◌, ◌∷◌, [], IfOk, MatchOption, bytes_eq, length};
 ghost use Rattle.std.specs.List.{list_all};
 ghost use Rattle.std.specs.Str.{is_utf8};
-ghost use Rattle.fca_program.specs.Commands.{command_form, text_command, file_of};
+ghost use Rattle.fca_program.specs.Commands.{command_form, text_command, form_named, file_of};
 
 use fca_model::{Memory, Word};
 use std::alloc::Global;
 
+/// A form of tables.
+#[derive(Clone, Copy)]
+pub enum Form {
+    Cxt,
+}
+
 /// A command, with what its words name.
 #[derive(Drop)]
 pub enum Command {
+    Concepts { file: Word },
+    Lattice { file: Word },
+    Basis { file: Word },
+    Convert { file: Word, to: Form },
     Replay { file: Word },
 }
 
@@ -20,7 +30,11 @@ impl Command {
         ensures { result.now ≡ file_of self.now }
     {
         match self {
-            Command::Replay { file } => file.bytes(),
+            Command::Concepts { file }
+            | Command::Lattice { file }
+            | Command::Basis { file }
+            | Command::Convert { file, .. }
+            | Command::Replay { file } => file.bytes(),
         }
     }
 }
@@ -34,6 +48,7 @@ pub fn command_of(alloc: Global, words: &[Word]) -> Result<Option<Command>, Memo
     }
     match words {
         [name, file] => file_command(alloc, name, file),
+        [name, file, word] => form_command(alloc, name, file, word),
         _ => Ok(None),
     }
 }
@@ -52,9 +67,46 @@ fn file_command(alloc: Global, name: &Word, file: &Word) -> Result<Option<Comman
         return Ok(None);
     }
     let file = Word::new(alloc, file.bytes())?;
-    if name.bytes() == b"replay".as_slice() {
-        Ok(Some(Command::Replay { file }))
+    let name = name.bytes();
+    Ok(if name == b"concepts".as_slice() {
+        Some(Command::Concepts { file })
+    } else if name == b"lattice".as_slice() {
+        Some(Command::Lattice { file })
+    } else if name == b"basis".as_slice() {
+        Some(Command::Basis { file })
+    } else if name == b"replay".as_slice() {
+        Some(Command::Replay { file })
     } else {
-        Ok(None)
+        None
+    })
+}
+
+/// The command of this name over one file and a word.
+fn form_command(
+    alloc: Global,
+    name: &Word,
+    file: &Word,
+    word: &Word,
+) -> Result<Option<Command>, Memory>
+    ensures { IfOk result (λ command. command ≡ text_command (name.now ∷ file.now ∷ word.now ∷ [])) }
+{
+    if file.bytes().is_empty() || name.bytes() != b"convert".as_slice() {
+        return Ok(None);
+    }
+    let Some(to) = form_named(word.bytes()) else {
+        return Ok(None);
+    };
+    let file = Word::new(alloc, file.bytes())?;
+    Ok(Some(Command::Convert { file, to }))
+}
+
+/// The form that the word names.
+fn form_named(word: &[u8]) -> Option<Form>
+    ensures { result ≡ form_named word.now }
+{
+    if word == b"cxt".as_slice() {
+        Some(Form::Cxt)
+    } else {
+        None
     }
 }

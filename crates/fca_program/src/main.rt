@@ -9,6 +9,7 @@ mod replay;
 mod report;
 mod run;
 mod stop;
+mod tables;
 
 use crate::ends::{FileShelf, StdFault, StdInput, StdOutput};
 use crate::run::run;
@@ -51,3 +52,6 @@ fn words_of(alloc: Global, arguments: Args) -> Result<Vec<Word>, Memory> {
     }
     Ok(words)
 }
+
+#[cfg(test)]
+mod tests;

@@ -6,7 +6,7 @@ ghost use Rattle.std.specs.Io.KnownBytes.{IsAtEnd};
 ghost use Rattle.fca_io.specs.Faults.{Rose};
 ghost use Rattle.fca_program.specs.Readings.{MayRead, IfRead};
 ghost use Rattle.fca_program.specs.Headline.{IsExplored};
-ghost use Rattle.fca_program.specs.Outputs.{may_apply, replayed, explored, recorded, exploration_output};
+ghost use Rattle.fca_program.specs.Outputs.{may_apply, replayed, replay_output, explored, recorded, exploration_output};
 ghost use Rattle.fca_program.specs.Endings.{stop_status, Stops};
 
 use crate::answer::Answer;
@@ -19,8 +19,25 @@ use fca_io::{Shelf, Source};
 use fca_model::{MAX_EXPERTS, Memory, Word};
 use std::alloc::Global;
 
-/// The exploration of the table in the file by the script on the input.
+/// What the exploration of the table in the file comes to, by the script on the input.
 pub fn replay<H: Shelf, S: Source>(
+    alloc: Global,
+    shelf: &mut H,
+    input: &mut S,
+    file: &Word,
+) -> Result<Answer, Stop>
+    ensures output { IfOk result (λ answer. MayRead (replay_output file.now (H.tells shelf.old) (S.left input.old)) answer) }
+    ensures explored { OnOk result (IfRead (replayed file.now (H.tells shelf.old) (S.left input.old)) IsExplored) }
+    ensures end { OnOk result (IsAtEnd (S.left input.new)) }
+    ensures stop { IfErr result (λ stop. Stops (replay_output file.now (H.tells shelf.old) (S.left input.old))
+        (Rose (H.faults shelf.old file.now) (H.faults shelf.new file.now) ⊎ Rose (S.faults input.old) (S.faults input.new)) (stop_status stop)) }
+{
+    let explore = exploration(alloc, shelf, input, file)?;
+    Ok(exploration_answer(alloc, &explore)?)
+}
+
+/// The exploration of the table in the file by the script on the input.
+fn exploration<H: Shelf, S: Source>(
     alloc: Global,
     shelf: &mut H,
     input: &mut S,
@@ -34,10 +51,7 @@ pub fn replay<H: Shelf, S: Source>(
 {
     let table = table_under(alloc, shelf, file)?;
     let events = script_on(alloc, input, table.rows().width())?;
-    match explored(alloc, table, events) {
-        Ok(explore) => Ok(explore),
-        Err(Memory) => Err(Stop::Memory),
-    }
+    Ok(explored(alloc, table, events)?)
 }
 
 /// The exploration of the table after the events.
@@ -55,7 +69,7 @@ fn explored(alloc: Global, table: Table, events: Vec<Event>) -> Result<Explore, 
 }
 
 /// The text of an exploration.
-pub fn exploration_answer(alloc: Global, explore: &Explore) -> Result<Answer, Memory>
+fn exploration_answer(alloc: Global, explore: &Explore) -> Result<Answer, Memory>
     ensures { IfOk result (λ answer. answer ≡ exploration_output (recorded explore.now)) }
 {
     Ok(Answer {

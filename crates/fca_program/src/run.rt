@@ -12,9 +12,10 @@ ghost use Rattle.fca_program.specs.Endings.{Ends, Stops, FaultRose, MayReachEnd,
 
 use crate::answer::{Answer, conclude};
 use crate::command::{Command, command_of};
-use crate::replay::{exploration_answer, replay};
+use crate::replay::replay;
 use crate::report::report;
 use crate::stop::Stop;
+use crate::tables::{basis_of_file, concepts, convert, lattice};
 use fca_io::{Shelf, Sink, Source};
 use fca_model::{Memory, Word};
 use std::alloc::Global;
@@ -70,7 +71,7 @@ fn stopped<E: Sink>(err: &mut E, stop: &Stop) -> u8
 
 /// Runs a command that waits for nobody.
 pub fn run_plain<R: Threads + Sync, H: Shelf, S: Source, K: Sink, E: Sink>(
-    _rt: &R,
+    rt: &R,
     alloc: Global,
     command: &Command,
     shelf: &mut H,
@@ -97,12 +98,13 @@ pub fn run_plain<R: Threads + Sync, H: Shelf, S: Source, K: Sink, E: Sink>(
     ensures input_kept { reads_input command.now ≡ false → input.new ≡ input.old }
     ensures quiet { IsWhole result → err.new ≡ err.old }
 {
-    let answer = answer_to(alloc, command, shelf, input);
+    let answer = answer_to(rt, alloc, command, shelf, input);
     conclude(answer, command.file(), out, err)
 }
 
 /// What the command is to write.
-fn answer_to<H: Shelf, S: Source>(
+fn answer_to<R: Threads + Sync, H: Shelf, S: Source>(
+    rt: &R,
     alloc: Global,
     command: &Command,
     shelf: &mut H,
@@ -116,12 +118,10 @@ fn answer_to<H: Shelf, S: Source>(
     ensures kept { reads_input command.now ≡ false → input.new ≡ input.old }
 {
     match command {
-        Command::Replay { file } => {
-            let explore = replay(alloc, shelf, input, file)?;
-            match exploration_answer(alloc, &explore) {
-                Ok(answer) => Ok(answer),
-                Err(Memory) => Err(Stop::Memory),
-            }
-        }
+        Command::Concepts { file } => concepts(alloc, shelf, file),
+        Command::Lattice { file } => lattice(alloc, shelf, file),
+        Command::Basis { file } => basis_of_file(rt, alloc, shelf, file),
+        Command::Convert { file, to } => convert(alloc, shelf, file, *to),
+        Command::Replay { file } => replay(alloc, shelf, input, file),
     }
 }

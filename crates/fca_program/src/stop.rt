@@ -5,6 +5,7 @@ ghost use Rattle.fca_program.specs.Endings.{stop_status};
 
 use cxt_format::CxtFault;
 use expert_wire::ScriptFault;
+use fca_model::Memory;
 
 /// What a command reads.
 #[derive(Clone, Copy)]
@@ -23,6 +24,16 @@ pub enum Stop {
     NoScript(ScriptFault),
     Fault(Origin),
     Memory,
+}
+
+impl From<Memory> for Stop {
+    ghost use Rattle.fca_program.specs.declared.stop.Stop.TheVariants as stop;
+
+    ghost from_gives = { λ _ s. s ≡ stop.Memory };
+
+    fn from(_memory: Memory) -> Stop {
+        Stop::Memory
+    }
 }
 
 impl Stop {

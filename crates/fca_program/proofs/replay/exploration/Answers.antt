@@ -4,11 +4,11 @@ use Rattle.fca_model.specs.Context.{Context}
 use Rattle.fca_program.specs.Readings.{MayRead}
 use Rattle.fca_program.specs.Outputs.{may_apply, script_read}
 use Rattle.fca_program.proofs.CourseLemmas.{replayed-course}
-use Rattle.fca_program.proofs.replay.replay.Goals as goal
+use Rattle.fca_program.proofs.replay.exploration.Goals as goal
 
 -- what was read is what the shelf and the input told, where they told it
-pub returns-in-Ok-clause-explored : goal.returns-in-Ok-clause-explored
-returns-in-Ok-clause-explored g c =
+pub returns-clause-explored : goal.returns-clause-explored
+returns-clause-explored g c =
     let table = c.in_ok-table.table in
     let events = c.in_ok-events.events.items in
     let left = g.S.Source.left c.args.input.now in

@@ -1,0 +1,329 @@
+//! Whole calls over ends in memory: what each writes, and its status.
+
+use crate::run::run;
+use fca_io::{MemoryShelf, MemorySink, MemorySource};
+use fca_model::{Memory, Word};
+use std::alloc::Global;
+use std::test::Fail;
+use std::thread::Threads;
+
+/// The words of a call, the bytes of the file `F`, the input, the status, and the text: on out at the statuses 0 and 6, on
+/// err at any other.
+type Call = (
+    &'static [&'static [u8]],
+    &'static [u8],
+    &'static [u8],
+    u8,
+    &'static [u8],
+);
+
+/// Two attributes and no objects.
+const TWO: &[u8] = b"B\n\n0\n2\n\na\nb\n";
+
+/// Three attributes, and an object with none of them.
+const THREE: &[u8] = b"B\n\n1\n3\n\no\na\nb\nc\n...\n";
+
+const NO_ATTRIBUTES: &[u8] = b"B\n\n2\n0\n\ng\nh\n\n\n";
+
+const NO_OBJECTS: &[u8] = b"B\n\n0\n3\n\na\nb\nc\n";
+
+const ONE_FULL_ROW: &[u8] = b"B\n\n1\n3\n\ng\na\nb\nc\nXXX\n";
+
+/// A nominal scale.
+const NOMINAL: &[u8] = b"B\n\n3\n3\n\n1\n2\n3\na\nb\nc\nX..\n.X.\n..X\n";
+
+/// A whole exploration of two attributes by two experts.
+const WHOLE: &[u8] =
+    b"exploration 1\ndraw 1\n# ask .. XX {} -> {a, b}\nrow 1 .. p\n# taken 1\ndraw 1\n# ask .X XX {b} -> {a}\ndraw 2\n# ask X. XX {a} -> {b}\nrow 1 .X q\n# taken 2\nconfirm 2\n# accepted 1\ndraw 1\n# done\n# recorded 2\n# 1 .. p\n# 2 .X q\n# accepted 1\n# 1 X. XX {a} -> {b}\n# open 0\n# basis 1\n# 1 {a} -> {b}\n";
+
+const REPLAY: &[&[u8]] = &[b"replay", b"F"];
+
+const CONVERT: &[&[u8]] = &[b"convert", b"F", b"cxt"];
+
+const EXPLORATIONS: [Call; 10] = [
+    (
+        REPLAY,
+        TWO,
+        b"draw 1\nrow 1 .. p\ndraw 1\ndraw 2\nrow 1 .X q\nconfirm 2\ndraw 1\n",
+        0,
+        WHOLE,
+    ),
+    (REPLAY, TWO, WHOLE, 0, WHOLE),
+    (
+        REPLAY,
+        NO_ATTRIBUTES,
+        b"draw 1\n",
+        0,
+        b"exploration 1\ndraw 1\n# done\n# recorded 0\n# accepted 0\n# open 0\n# basis 0\n",
+    ),
+    (
+        REPLAY,
+        ONE_FULL_ROW,
+        b"draw 1\nrow 1 XXX z\n",
+        6,
+        b"exploration 1\ndraw 1\n# ask ... XXX {} -> {a, b, c}\nrow 1 XXX z\n# keeps\n# recorded 0\n# accepted 0\n# open 1\n# ... XXX {} -> {a, b, c}\n",
+    ),
+    (
+        REPLAY,
+        TWO,
+        b"draw 1\ndraw 2\nrow 1 X. p\nconfirm 2\n",
+        6,
+        b"exploration 1\ndraw 1\n# ask .. XX {} -> {a, b}\ndraw 2\n# ask .. XX {} -> {a, b}\nrow 1 X. p\n# taken 1\nconfirm 2\n# refuted 1 X.\n# recorded 1\n# 1 X. p\n# accepted 0\n# open 1\n# .. X. {} -> {a}\n",
+    ),
+    (
+        REPLAY,
+        TWO,
+        b"draw 1\ndraw 2\nrow 1 X. p\nrow 2 .X q\n",
+        6,
+        b"exploration 1\ndraw 1\n# ask .. XX {} -> {a, b}\ndraw 2\n# ask .. XX {} -> {a, b}\nrow 1 X. p\n# taken 1\nrow 2 .X q\n# superseded row 1 X.\n# recorded 1\n# 1 X. p\n# accepted 0\n# open 1\n# .. X. {} -> {a}\n",
+    ),
+    (
+        REPLAY,
+        TWO,
+        b"draw 1\ndraw 2\nconfirm 1\nconfirm 2\n",
+        0,
+        b"exploration 1\ndraw 1\n# ask .. XX {} -> {a, b}\ndraw 2\n# ask .. XX {} -> {a, b}\nconfirm 1\n# accepted 1\nconfirm 2\n# superseded accepted 1 .. XX {} -> {a, b}\n# recorded 0\n# accepted 1\n# 1 .. XX {} -> {a, b}\n# open 0\n# basis 1\n# 1 {} -> {a, b}\n",
+    ),
+    (
+        REPLAY,
+        THREE,
+        b"draw 1\ndraw 2\ndraw 3\nconfirm 3\nrow 2 XX. s\nrow 2 .X. t\n",
+        6,
+        b"exploration 1\ndraw 1\n# ask ..X XXX {c} -> {a, b}\ndraw 2\n# ask .X. XXX {b} -> {a, c}\ndraw 3\n# ask X.. XXX {a} -> {b, c}\nconfirm 3\n# accepted 1\nrow 2 XX. s\n# breaks 1 X.. XXX {a} -> {b, c}\nrow 2 .X. t\n# taken 2\n# recorded 1\n# 2 .X. t\n# accepted 1\n# 1 X.. XXX {a} -> {b, c}\n# open 1\n# ..X XXX {c} -> {a, b}\n",
+    ),
+    (
+        REPLAY,
+        THREE,
+        b"draw 1\nrow 1 XX. s\nrow 1 XXX u\nconfirm 1\nconfirm 1\ndraw 1\nleave 1\nconfirm 1\n",
+        6,
+        b"exploration 1\ndraw 1\n# ask ..X XXX {c} -> {a, b}\nrow 1 XX. s\n# misses 3 c\nrow 1 XXX u\n# keeps\nconfirm 1\n# accepted 1\nconfirm 1\n# not held\ndraw 1\n# ask .X. XXX {b} -> {a, c}\nleave 1\n# left\nconfirm 1\n# not held\n# recorded 0\n# accepted 1\n# 1 ..X XXX {c} -> {a, b}\n# open 2\n# .X. XXX {b} -> {a, c}\n# X.. XXX {a} -> {b, c}\n",
+    ),
+    (
+        REPLAY,
+        TWO,
+        b"",
+        6,
+        b"exploration 1\n# recorded 0\n# accepted 0\n# open 1\n# .. XX {} -> {a, b}\n",
+    ),
+];
+
+const TABLES: [Call; 10] = [
+    (
+        &[b"concepts", b"F"],
+        NO_ATTRIBUTES,
+        b"",
+        0,
+        b"concepts 1\n1 {} | {g, h}\n",
+    ),
+    (&[b"basis", b"F"], NO_ATTRIBUTES, b"", 0, b"basis 0\n"),
+    (CONVERT, NO_ATTRIBUTES, b"", 0, NO_ATTRIBUTES),
+    (
+        &[b"concepts", b"F"],
+        NO_OBJECTS,
+        b"",
+        0,
+        b"concepts 1\n1 {a, b, c} | {}\n",
+    ),
+    (
+        &[b"basis", b"F"],
+        NO_OBJECTS,
+        b"",
+        0,
+        b"basis 1\n1 {} -> {a, b, c}\n",
+    ),
+    (
+        &[b"basis", b"F"],
+        ONE_FULL_ROW,
+        b"",
+        0,
+        b"basis 1\n1 {} -> {a, b, c}\n",
+    ),
+    (
+        &[b"lattice", b"F"],
+        NOMINAL,
+        b"",
+        0,
+        b"concepts 5\n1 {} | {1, 2, 3}\n2 {c} | {3}\n3 {b} | {2}\n4 {a} | {1}\n5 {a, b, c} | {}\ncovers 6\n1 2\n1 3\n1 4\n2 5\n3 5\n4 5\n",
+    ),
+    (
+        &[b"basis", b"F"],
+        NOMINAL,
+        b"",
+        0,
+        b"basis 3\n1 {b, c} -> {a}\n2 {a, c} -> {b}\n3 {a, b} -> {c}\n",
+    ),
+    (
+        CONVERT,
+        b"B\r\n\r\n1\r\n2\r\ng\r\na\r\nb\r\nx.",
+        b"",
+        0,
+        b"B\n\n1\n2\n\ng\na\nb\nX.\n",
+    ),
+    (
+        CONVERT,
+        b"B\n\n1\n2\n\ng\na\nb\n\nX.\n",
+        b"",
+        0,
+        b"B\n\n1\n2\n\ng\na\nb\nX.\n",
+    ),
+];
+
+const REFUSALS: [Call; 14] = [
+    (
+        CONVERT,
+        b"B\n\n2\n2\n\ng\nh\na\nb\nX.\n",
+        b"",
+        2,
+        b"fca: F: line 11: ended\n",
+    ),
+    (
+        CONVERT,
+        b"B\n\n2\n2\n\ng\nh\na\nb\nX\n.X\n",
+        b"",
+        2,
+        b"fca: F: line 10: bad row\n",
+    ),
+    (
+        CONVERT,
+        b"B\n\n2\n2\n\ng\nh\na\nb\nX.\n.X\ntail\n",
+        b"",
+        2,
+        b"fca: F: line 12: trailing text\n",
+    ),
+    (
+        CONVERT,
+        b"B\n\n2\n2\n\ng\nh\na\na\nX.\n.X\n",
+        b"",
+        2,
+        b"fca: F: line 9: duplicate attribute\n",
+    ),
+    (
+        CONVERT,
+        b"B\n\ntwo\n2\n\ng\nh\na\nb\nX.\n.X\n",
+        b"",
+        2,
+        b"fca: F: line 3: bad count\n",
+    ),
+    (CONVERT, b"", b"", 2, b"fca: F: line 1: ended\n"),
+    (
+        REPLAY,
+        TWO,
+        b"drew 1\n",
+        2,
+        b"fca: input: line 1: bad line\n",
+    ),
+    (
+        REPLAY,
+        TWO,
+        b"draw 65\n",
+        2,
+        b"fca: input: line 1: bad expert\n",
+    ),
+    (
+        REPLAY,
+        TWO,
+        b"row 1 X p\n",
+        2,
+        b"fca: input: line 1: bad width\n",
+    ),
+    (
+        REPLAY,
+        TWO,
+        b"exploration 2\n",
+        2,
+        b"fca: input: line 1: bad line\n",
+    ),
+    (
+        &[b"concepts", b"nofile"],
+        TWO,
+        b"",
+        3,
+        b"fca: nofile: read fault\n",
+    ),
+    (&[], TWO, b"", 1, b"fca: no such command\n"),
+    (&[b"concepts"], TWO, b"", 1, b"fca: no such command\n"),
+    (
+        &[b"make", b"0", b"2", b"2", b"9"],
+        TWO,
+        b"",
+        1,
+        b"fca: no such command\n",
+    ),
+];
+
+/// What a call left: its status, out and err.
+#[derive(Drop)]
+struct Called {
+    status: u8,
+    out: MemorySink,
+    err: MemorySink,
+}
+
+/// The words as they come from the command line.
+fn words_of(alloc: Global, words: &[&[u8]]) -> Result<Vec<Word>, Memory> {
+    let mut list = Vec::new(alloc);
+    for bytes in words {
+        let word = Word::new(alloc, bytes)?;
+        if list.push(word).is_err() {
+            return Err(Memory);
+        }
+    }
+    Ok(list)
+}
+
+/// Runs one call over ends in memory that move seven bytes at a time, and of which these calls fail.
+fn call<R: Threads + Sync>(
+    rt: &R,
+    alloc: Global,
+    call: &Call,
+    input_fails: &[usize],
+    out_fails: &[usize],
+) -> Result<Called, Memory> {
+    let (words, file, bytes, _, _) = *call;
+    let words = words_of(alloc, words)?;
+    let mut shelf = MemoryShelf::new(alloc, &[])?;
+    shelf.put(b"F", file)?;
+    let mut input = MemorySource::new(alloc, bytes, input_fails, 7)?;
+    let mut out = MemorySink::new(alloc, 1000, out_fails, 10)?;
+    let mut err = MemorySink::new(alloc, 100, &[], 7)?;
+    let status = run(
+        rt, alloc, &words, &mut shelf, &mut input, &mut out, &mut err,
+    );
+    Ok(Called { status, out, err })
+}
+
+#[test]
+fn calls_write_their_texts(rt: HostRuntime) -> Result<(), Fail> {
+    for row in EXPLORATIONS.iter().chain(TABLES.iter()) {
+        let called = call(&rt, rt.alloc(), row, &[], &[])?;
+        assert_eq!(rt; called.out.written(), row.4);
+        assert_eq!(rt; called.status, row.3);
+        assert_eq!(rt; called.err.written().len(), 0);
+    }
+    Ok(())
+}
+
+#[test]
+fn refused_calls_say_why(rt: HostRuntime) -> Result<(), Fail> {
+    for row in &REFUSALS {
+        let called = call(&rt, rt.alloc(), row, &[], &[])?;
+        assert_eq!(rt; called.err.written(), row.4);
+        assert_eq!(rt; called.status, row.3);
+        assert_eq!(rt; called.out.written().len(), 0);
+    }
+    Ok(())
+}
+
+#[test]
+fn failing_ends_are_told(rt: HostRuntime) -> Result<(), Fail> {
+    let unread = call(&rt, rt.alloc(), &EXPLORATIONS[0], &[1], &[])?;
+    assert_eq!(rt; unread.status, 3);
+    assert_eq!(rt;
+        unread.err.written(),
+        b"fca: input: read fault\n".as_slice()
+    );
+    let cut = call(&rt, rt.alloc(), &TABLES[6], &[], &[2])?;
+    assert_eq!(rt; cut.status, 4);
+    assert_eq!(rt; cut.out.written(), b"concepts 5".as_slice());
+    Ok(())
+}
