@@ -40,7 +40,7 @@ const REPLAY: &[&[u8]] = &[b"replay", b"F"];
 
 const CONVERT: &[&[u8]] = &[b"convert", b"F", b"cxt"];
 
-const EXPLORATIONS: [Call; 10] = [
+const EXPLORATIONS: [Call; 11] = [
     (
         REPLAY,
         TWO,
@@ -97,6 +97,13 @@ const EXPLORATIONS: [Call; 10] = [
         b"draw 1\nrow 1 XX. s\nrow 1 XXX u\nconfirm 1\nconfirm 1\ndraw 1\nleave 1\nconfirm 1\n",
         6,
         b"exploration 1\ndraw 1\n# ask ..X XXX {c} -> {a, b}\nrow 1 XX. s\n# misses 3 c\nrow 1 XXX u\n# keeps\nconfirm 1\n# accepted 1\nconfirm 1\n# not held\ndraw 1\n# ask .X. XXX {b} -> {a, c}\nleave 1\n# left\nconfirm 1\n# not held\n# recorded 0\n# accepted 1\n# 1 ..X XXX {c} -> {a, b}\n# open 2\n# .X. XXX {b} -> {a, c}\n# X.. XXX {a} -> {b, c}\n",
+    ),
+    (
+        REPLAY,
+        THREE,
+        b"draw 1\nconfirm 1\ndraw 1\nrow 1 .XX u\nrow 1 .X. t\n",
+        6,
+        b"exploration 1\ndraw 1\n# ask ..X XXX {c} -> {a, b}\nconfirm 1\n# accepted 1\ndraw 1\n# ask .X. XXX {b} -> {a, c}\nrow 1 .XX u\n# breaks 1 ..X XXX {c} -> {a, b}\nrow 1 .X. t\n# taken 2\n# recorded 1\n# 2 .X. t\n# accepted 1\n# 1 ..X XXX {c} -> {a, b}\n# open 1\n# X.. XXX {a} -> {b, c}\n",
     ),
     (
         REPLAY,
@@ -271,7 +278,7 @@ fn words_of(alloc: Global, words: &[&[u8]]) -> Result<Vec<Word>, Memory> {
     Ok(list)
 }
 
-/// Runs one call over ends in memory that move seven bytes at a time, and of which these calls fail.
+/// Runs one call over ends in memory that move a few bytes at a time, and of which these calls fail.
 fn call<R: Threads + Sync>(
     rt: &R,
     alloc: Global,
@@ -280,16 +287,91 @@ fn call<R: Threads + Sync>(
     out_fails: &[usize],
 ) -> Result<Called, Memory> {
     let (words, file, bytes, _, _) = *call;
+    called(rt, alloc, words, file, bytes, 1000, input_fails, out_fails)
+}
+
+/// The same of these words, with room for so many bytes on out.
+fn called<R: Threads + Sync>(
+    rt: &R,
+    alloc: Global,
+    words: &[&[u8]],
+    file: &[u8],
+    bytes: &[u8],
+    room: usize,
+    input_fails: &[usize],
+    out_fails: &[usize],
+) -> Result<Called, Memory> {
     let words = words_of(alloc, words)?;
     let mut shelf = MemoryShelf::new(alloc, &[])?;
     shelf.put(b"F", file)?;
     let mut input = MemorySource::new(alloc, bytes, input_fails, 7)?;
-    let mut out = MemorySink::new(alloc, 1000, out_fails, 10)?;
+    let mut out = MemorySink::new(alloc, room, out_fails, 10)?;
     let mut err = MemorySink::new(alloc, 100, &[], 7)?;
     let status = run(
         rt, alloc, &words, &mut shelf, &mut input, &mut out, &mut err,
     );
     Ok(Called { status, out, err })
+}
+
+/// Puts so many of the byte behind the text.
+fn repeat(text: &mut Vec<u8>, byte: u8, count: usize) -> Result<(), Memory> {
+    for _ in 0..count {
+        text.push(byte)?;
+    }
+    Ok(())
+}
+
+/// A table of 256 attributes whose one object has the last alone.
+fn wide_table(alloc: Global) -> Result<Vec<u8>, Memory> {
+    let mut text = Vec::new(alloc);
+    text.extend_from_slice(b"B\n\n1\n256\n\ng\n")?;
+    for i in 1..257u32 {
+        let line = format!(in alloc; "m{i}\n")?;
+        text.extend_from_slice(line.as_bytes())?;
+    }
+    repeat(&mut text, b'.', 255)?;
+    text.extend_from_slice(b"X\n")?;
+    Ok(text)
+}
+
+/// The question from the empty set in that table.
+fn first_question(text: &mut Vec<u8>) -> Result<(), Memory> {
+    repeat(text, b'.', 256)?;
+    text.push(b' ')?;
+    repeat(text, b'.', 255)?;
+    text.extend_from_slice(b"X {} -> {m256}\n")?;
+    Ok(())
+}
+
+/// What is written of that table up to the open questions, where the first question was confirmed and the second asked.
+fn wide_text(alloc: Global) -> Result<Vec<u8>, Memory> {
+    let mut text = Vec::new(alloc);
+    text.extend_from_slice(b"exploration 1\ndraw 1\n# ask ")?;
+    first_question(&mut text)?;
+    text.extend_from_slice(b"confirm 1\n# accepted 1\ndraw 1\n# ask ")?;
+    repeat(&mut text, b'.', 254)?;
+    text.extend_from_slice(b"XX ")?;
+    repeat(&mut text, b'X', 256)?;
+    text.extend_from_slice(b" {m255, m256} -> {m1")?;
+    for i in 2..255u32 {
+        let name = format!(in alloc; ", m{i}")?;
+        text.extend_from_slice(name.as_bytes())?;
+    }
+    text.extend_from_slice(b"}\n# recorded 0\n# accepted 1\n# 1 ")?;
+    first_question(&mut text)?;
+    text.extend_from_slice(b"# open 255\n")?;
+    Ok(text)
+}
+
+#[test]
+fn explores_256_attributes(rt: HostRuntime) -> Result<(), Fail> {
+    let file = wide_table(rt.alloc())?;
+    let text = wide_text(rt.alloc())?;
+    let script = b"draw 1\nconfirm 1\ndraw 1\n".as_slice();
+    let called = called(&rt, rt.alloc(), REPLAY, &file, script, 1_000_000, &[], &[])?;
+    assert_eq!(rt; called.status, 6);
+    assert!(&rt; called.out.written().starts_with(&text));
+    Ok(())
 }
 
 #[test]
