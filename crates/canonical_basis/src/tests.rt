@@ -49,7 +49,7 @@ fn basis_of_living_beings(rt: HostRuntime) -> Result<(), Memory> {
     let mut rows = Rows::new(rt.alloc(), 9)?;
     for being in BEINGS {
         let row = set(being);
-        assert!(&rt; row.width() == 9);
+        assert!(&rt; row.width() == rows.width());
         rows.push(row)?;
     }
     let found = basis(&rt, rt.alloc(), &rows)?;
@@ -58,10 +58,13 @@ fn basis_of_living_beings(rt: HostRuntime) -> Result<(), Memory> {
         assert!(&rt; member.premise == set(wanted.0));
         assert!(&rt; member.conclusion.minus(&member.premise) == set(wanted.1));
     }
-    let steps = derive(rt.alloc(), &found, &set(&[8]), &set(&[6]))?;
+    let suckles = set(&[8]);
+    let moves = set(&[6]);
+    assert!(&rt; suckles.width() == found.width() && moves.width() == found.width());
+    let steps = derive(rt.alloc(), &found, &suckles, &moves)?;
     assert!(&rt; matches!(&steps, Some(steps) if steps.as_slice() == [0, 1].as_slice()));
     let alone = Derivation::new(rt.alloc(), &[1])?;
-    assert!(&rt; !check(&found, &set(&[8]), &set(&[6]), &alone));
+    assert!(&rt; !check(&found, &suckles, &moves, &alone));
     Ok(())
 }
 

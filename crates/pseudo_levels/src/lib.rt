@@ -62,9 +62,9 @@ mod tests {
     fn basis_of_the_nominal_scale(rt: HostRuntime) -> Result<(), Memory> {
         let none = Attrs::empty(3);
         let mut rows = Rows::new(rt.alloc(), 3)?;
-        for i in 0..3 {
-            rows.push(none.with(i))?;
-        }
+        rows.push(none.with(0))?;
+        rows.push(none.with(1))?;
+        rows.push(none.with(2))?;
         let basis = basis_by_levels(&rt, rt.alloc(), &rows)?;
         let members = basis.as_slice();
         assert!(&rt; members.len() == 3);
