@@ -99,7 +99,7 @@ mod tests {
 
     /// The rows of a table over the attributes a and b whose one object has a.
     fn one_row(alloc: Global) -> Result<Rows, Memory> {
-        let mut rows = Rows::new(alloc, 2);
+        let mut rows = Rows::new(alloc, 2)?;
         rows.push(Attrs::empty(2).with(0))?;
         Ok(rows)
     }
