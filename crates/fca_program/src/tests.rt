@@ -287,11 +287,11 @@ fn call<R: Threads + Sync>(
     out_fails: &[usize],
 ) -> Result<Called, Memory> {
     let (words, file, bytes, _, _) = *call;
-    called(rt, alloc, words, file, bytes, 1000, input_fails, out_fails)
+    outcome(rt, alloc, words, file, bytes, 1000, input_fails, out_fails)
 }
 
 /// The same of these words, with room for so many bytes on out.
-fn called<R: Threads + Sync>(
+fn outcome<R: Threads + Sync>(
     rt: &R,
     alloc: Global,
     words: &[&[u8]],
@@ -368,7 +368,7 @@ fn explores_256_attributes(rt: HostRuntime) -> Result<(), Fail> {
     let file = wide_table(rt.alloc())?;
     let text = wide_text(rt.alloc())?;
     let script = b"draw 1\nconfirm 1\ndraw 1\n".as_slice();
-    let called = called(&rt, rt.alloc(), REPLAY, &file, script, 1_000_000, &[], &[])?;
+    let called = outcome(&rt, rt.alloc(), REPLAY, &file, script, 1_000_000, &[], &[])?;
     assert_eq!(rt; called.status, 6);
     assert!(&rt; called.out.written().starts_with(&text));
     Ok(())
