@@ -52,7 +52,7 @@ fn without_blanks_after(line: &[u8]) -> &[u8]
 }
 
 /// The line without the blanks at its ends.
-fn trimmed(line: &[u8]) -> &[u8]
+pub fn trimmed(line: &[u8]) -> &[u8]
     ensures { result.now ≡ form.trimmed line.now }
 {
     without_blanks_after(without_blanks_before(line))
