@@ -1,0 +1,4 @@
+pub mod MoveLemmas
+pub mod LineLemmas
+pub mod CourseLemmas
+pub mod TalkLemmas

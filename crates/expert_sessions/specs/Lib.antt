@@ -1,0 +1,4 @@
+pub mod Lines
+pub mod Talks
+pub mod Moves
+pub mod Courses
