@@ -1,0 +1,3 @@
+pub mod PassLemmas
+pub mod AttendLemmas
+pub mod SeatLemmas
