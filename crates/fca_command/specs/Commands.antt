@@ -1,45 +1,35 @@
 -- The commands, word by word: exactly these lists of words are commands.
-use Rattle.std.specs.Prelude.{ℕ, Bool, true, false, not, ◌&&◌, cond, Option, Some, None, List, [], ◌∷◌, option_map, option_and_then, bytes_eq, codes}
+use Rattle.std.specs.Prelude.{cond, Option, Some, None, List, [], ◌∷◌, option_map, bytes_eq, codes}
 use Rattle.std.specs.List.{list_all}
 use Rattle.std.specs.Str.{is_utf8}
 use Rattle.fca_model.specs.Tables.{Text}
-use Rattle.fca_command.specs.Experts.{experts_said, count_said}
 use Rattle.fca_command.specs.declared.command.Form.{Form}
-use Rattle.fca_command.specs.declared.command.Form.TheVariants.{Cxt, Csv}
+use Rattle.fca_command.specs.declared.command.Form.TheVariants.{Cxt}
 use Rattle.fca_command.specs.declared.command.Command.{Command}
-use Rattle.fca_command.specs.declared.command.Command.TheVariants.{Concepts, Lattice, Basis, Follows, Convert, Replay, Explore, Serve}
+use Rattle.fca_command.specs.declared.command.Command.TheVariants.{Concepts, Lattice, Basis, Convert, Replay}
 
 -- ---- the words behind a command's file
 
--- no word, or `--json`
-abbrev pub json_said : List Text → Option Bool
-json_said [] = Some false
-json_said (word ∷ []) = cond (bytes_eq word (codes "--json")) (Some true) None
-json_said _ = None
-
--- `concepts F`, `concepts F --json`
+-- `concepts F`
 abbrev pub concepts_command : Text → List Text → Option Command
-concepts_command file later = option_map (λ json. Concepts file json) (json_said later)
+concepts_command file [] = Some (Concepts file)
+concepts_command file _ = None
 
 -- `lattice F`
 abbrev pub lattice_command : Text → List Text → Option Command
 lattice_command file [] = Some (Lattice file)
 lattice_command file _ = None
 
--- `basis F`, `basis F --json`
+-- `basis F`
 abbrev pub basis_command : Text → List Text → Option Command
-basis_command file later = option_map (λ json. Basis file json) (json_said later)
-
--- `follows F A B`
-abbrev pub follows_command : Text → List Text → Option Command
-follows_command file (premise ∷ conclusion ∷ []) = Some (Follows file premise conclusion)
-follows_command file _ = None
+basis_command file [] = Some (Basis file)
+basis_command file _ = None
 
 -- the form of a table that a word names
 abbrev pub form_named : Text → Option Form
-form_named word = cond (bytes_eq word (codes "cxt")) (Some Cxt) (cond (bytes_eq word (codes "csv")) (Some Csv) None)
+form_named word = cond (bytes_eq word (codes "cxt")) (Some Cxt) None
 
--- `convert F cxt`, `convert F csv`
+-- `convert F cxt`
 abbrev pub convert_command : Text → List Text → Option Command
 convert_command file (word ∷ []) = option_map (λ to. Convert file to) (form_named word)
 convert_command file _ = None
@@ -48,17 +38,6 @@ convert_command file _ = None
 abbrev pub replay_command : Text → List Text → Option Command
 replay_command file [] = Some (Replay file)
 replay_command file _ = None
-
--- `explore F --expert G ..`
-abbrev pub explore_command : Text → List Text → Option Command
-explore_command file later = option_map (λ experts. Explore file experts) (experts_said later)
-
--- `serve F --experts N --listen A`
-abbrev pub serve_command : Text → List Text → Option Command
-serve_command file (flag ∷ experts ∷ flag' ∷ listen ∷ []) =
-    cond (bytes_eq flag (codes "--experts") && (bytes_eq flag' (codes "--listen") && not (bytes_eq listen [])))
-    (option_map (λ count. Serve file count listen) (count_said experts)) None
-serve_command file _ = None
 
 -- ---- all commands
 
@@ -69,11 +48,8 @@ named_command name file later =
     (cond (bytes_eq name (codes "concepts")) (concepts_command file later)
     (cond (bytes_eq name (codes "lattice")) (lattice_command file later)
     (cond (bytes_eq name (codes "basis")) (basis_command file later)
-    (cond (bytes_eq name (codes "follows")) (follows_command file later)
     (cond (bytes_eq name (codes "convert")) (convert_command file later)
-    (cond (bytes_eq name (codes "replay")) (replay_command file later)
-    (cond (bytes_eq name (codes "explore")) (explore_command file later)
-    (cond (bytes_eq name (codes "serve")) (serve_command file later) None))))))))
+    (cond (bytes_eq name (codes "replay")) (replay_command file later) None)))))
 
 abbrev pub text_command : List Text → Option Command
 text_command (name ∷ file ∷ later) = named_command name file later
@@ -85,11 +61,8 @@ command_form words = cond (list_all is_utf8 words) (text_command words) None
 
 -- the file that the command reads first
 abbrev pub file_of : Command → Text
-file_of (Concepts file json) = file
+file_of (Concepts file) = file
 file_of (Lattice file) = file
-file_of (Basis file json) = file
-file_of (Follows file premise conclusion) = file
+file_of (Basis file) = file
 file_of (Convert file to) = file
 file_of (Replay file) = file
-file_of (Explore file experts) = file
-file_of (Serve file experts listen) = file

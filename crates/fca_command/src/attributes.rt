@@ -14,7 +14,11 @@ pub fn attributes_said(table: &Table, word: &[u8]) -> Option<Attrs>
     ensures { result ≡ attributes_said table.now.attributes word.now }
 {
     let mut said = Attrs::empty(table.rows().width());
-    let mut rest = if is_blank_line(word) { None } else { Some(word) };
+    let mut rest = if is_blank_line(word) {
+        None
+    } else {
+        Some(word)
+    };
     while let Some(text) = rest {
         let (item, later) = split_item(text);
         let place = place_of(table, trimmed(item))?;

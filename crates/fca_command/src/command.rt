@@ -3,10 +3,8 @@
 ghost use Rattle.std.specs.Prelude.{◌≡◌, IfOk};
 ghost use Rattle.std.specs.List.{list_all};
 ghost use Rattle.std.specs.Str.{is_utf8};
-ghost use Rattle.fca_command.specs.Commands.{command_form, text_command, named_command, concepts_command, lattice_command, basis_command, json_said, follows_command, convert_command, form_named, replay_command, explore_command, serve_command, file_of};
+ghost use Rattle.fca_command.specs.Commands.{command_form, text_command, named_command, concepts_command, lattice_command, basis_command, convert_command, form_named, replay_command, file_of};
 
-use crate::experts::{count_said, experts_said};
-use crate::words::Words;
 use fca_model::{Memory, Word};
 use std::alloc::Global;
 
@@ -14,44 +12,16 @@ use std::alloc::Global;
 #[derive(Clone, Copy)]
 pub enum Form {
     Cxt,
-    Csv,
 }
 
 /// A command, with what its words name.
 #[derive(Drop)]
 pub enum Command {
-    Concepts {
-        file: Word,
-        json: bool,
-    },
-    Lattice {
-        file: Word,
-    },
-    Basis {
-        file: Word,
-        json: bool,
-    },
-    Follows {
-        file: Word,
-        premise: Word,
-        conclusion: Word,
-    },
-    Convert {
-        file: Word,
-        to: Form,
-    },
-    Replay {
-        file: Word,
-    },
-    Explore {
-        file: Word,
-        experts: Words,
-    },
-    Serve {
-        file: Word,
-        experts: u8,
-        listen: Word,
-    },
+    Concepts { file: Word },
+    Lattice { file: Word },
+    Basis { file: Word },
+    Convert { file: Word, to: Form },
+    Replay { file: Word },
 }
 
 impl Command {
@@ -60,14 +30,11 @@ impl Command {
         ensures { result.now ≡ file_of self.now }
     {
         match self {
-            Command::Concepts { file, .. }
+            Command::Concepts { file }
             | Command::Lattice { file }
-            | Command::Basis { file, .. }
-            | Command::Follows { file, .. }
+            | Command::Basis { file }
             | Command::Convert { file, .. }
-            | Command::Replay { file }
-            | Command::Explore { file, .. }
-            | Command::Serve { file, .. } => file.bytes(),
+            | Command::Replay { file } => file.bytes(),
         }
     }
 }
@@ -123,16 +90,10 @@ fn named_command(
         Ok(lattice_command(file, later))
     } else if name == b"basis".as_slice() {
         Ok(basis_command(file, later))
-    } else if name == b"follows".as_slice() {
-        follows_command(alloc, file, later)
     } else if name == b"convert".as_slice() {
         Ok(convert_command(file, later))
     } else if name == b"replay".as_slice() {
         Ok(replay_command(file, later))
-    } else if name == b"explore".as_slice() {
-        explore_command(alloc, file, later)
-    } else if name == b"serve".as_slice() {
-        serve_command(alloc, file, later)
     } else {
         Ok(None)
     }
@@ -141,8 +102,10 @@ fn named_command(
 fn concepts_command(file: Word, later: &[Word]) -> Option<Command>
     ensures { result ≡ concepts_command file later.now }
 {
-    let json = json_said(later)?;
-    Some(Command::Concepts { file, json })
+    match later {
+        [] => Some(Command::Concepts { file }),
+        _ => None,
+    }
 }
 
 fn lattice_command(file: Word, later: &[Word]) -> Option<Command>
@@ -157,34 +120,10 @@ fn lattice_command(file: Word, later: &[Word]) -> Option<Command>
 fn basis_command(file: Word, later: &[Word]) -> Option<Command>
     ensures { result ≡ basis_command file later.now }
 {
-    let json = json_said(later)?;
-    Some(Command::Basis { file, json })
-}
-
-/// Whether the words ask for JSON: one word does, and no word does not.
-fn json_said(words: &[Word]) -> Option<bool>
-    ensures { result ≡ json_said words.now }
-{
-    match words {
-        [] => Some(false),
-        [word] if word.bytes() == b"--json".as_slice() => Some(true),
+    match later {
+        [] => Some(Command::Basis { file }),
         _ => None,
     }
-}
-
-fn follows_command(alloc: Global, file: Word, later: &[Word]) -> Result<Option<Command>, Memory>
-    ensures { IfOk result (λ command. command ≡ follows_command file later.now) }
-{
-    let [premise, conclusion] = later else {
-        return Ok(None);
-    };
-    let premise = Word::new(alloc, premise.bytes())?;
-    let conclusion = Word::new(alloc, conclusion.bytes())?;
-    Ok(Some(Command::Follows {
-        file,
-        premise,
-        conclusion,
-    }))
 }
 
 fn convert_command(file: Word, later: &[Word]) -> Option<Command>
@@ -203,8 +142,6 @@ fn form_named(word: &[u8]) -> Option<Form>
 {
     if word == b"cxt".as_slice() {
         Some(Form::Cxt)
-    } else if word == b"csv".as_slice() {
-        Some(Form::Csv)
     } else {
         None
     }
@@ -217,36 +154,4 @@ fn replay_command(file: Word, later: &[Word]) -> Option<Command>
         [] => Some(Command::Replay { file }),
         _ => None,
     }
-}
-
-fn explore_command(alloc: Global, file: Word, later: &[Word]) -> Result<Option<Command>, Memory>
-    ensures { IfOk result (λ command. command ≡ explore_command file later.now) }
-{
-    match experts_said(alloc, later)? {
-        Some(experts) => Ok(Some(Command::Explore { file, experts })),
-        None => Ok(None),
-    }
-}
-
-fn serve_command(alloc: Global, file: Word, later: &[Word]) -> Result<Option<Command>, Memory>
-    ensures { IfOk result (λ command. command ≡ serve_command file later.now) }
-{
-    let [experts_flag, experts, listen_flag, listen] = later else {
-        return Ok(None);
-    };
-    if experts_flag.bytes() != b"--experts".as_slice()
-        || listen_flag.bytes() != b"--listen".as_slice()
-        || listen.bytes().is_empty()
-    {
-        return Ok(None);
-    }
-    let Some(experts) = count_said(experts.bytes()) else {
-        return Ok(None);
-    };
-    let listen = Word::new(alloc, listen.bytes())?;
-    Ok(Some(Command::Serve {
-        file,
-        experts,
-        listen,
-    }))
 }

@@ -1,5 +1,5 @@
 -- How a call of the program ends: its status, and what it says of the outside.
-use Rattle.std.specs.Prelude.{◌≡◌, ◌⊎◌, ℕ, cond, Option, ⊤}
+use Rattle.std.specs.Prelude.{◌≡◌, ◌⊎◌, ℕ, Bool, true, false, cond, Option, ⊤}
 use Rattle.std.specs.Io.KnownBytes.{IsAtEnd}
 use Rattle.fca_model.specs.Tables.{Text}
 use Rattle.fca_io.specs.Faults.{Rose}
@@ -8,8 +8,8 @@ use Rattle.fca_io.specs.declared.outside.Taken.TheVariants as taken
 use Rattle.fca_program.specs.Readings.{Reading, MayRefuse}
 use Rattle.fca_program.specs.Readings.Reading.{Untold, Refused, Read}
 use Rattle.fca_program.specs.Outputs.{Output}
-use Rattle.fca_program.specs.declared.command.Command.{Command}
-use Rattle.fca_program.specs.declared.command.Command.TheVariants.{Concepts, Lattice, Basis, Convert, Replay}
+use Rattle.fca_command.specs.declared.command.Command.{Command}
+use Rattle.fca_command.specs.declared.command.Command.TheVariants.{Concepts, Lattice, Basis, Convert, Replay}
 use Rattle.fca_program.specs.declared.stop.Stop.{Stop}
 use Rattle.fca_program.specs.declared.stop.Stop.TheVariants.{NoCommand, TooLong, NoTable, NoScript, Fault, Memory}
 
@@ -53,6 +53,11 @@ Finishes (Read o) status = status ≡ whole_status o
 -- the status of a call whose command was to write this
 abbrev pub Ends : Reading Output → ℕ → Type 0
 Ends reading status = Finishes reading status ⊎ IsCutOff status
+
+-- whether the command reads the input
+abbrev pub reads_input : Command → Bool
+reads_input (Replay file) = true
+reads_input _ = false
 
 -- a count of faults rose for a file of the command, or for the input where the command reads it
 abbrev pub FaultRose : Command → (Text → ℕ) → (Text → ℕ) → ℕ → ℕ → Type 0

@@ -16,10 +16,10 @@ use Rattle.basis_report.specs.Explorations.{explore_text}
 use Rattle.basis_report.specs.Reports.{concepts_text, lattice_text, basis_text}
 use Rattle.fca_program.specs.Readings.{Reading, then, file_read, input_read}
 use Rattle.fca_program.specs.Readings.Reading.{Read}
-use Rattle.fca_program.specs.declared.command.Command.{Command}
-use Rattle.fca_program.specs.declared.command.Command.TheVariants.{Concepts, Lattice, Basis, Convert, Replay}
-use Rattle.fca_program.specs.declared.command.Form.{Form}
-use Rattle.fca_program.specs.declared.command.Form.TheVariants.{Cxt}
+use Rattle.fca_command.specs.declared.command.Command.{Command}
+use Rattle.fca_command.specs.declared.command.Command.TheVariants.{Concepts, Lattice, Basis, Convert, Replay}
+use Rattle.fca_command.specs.declared.command.Form.{Form}
+use Rattle.fca_command.specs.declared.command.Form.TheVariants.{Cxt}
 
 -- a text, and whether it leaves a question open
 pub record Output : Type 0 where

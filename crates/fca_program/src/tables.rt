@@ -10,13 +10,13 @@ ghost use Rattle.fca_program.specs.Readings.{MayRead};
 ghost use Rattle.fca_program.specs.Endings.{stop_status, Stops};
 
 use crate::answer::Answer;
-use crate::command::Form;
 use crate::readings::table_under;
 use crate::stop::Stop;
 use basis_report::{basis_text, concepts_text, lattice_text};
 use canonical_basis::basis;
 use context_table::Table;
 use cxt_format::write_cxt;
+use fca_command::Form;
 use fca_io::Shelf;
 use fca_model::{Memory, Word};
 use lattice_covers::covers;

@@ -1,9 +1,10 @@
 //! Whole calls over ends in memory: what each writes, and its status.
 
 use crate::run::run;
-use fca_io::{MemoryShelf, MemorySink, MemorySource};
+use fca_io::{MemoryLink, MemoryShelf, MemorySink, MemorySource};
 use fca_model::{Memory, Word};
 use std::alloc::Global;
+use std::sync::Wait;
 use std::test::Fail;
 use std::thread::Threads;
 
@@ -279,7 +280,7 @@ fn words_of(alloc: Global, words: &[&[u8]]) -> Result<Vec<Word>, Memory> {
 }
 
 /// Runs one call over ends in memory that move a few bytes at a time, and of which these calls fail.
-fn call<R: Threads + Sync>(
+fn call<R: Threads + Wait + Sync>(
     rt: &R,
     alloc: Global,
     call: &Call,
@@ -291,7 +292,7 @@ fn call<R: Threads + Sync>(
 }
 
 /// The same of these words, with room for so many bytes on out.
-fn outcome<R: Threads + Sync>(
+fn outcome<R: Threads + Wait + Sync>(
     rt: &R,
     alloc: Global,
     words: &[&[u8]],
@@ -307,8 +308,9 @@ fn outcome<R: Threads + Sync>(
     let mut input = MemorySource::new(alloc, bytes, input_fails, 7)?;
     let mut out = MemorySink::new(alloc, room, out_fails, 10)?;
     let mut err = MemorySink::new(alloc, 100, &[], 7)?;
+    let mut link = MemoryLink::new(alloc, b"x", Vec::new(alloc), &[])?;
     let status = run(
-        rt, alloc, &words, &mut shelf, &mut input, &mut out, &mut err,
+        rt, alloc, &words, &mut shelf, &mut input, &mut out, &mut err, &mut link,
     );
     Ok(Called { status, out, err })
 }

@@ -25,5 +25,5 @@ pub returns : goal.returns
 returns c =
     let names = c.args.table.now.attributes in
     let wide : c.width-place-end.result ≡ length names =
-      c.width-place-end.ensures.width ∙ ap (λ (K : Context). K.width) c.rows.ensures.rows ∙ sym c.rows.ensures.table.each_attribute in
+    c.width-place-end.ensures.width ∙ ap (λ (K : Context). K.width) c.rows.ensures.rows ∙ sym c.rows.ensures.table.each_attribute in
     sym (position-none (bytes_eq c.args.name.now) names c.loop-place.place [] (let past = c.loop-place-test.false in omega arith) c.loop-place.invariant)
