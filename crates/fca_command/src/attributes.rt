@@ -1,6 +1,6 @@
 //! The attributes that a word names.
 
-ghost use Rattle.std.specs.Prelude.{◌≡◌, ◌∷◌, position, bytes_eq, option_copied};
+ghost use Rattle.std.specs.Prelude.{◌≡◌, ◌∷◌, length, position, bytes_eq, option_copied, IfSome};
 ghost use Rattle.std.specs.List.{slice_split};
 ghost use Rattle.fca_command.specs.Attributes.{is_comma, attributes_said, later_parts};
 
@@ -11,7 +11,8 @@ use cxt_format::{is_blank_line, trimmed};
 /// The attributes of the table that the word names, parted by commas: a blank word names none, and a name that no attribute has
 /// makes the whole word one that names nothing.
 pub fn attributes_said(table: &Table, word: &[u8]) -> Option<Attrs>
-    ensures { result ≡ attributes_said table.now.attributes word.now }
+    ensures said { result ≡ attributes_said table.now.attributes word.now }
+    ensures wide { IfSome result (λ set. length set ≡ table.now.context.width) }
 {
     let mut said = Attrs::empty(table.rows().width());
     let mut rest = if is_blank_line(word) {

@@ -3,7 +3,7 @@
 ghost use Rattle.std.specs.Prelude.{◌≡◌, IfOk};
 ghost use Rattle.std.specs.List.{list_all};
 ghost use Rattle.std.specs.Str.{is_utf8};
-ghost use Rattle.fca_command.specs.Commands.{command_form, text_command, named_command, concepts_command, lattice_command, basis_command, convert_command, form_named, replay_command, file_of};
+ghost use Rattle.fca_command.specs.Commands.{command_form, text_command, named_command, concepts_command, lattice_command, basis_command, json_said, follows_command, convert_command, form_named, replay_command, file_of};
 
 use fca_model::{Memory, Word};
 use std::alloc::Global;
@@ -17,11 +17,29 @@ pub enum Form {
 /// A command, with what its words name.
 #[derive(Drop)]
 pub enum Command {
-    Concepts { file: Word },
-    Lattice { file: Word },
-    Basis { file: Word },
-    Convert { file: Word, to: Form },
-    Replay { file: Word },
+    Concepts {
+        file: Word,
+        json: bool,
+    },
+    Lattice {
+        file: Word,
+    },
+    Basis {
+        file: Word,
+        json: bool,
+    },
+    Follows {
+        file: Word,
+        premise: Word,
+        conclusion: Word,
+    },
+    Convert {
+        file: Word,
+        to: Form,
+    },
+    Replay {
+        file: Word,
+    },
 }
 
 impl Command {
@@ -30,9 +48,10 @@ impl Command {
         ensures { result.now ≡ file_of self.now }
     {
         match self {
-            Command::Concepts { file }
+            Command::Concepts { file, .. }
             | Command::Lattice { file }
-            | Command::Basis { file }
+            | Command::Basis { file, .. }
+            | Command::Follows { file, .. }
             | Command::Convert { file, .. }
             | Command::Replay { file } => file.bytes(),
         }
@@ -90,6 +109,8 @@ fn named_command(
         Ok(lattice_command(file, later))
     } else if name == b"basis".as_slice() {
         Ok(basis_command(file, later))
+    } else if name == b"follows".as_slice() {
+        follows_command(alloc, file, later)
     } else if name == b"convert".as_slice() {
         Ok(convert_command(file, later))
     } else if name == b"replay".as_slice() {
@@ -102,10 +123,8 @@ fn named_command(
 fn concepts_command(file: Word, later: &[Word]) -> Option<Command>
     ensures { result ≡ concepts_command file later.now }
 {
-    match later {
-        [] => Some(Command::Concepts { file }),
-        _ => None,
-    }
+    let json = json_said(later)?;
+    Some(Command::Concepts { file, json })
 }
 
 fn lattice_command(file: Word, later: &[Word]) -> Option<Command>
@@ -120,10 +139,34 @@ fn lattice_command(file: Word, later: &[Word]) -> Option<Command>
 fn basis_command(file: Word, later: &[Word]) -> Option<Command>
     ensures { result ≡ basis_command file later.now }
 {
-    match later {
-        [] => Some(Command::Basis { file }),
+    let json = json_said(later)?;
+    Some(Command::Basis { file, json })
+}
+
+/// Whether the words ask for JSON: one word does, and no word does not.
+fn json_said(words: &[Word]) -> Option<bool>
+    ensures { result ≡ json_said words.now }
+{
+    match words {
+        [] => Some(false),
+        [word] if word.bytes() == b"--json".as_slice() => Some(true),
         _ => None,
     }
+}
+
+fn follows_command(alloc: Global, file: Word, later: &[Word]) -> Result<Option<Command>, Memory>
+    ensures { IfOk result (λ command. command ≡ follows_command file later.now) }
+{
+    let [premise, conclusion] = later else {
+        return Ok(None);
+    };
+    let premise = Word::new(alloc, premise.bytes())?;
+    let conclusion = Word::new(alloc, conclusion.bytes())?;
+    Ok(Some(Command::Follows {
+        file,
+        premise,
+        conclusion,
+    }))
 }
 
 fn convert_command(file: Word, later: &[Word]) -> Option<Command>

@@ -3,6 +3,7 @@
 
 mod answer;
 mod ends;
+mod follows;
 mod link;
 mod readings;
 mod replay;

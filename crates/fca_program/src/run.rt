@@ -11,6 +11,7 @@ ghost use Rattle.fca_program.specs.Headline.{HasCourse};
 ghost use Rattle.fca_program.specs.Endings.{reads_input, Ends, Stops, FaultRose, MayReachEnd, IsWhole, IsSilent, stop_status};
 
 use crate::answer::{Answer, conclude};
+use crate::follows::follows;
 use crate::replay::replay;
 use crate::report::report;
 use crate::stop::Stop;
@@ -123,9 +124,14 @@ fn answer_to<R: Threads + Sync, H: Shelf, S: Source>(
     ensures kept { reads_input command.now ≡ false → input.new ≡ input.old }
 {
     match command {
-        Command::Concepts { file } => concepts(alloc, shelf, file),
+        Command::Concepts { file, json } => concepts(alloc, shelf, file, *json),
         Command::Lattice { file } => lattice(alloc, shelf, file),
-        Command::Basis { file } => basis_of_file(rt, alloc, shelf, file),
+        Command::Basis { file, json } => basis_of_file(rt, alloc, shelf, file, *json),
+        Command::Follows {
+            file,
+            premise,
+            conclusion,
+        } => follows(rt, alloc, shelf, file, premise, conclusion),
         Command::Convert { file, to } => convert(alloc, shelf, file, *to),
         Command::Replay { file } => replay(alloc, shelf, input, file),
     }
