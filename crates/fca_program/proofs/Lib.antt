@@ -1,4 +1,3 @@
-pub mod TextLemmas
 pub mod ReplayLemmas
 pub mod ScriptLemmas
 pub mod CourseLemmas

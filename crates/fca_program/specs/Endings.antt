@@ -1,5 +1,5 @@
 -- How a call of the program ends: its status, and what it says of the outside.
-use Rattle.std.specs.Prelude.{◌≡◌, ◌⊎◌, ℕ, cond, Option, ⊤}
+use Rattle.std.specs.Prelude.{◌≡◌, ◌⊎◌, ℕ, Bool, true, false, cond, Option, ⊤}
 use Rattle.std.specs.Io.KnownBytes.{IsAtEnd}
 use Rattle.fca_model.specs.Tables.{Text}
 use Rattle.fca_io.specs.Faults.{Rose}
@@ -8,10 +8,10 @@ use Rattle.fca_io.specs.declared.outside.Taken.TheVariants as taken
 use Rattle.fca_program.specs.Readings.{Reading, MayRefuse}
 use Rattle.fca_program.specs.Readings.Reading.{Untold, Refused, Read}
 use Rattle.fca_program.specs.Outputs.{Output}
-use Rattle.fca_program.specs.declared.command.Command.{Command}
-use Rattle.fca_program.specs.declared.command.Command.TheVariants.{Concepts, Lattice, Basis, Convert, Replay}
+use Rattle.fca_command.specs.declared.command.Command.{Command}
+use Rattle.fca_command.specs.declared.command.Command.TheVariants.{Concepts, Lattice, Basis, Follows, Convert, Replay}
 use Rattle.fca_program.specs.declared.stop.Stop.{Stop}
-use Rattle.fca_program.specs.declared.stop.Stop.TheVariants.{NoCommand, TooLong, NoTable, NoScript, Fault, Memory}
+use Rattle.fca_program.specs.declared.stop.Stop.TheVariants.{NoCommand, TooLong, NoTable, NoScript, UnknownAttribute, Fault, Memory}
 
 -- the status of a whole text: 6 where it leaves a question open
 abbrev pub whole_status : Output → ℕ
@@ -23,6 +23,7 @@ stop_status NoCommand = 1
 stop_status (TooLong origin) = 2
 stop_status (NoTable origin fault) = 2
 stop_status (NoScript fault) = 2
+stop_status UnknownAttribute = 2
 stop_status (Fault origin) = 3
 stop_status Memory = 5
 
@@ -54,11 +55,17 @@ Finishes (Read o) status = status ≡ whole_status o
 abbrev pub Ends : Reading Output → ℕ → Type 0
 Ends reading status = Finishes reading status ⊎ IsCutOff status
 
+-- whether the command reads the input
+abbrev pub reads_input : Command → Bool
+reads_input (Replay file) = true
+reads_input _ = false
+
 -- a count of faults rose for a file of the command, or for the input where the command reads it
 abbrev pub FaultRose : Command → (Text → ℕ) → (Text → ℕ) → ℕ → ℕ → Type 0
-FaultRose (Concepts file) files files' input input' = Rose (files file) (files' file)
+FaultRose (Concepts file json) files files' input input' = Rose (files file) (files' file)
 FaultRose (Lattice file) files files' input input' = Rose (files file) (files' file)
-FaultRose (Basis file) files files' input input' = Rose (files file) (files' file)
+FaultRose (Basis file json) files files' input input' = Rose (files file) (files' file)
+FaultRose (Follows file premise conclusion) files files' input input' = Rose (files file) (files' file)
 FaultRose (Convert file to) files files' input input' = Rose (files file) (files' file)
 FaultRose (Replay file) files files' input input' = Rose (files file) (files' file) ⊎ Rose input input'
 

@@ -10,8 +10,8 @@ use Rattle.fca_model.specs.Tables.{Text}
 use Rattle.fca_io.specs.Shelves.{Told}
 use Rattle.fca_program.specs.Readings.{IfRead}
 use Rattle.fca_program.specs.Outputs.{Recorded, last_state, open_at, replayed}
-use Rattle.fca_program.specs.declared.command.Command.{Command}
-use Rattle.fca_program.specs.declared.command.Command.TheVariants.{Replay}
+use Rattle.fca_command.specs.declared.command.Command.{Command}
+use Rattle.fca_command.specs.declared.command.Command.TheVariants.{Replay}
 
 -- the state at one moment: after these entries
 abbrev pub state_at : Recorded → List SetEntry → State

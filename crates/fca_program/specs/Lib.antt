@@ -1,5 +1,4 @@
 pub mod Readings
-pub mod Commands
 pub mod Outputs
 pub mod Endings
 pub mod Headline

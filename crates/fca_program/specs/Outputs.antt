@@ -1,5 +1,6 @@
 -- What each command writes.
-use Rattle.std.specs.Prelude.{ℕ, Bool, false, ◌&&◌, Option, List, [], length, nat_lt}
+use Rattle.std.specs.Prelude.{ℕ, Bool, false, cond, ◌&&◌, Option, List, [], length, nat_lt}
+use Rattle.fca_model.specs.Sets.{Set}
 use Rattle.fca_model.specs.Tables.{Text, NamedContext}
 use Rattle.fca_model.specs.Implications.{Rule}
 use Rattle.fca_model.specs.Questions.{open_questions}
@@ -13,13 +14,16 @@ use Rattle.cxt_format.specs.Written.{cxt_text}
 use Rattle.expert_wire.specs.Scripts.{script_form}
 use Rattle.explore_state.specs.History.{Opening, History, opening_state}
 use Rattle.basis_report.specs.Explorations.{explore_text}
+use Rattle.basis_report.specs.Json.{concepts_json, basis_json}
 use Rattle.basis_report.specs.Reports.{concepts_text, lattice_text, basis_text}
-use Rattle.fca_program.specs.Readings.{Reading, then, file_read, input_read}
+use Rattle.basis_report.specs.Verdicts.{follows_text}
+use Rattle.fca_command.specs.Attributes.{attributes_said}
+use Rattle.fca_program.specs.Readings.{Reading, then, known, file_read, input_read}
 use Rattle.fca_program.specs.Readings.Reading.{Read}
-use Rattle.fca_program.specs.declared.command.Command.{Command}
-use Rattle.fca_program.specs.declared.command.Command.TheVariants.{Concepts, Lattice, Basis, Convert, Replay}
-use Rattle.fca_program.specs.declared.command.Form.{Form}
-use Rattle.fca_program.specs.declared.command.Form.TheVariants.{Cxt}
+use Rattle.fca_command.specs.declared.command.Command.{Command}
+use Rattle.fca_command.specs.declared.command.Command.TheVariants.{Concepts, Lattice, Basis, Follows, Convert, Replay}
+use Rattle.fca_command.specs.declared.command.Form.{Form}
+use Rattle.fca_command.specs.declared.command.Form.TheVariants.{Cxt}
 
 -- a text, and whether it leaves a question open
 pub record Output : Type 0 where
@@ -78,14 +82,20 @@ replay_output file files input = then (replayed file files input) (λ r. Read (e
 
 -- ---- what is written of one table
 
-abbrev pub table_concepts : NamedContext → Text
-table_concepts table = concepts_text table (concepts table.context)
+-- the concepts, as JSON or as a list
+abbrev pub table_concepts : Bool → NamedContext → Text
+table_concepts json table = cond json (concepts_json table (concepts table.context)) (concepts_text table (concepts table.context))
 
 abbrev pub table_lattice : NamedContext → Text
 table_lattice table = lattice_text table (concepts table.context) (covers table.context)
 
-abbrev pub table_basis : NamedContext → Text
-table_basis table = basis_text table.attributes (basis table.context)
+-- the basis, as JSON or as a list
+abbrev pub table_basis : Bool → NamedContext → Text
+table_basis json table = cond json (basis_json table.attributes (basis table.context)) (basis_text table.attributes (basis table.context))
+
+-- whether the implication from P to C holds
+abbrev pub table_verdict : Set → Set → NamedContext → Text
+table_verdict P C table = follows_text table (basis table.context) P C
 
 abbrev pub table_written : Form → NamedContext → Text
 table_written Cxt table = cxt_text table
@@ -98,12 +108,28 @@ finished text = record { text = text; is_open = false }
 abbrev pub of_table : (NamedContext → Text) → Text → (Text → Told) → Reading Output
 of_table text file files = then (table_read file (files file)) (λ table. Read (finished (text table)))
 
+-- the attributes of the table that a word names
+abbrev pub attributes_read : NamedContext → Text → Reading Set
+attributes_read table word = known (attributes_said table.attributes word)
+
+-- what is written of the implication between the attributes that two words name
+abbrev pub verdict_output : Text → Text → NamedContext → Reading Output
+verdict_output premise conclusion table =
+    then (attributes_read table premise) (λ P.
+    then (attributes_read table conclusion) (λ C.
+    Read (finished (table_verdict P C table))))
+
+-- what `follows` writes
+abbrev pub follows_output : Text → Text → Text → (Text → Told) → Reading Output
+follows_output premise conclusion file files = then (table_read file (files file)) (verdict_output premise conclusion)
+
 -- ---- all commands
 
 -- what the command writes, where the files and the input hold this
 abbrev pub output : Command → (Text → Told) → Option Text → Reading Output
-output (Concepts file) files input = of_table table_concepts file files
+output (Concepts file json) files input = of_table (table_concepts json) file files
 output (Lattice file) files input = of_table table_lattice file files
-output (Basis file) files input = of_table table_basis file files
+output (Basis file json) files input = of_table (table_basis json) file files
+output (Follows file premise conclusion) files input = follows_output premise conclusion file files
 output (Convert file to) files input = of_table (table_written to) file files
 output (Replay file) files input = replay_output file files input

@@ -20,6 +20,11 @@ abbrev pub formed : {X E : Type 0} → Result X E → Reading X
 formed (Ok x) = Read x
 formed (Err fault) = Refused
 
+-- what there is, or a refusal
+abbrev pub known : {X : Type 0} → Option X → Reading X
+known (Some x) = Read x
+known None = Refused
+
 -- bytes in a form: too many are refused, and those that have not the form
 abbrev pub bytes_read : {X E : Type 0} → (Text → Result X E) → Text → Reading X
 bytes_read form bytes = cond (nat_le (length bytes) FILE_BYTES) (formed (form bytes)) Refused

@@ -2,8 +2,9 @@
 #![tactic(auto)]
 
 mod answer;
-mod command;
 mod ends;
+mod follows;
+mod link;
 mod readings;
 mod replay;
 mod report;
@@ -12,6 +13,7 @@ mod stop;
 mod tables;
 
 use crate::ends::{FileShelf, StdFault, StdInput, StdOutput};
+use crate::link::TcpLink;
 use crate::run::run;
 use fca_model::{Memory, Word};
 use std::alloc::Global;
@@ -23,6 +25,7 @@ fn main(rt: HostRuntime) -> ExitCode {
     let mut input = StdInput::new(rt.stdin());
     let mut out = StdOutput::new(rt.stdout());
     let mut err = StdFault::new(rt.stderr());
+    let mut link = TcpLink::new(&rt);
     let words = match env::args(&rt) {
         Ok(arguments) => words_of(rt.alloc(), arguments),
         Err(_) => Ok(Vec::new(rt.alloc())),
@@ -38,6 +41,7 @@ fn main(rt: HostRuntime) -> ExitCode {
         &mut input,
         &mut out,
         &mut err,
+        &mut link,
     ))
 }
 

@@ -37,6 +37,7 @@ fn write_stop<E: Sink>(err: &mut E, file: &[u8], stop: &Stop) -> Result<(), Put>
             let (place, words) = script_fault(fault);
             write_fault(err, file, Origin::Input, place, words)
         }
+        Stop::UnknownAttribute => write_text(err, b"unknown attribute"),
         Stop::Fault(origin) => write_fault(err, file, *origin, Place::Whole, b"read fault"),
         Stop::Memory => write_text(err, b"no memory"),
     }

@@ -4,25 +4,27 @@ ghost use Rattle.std.specs.Prelude.{◌≡◌, ◌⊎◌, false, Result, Some, I
 ghost use Rattle.std.specs.Io.KnownBytes.{Appends, IsAtEnd};
 ghost use Rattle.fca_io.specs.Faults.{Rose};
 ghost use Rattle.fca_io.specs.Transfers.{AppendsFront};
-ghost use Rattle.fca_program.specs.Commands.{command_form, reads_input};
+ghost use Rattle.fca_command.specs.Commands.{command_form};
 ghost use Rattle.fca_program.specs.Readings.{IfRead, MayRead};
 ghost use Rattle.fca_program.specs.Outputs.{output};
 ghost use Rattle.fca_program.specs.Headline.{HasCourse};
-ghost use Rattle.fca_program.specs.Endings.{Ends, Stops, FaultRose, MayReachEnd, IsWhole, IsSilent, stop_status};
+ghost use Rattle.fca_program.specs.Endings.{reads_input, Ends, Stops, FaultRose, MayReachEnd, IsWhole, IsSilent, stop_status};
 
 use crate::answer::{Answer, conclude};
-use crate::command::{Command, command_of};
+use crate::follows::follows;
 use crate::replay::replay;
 use crate::report::report;
 use crate::stop::Stop;
 use crate::tables::{basis_of_file, concepts, convert, lattice};
-use fca_io::{Shelf, Sink, Source};
+use fca_command::{Command, command_of};
+use fca_io::{Listener, Shelf, Sink, Source};
 use fca_model::{Memory, Word};
 use std::alloc::Global;
+use std::sync::Wait;
 use std::thread::Threads;
 
 /// Runs the command that the words are, and gives the status of the program.
-pub fn run<R: Threads + Sync, H: Shelf, S: Source, K: Sink, E: Sink>(
+pub fn run<R: Threads + Wait + Sync, H: Shelf, S: Source, K: Sink, E: Sink, L: Listener>(
     rt: &R,
     alloc: Global,
     words: &[Word],
@@ -30,7 +32,10 @@ pub fn run<R: Threads + Sync, H: Shelf, S: Source, K: Sink, E: Sink>(
     input: &mut S,
     out: &mut K,
     err: &mut E,
+    _link: &mut L,
 ) -> u8
+    requires { L.listens _link.old ≡ false }
+
     // Which status comes. What the shelf and the input do not tell is not spoken of.
     ensures status { MatchOption (command_form words.now) ((result ≡ 1) ⊎ (result ≡ 5))
         (λ command. Ends (output command (H.tells shelf.old) (S.left input.old)) result) }
@@ -52,6 +57,7 @@ pub fn run<R: Threads + Sync, H: Shelf, S: Source, K: Sink, E: Sink>(
     // What else was touched.
     ensures read_to_end { IsWhole result → IfSome (command_form words.now) (λ command. MayReachEnd command (S.left input.new)) }
     ensures input_kept { IfSome (command_form words.now) (λ command. reads_input command ≡ false → input.new ≡ input.old) }
+    ensures link_kept { _link.new ≡ _link.old }
     ensures quiet { IsWhole result → err.new ≡ err.old }
 {
     match command_of(alloc, words) {
@@ -118,9 +124,14 @@ fn answer_to<R: Threads + Sync, H: Shelf, S: Source>(
     ensures kept { reads_input command.now ≡ false → input.new ≡ input.old }
 {
     match command {
-        Command::Concepts { file } => concepts(alloc, shelf, file),
+        Command::Concepts { file, json } => concepts(alloc, shelf, file, *json),
         Command::Lattice { file } => lattice(alloc, shelf, file),
-        Command::Basis { file } => basis_of_file(rt, alloc, shelf, file),
+        Command::Basis { file, json } => basis_of_file(rt, alloc, shelf, file, *json),
+        Command::Follows {
+            file,
+            premise,
+            conclusion,
+        } => follows(rt, alloc, shelf, file, premise, conclusion),
         Command::Convert { file, to } => convert(alloc, shelf, file, *to),
         Command::Replay { file } => replay(alloc, shelf, input, file),
     }

@@ -22,6 +22,7 @@ pub enum Stop {
     TooLong(Origin),
     NoTable(Origin, CxtFault),
     NoScript(ScriptFault),
+    UnknownAttribute,
     Fault(Origin),
     Memory,
 }
@@ -43,7 +44,7 @@ impl Stop {
     {
         match self {
             Stop::NoCommand => 1,
-            Stop::TooLong(_) | Stop::NoTable(..) | Stop::NoScript(_) => 2,
+            Stop::TooLong(_) | Stop::NoTable(..) | Stop::NoScript(_) | Stop::UnknownAttribute => 2,
             Stop::Fault(_) => 3,
             Stop::Memory => 5,
         }

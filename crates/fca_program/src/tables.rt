@@ -4,19 +4,18 @@ ghost use Rattle.std.specs.Prelude.{◌≡◌, IfOk, IfErr};
 ghost use Rattle.fca_io.specs.Faults.{Rose};
 ghost use Rattle.fca_model.specs.Pseudo.{basis, covers};
 ghost use Rattle.lectic_concepts.specs.Concepts.{concepts};
-ghost use Rattle.basis_report.specs.Reports.{concepts_text, lattice_text, basis_text};
 ghost use Rattle.fca_program.specs.Outputs.{of_table, finished, table_concepts, table_lattice, table_basis, table_written};
 ghost use Rattle.fca_program.specs.Readings.{MayRead};
 ghost use Rattle.fca_program.specs.Endings.{stop_status, Stops};
 
 use crate::answer::Answer;
-use crate::command::Form;
 use crate::readings::table_under;
 use crate::stop::Stop;
-use basis_report::{basis_text, concepts_text, lattice_text};
+use basis_report::{basis_json, basis_text, concepts_json, concepts_text, lattice_text};
 use canonical_basis::basis;
 use context_table::Table;
 use cxt_format::write_cxt;
+use fca_command::Form;
 use fca_io::Shelf;
 use fca_model::{Memory, Word};
 use lattice_covers::covers;
@@ -25,13 +24,18 @@ use std::alloc::Global;
 use std::thread::Threads;
 
 /// The concepts of the table in the file.
-pub fn concepts<H: Shelf>(alloc: Global, shelf: &mut H, file: &Word) -> Result<Answer, Stop>
-    ensures output { IfOk result (λ answer. MayRead (of_table table_concepts file.now (H.tells shelf.old)) answer) }
-    ensures stop { IfErr result (λ stop. Stops (of_table table_concepts file.now (H.tells shelf.old))
+pub fn concepts<H: Shelf>(
+    alloc: Global,
+    shelf: &mut H,
+    file: &Word,
+    json: bool,
+) -> Result<Answer, Stop>
+    ensures output { IfOk result (λ answer. MayRead (of_table (table_concepts json) file.now (H.tells shelf.old)) answer) }
+    ensures stop { IfErr result (λ stop. Stops (of_table (table_concepts json) file.now (H.tells shelf.old))
         (Rose (H.faults shelf.old file.now) (H.faults shelf.new file.now)) (stop_status stop)) }
 {
     let table = table_under(alloc, shelf, file)?;
-    Ok(finished(table_concepts(alloc, &table)?))
+    Ok(finished(table_concepts(alloc, json, &table)?))
 }
 
 /// The concepts of the table in the file, and their covers.
@@ -50,13 +54,14 @@ pub fn basis_of_file<R: Threads + Sync, H: Shelf>(
     alloc: Global,
     shelf: &mut H,
     file: &Word,
+    json: bool,
 ) -> Result<Answer, Stop>
-    ensures output { IfOk result (λ answer. MayRead (of_table table_basis file.now (H.tells shelf.old)) answer) }
-    ensures stop { IfErr result (λ stop. Stops (of_table table_basis file.now (H.tells shelf.old))
+    ensures output { IfOk result (λ answer. MayRead (of_table (table_basis json) file.now (H.tells shelf.old)) answer) }
+    ensures stop { IfErr result (λ stop. Stops (of_table (table_basis json) file.now (H.tells shelf.old))
         (Rose (H.faults shelf.old file.now) (H.faults shelf.new file.now)) (stop_status stop)) }
 {
     let table = table_under(alloc, shelf, file)?;
-    Ok(finished(table_basis(rt, alloc, &table)?))
+    Ok(finished(table_basis(rt, alloc, json, &table)?))
 }
 
 /// The table in the file, in this form.
@@ -75,7 +80,7 @@ pub fn convert<H: Shelf>(
 }
 
 /// A text that leaves no question open.
-fn finished(text: Vec<u8>) -> Answer
+pub fn finished(text: Vec<u8>) -> Answer
     ensures { result ≡ finished text.items }
 {
     Answer {
@@ -85,11 +90,15 @@ fn finished(text: Vec<u8>) -> Answer
 }
 
 /// The concepts of the table, in lectic order of their intents.
-fn table_concepts(alloc: Global, table: &Table) -> Result<Vec<u8>, Memory>
-    ensures { IfOk result (λ text. text.items ≡ table_concepts table.now) }
+fn table_concepts(alloc: Global, json: bool, table: &Table) -> Result<Vec<u8>, Memory>
+    ensures { IfOk result (λ text. text.items ≡ table_concepts json table.now) }
 {
     let concepts = all_concepts(alloc, table.rows())?;
-    concepts_text(alloc, table, &concepts)
+    if json {
+        concepts_json(alloc, table, &concepts)
+    } else {
+        concepts_text(alloc, table, &concepts)
+    }
 }
 
 /// The concepts of the table and their covers.
@@ -103,11 +112,20 @@ fn table_lattice(alloc: Global, table: &Table) -> Result<Vec<u8>, Memory>
 }
 
 /// The basis of the table.
-fn table_basis<R: Threads + Sync>(rt: &R, alloc: Global, table: &Table) -> Result<Vec<u8>, Memory>
-    ensures { IfOk result (λ text. text.items ≡ table_basis table.now) }
+fn table_basis<R: Threads + Sync>(
+    rt: &R,
+    alloc: Global,
+    json: bool,
+    table: &Table,
+) -> Result<Vec<u8>, Memory>
+    ensures { IfOk result (λ text. text.items ≡ table_basis json table.now) }
 {
     let basis = basis(rt, alloc, table.rows())?;
-    basis_text(alloc, table, &basis)
+    if json {
+        basis_json(alloc, table, &basis)
+    } else {
+        basis_text(alloc, table, &basis)
+    }
 }
 
 /// The table in this form.

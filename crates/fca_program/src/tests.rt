@@ -1,9 +1,10 @@
 //! Whole calls over ends in memory: what each writes, and its status.
 
 use crate::run::run;
-use fca_io::{MemoryShelf, MemorySink, MemorySource};
+use fca_io::{MemoryLink, MemoryShelf, MemorySink, MemorySource};
 use fca_model::{Memory, Word};
 use std::alloc::Global;
+use std::sync::Wait;
 use std::test::Fail;
 use std::thread::Threads;
 
@@ -31,6 +32,9 @@ const ONE_FULL_ROW: &[u8] = b"B\n\n1\n3\n\ng\na\nb\nc\nXXX\n";
 
 /// A nominal scale.
 const NOMINAL: &[u8] = b"B\n\n3\n3\n\n1\n2\n3\na\nb\nc\nX..\n.X.\n..X\n";
+
+/// Living beings and water.
+const LIVING: &[u8] = b"B\n\n8\n9\n\nleech\nbream\nfrog\ndog\nspike-weed\nreed\nbean\nmaize\na\nb\nc\nd\ne\nf\ng\nh\ni\nXX....X..\nXX....XX.\nXXX...XX.\nX.X...XXX\nXX.X.X...\nXXXX.X...\nX.XXX....\nX.XX.X...\n";
 
 /// A whole exploration of two attributes by two experts.
 const WHOLE: &[u8] =
@@ -114,7 +118,7 @@ const EXPLORATIONS: [Call; 11] = [
     ),
 ];
 
-const TABLES: [Call; 10] = [
+const TABLES: [Call; 15] = [
     (
         &[b"concepts", b"F"],
         NO_ATTRIBUTES,
@@ -160,6 +164,41 @@ const TABLES: [Call; 10] = [
         b"basis 3\n1 {b, c} -> {a}\n2 {a, c} -> {b}\n3 {a, b} -> {c}\n",
     ),
     (
+        &[b"concepts", b"F", b"--json"],
+        NO_OBJECTS,
+        b"",
+        0,
+        b"{\"concepts\":[{\"extent\":[],\"intent\":[\"a\",\"b\",\"c\"]}]}\n",
+    ),
+    (
+        &[b"basis", b"F", b"--json"],
+        NOMINAL,
+        b"",
+        0,
+        b"{\"implications\":[{\"conclusion\":[\"a\"],\"premise\":[\"b\",\"c\"]},{\"conclusion\":[\"b\"],\"premise\":[\"a\",\"c\"]},{\"conclusion\":[\"c\"],\"premise\":[\"a\",\"b\"]}]}\n",
+    ),
+    (
+        &[b"follows", b"F", b"i", b"g"],
+        LIVING,
+        b"",
+        0,
+        b"holds\nsteps 2\n1 {} -> {a}\n2 {a, i} -> {c, g, h}\n",
+    ),
+    (
+        &[b"follows", b"F", b"b", b"c"],
+        LIVING,
+        b"",
+        0,
+        b"refuted 1 XX....X.. leech\n",
+    ),
+    (
+        &[b"follows", b"F", b" ", b"\ta , a"],
+        LIVING,
+        b"",
+        0,
+        b"holds\nsteps 1\n1 {} -> {a}\n",
+    ),
+    (
         CONVERT,
         b"B\r\n\r\n1\r\n2\r\ng\r\na\r\nb\r\nx.",
         b"",
@@ -175,7 +214,7 @@ const TABLES: [Call; 10] = [
     ),
 ];
 
-const REFUSALS: [Call; 14] = [
+const REFUSALS: [Call; 16] = [
     (
         CONVERT,
         b"B\n\n2\n2\n\ng\nh\na\nb\nX.\n",
@@ -212,6 +251,20 @@ const REFUSALS: [Call; 14] = [
         b"fca: F: line 3: bad count\n",
     ),
     (CONVERT, b"", b"", 2, b"fca: F: line 1: ended\n"),
+    (
+        CONVERT,
+        b"B\n\n0\n257\n",
+        b"",
+        2,
+        b"fca: F: line 4: too many\n",
+    ),
+    (
+        &[b"follows", b"F", b"z", b"a"],
+        LIVING,
+        b"",
+        2,
+        b"fca: unknown attribute\n",
+    ),
     (
         REPLAY,
         TWO,
@@ -279,7 +332,7 @@ fn words_of(alloc: Global, words: &[&[u8]]) -> Result<Vec<Word>, Memory> {
 }
 
 /// Runs one call over ends in memory that move a few bytes at a time, and of which these calls fail.
-fn call<R: Threads + Sync>(
+fn call<R: Threads + Wait + Sync>(
     rt: &R,
     alloc: Global,
     call: &Call,
@@ -291,7 +344,7 @@ fn call<R: Threads + Sync>(
 }
 
 /// The same of these words, with room for so many bytes on out.
-fn outcome<R: Threads + Sync>(
+fn outcome<R: Threads + Wait + Sync>(
     rt: &R,
     alloc: Global,
     words: &[&[u8]],
@@ -307,8 +360,9 @@ fn outcome<R: Threads + Sync>(
     let mut input = MemorySource::new(alloc, bytes, input_fails, 7)?;
     let mut out = MemorySink::new(alloc, room, out_fails, 10)?;
     let mut err = MemorySink::new(alloc, 100, &[], 7)?;
+    let mut link = MemoryLink::new(alloc, b"x", Vec::new(alloc), &[])?;
     let status = run(
-        rt, alloc, &words, &mut shelf, &mut input, &mut out, &mut err,
+        rt, alloc, &words, &mut shelf, &mut input, &mut out, &mut err, &mut link,
     );
     Ok(Called { status, out, err })
 }

@@ -1,0 +1,4 @@
+pub mod TextLemmas
+pub mod PartLemmas
+pub mod PlaceLemmas
+pub mod WordLemmas

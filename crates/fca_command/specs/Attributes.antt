@@ -1,0 +1,32 @@
+-- The attributes that a word names: names parted by commas, with blanks at their ends that do not count.
+--
+-- Of the attributes a, b, c the word ` a ,c` names the first and the third, a blank word names none, and `a,,c` nothing at all,
+-- since no attribute has the empty name.
+use Rattle.std.specs.Prelude.{ℕ, Bool, false, ◌==◌, cond, Option, Some, None, List, [], ◌∷◌, map, length, replicate, position, slice_set, option_and_then, bytes_eq, true}
+use Rattle.std.specs.List.{slice_split}
+use Rattle.fca_model.specs.Sets.{Set}
+use Rattle.fca_model.specs.Tables.{Text}
+use Rattle.cxt_format.specs.Words.{is_blank_line, trimmed}
+
+abbrev pub is_comma : ℕ → Bool
+is_comma byte = byte == 44
+
+-- the parts of a text, if there is one
+abbrev pub later_parts : Option Text → List Text
+later_parts None = []
+later_parts (Some text) = slice_split is_comma text
+
+-- the names that a word lists
+abbrev pub items : Text → List Text
+items word = map trimmed (slice_split is_comma word)
+
+-- the set with the attribute of each name added; none where some name is no attribute's
+abbrev pub with_named : List Text → Set → List Text → Option Set
+with_named attributes said [] = Some said
+with_named attributes said (name ∷ names) =
+    option_and_then (λ place. with_named attributes (slice_set said place true) names) (position (bytes_eq name) attributes)
+
+-- the set of attributes that a word names
+abbrev pub attributes_said : List Text → Text → Option Set
+attributes_said attributes word =
+    cond (is_blank_line word) (Some (replicate (length attributes) false)) (with_named attributes (replicate (length attributes) false) (items word))

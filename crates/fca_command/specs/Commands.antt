@@ -1,0 +1,79 @@
+-- The commands, word by word: exactly these lists of words are commands.
+use Rattle.std.specs.Prelude.{Bool, true, false, cond, Option, Some, None, List, [], ◌∷◌, option_map, bytes_eq, codes}
+use Rattle.std.specs.List.{list_all}
+use Rattle.std.specs.Str.{is_utf8}
+use Rattle.fca_model.specs.Tables.{Text}
+use Rattle.fca_command.specs.declared.command.Form.{Form}
+use Rattle.fca_command.specs.declared.command.Form.TheVariants.{Cxt}
+use Rattle.fca_command.specs.declared.command.Command.{Command}
+use Rattle.fca_command.specs.declared.command.Command.TheVariants.{Concepts, Lattice, Basis, Follows, Convert, Replay}
+
+-- ---- the words behind a command's file
+
+-- no word, or `--json`
+abbrev pub json_said : List Text → Option Bool
+json_said [] = Some false
+json_said (word ∷ []) = cond (bytes_eq word (codes "--json")) (Some true) None
+json_said _ = None
+
+-- `concepts F`, `concepts F --json`
+abbrev pub concepts_command : Text → List Text → Option Command
+concepts_command file later = option_map (λ json. Concepts file json) (json_said later)
+
+-- `lattice F`
+abbrev pub lattice_command : Text → List Text → Option Command
+lattice_command file [] = Some (Lattice file)
+lattice_command file _ = None
+
+-- `basis F`, `basis F --json`
+abbrev pub basis_command : Text → List Text → Option Command
+basis_command file later = option_map (λ json. Basis file json) (json_said later)
+
+-- `follows F A B`
+abbrev pub follows_command : Text → List Text → Option Command
+follows_command file (premise ∷ conclusion ∷ []) = Some (Follows file premise conclusion)
+follows_command file _ = None
+
+-- the form of a table that a word names
+abbrev pub form_named : Text → Option Form
+form_named word = cond (bytes_eq word (codes "cxt")) (Some Cxt) None
+
+-- `convert F cxt`
+abbrev pub convert_command : Text → List Text → Option Command
+convert_command file (word ∷ []) = option_map (λ to. Convert file to) (form_named word)
+convert_command file _ = None
+
+-- `replay F`
+abbrev pub replay_command : Text → List Text → Option Command
+replay_command file [] = Some (Replay file)
+replay_command file _ = None
+
+-- ---- all commands
+
+-- the command of this name over a file, whose name is not empty
+abbrev pub named_command : Text → Text → List Text → Option Command
+named_command name file later =
+    cond (bytes_eq file []) None
+    (cond (bytes_eq name (codes "concepts")) (concepts_command file later)
+    (cond (bytes_eq name (codes "lattice")) (lattice_command file later)
+    (cond (bytes_eq name (codes "basis")) (basis_command file later)
+    (cond (bytes_eq name (codes "follows")) (follows_command file later)
+    (cond (bytes_eq name (codes "convert")) (convert_command file later)
+    (cond (bytes_eq name (codes "replay")) (replay_command file later) None))))))
+
+abbrev pub text_command : List Text → Option Command
+text_command (name ∷ file ∷ later) = named_command name file later
+text_command _ = None
+
+-- the command that the words are: each word is text
+abbrev pub command_form : List Text → Option Command
+command_form words = cond (list_all is_utf8 words) (text_command words) None
+
+-- the file that the command reads first
+abbrev pub file_of : Command → Text
+file_of (Concepts file json) = file
+file_of (Lattice file) = file
+file_of (Basis file json) = file
+file_of (Follows file premise conclusion) = file
+file_of (Convert file to) = file
+file_of (Replay file) = file

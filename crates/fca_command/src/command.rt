@@ -1,0 +1,200 @@
+//! What the words of the command line ask for.
+
+ghost use Rattle.std.specs.Prelude.{◌≡◌, IfOk};
+ghost use Rattle.std.specs.List.{list_all};
+ghost use Rattle.std.specs.Str.{is_utf8};
+ghost use Rattle.fca_command.specs.Commands.{command_form, text_command, named_command, concepts_command, lattice_command, basis_command, json_said, follows_command, convert_command, form_named, replay_command, file_of};
+
+use fca_model::{Memory, Word};
+use std::alloc::Global;
+
+/// A form of tables.
+#[derive(Clone, Copy)]
+pub enum Form {
+    Cxt,
+}
+
+/// A command, with what its words name.
+#[derive(Drop)]
+pub enum Command {
+    Concepts {
+        file: Word,
+        json: bool,
+    },
+    Lattice {
+        file: Word,
+    },
+    Basis {
+        file: Word,
+        json: bool,
+    },
+    Follows {
+        file: Word,
+        premise: Word,
+        conclusion: Word,
+    },
+    Convert {
+        file: Word,
+        to: Form,
+    },
+    Replay {
+        file: Word,
+    },
+}
+
+impl Command {
+    /// The name of the file that is read first.
+    pub fn file(&self) -> &[u8]
+        ensures { result.now ≡ file_of self.now }
+    {
+        match self {
+            Command::Concepts { file, .. }
+            | Command::Lattice { file }
+            | Command::Basis { file, .. }
+            | Command::Follows { file, .. }
+            | Command::Convert { file, .. }
+            | Command::Replay { file } => file.bytes(),
+        }
+    }
+}
+
+/// The command that the words are, if they are one.
+pub fn command_of(alloc: Global, words: &[Word]) -> Result<Option<Command>, Memory>
+    ensures { IfOk result (λ command. command ≡ command_form words.now) }
+{
+    if !are_text(words) {
+        return Ok(None);
+    }
+    text_command(alloc, words)
+}
+
+fn are_text(words: &[Word]) -> bool
+    ensures { result ≡ list_all is_utf8 words.now }
+{
+    words.iter().all(is_text)
+}
+
+fn is_text(word: &Word) -> bool
+    ensures { result ≡ is_utf8 word.now }
+{
+    str::from_utf8(word.bytes()).is_ok()
+}
+
+/// The command that words of text are, if they are one.
+fn text_command(alloc: Global, words: &[Word]) -> Result<Option<Command>, Memory>
+    ensures { IfOk result (λ command. command ≡ text_command words.now) }
+{
+    match words {
+        [name, file, later @ ..] => named_command(alloc, name.bytes(), file, later),
+        _ => Ok(None),
+    }
+}
+
+/// The command of this name over the file, by the words behind it.
+fn named_command(
+    alloc: Global,
+    name: &[u8],
+    file: &Word,
+    later: &[Word],
+) -> Result<Option<Command>, Memory>
+    ensures { IfOk result (λ command. command ≡ named_command name.now file.now later.now) }
+{
+    if file.bytes().is_empty() {
+        return Ok(None);
+    }
+    let file = Word::new(alloc, file.bytes())?;
+    if name == b"concepts".as_slice() {
+        Ok(concepts_command(file, later))
+    } else if name == b"lattice".as_slice() {
+        Ok(lattice_command(file, later))
+    } else if name == b"basis".as_slice() {
+        Ok(basis_command(file, later))
+    } else if name == b"follows".as_slice() {
+        follows_command(alloc, file, later)
+    } else if name == b"convert".as_slice() {
+        Ok(convert_command(file, later))
+    } else if name == b"replay".as_slice() {
+        Ok(replay_command(file, later))
+    } else {
+        Ok(None)
+    }
+}
+
+fn concepts_command(file: Word, later: &[Word]) -> Option<Command>
+    ensures { result ≡ concepts_command file later.now }
+{
+    let json = json_said(later)?;
+    Some(Command::Concepts { file, json })
+}
+
+fn lattice_command(file: Word, later: &[Word]) -> Option<Command>
+    ensures { result ≡ lattice_command file later.now }
+{
+    match later {
+        [] => Some(Command::Lattice { file }),
+        _ => None,
+    }
+}
+
+fn basis_command(file: Word, later: &[Word]) -> Option<Command>
+    ensures { result ≡ basis_command file later.now }
+{
+    let json = json_said(later)?;
+    Some(Command::Basis { file, json })
+}
+
+/// Whether the words ask for JSON: one word does, and no word does not.
+fn json_said(words: &[Word]) -> Option<bool>
+    ensures { result ≡ json_said words.now }
+{
+    match words {
+        [] => Some(false),
+        [word] if word.bytes() == b"--json".as_slice() => Some(true),
+        _ => None,
+    }
+}
+
+fn follows_command(alloc: Global, file: Word, later: &[Word]) -> Result<Option<Command>, Memory>
+    ensures { IfOk result (λ command. command ≡ follows_command file later.now) }
+{
+    let [premise, conclusion] = later else {
+        return Ok(None);
+    };
+    let premise = Word::new(alloc, premise.bytes())?;
+    let conclusion = Word::new(alloc, conclusion.bytes())?;
+    Ok(Some(Command::Follows {
+        file,
+        premise,
+        conclusion,
+    }))
+}
+
+fn convert_command(file: Word, later: &[Word]) -> Option<Command>
+    ensures { result ≡ convert_command file later.now }
+{
+    let [word] = later else {
+        return None;
+    };
+    let to = form_named(word.bytes())?;
+    Some(Command::Convert { file, to })
+}
+
+/// The form that the word names.
+fn form_named(word: &[u8]) -> Option<Form>
+    ensures { result ≡ form_named word.now }
+{
+    if word == b"cxt".as_slice() {
+        Some(Form::Cxt)
+    } else {
+        None
+    }
+}
+
+fn replay_command(file: Word, later: &[Word]) -> Option<Command>
+    ensures { result ≡ replay_command file later.now }
+{
+    match later {
+        [] => Some(Command::Replay { file }),
+        _ => None,
+    }
+}

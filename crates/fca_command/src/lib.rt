@@ -1,0 +1,8 @@
+//! The words of the command line: the command that they are, and the attributes that a word names.
+#![tactic(auto)]
+
+mod attributes;
+mod command;
+
+pub use attributes::attributes_said;
+pub use command::{Command, Form, command_of};

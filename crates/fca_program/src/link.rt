@@ -1,0 +1,151 @@
+//! The real ends of `serve`: sockets of the system. They tell nothing of what they hold.
+
+ghost use Rattle.std.specs.Prelude.{◌≡◌, ◌≤◌, true, false};
+ghost use Rattle.fca_io.specs.Faults.{one_more};
+
+use fca_io::{Duplex, Failed, Listener, Sink, Source};
+use std::io::{Read, Write};
+use std::net::{Net, OpenListener, TcpListener, TcpStream};
+
+/// A socket that was accepted. A write that takes nothing is a fault.
+#[derive(Drop)]
+pub struct TcpEnd {
+    stream: TcpStream,
+    read_faults: u64,
+    write_faults: u64,
+}
+
+impl Source for TcpEnd {
+    ghost use Rattle.std.specs.Prelude.{None};
+
+    ghost left = { λ _. None };
+
+    ghost faults = { λ e. e.read_faults };
+
+    ghost beside = { λ _. None };
+
+    ghost faults_beside = { λ e. e.write_faults };
+
+    fn read(&mut self, into: &mut [u8]) -> Result<usize, Failed> {
+        match self.stream.read(into) {
+            Ok(count) => Ok(count),
+            Err(_) => {
+                self.read_faults = self.read_faults.saturating_add(1);
+                Err(Failed)
+            }
+        }
+    }
+}
+
+impl Sink for TcpEnd {
+    ghost use Rattle.std.specs.Prelude.{None};
+
+    ghost held = { λ _. None };
+
+    ghost faults = { λ e. e.write_faults };
+
+    ghost beside = { λ _. None };
+
+    ghost faults_beside = { λ e. e.read_faults };
+
+    fn write(&mut self, from: &[u8]) -> Result<usize, Failed> {
+        match self.stream.write(from) {
+            Ok(count) if count > 0 => Ok(count),
+            _ => {
+                self.write_faults = self.write_faults.saturating_add(1);
+                Err(Failed)
+            }
+        }
+    }
+}
+
+impl Duplex for TcpEnd {
+    ghost use Rattle.std.proofs.Common.{refl};
+
+    ghost held_beside = { λ _. refl };
+
+    ghost writes_beside = { λ _. refl };
+
+    ghost left_beside = { λ _. refl };
+
+    ghost reads_beside = { λ _. refl };
+}
+
+/// A listening socket, once it is open.
+#[derive(Drop)]
+pub struct TcpLink<'a, R: Net<Listener = TcpListener, Stream = TcpStream>> {
+    rt: &'a R,
+    listener: Option<TcpListener>,
+    faults: u64,
+}
+
+impl<'a, R: Net<Listener = TcpListener, Stream = TcpStream>> TcpLink<'a, R> {
+    ghost use Rattle.std.specs.Prelude.{None};
+
+    pub fn new(rt: &'a R) -> TcpLink<'a, R>
+        ensures closed { result.listener ≡ None }
+        ensures faultless { result.faults ≡ 0 }
+    {
+        TcpLink {
+            rt,
+            listener: None,
+            faults: 0,
+        }
+    }
+
+    fn count_fault(&mut self) -> Failed
+        ensures counted { self.new.faults ≡ one_more self.old.faults }
+        ensures later { self.old.faults ≤ self.new.faults }
+        ensures same { self.new.listener ≡ self.old.listener }
+    {
+        self.faults = self.faults.saturating_add(1);
+        Failed
+    }
+}
+
+impl<'a, R: Net<Listener = TcpListener, Stream = TcpStream>> Listener for TcpLink<'a, R> {
+    type End = TcpEnd;
+
+    ghost use Rattle.std.specs.Prelude.{None, is_some};
+
+    ghost listens = { λ l. is_some l.listener };
+
+    ghost listens_at = { λ _. None };
+
+    ghost ends = { λ _. None };
+
+    ghost open_faults = { λ l _. l.faults };
+
+    ghost accept_faults = { λ l. l.faults };
+
+    fn open(&mut self, address: &[u8]) -> Result<(), Failed> {
+        let Ok(address) = str::from_utf8(address) else {
+            return Err(self.count_fault());
+        };
+        match TcpListener::bind(self.rt, address) {
+            Ok(listener) => {
+                self.listener = Some(listener);
+                Ok(())
+            }
+            Err(_) => Err(self.count_fault()),
+        }
+    }
+
+    fn accept(&mut self) -> Result<TcpEnd, Failed> {
+        let accepted = match &self.listener {
+            Some(listener) => listener.accept().ok(),
+            None => None,
+        };
+        let Some((stream, _)) = accepted else {
+            return Err(self.count_fault());
+        };
+        let _ = stream.set_nodelay(true);
+        Ok(TcpEnd {
+            stream,
+            read_faults: 0,
+            write_faults: 0,
+        })
+    }
+
+    fn give_back(&mut self, _end: TcpEnd) {}
+}
