@@ -3,9 +3,11 @@
 
 mod attend;
 mod end;
+mod explored;
 mod panel;
 mod seat;
 
 pub use end::SeatEnd;
+pub use explored::{Explored, explore_with_oracles};
 pub use panel::run_panel;
 pub use seat::Seat;
