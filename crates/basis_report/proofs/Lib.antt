@@ -5,3 +5,4 @@ pub mod OrderLemmas
 pub mod JsonLemmas
 pub mod VerdictLemmas
 pub mod ConflictLemmas
+pub mod WrittenLemmas
