@@ -1,3 +1,6 @@
 pub mod SpelledLemmas
+pub mod CommentLemmas
 pub mod ExplorationLemmas
 pub mod OrderLemmas
+pub mod JsonLemmas
+pub mod VerdictLemmas

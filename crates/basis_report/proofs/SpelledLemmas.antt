@@ -69,7 +69,7 @@ Skips-basis_section attributes acc [] h =
     Skips-append (counted (codes "# basis ") (length acc)) (arrow_lines (codes "# ") attributes (in_lectic_order acc)) (Skips-counted (codes "basis ") (length acc) refl)
     (Skips-flat_map (λ x. arrow_line (codes "# ") attributes x.0 x.1) (enumerate_from 0 (in_lectic_order acc)) (λ x. Skips-arrow attributes x.0 x.1 h))
 
-Skips-sections : (attributes : List Text) (H : List SetEntry) (s : State) → list_all is_name attributes ≡ true → EachNamed H → Skips (sections attributes H s)
+pub Skips-sections : (attributes : List Text) (H : List SetEntry) (s : State) → list_all is_name attributes ≡ true → EachNamed H → Skips (sections attributes H s)
 Skips-sections attributes H s names named =
     let accepted = accepted_section attributes (length s.settings.known) s.accepted in
     let open_ = open_section attributes (open_in s) in
@@ -80,7 +80,7 @@ Skips-sections attributes H s names named =
 
 -- ---- the events are those of the history
 
-each_said : (n : ℕ) (H : List SetEntry) → list_all (λ entry. is_expert (expert_of entry.event)) H ≡ true → list_all (λ entry. has_width n entry.event) H ≡ true → EachNamed H → EachCanBeSaid n H
+pub each_said : (n : ℕ) (H : List SetEntry) → list_all (λ entry. is_expert (expert_of entry.event)) H ≡ true → list_all (λ entry. has_width n entry.event) H ≡ true → EachNamed H → EachCanBeSaid n H
 each_said n [] experts widths named = tt
 each_said n (entry ∷ H) experts widths named =
     let e = and_parts (is_expert (expert_of entry.event)) (list_all (λ x. is_expert (expert_of x.event)) H) experts in

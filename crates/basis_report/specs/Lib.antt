@@ -1,2 +1,5 @@
 pub mod Reports
 pub mod Explorations
+pub mod Comments
+pub mod Json
+pub mod Verdicts

@@ -114,7 +114,7 @@ fn write_objects(draft: &mut Draft, table: &Table, places: &[usize]) -> Result<(
             table,
             &[
                 Part::Bytes(between),
-                Part::Bytes(object_name(table, *place)),
+                Part::Bytes(object_text(table, *place).as_bytes()),
             ],
         )?;
         between = b", ".as_slice();
@@ -123,12 +123,12 @@ fn write_objects(draft: &mut Draft, table: &Table, places: &[usize]) -> Result<(
 }
 
 /// The name of the object, or nothing where there is none.
-pub(crate) fn object_name(table: &Table, place: usize) -> &[u8]
+pub(crate) fn object_text(table: &Table, place: usize) -> &str
     ensures { result.now ≡ unwrap_or (slice_get table.now.objects place) [] }
 {
     if place < table.rows().len() {
-        table.object(place).bytes()
+        table.object(place).text()
     } else {
-        b""
+        ""
     }
 }

@@ -35,7 +35,7 @@ pub(crate) fn write_arrows(
     Ok(())
 }
 
-fn write_arrow(
+pub(crate) fn write_arrow(
     draft: &mut Draft,
     table: &Table,
     words: &[u8],

@@ -1,12 +1,17 @@
 //! Laws of the texts, each the contract of a function that does nothing.
 
-ghost use Rattle.std.specs.Prelude.{◌≡◌, ◌++◌, [], List, true, length, codes};
+ghost use Rattle.std.specs.Prelude.{◌≡◌, ◌++◌, ℕ, [], List, true, false, Some, length, codes};
 ghost use Rattle.std.specs.List.{list_all};
-ghost use Rattle.fca_model.specs.Tables.{NamedContext};
+ghost use Rattle.fca_model.specs.Tables.{Text, NamedContext};
 ghost use Rattle.fca_model.specs.Exploration.{Settings, SetEntry, IsLegal, opening, plain, open_in};
 ghost use Rattle.expert_wire.specs.Words.{is_name};
 ghost use Rattle.fca_model.specs.Pseudo.{basis};
+ghost use Rattle.fca_model.specs.Sets.{Set};
+ghost use Rattle.fca_model.specs.Implications.{rule, holds};
+ghost use Rattle.canonical_basis.specs.Derivations.{is_sound};
 ghost use Rattle.basis_report.specs.Reports.{counted, arrow_lines};
+ghost use Rattle.basis_report.specs.Comments.{comments, are_lines};
+ghost use Rattle.basis_report.specs.Verdicts.{first_refuting, held_text, refuted_text, follows_text};
 ghost use Rattle.basis_report.specs.Explorations.{EachNamed, explore_text, spelled, state_of_text, basis_section};
 
 /// The text of an exploration spells its history.
@@ -15,9 +20,23 @@ pub fn exploration_reads_back()
         → IsLegal (opening t.context t.objects settings) H → spelled t settings (explore_text t settings H) ≡ H }
 {}
 
+/// Lines that begin with `#`, behind the text of an exploration, change nothing of what it spells.
+pub fn comments_change_nothing()
+    ensures { (t : NamedContext) (settings : Settings) (H : List SetEntry) (lines : List Text) → list_all is_name t.attributes ≡ true → EachNamed H
+        → IsLegal (opening t.context t.objects settings) H → are_lines lines ≡ true → spelled t settings (explore_text t settings H ++ comments lines) ≡ H }
+{}
+
 /// Where no question is open, the text of an exploration ends with the basis of all rows, from scratch.
 pub fn finished_ends_with_basis()
     ensures { (t : NamedContext) (H : List SetEntry) → IsLegal (opening t.context t.objects plain) H → open_in (state_of_text t plain H) ≡ []
         → basis_section t.attributes (state_of_text t plain H).accepted []
         ≡ counted (codes "# basis ") (length (basis (state_of_text t plain H).context)) ++ arrow_lines (codes "# ") t.attributes (basis (state_of_text t plain H).context) }
+{}
+
+/// The verdict on an implication is right: where it holds, a sound derivation from the basis is told, and else the first row that refutes it.
+pub fn verdict_is_right()
+    ensures held { (t : NamedContext) (P C : Set) → length P ≡ t.context.width → length C ≡ t.context.width → holds t.context (rule P C) ≡ true
+        → (steps : List ℕ) × (is_sound (basis t.context) P C steps ≡ true) × (follows_text t (basis t.context) P C ≡ held_text t.attributes (basis t.context) steps) }
+    ensures refuted { (t : NamedContext) (P C : Set) → length C ≡ t.context.width → holds t.context (rule P C) ≡ false
+        → (place : ℕ) × (first_refuting t (rule P C) ≡ Some place) × (follows_text t (basis t.context) P C ≡ refuted_text t place) }
 {}

@@ -1,11 +1,15 @@
-//! Every text that is printed: concepts, lattices, bases and explorations.
+//! Every text that is printed: concepts, lattices, bases, verdicts and explorations.
 #![tactic(auto)]
 
 mod concepts;
 mod explorations;
 mod implications;
+mod json;
 pub mod laws;
+mod verdicts;
 
 pub use concepts::{concepts_text, lattice_text};
 pub use explorations::explore_text;
 pub use implications::basis_text;
+pub use json::{basis_json, concepts_json};
+pub use verdicts::follows_text;

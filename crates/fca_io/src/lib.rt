@@ -1,12 +1,14 @@
-//! Streams and files as the rest of the workbench sees them, their forms in memory, and a counter of steps.
+//! Streams, files and listeners as the rest of the workbench sees them, their forms in memory, and a counter of steps.
 #![tactic(auto)]
 
+mod listener;
 mod memory;
 mod outside;
 mod steps;
 mod transfer;
 
-pub use memory::{MemoryShelf, MemorySink, MemorySource, SureSource};
+pub use listener::{Duplex, Listener};
+pub use memory::{MemoryEnd, MemoryLink, MemoryShelf, MemorySink, MemorySource, SureSource};
 pub use outside::{Failed, Put, Shelf, Sink, Source, Taken};
 pub use steps::Steps;
 pub use transfer::{read_all, write_text};

@@ -1,10 +1,14 @@
-//! Sources, sinks and shelves in memory, whose calls fail where a list says so.
+//! Sources, sinks, shelves, ends and listeners in memory, whose calls fail where a list says so.
 
+mod end;
+mod link;
 mod plan;
 mod shelf;
 mod sink;
 mod source;
 
+pub use end::MemoryEnd;
+pub use link::MemoryLink;
 pub use shelf::MemoryShelf;
 pub use sink::MemorySink;
 pub use source::{MemorySource, SureSource};

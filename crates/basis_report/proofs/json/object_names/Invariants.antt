@@ -1,0 +1,9 @@
+use Rattle.std.proofs.Common.{◌≡◌, ◌++◌, map, drop}
+use Rattle.serde_json.specs.Data.{string}
+use Rattle.serde_json.specs.View.{view}
+use Rattle.basis_report.specs.Reports.{names_at}
+use Rattle.basis_report.proofs.json.object_names.Given as goal
+
+abbrev pub invariant-loop-place : goal.invariant-loop-place
+invariant-loop-place l =
+    map view l.names.items ++ map (λ name. string name) (names_at l.table.objects (drop l.place-index l.places)) ≡ map (λ name. string name) (names_at l.table.objects l.places)

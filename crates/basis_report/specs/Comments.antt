@@ -1,0 +1,18 @@
+-- Lines that a script skips: each begins with `# `. Behind the text of an exploration they change nothing of what it spells.
+use Rattle.std.specs.Prelude.{Bool, not, List, ◌++◌, codes}
+use Rattle.std.specs.List.{list_any, list_all, flat_map}
+use Rattle.fca_model.specs.Tables.{Text}
+use Rattle.fca_model.specs.Names.{is_line_break}
+use Rattle.expert_wire.specs.Texts.{line_end}
+
+-- the words behind `# `, as a line
+abbrev pub comment_line : Text → Text
+comment_line words = codes "# " ++ (words ++ line_end)
+
+-- each of the words as a line
+abbrev pub comments : List Text → Text
+comments lines = flat_map comment_line lines
+
+-- no line break stands within them
+abbrev pub are_lines : List Text → Bool
+are_lines lines = list_all (λ words. not (list_any is_line_break words)) lines

@@ -1,0 +1,39 @@
+-- Concepts and implications as JSON: one line of compact text, in which the keys of an object stand in the order of their bytes.
+--
+-- Of one concept, with no object and the intent {a, b}, it is `{"concepts":[{"extent":[],"intent":["a","b"]}]}` and a line end.
+use Rattle.std.specs.Prelude.{List, ◌++◌, map, codes}
+use Rattle.serde_json.specs.Data.{Data, string, array, object, member, no_members}
+use Rattle.serde_json.specs.View.{items_of}
+use Rattle.serde_json.specs.Written.{compact_text}
+use Rattle.fca_model.specs.Tables.{Text, NamedContext}
+use Rattle.fca_model.specs.Implications.{Rule}
+use Rattle.attr_bits.specs.Difference.{minus}
+use Rattle.lectic_concepts.specs.declared.Concept.{Concept}
+use Rattle.expert_wire.specs.Texts.{line_end, names_of}
+use Rattle.basis_report.specs.Reports.{names_at}
+
+-- names as an array of strings
+abbrev pub names_data : List Text → Data
+names_data names = array (items_of (map (λ name. string name) names))
+
+-- a concept: the names of its objects and those of its attributes
+abbrev pub concept_data : NamedContext → Concept → Data
+concept_data t c =
+    object (member (codes "extent") (names_data (names_at t.objects c.extent)) (member (codes "intent") (names_data (names_of t.attributes c.intent)) no_members))
+
+abbrev pub concepts_data : NamedContext → List Concept → Data
+concepts_data t cs = object (member (codes "concepts") (array (items_of (map (concept_data t) cs))) no_members)
+
+-- an implication: of its conclusion only what the premise lacks
+abbrev pub implication_data : List Text → Rule → Data
+implication_data attributes i =
+    object (member (codes "conclusion") (names_data (names_of attributes (minus i.conclusion i.premise))) (member (codes "premise") (names_data (names_of attributes i.premise)) no_members))
+
+abbrev pub basis_data : List Text → List Rule → Data
+basis_data attributes J = object (member (codes "implications") (array (items_of (map (implication_data attributes) J))) no_members)
+
+unfoldable pub concepts_json : NamedContext → List Concept → Text
+concepts_json t cs = compact_text (concepts_data t cs) ++ line_end
+
+unfoldable pub basis_json : List Text → List Rule → Text
+basis_json attributes J = compact_text (basis_data attributes J) ++ line_end

@@ -1,0 +1,96 @@
+//! Whether an implication holds, and why.
+
+ghost use Rattle.std.specs.Prelude.{◌≡◌, ◌<◌, ◌++◌, ℕ, [], true, Some, length, codes, IfOk, OnOk, slice_index_or, nat_lt};
+ghost use Rattle.std.specs.List.{flat_map, list_all};
+ghost use Rattle.fca_model.specs.Implications.{rule, follows};
+ghost use Rattle.fca_model.specs.Pseudo.{basis};
+ghost use Rattle.canonical_basis.specs.Derivations.{derivation, is_sound};
+ghost use Rattle.basis_report.specs.Verdicts.{step_line, held_text, refuted_text, follows_text};
+
+use crate::concepts::{object_text, write_counted};
+use crate::implications::write_arrow;
+use attr_bits::Attrs;
+use canonical_basis::{Derivation, derive};
+use context_table::Table;
+use expert_wire::{Draft, Part};
+use fca_model::Memory;
+use implication_closure::{Implication, ImplicationList};
+use std::alloc::Global;
+
+/// Whether the implication from p to c holds, by a derivation from the basis or by the first row that refutes it.
+pub fn follows_text(
+    alloc: Global,
+    table: &Table,
+    list: &ImplicationList,
+    p: &Attrs,
+    c: &Attrs,
+) -> Result<Vec<u8>, Memory>
+    requires basis { list.now ≡ record { width = table.now.context.width; members = basis table.now.context } }
+    requires premise { length p.now ≡ table.now.context.width }
+    requires conclusion { length c.now ≡ table.now.context.width }
+    ensures { IfOk result (λ v. v.items ≡ follows_text table.now list.now.members p.now c.now) }
+{
+    let mut draft = Draft::new(alloc);
+    match table.rows().refuter(p, c) {
+        Some(place) => write_refuted(&mut draft, table, place)?,
+        None => {
+            let derivation = derivation_of(alloc, list, p, c)?;
+            write_held(&mut draft, table, list.as_slice(), derivation.as_slice())?;
+        }
+    }
+    Ok(draft.into_bytes())
+}
+
+/// The derivation of an implication that follows from the list.
+fn derivation_of(
+    alloc: Global,
+    list: &ImplicationList,
+    p: &Attrs,
+    c: &Attrs,
+) -> Result<Derivation, Memory>
+    requires premise { length p.now ≡ list.now.width }
+    requires conclusion { length c.now ≡ list.now.width }
+    requires follows { follows list.now.width list.now.members (rule p.now c.now) ≡ true }
+    ensures derivation { IfOk result (λ steps. derivation list.now p.now c.now ≡ Some steps) }
+    ensures in_range { IfOk result (λ steps. list_all (λ i. nat_lt i (length list.now.members)) steps ≡ true) }
+{
+    match derive(alloc, list, p, c)? {
+        Some(derivation) => Ok(derivation),
+        None => unreachable!(),
+    }
+}
+
+fn write_held(
+    draft: &mut Draft,
+    table: &Table,
+    members: &[Implication],
+    steps: &[usize],
+) -> Result<(), Memory>
+    requires { list_all (λ i. nat_lt i (length members.now)) steps.now ≡ true }
+    ensures { OnOk result (draft.new ≡ draft.old ++ held_text table.now.attributes members.now steps.now) }
+{
+    draft.parts(table, &[Part::Bytes(b"holds\n")])?;
+    write_counted(draft, table, b"steps ", steps.len())?;
+    for step in steps {
+        write_arrow(draft, table, b"", *step, &members[*step])?;
+    }
+    Ok(())
+}
+
+fn write_refuted(draft: &mut Draft, table: &Table, place: usize) -> Result<(), Memory>
+    requires { place < length table.now.context.rows }
+    ensures { OnOk result (draft.new ≡ draft.old ++ refuted_text table.now place) }
+{
+    draft.parts(
+        table,
+        &[
+            Part::Bytes(b"refuted "),
+            Part::Ordinal(place),
+            Part::Bytes(b" "),
+            Part::Pattern(table.rows().get(place)),
+            Part::Bytes(b" "),
+            Part::Bytes(object_text(table, place).as_bytes()),
+            Part::Bytes(b"\n"),
+        ],
+    )
+}

@@ -1,0 +1,130 @@
+//! An end in memory.
+
+ghost use Rattle.std.specs.Prelude.{◌≡◌, ◌≤◌, ◌<◌, ◌-◌, ◌↔◌, ◌⊎◌, [], length, min, Some, Result, IfOk, IsErr, IsTrue, OnErr};
+ghost use Rattle.std.specs.Io.{ReadsAtMost};
+ghost use Rattle.std.specs.Io.KnownBytes.{ReadConsumes, WriteAppends, Keeps};
+ghost use Rattle.fca_io.specs.Faults.{Rose};
+ghost use Rattle.fca_io.specs.Forms.{planned, fails_next};
+
+use super::sink::MemorySink;
+use super::source::MemorySource;
+use crate::listener::Duplex;
+use crate::outside::{Failed, Sink, Source};
+use fca_model::Memory;
+use std::alloc::Global;
+use std::marker::Model;
+
+/// An end in memory whose reads and writes fail where lists say so.
+#[derive(Drop)]
+pub struct MemoryEnd {
+    source: MemorySource,
+    sink: MemorySink,
+}
+
+impl Model for MemoryEnd {
+    ghost use Rattle.fca_io.specs.Links.{Wire};
+
+    ghost Value = { Wire };
+
+    ghost view = { λ e. record { incoming = e.source; outgoing = e.sink } };
+}
+
+impl MemoryEnd {
+    /// An end that has the bytes to be read and room for `room` bytes written. Its reads and its writes with the numbers
+    /// `read_fails` and `write_fails`, each counted from 1, fail, and the others move at most `most` bytes.
+    pub fn new(
+        alloc: Global,
+        bytes: &[u8],
+        room: usize,
+        read_fails: &[usize],
+        write_fails: &[usize],
+        most: usize,
+    ) -> Result<MemoryEnd, Memory>
+        requires { 0 < most }
+        ensures incoming { IfOk result (λ end. end.incoming ≡ record { bytes = bytes.now; most = most; plan = planned read_fails.now }) }
+        ensures outgoing { IfOk result (λ end. end.outgoing ≡ record { bytes = []; most = most; room = room; plan = planned write_fails.now }) }
+    {
+        Ok(MemoryEnd {
+            source: MemorySource::new(alloc, bytes, read_fails, most)?,
+            sink: MemorySink::new(alloc, room, write_fails, most)?,
+        })
+    }
+
+    /// The bytes that were written.
+    pub fn written(&self) -> &[u8]
+        ensures { result.now ≡ self.now.outgoing.bytes }
+    {
+        self.sink.written()
+    }
+}
+
+impl Source for MemoryEnd {
+    ghost use Rattle.std.specs.Prelude.{Some};
+
+    ghost left = { λ e. Some e.incoming.bytes };
+
+    ghost faults = { λ e. e.incoming.plan.faults };
+
+    ghost beside = { λ e. Some e.outgoing.bytes };
+
+    ghost faults_beside = { λ e. e.outgoing.plan.faults };
+
+    fn read(&mut self, into: &mut [u8]) -> Result<usize, Failed>
+        requires { 0 < length into.old }
+
+        // Which call fails, and how much each other call moves.
+        ensures fails { IsErr result ↔ IsTrue (fails_next self.old.incoming.plan) }
+        ensures count { IfOk result (λ count. count ≡ min (min (length into.old) self.old.incoming.most) (length self.old.incoming.bytes)) }
+
+        ensures bound { ReadsAtMost result into.new }
+        ensures bytes { ReadConsumes (Some self.old.incoming.bytes) (Some self.new.incoming.bytes) result into.new }
+        ensures failed { OnErr result (Rose self.old.incoming.plan.faults self.new.incoming.plan.faults) }
+        ensures later { self.old.incoming.plan.faults ≤ self.new.incoming.plan.faults }
+
+        ensures other { self.new.outgoing ≡ self.old.outgoing }
+    {
+        self.source.read(into)
+    }
+}
+
+impl Sink for MemoryEnd {
+    ghost use Rattle.std.specs.Prelude.{Some};
+
+    ghost held = { λ e. Some e.outgoing.bytes };
+
+    ghost faults = { λ e. e.outgoing.plan.faults };
+
+    ghost beside = { λ e. Some e.incoming.bytes };
+
+    ghost faults_beside = { λ e. e.incoming.plan.faults };
+
+    fn write(&mut self, from: &[u8]) -> Result<usize, Failed>
+        requires { 0 < length from.now }
+
+        // Which call fails, and how much each other call takes.
+        ensures fails { IsErr result ↔ (IsTrue (fails_next self.old.outgoing.plan) ⊎ (self.old.outgoing.room ≡ length self.old.outgoing.bytes)) }
+        ensures count { IfOk result (λ count. count ≡ min (min (length from.now) self.old.outgoing.most) (self.old.outgoing.room - length self.old.outgoing.bytes)) }
+
+        ensures some { IfOk result (λ count. 0 < count) }
+        ensures bound { IfOk result (λ count. count ≤ length from.now) }
+        ensures bytes { WriteAppends (Some self.old.outgoing.bytes) (Some self.new.outgoing.bytes) result from.now }
+        ensures failed { OnErr result (Rose self.old.outgoing.plan.faults self.new.outgoing.plan.faults) }
+        ensures later { self.old.outgoing.plan.faults ≤ self.new.outgoing.plan.faults }
+
+        ensures other { self.new.incoming ≡ self.old.incoming }
+    {
+        self.sink.write(from)
+    }
+}
+
+impl Duplex for MemoryEnd {
+    ghost use Rattle.std.proofs.Common.{refl};
+
+    ghost held_beside = { λ _. refl };
+
+    ghost writes_beside = { λ _. refl };
+
+    ghost left_beside = { λ _. refl };
+
+    ghost reads_beside = { λ _. refl };
+}
