@@ -66,7 +66,7 @@ pub fn is_mark(line: &[u8]) -> bool
 }
 
 /// Whether these are one or more decimal digits.
-fn is_number(word: &[u8]) -> bool
+pub fn is_number(word: &[u8]) -> bool
     ensures { result ≡ form.is_number word.now }
 {
     !word.is_empty() && are_digits(word)
@@ -79,7 +79,7 @@ fn are_digits(word: &[u8]) -> bool
 }
 
 /// The number that the digits write, or the greatest that fits where it is greater.
-fn value_of(digits: &[u8]) -> usize
+pub fn value_of(digits: &[u8]) -> usize
     ensures { result ≡ min (form.value_of digits.now) (2 ^ 64 - 1) }
 {
     let mut value = 0usize;
