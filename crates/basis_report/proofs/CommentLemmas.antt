@@ -1,17 +1,27 @@
 -- Behind the text of an exploration lines that begin with `#` are skipped like those of its sections, so the whole spells the same history.
-use Rattle.std.proofs.Common.{◌≡◌, true, not, List, [], ◌∷◌, ◌++◌, ap, ◌∙◌, append_assoc}
-use Rattle.std.specs.List.{list_any, list_all}
-use Rattle.std.proofs.lemmas.Bool.{and_parts, not-true}
+use Rattle.std.proofs.Common.{◌≡◌, ℕ, zero, suc, ◌+◌, Bool, true, false, not, Option, Some, None, List, [], ◌∷◌, ◌++◌, length, get_or, refl, ap, ◌∙◌, append_assoc}
+use Rattle.std.specs.Prelude.{codes, unwrap_or, slice_get, slice_index_or}
+use Rattle.std.specs.List.{list_any, list_all, flat_map, enumerate_from}
+use Rattle.std.proofs.lemmas.Bool.{and_parts, and_from, not-true}
+use Rattle.std.proofs.lemmas.List.Folds.{list_all-append}
+use Rattle.std.proofs.lemmas.Option.{unwrap_or-slice_get}
 use Rattle.fca_model.specs.Names.{is_line_break}
 use Rattle.fca_model.specs.Tables.{Text, NamedContext}
+use Rattle.fca_model.specs.Implications.{Rule, rule}
 use Rattle.fca_model.specs.Exploration.{Settings, SetEntry, IsLegal, opening, journal_of}
-use Rattle.expert_wire.specs.Replies.{transcript}
+use Rattle.expert_wire.specs.Texts.{ordinal, pattern}
+use Rattle.expert_wire.specs.Replies.{numbered_rule, transcript}
 use Rattle.expert_wire.specs.Words.{is_name}
 use Rattle.expert_wire.specs.Scripts.{script_form}
-use Rattle.expert_wire.proofs.SkipLemmas.{Skips, Skips-nil, Skips-append, Skips-comment, script_form-transcript}
+use Rattle.expert_wire.proofs.ReadLemmas.{pattern_no_break}
+use Rattle.expert_wire.proofs.SkipLemmas.{Skips, Skips-nil, Skips-append, Skips-comment, no_break-append, no_break-decimal, no_break-name, no_break-rule, script_form-transcript}
+use Rattle.oracle_expert.specs.Oracles.{Conflicts}
+use Rattle.basis_report.specs.Reports.{counted}
 use Rattle.basis_report.specs.Comments.{comment_line, comments, are_lines}
+use Rattle.basis_report.specs.Conflicts.{Dropped, dropped_at, dropped_of, dropped_from, conflict_words, conflict_line, conflicts_text}
+use Rattle.basis_report.specs.Sessions.{session_line, sessions_text}
 use Rattle.basis_report.specs.Explorations.{EachNamed, sections, state_of_text, explore_text, events_read, spelled}
-use Rattle.basis_report.proofs.SpelledLemmas.{each_said, Skips-sections}
+use Rattle.basis_report.proofs.SpelledLemmas.{each_said, Skips-counted, Skips-sections}
 
 Skips-comments : (lines : List Text) → are_lines lines ≡ true → Skips (comments lines)
 Skips-comments [] h = Skips-nil
@@ -34,3 +44,80 @@ spelled-more t settings H more names named legal skips =
 pub spelled-comments : (t : NamedContext) (settings : Settings) (H : List SetEntry) (lines : List Text) → list_all is_name t.attributes ≡ true → EachNamed H
     → IsLegal (opening t.context t.objects settings) H → are_lines lines ≡ true → spelled t settings (explore_text t settings H ++ comments lines) ≡ H
 spelled-comments t settings H lines names named legal h = spelled-more t settings H (comments lines) names named legal (Skips-comments lines h)
+
+-- ---- conflicts
+
+-- the name of the row has no line break
+abbrev has_line_name : Dropped → Bool
+has_line_name d = not (list_any is_line_break d.name)
+
+abbrev have_names : List (NamedContext × Conflicts) → Bool
+have_names oracles = list_all (λ o. list_all is_name o.0.objects) oracles
+
+no_break-at : (names : List Text) (i : ℕ) → list_all is_name names ≡ true → list_any is_line_break (get_or names i []) ≡ false
+no_break-at [] i h = refl
+no_break-at (name ∷ names) zero h = no_break-name name (and_parts (is_name name) (list_all is_name names) h).0
+no_break-at (name ∷ names) (suc i) h = no_break-at names i (and_parts (is_name name) (list_all is_name names) h).1
+
+named_at : (e : ℕ) (D : NamedContext) (place : ℕ) (o : Option ℕ) → list_all is_name D.objects ≡ true → list_all has_line_name (dropped_at e D place o) ≡ true
+named_at e D place None h = refl
+named_at e D place (Some k) h =
+    let none : list_any is_line_break (unwrap_or (slice_get D.objects place) []) ≡ false = ap (list_any is_line_break) (unwrap_or-slice_get D.objects place []) ∙ no_break-at D.objects place h in
+    and_from (not (list_any is_line_break (unwrap_or (slice_get D.objects place) []))) true (ap not none) refl
+
+named_of : (e : ℕ) (D : NamedContext) (xs : List (ℕ × Option ℕ)) → list_all is_name D.objects ≡ true → list_all has_line_name (flat_map (λ x. dropped_at e D x.0 x.1) xs) ≡ true
+named_of e D [] h = refl
+named_of e D (x ∷ xs) h =
+    let later = flat_map (λ x. dropped_at e D x.0 x.1) xs in
+    list_all-append has_line_name (dropped_at e D x.0 x.1) later
+    ∙ and_from (list_all has_line_name (dropped_at e D x.0 x.1)) (list_all has_line_name later) (named_at e D x.0 x.1 h) (named_of e D xs h)
+
+named_from : (e : ℕ) (oracles : List (NamedContext × Conflicts)) → have_names oracles ≡ true → list_all has_line_name (dropped_from e oracles) ≡ true
+named_from e [] h = refl
+named_from e (o ∷ os) h =
+    let parts = and_parts (list_all is_name o.0.objects) (have_names os) h in
+    list_all-append has_line_name (dropped_of e o.0 o.1) (dropped_from (e + 1) os)
+    ∙ and_from (list_all has_line_name (dropped_of e o.0 o.1)) (list_all has_line_name (dropped_from (e + 1) os)) (named_of e o.0 (enumerate_from 0 o.1) parts.0) (named_from (e + 1) os parts.1)
+
+no_break-conflict : (attributes : List Text) (accepted : List Rule) (d : Dropped) → list_all is_name attributes ≡ true → has_line_name d ≡ true
+    → list_any is_line_break (conflict_words attributes accepted d) ≡ false
+no_break-conflict attributes accepted d names named =
+    let told = numbered_rule attributes d.broken (slice_index_or accepted d.broken (rule [] [])) in
+    let from_name = d.name ++ (codes " " ++ told) in
+    let from_row = pattern d.row ++ (codes " " ++ from_name) in
+    let from_place = ordinal d.place ++ (codes " " ++ from_row) in
+    no_break-append (ordinal d.expert) (codes " " ++ from_place) (no_break-decimal (d.expert + 1))
+    (no_break-append (ordinal d.place) (codes " " ++ from_row) (no_break-decimal (d.place + 1))
+    (no_break-append (pattern d.row) (codes " " ++ from_name) (pattern_no_break d.row)
+    (no_break-append d.name (codes " " ++ told) (not-true (list_any is_line_break d.name) named)
+    (no_break-rule attributes d.broken (slice_index_or accepted d.broken (rule [] [])) names))))
+
+Skips-dropped : (attributes : List Text) (accepted : List Rule) (ds : List Dropped) → list_all is_name attributes ≡ true → list_all has_line_name ds ≡ true
+    → Skips (flat_map (conflict_line attributes accepted) ds)
+Skips-dropped attributes accepted [] names h = Skips-nil
+Skips-dropped attributes accepted (d ∷ ds) names h =
+    let parts = and_parts (has_line_name d) (list_all has_line_name ds) h in
+    Skips-append (conflict_line attributes accepted d) (flat_map (conflict_line attributes accepted) ds)
+    (Skips-comment (conflict_words attributes accepted d) (no_break-conflict attributes accepted d names parts.0))
+    (Skips-dropped attributes accepted ds names parts.1)
+
+pub Skips-conflicts_text : (attributes : List Text) (accepted : List Rule) (oracles : List (NamedContext × Conflicts)) → list_all is_name attributes ≡ true → list_all (λ o. list_all is_name o.0.objects) oracles ≡ true
+    → Skips (conflicts_text attributes accepted oracles)
+unfolding conflicts_text
+Skips-conflicts_text attributes accepted oracles names h =
+    let ds = dropped_from 0 oracles in
+    Skips-append (counted (codes "# conflicts ") (length ds)) (flat_map (conflict_line attributes accepted) ds) (Skips-counted (codes "conflicts ") (length ds) refl) (Skips-dropped attributes accepted ds names (named_from 0 oracles h))
+
+-- ---- sessions
+
+Skips-endings : (k : ℕ) (endings : List Text) → are_lines endings ≡ true → Skips (flat_map (λ x. session_line x.0 x.1) (enumerate_from k endings))
+Skips-endings k [] h = Skips-nil
+Skips-endings k (words ∷ endings) h =
+    let parts = and_parts (not (list_any is_line_break words)) (are_lines endings) h in
+    Skips-append (session_line k words) (flat_map (λ x. session_line x.0 x.1) (enumerate_from (k + 1) endings))
+    (Skips-comment (ordinal k ++ (codes " " ++ words)) (no_break-append (ordinal k) (codes " " ++ words) (no_break-decimal (k + 1)) (not-true (list_any is_line_break words) parts.0)))
+    (Skips-endings (k + 1) endings parts.1)
+
+pub Skips-sessions_text : (endings : List Text) → are_lines endings ≡ true → Skips (sessions_text endings)
+Skips-sessions_text endings h =
+    Skips-append (counted (codes "# sessions ") (length endings)) (flat_map (λ x. session_line x.0 x.1) (enumerate_from 0 endings)) (Skips-counted (codes "sessions ") (length endings) refl) (Skips-endings 0 endings h)

@@ -4,3 +4,4 @@ pub mod ExplorationLemmas
 pub mod OrderLemmas
 pub mod JsonLemmas
 pub mod VerdictLemmas
+pub mod ConflictLemmas

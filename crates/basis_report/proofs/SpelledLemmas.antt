@@ -21,7 +21,7 @@ use Rattle.basis_report.specs.Explorations.{is_recorded, recorded_line, recorded
 
 -- ---- each section is skipped
 
-Skips-counted : (words : Text) (n : ℕ) → list_any is_line_break words ≡ false → Skips (counted (codes "# " ++ words) n)
+pub Skips-counted : (words : Text) (n : ℕ) → list_any is_line_break words ≡ false → Skips (counted (codes "# " ++ words) n)
 Skips-counted words n h = subst Skips (ap (λ t. codes "# " ++ t) (append_assoc words (decimal n) line_end)) (Skips-comment (words ++ decimal n) (no_break-append words (decimal n) h (no_break-decimal n)))
 
 grouped : (a b c : Text) → codes "# " ++ ((a ++ (codes " " ++ (b ++ (codes " " ++ c)))) ++ line_end) ≡ codes "# " ++ (a ++ (codes " " ++ (b ++ (codes " " ++ (c ++ line_end)))))

@@ -1,5 +1,7 @@
 pub mod Reports
 pub mod Explorations
 pub mod Comments
+pub mod Conflicts
 pub mod Json
+pub mod Sessions
 pub mod Verdicts

@@ -7,10 +7,13 @@ ghost use Rattle.fca_model.specs.Exploration.{Settings, SetEntry, IsLegal, openi
 ghost use Rattle.expert_wire.specs.Words.{is_name};
 ghost use Rattle.fca_model.specs.Pseudo.{basis};
 ghost use Rattle.fca_model.specs.Sets.{Set};
-ghost use Rattle.fca_model.specs.Implications.{rule, holds};
+ghost use Rattle.fca_model.specs.Implications.{Rule, rule, holds};
 ghost use Rattle.canonical_basis.specs.Derivations.{is_sound};
 ghost use Rattle.basis_report.specs.Reports.{counted, arrow_lines};
 ghost use Rattle.basis_report.specs.Comments.{comments, are_lines};
+ghost use Rattle.oracle_expert.specs.Oracles.{Conflicts};
+ghost use Rattle.basis_report.specs.Conflicts.{conflicts_text};
+ghost use Rattle.basis_report.specs.Sessions.{sessions_text};
 ghost use Rattle.basis_report.specs.Verdicts.{first_refuting, held_text, refuted_text, follows_text};
 ghost use Rattle.basis_report.specs.Explorations.{EachNamed, explore_text, spelled, state_of_text, basis_section};
 
@@ -20,10 +23,15 @@ pub fn exploration_reads_back()
         → IsLegal (opening t.context t.objects settings) H → spelled t settings (explore_text t settings H) ≡ H }
 {}
 
-/// Lines that begin with `#`, behind the text of an exploration, change nothing of what it spells.
+/// Lines that begin with `#`, as those of conflicts and of sessions, change nothing of what the text of an exploration before them spells.
 pub fn comments_change_nothing()
-    ensures { (t : NamedContext) (settings : Settings) (H : List SetEntry) (lines : List Text) → list_all is_name t.attributes ≡ true → EachNamed H
+    ensures any { (t : NamedContext) (settings : Settings) (H : List SetEntry) (lines : List Text) → list_all is_name t.attributes ≡ true → EachNamed H
         → IsLegal (opening t.context t.objects settings) H → are_lines lines ≡ true → spelled t settings (explore_text t settings H ++ comments lines) ≡ H }
+    ensures conflicts { (t : NamedContext) (settings : Settings) (H : List SetEntry) (accepted : List Rule) (oracles : List (NamedContext × Conflicts)) → list_all is_name t.attributes ≡ true
+        → EachNamed H → IsLegal (opening t.context t.objects settings) H → list_all (λ o. list_all is_name o.0.objects) oracles ≡ true
+        → spelled t settings (explore_text t settings H ++ conflicts_text t.attributes accepted oracles) ≡ H }
+    ensures sessions { (t : NamedContext) (settings : Settings) (H : List SetEntry) (endings : List Text) → list_all is_name t.attributes ≡ true → EachNamed H
+        → IsLegal (opening t.context t.objects settings) H → are_lines endings ≡ true → spelled t settings (explore_text t settings H ++ sessions_text endings) ≡ H }
 {}
 
 /// Where no question is open, the text of an exploration ends with the basis of all rows, from scratch.

@@ -2,14 +2,18 @@
 #![tactic(auto)]
 
 mod concepts;
+mod conflicts;
 mod explorations;
 mod implications;
 mod json;
 pub mod laws;
+mod sessions;
 mod verdicts;
 
 pub use concepts::{concepts_text, lattice_text};
+pub use conflicts::conflicts_text;
 pub use explorations::explore_text;
 pub use implications::basis_text;
 pub use json::{basis_json, concepts_json};
+pub use sessions::sessions_text;
 pub use verdicts::follows_text;

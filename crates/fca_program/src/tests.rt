@@ -33,6 +33,9 @@ const ONE_FULL_ROW: &[u8] = b"B\n\n1\n3\n\ng\na\nb\nc\nXXX\n";
 /// A nominal scale.
 const NOMINAL: &[u8] = b"B\n\n3\n3\n\n1\n2\n3\na\nb\nc\nX..\n.X.\n..X\n";
 
+/// Living beings and water.
+const LIVING: &[u8] = b"B\n\n8\n9\n\nleech\nbream\nfrog\ndog\nspike-weed\nreed\nbean\nmaize\na\nb\nc\nd\ne\nf\ng\nh\ni\nXX....X..\nXX....XX.\nXXX...XX.\nX.X...XXX\nXX.X.X...\nXXXX.X...\nX.XXX....\nX.XX.X...\n";
+
 /// A whole exploration of two attributes by two experts.
 const WHOLE: &[u8] =
     b"exploration 1\ndraw 1\n# ask .. XX {} -> {a, b}\nrow 1 .. p\n# taken 1\ndraw 1\n# ask .X XX {b} -> {a}\ndraw 2\n# ask X. XX {a} -> {b}\nrow 1 .X q\n# taken 2\nconfirm 2\n# accepted 1\ndraw 1\n# done\n# recorded 2\n# 1 .. p\n# 2 .X q\n# accepted 1\n# 1 X. XX {a} -> {b}\n# open 0\n# basis 1\n# 1 {a} -> {b}\n";
@@ -115,7 +118,7 @@ const EXPLORATIONS: [Call; 11] = [
     ),
 ];
 
-const TABLES: [Call; 10] = [
+const TABLES: [Call; 15] = [
     (
         &[b"concepts", b"F"],
         NO_ATTRIBUTES,
@@ -161,6 +164,41 @@ const TABLES: [Call; 10] = [
         b"basis 3\n1 {b, c} -> {a}\n2 {a, c} -> {b}\n3 {a, b} -> {c}\n",
     ),
     (
+        &[b"concepts", b"F", b"--json"],
+        NO_OBJECTS,
+        b"",
+        0,
+        b"{\"concepts\":[{\"extent\":[],\"intent\":[\"a\",\"b\",\"c\"]}]}\n",
+    ),
+    (
+        &[b"basis", b"F", b"--json"],
+        NOMINAL,
+        b"",
+        0,
+        b"{\"implications\":[{\"conclusion\":[\"a\"],\"premise\":[\"b\",\"c\"]},{\"conclusion\":[\"b\"],\"premise\":[\"a\",\"c\"]},{\"conclusion\":[\"c\"],\"premise\":[\"a\",\"b\"]}]}\n",
+    ),
+    (
+        &[b"follows", b"F", b"i", b"g"],
+        LIVING,
+        b"",
+        0,
+        b"holds\nsteps 2\n1 {} -> {a}\n2 {a, i} -> {c, g, h}\n",
+    ),
+    (
+        &[b"follows", b"F", b"b", b"c"],
+        LIVING,
+        b"",
+        0,
+        b"refuted 1 XX....X.. leech\n",
+    ),
+    (
+        &[b"follows", b"F", b" ", b"\ta , a"],
+        LIVING,
+        b"",
+        0,
+        b"holds\nsteps 1\n1 {} -> {a}\n",
+    ),
+    (
         CONVERT,
         b"B\r\n\r\n1\r\n2\r\ng\r\na\r\nb\r\nx.",
         b"",
@@ -176,7 +214,7 @@ const TABLES: [Call; 10] = [
     ),
 ];
 
-const REFUSALS: [Call; 14] = [
+const REFUSALS: [Call; 16] = [
     (
         CONVERT,
         b"B\n\n2\n2\n\ng\nh\na\nb\nX.\n",
@@ -213,6 +251,20 @@ const REFUSALS: [Call; 14] = [
         b"fca: F: line 3: bad count\n",
     ),
     (CONVERT, b"", b"", 2, b"fca: F: line 1: ended\n"),
+    (
+        CONVERT,
+        b"B\n\n0\n257\n",
+        b"",
+        2,
+        b"fca: F: line 4: too many\n",
+    ),
+    (
+        &[b"follows", b"F", b"z", b"a"],
+        LIVING,
+        b"",
+        2,
+        b"fca: unknown attribute\n",
+    ),
     (
         REPLAY,
         TWO,

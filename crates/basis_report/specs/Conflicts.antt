@@ -1,0 +1,53 @@
+-- Conflicts: the rows that oracles dropped, since each of them broke an accepted implication.
+--
+-- Where the oracle of expert 2 dropped its first row {a}, of the object g, against the first implication {} -> {a, b}, the lines behind `# conflicts 1` are
+-- `# 2 1 X. g 1 .. XX {} -> {a, b}` alone.
+use Rattle.std.specs.Prelude.{ℕ, ◌+◌, Option, Some, None, List, [], ◌∷◌, ◌++◌, length, unwrap_or, slice_get, slice_index_or, codes}
+use Rattle.std.specs.List.{flat_map, enumerate_from}
+use Rattle.fca_model.specs.Sets.{Set}
+use Rattle.fca_model.specs.Tables.{Text, NamedContext}
+use Rattle.fca_model.specs.Implications.{Rule, rule}
+use Rattle.expert_wire.specs.Texts.{ordinal, pattern}
+use Rattle.expert_wire.specs.Replies.{numbered_rule}
+use Rattle.oracle_expert.specs.Oracles.{Conflicts}
+use Rattle.basis_report.specs.Reports.{counted}
+use Rattle.basis_report.specs.Comments.{comment_line}
+
+-- a dropped row: whose it is, its place in that expert's table, the row and its object's name there, and the place of the implication that it broke
+pub record Dropped : Type 0 where
+  pub expert : ℕ
+  pub place : ℕ
+  pub row : Set
+  pub name : Text
+  pub broken : ℕ
+
+-- the row at a place of the table, if it was dropped
+abbrev pub dropped_at : ℕ → NamedContext → ℕ → Option ℕ → List Dropped
+dropped_at e D place None = []
+dropped_at e D place (Some k) =
+    record { expert = e; place = place; row = unwrap_or (slice_get D.context.rows place) []; name = unwrap_or (slice_get D.objects place) []; broken = k } ∷ []
+
+-- the dropped rows of a table, by their places
+abbrev pub dropped_of : ℕ → NamedContext → Conflicts → List Dropped
+dropped_of e D conflicts = flat_map (λ x. dropped_at e D x.0 x.1) (enumerate_from 0 conflicts)
+
+-- those of all oracles, each with its table and its conflicts; the first is that of expert e
+abbrev pub dropped_from : ℕ → List (NamedContext × Conflicts) → List Dropped
+dropped_from e [] = []
+dropped_from e (o ∷ os) = dropped_of e o.0 o.1 ++ dropped_from (e + 1) os
+
+-- `E R PATTERN NAME I ` and the full text of the implication
+abbrev pub conflict_words : List Text → List Rule → Dropped → Text
+conflict_words attributes accepted d =
+    ordinal d.expert ++ (codes " " ++ (ordinal d.place ++ (codes " " ++ (pattern d.row ++ (codes " " ++ (d.name ++ (codes " "
+    ++ numbered_rule attributes d.broken (slice_index_or accepted d.broken (rule [] [])))))))))
+
+abbrev pub conflict_line : List Text → List Rule → Dropped → Text
+conflict_line attributes accepted d = comment_line (conflict_words attributes accepted d)
+
+abbrev pub conflicts_section : List Text → List Rule → List Dropped → Text
+conflicts_section attributes accepted ds = counted (codes "# conflicts ") (length ds) ++ flat_map (conflict_line attributes accepted) ds
+
+-- the dropped rows of the oracles of all experts, by expert and then by place
+unfoldable pub conflicts_text : List Text → List Rule → List (NamedContext × Conflicts) → Text
+conflicts_text attributes accepted oracles = conflicts_section attributes accepted (dropped_from 0 oracles)

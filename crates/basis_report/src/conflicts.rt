@@ -1,0 +1,124 @@
+//! The rows that oracles dropped.
+
+ghost use Rattle.std.specs.Prelude.{◌≡◌, ◌≤◌, ◌<◌, ◌++◌, ℕ, [], Some, length, map, IfOk, OnOk, slice_index_or};
+ghost use Rattle.std.specs.List.{flat_map};
+ghost use Rattle.fca_model.specs.declared.TheConstants.{MAX_OBJECTS};
+ghost use Rattle.fca_model.specs.Implications.{rule};
+ghost use Rattle.explore_state.specs.History.{state_of};
+ghost use Rattle.basis_report.specs.Conflicts.{dropped_at, dropped_of, dropped_from, conflict_line, conflicts_text};
+
+use crate::concepts::{object_text, write_counted};
+use attr_bits::Attrs;
+use context_table::Table;
+use expert_wire::{Draft, Part};
+use explore_state::{Explore, Implication};
+use fca_model::Memory;
+use oracle_expert::Oracle;
+use std::alloc::Global;
+
+/// The rows that the oracles of the experts dropped, each with the accepted implication that it broke.
+pub fn conflicts_text(
+    alloc: Global,
+    explore: &Explore,
+    oracles: &[Oracle],
+) -> Result<Vec<u8>, Memory>
+    requires { length oracles.now ≤ explore.now.opening.experts }
+    ensures { IfOk result (λ v. v.items ≡ conflicts_text explore.now.opening.table.attributes (state_of explore.now).accepted (map (λ o. (o.table, o.conflicts)) oracles.now)) }
+{
+    let table = explore.table();
+    let accepted = explore.accepted();
+    let _experts = explore.experts();
+    let mut draft = Draft::new(alloc);
+    write_counted(&mut draft, table, b"# conflicts ", count_all(oracles))?;
+    for (expert, oracle) in oracles.iter().enumerate() {
+        write_dropped(&mut draft, table, accepted, expert, oracle)?;
+    }
+    Ok(draft.into_bytes())
+}
+
+/// How many rows all oracles dropped.
+fn count_all(oracles: &[Oracle]) -> usize
+    requires { length oracles.now < 256 }
+    ensures { result ≡ length (dropped_from 0 (map (λ o. (o.table, o.conflicts)) oracles.now)) }
+{
+    let mut count = 0;
+    for oracle in oracles {
+        count += count_dropped(oracle);
+    }
+    count
+}
+
+/// How many rows the oracle dropped, whatever the number of its expert is.
+fn count_dropped(oracle: &Oracle) -> usize
+    ensures count { (e : ℕ) → result ≡ length (dropped_of e oracle.now.table oracle.now.conflicts) }
+    ensures few { result ≤ MAX_OBJECTS }
+{
+    let mut count = 0;
+    for place in 0..oracle.table().rows().len() {
+        if oracle.conflict(place).is_some() {
+            count += 1;
+        }
+    }
+    count
+}
+
+/// The lines of the rows that the oracle of the expert dropped.
+fn write_dropped(
+    draft: &mut Draft,
+    table: &Table,
+    accepted: &[Implication],
+    expert: usize,
+    oracle: &Oracle,
+) -> Result<(), Memory>
+    ensures { OnOk result (draft.new ≡ draft.old ++ flat_map (conflict_line table.now.attributes accepted.now) (dropped_of expert oracle.now.table oracle.now.conflicts)) }
+{
+    let known = oracle.table();
+    for place in 0..known.rows().len() {
+        if let Some(broken) = oracle.conflict(place) {
+            write_conflict(draft, table, accepted, expert, known, place, broken)?;
+        }
+    }
+    Ok(())
+}
+
+/// The line of the row at the place of what the expert knows, which broke an accepted implication.
+fn write_conflict(
+    draft: &mut Draft,
+    table: &Table,
+    accepted: &[Implication],
+    expert: usize,
+    known: &Table,
+    place: usize,
+    broken: usize,
+) -> Result<(), Memory>
+    requires { place < length known.now.context.rows }
+    ensures { OnOk result (draft.new ≡ draft.old ++ flat_map (conflict_line table.now.attributes accepted.now) (dropped_at expert known.now place (Some broken))) }
+{
+    draft.parts(
+        table,
+        &[
+            Part::Bytes(b"# "),
+            Part::Ordinal(expert),
+            Part::Bytes(b" "),
+            Part::Ordinal(place),
+            Part::Bytes(b" "),
+            Part::Pattern(known.rows().get(place)),
+            Part::Bytes(b" "),
+            Part::Bytes(object_text(known, place).as_bytes()),
+        ],
+    )?;
+    draft.rule(table, b" ", broken, &implication_at(accepted, broken))
+}
+
+/// The implication at the place, and one between sets of no attribute where there is none.
+fn implication_at(accepted: &[Implication], place: usize) -> Implication
+    ensures { result ≡ slice_index_or accepted.now place (rule [] []) }
+{
+    match accepted.get(place) {
+        Some(implication) => *implication,
+        None => Implication {
+            premise: Attrs::empty(0),
+            conclusion: Attrs::empty(0),
+        },
+    }
+}

@@ -1,0 +1,37 @@
+//! How sessions ended.
+
+ghost use Rattle.std.specs.Prelude.{◌≡◌, ◌++◌, map, IfOk, OnOk};
+ghost use Rattle.basis_report.specs.Sessions.{session_line, sessions_text};
+
+use crate::concepts::write_counted;
+use context_table::Table;
+use expert_wire::{Draft, Part};
+use fca_model::Memory;
+use std::alloc::Global;
+
+/// The endings of the sessions of all experts in the exploration of the table, in words.
+pub fn sessions_text(alloc: Global, table: &Table, endings: &[&str]) -> Result<Vec<u8>, Memory>
+    ensures { IfOk result (λ v. v.items ≡ sessions_text (map (λ words. words.now) endings.now)) }
+{
+    let mut draft = Draft::new(alloc);
+    write_counted(&mut draft, table, b"# sessions ", endings.len())?;
+    for (place, words) in endings.iter().enumerate() {
+        write_session(&mut draft, table, place, words)?;
+    }
+    Ok(draft.into_bytes())
+}
+
+fn write_session(draft: &mut Draft, table: &Table, place: usize, words: &str) -> Result<(), Memory>
+    ensures { OnOk result (draft.new ≡ draft.old ++ session_line place words.now) }
+{
+    draft.parts(
+        table,
+        &[
+            Part::Bytes(b"# "),
+            Part::Ordinal(place),
+            Part::Bytes(b" "),
+            Part::Bytes(words.as_bytes()),
+            Part::Bytes(b"\n"),
+        ],
+    )
+}

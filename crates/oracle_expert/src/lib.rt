@@ -1,0 +1,12 @@
+//! Experts who answer questions, and oracles: experts who answer from a table.
+#![tactic(auto)]
+
+mod expert;
+pub mod laws;
+mod oracle;
+
+pub use expert::{Answer, Expert};
+pub use oracle::Oracle;
+
+#[cfg(test)]
+mod tests;
