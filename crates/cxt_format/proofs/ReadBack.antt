@@ -50,11 +50,11 @@ EachLine-names (name ∷ names) h = (IsLine-name name h.0, EachLine-names names 
 
 -- ---- rows
 
-abbrev EachWide : ℕ → List Set → Type 0
+abbrev pub EachWide : ℕ → List Set → Type 0
 EachWide width [] = Unit {0}
 EachWide width (row ∷ rows) = (length row ≡ width) × EachWide width rows
 
-EachWide-from_All : (width : ℕ) (rows : List Set) → All (λ row. length row ≡ width) rows → EachWide width rows
+pub EachWide-from_All : (width : ℕ) (rows : List Set) → All (λ row. length row ≡ width) rows → EachWide width rows
 EachWide-from_All width [] h = tt
 EachWide-from_All width (row ∷ rows) h = (h zero row (omega arith), EachWide-from_All width rows (λ k d below. h (suc k) d (omega arith)))
 

@@ -43,7 +43,7 @@ next-says width i line row r below in_line =
     let up : i + 1 ≡ suc i = omega arith in
     r.says ∙ rw (one, drop-cons line i 0 in_line, up) refl
 
-set-front : (front : Set) (i k : ℕ) → length front ≡ i → set (front ++ replicate (suc k) false) i true ≡ front ++ true ∷ [] ++ replicate k false
+pub set-front : (front : Set) (i k : ℕ) → length front ≡ i → set (front ++ replicate (suc k) false) i true ≡ front ++ true ∷ [] ++ replicate k false
 set-front front i k placed =
     let P : ℕ → Type 0 = λ j. set (front ++ replicate (suc k) false) j true ≡ front ++ true ∷ [] ++ replicate k false in
     subst P placed (set-append_seam front false (replicate k false) true ∙ sym (append_assoc front (true ∷ []) (replicate k false)))

@@ -64,7 +64,7 @@ ascii-one : (b : ℕ) → b < 128 → (i : ℕ) → slice_index (b ∷ []) i < 1
 ascii-one b h zero = h
 ascii-one b h (suc i) = omega arith
 
-IsUtf8-one : (b : ℕ) → b < 128 → IsUtf8 (b ∷ [])
+pub IsUtf8-one : (b : ℕ) → b < 128 → IsUtf8 (b ∷ [])
 IsUtf8-one b h = IsUtf8-from_ascii (b ∷ []) (ascii-one b h)
 
 pub IsUtf8-text_of : (lines : List Line) → EachLine lines → IsUtf8 (text_of lines)

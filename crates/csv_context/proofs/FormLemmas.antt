@@ -1,0 +1,80 @@
+-- One field, and one record, more. What is left of a record after a field is one field shorter, and the form goes on from there with what
+-- the field says.
+use Rattle.std.proofs.Common.{◌≡◌, ◌∙◌, ◌<◌, ◌+◌, ◌-◌, ◌++◌, ◌∷◌, [], ℕ, suc, Bool, true, false, List, Some, Result, Ok, Err, drop, length, replicate, set, slice_get, refl, sym, ap, length-append, append_assoc, arith}
+use Rattle.std.specs.Prelude.{◌⊎◌, IsErr, IsErrAnd}
+use Rattle.fca_model.specs.Sets.{Set}
+use Rattle.fca_model.specs.Tables.{Text}
+use Rattle.cxt_format.proofs.RowLemmas.{set-front}
+use Rattle.cxt_format.proofs.TextLemmas.{drop-item}
+use Rattle.csv_context.specs.Records.{Record}
+use Rattle.csv_context.specs.Form.{TellsBy, then, attribute_form, attributes_form, cell_form, row_form}
+use Rattle.csv_context.specs.declared.CsvFault.{CsvFault}
+use Rattle.csv_context.specs.declared.CsvFault.TheVariants as fault
+
+-- ---- a fault that is passed on as it is
+
+pub Err-passed : {X : Type 0} (told : Result X CsvFault) (e : CsvFault) → IsErr told × IsErrAnd told (λ passed. passed ≡ e) → told ≡ Err e
+Err-passed (Ok x) e passed = cc passed.0
+Err-passed (Err f) e passed = ap Err passed.1
+
+pub TellsBy-passed : {X Y : Type 0} (view : X → Y) (told : Result X CsvFault) (form : Result Y CsvFault) (e : CsvFault)
+    → IsErr told × IsErrAnd told (λ passed. passed ≡ e) → (e ≡ fault.Memory) ⊎ (form ≡ Err e) → TellsBy view told form
+TellsBy-passed view (Ok x) form e passed why = cc passed.0
+TellsBy-passed view (Err f) form e passed why = rw passed.1 why
+
+-- ---- names of attributes
+
+module _ (seen : List Text) (fields : Record) (place : ℕ) (field : Text) (at : Some field ≡ slice_get fields place) where
+  pub attributes_form-Ok : (name : Text) → attribute_form seen (place + 1) field ≡ Ok name
+      → attributes_form seen (place + 1) (drop place fields) ≡ attributes_form (seen ++ name ∷ []) (place + 1 + 1) (drop (place + 1) fields)
+  attributes_form-Ok name is = rw (drop-item fields place field (sym at), is) refl
+
+  pub attributes_form-Err : (e : CsvFault) → attribute_form seen (place + 1) field ≡ Err e → attributes_form seen (place + 1) (drop place fields) ≡ Err e
+  attributes_form-Err e is = rw (drop-item fields place field (sym at), is) refl
+
+-- ---- the cells of an object
+
+-- the cells before this place were read into the row
+pub record ReadTo (i width : ℕ) (fields : Record) (row : Set) (place : ℕ) : Type 0 where
+  pub front : Set
+  pub placed : length front ≡ place
+  pub filled : row ≡ front ++ replicate (width - place) false
+  pub says : row_form i 2 [] (drop 1 fields) ≡ row_form i (place + 2) front (drop (place + 1) fields)
+
+pub ReadTo-zero : (i width : ℕ) (fields : Record) → ReadTo i width fields (replicate width false) 0
+ReadTo-zero i width fields =
+    let all : width - 0 ≡ width = omega arith in
+    record { front = []; placed = refl; filled = rw all refl; says = refl }
+
+module _ (i width : ℕ) (fields : Record) (row : Set) (place : ℕ) (field : Text) (at : Some field ≡ slice_get fields (place + 1)) (r : ReadTo i width fields row place) where
+  says-next : row_form i 2 [] (drop 1 fields) ≡ then (cell_form i (place + 2) field) (λ mark. row_form i (place + 2 + 1) (r.front ++ mark ∷ []) (drop (place + 1 + 1) fields))
+  says-next = r.says ∙ rw (drop-item fields (place + 1) field (sym at)) refl
+
+  says-more : (mark : Bool) → cell_form i (place + 2) field ≡ Ok mark
+      → row_form i 2 [] (drop 1 fields) ≡ row_form i (place + 1 + 2) (r.front ++ mark ∷ []) (drop (place + 1 + 1) fields)
+  says-more mark is =
+      let next : place + 2 + 1 ≡ place + 1 + 2 = omega arith in
+      says-next ∙ rw (is, next) refl
+
+  pub ReadTo-cross : place < width → cell_form i (place + 2) field ≡ Ok true → ReadTo i width fields (set row place true) (place + 1)
+  ReadTo-cross below is =
+      let one : width - place ≡ suc (width - (place + 1)) = omega arith in
+      record {
+        front = r.front ++ true ∷ [];
+        placed = length-append r.front (true ∷ []) ∙ ap (λ (n : ℕ). n + 1) r.placed;
+        filled = ap (λ (x : Set). set x place true) r.filled ∙ rw one (set-front r.front place (width - (place + 1)) r.placed);
+        says = says-more true is;
+      }
+
+  pub ReadTo-none : place < width → cell_form i (place + 2) field ≡ Ok false → ReadTo i width fields row (place + 1)
+  ReadTo-none below is =
+      let one : width - place ≡ suc (width - (place + 1)) = omega arith in
+      record {
+        front = r.front ++ false ∷ [];
+        placed = length-append r.front (false ∷ []) ∙ ap (λ (n : ℕ). n + 1) r.placed;
+        filled = r.filled ∙ rw one (sym (append_assoc r.front (false ∷ []) (replicate (width - (place + 1)) false)));
+        says = says-more false is;
+      }
+
+  pub row_form-Err : (e : CsvFault) → cell_form i (place + 2) field ≡ Err e → row_form i 2 [] (drop 1 fields) ≡ Err e
+  row_form-Err e is = says-next ∙ rw is refl

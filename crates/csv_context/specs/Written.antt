@@ -1,0 +1,55 @@
+-- The written CSV form of a table.
+use Rattle.std.specs.declared.alloc.Global.{Global}
+use Rattle.std.specs.Prelude.{◌≡◌, ℕ, Bool, false, Vec, cond, List, [], ◌∷◌, ◌++◌, None, map, codes}
+use Rattle.fca_model.specs.Sets.{Set}
+use Rattle.fca_model.specs.Tables.{Text, NamedContext}
+use Rattle.csv.specs.Writing.{default_writer, fields_written, has_written, row_text, writer_pending, writer_setup, writer_under}
+use Rattle.csv.specs.declared.writer.Writer.{Writer}
+use Rattle.csv_context.specs.Records.{Record}
+
+-- the field of a place: X for a cross, and nothing for none
+abbrev pub cell_text : Bool → Text
+cell_text mark = cond mark (codes "X") []
+
+-- the record of the attribute names
+abbrev pub header_record : NamedContext → Record
+header_record t = codes "object" ∷ t.attributes
+
+-- the record of an object
+abbrev pub object_record : Text → Set → Record
+object_record name row = name ∷ map cell_text row
+
+-- the records of objects, as many as there are names and rows
+abbrev pub object_records : List Text → List Set → List Record
+object_records [] rows = []
+object_records (name ∷ names) [] = []
+object_records (name ∷ names) (row ∷ rows) = object_record name row ∷ object_records names rows
+
+-- all records
+abbrev pub table_records : NamedContext → List Record
+table_records t = header_record t ∷ object_records t.objects t.context.rows
+
+-- the bytes of records, with quotes where a field needs them, each record ended by a line feed
+abbrev pub text_of : List Record → List ℕ
+text_of [] = []
+text_of (fields ∷ records) = row_text default_writer fields ++ text_of records
+
+-- the bytes of the file
+abbrev pub csv_text : NamedContext → List ℕ
+csv_text t = text_of (table_records t)
+
+-- the table without its title
+abbrev pub untitled : NamedContext → NamedContext
+untitled t = record t { title = None }
+
+-- ---- a writer that writes to memory
+
+-- the bytes that the writer has written
+abbrev pub held : Writer (Vec ℕ Global) → List ℕ
+held writer = (writer_under writer).items ++ writer_pending writer
+
+-- the writer has the usual settings and has written whole records so far
+pub record IsReady (writer : Writer (Vec ℕ Global)) : Type 0 where
+  pub settings : writer_setup writer ≡ default_writer
+  pub between : fields_written writer ≡ 0
+  pub clean : has_written writer ≡ false

@@ -1,0 +1,101 @@
+//! What the fields of one record say.
+
+ghost use Rattle.std.specs.Prelude.{◌≡◌, ◌<◌, ◌≤◌, ◌+◌, [], IfOk, IsUtf8, Some, drop, false, length, slice_get, bytes_eq};
+ghost use Rattle.std.specs.List.{list_any};
+ghost use Rattle.csv.specs.Records.{AllText, fields_of};
+ghost use Rattle.csv_context.specs.Form as form;
+ghost use Rattle.csv_context.specs.Form.{Tells};
+
+use crate::CsvFault;
+use attr_bits::Attrs;
+use csv::ByteRecord;
+use cxt_format::trimmed;
+use fca_model::{MAX_ATTRIBUTES, Name, NameFault};
+use indexmap::IndexSet;
+use std::alloc::Global;
+
+/// The field at this place, counted from 0.
+pub fn field_at(fields: &ByteRecord, place: usize) -> &[u8]
+    requires { place < length (fields_of fields.now) }
+    ensures { Some result.now ≡ slice_get (fields_of fields.now) place }
+{
+    match fields.get(place) {
+        Some(field) => field,
+        None => unreachable!(),
+    }
+}
+
+/// The name in field `j` of record `i`.
+pub fn name_of(alloc: Global, i: usize, j: usize, field: &[u8]) -> Result<Name, CsvFault>
+    requires { IsUtf8 field.now }
+    ensures { Tells result (form.name_form i j field.now) }
+{
+    let text = match str::from_utf8(field) {
+        Ok(text) => text,
+        Err(_) => unreachable!(),
+    };
+    match Name::new(alloc, text) {
+        Ok(name) => Ok(name),
+        Err(NameFault::Empty) => Err(CsvFault::EmptyName(i, j)),
+        Err(NameFault::Long) => Err(CsvFault::LongName(i, j)),
+        Err(NameFault::Line) => Err(CsvFault::BadName(i, j)),
+        Err(NameFault::Memory) => Err(CsvFault::Memory),
+    }
+}
+
+/// The name of an attribute in field `j` of record 1, which may be none of those seen.
+pub fn attribute_of(
+    alloc: Global,
+    seen: &IndexSet<Name>,
+    j: usize,
+    field: &[u8],
+) -> Result<Name, CsvFault>
+    requires { IsUtf8 field.now }
+    ensures form { Tells result (form.attribute_form seen.now.keys j field.now) }
+    ensures new { IfOk result (λ name. list_any (bytes_eq name) seen.now.keys ≡ false) }
+{
+    let name = name_of(alloc, 1, j, field)?;
+    if seen.contains(&name) {
+        return Err(CsvFault::DuplicateAttribute(j));
+    }
+    Ok(name)
+}
+
+/// Whether the cell is a cross, or none where it is no cell.
+fn mark_of(cell: &[u8]) -> Option<bool>
+    ensures { result ≡ form.mark_of cell.now }
+{
+    match cell {
+        [b'X' | b'x' | b'1'] => Some(true),
+        [] | [b'.' | b'0'] => Some(false),
+        _ => None,
+    }
+}
+
+/// Whether field `j` of record `i` is a cross.
+fn cell_of(i: usize, j: usize, field: &[u8]) -> Result<bool, CsvFault>
+    ensures { result ≡ form.cell_form i j field.now }
+{
+    match mark_of(trimmed(field)) {
+        Some(mark) => Ok(mark),
+        None => Err(CsvFault::BadCell(i, j)),
+    }
+}
+
+/// The row in the cells of record `i`, those behind its first field.
+pub fn row_of(width: u32, i: usize, fields: &ByteRecord) -> Result<Attrs, CsvFault>
+    requires narrow { width ≤ MAX_ATTRIBUTES }
+    requires whole { length (fields_of fields.now) ≡ width + 1 }
+    ensures form { result ≡ form.row_form i 2 [] (drop 1 (fields_of fields.now)) }
+    ensures wide { IfOk result (λ row. length row ≡ width) }
+{
+    let mut row = Attrs::empty(width);
+    for place in 0..width {
+        let field = field_at(fields, place as usize + 1);
+        let cross = cell_of(i, place as usize + 2, field)?;
+        if cross {
+            row = row.with(place);
+        }
+    }
+    Ok(row)
+}

@@ -1,0 +1,100 @@
+//! The CSV form of tables: the reader and the writer of `.csv` files.
+#![tactic(auto)]
+
+ghost use Rattle.std.specs.Prelude.{◌≡◌};
+
+mod fields;
+mod read;
+mod records;
+mod write;
+
+use fca_model::Memory;
+pub use read::read_csv;
+use std::alloc::{AllocError, AllocFailed};
+use thiserror::Error;
+pub use write::write_csv;
+
+/// Why bytes are no table in the CSV form. Records and fields are numbered from 1.
+#[derive(Debug, Drop, Error)]
+pub enum CsvFault {
+    /// The number of bytes before the first that begins no whole character.
+    #[error("byte {0}: not UTF-8")]
+    NotUtf8(usize),
+    #[error("no header")]
+    NoHeader,
+    #[error("record {0}: ragged")]
+    RaggedRecord(usize),
+    #[error("record {0}: field {1}: bad cell")]
+    BadCell(usize, usize),
+    #[error("record {0}: field {1}: empty name")]
+    EmptyName(usize, usize),
+    #[error("record {0}: field {1}: long name")]
+    LongName(usize, usize),
+    #[error("record {0}: field {1}: bad name")]
+    BadName(usize, usize),
+    #[error("record 1: field {0}: duplicate attribute")]
+    DuplicateAttribute(usize),
+    #[error("too many attributes")]
+    TooManyAttributes,
+    #[error("too many objects")]
+    TooManyObjects,
+    #[error("no memory")]
+    Memory,
+}
+
+impl From<AllocError> for CsvFault {
+    ghost use Rattle.csv_context.specs.declared.CsvFault.TheVariants as fault;
+
+    ghost from_gives = { λ _ e. e ≡ fault.Memory };
+
+    fn from(_error: AllocError) -> CsvFault {
+        CsvFault::Memory
+    }
+}
+
+impl<T: Drop> From<AllocFailed<T>> for CsvFault {
+    ghost use Rattle.csv_context.specs.declared.CsvFault.TheVariants as fault;
+
+    ghost from_gives = { λ _ e. e ≡ fault.Memory };
+
+    fn from(_error: AllocFailed<T>) -> CsvFault {
+        CsvFault::Memory
+    }
+}
+
+impl From<Memory> for CsvFault {
+    ghost use Rattle.csv_context.specs.declared.CsvFault.TheVariants as fault;
+
+    ghost from_gives = { λ _ e. e ≡ fault.Memory };
+
+    fn from(_error: Memory) -> CsvFault {
+        CsvFault::Memory
+    }
+}
+
+#[cfg(test)]
+mod tests {
+    use super::{CsvFault, read_csv, write_csv};
+    use std::rt::HostRuntime;
+
+    #[test]
+    fn a_table_is_written_in_its_form(rt: HostRuntime) -> Result<(), CsvFault> {
+        let read = read_csv(rt.alloc(), b"\xEF\xBB\xBF,a,\"b,c\"\r\ng, x ,\r\nh,0,1")?;
+        let text = write_csv(rt.alloc(), &read)?;
+        assert!(&rt; text.as_slice() == b"object,a,\"b,c\"\ng,X,\nh,,X\n".as_slice());
+        Ok(())
+    }
+
+    #[test]
+    fn the_first_fault_is_told(rt: HostRuntime) {
+        let alloc = rt.alloc();
+        let ragged = read_csv(alloc, b",a,b\ng,X\n");
+        assert!(&rt; matches!(ragged, Err(CsvFault::RaggedRecord(2))));
+        let cell = read_csv(alloc, b",a,b\ng,X,?\n");
+        assert!(&rt; matches!(cell, Err(CsvFault::BadCell(2, 3))));
+        let duplicate = read_csv(alloc, b",a,a\n");
+        assert!(&rt; matches!(duplicate, Err(CsvFault::DuplicateAttribute(3))));
+        let empty = read_csv(alloc, b"");
+        assert!(&rt; matches!(empty, Err(CsvFault::NoHeader)));
+    }
+}

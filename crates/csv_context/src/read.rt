@@ -1,0 +1,133 @@
+//! The reader.
+
+ghost use Rattle.std.specs.Prelude.{◌≡◌, ◌<◌, ◌≤◌, ◌+◌, [], IfOk, OnOk, drop, length, vec_len};
+ghost use Rattle.csv.specs.Records.{AllText, fields_of};
+ghost use Rattle.csv_context.specs.Records.{IsOpen, csv_records, records_left};
+ghost use Rattle.csv_context.specs.Form as form;
+ghost use Rattle.csv_context.specs.Form.{Tells, TellsBy};
+
+use crate::CsvFault;
+use crate::fields::{attribute_of, field_at, name_of, row_of};
+use crate::records::{next_record, open};
+use attr_bits::Attrs;
+use context_table::Table;
+use csv::{ByteRecord, Reader};
+use derivation::Rows;
+use fca_model::{MAX_ATTRIBUTES, MAX_OBJECTS, Memory, Name};
+use indexmap::IndexSet;
+use std::alloc::Global;
+
+/// An object with its row.
+#[derive(Drop)]
+pub struct Object {
+    name: Name,
+    row: Attrs,
+}
+
+/// Objects with their rows.
+#[derive(Drop)]
+pub struct Objects {
+    names: Vec<Name>,
+    rows: Rows,
+}
+
+/// The table that the bytes of a file write.
+pub fn read_csv(alloc: Global, bytes: &[u8]) -> Result<Table, CsvFault>
+    ensures { Tells result (form.csv_form bytes.now) }
+{
+    match str::from_utf8(bytes) {
+        Ok(text) => read_text(alloc, text),
+        Err(fault) => Err(CsvFault::NotUtf8(fault.valid_up_to())),
+    }
+}
+
+fn read_text(alloc: Global, text: &str) -> Result<Table, CsvFault>
+    ensures { Tells result (form.table_form (csv_records text.now)) }
+{
+    let mut reader = open(alloc, text);
+    let mut record = ByteRecord::new(alloc);
+    if !next_record(&mut reader, &mut record)? {
+        return Err(CsvFault::NoHeader);
+    }
+    let attributes = read_header(alloc, &record)?;
+    let objects = read_objects(alloc, attributes.len() as u32, &mut reader)?;
+    match Table::new(alloc, None, objects.names, attributes, objects.rows) {
+        Ok(table) => Ok(table),
+        Err(_) => Err(CsvFault::Memory),
+    }
+}
+
+/// The names of the attributes.
+fn read_header(alloc: Global, fields: &ByteRecord) -> Result<Vec<Name>, CsvFault>
+    requires { AllText (fields_of fields.now) }
+    ensures form { TellsBy (λ names. names.items) result (form.header_form (fields_of fields.now)) }
+    ensures few { IfOk result (λ names. vec_len names ≤ MAX_ATTRIBUTES) }
+{
+    if fields.is_empty() {
+        return Err(CsvFault::NoHeader);
+    }
+    if fields.len() - 1 > MAX_ATTRIBUTES as usize {
+        return Err(CsvFault::TooManyAttributes);
+    }
+    let names = read_attributes(alloc, fields)?;
+    Ok(listed(alloc, names)?)
+}
+
+/// Attribute names in their order, looked up by hash.
+fn read_attributes(alloc: Global, fields: &ByteRecord) -> Result<IndexSet<Name>, CsvFault>
+    requires text { AllText (fields_of fields.now) }
+    requires some { 0 < length (fields_of fields.now) }
+    ensures form { TellsBy (λ names. names.keys) result (form.attributes_form [] 2 (drop 1 (fields_of fields.now))) }
+    ensures counted { IfOk result (λ names. length names.keys + 1 ≡ length (fields_of fields.now)) }
+{
+    let mut names = IndexSet::new(alloc);
+    for place in 1..fields.len() {
+        let field = field_at(fields, place);
+        names.insert(attribute_of(alloc, &names, place + 1, field)?)?;
+    }
+    Ok(names)
+}
+
+/// The names in their order.
+fn listed(alloc: Global, names: IndexSet<Name>) -> Result<Vec<Name>, Memory>
+    ensures { IfOk result (λ list. list.items ≡ names.keys) }
+{
+    Ok(names.into_iter().collect(alloc)?)
+}
+
+fn read_objects(alloc: Global, width: u32, reader: &mut Reader<&[u8]>) -> Result<Objects, CsvFault>
+    requires open { IsOpen reader.old }
+    requires narrow { width ≤ MAX_ATTRIBUTES }
+    ensures form { TellsBy (λ objects. (objects.names.items, objects.rows.rows)) result (form.objects_form width 2 ([], []) (records_left reader.old)) }
+    ensures counted { IfOk result (λ objects. vec_len objects.names ≡ length objects.rows.rows) }
+    ensures width { IfOk result (λ objects. objects.rows.width ≡ width) }
+{
+    let mut names = Vec::new(alloc);
+    let mut rows = Rows::new(alloc, width)?;
+    let mut record = ByteRecord::new(alloc);
+    while next_record(reader, &mut record)? {
+        let object = read_object(alloc, width, names.len() + 2, &record)?;
+        names.push(object.name)?;
+        rows.push(object.row)?;
+    }
+    Ok(Objects { names, rows })
+}
+
+/// The object in record `i`.
+fn read_object(alloc: Global, width: u32, i: usize, fields: &ByteRecord) -> Result<Object, CsvFault>
+    requires narrow { width ≤ MAX_ATTRIBUTES }
+    requires text { AllText (fields_of fields.now) }
+    ensures form { Tells result (form.object_form width i (fields_of fields.now)) }
+    ensures wide { IfOk result (λ object. length object.row ≡ width) }
+    ensures within { OnOk result (i ≤ MAX_OBJECTS + 1) }
+{
+    if i > MAX_OBJECTS + 1 {
+        return Err(CsvFault::TooManyObjects);
+    }
+    if fields.len() != width as usize + 1 {
+        return Err(CsvFault::RaggedRecord(i));
+    }
+    let name = name_of(alloc, i, 1, field_at(fields, 0))?;
+    let row = row_of(width, i, fields)?;
+    Ok(Object { name, row })
+}

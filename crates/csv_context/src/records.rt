@@ -1,0 +1,31 @@
+//! The records of a text, one after the other.
+
+ghost use Rattle.std.specs.Prelude.{◌≡◌, IfOk, IfErr};
+ghost use Rattle.csv.specs.Records.{fields_of};
+ghost use Rattle.csv_context.specs.Records.{IsOpen, Reads, csv_records, records_left};
+
+use crate::CsvFault;
+use csv::{ByteRecord, Reader, ReaderBuilder};
+use std::alloc::Global;
+
+/// A reader of the records of the text, which may have any length.
+pub fn open<'a>(alloc: Global, text: &'a str) -> Reader<&'a [u8]>
+    ensures open { IsOpen result }
+    ensures records { records_left result ≡ csv_records text.now }
+{
+    ReaderBuilder::new()
+        .has_headers(false)
+        .flexible(true)
+        .from_reader(alloc, text.as_bytes())
+}
+
+/// Reads the next record, and says whether there was one.
+pub fn next_record(reader: &mut Reader<&[u8]>, fields: &mut ByteRecord) -> Result<bool, CsvFault>
+    requires { IsOpen reader.old }
+    ensures read { IfOk result (λ found. Reads reader.old reader.new found (fields_of fields.new)) }
+    ensures memory { IfErr result (λ e. e ≡ CsvFault.Memory) }
+{
+    reader
+        .read_byte_record(fields)
+        .map_err(|_| CsvFault::Memory)
+}
