@@ -1,3 +1,2 @@
 pub mod ReplayLemmas
-pub mod ScriptLemmas
 pub mod CourseLemmas
