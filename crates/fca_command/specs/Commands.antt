@@ -4,7 +4,7 @@ use Rattle.std.specs.List.{list_all}
 use Rattle.std.specs.Str.{is_utf8}
 use Rattle.fca_model.specs.Tables.{Text}
 use Rattle.fca_command.specs.declared.command.Form.{Form}
-use Rattle.fca_command.specs.declared.command.Form.TheVariants.{Cxt}
+use Rattle.fca_command.specs.declared.command.Form.TheVariants.{Cxt, Csv}
 use Rattle.fca_command.specs.declared.command.Command.{Command}
 use Rattle.fca_command.specs.declared.command.Command.TheVariants.{Concepts, Lattice, Basis, Follows, Convert, Replay}
 
@@ -36,9 +36,9 @@ follows_command file _ = None
 
 -- the form of a table that a word names
 abbrev pub form_named : Text → Option Form
-form_named word = cond (bytes_eq word (codes "cxt")) (Some Cxt) None
+form_named word = cond (bytes_eq word (codes "cxt")) (Some Cxt) (cond (bytes_eq word (codes "csv")) (Some Csv) None)
 
--- `convert F cxt`
+-- `convert F cxt`, `convert F csv`
 abbrev pub convert_command : Text → List Text → Option Command
 convert_command file (word ∷ []) = option_map (λ to. Convert file to) (form_named word)
 convert_command file _ = None

@@ -12,6 +12,7 @@ use std::alloc::Global;
 #[derive(Clone, Copy)]
 pub enum Form {
     Cxt,
+    Csv,
 }
 
 /// A command, with what its words name.
@@ -185,6 +186,8 @@ fn form_named(word: &[u8]) -> Option<Form>
 {
     if word == b"cxt".as_slice() {
         Some(Form::Cxt)
+    } else if word == b"csv".as_slice() {
+        Some(Form::Csv)
     } else {
         None
     }

@@ -1,23 +1,21 @@
--- What is promised of an exploration follows from the laws of its steps: the journal of events that may be applied is a
--- legal history, each front of it is one too, and so each reply is the one at its moment.
-use Rattle.std.proofs.Common.{◌≡◌, ◌↔◌, ◌&&◌, ◌++◌, ◌∷◌, [], ℕ, List, Bool, true, refl, sym, ap, ◌∙◌, subst, append_assoc}
+-- The journal of events that may be applied is a legal history, and so a script that was read makes an exploration of which all is
+-- promised.
+use Rattle.std.proofs.Common.{◌≡◌, ◌&&◌, [], ◌∷◌, ℕ, List, Bool, true, refl, sym, ap, ◌∙◌, subst}
 use Rattle.std.proofs.lemmas.Bool.{and_parts}
 use Rattle.std.specs.List.{list_all}
 use Rattle.std.specs.Prelude.{Option}
+use Rattle.fca_model.specs.declared.TheConstants.{MAX_EXPERTS}
 use Rattle.fca_model.specs.Tables.{Text, NamedContext}
-use Rattle.fca_model.specs.Exploration.{State, SetEvent, SetReply, SetEntry, is_expert, expert_of, has_width, reply_to, open_in, state_after, journal_of, events_of, IsLegal}
-use Rattle.fca_model.specs.declared.Event.TheVariants.{Draw}
-use Rattle.fca_model.specs.declared.Reply.TheVariants.{Done}
-use Rattle.fca_model.proofs.RunLemmas.{legal_journal, legal_front, legal_reply}
-use Rattle.fca_model.proofs.CourseLemmas.{draw_done}
+use Rattle.fca_model.specs.Exploration.{State, SetEvent, is_expert, expert_of, has_width, journal_of}
+use Rattle.fca_model.proofs.RunLemmas.{legal_journal}
 use Rattle.fca_io.specs.Shelves.{Told}
-use Rattle.explore_state.specs.History.{Opening, opening_state}
-use Rattle.explore_state.specs.Kept.{IsKept}
-use Rattle.explore_state.proofs.CourseLemmas.{basis_is}
-use Rattle.fca_program.specs.Readings.{Reading, then, MayRead, IfRead}
-use Rattle.fca_program.specs.Readings.Reading.{Untold, Refused, Read}
-use Rattle.fca_program.specs.Outputs.{Recorded, may_apply, opening_of, explored, table_read, script_read, replayed}
-use Rattle.fca_program.specs.Headline.{IsExplored}
+use Rattle.explore_state.specs.History.{opening_state}
+use Rattle.command_io.specs.Readings.{Reading, then, MayRead, IfRead}
+use Rattle.command_io.specs.Readings.Reading.{Untold, Refused, Read}
+use Rattle.command_io.specs.Forms.{may_apply, table_read, script_read}
+use Rattle.command_io.specs.Explorations.{opening_of, IsExplored}
+use Rattle.command_io.proofs.CourseLemmas.{legal-course}
+use Rattle.fca_program.specs.Outputs.{explored, replayed}
 
 both-all : {X : Type 0} (p q : X → Bool) (xs : List X) → list_all (λ x. p x && q x) xs ≡ true → (list_all p xs ≡ true) × (list_all q xs ≡ true)
 both-all p q [] h = (refl, refl)
@@ -27,33 +25,11 @@ both-all p q (x ∷ xs) h =
     let rest = both-all p q xs parts.1 in
     (rw here.0 rest.0, rw here.1 rest.1)
 
-done-then : (s : State) (H before after : List SetEntry) (e : ℕ) (reply : SetReply) → IsLegal s H → H ≡ before ++ record { event = Draw e; reply = reply } ∷ after
-    → (reply ≡ Done) ↔ (open_in (state_after s (events_of before)) ≡ [])
-done-then s H before after e reply legal split =
-    let entry : SetEntry = record { event = Draw e; reply = reply } in
-    let joined = split ∙ sym (append_assoc before (entry ∷ []) after) in
-    let answer = legal_reply s before entry (legal_front s (before ++ entry ∷ []) after (subst (IsLegal s) joined legal)) in
-    let law = draw_done (state_after s (events_of before)) e in
-    (λ done. law.0 (sym answer ∙ done), λ none. answer ∙ law.1 none)
-
 pub explored-course : (table : NamedContext) (events : List SetEvent) → list_all (may_apply table.context.width) events ≡ true → IsExplored (explored table events)
 explored-course table events may =
-    let o : Opening = opening_of table in
-    let s : State = opening_state o in
-    let H : List SetEntry = journal_of s events in
-    let now : State = state_after s (events_of H) in
+    let s : State = opening_state (opening_of table MAX_EXPERTS) in
     let parts = both-all (λ event. is_expert (expert_of event)) (has_width table.context.width) events may in
-    let legal : IsLegal s H = legal_journal s events parts.0 parts.1 in
-    let kept : IsKept o H now.context now.accepted now.holds = record {
-      shown = record { context = refl; accepted = refl; holds = refl };
-      legal = legal;
-      experts = refl;
-    } in
-    record {
-      legal = legal;
-      done = λ before after e reply split. done-then s H before after e reply legal split;
-      basis = λ none. basis_is o H now.context now.accepted now.holds kept refl none;
-    }
+    legal-course table MAX_EXPERTS (journal_of s events) refl (legal_journal s events parts.0 parts.1)
 
 script-course : (table : NamedContext) (events : List SetEvent) (script : Reading (List SetEvent)) → MayRead script events
     → list_all (may_apply table.context.width) events ≡ true → IfRead (then script (λ es. Read (explored table es))) IsExplored

@@ -1,3 +1,3 @@
 pub mod ReplayLemmas
-pub mod ScriptLemmas
 pub mod CourseLemmas
+pub mod EndingLemmas

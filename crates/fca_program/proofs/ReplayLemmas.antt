@@ -7,36 +7,38 @@ use Rattle.fca_model.specs.declared.TheConstants.{MAX_EXPERTS}
 use Rattle.fca_model.specs.Exploration.{State, SetEvent, SetReply, SetEntry, is_expert, expert_of, has_width, reply_to, state_after, journal_of, events_of}
 use Rattle.fca_model.proofs.RunLemmas.{journal_of-push, events_of-journal_of}
 use Rattle.explore_state.specs.History.{Opening, History, opening_state, state_of, Admits, IsStep}
-use Rattle.fca_program.specs.Outputs.{may_apply, Recorded, recorded, opening_of, explored}
+use Rattle.command_io.specs.Forms.{may_apply}
+use Rattle.command_io.specs.Explorations.{Recorded, recorded, opening_of}
+use Rattle.fca_program.specs.Outputs.{explored}
 
 -- the parts of an exploration that is as far as these events
-opened : (table : NamedContext) (events : List SetEvent) (h : History) → recorded h ≡ explored table events → h.opening ≡ opening_of table
+opened : (table : NamedContext) (events : List SetEvent) (h : History) → recorded h ≡ explored table events → h.opening ≡ opening_of table MAX_EXPERTS
 opened table events h e = ap (λ (r : Recorded). r.opening) e
 
 logged : (table : NamedContext) (events : List SetEvent) (h : History) → recorded h ≡ explored table events
-    → h.journal ≡ journal_of (opening_state (opening_of table)) events
+    → h.journal ≡ journal_of (opening_state (opening_of table MAX_EXPERTS)) events
 logged table events h e = ap (λ (r : Recorded). r.journal) e
 
 state_of-explored : (table : NamedContext) (events : List SetEvent) (h : History) → recorded h ≡ explored table events
-    → state_of h ≡ state_after (opening_state (opening_of table)) events
+    → state_of h ≡ state_after (opening_state (opening_of table MAX_EXPERTS)) events
 state_of-explored table events h e =
     ap (λ (r : Recorded). state_after (opening_state r.opening) (events_of r.journal)) e
-    ∙ ap (state_after (opening_state (opening_of table))) (events_of-journal_of (opening_state (opening_of table)) events)
+    ∙ ap (state_after (opening_state (opening_of table MAX_EXPERTS))) (events_of-journal_of (opening_state (opening_of table MAX_EXPERTS)) events)
 
 recorded-parts : (h : History) (o : Opening) (H : List SetEntry) → h.opening ≡ o → h.journal ≡ H → recorded h ≡ record { opening = o; journal = H }
 recorded-parts h o H opening journal = cc
 
-pub recorded-start : (table : NamedContext) (h : History) → h.opening ≡ opening_of table → h.journal ≡ [] → recorded h ≡ explored table []
+pub recorded-start : (table : NamedContext) (h : History) → h.opening ≡ opening_of table MAX_EXPERTS → h.journal ≡ [] → recorded h ≡ explored table []
 unfolding journal_of
-recorded-start table h opening journal = recorded-parts h (opening_of table) [] opening journal
+recorded-start table h opening journal = recorded-parts h (opening_of table MAX_EXPERTS) [] opening journal
 
 pub recorded-push : (table : NamedContext) (events : List SetEvent) (old new : History) (event : SetEvent) (reply : SetReply)
     → recorded old ≡ explored table events → IsStep old new event reply → recorded new ≡ explored table (events ++ event ∷ [])
 recorded-push table events old new event reply e step =
-    let s : State = opening_state (opening_of table) in
+    let s : State = opening_state (opening_of table MAX_EXPERTS) in
     let answer : reply ≡ reply_to (state_after s events) event = step.reply ∙ ap (λ (t : State). reply_to t event) (state_of-explored table events old e) in
     let entry : List SetEntry → SetReply → List SetEntry = λ H answer. H ++ record { event = event; reply = answer } ∷ [] in
-    recorded-parts new (opening_of table) (journal_of s (events ++ event ∷ []))
+    recorded-parts new (opening_of table MAX_EXPERTS) (journal_of s (events ++ event ∷ []))
     (step.opening ∙ opened table events old e)
     (step.journal ∙ ap (λ H. entry H reply) (logged table events old e) ∙ ap (λ a. entry (journal_of s events) a) answer ∙ sym (journal_of-push s events event))
 

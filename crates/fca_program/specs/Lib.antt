@@ -1,4 +1,2 @@
-pub mod Readings
 pub mod Outputs
 pub mod Endings
-pub mod Headline

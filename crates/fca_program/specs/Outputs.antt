@@ -1,76 +1,40 @@
 -- What each command writes.
-use Rattle.std.specs.Prelude.{ℕ, Bool, false, cond, ◌&&◌, Option, List, [], length, nat_lt}
+use Rattle.std.specs.Prelude.{Bool, cond, Option, List, [], length, nat_lt}
 use Rattle.fca_model.specs.Sets.{Set}
 use Rattle.fca_model.specs.Tables.{Text, NamedContext}
-use Rattle.fca_model.specs.Implications.{Rule}
-use Rattle.fca_model.specs.Questions.{open_questions}
 use Rattle.fca_model.specs.declared.TheConstants.{MAX_EXPERTS}
-use Rattle.fca_model.specs.Exploration.{SetEvent, SetEntry, State, plain, journal_of, state_after, events_of, is_expert, expert_of, has_width}
-use Rattle.fca_io.specs.Shelves.{Told}
+use Rattle.fca_model.specs.Exploration.{SetEvent, journal_of}
 use Rattle.fca_model.specs.Pseudo.{basis, covers}
+use Rattle.fca_io.specs.Shelves.{Told}
 use Rattle.lectic_concepts.specs.Concepts.{concepts}
-use Rattle.cxt_format.specs.Form.{cxt_form}
 use Rattle.cxt_format.specs.Written.{cxt_text}
-use Rattle.expert_wire.specs.Scripts.{script_form}
-use Rattle.explore_state.specs.History.{Opening, History, opening_state}
+use Rattle.csv_context.specs.Written.{csv_text}
+use Rattle.explore_state.specs.History.{opening_state}
 use Rattle.basis_report.specs.Explorations.{explore_text}
 use Rattle.basis_report.specs.Json.{concepts_json, basis_json}
 use Rattle.basis_report.specs.Reports.{concepts_text, lattice_text, basis_text}
 use Rattle.basis_report.specs.Verdicts.{follows_text}
 use Rattle.fca_command.specs.Attributes.{attributes_said}
-use Rattle.fca_program.specs.Readings.{Reading, then, known, file_read, input_read}
-use Rattle.fca_program.specs.Readings.Reading.{Read}
 use Rattle.fca_command.specs.declared.command.Command.{Command}
 use Rattle.fca_command.specs.declared.command.Command.TheVariants.{Concepts, Lattice, Basis, Follows, Convert, Replay}
 use Rattle.fca_command.specs.declared.command.Form.{Form}
-use Rattle.fca_command.specs.declared.command.Form.TheVariants.{Cxt}
+use Rattle.fca_command.specs.declared.command.Form.TheVariants.{Cxt, Csv}
+use Rattle.command_io.specs.Readings.{Reading, then, known}
+use Rattle.command_io.specs.Readings.Reading.{Read}
+use Rattle.command_io.specs.Forms.{table_read, script_read}
+use Rattle.command_io.specs.Endings.{Output, finished}
+use Rattle.command_io.specs.Explorations.{Recorded, opening_of, open_at}
 
--- a text, and whether it leaves a question open
-pub record Output : Type 0 where
-  pub text : Text
-  pub is_open : Bool
-
--- the table in the file of the name, of which this is told
-abbrev pub table_read : Text → Told → Reading NamedContext
-table_read file told = file_read cxt_form told
-
--- the events of the script on the input, whose rows have width n
-abbrev pub script_read : ℕ → Option Text → Reading (List SetEvent)
-script_read n input = input_read (λ bytes. script_form bytes n) input
-
--- an event of an expert, with a row of width n where it has one
-abbrev pub may_apply : ℕ → SetEvent → Bool
-may_apply n event = is_expert (expert_of event) && has_width n event
-
--- an exploration: what it was opened with, and its journal
-pub record Recorded : Type 0 where
-  pub opening : Opening
-  pub journal : List SetEntry
-
--- what an exploration has recorded
-abbrev pub recorded : History → Recorded
-recorded h = record { opening = h.opening; journal = h.journal }
-
--- the table as the opening of an exploration
-abbrev pub opening_of : NamedContext → Opening
-opening_of table = record { table = table; experts = MAX_EXPERTS; settings = plain }
+-- ---- replays
 
 -- the exploration of the table by the events
 abbrev pub explored : NamedContext → List SetEvent → Recorded
-explored table events = record { opening = opening_of table; journal = journal_of (opening_state (opening_of table)) events }
+explored table events = record { opening = opening_of table MAX_EXPERTS; journal = journal_of (opening_state (opening_of table MAX_EXPERTS)) events }
 
 -- the exploration that `replay` records
 abbrev pub replayed : Text → (Text → Told) → Option Text → Reading Recorded
 replayed file files input =
     then (table_read file (files file)) (λ table. then (script_read table.context.width input) (λ events. Read (explored table events)))
-
--- the state after its last event
-abbrev pub last_state : Recorded → State
-last_state r = state_after (opening_state r.opening) (events_of r.journal)
-
--- the questions open after it
-abbrev pub open_at : Recorded → List Rule
-open_at r = open_questions [] (last_state r).context (last_state r).accepted
 
 -- the text of an exploration
 abbrev pub exploration_output : Recorded → Output
@@ -99,10 +63,7 @@ table_verdict P C table = follows_text table (basis table.context) P C
 
 abbrev pub table_written : Form → NamedContext → Text
 table_written Cxt table = cxt_text table
-
--- a text that leaves no question open
-abbrev pub finished : Text → Output
-finished text = record { text = text; is_open = false }
+table_written Csv table = csv_text table
 
 -- what is written of the table in the file
 abbrev pub of_table : (NamedContext → Text) → Text → (Text → Told) → Reading Output

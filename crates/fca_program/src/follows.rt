@@ -2,17 +2,14 @@
 
 ghost use Rattle.std.specs.Prelude.{◌≡◌, IfOk, IfErr, length};
 ghost use Rattle.fca_io.specs.Faults.{Rose};
-ghost use Rattle.fca_program.specs.Readings.{MayRead};
+ghost use Rattle.command_io.specs.Readings.{MayRead};
 ghost use Rattle.fca_program.specs.Outputs.{attributes_read, table_verdict, verdict_output, follows_output};
-ghost use Rattle.fca_program.specs.Endings.{stop_status, Stops};
+ghost use Rattle.command_io.specs.Endings.{stop_status, Stops};
 
-use crate::answer::Answer;
-use crate::readings::table_under;
-use crate::stop::Stop;
-use crate::tables::finished;
 use attr_bits::Attrs;
 use basis_report::follows_text;
 use canonical_basis::basis;
+use command_io::{Answer, Origin, Stop, table_under};
 use context_table::Table;
 use fca_command::attributes_said;
 use fca_io::Shelf;
@@ -33,7 +30,7 @@ pub fn follows<R: Threads + Sync, H: Shelf>(
     ensures stop { IfErr result (λ stop. Stops (follows_output premise.now conclusion.now file.now (H.tells shelf.old))
         (Rose (H.faults shelf.old file.now) (H.faults shelf.new file.now)) (stop_status stop)) }
 {
-    let table = table_under(alloc, shelf, file)?;
+    let table = table_under(alloc, shelf, file, Origin::File)?;
     verdict(rt, alloc, &table, premise, conclusion)
 }
 
@@ -50,7 +47,7 @@ fn verdict<R: Threads + Sync>(
 {
     let premise = attributes_in(table, premise)?;
     let conclusion = attributes_in(table, conclusion)?;
-    Ok(finished(table_verdict(rt, alloc, &premise, &conclusion, table)?))
+    Ok(Answer::finished(table_verdict(rt, alloc, &premise, &conclusion, table)?))
 }
 
 /// The attributes of the table that the word names.

@@ -1,15 +1,11 @@
 //! A workbench for formal concepts: commands over tables, and explorations by scripts.
 #![tactic(auto)]
 
-mod answer;
 mod ends;
 mod follows;
 mod link;
-mod readings;
 mod replay;
-mod report;
 mod run;
-mod stop;
 mod tables;
 
 use crate::ends::{FileShelf, StdFault, StdInput, StdOutput};

@@ -4,15 +4,14 @@ ghost use Rattle.std.specs.Prelude.{◌≡◌, ◌⊎◌, IfOk, IfErr, OnOk, tru
 ghost use Rattle.std.specs.List.{list_all};
 ghost use Rattle.std.specs.Io.KnownBytes.{IsAtEnd};
 ghost use Rattle.fca_io.specs.Faults.{Rose};
-ghost use Rattle.fca_program.specs.Readings.{MayRead, IfRead};
-ghost use Rattle.fca_program.specs.Headline.{IsExplored};
-ghost use Rattle.fca_program.specs.Outputs.{may_apply, replayed, replay_output, explored, recorded, exploration_output};
-ghost use Rattle.fca_program.specs.Endings.{stop_status, Stops};
+ghost use Rattle.command_io.specs.Readings.{MayRead, IfRead};
+ghost use Rattle.command_io.specs.Forms.{may_apply};
+ghost use Rattle.command_io.specs.Explorations.{IsExplored, recorded};
+ghost use Rattle.fca_program.specs.Outputs.{replayed, replay_output, explored, exploration_output};
+ghost use Rattle.command_io.specs.Endings.{stop_status, Stops};
 
-use crate::answer::Answer;
-use crate::readings::{script_on, table_under};
-use crate::stop::Stop;
 use basis_report::explore_text;
+use command_io::{Answer, Origin, Stop, script_on, table_under};
 use context_table::Table;
 use explore_state::{Event, Explore};
 use fca_io::{Shelf, Source};
@@ -49,7 +48,7 @@ fn exploration<H: Shelf, S: Source>(
     ensures stop { IfErr result (λ stop. Stops (replayed file.now (H.tells shelf.old) (S.left input.old))
         (Rose (H.faults shelf.old file.now) (H.faults shelf.new file.now) ⊎ Rose (S.faults input.old) (S.faults input.new)) (stop_status stop)) }
 {
-    let table = table_under(alloc, shelf, file)?;
+    let table = table_under(alloc, shelf, file, Origin::File)?;
     let events = script_on(alloc, input, table.rows().width())?;
     Ok(explored(alloc, table, events)?)
 }

@@ -4,16 +4,15 @@ ghost use Rattle.std.specs.Prelude.{◌≡◌, IfOk, IfErr};
 ghost use Rattle.fca_io.specs.Faults.{Rose};
 ghost use Rattle.fca_model.specs.Pseudo.{basis, covers};
 ghost use Rattle.lectic_concepts.specs.Concepts.{concepts};
-ghost use Rattle.fca_program.specs.Outputs.{of_table, finished, table_concepts, table_lattice, table_basis, table_written};
-ghost use Rattle.fca_program.specs.Readings.{MayRead};
-ghost use Rattle.fca_program.specs.Endings.{stop_status, Stops};
+ghost use Rattle.fca_program.specs.Outputs.{of_table, table_concepts, table_lattice, table_basis, table_written};
+ghost use Rattle.command_io.specs.Readings.{MayRead};
+ghost use Rattle.command_io.specs.Endings.{stop_status, Stops};
 
-use crate::answer::Answer;
-use crate::readings::table_under;
-use crate::stop::Stop;
 use basis_report::{basis_json, basis_text, concepts_json, concepts_text, lattice_text};
 use canonical_basis::basis;
+use command_io::{Answer, Origin, Stop, table_under};
 use context_table::Table;
+use csv_context::write_csv;
 use cxt_format::write_cxt;
 use fca_command::Form;
 use fca_io::Shelf;
@@ -34,8 +33,8 @@ pub fn concepts<H: Shelf>(
     ensures stop { IfErr result (λ stop. Stops (of_table (table_concepts json) file.now (H.tells shelf.old))
         (Rose (H.faults shelf.old file.now) (H.faults shelf.new file.now)) (stop_status stop)) }
 {
-    let table = table_under(alloc, shelf, file)?;
-    Ok(finished(table_concepts(alloc, json, &table)?))
+    let table = table_under(alloc, shelf, file, Origin::File)?;
+    Ok(Answer::finished(table_concepts(alloc, json, &table)?))
 }
 
 /// The concepts of the table in the file, and their covers.
@@ -44,8 +43,8 @@ pub fn lattice<H: Shelf>(alloc: Global, shelf: &mut H, file: &Word) -> Result<An
     ensures stop { IfErr result (λ stop. Stops (of_table table_lattice file.now (H.tells shelf.old))
         (Rose (H.faults shelf.old file.now) (H.faults shelf.new file.now)) (stop_status stop)) }
 {
-    let table = table_under(alloc, shelf, file)?;
-    Ok(finished(table_lattice(alloc, &table)?))
+    let table = table_under(alloc, shelf, file, Origin::File)?;
+    Ok(Answer::finished(table_lattice(alloc, &table)?))
 }
 
 /// The basis of the table in the file.
@@ -60,8 +59,8 @@ pub fn basis_of_file<R: Threads + Sync, H: Shelf>(
     ensures stop { IfErr result (λ stop. Stops (of_table (table_basis json) file.now (H.tells shelf.old))
         (Rose (H.faults shelf.old file.now) (H.faults shelf.new file.now)) (stop_status stop)) }
 {
-    let table = table_under(alloc, shelf, file)?;
-    Ok(finished(table_basis(rt, alloc, json, &table)?))
+    let table = table_under(alloc, shelf, file, Origin::File)?;
+    Ok(Answer::finished(table_basis(rt, alloc, json, &table)?))
 }
 
 /// The table in the file, in this form.
@@ -75,18 +74,8 @@ pub fn convert<H: Shelf>(
     ensures stop { IfErr result (λ stop. Stops (of_table (table_written to) file.now (H.tells shelf.old))
         (Rose (H.faults shelf.old file.now) (H.faults shelf.new file.now)) (stop_status stop)) }
 {
-    let table = table_under(alloc, shelf, file)?;
-    Ok(finished(table_written(alloc, to, &table)?))
-}
-
-/// A text that leaves no question open.
-pub fn finished(text: Vec<u8>) -> Answer
-    ensures { result ≡ finished text.items }
-{
-    Answer {
-        text,
-        is_open: false,
-    }
+    let table = table_under(alloc, shelf, file, Origin::File)?;
+    Ok(Answer::finished(table_written(alloc, to, &table)?))
 }
 
 /// The concepts of the table, in lectic order of their intents.
@@ -134,5 +123,6 @@ fn table_written(alloc: Global, to: Form, table: &Table) -> Result<Vec<u8>, Memo
 {
     match to {
         Form::Cxt => write_cxt(alloc, table),
+        Form::Csv => write_csv(alloc, table),
     }
 }

@@ -1,8 +1,8 @@
 use Rattle.std.proofs.Common.{◌≡◌, ◌∙◌, ℕ, true, ap, subst}
 use Rattle.std.specs.List.{list_all}
 use Rattle.fca_model.specs.Context.{Context}
-use Rattle.fca_program.specs.Readings.{MayRead}
-use Rattle.fca_program.specs.Outputs.{may_apply, script_read}
+use Rattle.command_io.specs.Readings.{MayRead}
+use Rattle.command_io.specs.Forms.{may_apply, script_read}
 use Rattle.fca_program.proofs.CourseLemmas.{replayed-course}
 use Rattle.fca_program.proofs.replay.exploration.Goals as goal
 

@@ -3,7 +3,9 @@ use Rattle.std.proofs.lemmas.Bool.{and_parts}
 use Rattle.std.specs.List.{list_all}
 use Rattle.std.specs.Vec.Iter.{into_iter_items}
 use Rattle.fca_model.specs.Exploration.{SetEvent}
-use Rattle.fca_program.specs.Outputs.{may_apply, recorded, explored}
+use Rattle.command_io.specs.Forms.{may_apply}
+use Rattle.command_io.specs.Explorations.{recorded}
+use Rattle.fca_program.specs.Outputs.{explored}
 use Rattle.fca_program.proofs.ReplayLemmas.{recorded-start, recorded-push, recorded-admits, no_items}
 use Rattle.fca_program.proofs.replay.explored.Goals as goal
 

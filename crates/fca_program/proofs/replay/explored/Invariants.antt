@@ -2,7 +2,9 @@
 use Rattle.std.proofs.Common.{◌≡◌, ◌++◌, length, true}
 use Rattle.std.specs.List.{list_all}
 use Rattle.std.specs.Vec.Iter.{into_iter_items, into_iter_len}
-use Rattle.fca_program.specs.Outputs.{may_apply, recorded, explored}
+use Rattle.command_io.specs.Forms.{may_apply}
+use Rattle.command_io.specs.Explorations.{recorded}
+use Rattle.fca_program.specs.Outputs.{explored}
 use Rattle.fca_program.proofs.replay.explored.Given as goal
 
 abbrev pub invariant-loop-event : goal.invariant-loop-event

@@ -7,12 +7,14 @@ ghost use Rattle.fca_model.specs.declared.TheConstants.{MAX_ATTRIBUTES, FILE_BYT
 ghost use Rattle.fca_io.specs.Faults.{Rose};
 ghost use Rattle.expert_wire.specs.Scripts.{script_form};
 ghost use Rattle.cxt_format.specs.Form.{cxt_form};
-ghost use Rattle.fca_program.specs.Readings.{formed, MayRead};
-ghost use Rattle.fca_program.specs.Outputs.{may_apply, table_read, script_read};
-ghost use Rattle.fca_program.specs.Endings.{stop_status, Stops, taken_status};
+ghost use Rattle.csv_context.specs.Form.{csv_form};
+ghost use Rattle.command_io.specs.Readings.{formed, MayRead};
+ghost use Rattle.command_io.specs.Forms.{is_csv, table_formed, may_apply, table_read, script_read};
+ghost use Rattle.command_io.specs.Endings.{stop_status, Stops, taken_status};
 
 use crate::stop::{Origin, Stop};
 use context_table::Table;
+use csv_context::{CsvFault, read_csv};
 use cxt_format::{CxtFault, read_cxt};
 use expert_wire::{ScriptFault, read_script};
 use explore_state::Event;
@@ -31,28 +33,64 @@ fn not_taken(taken: Taken, origin: Origin) -> Stop
     }
 }
 
-/// The table in the file of the name.
-pub fn table_under<H: Shelf>(alloc: Global, shelf: &mut H, file: &Word) -> Result<Table, Stop>
+/// The table in the file of the name, which comes from the origin.
+pub fn table_under<H: Shelf>(
+    alloc: Global,
+    shelf: &mut H,
+    file: &Word,
+    origin: Origin,
+) -> Result<Table, Stop>
     ensures table { IfOk result (λ table. MayRead (table_read file.now (H.tells shelf.old file.now)) table) }
     ensures stop { IfErr result (λ stop. Stops (table_read file.now (H.tells shelf.old file.now))
         (Rose (H.faults shelf.old file.now) (H.faults shelf.new file.now)) (stop_status stop)) }
+    ensures kept { (other : List ℕ) → H.tells shelf.new other ≡ H.tells shelf.old other }
+    ensures later { (other : List ℕ) → H.faults shelf.old other ≤ H.faults shelf.new other }
 {
     let bytes = match shelf.fetch(alloc, file.bytes(), FILE_BYTES) {
         Ok(bytes) => bytes,
-        Err(taken) => return Err(not_taken(taken, Origin::File)),
+        Err(taken) => return Err(not_taken(taken, origin)),
     };
-    table_of(alloc, &bytes)
+    table_of(alloc, &bytes, file.bytes(), origin)
 }
 
-/// The table whose form the bytes are.
-fn table_of(alloc: Global, bytes: &[u8]) -> Result<Table, Stop>
+/// The table whose form the bytes are, by the name of their file.
+fn table_of(alloc: Global, bytes: &[u8], name: &[u8], origin: Origin) -> Result<Table, Stop>
+    ensures table { IfOk result (λ table. MayRead (table_formed name.now bytes.now) table) }
+    ensures stop { IfErr result (λ stop. Stops (table_formed name.now bytes.now) ⊥ (stop_status stop)) }
+{
+    if is_csv(name) {
+        csv_table(alloc, bytes, origin)
+    } else {
+        cxt_table(alloc, bytes, origin)
+    }
+}
+
+/// Whether a file of this name is in the CSV form.
+fn is_csv(name: &[u8]) -> bool
+    ensures { result ≡ is_csv name.now }
+{
+    name.ends_with(b".csv")
+}
+
+fn csv_table(alloc: Global, bytes: &[u8], origin: Origin) -> Result<Table, Stop>
+    ensures table { IfOk result (λ table. MayRead (formed (csv_form bytes.now)) table) }
+    ensures stop { IfErr result (λ stop. Stops (formed (csv_form bytes.now)) ⊥ (stop_status stop)) }
+{
+    match read_csv(alloc, bytes) {
+        Ok(table) => Ok(table),
+        Err(CsvFault::Memory) => Err(Stop::Memory),
+        Err(fault) => Err(Stop::NoCsv(origin, fault)),
+    }
+}
+
+fn cxt_table(alloc: Global, bytes: &[u8], origin: Origin) -> Result<Table, Stop>
     ensures table { IfOk result (λ table. MayRead (formed (cxt_form bytes.now)) table) }
     ensures stop { IfErr result (λ stop. Stops (formed (cxt_form bytes.now)) ⊥ (stop_status stop)) }
 {
     match read_cxt(alloc, bytes) {
         Ok(table) => Ok(table),
         Err(CxtFault::Memory) => Err(Stop::Memory),
-        Err(fault) => Err(Stop::NoTable(Origin::File, fault)),
+        Err(fault) => Err(Stop::NoTable(origin, fault)),
     }
 }
 

@@ -12,7 +12,7 @@ use Rattle.expert_wire.specs.declared.scripts.ScriptFault.{ScriptFault}
 use Rattle.expert_wire.specs.declared.scripts.ScriptFault.TheVariants.{BadLine, BadExpert}
 use Rattle.expert_wire.specs.Words.{is_numeral, value_of, named_row, row_of_width, is_name, set_marked, first_word, later_words}
 use Rattle.expert_wire.specs.Scripts.{script_form, expert_in, event_by, row_by, row_event, event_of, event_of_words, with_event, all_events, events_said, lines, said_from, behind_heading}
-use Rattle.fca_program.specs.Outputs.{may_apply}
+use Rattle.command_io.specs.Forms.{may_apply}
 
 -- what the answer gives may be applied
 Fits : ℕ → Result SetEvent ScriptFault → Type 0

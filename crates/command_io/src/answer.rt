@@ -4,9 +4,9 @@ ghost use Rattle.std.specs.Prelude.{◌≡◌, Result, IfOk, IfErr, IsOk};
 ghost use Rattle.std.specs.Io.KnownBytes.{Appends};
 ghost use Rattle.fca_io.specs.Faults.{Rose};
 ghost use Rattle.fca_io.specs.Transfers.{AppendsFront};
-ghost use Rattle.fca_program.specs.Endings.{stop_status, whole_status, IsWhole, EndsAnswer};
+ghost use Rattle.command_io.specs.Endings.{finished, stop_status, IsWhole, EndsAnswer};
 
-use crate::report::report;
+use crate::err_line::report;
 use crate::stop::Stop;
 use fca_io::{Sink, write_text};
 use std::marker::Model;
@@ -19,11 +19,23 @@ pub struct Answer {
 }
 
 impl Model for Answer {
-    ghost use Rattle.fca_program.specs.Outputs.{Output};
+    ghost use Rattle.command_io.specs.Endings.{Output};
 
     ghost Value = { Output };
 
     ghost view = { λ a. record { text = a.text.items; is_open = a.is_open } };
+}
+
+impl Answer {
+    /// A text that leaves no question open.
+    pub fn finished(text: Vec<u8>) -> Answer
+        ensures { result ≡ finished text.items }
+    {
+        Answer {
+            text,
+            is_open: false,
+        }
+    }
 }
 
 /// Writes the whole text to out, or why there is none to err, and gives the status.

@@ -25,18 +25,18 @@ abbrev pub known : {X : Type 0} → Option X → Reading X
 known (Some x) = Read x
 known None = Refused
 
--- bytes in a form: too many are refused, and those that have not the form
-abbrev pub bytes_read : {X E : Type 0} → (Text → Result X E) → Text → Reading X
-bytes_read form bytes = cond (nat_le (length bytes) FILE_BYTES) (formed (form bytes)) Refused
+-- bytes that are not too many, read so
+abbrev pub bytes_read : {X : Type 0} → (Text → Reading X) → Text → Reading X
+bytes_read form bytes = cond (nat_le (length bytes) FILE_BYTES) (form bytes) Refused
 
--- a file in a form. That there is no such file is a fault, and no reading
-abbrev pub file_read : {X E : Type 0} → (Text → Result X E) → Told → Reading X
+-- a file, read so. That there is no such file is a fault, and no reading
+abbrev pub file_read : {X : Type 0} → (Text → Reading X) → Told → Reading X
 file_read form None = Untold
 file_read form (Some None) = Untold
 file_read form (Some (Some bytes)) = bytes_read form bytes
 
--- all that is left of the input in a form
-abbrev pub input_read : {X E : Type 0} → (Text → Result X E) → Option Text → Reading X
+-- all that is left of the input, read so
+abbrev pub input_read : {X : Type 0} → (Text → Reading X) → Option Text → Reading X
 input_read form None = Untold
 input_read form (Some bytes) = bytes_read form bytes
 

@@ -1,0 +1,30 @@
+-- Tables in files and scripts on the input.
+use Rattle.std.specs.Prelude.{◌≡◌, ℕ, Bool, ◌&&◌, cond, Option, List, nat_eq, codes}
+use Rattle.std.specs.List.{ends_with}
+use Rattle.fca_model.specs.Tables.{Text, NamedContext}
+use Rattle.fca_model.specs.Exploration.{SetEvent, is_expert, expert_of, has_width}
+use Rattle.fca_io.specs.Shelves.{Told}
+use Rattle.cxt_format.specs.Form.{cxt_form}
+use Rattle.csv_context.specs.Form.{csv_form}
+use Rattle.expert_wire.specs.Scripts.{script_form}
+use Rattle.command_io.specs.Readings.{Reading, formed, file_read, input_read}
+
+-- the name of a file in the CSV form
+abbrev pub is_csv : Text → Bool
+is_csv name = ends_with nat_eq name (codes ".csv")
+
+-- bytes in the form that the file's name says: CSV, or else the Burmeister form
+abbrev pub table_formed : Text → Text → Reading NamedContext
+table_formed name bytes = cond (is_csv name) (formed (csv_form bytes)) (formed (cxt_form bytes))
+
+-- the table in the file of the name, of which this is told
+abbrev pub table_read : Text → Told → Reading NamedContext
+table_read name told = file_read (table_formed name) told
+
+-- the events of the script on the input, whose rows have width n
+abbrev pub script_read : ℕ → Option Text → Reading (List SetEvent)
+script_read n input = input_read (λ bytes. formed (script_form bytes n)) input
+
+-- an event of an expert, with a row of width n where it has one
+abbrev pub may_apply : ℕ → SetEvent → Bool
+may_apply n event = is_expert (expert_of event) && has_width n event

@@ -1,0 +1,4 @@
+pub mod Readings
+pub mod Forms
+pub mod Endings
+pub mod Explorations
