@@ -6,3 +6,4 @@ pub mod JsonLemmas
 pub mod VerdictLemmas
 pub mod ConflictLemmas
 pub mod WrittenLemmas
+pub mod NameLemmas

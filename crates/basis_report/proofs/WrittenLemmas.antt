@@ -12,7 +12,7 @@ use Rattle.attr_bits.specs.Difference.{minus}
 use Rattle.lectic_concepts.specs.declared.Concept.{Concept}
 use Rattle.expert_wire.specs.Texts.{line_end, names_of}
 use Rattle.basis_report.specs.Reports.{names_at}
-use Rattle.basis_report.specs.Json.{names_data, concept_data, concepts_data, implication_data, basis_data, concepts_json, basis_json, followed, bracketed, names_written, concept_written, concepts_written, implication_written, basis_written}
+use Rattle.basis_report.specs.Json.{names_data, concept_data, implication_data, concepts_json, basis_json, followed, bracketed, names_written, concept_written, concepts_written, implication_written, basis_written}
 
 followed-items : {X : Type 0} (f : X → Data) (g : X → Text) → ((x : X) → compact_text (f x) ≡ g x) → (xs : List X) → items_text true (items_of (map f xs)) ≡ followed (map g xs) ++ codes "]"
 followed-items f g h [] = refl

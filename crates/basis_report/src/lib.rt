@@ -7,6 +7,7 @@ mod explorations;
 mod implications;
 mod json_lines;
 pub mod laws;
+mod names;
 mod sessions;
 mod verdicts;
 
