@@ -99,7 +99,7 @@ module _ (S : List Rule) (K : Context) where
   broken_settles k found X C Xs s none open_set least has P ep rs ra f lt h =
       let inside = least.least P (right_of (is_some (judged S K found X)) (within X P) h) (list_all-append (respects P) S found ∙ and_from (respects_all S P) (respects_all found P) rs ra) in
       let larger : size X < size C = size_strict X C (sym least.wide) (strictly_from X C least.above
-          (λ z. false≢true (sym open_set ∙ judged_none found X none (subst (λ Z. respects_all (S ++ found) Z ≡ true) (sym z) least.respecting)))) in
+      (λ z. false≢true (sym open_set ∙ judged_none found X none (subst (λ Z. respects_all (S ++ found) Z ≡ true) (sym z) least.respecting)))) in
       leads_by (suc k) C P Xs has (omega arith) inside
 
   member_settles : (k : ℕ) (found : List Rule) (X : Set) (Xs : List Set) → is_some (judged S K found X) ≡ true → IsSettled S K k found (X ∷ []) Xs
