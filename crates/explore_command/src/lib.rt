@@ -1,8 +1,0 @@
-//! The command `explore`: the oracles of experts' tables explore a table through one gate.
-#![tactic(auto)]
-
-mod panel;
-
-
-pub use panel::{Panel, panel_under};
-
