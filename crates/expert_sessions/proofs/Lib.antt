@@ -2,3 +2,4 @@ pub mod MoveLemmas
 pub mod LineLemmas
 pub mod CourseLemmas
 pub mod TalkLemmas
+pub mod ServingLemmas

@@ -9,13 +9,13 @@ use Rattle.fca_model.specs.Exploration.{SetReply, SetEntry}
 use Rattle.expert_sessions.specs.declared.ended.Ended.{Ended}
 use Rattle.expert_sessions.specs.declared.ended.Ended.TheVariants.{Quit, EndOfInput, ReadFault, WriteFault, LongLine, Limit, Spent, Memory}
 use Rattle.expert_sessions.specs.Lines.{Exchange, entries_of}
-use Rattle.expert_sessions.specs.Talks.{Stops, Ends, AndLeaves, Makes}
+use Rattle.expert_sessions.specs.Talks.{Stops, Ends, AndLeaves, Makes, Talk}
 use Rattle.expert_sessions.specs.Moves.{Wire, Place, HasTalked}
 use Rattle.expert_sessions.specs.Courses.{Closes, HasServed}
 use Rattle.expert_sessions.proofs.MoveLemmas.{Moves-nil}
 
 -- there was no room for a line
-pub refused : (t : NamedContext) (e lines : ℕ) (a : Wire) (c : Place) (spent : Type 0) → HasTalked t e lines a a c c Memory spent
+pub refused : (t : NamedContext) (e lines : ℕ) (a : Wire) (c : Place) (spent : Type 0) → HasTalked t e lines a a c.entries c.entries Memory spent
 refused t e lines a c spent = record {
   taken = [];
   made = [];
@@ -26,7 +26,7 @@ refused t e lines a c spent = record {
 }
 
 -- no turn was left for a line
-pub spent_early : (t : NamedContext) (e lines : ℕ) (a b : Wire) (c d : Place) (ended : Ended) → HasServed t e lines a b c d ended → ended ≡ Spent → HasTalked t e lines a b c d Spent (d.turns ≡ Some 0)
+pub spent_early : (t : NamedContext) (e lines : ℕ) (a b : Wire) (c d : Place) (ended : Ended) → HasServed t e lines a b c d ended → ended ≡ Spent → HasTalked t e lines a b c.entries d.entries Spent (d.turns ≡ Some 0)
 spent_early t e lines a b c d ended y is = let x : HasServed t e lines a b c d Spent = subst (λ z. HasServed t e lines a b c d z) is y in record {
   taken = x.taken;
   made = entries_of x.course.served;
@@ -73,7 +73,7 @@ module _ (t : NamedContext) (e lines : ℕ) (at_end read_failed write_failed spe
 
 -- the expert left
 pub left : (t : NamedContext) (e lines : ℕ) (a b : Wire) (c d d' : Place) (ended : Ended) (reply : SetReply) (spent : Type 0) (n : ℕ) → n ≡ e → HasServed t e lines a b c d ended → ended ≢ Spent
-    → d'.entries ≡ d.entries ++ record { event = Leave n; reply = reply } ∷ [] → HasTalked t e lines a b c d' ended spent
+    → d'.entries ≡ d.entries ++ record { event = Leave n; reply = reply } ∷ [] → HasTalked t e lines a b c.entries d'.entries ended spent
 left t e lines a b c d d' ended reply spent number same x n added' =
     let entries = entries_of x.course.served in
     let why = stops t e lines a b d ended x.course.served x.course.rest x.sent x.course.unsent n x.closes in
@@ -94,7 +94,7 @@ left t e lines a b c d d' ended reply spent number same x n added' =
 
 -- no turn was left to leave
 pub spent_late : (t : NamedContext) (e lines : ℕ) (a b : Wire) (c d d' : Place) (ended : Ended) (spent : Type 0) → HasServed t e lines a b c d ended → d'.entries ≡ d.entries → spent
-    → HasTalked t e lines a b c d' Spent spent
+    → HasTalked t e lines a b c.entries d'.entries Spent spent
 spent_late t e lines a b c d d' ended spent x same s = record {
   taken = x.taken;
   made = entries_of x.course.served;
@@ -106,7 +106,7 @@ spent_late t e lines a b c d d' ended spent x same s = record {
 
 -- there was no memory to leave
 pub unremembered : (t : NamedContext) (e lines : ℕ) (a b : Wire) (c d d' : Place) (ended : Ended) (spent : Type 0) → HasServed t e lines a b c d ended → ended ≢ Spent → d'.entries ≡ d.entries
-    → HasTalked t e lines a b c d' Memory spent
+    → HasTalked t e lines a b c.entries d'.entries Memory spent
 unremembered t e lines a b c d d' ended spent x n same = record {
   taken = x.taken;
   made = entries_of x.course.served;
@@ -119,3 +119,33 @@ unremembered t e lines a b c d d' ended spent x n same = record {
     ending = (ended, stops t e lines a b d ended x.course.served x.course.rest x.sent x.course.unsent n x.closes);
   });
 }
+
+-- where turns are never wanting, no talk ends for want of them
+pub never_spent : (t : NamedContext) (e lines : ℕ) (a b : Wire) (old new : List SetEntry) (ended : Ended) (spent : Type 0) → HasTalked t e lines a b old new ended spent → (spent → ⊥)
+    → HasTalked t e lines a b old new ended ⊥
+never_spent t e lines a b old new ended spent x never = record {
+  taken = x.taken;
+  made = x.made;
+  sent = x.sent;
+  moves = x.moves;
+  entries = x.entries;
+  talk = elim x.talk as (λ _. Talk t e lines x.taken x.made x.sent ended (IsAtEnd b.left) (Rose a.reads b.reads) (Rose a.writes b.writes) ⊥) [
+    | inl none ↦ inl none
+    | inr served ↦ inr (record {
+      course = served.course;
+      entries = served.entries;
+      ending = kept ended served.course.served served.course.rest x.sent served.course.unsent served.ending;
+    })
+  ];
+}
+  where
+    kept : (ended : Ended) (served : List Exchange) (rest sent unsent : Text) → Ends t e lines (IsAtEnd b.left) (Rose a.reads b.reads) (Rose a.writes b.writes) spent ended served rest sent unsent
+        → Ends t e lines (IsAtEnd b.left) (Rose a.reads b.reads) (Rose a.writes b.writes) ⊥ ended served rest sent unsent
+    kept Quit served rest sent unsent h = h
+    kept EndOfInput served rest sent unsent h = h
+    kept ReadFault served rest sent unsent h = h
+    kept WriteFault served rest sent unsent h = h
+    kept LongLine served rest sent unsent h = h
+    kept Limit served rest sent unsent h = h
+    kept Spent served rest sent unsent h = never h
+    kept Memory served rest sent unsent h = h

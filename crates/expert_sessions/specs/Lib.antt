@@ -2,3 +2,5 @@ pub mod Lines
 pub mod Talks
 pub mod Moves
 pub mod Courses
+pub mod Serving
+pub mod Rooms

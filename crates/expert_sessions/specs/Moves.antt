@@ -36,11 +36,11 @@ pub record Enters (c d : Place) (made : List SetEntry) (k : ℕ) : Type 0 where
   pub added : d.entries ≡ c.entries ++ made
   pub turns : TakesAtMost k c.turns d.turns
 
--- what was lost by the end, made at the desk and gained by the end is a talk
-pub record HasTalked (t : NamedContext) (e lines : ℕ) (a b : Wire) (c d : Place) (ended : Ended) (spent : Type 0) : Type 0 where
+-- what the end lost, what was added to the entries, and what the end gained is a talk
+pub record HasTalked (t : NamedContext) (e lines : ℕ) (a b : Wire) (old new : List SetEntry) (ended : Ended) (spent : Type 0) : Type 0 where
   pub taken : Text
   pub made : List SetEntry
   pub sent : Text
   pub moves : Moves a b taken sent
-  pub entries : d.entries ≡ c.entries ++ made
+  pub entries : new ≡ old ++ made
   pub talk : Talk t e lines taken made sent ended (IsAtEnd b.left) (Rose a.reads b.reads) (Rose a.writes b.writes) spent

@@ -5,7 +5,11 @@ mod ahead;
 mod answer;
 mod ended;
 mod said;
+mod seats;
+mod serving;
 mod talk;
 
 pub use ended::Ended;
+pub use seats::Seat;
+pub use serving::{Served, Unserved, serve_ends};
 pub use talk::session;

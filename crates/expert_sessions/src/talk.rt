@@ -30,8 +30,7 @@ pub fn session<D: Desk, E: Duplex>(
     ensures talk { HasTalked table.now expert lines
         (record { left = E.Source.left end.old; held = E.Sink.held end.old; reads = E.Source.faults end.old; writes = E.Sink.faults end.old })
         (record { left = E.Source.left end.new; held = E.Sink.held end.new; reads = E.Source.faults end.new; writes = E.Sink.faults end.new })
-        (record { entries = D.entries desk.old; turns = D.left desk.old }) (record { entries = D.entries desk.new; turns = D.left desk.new })
-        result (D.left desk.new ≡ Some 0) }
+        (D.entries desk.old) (D.entries desk.new) result (D.left desk.new ≡ Some 0) }
     ensures turns { TakesAtMost (lines + 1) (D.left desk.old) (D.left desk.new) }
     ensures same { (D.number desk.new ≡ D.number desk.old) × (D.lock desk.new ≡ D.lock desk.old) × (D.place desk.new ≡ D.place desk.old) × (D.attributes desk.new ≡ D.attributes desk.old) }
 {
