@@ -3,7 +3,8 @@
 them by 64, each pass on a thread of its own.
 
 A scratch repository takes the crates from here and a program that only measures; it is proved and built as the
-program of this repository is, which takes some minutes.
+program of this repository is, which takes some minutes. The toolchain stops a program after 120 seconds: on a busy
+machine take fewer turns.
 """
 import os
 import shutil
@@ -180,7 +181,7 @@ def write(path, text):
 
 
 def main():
-    turns = int(sys.argv[1]) if len(sys.argv) > 1 else 1000000
+    turns = int(sys.argv[1]) if len(sys.argv) > 1 else 100000
     top = tempfile.mkdtemp(prefix="turns-")
     try:
         for name in ("fca_model", "turn_lock"):
