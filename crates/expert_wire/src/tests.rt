@@ -54,9 +54,24 @@ fn a_script(rt: HostRuntime) -> Result<(), Fail> {
     assert_eq!(rt; events.len(), 2);
     assert!(&rt; matches!(events[0], Event::Draw { expert: 1 }));
     assert!(&rt; matches!(events[1], Event::Leave { expert: 64 }));
-    assert!(&rt; matches!(read_script(alloc, b"drew 1\n", 2), Err(ScriptFault::BadLine(1))));
-    assert!(&rt; matches!(read_script(alloc, b"draw 65\n", 2), Err(ScriptFault::BadExpert(1))));
-    assert!(&rt; matches!(read_script(alloc, b"row 1 X p\n", 2), Err(ScriptFault::BadWidth(1))));
+    assert!(&rt;
+        matches!(
+            read_script(alloc, b"drew 1\n", 2),
+            Err(ScriptFault::BadLine(1))
+        )
+    );
+    assert!(&rt;
+        matches!(
+            read_script(alloc, b"draw 65\n", 2),
+            Err(ScriptFault::BadExpert(1))
+        )
+    );
+    assert!(&rt;
+        matches!(
+            read_script(alloc, b"row 1 X p\n", 2),
+            Err(ScriptFault::BadWidth(1))
+        )
+    );
     Ok(())
 }
 
