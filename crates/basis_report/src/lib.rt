@@ -9,6 +9,8 @@ mod json_lines;
 pub mod laws;
 mod names;
 mod sessions;
+#[cfg(test)]
+mod tests;
 mod verdicts;
 
 pub use concepts::{concepts_text, lattice_text};
