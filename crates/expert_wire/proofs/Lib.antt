@@ -4,3 +4,4 @@ pub mod WriteLemmas
 pub mod ListedLemmas
 pub mod ReadLemmas
 pub mod SkipLemmas
+pub mod GreetingLemmas

@@ -4,3 +4,4 @@ pub mod Replies
 pub mod Words
 pub mod Requests
 pub mod Scripts
+pub mod Greetings

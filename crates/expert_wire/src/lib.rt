@@ -1,7 +1,8 @@
-//! What experts write and are answered, as texts: requests, replies, scripts and transcripts.
+//! What experts write and are answered, as texts: greetings, requests, replies, scripts and transcripts.
 #![tactic(auto)]
 
 mod draft;
+mod greeting;
 pub mod laws;
 mod parts;
 mod replies;
@@ -11,6 +12,7 @@ mod transcript;
 mod words;
 
 pub use draft::Draft;
+pub use greeting::write_greeting;
 pub use parts::Part;
 pub use replies::write_reply;
 pub use requests::{Request, RequestFault, read_request};

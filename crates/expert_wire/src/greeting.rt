@@ -1,0 +1,36 @@
+//! The first lines of a session.
+
+ghost use Rattle.std.specs.Prelude.{◌++◌, ℕ};
+ghost use Rattle.expert_wire.specs.Greetings.{greeting};
+ghost use Rattle.expert_wire.specs.Parts.{Writes};
+
+use crate::parts::{Part, write_parts};
+use context_table::Table;
+use fca_io::{Put, Sink};
+
+/// Writes the greeting of the expert, part by part; it takes no memory. After an `Err` the sink holds a front of it.
+pub fn write_greeting<K: Sink>(sink: &mut K, table: &Table, expert: u8) -> Result<(), Put>
+    ensures { Writes (K.held sink.old) (K.held sink.new) (K.faults sink.old) (K.faults sink.new) (K.beside sink.old) (K.beside sink.new)
+        (K.faults_beside sink.old) (K.faults_beside sink.new) (greeting table.now expert) result }
+{
+    let width = table.rows().width();
+    write_parts(
+        sink,
+        table,
+        &[
+            Part::Bytes(b"exploration 1"),
+            Part::Bytes(b"\n"),
+            Part::Bytes(b"expert "),
+            Part::Number(u64::from(expert)),
+            Part::Bytes(b"\n"),
+            Part::Bytes(b"attributes "),
+            Part::Number(u64::from(width)),
+            Part::Bytes(b"\n"),
+        ],
+    )?;
+    for attribute in 0..width {
+        let name = table.attribute_name(attribute).bytes();
+        write_parts(sink, table, &[Part::Bytes(name), Part::Bytes(b"\n")])?;
+    }
+    Ok(())
+}
