@@ -1,6 +1,6 @@
 -- The tables of experts are read one after the other: what may be read of the files that are left may be read behind those before,
 -- a refusal there refuses all, and a fault there is one of all.
-use Rattle.std.proofs.Common.{◌≡◌, ◌≤◌, ◌<◌, ◌++◌, ◌∷◌, [], ℕ, zero, suc, List, true, length, get_or, inl, inr, refl, sym, ap, subst, append_assoc, arith}
+use Rattle.std.proofs.Common.{◌≡◌, ◌≤◌, ◌<◌, ◌++◌, ◌∷◌, [], ℕ, zero, suc, List, Bool, true, false, cond, length, get_or, inl, inr, refl, sym, ap, subst, append_assoc, arith}
 use Rattle.std.specs.Prelude.{bytes_eq}
 use Rattle.std.proofs.lemmas.Bool.{and_parts, cases_Bool}
 use Rattle.std.proofs.lemmas.Slice.Eq.{bytes_eq-Decides}
@@ -9,7 +9,11 @@ use Rattle.fca_io.specs.Faults.{Rose}
 use Rattle.fca_io.specs.Shelves.{Told}
 use Rattle.command_io.specs.Readings.{Reading, then, MayRead, MayRefuse}
 use Rattle.command_io.specs.Readings.Reading.{Untold, Refused, Read}
-use Rattle.explore_command.specs.Panels.{same_names, agreeing, expert_read, experts_read, SomeRose}
+use Rattle.std.specs.List.{list_all}
+use Rattle.expert_wire.specs.Words.{is_name}
+use Rattle.command_io.specs.Forms.{table_read}
+use Rattle.command_io.proofs.NameLemmas.{table_read-names}
+use Rattle.explore_command.specs.Panels.{Panel, same_names, agreeing, expert_read, experts_read, panel_read, HasPanelNames, SomeRose}
 
 -- ---- names
 
@@ -100,3 +104,39 @@ pub SomeRose-at : (files : List Text) (i : ℕ) (d : Text) (counts counts' : Tex
 SomeRose-at [] i d counts counts' inside rose = absurd (omega arith)
 SomeRose-at (file ∷ files) zero d counts counts' inside rose = inl rose
 SomeRose-at (file ∷ files) (suc i) d counts counts' inside rose = inr (SomeRose-at files i d counts counts' (omega arith) rose)
+
+-- ---- names
+
+then-read : {X Y : Type 0} (r : Reading X) (next : X → Reading Y) (y : Y) → then r next ≡ Read y → (x : X) × (r ≡ Read x) × (next x ≡ Read y)
+then-read Untold next y e = cc
+then-read Refused next y e = cc
+then-read (Read x) next y e = (x, refl, e)
+
+agreeing-read : (b : Bool) (D E : NamedContext) → cond b (Read D) Refused ≡ Read E → D ≡ E
+agreeing-read true D E e = cc
+agreeing-read false D E e = cc
+
+expert_read-names : (table : NamedContext) (file : Text) (tells : Text → Told) (D : NamedContext) → expert_read table file tells ≡ Read D → list_all is_name D.objects ≡ true
+expert_read-names table file tells D e =
+    let s = then-read (table_read file (tells file)) (agreeing table) D e in
+    let same : s.0 ≡ D = agreeing-read (same_names s.0.attributes table.attributes) s.0 D s.2 in
+    let P : NamedContext → Type 0 = λ t. list_all is_name t.objects ≡ true in
+    subst P same (table_read-names file (tells file) s.0 s.1).objects
+
+experts_read-names : (table : NamedContext) (files : List Text) (tells : Text → Told) (experts : List NamedContext) → experts_read table files tells ≡ Read experts
+    → list_all (λ D. list_all is_name D.objects) experts ≡ true
+experts_read-names table [] tells experts e =
+    let same : [] ≡ experts = cc in let P : List NamedContext → Type 0 = λ l. list_all (λ D. list_all is_name D.objects) l ≡ true in subst P same refl
+experts_read-names table (file ∷ files) tells experts e =
+    let s = then-read (expert_read table file tells) _ experts e in
+    let r = then-read (experts_read table files tells) (λ rest. Read (s.0 ∷ rest)) experts s.2 in
+    let same : (s.0 ∷ r.0) ≡ experts = cc in
+    let P : List NamedContext → Type 0 = λ l. list_all (λ D. list_all is_name D.objects) l ≡ true in
+    subst P same (rw (expert_read-names table file tells s.0 s.1) (experts_read-names table files tells r.0 r.1))
+
+pub panel_read-names : (file : Text) (experts : List Text) (tells : Text → Told) (p : Panel) → panel_read file experts tells ≡ Read p → HasPanelNames p
+panel_read-names file experts tells p e =
+    let s = then-read (table_read file (tells file)) _ p e in
+    let r = then-read (experts_read s.0 experts tells) (λ tables. Read (record { table = s.0; experts = tables })) p s.2 in
+    let same : record { table = s.0; experts = r.0 } ≡ p = cc in
+    subst HasPanelNames same (record { table = table_read-names file (tells file) s.0 s.1; experts = experts_read-names s.0 experts tells r.0 r.1 })

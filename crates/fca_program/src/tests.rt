@@ -8,7 +8,7 @@ use std::sync::Wait;
 use std::test::Fail;
 use std::thread::Threads;
 
-/// The words of a call, the bytes of the file `F`, the input, the status, and the text: on out at the statuses 0 and 6, on
+/// The words of a call, the bytes of the files `F` and `F.csv`, the input, the status, and the text: on out at the statuses 0 and 6, on
 /// err at any other.
 type Call = (
     &'static [&'static [u8]],
@@ -34,7 +34,8 @@ const ONE_FULL_ROW: &[u8] = b"B\n\n1\n3\n\ng\na\nb\nc\nXXX\n";
 const NOMINAL: &[u8] = b"B\n\n3\n3\n\n1\n2\n3\na\nb\nc\nX..\n.X.\n..X\n";
 
 /// Living beings and water.
-const LIVING: &[u8] = b"B\n\n8\n9\n\nleech\nbream\nfrog\ndog\nspike-weed\nreed\nbean\nmaize\na\nb\nc\nd\ne\nf\ng\nh\ni\nXX....X..\nXX....XX.\nXXX...XX.\nX.X...XXX\nXX.X.X...\nXXXX.X...\nX.XXX....\nX.XX.X...\n";
+const LIVING: &[u8] =
+    b"B\n\n8\n9\n\nleech\nbream\nfrog\ndog\nspike-weed\nreed\nbean\nmaize\na\nb\nc\nd\ne\nf\ng\nh\ni\nXX....X..\nXX....XX.\nXXX...XX.\nX.X...XXX\nXX.X.X...\nXXXX.X...\nX.XXX....\nX.XX.X...\n";
 
 /// A whole exploration of two attributes by two experts.
 const WHOLE: &[u8] =
@@ -43,6 +44,8 @@ const WHOLE: &[u8] =
 const REPLAY: &[&[u8]] = &[b"replay", b"F"];
 
 const CONVERT: &[&[u8]] = &[b"convert", b"F", b"cxt"];
+
+const CONVERT_CSV: &[&[u8]] = &[b"convert", b"F.csv", b"cxt"];
 
 const EXPLORATIONS: [Call; 11] = [
     (
@@ -118,7 +121,7 @@ const EXPLORATIONS: [Call; 11] = [
     ),
 ];
 
-const TABLES: [Call; 15] = [
+const TABLES: [Call; 17] = [
     (
         &[b"concepts", b"F"],
         NO_ATTRIBUTES,
@@ -206,6 +209,20 @@ const TABLES: [Call; 15] = [
         b"B\n\n1\n2\n\ng\na\nb\nX.\n",
     ),
     (
+        &[b"convert", b"F", b"csv"],
+        b"B\r\n\r\n1\r\n2\r\ng\r\na\r\nb\r\nx.",
+        b"",
+        0,
+        b"object,a,b\ng,X,\n",
+    ),
+    (
+        CONVERT_CSV,
+        b",a,b\ng,X,\nh,0,1\n",
+        b"",
+        0,
+        b"B\n\n2\n2\n\ng\nh\na\nb\nX.\n.X\n",
+    ),
+    (
         CONVERT,
         b"B\n\n1\n2\n\ng\na\nb\n\nX.\n",
         b"",
@@ -214,7 +231,7 @@ const TABLES: [Call; 15] = [
     ),
 ];
 
-const REFUSALS: [Call; 16] = [
+const REFUSALS: [Call; 20] = [
     (
         CONVERT,
         b"B\n\n2\n2\n\ng\nh\na\nb\nX.\n",
@@ -265,6 +282,28 @@ const REFUSALS: [Call; 16] = [
         2,
         b"fca: unknown attribute\n",
     ),
+    (
+        CONVERT_CSV,
+        b",a,b\ng,X\n",
+        b"",
+        2,
+        b"fca: F.csv: record 2: ragged\n",
+    ),
+    (
+        CONVERT_CSV,
+        b",a,b\ng,X,?\n",
+        b"",
+        2,
+        b"fca: F.csv: record 2: field 3: bad cell\n",
+    ),
+    (
+        CONVERT_CSV,
+        b",a,a\n",
+        b"",
+        2,
+        b"fca: F.csv: record 1: field 3: duplicate attribute\n",
+    ),
+    (CONVERT_CSV, b"", b"", 2, b"fca: F.csv: no header\n"),
     (
         REPLAY,
         TWO,
@@ -357,6 +396,7 @@ fn outcome<R: Threads + Wait + Sync>(
     let words = words_of(alloc, words)?;
     let mut shelf = MemoryShelf::new(alloc, &[])?;
     shelf.put(b"F", file)?;
+    shelf.put(b"F.csv", file)?;
     let mut input = MemorySource::new(alloc, bytes, input_fails, 7)?;
     let mut out = MemorySink::new(alloc, room, out_fails, 10)?;
     let mut err = MemorySink::new(alloc, 100, &[], 7)?;
