@@ -2,7 +2,7 @@
 #![tactic(auto)]
 
 mod panel;
-
+mod play;
 
 pub use panel::{Panel, panel_under};
-
+pub use play::explore;

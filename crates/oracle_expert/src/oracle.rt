@@ -83,9 +83,8 @@ impl Expert for Oracle {
     }
 
     fn told(&mut self, reply: &Reply) {
-        match reply {
-            Reply::Breaks(place, _) => drop_given(&mut self.conflicts, self.given, *place),
-            _ => {}
+        if let Reply::Breaks(place, _) = reply {
+            drop_given(&mut self.conflicts, self.given, *place);
         }
     }
 }

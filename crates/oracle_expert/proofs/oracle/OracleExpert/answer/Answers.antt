@@ -1,4 +1,4 @@
-use Rattle.std.proofs.Common.{◌≡◌, ◌∙◌, Option, Some, sym, ap, ℕ, subst}
+use Rattle.std.proofs.Common.{◌≡◌, ◌∙◌, Option, ap, ℕ, subst}
 use Rattle.oracle_expert.specs.Oracles.{Recall, Answers, counterexample, answer_with}
 use Rattle.oracle_expert.proofs.AnswerLemmas.{place_in_table}
 use Rattle.oracle_expert.proofs.oracle.OracleExpert.answer.Goals as goal

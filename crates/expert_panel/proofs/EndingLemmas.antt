@@ -1,0 +1,153 @@
+-- What is left of an exploration by oracles once its gate is closed. The badges of the passes stay, so the seats stand in the order of their numbers, and what
+-- each seat tells of itself becomes a share in the one history. Where none is spent the first was done, and from then on no question was open.
+use Rattle.std.proofs.Common.{◌≡◌, ℕ, zero, suc, ◌<◌, ◌≤◌, ◌⊎◌, Bool, true, false, List, [], ◌∷◌, ◌++◌, length, map, take, All, Result, Ok, Err, IfOk, inl, inr, refl, sym, ap, ◌∙◌, subst, arith}
+use Rattle.std.proofs.lemmas.Bool.{cases_Bool, false≢true}
+use Rattle.std.proofs.Math.Seq.{take-append_seam}
+use Rattle.std.proofs.lemmas.List.{length-map}
+use Rattle.std.proofs.lemmas.List.Elements.{All-nil, All-cons, All-head, All-tail}
+use Rattle.std.specs.List.{list_any}
+use Rattle.fca_model.specs.Tables.{NamedContext}
+use Rattle.fca_model.specs.Questions.{open_questions}
+use Rattle.fca_model.specs.Exploration.{State, Settings, SetEntry, plain, state_after, events_of, own}
+use Rattle.fca_model.proofs.CourseLemmas.{run_settings}
+use Rattle.explore_state.specs.History.{Opening, History, opening_state, open_of}
+use Rattle.explore_state.proofs.KeptLemmas.{opened_valid}
+use Rattle.turn_lock.specs.Passes.{Known, Badge, Lock, Belongs, IsFresh, badge, roll}
+use Rattle.turn_lock.proofs.ClosingLemmas.{roll-belongs}
+use Rattle.expert_gate.specs.Turns.{HasClosed}
+use Rattle.oracle_expert.specs.Oracles.{Recall, no_conflict, untold}
+use Rattle.oracle_expert.specs.Runs.{ends_done}
+use Rattle.expert_panel.specs.declared.seat.Seat.{Seat}
+use Rattle.expert_panel.specs.Seats.{EachSeat, IsSeatOf}
+use Rattle.expert_panel.specs.Explorations.{IsOraclesShare, EachNumbered, HasEnded, is_spent, is_refused}
+use Rattle.expert_panel.proofs.DoneLemmas.{done_leaves_none}
+use Rattle.expert_panel.proofs.ShareLemmas.{count_from, roll-numbers, EachFrom, Tells, each_numbered, Run, passes, experts, tells_all, shares, some_spent, spent_among}
+
+length-count_from : (n k : ℕ) → length (count_from n k) ≡ k
+length-count_from n zero = refl
+length-count_from n (suc k) = ap suc (length-count_from (suc n) k)
+
+suc_of : (n : ℕ) → 1 ≤ n → (k : ℕ) × (n ≡ suc k)
+suc_of zero h = absurd (omega arith)
+suc_of (suc k) h = (k, refl)
+
+-- what was written through a slice of the whole list
+pub written_back : {X : Type 0} (n : ℕ) (news rest : List X) → n ≡ length news → take n (news ++ rest) ≡ news
+written_back n news rest e = ap (λ k. take k (news ++ rest)) e ∙ take-append_seam news rest
+
+-- ---- passes by their badges
+
+pub badges_kept : (o : Opening) (olds news : List (Seat Recall)) → EachSeat (Run o) olds news → map badge (passes news) ≡ map badge (passes olds)
+badges_kept o [] [] each = refl
+badges_kept o [] (new ∷ news) each = absurd each
+badges_kept o (old ∷ olds) [] each = absurd each
+badges_kept o (old ∷ olds) (new ∷ news) each =
+    ap (λ (b : Badge Opening). b ∷ map badge (passes news)) each.0.attended.pass.same ∙ ap (λ (bs : List (Badge Opening)). badge old.pass ∷ bs) (badges_kept o olds news each.1)
+
+pub seats_of : (width : Recall → ℕ) (gate : Lock Opening) (seats : List (Seat Recall)) → All (Belongs gate) (passes seats) → All (λ r. width r ≡ gate.base.table.context.width) (experts seats)
+    → All (IsSeatOf width gate) seats
+seats_of width gate [] belong fit = All-nil (IsSeatOf width gate)
+seats_of width gate (seat ∷ seats) belong fit =
+    All-cons (IsSeatOf width gate) seat seats
+    (record {
+      pass = All-head (Belongs gate) seat.pass (passes seats) belong;
+      expert = All-head (λ r. width r ≡ gate.base.table.context.width) seat.expert (experts seats) fit;
+    })
+    (seats_of width gate seats (All-tail (Belongs gate) seat.pass (passes seats) belong) (All-tail (λ r. width r ≡ gate.base.table.context.width) seat.expert (experts seats) fit))
+
+-- there are as many passes as the lock was made with
+pub length-roll : (gate : Lock Opening) (ps : List (Known Opening SetEntry)) → 1 ≤ gate.passes → map badge ps ≡ roll gate → length ps ≡ gate.passes
+length-roll gate ps some e =
+    let n = suc_of gate.passes some in
+    let numbers : map (λ (b : Badge Opening). b.number) (map badge ps) ≡ count_from 1 (suc n.0) = ap (map (λ (b : Badge Opening). b.number)) e ∙ roll-numbers gate n.0 n.1 in
+    sym (length-map (map badge ps) (λ (b : Badge Opening). b.number) ∙ length-map ps badge) ∙ ap length numbers ∙ length-count_from 1 (suc n.0) ∙ sym n.1
+
+-- ---- the end
+
+module _ (gate : Lock Opening) (ps : List (Known Opening SetEntry)) (before : List Recall) (olds news : List (Seat Recall)) (explore : History) (closed : HasClosed gate.base explore.journal (passes news))
+    (some : 1 ≤ gate.passes) (roll_is : map badge ps ≡ roll gate) (fresh : All IsFresh ps) (count : length before ≡ gate.passes)
+    (free : All (λ (r : Recall). r.conflicts ≡ no_conflict r.table) before) (seated_passes : passes olds ≡ ps) (seated_experts : experts olds ≡ before)
+    (ran : EachSeat (Run gate.base) olds news) (unrefused : list_any (λ seat. is_refused seat.ended) news ≡ false) where
+  abbrev H : List SetEntry
+  H = explore.journal
+
+  pub roll_stays : map badge (passes news) ≡ roll gate
+  roll_stays = badges_kept gate.base olds news ran ∙ ap (map badge) seated_passes ∙ roll_is
+
+  length-news : length news ≡ gate.passes
+  length-news = sym (length-map news (λ seat. seat.pass)) ∙ length-roll gate (passes news) some roll_stays
+
+  numbers : map (λ (b : Badge Opening). b.number) (map badge (passes news)) ≡ count_from 1 (length news)
+  numbers =
+      let n = suc_of gate.passes some in
+      ap (map (λ (b : Badge Opening). b.number)) roll_stays ∙ roll-numbers gate n.0 n.1 ∙ ap (count_from 1) (sym (length-news ∙ n.1))
+
+  told : EachFrom (Tells gate.turns H) 1 news × (map (λ (r : Recall). r.table) (experts news) ≡ map (λ (r : Recall). r.table) (experts olds))
+  told =
+      let belongs : All (Belongs gate) (passes news) = roll-belongs gate (passes news) (omega arith) roll_stays in
+      tells_all gate.base gate.turns H 1 olds news ran (subst (All IsFresh) (sym seated_passes) fresh) (subst (All (λ (r : Recall). r.conflicts ≡ no_conflict r.table)) (sym seated_experts) free)
+      numbers (λ k d h. (belongs k d h).turns) closed.own unrefused
+
+  beyond : (e : ℕ) → (e ≡ 0) ⊎ (length before < e) → (e ≡ 0) ⊎ (length (passes news) < e)
+  beyond e (inl none) = inl none
+  beyond e (inr more) =
+      let news_many = length-news in
+      let seats = length-map news (λ seat. seat.pass) in
+      inr (omega arith)
+
+  -- where no seat is spent the first was done
+  module _ (plainly : gate.base.settings ≡ plain) (opened : explore.opening ≡ gate.base) where
+    done_at_last : ends_done (own H 1) ≡ true → open_of explore ≡ []
+    done_at_last done =
+        let s : State = opening_state gate.base in
+        let settings = run_settings s (events_of H) ∙ plainly in
+        let none = done_leaves_none s H 1 (opened_valid gate.base plainly) closed.is_legal.legal done in
+        subst (λ o. open_questions [] (state_after (opening_state o) (events_of H)).context (state_after (opening_state o) (events_of H)).accepted ≡ []) (sym opened)
+        (ap (λ (S : Settings). open_questions S.known (state_after s (events_of H)).context (state_after s (events_of H)).accepted) (sym settings) ∙ none)
+
+    none_spent : list_any (λ seat. is_spent seat.ended) news ≡ false → open_of explore ≡ []
+    none_spent h = elim (cases_Bool (ends_done (own H 1))) [
+      | inl t ↦ done_at_last t
+      | inr f ↦
+          let many = length-news in
+          absurd (false≢true (sym h ∙ spent_among gate.base gate.turns H 1 news told.0 1 (omega arith) (omega arith) f))
+    ]
+
+    pub ended : (oracles : List Recall) (spent : Bool) → oracles ≡ experts news → spent ≡ list_any (λ seat. is_spent seat.ended) news → HasEnded gate before explore oracles spent
+    ended oracles spent oracles_are spent_is =
+        let many : length news ≡ length before = length-news ∙ sym count in
+        record {
+          opening = opened;
+          is_legal = closed.is_legal.legal;
+          tables = ap (map (λ (r : Recall). r.table)) oracles_are ∙ told.1 ∙ ap (map (λ (r : Recall). r.table)) seated_experts;
+          shares = subst (EachNumbered (IsOraclesShare gate.turns H)) (sym oracles_are) (each_numbered (IsOraclesShare gate.turns H) (experts news) (shares gate.base gate.turns H 1 news told.0));
+          others = λ e h. closed.others e (beyond e h);
+          spent = (
+            λ h.
+                let e = some_spent gate.base gate.turns H 1 news told.0 (sym spent_is ∙ h) in
+                let from = e.1 in
+                let to = e.2 in
+                (e.0, omega arith, omega arith, e.3),
+            λ e.
+                let from = e.1 in
+                let to = e.2 in
+                spent_is ∙ spent_among gate.base gate.turns H 1 news told.0 e.0 (omega arith) (omega arith) e.3,
+          );
+          finished = λ h. none_spent (sym spent_is ∙ h);
+        }
+
+-- ---- the oracles of tables
+
+pub untold_wide : (n : ℕ) (Ds : List NamedContext) → All (λ (D : NamedContext). D.context.width ≡ n) Ds → All (λ (r : Recall). r.table.context.width ≡ n) (map untold Ds)
+untold_wide n [] wide = All-nil (λ (r : Recall). r.table.context.width ≡ n)
+untold_wide n (D ∷ Ds) wide =
+    All-cons (λ (r : Recall). r.table.context.width ≡ n) (untold D) (map untold Ds) (All-head (λ (K : NamedContext). K.context.width ≡ n) D Ds wide)
+    (untold_wide n Ds (All-tail (λ (K : NamedContext). K.context.width ≡ n) D Ds wide))
+
+pub untold_tables : (Ds : List NamedContext) → map (λ (r : Recall). r.table) (map untold Ds) ≡ Ds
+untold_tables [] = refl
+untold_tables (D ∷ Ds) = ap (λ (Ks : List NamedContext). D ∷ Ks) (untold_tables Ds)
+
+pub IfOk-mono : {X F : Type 0} (P Q : X → Type 0) (result : Result X F) → ((x : X) → P x → Q x) → IfOk result P → IfOk result Q
+IfOk-mono P Q (Ok x) on h = on x h
+IfOk-mono P Q (Err e) on h = tt

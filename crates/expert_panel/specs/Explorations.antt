@@ -1,0 +1,40 @@
+-- Explorations by oracles: what each did in the one history.
+use Rattle.std.specs.Prelude.{◌≡◌, ℕ, ◌+◌, ◌≤◌, ◌<◌, ◌⊎◌, ◌↔◌, Bool, true, false, Option, Some, List, [], map, length, slice_get}
+use Rattle.fca_model.specs.Exploration.{SetEntry, IsLegal, own}
+use Rattle.explore_state.specs.History.{Opening, History, opening_state, open_of}
+use Rattle.turn_lock.specs.Passes.{Lock}
+use Rattle.oracle_expert.specs.Oracles.{Recall}
+use Rattle.oracle_expert.specs.Runs.{IsOracleFront, ends_done, conflicts_of}
+use Rattle.expert_panel.specs.declared.end.SeatEnd.{SeatEnd}
+use Rattle.expert_panel.specs.declared.end.SeatEnd.TheVariants.{Spent, Memory}
+
+-- Of the history H: the entries of expert e are what is due for an oracle of its table, and the rows that it dropped are theirs. Its last reply is Done; or
+-- it is not, and there are as many entries as the expert has turns
+pub record IsOraclesShare (turns : ℕ) (H : List SetEntry) (e : ℕ) (oracle : Recall) : Type 0 where
+  pub front : IsOracleFront oracle.table e (own H e)
+  pub conflicts : oracle.conflicts ≡ conflicts_of oracle.table (own H e)
+  pub end : (ends_done (own H e) ≡ true) ⊎ ((ends_done (own H e) ≡ false) × (length (own H e) ≡ turns))
+
+-- P holds of each, with its number; the first has the number 1
+abbrev pub EachNumbered : {X : Type 0} → (ℕ → X → Type 0) → List X → Type 0
+EachNumbered P xs = (k : ℕ) (x : _) → slice_get xs k ≡ Some x → P (k + 1) x
+
+-- the seat made all its turns before it was done
+abbrev pub is_spent : Option SeatEnd → Bool
+is_spent (Some Spent) = true
+is_spent _ = false
+
+-- the seat ended for want of memory
+abbrev pub is_refused : Option SeatEnd → Bool
+is_refused (Some Memory) = true
+is_refused _ = false
+
+-- The exploration by oracles at the gate, as it ended with these oracles, and with one spent or none
+pub record HasEnded (gate : Lock Opening) (before : List Recall) (explore : History) (oracles : List Recall) (some_spent : Bool) : Type 0 where
+  pub opening : explore.opening ≡ gate.base
+  pub is_legal : IsLegal (opening_state gate.base) explore.journal
+  pub tables : map (λ oracle. oracle.table) oracles ≡ map (λ oracle. oracle.table) before
+  pub shares : EachNumbered (IsOraclesShare gate.turns explore.journal) oracles
+  pub others : (e : ℕ) → (e ≡ 0) ⊎ (length before < e) → own explore.journal e ≡ []
+  pub spent : (some_spent ≡ true) ↔ ((e : ℕ) × (1 ≤ e) × (e ≤ length before) × (ends_done (own explore.journal e) ≡ false))
+  pub finished : some_spent ≡ false → open_of explore ≡ []

@@ -1,0 +1,45 @@
+-- Seats of a panel: what each does in one call.
+use Rattle.std.specs.Prelude.{◌≡◌, ℕ, ◌⊎◌, true, false, Some, List, [], ◌∷◌}
+use Rattle.fca_model.specs.Implications.{Rule}
+use Rattle.fca_model.specs.Exploration.{SetReply, SetEntry}
+use Rattle.explore_state.specs.History.{Opening}
+use Rattle.turn_lock.specs.Passes.{Known, Lock, Belongs}
+use Rattle.oracle_expert.specs.declared.expert.Answer.{Answer}
+use Rattle.oracle_expert.specs.Runs.{SeatRun, ends_done}
+use Rattle.expert_panel.specs.declared.seat.Seat.{Seat}
+use Rattle.expert_panel.specs.declared.end.SeatEnd.{SeatEnd}
+use Rattle.expert_panel.specs.declared.end.SeatEnd.TheVariants.{Done, Spent, Memory}
+use Rattle.expert_panel.specs.Passes.{HasMade, TookTurns, TookOneMore}
+
+-- the seat's pass is one of this gate's, and its expert answers questions of the gate's width
+pub record IsSeatOf {X : Type 0} (width : X → ℕ) (gate : Lock Opening) (seat : Seat X) : Type 0 where
+  pub pass : Belongs gate seat.pass
+  pub expert : width seat.expert ≡ gate.base.table.context.width
+
+-- why a seat ended: Done exactly where its last reply is Done; Spent where no turn was left; Memory where a turn or an answer was refused for memory
+abbrev pub IsEnd : SeatEnd → Known Opening SetEntry → List SetEntry → Known Opening SetEntry → Type 0
+IsEnd Done p entries q = (ends_done entries ≡ true) × TookTurns p entries q
+IsEnd Spent p entries q = (ends_done entries ≡ false) × TookTurns p entries q × (q.made ≡ q.turns)
+IsEnd Memory p entries q = (ends_done entries ≡ false) × (TookTurns p entries q ⊎ TookOneMore p entries q)
+
+module _ {X M : Type 0} (width_of : X → ℕ) (memory_of : X → M) (Answering : M → Rule → Answer → M → Type 0) (Learning : M → SetReply → M → Type 0) (o : Opening) where
+  -- from p to q, and from one expert to the other, a run of an expert at a gate that was opened so
+  pub record HasAttended (p : Known Opening SetEntry) (old : X) (ending : SeatEnd) (q : Known Opening SetEntry) (new : X) : Type 0 where
+    pub entries : List SetEntry
+    pub run : SeatRun Answering Learning p.number (memory_of old) entries (memory_of new)
+    pub pass : HasMade o p entries q
+    pub end : IsEnd ending p entries q
+    pub width : width_of new ≡ width_of old
+
+  -- the seat ran
+  pub record HasRun (old new : Seat X) : Type 0 where
+    pub end : SeatEnd
+    pub ended : new.ended ≡ Some end
+    pub attended : HasAttended old.pass old.expert end new.pass new.expert
+
+-- P holds of each seat before and after
+abbrev pub EachSeat : {S : Type 0} → (S → S → Type 0) → List S → List S → Type 0
+EachSeat P [] [] = Unit {0}
+EachSeat P [] (new ∷ news) = ⊥
+EachSeat P (old ∷ olds) [] = ⊥
+EachSeat P (old ∷ olds) (new ∷ news) = P old new × EachSeat P olds news

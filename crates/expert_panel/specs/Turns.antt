@@ -1,0 +1,29 @@
+-- One turn of a seat.
+use Rattle.std.specs.Prelude.{◌≡◌, ◌⊎◌, Option}
+use Rattle.fca_model.specs.Implications.{Rule}
+use Rattle.fca_model.specs.Exploration.{SetEvent, SetReply, SetEntry}
+use Rattle.explore_state.specs.History.{Opening}
+use Rattle.turn_lock.specs.Passes.{Known}
+use Rattle.turn_lock.specs.declared.fault.TurnFault.{TurnFault}
+use Rattle.turn_lock.specs.declared.fault.TurnFault.TheVariants.{Spent, Memory}
+use Rattle.expert_gate.specs.Turns.{Answers, Looks}
+use Rattle.oracle_expert.specs.declared.expert.Answer.{Answer}
+use Rattle.oracle_expert.specs.Runs.{IsTurn, Stops}
+
+module _ (o : Opening) where
+  -- the pass after a fault: no turn was made, or one that was refused for memory
+  abbrev pub IsRefused : TurnFault → Known Opening SetEntry → Known Opening SetEntry → Type 0
+  IsRefused Spent p q = (q ≡ p) × (p.made ≡ p.turns)
+  IsRefused Memory p q = (q ≡ p) ⊎ Looks o p q
+
+module _ {M : Type 0} (Answering : M → Rule → Answer → M → Type 0) (Learning : M → SetReply → M → Type 0) (o : Opening) where
+  -- what was due was said, and replied to: by a turn of the pass
+  pub record IsPlayed (due : Option Rule) (p : Known Opening SetEntry) (old : M) (reply : SetReply) (q : Known Opening SetEntry) (new : M) : Type 0 where
+    pub event : SetEvent
+    pub turn : Answers o p event reply q
+    pub entry : IsTurn Answering Learning p.number due old (record { event = event; reply = reply }) new
+
+  -- nothing was said: the expert may have answered
+  pub record IsStopped (due : Option Rule) (p : Known Opening SetEntry) (old : M) (fault : TurnFault) (q : Known Opening SetEntry) (new : M) : Type 0 where
+    pub refused : IsRefused o fault p q
+    pub stops : Stops Answering Learning p.number due old new

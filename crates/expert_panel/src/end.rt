@@ -1,0 +1,11 @@
+//! Why a seat ended.
+
+#[derive(Clone, Copy, Debug, PartialEq, Eq)]
+pub enum SeatEnd {
+    /// No question is open.
+    Done,
+    /// The pass has made all its turns.
+    Spent,
+    /// A turn or an answer was refused for memory.
+    Memory,
+}

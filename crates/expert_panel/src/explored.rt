@@ -1,0 +1,175 @@
+//! A table explored by oracles.
+
+ghost use Rattle.std.specs.Prelude.{◌≡◌, ◌≤◌, ◌<◌, ◌^◌, ◌⊎◌, ◌↔◌, ℕ, true, false, [], All, IfOk, None, map, length, vec_len};
+ghost use Rattle.std.specs.List.{list_any};
+ghost use Rattle.fca_model.specs.Exploration.{plain, own, IsLegal};
+ghost use Rattle.explore_state.specs.History.{opening_state, open_of};
+ghost use Rattle.turn_lock.specs.Passes.{badge, roll, IsFresh};
+ghost use Rattle.oracle_expert.specs.Oracles.{untold, no_conflict};
+ghost use Rattle.oracle_expert.specs.Runs.{ends_done};
+ghost use Rattle.expert_panel.specs.Explorations.{IsOraclesShare, EachNumbered, HasEnded, is_spent, is_refused};
+
+use crate::end::SeatEnd;
+use crate::panel::run_panel;
+use crate::seat::Seat;
+use context_table::Table;
+use expert_gate::{ExpertPass, Gate};
+use explore_state::Explore;
+use fca_model::{MAX_EXPERTS, Memory};
+use oracle_expert::Oracle;
+use std::alloc::Global;
+use std::sync::Wait;
+use std::thread::Threads;
+
+/// An exploration by oracles, as it ended.
+#[derive(Drop)]
+pub struct Explored {
+    pub explore: Explore,
+    /// The oracles in the order of their numbers, with what they dropped.
+    pub oracles: Vec<Oracle>,
+    /// Whether an oracle has made all its turns and was not answered that it is done.
+    pub spent: bool,
+}
+
+/// Explores the table: expert k is the oracle of the k-th of the expert tables, and each may make `turns` turns.
+pub fn explore_with_oracles<R: Threads + Wait + Sync>(
+    rt: &R,
+    alloc: Global,
+    table: Table,
+    experts: Vec<Table>,
+    turns: u64,
+) -> Result<Explored, Memory>
+    requires turns { (1 ≤ turns) × (turns ≤ 2 ^ 48) }
+    requires experts { (1 ≤ vec_len experts) × (vec_len experts ≤ MAX_EXPERTS) }
+    requires width { All (λ expert. expert.context.width ≡ table.context.width) experts.items }
+    ensures opening { IfOk result (λ r. r.explore.opening
+        ≡ record { table = table; experts = vec_len experts; settings = plain }) }
+    ensures legal { IfOk result (λ r. IsLegal (opening_state r.explore.opening) r.explore.journal) }
+    ensures tables { IfOk result (λ r. map (λ oracle. oracle.table) r.oracles.items ≡ experts.items) }
+    ensures oracles { IfOk result (λ r.
+        EachNumbered (IsOraclesShare turns r.explore.journal) r.oracles.items) }
+    ensures others { IfOk result (λ r. (e : ℕ) → (e ≡ 0) ⊎ (vec_len experts < e) → own r.explore.journal e ≡ []) }
+    ensures spent { IfOk result (λ r. (r.spent ≡ true)
+        ↔ ((e : ℕ) × (1 ≤ e) × (e ≤ vec_len experts) × (ends_done (own r.explore.journal e) ≡ false))) }
+    ensures finished { IfOk result (λ r. r.spent ≡ false → open_of r.explore ≡ []) }
+{
+    let count = experts.len() as u8;
+    let oracles = oracles_of(alloc, experts)?;
+    let Ok(explore) = Explore::open(alloc, table, count) else {
+        return Err(Memory);
+    };
+    let (gate, passes) = Gate::open(alloc, explore, turns)?;
+    run_oracles(rt, alloc, gate, passes, oracles)
+}
+
+/// The oracles of the tables, in their order.
+fn oracles_of(alloc: Global, tables: Vec<Table>) -> Result<Vec<Oracle>, Memory>
+    ensures { IfOk result (λ oracles. oracles.items ≡ map untold tables.items) }
+{
+    let mut oracles = Vec::with_capacity(alloc, tables.len())?;
+    for table in tables {
+        oracles.push(Oracle::new(alloc, table)?)?;
+    }
+    Ok(oracles)
+}
+
+/// All oracles work at the gate, which is closed once each has ended.
+fn run_oracles<R: Threads + Wait + Sync>(
+    rt: &R,
+    alloc: Global,
+    gate: Gate,
+    passes: Vec<ExpertPass>,
+    oracles: Vec<Oracle>,
+) -> Result<Explored, Memory>
+    requires passes { map badge passes.items ≡ roll gate }
+    requires fresh { All IsFresh passes.items }
+    requires some { 1 ≤ gate.passes }
+    requires oracles { vec_len oracles ≡ gate.passes }
+    requires untold { All (λ oracle. oracle.conflicts ≡ no_conflict oracle.table) oracles.items }
+    requires width { All (λ oracle. oracle.table.context.width ≡ gate.base.table.context.width) oracles.items }
+    requires plain { gate.base.settings ≡ plain }
+    ensures { IfOk result (λ r. HasEnded gate oracles.items r.explore r.oracles.items r.spent) }
+{
+    let mut seats = seated(alloc, passes, oracles)?;
+    run_panel(rt, alloc, &gate, seats.as_mut_slice());
+    if any_refused(&seats) {
+        return Err(Memory);
+    }
+    let spent = any_spent(&seats);
+    let (passes, oracles) = risen(alloc, seats)?;
+    Ok(Explored {
+        explore: gate.close(passes),
+        oracles,
+        spent,
+    })
+}
+
+/// A seat for each pass, with the oracle in the same place.
+fn seated(
+    alloc: Global,
+    passes: Vec<ExpertPass>,
+    oracles: Vec<Oracle>,
+) -> Result<Vec<Seat<Oracle>>, Memory>
+    requires { vec_len passes ≡ vec_len oracles }
+    ensures passes { IfOk result (λ seats. map (λ seat. seat.pass) seats.items ≡ passes.items) }
+    ensures experts { IfOk result (λ seats. map (λ seat. seat.expert) seats.items ≡ oracles.items) }
+{
+    let mut seats = Vec::with_capacity(alloc, passes.len())?;
+    let mut experts = oracles.into_iter();
+    for pass in passes {
+        let Some(expert) = experts.next() else {
+            unreachable!()
+        };
+        seats.push(Seat {
+            pass,
+            expert,
+            ended: None,
+        })?;
+    }
+    Ok(seats)
+}
+
+/// The passes and the oracles of the seats.
+fn risen(alloc: Global, seats: Vec<Seat<Oracle>>) -> Result<(Vec<ExpertPass>, Vec<Oracle>), Memory>
+    ensures passes { IfOk result (λ r. r.0.items ≡ map (λ seat. seat.pass) seats.items) }
+    ensures experts { IfOk result (λ r. r.1.items ≡ map (λ seat. seat.expert) seats.items) }
+{
+    let mut passes = Vec::with_capacity(alloc, seats.len())?;
+    let mut oracles = Vec::with_capacity(alloc, seats.len())?;
+    for seat in seats {
+        let Seat {
+            pass,
+            expert,
+            ended: _,
+        } = seat;
+        passes.push(pass)?;
+        oracles.push(expert)?;
+    }
+    Ok((passes, oracles))
+}
+
+/// Whether a seat ended for want of memory.
+fn any_refused(seats: &[Seat<Oracle>]) -> bool
+    ensures { result ≡ list_any (λ seat. is_refused seat.ended) seats.now }
+{
+    seats.iter().any(|seat| is_refused(&seat.ended))
+}
+
+/// Whether a seat made all its turns before it was done.
+fn any_spent(seats: &[Seat<Oracle>]) -> bool
+    ensures { result ≡ list_any (λ seat. is_spent seat.ended) seats.now }
+{
+    seats.iter().any(|seat| is_spent(&seat.ended))
+}
+
+fn is_spent(ended: &Option<SeatEnd>) -> bool
+    ensures { result ≡ is_spent ended.now }
+{
+    matches!(ended, Some(SeatEnd::Spent))
+}
+
+fn is_refused(ended: &Option<SeatEnd>) -> bool
+    ensures { result ≡ is_refused ended.now }
+{
+    matches!(ended, Some(SeatEnd::Memory))
+}

@@ -1,0 +1,71 @@
+//! All seats of a panel, side by side.
+
+ghost use Rattle.std.specs.Prelude.{All};
+ghost use Rattle.std.specs.Thread.{IsSync};
+ghost use Rattle.expert_panel.specs.Seats.{IsSeatOf, HasRun, EachSeat};
+
+use crate::attend::attend;
+use crate::seat::Seat;
+use expert_gate::Gate;
+use oracle_expert::Expert;
+use std::alloc::Global;
+use std::sync::Wait;
+use std::thread::{Threads, join_mut};
+
+/// Each seat's expert draws, answers and is told until it is done, or a turn or an answer is refused.
+pub fn run_panel<X: Expert + Send, R: Threads + Wait + Sync>(
+    rt: &R,
+    alloc: Global,
+    gate: &Gate,
+    seats: &mut [Seat<X>],
+)
+    requires { All (IsSeatOf X.width gate.now) seats.old }
+    ensures { EachSeat (HasRun X.width X.memory X.answers X.learns gate.now.base) seats.old seats.new }
+{
+    run_seats(rt, &alloc, gate, seats)
+}
+
+/// The seats in halves. The allocator is lent, since what threads write would be lost if they held it.
+fn run_seats<X: Expert + Send, R: Threads + Wait + Sync>(
+    rt: &R,
+    alloc: &Global,
+    gate: &Gate,
+    seats: &mut [Seat<X>],
+)
+    requires { All (IsSeatOf X.width gate.now) seats.old }
+    ensures { EachSeat (HasRun X.width X.memory X.answers X.learns gate.now.base) seats.old seats.new }
+{
+    if seats.len() == 0 {
+        return;
+    }
+    if seats.len() == 1 {
+        run_seat(rt, *alloc, gate, &mut seats[0]);
+        return;
+    }
+    let (front, back) = seats.split_at_mut(seats.len() / 2);
+    join_mut(
+        rt,
+        &mut ||
+            requires { IsSync R.row × All (IsSeatOf X.width gate.now) front.now }
+            ensures { EachSeat (HasRun X.width X.memory X.answers X.learns gate.entry.now.base) front.entry.now front.exit.now }
+        { run_seats(rt, alloc, gate, front) },
+        &mut ||
+            requires { IsSync R.row × All (IsSeatOf X.width gate.now) back.now }
+            ensures { EachSeat (HasRun X.width X.memory X.answers X.learns gate.entry.now.base) back.entry.now back.exit.now }
+        { run_seats(rt, alloc, gate, back) },
+    );
+}
+
+/// One seat is run.
+fn run_seat<X: Expert + Send, R: Threads + Wait + Sync>(
+    rt: &R,
+    alloc: Global,
+    gate: &Gate,
+    seat: &mut Seat<X>,
+)
+    requires { IsSeatOf X.width gate.now seat.old }
+    ensures { HasRun X.width X.memory X.answers X.learns gate.now.base seat.old seat.new }
+{
+    let end = attend(rt, alloc, gate, &mut seat.pass, &mut seat.expert);
+    seat.ended = Some(end);
+}
