@@ -1,5 +1,5 @@
 -- The names in a table that was read are names: each form takes a name only where it is one, and takes the names one by one.
-use Rattle.std.proofs.Common.{◌≡◌, ◌∙◌, ◌++◌, ◌∷◌, [], ◌==◌, ◌×◌, ℕ, zero, suc, List, Bool, true, false, cond, Option, Some, None, Result, Ok, Err, length, refl, sym, ap, subst}
+use Rattle.std.proofs.Common.{◌≡◌, ◌∙◌, ◌++◌, ◌∷◌, [], ◌==◌, ◌+◌, ℕ, zero, suc, List, Bool, true, false, cond, Option, Some, None, Result, Ok, Err, length, refl, sym, ap, subst}
 use Rattle.std.specs.Prelude.{nat_lt, nat_le, bytes_eq}
 use Rattle.std.specs.List.{list_all, list_any}
 use Rattle.std.specs.Str.Lossy.{utf8_valid_len}

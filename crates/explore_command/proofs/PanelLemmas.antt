@@ -79,11 +79,11 @@ first_refused D (Read E) rest here may = refused_behind E rest may
 pub ReadsOn-more : (table : NamedContext) (file : Text) (files all : List Text) (tells : Text → Told) (before : List NamedContext) (D : NamedContext)
     → MayRead (expert_read table file tells) D → ReadsOn table (file ∷ files) all tells before → ReadsOn table files all tells (before ++ D ∷ [])
 ReadsOn-more table file files all tells before D here on = record {
-    read = λ later may.
+  read = λ later may.
       let P : List NamedContext → Type 0 = MayRead (experts_read table all tells) in
       subst P (sym (append_assoc before (D ∷ []) later)) (on.read (D ∷ later) (first_read D (expert_read table file tells) (experts_read table files tells) later here may));
-    refused = λ may. on.refused (first_refused D (expert_read table file tells) (experts_read table files tells) here may);
-  }
+  refused = λ may. on.refused (first_refused D (expert_read table file tells) (experts_read table files tells) here may);
+}
 
 refused_here : (first : Reading NamedContext) (rest : Reading (List NamedContext)) → MayRefuse first → MayRefuse (then first (λ D. then rest (λ experts. Read (D ∷ experts))))
 refused_here Untold rest may = tt

@@ -32,9 +32,9 @@ dropped-oracles H e (oracle ∷ oracles) h =
     let zero_more : 0 + e ≡ e = omega arith in
     let here : oracle.conflicts ≡ conflicts_of oracle.table (own H e) = subst P zero_more (h 0 oracle refl) in
     let rest = dropped-oracles H (e + 1) oracles (λ k other at.
-      let Q : ℕ → Type 0 = λ n. other.conflicts ≡ conflicts_of other.table (own H n) in
-      let behind : suc k + e ≡ k + (e + 1) = omega arith in
-      subst Q behind (h (suc k) other at)) in
+    let Q : ℕ → Type 0 = λ n. other.conflicts ≡ conflicts_of other.table (own H n) in
+    let behind : suc k + e ≡ k + (e + 1) = omega arith in
+    subst Q behind (h (suc k) other at)) in
     ap (λ c. (oracle.table, c) ∷ map with_conflicts oracles) here ∙ ap (λ l. (oracle.table, conflicts_of oracle.table (own H e)) ∷ l) rest
 
 share-by : (H : List SetEntry) (k : ℕ) (D : NamedContext) (found : Option Recall) → ((oracle : Recall) → found ≡ Some oracle → IsOraclesShare turns H (k + 1) oracle)
@@ -74,11 +74,11 @@ pub record IsPlay (p : Panel) (explore : History) (oracles : List Recall) (spent
 
 pub panel_text-play : (p : Panel) (explore : History) (oracles : List Recall) (spent : Bool) → IsPlay p explore oracles spent
     → explore_text explore.opening.table explore.opening.settings explore.journal ++ conflicts_text explore.opening.table.attributes (state_of explore).accepted (map with_conflicts oracles)
-      ≡ panel_text p explore.journal
+    ≡ panel_text p explore.journal
 panel_text-play p explore oracles spent play =
     let H = explore.journal in
     let text : Opening → List (NamedContext × Conflicts) → Text = λ o dropped.
-      explore_text o.table o.settings H ++ conflicts_text o.table.attributes (state_after (opening_state o) (events_of H)).accepted dropped in
+    explore_text o.table o.settings H ++ conflicts_text o.table.attributes (state_after (opening_state o) (events_of H)).accepted dropped in
     let dropped = dropped-oracles H 1 oracles (λ k oracle at. (play.shares k oracle at).conflicts) in
     ap (λ o. text o (map with_conflicts oracles)) play.opening
     ∙ ap (text (opening_of p.table (length p.experts))) (dropped ∙ ap (dropped_in H 1) play.tables)

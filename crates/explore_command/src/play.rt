@@ -55,7 +55,7 @@ pub fn explore<R: Threads + Wait + Sync, H: Shelf, K: Sink, E: Sink>(
     ensures no_output { IsSilent result → out.new ≡ out.old }
     ensures quiet { result ≡ 0 → err.new ≡ err.old }
 {
-    match played(rt, alloc, shelf, file, experts) {
+    match exploration(rt, alloc, shelf, file, experts) {
         Ok(played) => write_played(played, out, err),
         Err(stop) => {
             let name = name_at_fault(&stop, file, experts);
@@ -89,7 +89,7 @@ fn write_played<K: Sink, E: Sink>(played: Played, out: &mut K, err: &mut E) -> u
 }
 
 /// What the exploration of the table in the file comes to, by the oracles of the experts' files.
-fn played<R: Threads + Wait + Sync, H: Shelf>(
+fn exploration<R: Threads + Wait + Sync, H: Shelf>(
     rt: &R,
     alloc: Global,
     shelf: &mut H,

@@ -47,13 +47,7 @@ fn verdict<R: Threads + Sync>(
 {
     let premise = attributes_in(table, premise)?;
     let conclusion = attributes_in(table, conclusion)?;
-    Ok(Answer::finished(table_verdict(
-        rt,
-        alloc,
-        &premise,
-        &conclusion,
-        table,
-    )?))
+    Ok(Answer::finished(table_verdict(rt, alloc, &premise, &conclusion, table)?))
 }
 
 /// The attributes of the table that the word names.

@@ -1,0 +1,63 @@
+-- How a call ends follows from what its command was to write: it has this to write, or it stopped and nothing is written.
+use Rattle.std.proofs.Common.{◌≡◌, ◌∙◌, ◌⊎◌, ℕ, Bool, true, false, cond, Result, Ok, Err, inl, inr, refl, sym, ap, subst, arith}
+use Rattle.std.specs.Prelude.{IfOk, IfErr, IsOk}
+use Rattle.fca_model.specs.Tables.{Text}
+use Rattle.command_io.specs.Readings.{Reading, MayRead, MayRefuse, IfRead}
+use Rattle.command_io.specs.Readings.Reading.{Untold, Refused, Read}
+use Rattle.command_io.specs.Endings.{Output, whole_status, IsWhole, IsCutOff, EndsAnswer, Stops, stop_status}
+use Rattle.command_io.specs.declared.stop.Stop.{Stop}
+use Rattle.fca_program.specs.Endings.{Finishes, Ends}
+
+gained-read : (reading : Reading Output) (a : Output) (Gained : Text → Type 0) → MayRead reading a → Gained a.text → IfRead reading (λ o. Gained o.text)
+gained-read Untold a Gained may gained = tt
+gained-read Refused a Gained may gained = may
+gained-read (Read o) a Gained may gained = let P : Output → Type 0 = λ x. Gained x.text in subst P may gained
+
+-- the whole text was written
+pub whole-gained : (reading : Reading Output) (answer : Result Output Stop) (Gained : Text → Type 0) → IfOk answer (λ a. MayRead reading a) → IsOk answer
+    → IfOk answer (λ a. Gained a.text) → IfRead reading (λ o. Gained o.text)
+whole-gained reading (Ok a) Gained may made gained = gained-read reading a Gained may gained
+whole-gained reading (Err stop) Gained may made gained = cc
+
+-- no stop has the status of a write fault
+no_fault : (n : ℕ) → n ≡ 4 → (n ≡ 2) ⊎ ((n ≡ 3) ⊎ (n ≡ 5)) → ⊥
+no_fault n e (inl two) = omega arith
+no_fault n e (inr (inl three)) = omega arith
+no_fault n e (inr (inr five)) = omega arith
+
+-- a front of the text was written
+pub front-gained : (reading : Reading Output) (rose : Type 0) (answer : Result Output Stop) (status : ℕ) (Gained : Text → Type 0) → status ≡ 4
+    → IfOk answer (λ a. MayRead reading a) → IfErr answer (λ stop. status ≡ stop_status stop) → IfErr answer (λ stop. Stops reading rose (stop_status stop))
+    → IfOk answer (λ a. Gained a.text) → IfRead reading (λ o. Gained o.text)
+front-gained reading rose (Ok a) status Gained e may stopped stop gained = gained-read reading a Gained may gained
+front-gained reading rose (Err s) status Gained e may stopped stop gained = absurd (no_fault (stop_status s) (sym stopped ∙ e) stop.others)
+
+either : (b : Bool) (n : ℕ) → n ≡ cond b 6 0 → IsWhole n
+either true n e = inr e
+either false n e = inl e
+
+whole-finishes : (reading : Reading Output) (a : Output) (n : ℕ) → MayRead reading a → n ≡ whole_status a → Finishes reading n
+whole-finishes Untold a n may e = inr (either a.is_open n e)
+whole-finishes Refused a n may e = absurd may
+whole-finishes (Read o) a n may e = e ∙ ap whole_status may
+
+refused-finishes : (reading : Reading Output) (n : ℕ) → MayRefuse reading → n ≡ 2 → Finishes reading n
+refused-finishes Untold n may e = inl e
+refused-finishes Refused n may e = e
+refused-finishes (Read o) n may e = absurd may
+
+stop-ends : (reading : Reading Output) (n : ℕ) → (n ≡ 2 → MayRefuse reading) → (n ≡ 2) ⊎ ((n ≡ 3) ⊎ (n ≡ 5)) → Ends reading n
+stop-ends reading n refused (inl two) = inl (refused-finishes reading n (refused two) two)
+stop-ends reading n refused (inr (inl three)) = inr (inl three)
+stop-ends reading n refused (inr (inr five)) = inr (inr (inr five))
+
+answer-ends : (reading : Reading Output) (a : Output) (n : ℕ) → MayRead reading a → EndsAnswer a n → Ends reading n
+answer-ends reading a n may (inl e) = inl (whole-finishes reading a n may e)
+answer-ends reading a n may (inr four) = inr (inr (inl four))
+
+-- the status
+pub call-ends : (reading : Reading Output) (rose : Type 0) (answer : Result Output Stop) (status : ℕ) → IfOk answer (λ a. MayRead reading a) → IfOk answer (λ a. EndsAnswer a status)
+    → IfErr answer (λ stop. status ≡ stop_status stop) → IfErr answer (λ stop. Stops reading rose (stop_status stop)) → Ends reading status
+call-ends reading rose (Ok a) status may ends stopped stop = answer-ends reading a status may ends
+call-ends reading rose (Err s) status may ends stopped stop =
+    subst (Ends reading) (sym stopped) (stop-ends reading (stop_status s) stop.refused stop.others)
