@@ -1,5 +1,5 @@
 -- The text of an exploration: its transcript, and what came of it.
-use Rattle.std.specs.Prelude.{ℕ, Result, Ok, Err, Bool, true, false, List, [], ◌∷◌, ◌++◌, map, fold, filter, length, codes}
+use Rattle.std.specs.Prelude.{⊤, ℕ, Result, Ok, Err, Bool, true, false, List, [], ◌∷◌, ◌++◌, map, fold, filter, length, codes}
 use Rattle.std.specs.List.{flat_map, enumerate_from}
 use Rattle.std.specs.BTreeMap.{insert_entry}
 use Rattle.fca_model.specs.Sets.{Set, lectic_cmp}
@@ -9,8 +9,7 @@ use Rattle.fca_model.specs.Exploration.{State, Settings, SetEvent, SetReply, Set
 use Rattle.fca_model.specs.declared.Event.TheVariants.{Row}
 use Rattle.fca_model.specs.declared.Reply.TheVariants.{Taken}
 use Rattle.expert_wire.specs.declared.scripts.ScriptFault.{ScriptFault}
-use Rattle.expert_wire.specs.Scripts.{script_form}
-pub use Rattle.expert_wire.specs.Scripts.{EachNamed}
+use Rattle.expert_wire.specs.Scripts.{IsNamed, script_form}
 use Rattle.expert_wire.specs.Texts.{line_end, ordinal, pattern, full_text}
 use Rattle.expert_wire.specs.Replies.{transcript, numbered_rule}
 use Rattle.basis_report.specs.Reports.{counted, arrow_lines}
@@ -78,3 +77,8 @@ events_read (Err fault) = []
 -- the journal of the events that a text says, from the table under these settings
 abbrev pub spelled : NamedContext → Settings → Text → List SetEntry
 spelled t settings text = journal_of (opening t.context t.objects settings) (events_read (script_form text t.context.width))
+
+-- the names of the rows of a history are names
+abbrev pub EachNamed : List SetEntry → Type 0
+EachNamed [] = ⊤
+EachNamed (entry ∷ H) = IsNamed entry.event × EachNamed H

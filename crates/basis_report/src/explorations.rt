@@ -2,7 +2,7 @@
 
 ghost use Rattle.std.specs.Prelude.{◌≡◌, ◌++◌, length, filter, IfOk, OnOk};
 ghost use Rattle.std.specs.List.{flat_map};
-ghost use Rattle.basis_report.specs.Explorations.{is_recorded, recorded_line, recorded_section, accepted_section, open_section, by_premise, in_lectic_order, basis_section, EachNamed, explore_text};
+ghost use Rattle.basis_report.specs.Explorations.{is_recorded, recorded_line, recorded_section, accepted_section, open_section, by_premise, in_lectic_order, basis_section, explore_text};
 
 use crate::concepts::write_counted;
 use crate::implications::write_arrows;
@@ -16,8 +16,7 @@ use std::collections::BTreeMap;
 
 /// The transcript of the exploration, and then what came of it. Replayed on the same table the text gives itself.
 pub fn explore_text(alloc: Global, explore: &Explore) -> Result<Vec<u8>, Memory>
-    ensures text { IfOk result (λ v. v.items ≡ explore_text explore.now.opening.table explore.now.opening.settings explore.now.journal) }
-    ensures named { OnOk result (EachNamed explore.now.journal) }
+    ensures { IfOk result (λ v. v.items ≡ explore_text explore.now.opening.table explore.now.opening.settings explore.now.journal) }
 {
     let table = explore.table();
     let mut draft = Draft::new(alloc);

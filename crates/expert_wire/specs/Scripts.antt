@@ -118,11 +118,6 @@ abbrev pub IsNamed : SetEvent → Type 0
 IsNamed (Row e name r) = IsName name
 IsNamed event = ⊤
 
--- the names of the rows of a history are names
-abbrev pub EachNamed : List SetEntry → Type 0
-EachNamed [] = ⊤
-EachNamed (entry ∷ H) = IsNamed entry.event × EachNamed H
-
 -- an event of an expert, whose row, if it has one, has the width and a name
 pub record CanBeSaid (n : ℕ) (event : SetEvent) : Type 0 where
   pub expert : is_expert (expert_of event) ≡ true

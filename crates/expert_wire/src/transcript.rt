@@ -2,7 +2,6 @@
 
 ghost use Rattle.std.specs.Prelude.{◌≡◌, ◌++◌, codes, decimal, IfOk, OnOk};
 ghost use Rattle.expert_wire.specs.Texts.{line_end};
-ghost use Rattle.expert_wire.specs.Scripts.{IsNamed, EachNamed};
 ghost use Rattle.expert_wire.specs.Replies.{event_text, entries_text, entry_lines, transcript};
 
 use crate::draft::Draft;
@@ -23,8 +22,7 @@ pub fn transcript_text(alloc: Global, table: &Table, journal: &[Entry]) -> Resul
 
 /// Appends the transcript of the journal.
 pub fn write_transcript(draft: &mut Draft, table: &Table, journal: &[Entry]) -> Result<(), Memory>
-    ensures written { OnOk result (draft.new ≡ draft.old ++ transcript table.now.attributes journal.now) }
-    ensures named { OnOk result (EachNamed journal.now) }
+    ensures { OnOk result (draft.new ≡ draft.old ++ transcript table.now.attributes journal.now) }
 {
     draft.parts(table, &[Part::Bytes(b"exploration 1\n")])?;
     for entry in journal {
@@ -34,8 +32,7 @@ pub fn write_transcript(draft: &mut Draft, table: &Table, journal: &[Entry]) -> 
 }
 
 fn write_entry(draft: &mut Draft, table: &Table, entry: &Entry) -> Result<(), Memory>
-    ensures written { OnOk result (draft.new ≡ draft.old ++ entry_lines table.now.attributes entry.now) }
-    ensures named { OnOk result (IsNamed entry.now.event) }
+    ensures { OnOk result (draft.new ≡ draft.old ++ entry_lines table.now.attributes entry.now) }
 {
     write_event(draft, table, &entry.event)?;
     draft.parts(table, &[Part::Bytes(b"# ")])?;
@@ -43,8 +40,7 @@ fn write_entry(draft: &mut Draft, table: &Table, entry: &Entry) -> Result<(), Me
 }
 
 fn write_event(draft: &mut Draft, table: &Table, event: &Event) -> Result<(), Memory>
-    ensures written { OnOk result (draft.new ≡ draft.old ++ (event_text event.now ++ line_end)) }
-    ensures named { OnOk result (IsNamed event.now) }
+    ensures { OnOk result (draft.new ≡ draft.old ++ (event_text event.now ++ line_end)) }
 {
     match event {
         Event::Draw { expert } => write_expert(draft, table, b"draw ", *expert),
