@@ -1,6 +1,6 @@
 -- Behind the text of an exploration lines that begin with `#` are skipped like those of its sections, so the whole spells the same history.
-use Rattle.std.proofs.Common.{◌≡◌, ℕ, zero, suc, ◌+◌, Bool, true, false, not, Option, Some, None, List, [], ◌∷◌, ◌++◌, length, get_or, refl, ap, ◌∙◌, append_assoc}
-use Rattle.std.specs.Prelude.{codes, unwrap_or, slice_get, slice_index_or}
+use Rattle.std.proofs.Common.{◌≡◌, ℕ, zero, suc, ◌+◌, Bool, true, false, not, Option, Some, None, List, [], ◌∷◌, ◌++◌, length, map, get_or, refl, sym, ap, ap₂, ◌∙◌, append_assoc}
+use Rattle.std.specs.Prelude.{codes, decimal, unwrap_or, slice_get, slice_index_or}
 use Rattle.std.specs.List.{list_any, list_all, flat_map, enumerate_from}
 use Rattle.std.proofs.lemmas.Bool.{and_parts, and_from, not-true}
 use Rattle.std.proofs.lemmas.List.Folds.{list_all-append}
@@ -9,7 +9,7 @@ use Rattle.fca_model.specs.Names.{is_line_break}
 use Rattle.fca_model.specs.Tables.{Text, NamedContext}
 use Rattle.fca_model.specs.Implications.{Rule, rule}
 use Rattle.fca_model.specs.Exploration.{Settings, SetEntry, IsLegal, opening, journal_of}
-use Rattle.expert_wire.specs.Texts.{ordinal, pattern}
+use Rattle.expert_wire.specs.Texts.{line_end, ordinal, pattern}
 use Rattle.expert_wire.specs.Replies.{numbered_rule, transcript}
 use Rattle.expert_wire.specs.Words.{is_name}
 use Rattle.expert_wire.specs.Scripts.{script_form}
@@ -17,7 +17,7 @@ use Rattle.expert_wire.proofs.ReadLemmas.{pattern_no_break}
 use Rattle.expert_wire.proofs.SkipLemmas.{Skips, Skips-nil, Skips-append, Skips-comment, no_break-append, no_break-decimal, no_break-name, no_break-rule, script_form-transcript}
 use Rattle.oracle_expert.specs.Oracles.{Conflicts}
 use Rattle.basis_report.specs.Reports.{counted}
-use Rattle.basis_report.specs.Comments.{comment_line, comments, are_lines}
+use Rattle.basis_report.specs.Comments.{comment_line, comments, are_lines, AreComments}
 use Rattle.basis_report.specs.Conflicts.{Dropped, dropped_at, dropped_of, dropped_from, conflict_words, conflict_line, conflicts_text}
 use Rattle.basis_report.specs.Sessions.{session_line, sessions_text}
 use Rattle.basis_report.specs.Explorations.{EachNamed, sections, state_of_text, explore_text, events_read, spelled}
@@ -121,3 +121,46 @@ Skips-endings k (words ∷ endings) h =
 pub Skips-sessions_text : (endings : List Text) → are_lines endings ≡ true → Skips (sessions_text endings)
 Skips-sessions_text endings h =
     Skips-append (counted (codes "# sessions ") (length endings)) (flat_map (λ x. session_line x.0 x.1) (enumerate_from 0 endings)) (Skips-counted (codes "sessions ") (length endings) refl) (Skips-endings 0 endings h)
+
+-- ---- both texts are such lines
+
+lines-map : {X : Type 0} (words : X → Text) (xs : List X) → flat_map (λ x. comment_line (words x)) xs ≡ comments (map words xs)
+lines-map words [] = refl
+lines-map words (x ∷ xs) = ap (λ t. comment_line (words x) ++ t) (lines-map words xs)
+
+conflict_lines : (attributes : List Text) (accepted : List Rule) (ds : List Dropped) → list_all is_name attributes ≡ true → list_all has_line_name ds ≡ true → are_lines (map (conflict_words attributes accepted) ds) ≡ true
+conflict_lines attributes accepted [] names h = refl
+conflict_lines attributes accepted (d ∷ ds) names h =
+    let parts = and_parts (has_line_name d) (list_all has_line_name ds) h in
+    and_from (not (list_any is_line_break (conflict_words attributes accepted d))) (are_lines (map (conflict_words attributes accepted) ds)) (ap not (no_break-conflict attributes accepted d names parts.0)) (conflict_lines attributes accepted ds names parts.1)
+
+pub conflicts-comments : (attributes : List Text) (accepted : List Rule) (oracles : List (NamedContext × Conflicts)) → list_all is_name attributes ≡ true → list_all (λ o. list_all is_name o.0.objects) oracles ≡ true
+    → AreComments (conflicts_text attributes accepted oracles)
+unfolding conflicts_text
+conflicts-comments attributes accepted oracles names h =
+    let ds = dropped_from 0 oracles in
+    let head = codes "conflicts " ++ decimal (length ds) in
+    let later = map (conflict_words attributes accepted) ds in record {
+      lines = head ∷ later;
+      whole = and_from (not (list_any is_line_break head)) (are_lines later) (ap not (no_break-append (codes "conflicts ") (decimal (length ds)) refl (no_break-decimal (length ds)))) (conflict_lines attributes accepted ds names (named_from 0 oracles h));
+      text_is = ap₂ (λ a b. codes "# " ++ a ++ b) (sym (append_assoc (codes "conflicts ") (decimal (length ds)) line_end)) (lines-map (conflict_words attributes accepted) ds);
+    }
+
+abbrev session_words : ℕ × Text → Text
+session_words x = ordinal x.0 ++ (codes " " ++ x.1)
+
+ending_lines : (k : ℕ) (endings : List Text) → are_lines endings ≡ true → are_lines (map session_words (enumerate_from k endings)) ≡ true
+ending_lines k [] h = refl
+ending_lines k (words ∷ endings) h =
+    let parts = and_parts (not (list_any is_line_break words)) (are_lines endings) h in
+    and_from (not (list_any is_line_break (ordinal k ++ (codes " " ++ words)))) (are_lines (map session_words (enumerate_from (k + 1) endings)))
+    (ap not (no_break-append (ordinal k) (codes " " ++ words) (no_break-decimal (k + 1)) (not-true (list_any is_line_break words) parts.0))) (ending_lines (k + 1) endings parts.1)
+
+pub sessions-comments : (endings : List Text) → are_lines endings ≡ true → AreComments (sessions_text endings)
+sessions-comments endings h =
+    let head = codes "sessions " ++ decimal (length endings) in
+    let later = map session_words (enumerate_from 0 endings) in record {
+      lines = head ∷ later;
+      whole = and_from (not (list_any is_line_break head)) (are_lines later) (ap not (no_break-append (codes "sessions ") (decimal (length endings)) refl (no_break-decimal (length endings)))) (ending_lines 0 endings h);
+      text_is = ap₂ (λ a b. codes "# " ++ a ++ b) (sym (append_assoc (codes "sessions ") (decimal (length endings)) line_end)) (lines-map session_words (enumerate_from 0 endings));
+    }

@@ -5,3 +5,5 @@ pub mod OrderLemmas
 pub mod JsonLemmas
 pub mod VerdictLemmas
 pub mod ConflictLemmas
+pub mod WrittenLemmas
+pub mod NameLemmas

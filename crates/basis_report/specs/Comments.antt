@@ -1,5 +1,5 @@
 -- Lines that a script skips: each begins with `# `. Behind the text of an exploration they change nothing of what it spells.
-use Rattle.std.specs.Prelude.{Bool, not, List, ◌++◌, codes}
+use Rattle.std.specs.Prelude.{◌≡◌, Bool, true, not, List, ◌++◌, codes}
 use Rattle.std.specs.List.{list_any, list_all, flat_map}
 use Rattle.fca_model.specs.Tables.{Text}
 use Rattle.fca_model.specs.Names.{is_line_break}
@@ -16,3 +16,9 @@ comments lines = flat_map comment_line lines
 -- no line break stands within them
 abbrev pub are_lines : List Text → Bool
 are_lines lines = list_all (λ words. not (list_any is_line_break words)) lines
+
+-- the text is made of such lines
+pub record AreComments (text : Text) : Type 0 where
+  pub lines : List Text
+  pub whole : are_lines lines ≡ true
+  pub text_is : text ≡ comments lines

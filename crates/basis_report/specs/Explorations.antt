@@ -1,5 +1,5 @@
 -- The text of an exploration: its transcript, and what came of it.
-use Rattle.std.specs.Prelude.{⊤, ℕ, Result, Ok, Err, Bool, true, false, List, [], ◌∷◌, ◌++◌, map, fold, filter, length, codes}
+use Rattle.std.specs.Prelude.{◌≡◌, ⊤, ℕ, Result, Ok, Err, Bool, true, false, List, [], ◌∷◌, ◌++◌, map, fold, filter, length, codes}
 use Rattle.std.specs.List.{flat_map, enumerate_from}
 use Rattle.std.specs.BTreeMap.{insert_entry}
 use Rattle.fca_model.specs.Sets.{Set, lectic_cmp}
@@ -13,6 +13,7 @@ use Rattle.expert_wire.specs.Scripts.{IsNamed, script_form}
 use Rattle.expert_wire.specs.Texts.{line_end, ordinal, pattern, full_text}
 use Rattle.expert_wire.specs.Replies.{transcript, numbered_rule}
 use Rattle.basis_report.specs.Reports.{counted, arrow_lines}
+use Rattle.basis_report.specs.Comments.{comments}
 
 -- ---- the recorded rows
 
@@ -82,3 +83,7 @@ spelled t settings text = journal_of (opening t.context t.objects settings) (eve
 abbrev pub EachNamed : List SetEntry → Type 0
 EachNamed [] = ⊤
 EachNamed (entry ∷ H) = IsNamed entry.event × EachNamed H
+
+-- the text of the history spells it, with these lines behind it
+abbrev pub SpellsBefore : NamedContext → Settings → List SetEntry → List Text → Type 0
+SpellsBefore t settings H lines = spelled t settings (explore_text t settings H ++ comments lines) ≡ H

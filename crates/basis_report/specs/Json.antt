@@ -1,7 +1,8 @@
 -- Concepts and implications as JSON: one line of compact text, in which the keys of an object stand in the order of their bytes.
 --
 -- Of one concept, with no object and the intent {a, b}, it is `{"concepts":[{"extent":[],"intent":["a","b"]}]}` and a line end.
-use Rattle.std.specs.Prelude.{List, ◌++◌, map, codes}
+use Rattle.std.specs.Prelude.{List, [], ◌∷◌, ◌++◌, map, codes}
+use Rattle.json.specs.Print.{quoted}
 use Rattle.serde_json.specs.Data.{Data, string, array, object, member, no_members}
 use Rattle.serde_json.specs.View.{items_of}
 use Rattle.serde_json.specs.Written.{compact_text}
@@ -37,3 +38,33 @@ concepts_json t cs = compact_text (concepts_data t cs) ++ line_end
 
 unfoldable pub basis_json : List Text → List Rule → Text
 basis_json attributes J = compact_text (basis_data attributes J) ++ line_end
+
+-- ---- the same, written out
+
+-- each text behind a comma
+abbrev pub followed : List Text → Text
+followed [] = []
+followed (x ∷ xs) = codes "," ++ (x ++ followed xs)
+
+-- the texts in brackets, with a comma between two of them
+abbrev pub bracketed : List Text → Text
+bracketed [] = codes "[]"
+bracketed (x ∷ xs) = codes "[" ++ (x ++ (followed xs ++ codes "]"))
+
+-- the names in quotation marks
+abbrev pub names_written : List Text → Text
+names_written names = bracketed (map quoted names)
+
+abbrev pub concept_written : NamedContext → Concept → Text
+concept_written t c =
+    codes "{\"extent\":" ++ (names_written (names_at t.objects c.extent) ++ (codes ",\"intent\":" ++ (names_written (names_of t.attributes c.intent) ++ codes "}")))
+
+abbrev pub concepts_written : NamedContext → List Concept → Text
+concepts_written t cs = codes "{\"concepts\":" ++ (bracketed (map (concept_written t) cs) ++ codes "}\n")
+
+abbrev pub implication_written : List Text → Rule → Text
+implication_written attributes i =
+    codes "{\"conclusion\":" ++ (names_written (names_of attributes (minus i.conclusion i.premise)) ++ (codes ",\"premise\":" ++ (names_written (names_of attributes i.premise) ++ codes "}")))
+
+abbrev pub basis_written : List Text → List Rule → Text
+basis_written attributes J = codes "{\"implications\":" ++ (bracketed (map (implication_written attributes) J) ++ codes "}\n")

@@ -5,9 +5,11 @@ ghost use Rattle.std.specs.List.{flat_map};
 ghost use Rattle.fca_model.specs.declared.TheConstants.{MAX_OBJECTS};
 ghost use Rattle.fca_model.specs.Implications.{rule};
 ghost use Rattle.explore_state.specs.History.{state_of};
+ghost use Rattle.basis_report.specs.Comments.{AreComments};
 ghost use Rattle.basis_report.specs.Conflicts.{dropped_at, dropped_of, dropped_from, conflict_line, conflicts_text};
 
 use crate::concepts::{object_text, write_counted};
+use crate::names::{look_at_attributes, look_at_oracles};
 use attr_bits::Attrs;
 use context_table::Table;
 use expert_wire::{Draft, Part};
@@ -23,9 +25,12 @@ pub fn conflicts_text(
     oracles: &[Oracle],
 ) -> Result<Vec<u8>, Memory>
     requires { length oracles.now ≤ explore.now.opening.experts }
-    ensures { IfOk result (λ v. v.items ≡ conflicts_text explore.now.opening.table.attributes (state_of explore.now).accepted (map (λ o. (o.table, o.conflicts)) oracles.now)) }
+    ensures text { IfOk result (λ v. v.items ≡ conflicts_text explore.now.opening.table.attributes (state_of explore.now).accepted (map (λ o. (o.table, o.conflicts)) oracles.now)) }
+    ensures skipped { IfOk result (λ v. AreComments v.items) }
 {
     let table = explore.table();
+    look_at_attributes(table);
+    look_at_oracles(oracles);
     let accepted = explore.accepted();
     let _experts = explore.experts();
     let mut draft = Draft::new(alloc);

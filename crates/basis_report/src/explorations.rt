@@ -1,11 +1,14 @@
 //! The text of an exploration.
 
-ghost use Rattle.std.specs.Prelude.{◌≡◌, ◌++◌, length, filter, IfOk, OnOk};
+ghost use Rattle.std.specs.Prelude.{◌≡◌, ◌++◌, List, true, length, filter, IfOk, OnOk};
 ghost use Rattle.std.specs.List.{flat_map};
-ghost use Rattle.basis_report.specs.Explorations.{is_recorded, recorded_line, recorded_section, accepted_section, open_section, by_premise, in_lectic_order, basis_section, explore_text};
+ghost use Rattle.fca_model.specs.Tables.{Text};
+ghost use Rattle.basis_report.specs.Comments.{are_lines};
+ghost use Rattle.basis_report.specs.Explorations.{SpellsBefore, is_recorded, recorded_line, recorded_section, accepted_section, open_section, by_premise, in_lectic_order, basis_section, explore_text};
 
 use crate::concepts::write_counted;
 use crate::implications::write_arrows;
+use crate::names::{look_at_attributes, look_at_rows};
 use attr_bits::Attrs;
 use context_table::Table;
 use expert_wire::{Draft, Part, write_transcript};
@@ -14,11 +17,15 @@ use fca_model::Memory;
 use std::alloc::Global;
 use std::collections::BTreeMap;
 
-/// The transcript of the exploration, and then what came of it. Replayed on the same table the text gives itself.
+/// The transcript of the exploration, and then what came of it. Replayed on the same table the text gives itself, whatever lines that
+/// begin with `#` stand behind it.
 pub fn explore_text(alloc: Global, explore: &Explore) -> Result<Vec<u8>, Memory>
-    ensures { IfOk result (λ v. v.items ≡ explore_text explore.now.opening.table explore.now.opening.settings explore.now.journal) }
+    ensures text { IfOk result (λ v. v.items ≡ explore_text explore.now.opening.table explore.now.opening.settings explore.now.journal) }
+    ensures reads_back { OnOk result ((lines : List Text) → are_lines lines ≡ true → SpellsBefore explore.now.opening.table explore.now.opening.settings explore.now.journal lines) }
 {
     let table = explore.table();
+    look_at_attributes(table);
+    look_at_rows(explore.journal());
     let mut draft = Draft::new(alloc);
     write_transcript(&mut draft, table, explore.journal())?;
     write_recorded(&mut draft, table, explore.journal())?;

@@ -13,6 +13,8 @@ ghost use Rattle.basis_report.specs.Reports.{counted, arrow_lines};
 ghost use Rattle.basis_report.specs.Comments.{comments, are_lines};
 ghost use Rattle.oracle_expert.specs.Oracles.{Conflicts};
 ghost use Rattle.basis_report.specs.Conflicts.{conflicts_text};
+ghost use Rattle.lectic_concepts.specs.declared.Concept.{Concept};
+ghost use Rattle.basis_report.specs.Json.{concepts_json, basis_json, concepts_written, basis_written};
 ghost use Rattle.basis_report.specs.Sessions.{sessions_text};
 ghost use Rattle.basis_report.specs.Verdicts.{first_refuting, held_text, refuted_text, follows_text};
 ghost use Rattle.basis_report.specs.Explorations.{EachNamed, explore_text, spelled, state_of_text, basis_section};
@@ -47,4 +49,10 @@ pub fn verdict_is_right()
         → (steps : List ℕ) × (is_sound (basis t.context) P C steps ≡ true) × (follows_text t (basis t.context) P C ≡ held_text t.attributes (basis t.context) steps) }
     ensures refuted { (t : NamedContext) (P C : Set) → length C ≡ t.context.width → holds t.context (rule P C) ≡ false
         → (place : ℕ) × (first_refuting t (rule P C) ≡ Some place) × (follows_text t (basis t.context) P C ≡ refuted_text t place) }
+{}
+
+/// The lines of JSON, letter by letter.
+pub fn json_is_written_out()
+    ensures concepts { (t : NamedContext) (cs : List Concept) → concepts_json t cs ≡ concepts_written t cs }
+    ensures basis { (attributes : List Text) (J : List Rule) → basis_json attributes J ≡ basis_written attributes J }
 {}

@@ -5,8 +5,9 @@ mod concepts;
 mod conflicts;
 mod explorations;
 mod implications;
-mod json;
+mod json_lines;
 pub mod laws;
+mod names;
 mod sessions;
 mod verdicts;
 
@@ -14,6 +15,6 @@ pub use concepts::{concepts_text, lattice_text};
 pub use conflicts::conflicts_text;
 pub use explorations::explore_text;
 pub use implications::basis_text;
-pub use json::{basis_json, concepts_json};
+pub use json_lines::{basis_json, concepts_json};
 pub use sessions::sessions_text;
 pub use verdicts::follows_text;

@@ -1,6 +1,7 @@
 //! How sessions ended.
 
-ghost use Rattle.std.specs.Prelude.{◌≡◌, ◌++◌, map, IfOk, OnOk};
+ghost use Rattle.std.specs.Prelude.{◌≡◌, ◌++◌, true, map, IfOk, OnOk};
+ghost use Rattle.basis_report.specs.Comments.{are_lines, AreComments};
 ghost use Rattle.basis_report.specs.Sessions.{session_line, sessions_text};
 
 use crate::concepts::write_counted;
@@ -11,7 +12,8 @@ use std::alloc::Global;
 
 /// The endings of the sessions of all experts in the exploration of the table, in words.
 pub fn sessions_text(alloc: Global, table: &Table, endings: &[&str]) -> Result<Vec<u8>, Memory>
-    ensures { IfOk result (λ v. v.items ≡ sessions_text (map (λ words. words.now) endings.now)) }
+    ensures text { IfOk result (λ v. v.items ≡ sessions_text (map (λ words. words.now) endings.now)) }
+    ensures skipped { are_lines (map (λ words. words.now) endings.now) ≡ true → IfOk result (λ v. AreComments v.items) }
 {
     let mut draft = Draft::new(alloc);
     write_counted(&mut draft, table, b"# sessions ", endings.len())?;

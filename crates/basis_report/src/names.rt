@@ -1,0 +1,55 @@
+//! What tables and journals keep as names are names. Each function looks at each name once, and changes nothing.
+
+ghost use Rattle.std.specs.Prelude.{◌≡◌, true};
+ghost use Rattle.std.specs.List.{list_all};
+ghost use Rattle.expert_wire.specs.Words.{is_name};
+ghost use Rattle.expert_wire.specs.Scripts.{IsNamed};
+ghost use Rattle.basis_report.specs.Explorations.{EachNamed};
+
+use context_table::Table;
+use explore_state::{Entry, Event};
+use oracle_expert::Oracle;
+
+/// The names of the attributes.
+pub(crate) fn look_at_attributes(table: &Table)
+    ensures { list_all is_name table.now.attributes ≡ true }
+{
+    for attribute in 0..table.rows().width() {
+        let _name = table.attribute_name(attribute).bytes();
+    }
+}
+
+/// The names of the objects.
+fn look_at_objects(table: &Table)
+    ensures { list_all is_name table.now.objects ≡ true }
+{
+    for object in 0..table.rows().len() {
+        let _name = table.object(object).bytes();
+    }
+}
+
+/// The names of the objects of the oracles' tables.
+pub(crate) fn look_at_oracles(oracles: &[Oracle])
+    ensures { list_all (λ o. list_all is_name o.table.objects) oracles.now ≡ true }
+{
+    for oracle in oracles {
+        look_at_objects(oracle.table());
+    }
+}
+
+/// The names of the rows that experts gave.
+pub(crate) fn look_at_rows(journal: &[Entry])
+    ensures { EachNamed journal.now }
+{
+    for entry in journal {
+        look_at_row(&entry.event);
+    }
+}
+
+fn look_at_row(event: &Event)
+    ensures { IsNamed event.now }
+{
+    if let Event::Row { name, .. } = event {
+        let _name = name.bytes();
+    }
+}
