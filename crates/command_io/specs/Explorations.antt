@@ -1,13 +1,11 @@
 -- What is promised of an exploration, whatever its events were.
-use Rattle.std.specs.Prelude.{◌≡◌, ◌↔◌, ◌++◌, ◌∷◌, ℕ, true, List, []}
-use Rattle.std.specs.List.{list_all}
+use Rattle.std.specs.Prelude.{◌≡◌, ◌↔◌, ◌++◌, ◌∷◌, ℕ, List, []}
 use Rattle.fca_model.specs.Tables.{NamedContext}
 use Rattle.fca_model.specs.Implications.{Rule}
 use Rattle.fca_model.specs.Questions.{open_questions}
 use Rattle.fca_model.specs.Exploration.{SetEntry, SetReply, State, plain, open_in, state_after, events_of, IsLegal}
 use Rattle.fca_model.specs.declared.Event.TheVariants.{Draw}
 use Rattle.fca_model.specs.declared.Reply.TheVariants.{Done}
-use Rattle.expert_wire.specs.Words.{is_name}
 use Rattle.explore_state.specs.History.{Opening, History, opening_state}
 use Rattle.explore_state.specs.Basis.{IsBasis}
 
@@ -44,8 +42,3 @@ pub record IsExplored (r : Recorded) : Type 0 where
   pub done : (before after : List SetEntry) (e : ℕ) (reply : SetReply) → r.journal ≡ before ++ record { event = Draw e; reply = reply } ∷ after
       → (reply ≡ Done) ↔ (open_in (state_at r before) ≡ [])
   pub basis : open_at r ≡ [] → IsBasis (last_state r).context (last_state r).accepted
-
--- the names of objects and attributes are names
-pub record HasNames (t : NamedContext) : Type 0 where
-  pub objects : list_all is_name t.objects ≡ true
-  pub attributes : list_all is_name t.attributes ≡ true

@@ -1,7 +1,9 @@
 -- The tables of experts are read one after the other: what may be read of the files that are left may be read behind those before,
 -- a refusal there refuses all, and a fault there is one of all.
-use Rattle.std.proofs.Common.{◌≡◌, ◌≤◌, ◌<◌, ◌++◌, ◌∷◌, [], ℕ, zero, suc, List, Bool, true, false, cond, length, get_or, inl, inr, refl, sym, ap, subst, append_assoc, arith}
-use Rattle.std.specs.Prelude.{bytes_eq}
+use Rattle.std.proofs.Common.{◌≡◌, ◌∙◌, ◌≤◌, ◌<◌, ◌+◌, ◌++◌, ◌∷◌, [], ℕ, zero, suc, List, true, length, get_or, drop, Result, Ok, Err, inl, inr, refl, sym, ap, subst, append_assoc, append-nil, arith}
+use Rattle.std.specs.Prelude.{bytes_eq, IfErr, IsErr, IsErrAnd}
+use Rattle.std.proofs.Math.Seq.{drop-cons}
+use Rattle.std.proofs.lemmas.List.{drop_all}
 use Rattle.std.proofs.lemmas.Bool.{and_parts, cases_Bool}
 use Rattle.std.proofs.lemmas.Slice.Eq.{bytes_eq-Decides}
 use Rattle.fca_model.specs.Tables.{Text, NamedContext}
@@ -9,11 +11,10 @@ use Rattle.fca_io.specs.Faults.{Rose}
 use Rattle.fca_io.specs.Shelves.{Told}
 use Rattle.command_io.specs.Readings.{Reading, then, MayRead, MayRefuse}
 use Rattle.command_io.specs.Readings.Reading.{Untold, Refused, Read}
-use Rattle.std.specs.List.{list_all}
-use Rattle.expert_wire.specs.Words.{is_name}
+use Rattle.explore_command.specs.Panels.{Panel, same_names, agreeing, expert_read, experts_read, panel_read, SomeRose, FileRose}
 use Rattle.command_io.specs.Forms.{table_read}
-use Rattle.command_io.proofs.NameLemmas.{table_read-names}
-use Rattle.explore_command.specs.Panels.{Panel, same_names, agreeing, expert_read, experts_read, panel_read, HasPanelNames, SomeRose}
+use Rattle.command_io.specs.Endings.{Stops, stop_status}
+use Rattle.command_io.specs.declared.stop.Stop.{Stop}
 
 -- ---- names
 
@@ -105,38 +106,107 @@ SomeRose-at [] i d counts counts' inside rose = absurd (omega arith)
 SomeRose-at (file ∷ files) zero d counts counts' inside rose = inl rose
 SomeRose-at (file ∷ files) (suc i) d counts counts' inside rose = inr (SomeRose-at files i d counts counts' (omega arith) rose)
 
--- ---- names
+-- ---- files one after the other
 
-then-read : {X Y : Type 0} (r : Reading X) (next : X → Reading Y) (y : Y) → then r next ≡ Read y → (x : X) × (r ≡ Read x) × (next x ≡ Read y)
-then-read Untold next y e = cc
-then-read Refused next y e = cc
-then-read (Read x) next y e = (x, refl, e)
+-- a file tells the same later
+expert_read-same : (table : NamedContext) (file : Text) (tells now : Text → Told) → now file ≡ tells file → expert_read table file now ≡ expert_read table file tells
+expert_read-same table file tells now same = ap (λ told. then (table_read file told) (agreeing table)) same
 
-agreeing-read : (b : Bool) (D E : NamedContext) → cond b (Read D) Refused ≡ Read E → D ≡ E
-agreeing-read true D E e = cc
-agreeing-read false D E e = cc
+experts_read-same : (table : NamedContext) (files : List Text) (tells now : Text → Told) → ((other : Text) → now other ≡ tells other) → experts_read table files now ≡ experts_read table files tells
+experts_read-same table [] tells now same = refl
+experts_read-same table (file ∷ files) tells now same =
+    let first = expert_read-same table file tells now (same file) in
+    let rest = experts_read-same table files tells now same in
+    ap (λ r. then r (λ D. then (experts_read table files now) (λ experts. Read (D ∷ experts)))) first
+    ∙ ap (λ r. then (expert_read table file tells) (λ D. then r (λ experts. Read (D ∷ experts)))) rest
 
-expert_read-names : (table : NamedContext) (file : Text) (tells : Text → Told) (D : NamedContext) → expert_read table file tells ≡ Read D → list_all is_name D.objects ≡ true
-expert_read-names table file tells D e =
-    let s = then-read (table_read file (tells file)) (agreeing table) D e in
-    let same : s.0 ≡ D = agreeing-read (same_names s.0.attributes table.attributes) s.0 D s.2 in
-    let P : NamedContext → Type 0 = λ t. list_all is_name t.objects ≡ true in
-    subst P same (table_read-names file (tells file) s.0 s.1).objects
+-- the files that are left begin with the one at hand
+left_files : (files : List Text) (i : ℕ) (file : Text) → i < length files → file ≡ get_or files i file → drop i files ≡ file ∷ drop (i + 1) files
+left_files files i file inside is =
+    let next : suc i ≡ i + 1 = omega arith in
+    drop-cons files i file inside ∙ ap (λ x. x ∷ drop (suc i) files) (sym is) ∙ ap (λ n. file ∷ drop n files) next
 
-experts_read-names : (table : NamedContext) (files : List Text) (tells : Text → Told) (experts : List NamedContext) → experts_read table files tells ≡ Read experts
-    → list_all (λ D. list_all is_name D.objects) experts ≡ true
-experts_read-names table [] tells experts e =
-    let same : [] ≡ experts = cc in let P : List NamedContext → Type 0 = λ l. list_all (λ D. list_all is_name D.objects) l ≡ true in subst P same refl
-experts_read-names table (file ∷ files) tells experts e =
-    let s = then-read (expert_read table file tells) _ experts e in
-    let r = then-read (experts_read table files tells) (λ rest. Read (s.0 ∷ rest)) experts s.2 in
-    let same : (s.0 ∷ r.0) ≡ experts = cc in
-    let P : List NamedContext → Type 0 = λ l. list_all (λ D. list_all is_name D.objects) l ≡ true in
-    subst P same (rw (expert_read-names table file tells s.0 s.1) (experts_read-names table files tells r.0 r.1))
+pub ReadsOn-next : (table : NamedContext) (files : List Text) (i : ℕ) (file : Text) (tells now : Text → Told) (before : List NamedContext) (D : NamedContext)
+    → i < length files → file ≡ get_or files i file → ((other : Text) → now other ≡ tells other) → MayRead (expert_read table file now) D
+    → ReadsOn table (drop i files) files tells before → ReadsOn table (drop (i + 1) files) files tells (before ++ D ∷ [])
+ReadsOn-next table files i file tells now before D inside is same may on =
+    let P : List Text → Type 0 = λ l. ReadsOn table l files tells before in
+    let Q : Reading NamedContext → Type 0 = λ r. MayRead r D in
+    ReadsOn-more table file (drop (i + 1) files) files tells before D (subst Q (expert_read-same table file tells now (same file)) may) (subst P (left_files files i file inside is) on)
 
-pub panel_read-names : (file : Text) (experts : List Text) (tells : Text → Told) (p : Panel) → panel_read file experts tells ≡ Read p → HasPanelNames p
-panel_read-names file experts tells p e =
-    let s = then-read (table_read file (tells file)) _ p e in
-    let r = then-read (experts_read s.0 experts tells) (λ tables. Read (record { table = s.0; experts = tables })) p s.2 in
-    let same : record { table = s.0; experts = r.0 } ≡ p = cc in
-    subst HasPanelNames same (record { table = table_read-names file (tells file) s.0 s.1; experts = experts_read-names s.0 experts tells r.0 r.1 })
+pub ReadsOn-all : (table : NamedContext) (files : List Text) (i : ℕ) (tells : Text → Told) (tables : List NamedContext) → length files ≤ i
+    → ReadsOn table (drop i files) files tells tables → MayRead (experts_read table files tells) tables
+ReadsOn-all table files i tells tables past on =
+    let P : List Text → Type 0 = λ l. MayRead (experts_read table l tells) [] in
+    let Q : List NamedContext → Type 0 = λ l. MayRead (experts_read table files tells) l in
+    subst Q (append-nil tables) (on.read [] (subst P (sym (drop_all i files past)) refl))
+
+pub Stops-file : (table : NamedContext) (files : List Text) (i : ℕ) (file : Text) (tells now : Text → Told) (counts between after : Text → ℕ) (before : List NamedContext) (n : ℕ)
+    → i < length files → file ≡ get_or files i file → ((other : Text) → now other ≡ tells other) → ((other : Text) → counts other ≤ between other)
+    → ReadsOn table (drop i files) files tells before → Stops (expert_read table file now) (Rose (between file) (after file)) n
+    → Stops (experts_read table files tells) (SomeRose counts after files) n
+Stops-file table files i file tells now counts between after before n inside is same later on stop =
+    let P : List Text → Type 0 = λ l. ReadsOn table l files tells before in
+    let M : Reading NamedContext → Type 0 = λ r. MayRefuse r in
+    let R : Text → Type 0 = λ x. Rose (counts x) (after x) in
+    record {
+      refused = λ two. ReadsOn-refused table file (drop (i + 1) files) files tells before
+          (subst M (expert_read-same table file tells now (same file)) (stop.refused two)) (subst P (left_files files i file inside is) on);
+      fault = λ three. SomeRose-at files i file counts after inside (subst R is (Rose-between (counts file) (between file) (after file) (after file) (later file) (stop.fault three) (omega arith)));
+      others = stop.others;
+    }
+
+-- ---- the panel
+
+refused_then : {X Y : Type 0} (r : Reading X) (next : X → Reading Y) → MayRefuse r → MayRefuse (then r next)
+refused_then Untold next may = tt
+refused_then Refused next may = tt
+refused_then (Read x) next may = absurd may
+
+refused_after : {X Y : Type 0} (r : Reading X) (x : X) (next : X → Reading Y) → MayRead r x → MayRefuse (next x) → MayRefuse (then r next)
+refused_after Untold x next here may = tt
+refused_after Refused x next here may = tt
+refused_after {X = X} (Read y) x next here may = let P : X → Type 0 = λ z. MayRefuse (next z) in subst P here may
+
+read_after : {X Y : Type 0} (r : Reading X) (x : X) (next : X → Reading Y) (y : Y) → MayRead r x → MayRead (next x) y → MayRead (then r next) y
+read_after Untold x next y here may = tt
+read_after Refused x next y here may = here
+read_after {X = X} (Read z) x next y here may = let P : X → Type 0 = λ w. MayRead (next w) y in subst P here may
+
+read_panel : (table : NamedContext) (r : Reading (List NamedContext)) (tables : List NamedContext) → MayRead r tables
+    → MayRead {X = Panel} (then r (λ tables. Read (record { table = table; experts = tables }))) (record { table = table; experts = tables })
+read_panel table Untold tables may = tt
+read_panel table Refused tables may = may
+read_panel table (Read others) tables may = ap (λ (l : List NamedContext). record { table = table; experts = l }) may
+
+SomeRose-before : (files : List Text) (counts between after : Text → ℕ) → ((other : Text) → counts other ≤ between other) → SomeRose between after files → SomeRose counts after files
+SomeRose-before [] counts between after later rose = rose
+SomeRose-before (file ∷ files) counts between after later (inl rose) = inl (Rose-between (counts file) (between file) (after file) (after file) (later file) rose (omega arith))
+SomeRose-before (file ∷ files) counts between after later (inr rose) = inr (SomeRose-before files counts between after later rose)
+
+pub panel-read : (file : Text) (files : List Text) (tells now : Text → Told) (table : NamedContext) (tables : List NamedContext) → MayRead (table_read file (tells file)) table
+    → ((other : Text) → now other ≡ tells other) → MayRead (experts_read table files now) tables → MayRead (panel_read file files tells) (record { table = table; experts = tables })
+panel-read file files tells now table tables here same may =
+    let Q : Reading (List NamedContext) → Type 0 = λ r. MayRead r tables in
+    read_after (table_read file (tells file)) table (λ t. then (experts_read t files tells) (λ tables. Read (record { table = t; experts = tables }))) (record { table = table; experts = tables }) here
+    (read_panel table (experts_read table files tells) tables (subst Q (experts_read-same table files tells now same) may))
+
+pub Stops-panel : (file : Text) (files : List Text) (tells now : Text → Told) (counts between after : Text → ℕ) (table : NamedContext) (n : ℕ) → MayRead (table_read file (tells file)) table
+    → ((other : Text) → now other ≡ tells other) → ((other : Text) → counts other ≤ between other) → Stops (experts_read table files now) (SomeRose between after files) n
+    → Stops (panel_read file files tells) (FileRose counts after file files) n
+Stops-panel file files tells now counts between after table n here same later stop =
+    let M : Reading (List NamedContext) → Type 0 = λ r. MayRefuse r in
+    record {
+      refused = λ two. refused_after (table_read file (tells file)) table (λ t. then (experts_read t files tells) (λ tables. Read (record { table = t; experts = tables }))) here
+          (refused_then (experts_read table files tells) (λ tables. Read (record { table = table; experts = tables }))
+          (subst M (experts_read-same table files tells now same) (stop.refused two)));
+      fault = λ three. inr (SomeRose-before files counts between after later (stop.fault three));
+      others = stop.others;
+    }
+
+-- ---- stops that are passed on
+
+pub Stops-passed : {X Y : Type 0} (told : Result Y Stop) (stop : Stop) (reading : Reading X) (rose : Type 0) → IsErr told × IsErrAnd told (λ passed. passed ≡ stop)
+    → Stops reading rose (stop_status stop) → IfErr told (λ s. Stops reading rose (stop_status s))
+Stops-passed (Ok x) stop reading rose passed h = tt
+Stops-passed (Err s) stop reading rose passed h = let P : Stop → Type 0 = λ x. Stops reading rose (stop_status x) in subst P (sym passed.1) h

@@ -2,22 +2,19 @@
 -- spells, and what is promised of the oracles is said of the tables of the experts.
 use Rattle.std.proofs.Common.{◌≡◌, ◌↔◌, ◌⊎◌, ◌≤◌, ◌<◌, ◌∙◌, ◌+◌, ◌++◌, ◌∷◌, [], ℕ, zero, suc, List, Bool, true, false, map, length, Option, Some, None, refl, sym, ap, subst, arith}
 use Rattle.std.specs.Prelude.{slice_get, option_map}
-use Rattle.std.specs.List.{list_all}
-use Rattle.std.proofs.lemmas.Bool.{and_parts}
 use Rattle.std.proofs.lemmas.Option.{slice_get-map}
 use Rattle.fca_model.specs.Tables.{Text, NamedContext}
 use Rattle.fca_model.specs.Exploration.{State, SetEntry, own, plain, state_after, events_of, is_expert, IsLegal}
-use Rattle.expert_wire.specs.Words.{is_name}
 use Rattle.oracle_expert.specs.Oracles.{Recall, Conflicts}
 use Rattle.oracle_expert.specs.Runs.{ends_done, conflicts_of}
 use Rattle.expert_panel.specs.Explorations.{IsOraclesShare, EachNumbered}
 use Rattle.explore_state.specs.History.{Opening, History, opening_state, state_of, open_of}
-use Rattle.basis_report.specs.Explorations.{EachNamed, explore_text, spelled}
+use Rattle.basis_report.specs.Comments.{comments as comments_of, are_lines, AreComments}
+use Rattle.basis_report.specs.Explorations.{explore_text, spelled, SpellsBefore}
 use Rattle.basis_report.specs.Conflicts.{conflicts_text}
-use Rattle.basis_report.proofs.CommentLemmas.{spelled-more, Skips-conflicts_text}
-use Rattle.command_io.specs.Explorations.{opening_of, last_state, open_at, HasNames}
+use Rattle.command_io.specs.Explorations.{opening_of, last_state, open_at}
 use Rattle.command_io.proofs.CourseLemmas.{legal-course}
-use Rattle.explore_command.specs.Panels.{Panel, HasPanelNames}
+use Rattle.explore_command.specs.Panels.{Panel}
 use Rattle.explore_command.specs.Played.{turns, IsShare, dropped_in, played, panel_text, IsPanelText}
 
 -- an oracle's table with its conflicts
@@ -48,28 +45,15 @@ share-by H k D (Some oracle) h e =
 shares-tables : (H : List SetEntry) (oracles : List Recall) → EachNumbered (IsOraclesShare turns H) oracles → EachNumbered (IsShare H) (map (λ oracle. oracle.table) oracles)
 shares-tables H oracles h = λ k D e. share-by H k D (slice_get oracles k) (λ oracle at. h k oracle at) (sym (slice_get-map (λ (oracle : Recall). oracle.table) oracles k) ∙ e)
 
-named_in : (H : List SetEntry) (e : ℕ) (experts : List NamedContext) → list_all (λ D. list_all is_name D.objects) experts ≡ true
-    → list_all (λ o. list_all is_name o.0.objects) (dropped_in H e experts) ≡ true
-named_in H e [] h = refl
-named_in H e (D ∷ experts) h =
-    let parts = and_parts (list_all is_name D.objects) (list_all (λ E. list_all is_name E.objects) experts) h in
-    rw parts.0 (named_in H (e + 1) experts parts.1)
-
-pub panel-spells : (p : Panel) (H : List SetEntry) → HasPanelNames p → EachNamed H → IsLegal (opening_state (opening_of p.table (length p.experts))) H
-    → spelled p.table plain (panel_text p H) ≡ H
-panel-spells p H names named legal =
-    spelled-more p.table plain H _ names.table.attributes named legal
-    (Skips-conflicts_text p.table.attributes (last_state (played p H)).accepted (dropped_in H 1 p.experts) names.table.attributes (named_in H 1 p.experts names.experts))
-
 -- what comes of an exploration of the panel's table by oracles of the experts' tables
 pub record IsPlay (p : Panel) (explore : History) (oracles : List Recall) (spent : Bool) : Type 0 where
   pub opening : explore.opening ≡ opening_of p.table (length p.experts)
   pub legal : IsLegal (opening_state explore.opening) explore.journal
-  pub named : EachNamed explore.journal
+  pub spells : (lines : List Text) → are_lines lines ≡ true → SpellsBefore explore.opening.table explore.opening.settings explore.journal lines
   pub tables : map (λ oracle. oracle.table) oracles ≡ p.experts
   pub shares : EachNumbered (IsOraclesShare turns explore.journal) oracles
   pub others : (e : ℕ) → (e ≡ 0) ⊎ (length p.experts < e) → own explore.journal e ≡ []
-  pub spent : (spent ≡ true) ↔ ((e : ℕ) × (1 ≤ e) × (e ≤ length p.experts) × (ends_done (own explore.journal e) ≡ false))
+  pub unfinished : (spent ≡ true) ↔ ((e : ℕ) × (1 ≤ e) × (e ≤ length p.experts) × (ends_done (own explore.journal e) ≡ false))
   pub finished : spent ≡ false → open_of explore ≡ []
 
 pub panel_text-play : (p : Panel) (explore : History) (oracles : List Recall) (spent : Bool) → IsPlay p explore oracles spent
@@ -83,20 +67,26 @@ panel_text-play p explore oracles spent play =
     ap (λ o. text o (map with_conflicts oracles)) play.opening
     ∙ ap (text (opening_of p.table (length p.experts))) (dropped ∙ ap (dropped_in H 1) play.tables)
 
-pub IsPanelText-play : (p : Panel) (explore : History) (oracles : List Recall) (spent : Bool) (text : Text) → is_expert (length p.experts) ≡ true → HasPanelNames p
-    → IsPlay p explore oracles spent → text ≡ panel_text p explore.journal → IsPanelText p text spent
-IsPanelText-play p explore oracles spent text expert names play is =
+pub IsPanelText-play : (p : Panel) (explore : History) (oracles : List Recall) (spent : Bool) (first conflicts text : Text) → is_expert (length p.experts) ≡ true
+    → IsPlay p explore oracles spent → first ≡ explore_text explore.opening.table explore.opening.settings explore.journal
+    → conflicts ≡ conflicts_text explore.opening.table.attributes (state_of explore).accepted (map with_conflicts oracles) → AreComments conflicts
+    → text ≡ first ++ conflicts → IsPanelText p text spent
+IsPanelText-play p explore oracles spent first conflicts text expert play first_is conflicts_is comments joined =
     let H = explore.journal in
     let o : Opening = opening_of p.table (length p.experts) in
     let legal : IsLegal (opening_state o) H = let P : Opening → Type 0 = λ x. IsLegal (opening_state x) H in subst P play.opening play.legal in
+    let all : text ≡ panel_text p H = joined ∙ ap (λ l. l ++ conflicts) first_is ∙ ap (λ l. explore_text explore.opening.table explore.opening.settings H ++ l) conflicts_is ∙ panel_text-play p explore oracles spent play in
+    let commented : text ≡ explore_text explore.opening.table explore.opening.settings H ++ comments_of comments.lines =
+    joined ∙ ap (λ l. l ++ conflicts) first_is ∙ ap (λ l. explore_text explore.opening.table explore.opening.settings H ++ l) comments.text_is in
+    let Spelled : Opening → Type 0 = λ x. spelled x.table x.settings text ≡ H in
     let Open : Opening → Type 0 = λ x. (spent ≡ false → open_of (record { opening = x; journal = H; spare = 0 }) ≡ []) in
     record {
       history = H;
-      text = is;
-      spells = ap (spelled p.table plain) is ∙ panel-spells p H names play.named legal;
+      whole = all;
+      spells = subst Spelled play.opening (ap (spelled explore.opening.table explore.opening.settings) commented ∙ play.spells comments.lines comments.whole);
       course = legal-course p.table (length p.experts) H expert legal;
       shares = (let P : List NamedContext → Type 0 = EachNumbered (IsShare H) in subst P play.tables (shares-tables H oracles play.shares));
       others = play.others;
-      spent = play.spent;
+      unfinished = play.unfinished;
       finished = subst Open play.opening play.finished;
     }

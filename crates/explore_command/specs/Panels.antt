@@ -1,14 +1,11 @@
 -- What `explore` reads: a table, and of each expert a table that has the same attributes in the same order.
-use Rattle.std.specs.Prelude.{◌≡◌, ℕ, ◌⊎◌, Bool, true, false, ◌&&◌, cond, List, [], ◌∷◌, bytes_eq}
-use Rattle.std.specs.List.{list_all}
-use Rattle.expert_wire.specs.Words.{is_name}
+use Rattle.std.specs.Prelude.{ℕ, ◌⊎◌, Bool, true, false, ◌&&◌, cond, List, [], ◌∷◌, bytes_eq}
 use Rattle.fca_model.specs.Tables.{Text, NamedContext}
 use Rattle.fca_io.specs.Faults.{Rose}
 use Rattle.fca_io.specs.Shelves.{Told}
 use Rattle.command_io.specs.Readings.{Reading, then}
 use Rattle.command_io.specs.Readings.Reading.{Refused, Read}
 use Rattle.command_io.specs.Forms.{table_read}
-use Rattle.command_io.specs.Explorations.{HasNames}
 
 -- a table, and those of the experts
 pub record Panel : Type 0 where
@@ -50,8 +47,3 @@ SomeRose counts counts' (file ∷ files) = Rose (counts file) (counts' file) ⊎
 -- a count of faults rose for a file of the command
 abbrev pub FileRose : (Text → ℕ) → (Text → ℕ) → Text → List Text → Type 0
 FileRose counts counts' file experts = Rose (counts file) (counts' file) ⊎ SomeRose counts counts' experts
-
--- the names in a panel's tables are names
-pub record HasPanelNames (p : Panel) : Type 0 where
-  pub table : HasNames p.table
-  pub experts : list_all (λ D. list_all is_name D.objects) p.experts ≡ true

@@ -38,12 +38,12 @@ panel_text p H = explore_text p.table plain H ++ conflicts_text p.table.attribut
 -- the exploration is spent; else no question is open at its end
 pub record IsPanelText (p : Panel) (text : Text) (spent : Bool) : Type 0 where
   pub history : List SetEntry
-  pub text : text ≡ panel_text p history
+  pub whole : text ≡ panel_text p history
   pub spells : spelled p.table plain text ≡ history
   pub course : IsExplored (played p history)
   pub shares : EachNumbered (IsShare history) p.experts
   pub others : (e : ℕ) → (e ≡ 0) ⊎ (length p.experts < e) → own history e ≡ []
-  pub spent : (spent ≡ true) ↔ ((e : ℕ) × (1 ≤ e) × (e ≤ length p.experts) × (ends_done (own history e) ≡ false))
+  pub unfinished : (spent ≡ true) ↔ ((e : ℕ) × (1 ≤ e) × (e ≤ length p.experts) × (ends_done (own history e) ≡ false))
   pub finished : spent ≡ false → open_at (played p history) ≡ []
 
 -- ---- statuses
@@ -68,7 +68,7 @@ pub record HasPlayed (Gained : Text → Type 0) (p : Panel) (status : ℕ) : Typ
   pub spent : Bool
   pub is : IsPanelText p text spent
   pub gained : Gained text
-  pub status : status ≡ played_status spent
+  pub ended : status ≡ played_status spent
 
 -- a text of the panel was begun
 pub record HasBegun (Gained : Text → Type 0) (p : Panel) : Type 0 where

@@ -7,7 +7,7 @@ ghost use Rattle.fca_io.specs.Faults.{Rose};
 ghost use Rattle.fca_io.specs.Transfers.{AppendsFront};
 ghost use Rattle.command_io.specs.Readings.{IfRead};
 ghost use Rattle.command_io.specs.Endings.{IsCutOff, IsSilent, Stops, stop_status};
-ghost use Rattle.explore_command.specs.Panels.{panel_read, HasPanelNames, FileRose};
+ghost use Rattle.explore_command.specs.Panels.{panel_read, FileRose};
 ghost use Rattle.explore_command.specs.Played.{IsPanelText, HasPlayed, HasBegun, IsPlayed, Plays, played_status};
 
 use crate::panel::{Panel, panel_under};
@@ -109,7 +109,7 @@ fn exploration<R: Threads + Wait + Sync, H: Shelf>(
 fn play<R: Threads + Wait + Sync>(rt: &R, alloc: Global, panel: Panel) -> Result<Played, Memory>
     requires count { is_expert (length panel.experts) ≡ true }
     requires wide { All (λ expert. expert.context.width ≡ panel.table.context.width) panel.experts }
-    ensures { IfOk result (λ played. HasPanelNames panel → IsPanelText panel played.text.items played.spent) }
+    ensures { IfOk result (λ played. IsPanelText panel played.text.items played.spent) }
 {
     let explored = explore_with_oracles(rt, alloc, panel.table, panel.experts, TURNS)?;
     let mut text = explore_text(alloc, &explored.explore)?;
