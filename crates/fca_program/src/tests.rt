@@ -41,7 +41,8 @@ const LIVING: &[u8] =
 const LIVING_ATTRIBUTES: &[u8] = b"B\n\n0\n9\n\na\nb\nc\nd\ne\nf\ng\nh\ni\n";
 
 /// How the exploration of these attributes by oracles of that table ends, in whatever order they answered.
-const LIVING_EXPLORED: &[u8] = b"# open 0\n# basis 10\n# 1 {} -> {a}\n# 2 {a, i} -> {c, g, h}\n# 3 {a, h} -> {g}\n# 4 {a, f} -> {d}\n# 5 {a, e} -> {c, d}\n# 6 {a, d, g} -> {b, c, e, f, h, i}\n# 7 {a, c, g} -> {h}\n# 8 {a, c, d, e, f} -> {b, g, h, i}\n# 9 {a, b, d} -> {f}\n# 10 {a, b, c, g, h, i} -> {d, e, f}\n# conflicts 0\n";
+const LIVING_EXPLORED: &[u8] =
+    b"# open 0\n# basis 10\n# 1 {} -> {a}\n# 2 {a, i} -> {c, g, h}\n# 3 {a, h} -> {g}\n# 4 {a, f} -> {d}\n# 5 {a, e} -> {c, d}\n# 6 {a, d, g} -> {b, c, e, f, h, i}\n# 7 {a, c, g} -> {h}\n# 8 {a, c, d, e, f} -> {b, g, h, i}\n# 9 {a, b, d} -> {f}\n# 10 {a, b, c, g, h, i} -> {d, e, f}\n# conflicts 0\n";
 
 /// A whole exploration of two attributes by two experts.
 const WHOLE: &[u8] =
@@ -364,13 +365,7 @@ const REFUSALS: [Call; 23] = [
         3,
         b"fca: nofile: read fault\n",
     ),
-    (
-        &[b"explore", b"F"],
-        TWO,
-        b"",
-        1,
-        b"fca: no such command\n",
-    ),
+    (&[b"explore", b"F"], TWO, b"", 1, b"fca: no such command\n"),
     (&[], TWO, b"", 1, b"fca: no such command\n"),
     (&[b"concepts"], TWO, b"", 1, b"fca: no such command\n"),
     (
