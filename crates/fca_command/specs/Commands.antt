@@ -1,12 +1,14 @@
 -- The commands, word by word: exactly these lists of words are commands.
-use Rattle.std.specs.Prelude.{Bool, true, false, cond, Option, Some, None, List, [], ◌∷◌, option_map, bytes_eq, codes}
+use Rattle.std.specs.Prelude.{◌≡◌, ⊤, length, Bool, true, false, cond, Option, Some, None, List, [], ◌∷◌, option_map, bytes_eq, codes}
 use Rattle.std.specs.List.{list_all}
 use Rattle.std.specs.Str.{is_utf8}
 use Rattle.fca_model.specs.Tables.{Text}
+use Rattle.fca_model.specs.Exploration.{is_expert}
+use Rattle.fca_command.specs.Experts.{experts_said}
 use Rattle.fca_command.specs.declared.command.Form.{Form}
 use Rattle.fca_command.specs.declared.command.Form.TheVariants.{Cxt, Csv}
 use Rattle.fca_command.specs.declared.command.Command.{Command}
-use Rattle.fca_command.specs.declared.command.Command.TheVariants.{Concepts, Lattice, Basis, Follows, Convert, Replay}
+use Rattle.fca_command.specs.declared.command.Command.TheVariants.{Concepts, Lattice, Basis, Follows, Convert, Replay, Explore}
 
 -- ---- the words behind a command's file
 
@@ -48,6 +50,10 @@ abbrev pub replay_command : Text → List Text → Option Command
 replay_command file [] = Some (Replay file)
 replay_command file _ = None
 
+-- `explore F --expert G ..`
+abbrev pub explore_command : Text → List Text → Option Command
+explore_command file later = option_map (λ experts. Explore file experts) (experts_said later)
+
 -- ---- all commands
 
 -- the command of this name over a file, whose name is not empty
@@ -59,7 +65,8 @@ named_command name file later =
     (cond (bytes_eq name (codes "basis")) (basis_command file later)
     (cond (bytes_eq name (codes "follows")) (follows_command file later)
     (cond (bytes_eq name (codes "convert")) (convert_command file later)
-    (cond (bytes_eq name (codes "replay")) (replay_command file later) None))))))
+    (cond (bytes_eq name (codes "replay")) (replay_command file later)
+    (cond (bytes_eq name (codes "explore")) (explore_command file later) None)))))))
 
 abbrev pub text_command : List Text → Option Command
 text_command (name ∷ file ∷ later) = named_command name file later
@@ -77,3 +84,9 @@ file_of (Basis file json) = file
 file_of (Follows file premise conclusion) = file
 file_of (Convert file to) = file
 file_of (Replay file) = file
+file_of (Explore file experts) = file
+
+-- the limits of what the words of a command say: 1 to 64 experts
+abbrev pub IsWithinLimits : Command → Type 0
+IsWithinLimits (Explore file experts) = is_expert (length experts) ≡ true
+IsWithinLimits _ = ⊤

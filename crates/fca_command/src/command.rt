@@ -1,10 +1,12 @@
 //! What the words of the command line ask for.
 
-ghost use Rattle.std.specs.Prelude.{◌≡◌, IfOk};
+ghost use Rattle.std.specs.Prelude.{◌≡◌, IfOk, IfSome};
 ghost use Rattle.std.specs.List.{list_all};
 ghost use Rattle.std.specs.Str.{is_utf8};
-ghost use Rattle.fca_command.specs.Commands.{command_form, text_command, named_command, concepts_command, lattice_command, basis_command, json_said, follows_command, convert_command, form_named, replay_command, file_of};
+ghost use Rattle.fca_command.specs.Commands.{command_form, text_command, named_command, concepts_command, lattice_command, basis_command, json_said, follows_command, convert_command, form_named, replay_command, explore_command, file_of, IsWithinLimits};
 
+use crate::experts::experts_said;
+use crate::words::Words;
 use fca_model::{Memory, Word};
 use std::alloc::Global;
 
@@ -41,6 +43,10 @@ pub enum Command {
     Replay {
         file: Word,
     },
+    Explore {
+        file: Word,
+        experts: Words,
+    },
 }
 
 impl Command {
@@ -54,14 +60,16 @@ impl Command {
             | Command::Basis { file, .. }
             | Command::Follows { file, .. }
             | Command::Convert { file, .. }
-            | Command::Replay { file } => file.bytes(),
+            | Command::Replay { file }
+            | Command::Explore { file, .. } => file.bytes(),
         }
     }
 }
 
 /// The command that the words are, if they are one.
 pub fn command_of(alloc: Global, words: &[Word]) -> Result<Option<Command>, Memory>
-    ensures { IfOk result (λ command. command ≡ command_form words.now) }
+    ensures command { IfOk result (λ command. command ≡ command_form words.now) }
+    ensures limits { IfOk result (λ command. IfSome command IsWithinLimits) }
 {
     if !are_text(words) {
         return Ok(None);
@@ -83,7 +91,8 @@ fn is_text(word: &Word) -> bool
 
 /// The command that words of text are, if they are one.
 fn text_command(alloc: Global, words: &[Word]) -> Result<Option<Command>, Memory>
-    ensures { IfOk result (λ command. command ≡ text_command words.now) }
+    ensures command { IfOk result (λ command. command ≡ text_command words.now) }
+    ensures limits { IfOk result (λ command. IfSome command IsWithinLimits) }
 {
     match words {
         [name, file, later @ ..] => named_command(alloc, name.bytes(), file, later),
@@ -98,7 +107,8 @@ fn named_command(
     file: &Word,
     later: &[Word],
 ) -> Result<Option<Command>, Memory>
-    ensures { IfOk result (λ command. command ≡ named_command name.now file.now later.now) }
+    ensures command { IfOk result (λ command. command ≡ named_command name.now file.now later.now) }
+    ensures limits { IfOk result (λ command. IfSome command IsWithinLimits) }
 {
     if file.bytes().is_empty() {
         return Ok(None);
@@ -116,20 +126,24 @@ fn named_command(
         Ok(convert_command(file, later))
     } else if name == b"replay".as_slice() {
         Ok(replay_command(file, later))
+    } else if name == b"explore".as_slice() {
+        explore_command(alloc, file, later)
     } else {
         Ok(None)
     }
 }
 
 fn concepts_command(file: Word, later: &[Word]) -> Option<Command>
-    ensures { result ≡ concepts_command file later.now }
+    ensures command { result ≡ concepts_command file later.now }
+    ensures limits { IfSome result IsWithinLimits }
 {
     let json = json_said(later)?;
     Some(Command::Concepts { file, json })
 }
 
 fn lattice_command(file: Word, later: &[Word]) -> Option<Command>
-    ensures { result ≡ lattice_command file later.now }
+    ensures command { result ≡ lattice_command file later.now }
+    ensures limits { IfSome result IsWithinLimits }
 {
     match later {
         [] => Some(Command::Lattice { file }),
@@ -138,7 +152,8 @@ fn lattice_command(file: Word, later: &[Word]) -> Option<Command>
 }
 
 fn basis_command(file: Word, later: &[Word]) -> Option<Command>
-    ensures { result ≡ basis_command file later.now }
+    ensures command { result ≡ basis_command file later.now }
+    ensures limits { IfSome result IsWithinLimits }
 {
     let json = json_said(later)?;
     Some(Command::Basis { file, json })
@@ -156,7 +171,8 @@ fn json_said(words: &[Word]) -> Option<bool>
 }
 
 fn follows_command(alloc: Global, file: Word, later: &[Word]) -> Result<Option<Command>, Memory>
-    ensures { IfOk result (λ command. command ≡ follows_command file later.now) }
+    ensures command { IfOk result (λ command. command ≡ follows_command file later.now) }
+    ensures limits { IfOk result (λ command. IfSome command IsWithinLimits) }
 {
     let [premise, conclusion] = later else {
         return Ok(None);
@@ -171,7 +187,8 @@ fn follows_command(alloc: Global, file: Word, later: &[Word]) -> Result<Option<C
 }
 
 fn convert_command(file: Word, later: &[Word]) -> Option<Command>
-    ensures { result ≡ convert_command file later.now }
+    ensures command { result ≡ convert_command file later.now }
+    ensures limits { IfSome result IsWithinLimits }
 {
     let [word] = later else {
         return None;
@@ -194,10 +211,21 @@ fn form_named(word: &[u8]) -> Option<Form>
 }
 
 fn replay_command(file: Word, later: &[Word]) -> Option<Command>
-    ensures { result ≡ replay_command file later.now }
+    ensures command { result ≡ replay_command file later.now }
+    ensures limits { IfSome result IsWithinLimits }
 {
     match later {
         [] => Some(Command::Replay { file }),
         _ => None,
+    }
+}
+
+fn explore_command(alloc: Global, file: Word, later: &[Word]) -> Result<Option<Command>, Memory>
+    ensures command { IfOk result (λ command. command ≡ explore_command file later.now) }
+    ensures limits { IfOk result (λ command. IfSome command IsWithinLimits) }
+{
+    match experts_said(alloc, later)? {
+        Some(experts) => Ok(Some(Command::Explore { file, experts })),
+        None => Ok(None),
     }
 }

@@ -3,6 +3,9 @@
 
 mod attributes;
 mod command;
+mod experts;
+mod words;
 
 pub use attributes::attributes_said;
 pub use command::{Command, Form, command_of};
+pub use words::Words;

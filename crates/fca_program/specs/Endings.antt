@@ -5,12 +5,14 @@ use Rattle.fca_model.specs.Tables.{Text}
 use Rattle.fca_io.specs.Faults.{Rose}
 use Rattle.fca_io.specs.Shelves.{Told}
 use Rattle.fca_command.specs.declared.command.Command.{Command}
-use Rattle.fca_command.specs.declared.command.Command.TheVariants.{Concepts, Lattice, Basis, Follows, Convert, Replay}
+use Rattle.fca_command.specs.declared.command.Command.TheVariants.{Concepts, Lattice, Basis, Follows, Convert, Replay, Explore}
 use Rattle.command_io.specs.Readings.{Reading, IfRead}
 use Rattle.command_io.specs.Readings.Reading.{Untold, Refused, Read}
 use Rattle.command_io.specs.Endings.{Output, whole_status, IsWhole, IsCutOff}
 use Rattle.command_io.specs.Explorations.{IsExplored}
-use Rattle.fca_program.specs.Outputs.{replayed}
+use Rattle.explore_command.specs.Panels.{panel_read, FileRose}
+use Rattle.explore_command.specs.Played.{HasPlayed, HasBegun, Plays}
+use Rattle.fca_program.specs.Outputs.{output, replayed}
 
 -- the status of a call that was not cut off, by what its command was to write
 abbrev pub Finishes : Reading Output → ℕ → Type 0
@@ -21,6 +23,16 @@ Finishes (Read o) status = status ≡ whole_status o
 -- the status of a call whose command was to write this
 abbrev pub Ends : Reading Output → ℕ → Type 0
 Ends reading status = Finishes reading status ⊎ IsCutOff status
+
+-- whether the command waits for nobody
+abbrev pub is_plain : Command → Bool
+is_plain (Explore file experts) = false
+is_plain _ = true
+
+-- the status of a call of the command
+abbrev pub EndsBy : Command → (Text → Told) → Option Text → ℕ → Type 0
+EndsBy (Explore file experts) files input status = Plays (panel_read file experts files) status ⊎ IsCutOff status
+EndsBy command files input status = Ends (output command files input) status
 
 -- whether the command reads the input
 abbrev pub reads_input : Command → Bool
@@ -35,6 +47,7 @@ FaultRose (Basis file json) files files' input input' = Rose (files file) (files
 FaultRose (Follows file premise conclusion) files files' input input' = Rose (files file) (files' file)
 FaultRose (Convert file to) files files' input input' = Rose (files file) (files' file)
 FaultRose (Replay file) files files' input input' = Rose (files file) (files' file) ⊎ Rose input input'
+FaultRose (Explore file experts) files files' input input' = FileRose files files' file experts
 
 -- an input that the command reads is at its end
 abbrev pub MayReachEnd : Command → Option Text → Type 0
@@ -45,3 +58,13 @@ MayReachEnd _ left = ⊤
 abbrev pub HasCourse : Command → (Text → Told) → Option Text → Type 0
 HasCourse (Replay file) files input = IfRead (replayed file files input) IsExplored
 HasCourse _ files input = ⊤
+
+-- where the command lets oracles explore, this text was written of their panel
+abbrev pub HasExplored : Command → (Text → Told) → (Text → Type 0) → ℕ → Type 0
+HasExplored (Explore file experts) files Gained status = IfRead (panel_read file experts files) (λ panel. HasPlayed Gained panel status)
+HasExplored _ files Gained status = ⊤
+
+-- where the command lets oracles explore, such a text was begun
+abbrev pub HasBegunExploring : Command → (Text → Told) → (Text → Type 0) → Type 0
+HasBegunExploring (Explore file experts) files Gained = IfRead (panel_read file experts files) (HasBegun Gained)
+HasBegunExploring _ files Gained = ⊤

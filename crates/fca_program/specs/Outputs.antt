@@ -16,11 +16,11 @@ use Rattle.basis_report.specs.Reports.{concepts_text, lattice_text, basis_text}
 use Rattle.basis_report.specs.Verdicts.{follows_text}
 use Rattle.fca_command.specs.Attributes.{attributes_said}
 use Rattle.fca_command.specs.declared.command.Command.{Command}
-use Rattle.fca_command.specs.declared.command.Command.TheVariants.{Concepts, Lattice, Basis, Follows, Convert, Replay}
+use Rattle.fca_command.specs.declared.command.Command.TheVariants.{Concepts, Lattice, Basis, Follows, Convert, Replay, Explore}
 use Rattle.fca_command.specs.declared.command.Form.{Form}
 use Rattle.fca_command.specs.declared.command.Form.TheVariants.{Cxt, Csv}
 use Rattle.command_io.specs.Readings.{Reading, then, known}
-use Rattle.command_io.specs.Readings.Reading.{Read}
+use Rattle.command_io.specs.Readings.Reading.{Untold, Read}
 use Rattle.command_io.specs.Forms.{table_read, script_read}
 use Rattle.command_io.specs.Endings.{Output, finished}
 use Rattle.command_io.specs.Explorations.{Recorded, opening_of, open_at}
@@ -86,7 +86,8 @@ follows_output premise conclusion file files = then (table_read file (files file
 
 -- ---- all commands
 
--- what the command writes, where the files and the input hold this
+-- What the command writes, where the files and the input hold this. `explore` writes what its oracles did together, of which the
+-- files alone tell nothing
 abbrev pub output : Command → (Text → Told) → Option Text → Reading Output
 output (Concepts file json) files input = of_table (table_concepts json) file files
 output (Lattice file) files input = of_table table_lattice file files
@@ -94,3 +95,4 @@ output (Basis file json) files input = of_table (table_basis json) file files
 output (Follows file premise conclusion) files input = follows_output premise conclusion file files
 output (Convert file to) files input = of_table (table_written to) file files
 output (Replay file) files input = replay_output file files input
+output (Explore file experts) files input = Untold

@@ -1,19 +1,21 @@
 //! The top call.
 
-ghost use Rattle.std.specs.Prelude.{◌≡◌, ◌⊎◌, false, Result, Some, IfSome, IfOk, IfErr, OnOk, MatchOption};
+ghost use Rattle.std.specs.Prelude.{◌≡◌, ◌⊎◌, true, false, Result, Some, IfSome, IfOk, IfErr, OnOk, MatchOption};
 ghost use Rattle.std.specs.Io.KnownBytes.{Appends, IsAtEnd};
 ghost use Rattle.fca_io.specs.Faults.{Rose};
 ghost use Rattle.fca_io.specs.Transfers.{AppendsFront};
-ghost use Rattle.fca_command.specs.Commands.{command_form};
+ghost use Rattle.fca_command.specs.Commands.{command_form, IsWithinLimits};
+ghost use Rattle.explore_command.specs.Played.{IsPlayed};
 ghost use Rattle.command_io.specs.Readings.{IfRead, MayRead};
 ghost use Rattle.fca_program.specs.Outputs.{output};
 ghost use Rattle.command_io.specs.Endings.{Stops, IsWhole, IsSilent, stop_status};
-ghost use Rattle.fca_program.specs.Endings.{reads_input, Ends, FaultRose, MayReachEnd, HasCourse};
+ghost use Rattle.fca_program.specs.Endings.{is_plain, reads_input, Ends, EndsBy, FaultRose, MayReachEnd, HasCourse, HasExplored, HasBegunExploring};
 
 use crate::follows::follows;
 use crate::replay::replay;
 use crate::tables::{basis_of_file, concepts, convert, lattice};
 use command_io::{Answer, Stop, conclude, report};
+use explore_command::explore;
 use fca_command::{Command, command_of};
 use fca_io::{Listener, Shelf, Sink, Source};
 use fca_model::{Memory, Word};
@@ -36,7 +38,7 @@ pub fn run<R: Threads + Wait + Sync, H: Shelf, S: Source, K: Sink, E: Sink, L: L
 
     // Which status comes. What the shelf and the input do not tell is not spoken of.
     ensures status { MatchOption (command_form words.now) ((result ≡ 1) ⊎ (result ≡ 5))
-        (λ command. Ends (output command (H.tells shelf.old) (S.left input.old)) result) }
+        (λ command. EndsBy command (H.tells shelf.old) (S.left input.old) result) }
     ensures read_fault { result ≡ 3 → IfSome (command_form words.now)
         (λ command. FaultRose command (H.faults shelf.old) (H.faults shelf.new) (S.faults input.old) (S.faults input.new)) }
     ensures write_fault { result ≡ 4 → Rose (K.faults out.old) (K.faults out.new) }
@@ -46,6 +48,10 @@ pub fn run<R: Threads + Wait + Sync, H: Shelf, S: Source, K: Sink, E: Sink, L: L
         IfRead (output command (H.tells shelf.old) (S.left input.old)) (λ o. Appends (K.held out.old) (K.held out.new) o.text)) }
     ensures partial_output { result ≡ 4 → IfSome (command_form words.now) (λ command.
         IfRead (output command (H.tells shelf.old) (S.left input.old)) (λ o. AppendsFront (K.held out.old) (K.held out.new) o.text)) }
+    ensures explore_output { IsPlayed result → IfSome (command_form words.now) (λ command.
+        HasExplored command (H.tells shelf.old) (Appends (K.held out.old) (K.held out.new)) result) }
+    ensures partial_explore_output { result ≡ 4 → IfSome (command_form words.now) (λ command.
+        HasBegunExploring command (H.tells shelf.old) (AppendsFront (K.held out.old) (K.held out.new))) }
     ensures no_output { IsSilent result → out.new ≡ out.old }
 
     // The questions written as open are the smallest pseudo-intents that are not accepted; where none is, the accepted
@@ -59,7 +65,7 @@ pub fn run<R: Threads + Wait + Sync, H: Shelf, S: Source, K: Sink, E: Sink, L: L
     ensures quiet { IsWhole result → err.new ≡ err.old }
 {
     match command_of(alloc, words) {
-        Ok(Some(command)) => run_plain(rt, alloc, &command, shelf, input, out, err),
+        Ok(Some(command)) => run_command(rt, alloc, &command, shelf, input, out, err),
         Ok(None) => stopped(err, &Stop::NoCommand),
         Err(Memory) => stopped(err, &Stop::Memory),
     }
@@ -73,6 +79,49 @@ fn stopped<E: Sink>(err: &mut E, stop: &Stop) -> u8
     stop.status()
 }
 
+/// Runs the command, and gives the status of the program.
+fn run_command<R: Threads + Wait + Sync, H: Shelf, S: Source, K: Sink, E: Sink>(
+    rt: &R,
+    alloc: Global,
+    command: &Command,
+    shelf: &mut H,
+    input: &mut S,
+    out: &mut K,
+    err: &mut E,
+) -> u8
+    requires { IsWithinLimits command.now }
+
+    // Which status comes.
+    ensures status { EndsBy command.now (H.tells shelf.old) (S.left input.old) result }
+    ensures read_fault { result ≡ 3 → FaultRose command.now (H.faults shelf.old) (H.faults shelf.new) (S.faults input.old) (S.faults input.new) }
+    ensures write_fault { result ≡ 4 → Rose (K.faults out.old) (K.faults out.new) }
+
+    // What out gained.
+    ensures plain_output { IsWhole result → IfRead (output command.now (H.tells shelf.old) (S.left input.old)) (λ o. Appends (K.held out.old) (K.held out.new) o.text) }
+    ensures partial_output { result ≡ 4 → IfRead (output command.now (H.tells shelf.old) (S.left input.old)) (λ o. AppendsFront (K.held out.old) (K.held out.new) o.text) }
+    ensures explore_output { IsPlayed result → HasExplored command.now (H.tells shelf.old) (Appends (K.held out.old) (K.held out.new)) result }
+    ensures partial_explore_output { result ≡ 4 → HasBegunExploring command.now (H.tells shelf.old) (AppendsFront (K.held out.old) (K.held out.new)) }
+    ensures no_output { IsSilent result → out.new ≡ out.old }
+    ensures explored { IsWhole result → HasCourse command.now (H.tells shelf.old) (S.left input.old) }
+
+    // What else was touched.
+    ensures read_to_end { IsWhole result → MayReachEnd command.now (S.left input.new) }
+    ensures input_kept { reads_input command.now ≡ false → input.new ≡ input.old }
+    ensures quiet { IsWhole result → err.new ≡ err.old }
+{
+    match command {
+        Command::Explore { file, experts } => {
+            explore(rt, alloc, shelf, file, experts.as_slice(), out, err)
+        }
+        Command::Concepts { .. }
+        | Command::Lattice { .. }
+        | Command::Basis { .. }
+        | Command::Follows { .. }
+        | Command::Convert { .. }
+        | Command::Replay { .. } => run_plain(rt, alloc, command, shelf, input, out, err),
+    }
+}
+
 /// Runs a command that waits for nobody.
 pub fn run_plain<R: Threads + Sync, H: Shelf, S: Source, K: Sink, E: Sink>(
     rt: &R,
@@ -83,6 +132,8 @@ pub fn run_plain<R: Threads + Sync, H: Shelf, S: Source, K: Sink, E: Sink>(
     out: &mut K,
     err: &mut E,
 ) -> u8
+    requires { is_plain command.now ≡ true }
+
     // Which status comes.
     ensures status { Ends (output command.now (H.tells shelf.old) (S.left input.old)) result }
     ensures read_fault { result ≡ 3 → FaultRose command.now (H.faults shelf.old) (H.faults shelf.new) (S.faults input.old) (S.faults input.new) }
@@ -114,6 +165,7 @@ fn answer_to<R: Threads + Sync, H: Shelf, S: Source>(
     shelf: &mut H,
     input: &mut S,
 ) -> Result<Answer, Stop>
+    requires { is_plain command.now ≡ true }
     ensures output { IfOk result (λ answer. MayRead (output command.now (H.tells shelf.old) (S.left input.old)) answer) }
     ensures stop { IfErr result (λ stop. Stops (output command.now (H.tells shelf.old) (S.left input.old))
         (FaultRose command.now (H.faults shelf.old) (H.faults shelf.new) (S.faults input.old) (S.faults input.new)) (stop_status stop)) }
@@ -132,5 +184,6 @@ fn answer_to<R: Threads + Sync, H: Shelf, S: Source>(
         } => follows(rt, alloc, shelf, file, premise, conclusion),
         Command::Convert { file, to } => convert(alloc, shelf, file, *to),
         Command::Replay { file } => replay(alloc, shelf, input, file),
+        Command::Explore { .. } => unreachable!(),
     }
 }

@@ -37,11 +37,29 @@ const NOMINAL: &[u8] = b"B\n\n3\n3\n\n1\n2\n3\na\nb\nc\nX..\n.X.\n..X\n";
 const LIVING: &[u8] =
     b"B\n\n8\n9\n\nleech\nbream\nfrog\ndog\nspike-weed\nreed\nbean\nmaize\na\nb\nc\nd\ne\nf\ng\nh\ni\nXX....X..\nXX....XX.\nXXX...XX.\nX.X...XXX\nXX.X.X...\nXXXX.X...\nX.XXX....\nX.XX.X...\n";
 
+/// The same attributes, and no objects.
+const LIVING_ATTRIBUTES: &[u8] = b"B\n\n0\n9\n\na\nb\nc\nd\ne\nf\ng\nh\ni\n";
+
+/// How the exploration of these attributes by oracles of that table ends, in whatever order they answered.
+const LIVING_EXPLORED: &[u8] =
+    b"# open 0\n# basis 10\n# 1 {} -> {a}\n# 2 {a, i} -> {c, g, h}\n# 3 {a, h} -> {g}\n# 4 {a, f} -> {d}\n# 5 {a, e} -> {c, d}\n# 6 {a, d, g} -> {b, c, e, f, h, i}\n# 7 {a, c, g} -> {h}\n# 8 {a, c, d, e, f} -> {b, g, h, i}\n# 9 {a, b, d} -> {f}\n# 10 {a, b, c, g, h, i} -> {d, e, f}\n# conflicts 0\n";
+
 /// A whole exploration of two attributes by two experts.
 const WHOLE: &[u8] =
     b"exploration 1\ndraw 1\n# ask .. XX {} -> {a, b}\nrow 1 .. p\n# taken 1\ndraw 1\n# ask .X XX {b} -> {a}\ndraw 2\n# ask X. XX {a} -> {b}\nrow 1 .X q\n# taken 2\nconfirm 2\n# accepted 1\ndraw 1\n# done\n# recorded 2\n# 1 .. p\n# 2 .X q\n# accepted 1\n# 1 X. XX {a} -> {b}\n# open 0\n# basis 1\n# 1 {a} -> {b}\n";
 
 const REPLAY: &[&[u8]] = &[b"replay", b"F"];
+
+const EXPLORE: &[&[u8]] = &[
+    b"explore",
+    b"F",
+    b"--expert",
+    b"G",
+    b"--expert",
+    b"G",
+    b"--expert",
+    b"G",
+];
 
 const CONVERT: &[&[u8]] = &[b"convert", b"F", b"cxt"];
 
@@ -231,7 +249,7 @@ const TABLES: [Call; 17] = [
     ),
 ];
 
-const REFUSALS: [Call; 20] = [
+const REFUSALS: [Call; 23] = [
     (
         CONVERT,
         b"B\n\n2\n2\n\ng\nh\na\nb\nX.\n",
@@ -339,6 +357,15 @@ const REFUSALS: [Call; 20] = [
         3,
         b"fca: nofile: read fault\n",
     ),
+    (EXPLORE, TWO, b"", 2, b"fca: G: attributes differ\n"),
+    (
+        &[b"explore", b"F", b"--expert", b"nofile"],
+        TWO,
+        b"",
+        3,
+        b"fca: nofile: read fault\n",
+    ),
+    (&[b"explore", b"F"], TWO, b"", 1, b"fca: no such command\n"),
     (&[], TWO, b"", 1, b"fca: no such command\n"),
     (&[b"concepts"], TWO, b"", 1, b"fca: no such command\n"),
     (
@@ -397,6 +424,7 @@ fn outcome<R: Threads + Wait + Sync>(
     let mut shelf = MemoryShelf::new(alloc, &[])?;
     shelf.put(b"F", file)?;
     shelf.put(b"F.csv", file)?;
+    shelf.put(b"G", LIVING)?;
     let mut input = MemorySource::new(alloc, bytes, input_fails, 7)?;
     let mut out = MemorySink::new(alloc, room, out_fails, 10)?;
     let mut err = MemorySink::new(alloc, 100, &[], 7)?;
@@ -465,6 +493,23 @@ fn explores_256_attributes(rt: HostRuntime) -> Result<(), Fail> {
     let called = outcome(&rt, rt.alloc(), REPLAY, &file, script, 1_000_000, &[], &[])?;
     assert_eq!(rt; called.status, 6);
     assert!(&rt; called.out.written().starts_with(&text));
+    Ok(())
+}
+
+#[test]
+fn oracles_explore_together(rt: HostRuntime) -> Result<(), Fail> {
+    let called = outcome(
+        &rt,
+        rt.alloc(),
+        EXPLORE,
+        LIVING_ATTRIBUTES,
+        b"",
+        100_000,
+        &[],
+        &[],
+    )?;
+    assert_eq!(rt; called.status, 0);
+    assert!(&rt; called.out.written().ends_with(LIVING_EXPLORED));
     Ok(())
 }
 

@@ -4,8 +4,8 @@ use Rattle.fca_command.specs.declared.command.Command.{Command}
 use Rattle.fca_command.proofs.WordLemmas.{text_command-parts}
 use Rattle.fca_command.proofs.command.text_command.Goals as goal
 
-pub returns-in-len2-up : goal.returns-in-len2-up
-returns-in-len2-up c =
+pub returns-in-len2-up-clause-command : goal.returns-in-len2-up-clause-command
+returns-in-len2-up-clause-command c =
     let two = c.in-len2-up.len_at_least in
     let P : Option Command → Type 0 = λ x. IfOk c.named_command.result (λ command. command ≡ x) in
-    subst P (sym (text_command-parts c.args.words.now c.name-item.result c.file-item.result two c.name-item.is c.file-item.is)) (rw c.bytes.ensures at c.named_command.ensures)
+    subst P (sym (text_command-parts c.args.words.now c.name-item.result c.file-item.result two c.name-item.is c.file-item.is)) (rw c.bytes.ensures at c.named_command.ensures.command)

@@ -1,0 +1,2 @@
+pub mod PanelLemmas
+pub mod PlayLemmas

@@ -1,0 +1,37 @@
+use Rattle.std.proofs.Common.{◌≡◌, ◌≤◌, ◌<◌, ◌+◌, ◌++◌, ◌∷◌, ◌∙◌, [], length, drop, List, sym, subst, arith}
+use Rattle.std.specs.Prelude.{All}
+use Rattle.fca_model.specs.Tables.{NamedContext}
+use Rattle.std.proofs.lemmas.List.Elements.{All-push}
+use Rattle.explore_command.proofs.PanelLemmas.{ReadsOn, ReadsOn-next, ReadsOn-all, Stops-file, Stops-passed}
+use Rattle.explore_command.proofs.panel.experts_under.Goals as goal
+
+pub returns-in_err-expert-clause-stop : goal.returns-in_err-expert-clause-stop
+returns-in_err-expert-clause-stop g c =
+    let inv = c.loop-place.invariant in
+    let stop = c.in_err-expert.field-0.0 in
+    let inside : c.loop-place.place < length c.args.files.now = omega arith in
+    Stops-passed c.from_residual.result stop _ _ c.from_residual.ensures
+    (Stops-file c.args.table.now c.args.files.now c.loop-place.place c.index-files-place.result (g.H.Shelf.tells c.args.shelf.now) (g.H.Shelf.tells c.loop-place.shelf)
+    (g.H.Shelf.faults c.args.shelf.now) (g.H.Shelf.faults c.loop-place.shelf) (g.H.Shelf.faults c.expert_under.new.shelf) c.loop-place.tables.items _
+    inside c.index-files-place.is inv.3 inv.4 inv.0 c.in_err-expert.ensures.stop)
+
+pub loop-place-preserved : goal.loop-place-preserved
+loop-place-preserved g c =
+    let inv = c.loop-place.invariant in
+    let table = c.args.table.now in
+    let expert = c.in_ok-expert.expert in
+    let inside : c.loop-place.place < length c.args.files.now = omega arith in
+    let pushed : c.push.new.self.items ≡ c.loop-place.tables.items ++ expert ∷ [] = c.in_ok-push.ensures.items in
+    let Reads : List NamedContext → Type 0 = λ l. ReadsOn table (drop (c.loop-place.place + 1) c.args.files.now) c.args.files.now (g.H.Shelf.tells c.args.shelf.now) l in
+    let IsWide : List NamedContext → Type 0 = λ l. All (λ (t : NamedContext). t.context.width ≡ table.context.width) l in (
+      subst Reads (sym pushed) (ReadsOn-next table c.args.files.now c.loop-place.place c.index-files-place.result (g.H.Shelf.tells c.args.shelf.now) (g.H.Shelf.tells c.loop-place.shelf) c.loop-place.tables.items expert
+          inside c.index-files-place.is inv.3 c.in_ok-expert.ensures.expert inv.0),
+      (let longer = c.in_ok-push.ensures.len in let was = inv.1 in omega arith),
+      subst IsWide (sym pushed) (All-push (λ (t : NamedContext). t.context.width ≡ table.context.width) c.loop-place.tables.items expert inv.2 c.in_ok-expert.ensures.wide),
+      (λ other. c.in_ok-expert.ensures.kept other ∙ inv.3 other),
+      (λ other. (let before = inv.4 other in let now = c.in_ok-expert.ensures.later other in omega arith)),
+    )
+
+pub returns-clause-tables : goal.returns-clause-tables
+returns-clause-tables g c =
+    ReadsOn-all c.args.table.now c.args.files.now c.loop-place.place (g.H.Shelf.tells c.args.shelf.now) c.loop-place.tables.items (let past = c.loop-place-test.false in omega arith) c.loop-place.invariant.0

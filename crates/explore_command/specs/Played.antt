@@ -1,0 +1,78 @@
+-- What `explore` writes: the text of one legal history, which the oracles of the experts' tables made, and the conflicts in which rows of theirs were dropped.
+use Rattle.std.specs.Prelude.{◌≡◌, ◌↔◌, ◌⊎◌, ◌≤◌, ◌<◌, ◌+◌, ◌^◌, ℕ, Bool, true, false, cond, List, [], ◌∷◌, ◌++◌, length}
+use Rattle.fca_model.specs.Tables.{Text, NamedContext}
+use Rattle.fca_model.specs.Exploration.{SetEntry, plain, own}
+use Rattle.oracle_expert.specs.Oracles.{Conflicts}
+use Rattle.oracle_expert.specs.Runs.{IsOracleFront, ends_done, conflicts_of}
+use Rattle.expert_panel.specs.Explorations.{EachNumbered}
+use Rattle.basis_report.specs.Explorations.{explore_text, spelled}
+use Rattle.basis_report.specs.Conflicts.{conflicts_text}
+use Rattle.command_io.specs.Readings.{Reading}
+use Rattle.command_io.specs.Readings.Reading.{Untold, Refused, Read}
+use Rattle.command_io.specs.Explorations.{Recorded, opening_of, last_state, open_at, IsExplored}
+use Rattle.explore_command.specs.Panels.{Panel}
+
+-- the most turns that an expert may take
+abbrev pub turns : ℕ
+turns = 2 ^ 48
+
+-- Of the history H, the entries of expert e are what is due for an oracle of D. Its last reply is Done; or it is not, and it has taken all its turns
+pub record IsShare (H : List SetEntry) (e : ℕ) (D : NamedContext) : Type 0 where
+  pub front : IsOracleFront D e (own H e)
+  pub end : (ends_done (own H e) ≡ true) ⊎ ((ends_done (own H e) ≡ false) × (length (own H e) ≡ turns))
+
+-- the tables of the experts from number e on, each with its rows that were dropped in the history
+abbrev pub dropped_in : List SetEntry → ℕ → List NamedContext → List (NamedContext × Conflicts)
+dropped_in H e [] = []
+dropped_in H e (D ∷ experts) = (D, conflicts_of D (own H e)) ∷ dropped_in H (e + 1) experts
+
+-- the exploration of a panel's table that has this history
+abbrev pub played : Panel → List SetEntry → Recorded
+played p H = record { opening = opening_of p.table (length p.experts); journal = H }
+
+-- its text, and the conflicts
+abbrev pub panel_text : Panel → List SetEntry → Text
+panel_text p H = explore_text p.table plain H ++ conflicts_text p.table.attributes (last_state (played p H)).accepted (dropped_in H 1 p.experts)
+
+-- The text spells one legal history, which has no entries but those of the panel's oracles. Where one of them took all its turns,
+-- the exploration is spent; else no question is open at its end
+pub record IsPanelText (p : Panel) (text : Text) (spent : Bool) : Type 0 where
+  pub history : List SetEntry
+  pub whole : text ≡ panel_text p history
+  pub spells : spelled p.table plain text ≡ history
+  pub course : IsExplored (played p history)
+  pub shares : EachNumbered (IsShare history) p.experts
+  pub others : (e : ℕ) → (e ≡ 0) ⊎ (length p.experts < e) → own history e ≡ []
+  pub unfinished : (spent ≡ true) ↔ ((e : ℕ) × (1 ≤ e) × (e ≤ length p.experts) × (ends_done (own history e) ≡ false))
+  pub finished : spent ≡ false → open_at (played p history) ≡ []
+
+-- ---- statuses
+
+-- the status of a whole text
+abbrev pub played_status : Bool → ℕ
+played_status spent = cond spent 8 0
+
+-- a whole text was written
+abbrev pub IsPlayed : ℕ → Type 0
+IsPlayed status = (status ≡ 0) ⊎ (status ≡ 8)
+
+-- the status of a call that was not cut off, by what was read
+abbrev pub Plays : Reading Panel → ℕ → Type 0
+Plays Untold status = (status ≡ 2) ⊎ IsPlayed status
+Plays Refused status = status ≡ 2
+Plays (Read p) status = IsPlayed status
+
+-- a text of the panel was written, with this status
+pub record HasPlayed (Gained : Text → Type 0) (p : Panel) (status : ℕ) : Type 0 where
+  pub text : Text
+  pub spent : Bool
+  pub is : IsPanelText p text spent
+  pub gained : Gained text
+  pub ended : status ≡ played_status spent
+
+-- a text of the panel was begun
+pub record HasBegun (Gained : Text → Type 0) (p : Panel) : Type 0 where
+  pub text : Text
+  pub spent : Bool
+  pub is : IsPanelText p text spent
+  pub gained : Gained text

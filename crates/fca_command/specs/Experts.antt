@@ -1,0 +1,19 @@
+-- The experts that words name, by their files.
+use Rattle.std.specs.Prelude.{Bool, ◌&&◌, not, cond, Option, Some, None, List, [], ◌∷◌, length, option_map, option_and_then, bytes_eq, codes}
+use Rattle.fca_model.specs.Tables.{Text}
+use Rattle.fca_model.specs.Exploration.{is_expert}
+
+-- the flag of an expert, and a word that is not empty
+abbrev pub names_expert : Text → Text → Bool
+names_expert flag file = bytes_eq flag (codes "--expert") && not (bytes_eq file [])
+
+-- a list of files, each behind the flag
+abbrev pub expert_files : List Text → Option (List Text)
+expert_files [] = Some []
+expert_files (flag ∷ []) = None
+expert_files (flag ∷ file ∷ rest) =
+    cond (names_expert flag file) (option_map (λ files. file ∷ files) (expert_files rest)) None
+
+-- files of 1 to 64 experts
+abbrev pub experts_said : List Text → Option (List Text)
+experts_said words = option_and_then (λ files. cond (is_expert (length files)) (Some files) None) (expert_files words)
