@@ -44,16 +44,17 @@ badges_kept o (old ∷ olds) [] each = absurd each
 badges_kept o (old ∷ olds) (new ∷ news) each =
     ap (λ (b : Badge Opening). b ∷ map badge (passes news)) each.0.attended.pass.same ∙ ap (λ (bs : List (Badge Opening)). badge old.pass ∷ bs) (badges_kept o olds news each.1)
 
-pub seats_of : (width : Recall → ℕ) (gate : Lock Opening) (seats : List (Seat Recall)) → All (Belongs gate) (passes seats) → All (λ r. width r ≡ gate.base.table.context.width) (experts seats)
-    → All (IsSeatOf width gate) seats
+pub seats_of : {X : Type 0} (width : X → ℕ) (gate : Lock Opening) (seats : List (Seat X)) → All (Belongs gate) (map (λ seat. seat.pass) seats)
+    → All (λ x. width x ≡ gate.base.table.context.width) (map (λ seat. seat.expert) seats) → All (IsSeatOf width gate) seats
 seats_of width gate [] belong fit = All-nil (IsSeatOf width gate)
 seats_of width gate (seat ∷ seats) belong fit =
     All-cons (IsSeatOf width gate) seat seats
     (record {
-      pass = All-head (Belongs gate) seat.pass (passes seats) belong;
-      expert = All-head (λ r. width r ≡ gate.base.table.context.width) seat.expert (experts seats) fit;
+      pass = All-head (Belongs gate) seat.pass (map (λ seat. seat.pass) seats) belong;
+      expert = All-head (λ x. width x ≡ gate.base.table.context.width) seat.expert (map (λ seat. seat.expert) seats) fit;
     })
-    (seats_of width gate seats (All-tail (Belongs gate) seat.pass (passes seats) belong) (All-tail (λ r. width r ≡ gate.base.table.context.width) seat.expert (experts seats) fit))
+    (seats_of width gate seats (All-tail (Belongs gate) seat.pass (map (λ seat. seat.pass) seats) belong)
+    (All-tail (λ x. width x ≡ gate.base.table.context.width) seat.expert (map (λ seat. seat.expert) seats) fit))
 
 -- there are as many passes as the lock was made with
 pub length-roll : (gate : Lock Opening) (ps : List (Known Opening SetEntry)) → 1 ≤ gate.passes → map badge ps ≡ roll gate → length ps ≡ gate.passes

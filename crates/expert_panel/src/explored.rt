@@ -1,6 +1,6 @@
 //! A table explored by oracles.
 
-ghost use Rattle.std.specs.Prelude.{◌≡◌, ◌≤◌, ◌<◌, ◌^◌, ◌⊎◌, ◌↔◌, ℕ, true, false, [], All, IfOk, None, map, length, vec_len};
+ghost use Rattle.std.specs.Prelude.{◌≡◌, ◌≤◌, ◌<◌, ◌^◌, ◌⊎◌, ◌↔◌, ℕ, true, false, [], All, IfOk, map, length, vec_len};
 ghost use Rattle.std.specs.List.{list_any};
 ghost use Rattle.fca_model.specs.Exploration.{plain, own, IsLegal};
 ghost use Rattle.explore_state.specs.History.{opening_state, open_of};
@@ -11,7 +11,7 @@ ghost use Rattle.expert_panel.specs.Explorations.{IsOraclesShare, EachNumbered, 
 
 use crate::end::SeatEnd;
 use crate::panel::run_panel;
-use crate::seat::Seat;
+use crate::seat::{Seat, seated};
 use context_table::Table;
 use expert_gate::{ExpertPass, Gate};
 use explore_state::Explore;
@@ -102,31 +102,6 @@ fn run_oracles<R: Threads + Wait + Sync>(
         oracles,
         spent,
     })
-}
-
-/// A seat for each pass, with the oracle in the same place.
-fn seated(
-    alloc: Global,
-    passes: Vec<ExpertPass>,
-    oracles: Vec<Oracle>,
-) -> Result<Vec<Seat<Oracle>>, Memory>
-    requires { vec_len passes ≡ vec_len oracles }
-    ensures passes { IfOk result (λ seats. map (λ seat. seat.pass) seats.items ≡ passes.items) }
-    ensures experts { IfOk result (λ seats. map (λ seat. seat.expert) seats.items ≡ oracles.items) }
-{
-    let mut seats = Vec::with_capacity(alloc, passes.len())?;
-    let mut experts = oracles.into_iter();
-    for pass in passes {
-        let Some(expert) = experts.next() else {
-            unreachable!()
-        };
-        seats.push(Seat {
-            pass,
-            expert,
-            ended: None,
-        })?;
-    }
-    Ok(seats)
 }
 
 /// The passes and the oracles of the seats.

@@ -10,4 +10,7 @@ mod seat;
 pub use end::SeatEnd;
 pub use explored::{Explored, explore_with_oracles};
 pub use panel::run_panel;
-pub use seat::Seat;
+pub use seat::{Seat, seated};
+
+#[cfg(test)]
+mod tests;

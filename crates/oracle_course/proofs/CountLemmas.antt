@@ -1,0 +1,323 @@
+-- How many turns an oracle takes. Two turns, a draw and an answer, go with each question; and in the time from one draw to the next an answer was recorded, by
+-- the oracle or, where its question was stale when it answered, by another. So twice what was recorded, and one turn more for each row that was dropped,
+-- is an upper bound of the turns that were taken when a draw is due. While a question is due the bound has one turn less, and two more where the question is
+-- still fresh, for then what is recorded for it is yet to come. The last draw, which is answered Done, is one turn more.
+use Rattle.std.proofs.Common.{◌≡◌, ℕ, suc, ◌+◌, ◌*◌, ◌^◌, ◌<◌, ◌≤◌, ◌⊎◌, Bool, true, false, not, ◌&&◌, ◌||◌, cond, eqb, eq-eqb, option_map, find, get_or, zero, Option, Some, None, List, [], ◌∷◌, ◌++◌, length, map, filter, slice_get, slice_set, refl, inl, inr, sym, ap, ◌∙◌, subst, arith, length-append}
+use Rattle.std.proofs.Math.Pow.{pow_mono}
+use Rattle.std.proofs.lemmas.List.{length-map, length-set}
+use Rattle.std.proofs.lemmas.Bool.{cases_Bool, and_parts, or_from, false≢true, not-true, eqb-true}
+use Rattle.std.proofs.lemmas.Option.{slice_get-get_or, get_or_from_slice_get}
+use Rattle.std.specs.List.{list_all, list_any}
+use Rattle.std.specs.Option.{is_none}
+use Rattle.fca_model.specs.declared.Reply.TheVariants.{Done, Breaks}
+use Rattle.fca_model.specs.declared.TheConstants.{MAX_EXPERTS, MAX_OBJECTS}
+use Rattle.fca_model.specs.Sets.{Set, within, size}
+use Rattle.fca_model.specs.Tables.{NamedContext}
+use Rattle.fca_model.specs.Context.{Context}
+use Rattle.fca_model.specs.Implications.{Rule, holds, respects, respects_all, refutes}
+use Rattle.fca_model.specs.Questions.{has_premise, waiting, open_questions, smallest, least_size}
+use Rattle.fca_model.specs.Pseudo.{basis_known}
+use Rattle.fca_model.specs.Invariant.{Among, IsValid}
+use Rattle.fca_model.specs.Exploration.{State, Settings, RowName, plain, opening, SetHold, SetEvent, SetReply, SetEntry, open_in, held_by, given_back, release, reply_to, next, state_after, journal_of, events_of, expert_of, is_expert, IsLegal, own}
+use Rattle.fca_model.proofs.ListLemmas.{list_all_from, list_all-filter_kept, filter_passes}
+use Rattle.fca_model.proofs.ClosureLemmas.{holds_by_rows}
+use Rattle.fca_model.proofs.PseudoLemmas.{basis_holds}
+use Rattle.fca_model.proofs.InvariantLemmas.{draw_gives_held}
+use Rattle.fca_model.proofs.StepLemmas.{by_change}
+use Rattle.fca_model.proofs.ValidLemmas.{next_valid, opening_valid}
+use Rattle.fca_model.proofs.CourseLemmas.{next_settings, exploration_count}
+use Rattle.fca_model.proofs.RunLemmas.{legal_events}
+use Rattle.oracle_expert.specs.Answers.{event_of}
+use Rattle.oracle_expert.specs.Oracles.{Conflicts, no_conflict, conflicts_told, counterexample, answer_with, drop_given, drop_at}
+use Rattle.oracle_expert.specs.Runs.{Moment, IsOracleFront, conflicts_of, row_due, OracleRunsFrom, StopsAtDone, event_due, moment_after, moment_at, is_done}
+use Rattle.oracle_expert.proofs.AnswerLemmas.{IsCounterexample, counterexample_is}
+use Rattle.oracle_course.specs.Counts.{dropped}
+use Rattle.oracle_course.proofs.TurnLemmas.{is_stale, holding, moment, draws, confirms, gives}
+
+-- ---- holds
+
+pub held_new : (e : ℕ) (q : Rule) (hs : List SetHold) → held_by e (given_back e hs ++ record { expert = e; question = q } ∷ []) ≡ Some q
+held_new e q [] = ap (λ b. option_map (λ (h : SetHold). h.question) (cond b (Some record { expert = e; question = q }) None)) (eq-eqb e e refl)
+held_new e q (h ∷ hs) = go (eqb h.expert e) refl (held_new e q hs)
+  where
+    go : (b : Bool) → eqb h.expert e ≡ b → held_by e (given_back e hs ++ record { expert = e; question = q } ∷ []) ≡ Some q → held_by e (cond (not b) (h ∷ given_back e hs) (given_back e hs) ++ record { expert = e; question = q } ∷ []) ≡ Some q
+    go true t more = more
+    go false f more =
+        ap (λ b. option_map (λ (h : SetHold). h.question) (cond b (Some h) (find (λ h. eqb h.expert e) (given_back e hs ++ record { expert = e; question = q } ∷ [])))) f ∙ more
+
+module _ (e f : ℕ) (other : eqb e f ≡ false) where
+  held_past : (q : Rule) (hs : List SetHold) → held_by f (hs ++ record { expert = e; question = q } ∷ []) ≡ held_by f hs
+  held_past q [] = ap (λ b. option_map (λ (h : SetHold). h.question) (cond b (Some record { expert = e; question = q }) None)) other
+  held_past q (h ∷ hs) = go (eqb h.expert f) (held_past q hs)
+    where
+      go : (b : Bool) → held_by f (hs ++ record { expert = e; question = q } ∷ []) ≡ held_by f hs → option_map (λ (h : SetHold). h.question) (cond b (Some h) (find (λ h. eqb h.expert f) (hs ++ record { expert = e; question = q } ∷ [])))
+          ≡ option_map (λ (h : SetHold). h.question) (cond b (Some h) (find (λ h. eqb h.expert f) hs))
+      go true more = refl
+      go false more = more
+
+  held_still : (hs : List SetHold) → held_by f (given_back e hs) ≡ held_by f hs
+  held_still [] = refl
+  held_still (h ∷ hs) = go (eqb h.expert e) refl (held_still hs)
+    where
+      go : (b : Bool) → eqb h.expert e ≡ b → held_by f (given_back e hs) ≡ held_by f hs → held_by f (cond (not b) (h ∷ given_back e hs) (given_back e hs)) ≡ held_by f (h ∷ hs)
+      go true t more =
+          let not_f : eqb h.expert f ≡ false = ap (λ k. eqb k f) (eqb-true h.expert e t) ∙ other in
+          more ∙ sym (ap (λ b. option_map (λ (h : SetHold). h.question) (cond b (Some h) (find (λ h. eqb h.expert f) hs))) not_f)
+      go false n more = both (eqb h.expert f) more
+        where
+          both : (b : Bool) → held_by f (given_back e hs) ≡ held_by f hs → option_map (λ (h : SetHold). h.question) (cond b (Some h) (find (λ h. eqb h.expert f) (given_back e hs)))
+              ≡ option_map (λ (h : SetHold). h.question) (cond b (Some h) (find (λ h. eqb h.expert f) hs))
+          both true more = refl
+          both false more = more
+
+-- an event of another leaves what f holds
+pub held_by_other : (s : State) (x : SetEvent) (f : ℕ) → eqb (expert_of x) f ≡ false → held_by f (next s x).holds ≡ held_by f s.holds
+held_by_other s x f other =
+    let still = held_still (expert_of x) f other s.holds in
+    by_change s x (λ t. held_by f t.holds ≡ held_by f s.holds) refl still (λ q _. held_past (expert_of x) f other q (given_back (expert_of x) s.holds) ∙ still) (λ _ _ _ _. still) (λ _ _ _ _ _ _ _ _. still)
+
+-- ---- a question that is open is not stale
+
+unrefuted : (rows : List Set) (q : Rule) → list_all (λ r. respects r q) rows ≡ true → list_any (λ r. refutes r q) rows ≡ false
+unrefuted [] q h = refl
+unrefuted (r ∷ rows) q h =
+    let parts = and_parts (respects r q) (list_all (λ r. respects r q) rows) h in
+    or_from (refutes r q) (list_any (λ r. refutes r q) rows) (turn (within q.premise r) (within q.conclusion r) parts.0) (unrefuted rows q parts.1)
+  where
+    turn : (a b : Bool) → (not a || b) ≡ true → (a && not b) ≡ false
+    turn true true h = refl
+    turn true false h = absurd (false≢true h)
+    turn false b h = refl
+
+open_all : (S : List Rule) (K : Context) (acc : List Rule) (p : Rule → Bool) → list_all p (waiting S K acc) ≡ true → list_all p (open_questions S K acc) ≡ true
+unfolding open_questions
+open_all S K acc p h = list_all-filter_kept p (λ i. eqb (size i.premise) (least_size (waiting S K acc))) (waiting S K acc) h
+
+pub open_fresh : (s : State) (q : Rule) → Among (open_in s) q → is_stale s q ≡ false
+unfolding waiting
+open_fresh s q among =
+    let S = s.settings.known in
+    let new : Rule → Bool = λ i. not (has_premise s.accepted i.premise) in
+    let unheard : not (has_premise s.accepted q.premise) ≡ true = among new (open_all S s.context s.accepted new (filter_passes new (basis_known S s.context))) in
+    let true_here : holds s.context q ≡ true = among (holds s.context) (open_all S s.context s.accepted (holds s.context) (list_all-filter_kept (holds s.context) new (basis_known S s.context) (basis_holds S s.context))) in
+    let wide = (draw_gives_held S s.context s.accepted q among).conclusion_wide in
+    or_from (list_any (λ r. refutes r q) s.context.rows) (has_premise s.accepted q.premise) (unrefuted s.context.rows q (sym (holds_by_rows s.context q wide) ∙ true_here)) (not-true (has_premise s.accepted q.premise) unheard)
+
+-- ---- rows that are dropped
+
+dropped-set : (cs : Conflicts) (i k : ℕ) (d : Option ℕ) → i < length cs → get_or cs i d ≡ None → dropped (slice_set cs i (Some k)) ≡ suc (dropped cs)
+dropped-set [] i k d lt e = absurd (omega arith)
+dropped-set (None ∷ cs) zero k d lt e = refl
+dropped-set (Some j ∷ cs) zero k d lt e = absurd (cc)
+dropped-set (None ∷ cs) (suc i) k d lt e = dropped-set cs i k d (omega arith) e
+dropped-set (Some j ∷ cs) (suc i) k d lt e = ap suc (dropped-set cs i k d (omega arith) e)
+
+one_dropped : (D : NamedContext) (cs : Conflicts) (q : Rule) (i k : ℕ) → counterexample D cs q ≡ Some i → dropped (drop_given cs (counterexample D cs q) k) ≡ suc (dropped cs)
+one_dropped D cs q i k e =
+    let c = counterexample_is D cs q i e in
+    let free : get_or cs i None ≡ None = is_None (get_or cs i None) (c.undropped None) in
+    let there : slice_get cs i ≡ Some None = slice_get-get_or cs i None c.in_conflicts ∙ ap (λ x. Some x) free in
+    ap (λ m. dropped (drop_given cs m k)) e ∙ ap (λ m. dropped (drop_at cs i k m)) there ∙ dropped-set cs i k None c.in_conflicts free
+  where
+    is_None : (m : Option ℕ) → is_none m ≡ true → m ≡ None
+    is_None None h = refl
+    is_None (Some x) h = cc
+
+-- ---- the bound
+
+abbrev pub rows_and_rules : State → ℕ
+rows_and_rules s = length s.context.rows + length s.accepted
+
+-- what a question that is due adds to the bound
+abbrev to_come : Bool → ℕ
+to_come true = 0
+to_come false = 2
+
+abbrev Bounded : ℕ → ℕ → State → Conflicts → Option Rule → Type 0
+Bounded c n s cs None = n + 2 * c ≤ 2 * rows_and_rules s + dropped cs
+Bounded c n s cs (Some q) = n + 1 + 2 * c ≤ 2 * rows_and_rules s + dropped cs + to_come (is_stale s q)
+
+abbrev pub Holding : ℕ → State → Option Rule → Type 0
+Holding e s None = Unit {0}
+Holding e s (Some q) = held_by e s.holds ≡ Some q
+
+at_most_two : (b : Bool) → to_come b ≤ 2
+at_most_two true = omega arith
+at_most_two false = omega arith
+
+pub grows : (s : State) (x : SetEvent) → rows_and_rules s ≤ rows_and_rules (next s x)
+grows s x = by_change s x (λ t. rows_and_rules s ≤ rows_and_rules t) (omega arith) (omega arith) (λ _ _. omega arith)
+    (λ q _ _ _. omega (arith, length-append s.accepted (q ∷ []))) (λ name r q _ _ _ _ _. omega (arith, length-append s.context.rows (r ∷ [])))
+
+grows_on : (s : State) (es : List SetEvent) → rows_and_rules s ≤ rows_and_rules (state_after s es)
+unfolding state_after
+grows_on s [] = omega arith
+grows_on s (x ∷ es) =
+    let one = grows s x in
+    let more = grows_on (next s x) es in
+    omega arith
+
+-- an event of another keeps the bound
+others_keep : (c n : ℕ) (s : State) (cs : Conflicts) (due : Option Rule) (x : SetEvent) → Bounded c n s cs due → Bounded c n (next s x) cs due
+others_keep c n s cs None x b =
+    let more = grows s x in
+    omega arith
+others_keep c n s cs (Some q) x b =
+    let two = at_most_two (is_stale s q) in
+    by_change s x (λ t. Bounded c n t cs (Some q)) b b (λ _ _. b)
+    (λ p _ _ _. let longer = length-append s.accepted (p ∷ []) in omega arith)
+    (λ name r p _ _ _ _ _. let longer = length-append s.context.rows (r ∷ []) in omega arith)
+
+module _ (D : NamedContext) (e : ℕ) (i : is_expert e ≡ true) (c : ℕ) where
+  abbrev Step : ℕ → State → Moment → SetReply → Type 0
+  Step n t m reply = ((is_done reply ≡ true) × (n + 1 + 2 * c ≤ 2 * rows_and_rules t + dropped m.conflicts + 1)) ⊎ (Bounded c (n + 1) t m.conflicts m.due × Holding e t m.due)
+
+  abbrev Turned : ℕ → State → Conflicts → Option Rule → SetEvent → Type 0
+  Turned n s cs due x = Step n (next s x) (moment_after D (moment due cs) (reply_to s x)) (reply_to s x)
+
+  own_turn : (n : ℕ) (s : State) (cs : Conflicts) (due : Option Rule) → IsValid s → s.settings.holders ≡ MAX_EXPERTS → Bounded c n s cs due → Holding e s due → Turned n s cs due (event_due D e cs due)
+  own_turn n s cs None v holders b held =
+      draws s D e cs (Step n) v holders i
+      (λ q among. inr (asked q among, held_new e q s.holds))
+      (inl (refl, omega arith))
+    where
+      asked : (q : Rule) → Among (open_in s) q → Bounded c (n + 1) s cs (Some q)
+      asked q among =
+          let fresh : to_come (is_stale s q) ≡ 2 = ap to_come (open_fresh s q among) in
+          omega arith
+  own_turn n s cs (Some q) v holders b held = go (counterexample D cs q) refl
+    where
+      two : to_come (is_stale s q) ≤ 2
+      two = at_most_two (is_stale s q)
+
+      stale : is_stale s q ≡ true → (reply : SetReply) → Step n (release e s) (moment None cs) reply
+      stale old reply = inr (let none : to_come (is_stale s q) ≡ 0 = ap to_come old in omega arith, tt)
+
+      go : (m : Option ℕ) → counterexample D cs q ≡ m → Turned n s cs (Some q) (event_of e (answer_with D m))
+      go None none =
+          confirms s D e cs (Step n) q held
+          (λ _ _ k. inr (let more = two in let longer = length-append s.accepted (q ∷ []) in omega arith, tt))
+          stale
+      go (Some j) found =
+          let r = get_or D.context.rows j [] in
+          let parts = and_parts (within q.premise r) (not (within q.conclusion r)) ((counterexample_is D cs q j found).refutes []) in
+          gives s D e cs (Step n) q held (get_or D.objects j []) r parts.0 (not-true (within q.conclusion r) parts.1)
+          (λ _ _ k. inr (let more = two in let longer = length-append s.context.rows (r ∷ []) in omega arith, tt))
+          stale
+          (λ _ k other. inr (let one = one_dropped D cs q j k found in omega arith, held))
+
+  stops : (reply : SetReply) (rest : List SetEntry) → is_done reply ≡ true → StopsAtDone reply rest → rest ≡ []
+  stops Done rest d h = h
+  stops _ rest d h = cc
+
+  -- an event with its reply, and the expert's entries behind it
+  abbrev entry : State → SetEvent → SetEntry
+  entry s x = record { event = x; reply = reply_to s x }
+
+  abbrev rest : State → SetEvent → List SetEvent → List SetEntry
+  rest s x es = own (journal_of (next s x) es) e
+
+  abbrev Bound : List SetEntry → ℕ → Option Rule → Conflicts → State → Type 0
+  Bound entries n due cs t = length entries + n + 2 * c ≤ 2 * rows_and_rules t + dropped (moment_at D (moment due cs) entries).conflicts + 1
+
+  -- what is known of the rest of a run
+  abbrev On : State → SetEvent → List SetEvent → Type 0
+  On s x es = (n : ℕ) (cs : Conflicts) (due : Option Rule) → Bounded c n (next s x) cs due → Holding e (next s x) due → OracleRunsFrom D e (moment due cs) (rest s x es)
+      → Bound (rest s x es) n due cs (state_after (next s x) es)
+
+  run_bound : (es : List SetEvent) (n : ℕ) (s : State) (cs : Conflicts) (due : Option Rule) → IsValid s → s.settings.holders ≡ MAX_EXPERTS → list_all (λ event. is_expert (expert_of event)) es ≡ true
+      → Bounded c n s cs due → Holding e s due → OracleRunsFrom D e (moment due cs) (own (journal_of s es) e)
+      → Bound (own (journal_of s es) e) n due cs (state_after s es)
+  unfolding state_after journal_of
+  run_bound [] n s cs None v holders is b held runs = omega arith
+  run_bound [] n s cs (Some q) v holders is b held runs =
+      let two = at_most_two (is_stale s q) in
+      omega arith
+  run_bound (x ∷ es) n s cs due v holders is b held runs =
+      let parts = and_parts (is_expert (expert_of x)) (list_all (λ event. is_expert (expert_of event)) es) is in
+      let still = ap (λ (t : Settings). t.holders) (next_settings s x) ∙ holders in
+      go (λ n cs due. run_bound es n (next s x) cs due (next_valid s v x parts.0) still parts.1) (eqb (expert_of x) e) refl runs
+    where
+      held_on : (due : Option Rule) → eqb (expert_of x) e ≡ false → Holding e s due → Holding e (next s x) due
+      held_on None f h = tt
+      held_on (Some q) f h = held_by_other s x e f ∙ h
+
+      turn : On s x es → x ≡ event_due D e cs due → StopsAtDone (reply_to s x) (rest s x es) → OracleRunsFrom D e (moment_after D (moment due cs) (reply_to s x)) (rest s x es) → Bound (entry s x ∷ rest s x es) n due cs (state_after (next s x) es)
+      turn ih is_due last more = elim (subst (Turned n s cs due) (sym is_due) (own_turn n s cs due v holders b held)) [
+        | inl done ↦
+            let none : (rest s x es) ≡ [] = stops (reply_to s x) (rest s x es) done.0 last in
+            let grown = grows_on (next s x) es in
+            let bound = done.1 in
+            subst (λ xs. Bound (entry s x ∷ xs) n due cs (state_after (next s x) es)) (sym none) (omega arith)
+        | inr on ↦
+            let m = moment_after D (moment due cs) (reply_to s x) in
+            let bound = ih (n + 1) m.conflicts m.due on.0 on.1 more in
+            omega arith
+      ]
+
+      go : On s x es → (b' : Bool) → eqb (expert_of x) e ≡ b' → OracleRunsFrom D e (moment due cs) (cond b' (entry s x ∷ rest s x es) (rest s x es)) → Bound (cond b' (entry s x ∷ rest s x es) (rest s x es)) n due cs (state_after (next s x) es)
+      go ih true t h = turn ih h.0 h.1 h.2
+      go ih false f h = ih n cs due (others_keep c n s cs due x b) (held_on due f held) h
+
+-- ---- from the opening
+
+none_dropped : (rows : List Set) → dropped (map (λ _. None) rows) ≡ 0
+none_dropped [] = refl
+none_dropped (row ∷ rows) = none_dropped rows
+
+-- as many places as rows
+length-told : (cs : Conflicts) (given : Option ℕ) (reply : SetReply) → length (conflicts_told cs given reply) ≡ length cs
+length-told cs None (Breaks k i) = refl
+length-told cs (Some j) (Breaks k i) = at (slice_get cs j)
+  where
+    at : (m : Option (Option ℕ)) → length (drop_at cs j k m) ≡ length cs
+    at None = refl
+    at (Some None) = length-set cs j (Some k)
+    at (Some (Some other)) = refl
+length-told cs given _ = refl
+
+length-conflicts : (D : NamedContext) (m : Moment) (entries : List SetEntry) → length (moment_at D m entries).conflicts ≡ length m.conflicts
+length-conflicts D m [] = refl
+length-conflicts D m (entry ∷ entries) = length-conflicts D (moment_after D m entry.reply) entries ∙ length-told m.conflicts (row_due D m) entry.reply
+
+dropped_within : (cs : Conflicts) → dropped cs ≤ length cs
+dropped_within [] = omega arith
+dropped_within (None ∷ cs) =
+    let more = dropped_within cs in
+    omega arith
+dropped_within (Some k ∷ cs) =
+    let more = dropped_within cs in
+    omega arith
+
+pub few_dropped : (D : NamedContext) (entries : List SetEntry) → dropped (conflicts_of D entries) ≤ length D.context.rows
+few_dropped D entries =
+    let all : length (conflicts_of D entries) ≡ length D.context.rows = length-conflicts D (moment None (no_conflict D)) entries ∙ length-map D.context.rows (λ (row : Set). None) in
+    let within = dropped_within (conflicts_of D entries) in
+    omega arith
+
+module _ (K : Context) (names : List RowName) (H : List SetEntry) (legal : IsLegal (opening K names plain) H) where
+  abbrev first : State
+  first = opening K names plain
+
+  valid : IsValid first
+  valid = opening_valid K names plain (list_all_from (respects_all []) (λ row. refl) K.rows)
+
+  pub oracle_turns : (rows : List Set) → (state_after first (events_of H)).context.rows ≡ K.rows ++ rows → (D : NamedContext) (e : ℕ) → is_expert e ≡ true → IsOracleFront D e (own H e)
+      → length (own H e) ≤ 2 * (length rows + length (state_after first (events_of H)).accepted) + dropped (conflicts_of D (own H e)) + 1
+  oracle_turns rows recorded D e i front =
+      let events = legal_events first H legal in
+      let none : dropped (no_conflict D) ≡ 0 = none_dropped D.context.rows in
+      let longer : length (state_after first (events_of H)).context.rows ≡ length K.rows + length rows = ap length recorded ∙ length-append K.rows rows in
+      let bound = subst (λ J. OracleRunsFrom D e (moment None (no_conflict D)) (own J e) → Bound D e i (rows_and_rules first) (own J e) 0 None (no_conflict D) (state_after first (events_of H))) legal.replayed
+          (run_bound D e i (rows_and_rules first) (events_of H) 0 first (no_conflict D) None valid refl events.0 (omega arith) tt) front in
+      omega arith
+
+  pub oracle_few : (rows : List Set) → (state_after first (events_of H)).context.rows ≡ K.rows ++ rows → (D : NamedContext) (e : ℕ) → is_expert e ≡ true → IsOracleFront D e (own H e)
+      → K.width ≤ 46 → length D.context.rows ≤ MAX_OBJECTS → length (own H e) < 2 ^ 48
+  oracle_few rows recorded D e i front narrow small =
+      let events = legal_events first H legal in
+      let turns = oracle_turns rows recorded D e i front in
+      let drops = few_dropped D (own H e) in
+      let count = exploration_count first valid (events_of H) events.0 rows recorded in
+      let most : 2 ^ K.width ≤ 2 ^ 46 = pow_mono narrow in
+      omega arith
