@@ -309,7 +309,7 @@ module _ (K : Context) (names : List RowName) (H : List SetEntry) (legal : IsLeg
       let none : dropped (no_conflict D) ≡ 0 = none_dropped D.context.rows in
       let longer : length (state_after first (events_of H)).context.rows ≡ length K.rows + length rows = ap length recorded ∙ length-append K.rows rows in
       let bound = subst (λ J. OracleRunsFrom D e (moment None (no_conflict D)) (own J e) → Bound D e i (rows_and_rules first) (own J e) 0 None (no_conflict D) (state_after first (events_of H))) legal.replayed
-          (run_bound D e i (rows_and_rules first) (events_of H) 0 first (no_conflict D) None valid refl events.0 (omega arith) tt) front in
+      (run_bound D e i (rows_and_rules first) (events_of H) 0 first (no_conflict D) None valid refl events.0 (omega arith) tt) front in
       omega arith
 
   pub oracle_few : (rows : List Set) → (state_after first (events_of H)).context.rows ≡ K.rows ++ rows → (D : NamedContext) (e : ℕ) → is_expert e ≡ true → IsOracleFront D e (own H e)

@@ -131,7 +131,7 @@ module _ (D : Context) (tables : ℕ → NamedContext) (same_context : (e : ℕ)
   moved s at x e = cond (eqb (expert_of x) e) (moment_after (tables e) (at e) (reply_to s x)) (at e)
 
   module _ (s : State) (at : ℕ → Moment) (x : SetEvent) (es : List SetEvent) (v : IsValid s) (plainly : s.settings ≡ plain) (wide : D.width ≡ s.context.width) (inside : IsWithin D s) (i : is_expert (expert_of x) ≡ true)
-    (stand : AllStand s at (x ∷ es)) where
+      (stand : AllStand s at (x ∷ es)) where
     abbrev entry : SetEntry
     entry = record { event = x; reply = reply_to s x }
 
@@ -150,7 +150,7 @@ module _ (D : Context) (tables : ℕ → NamedContext) (same_context : (e : ℕ)
         let is_due : x ≡ event_due T e (no_conflict T) due = (runs_here e true t).0 ∙ ap (λ (cs : Conflicts). event_due T e cs due) (stand.free e) in
         let expert : is_expert e ≡ true = subst (λ (k : ℕ). is_expert k ≡ true) (eqb-true (expert_of x) e t) i in
         let turned : Turned T e expert s (no_conflict T) due x = subst (Turned T e expert s (no_conflict T) due) (sym is_due)
-            (within_turn T e expert s due v plainly (ap (λ (C : Context). C.width) (same_context e) ∙ wide) (subst (λ (C : Context). IsWithin C s) (sym (same_context e)) inside) (stand.held e)) in
+        (within_turn T e expert s due v plainly (ap (λ (C : Context). C.width) (same_context e) ∙ wide) (subst (λ (C : Context). IsWithin C s) (sym (same_context e)) inside) (stand.held e)) in
         let back = ap (λ (cs : Conflicts). (moment_after T (moment due cs) (reply_to s x)).conflicts) (stand.free e) in
         (subst (λ (C : Context). IsWithin C (next s x)) (same_context e) turned.0, back ∙ turned.1, turned.2)
 
@@ -188,11 +188,11 @@ module _ (D : Context) (tables : ℕ → NamedContext) (same_context : (e : ℕ)
   course (x ∷ es) s at v plainly wide is inside stand =
       let parts = and_parts (is_expert (expert_of x)) (list_all (λ event. is_expert (expert_of event)) es) is in
       let more = course es (next s x) (moved s at x) (next_valid s v x parts.0) (next_settings s x ∙ plainly) (wide ∙ sym (next_width s x)) parts.1
-          (stays_within s at x es v plainly wide inside parts.0 stand) (stand_on s at x es v plainly wide inside parts.0 stand) in
+      (stays_within s at x es v plainly wide inside parts.0 stand) (stand_on s at x es v plainly wide inside parts.0 stand) in
       (more.0, λ e. sym (ends_alike s at x es v plainly wide inside parts.0 stand e (eqb (expert_of x) e)) ∙ more.1 e)
 
   module _ (K : Context) (names : List RowName) (H : List SetEntry) (legal : IsLegal (opening K names plain) H) (wide : D.width ≡ K.width) (part : list_all (λ row. list_any (same row) D.rows) K.rows ≡ true)
-    (runs : (e : ℕ) → IsOracleFront (tables e) e (own H e)) where
+      (runs : (e : ℕ) → IsOracleFront (tables e) e (own H e)) where
     abbrev first : State
     first = opening K names plain
 
@@ -206,7 +206,7 @@ module _ (D : Context) (tables : ℕ → NamedContext) (same_context : (e : ℕ)
     whole =
         let events = legal_events first H legal in
         let all = course (events_of H) first (λ e. moment None (no_conflict (tables e))) valid refl wide events.0 (record { rows = part; rules = refl })
-            (record { free = λ e. refl; held = λ e. tt; runs = λ e. subst (λ J. OracleRunsFrom (tables e) e (moment None (no_conflict (tables e))) (own J e)) (sym legal.replayed) (runs e) }) in
+        (record { free = λ e. refl; held = λ e. tt; runs = λ e. subst (λ J. OracleRunsFrom (tables e) e (moment None (no_conflict (tables e))) (own J e)) (sym legal.replayed) (runs e) }) in
         (all.0, λ e. subst (λ J. (moment_at (tables e) (moment None (no_conflict (tables e))) (own J e)).conflicts ≡ no_conflict (tables e)) legal.replayed (all.1 e))
 
     -- nothing is dropped
@@ -221,5 +221,5 @@ module _ (D : Context) (tables : ℕ → NamedContext) (same_context : (e : ℕ)
         let v = run_valid first (events_of H) events.0 valid in
         let known : final.settings.known ≡ [] = ap (λ (t : Settings). t.known) plainly in
         let members : list_all (holds D) (basis_known final.settings.known final.context) ≡ true =
-            sym (accepted_members final.settings.known final.context final.accepted v.accepted done (holds D)) ∙ whole.0.rules in
+        sym (accepted_members final.settings.known final.context final.accepted v.accepted done (holds D)) ∙ whole.0.rules in
         agreeing_basis [] final.context D (wide ∙ sym (run_width first (events_of H))) whole.0.rows refl (subst (λ (S : List Rule). list_all (holds D) (basis_known S final.context) ≡ true) known members)
