@@ -16,10 +16,10 @@ use crate::replay::replay;
 use crate::tables::{basis_of_file, concepts, convert, lattice};
 use command_io::{Answer, Stop, conclude, report};
 use explore_command::explore;
-use serve_command::serve;
 use fca_command::{Command, command_of};
 use fca_io::{Listener, Shelf, Sink, Source};
 use fca_model::{Memory, Word};
+use serve_command::serve;
 use std::alloc::Global;
 use std::sync::Wait;
 use std::thread::Threads;
@@ -57,10 +57,10 @@ pub fn run<R: Threads + Wait + Sync, H: Shelf, S: Source, K: Sink, E: Sink, L: L
         HasBegunExploring command (H.tells shelf.old) (AppendsFront (K.held out.old) (K.held out.new))) }
     ensures serve_output { IsWhole result → IfSome (command_form words.now) (λ command.
         HasServedExperts L.End.Source.left L.End.Sink.held L.End.Source.faults L.End.Sink.faults command (H.tells shelf.old)
-            (Appends (K.held out.old) (K.held out.new)) (L.ends link.old) (L.ends link.new) result) }
+        (Appends (K.held out.old) (K.held out.new)) (L.ends link.old) (L.ends link.new) result) }
     ensures partial_serve_output { result ≡ 4 → IfSome (command_form words.now) (λ command.
         HasBegunServing L.End.Source.left L.End.Sink.held L.End.Source.faults L.End.Sink.faults command (H.tells shelf.old)
-            (AppendsFront (K.held out.old) (K.held out.new)) (L.ends link.old) (L.ends link.new)) }
+        (AppendsFront (K.held out.old) (K.held out.new)) (L.ends link.old) (L.ends link.new)) }
     ensures no_output { IsSilent result → out.new ≡ out.old }
 
     // The questions written as open are the smallest pseudo-intents that are not accepted; where none is, the accepted
@@ -139,9 +139,7 @@ fn run_command<R: Threads + Wait + Sync, H: Shelf, S: Source, K: Sink, E: Sink, 
             file,
             experts,
             listen,
-        } => serve(
-            rt, alloc, shelf, file, *experts, listen, out, err, link,
-        ),
+        } => serve(rt, alloc, shelf, file, *experts, listen, out, err, link),
         Command::Concepts { .. }
         | Command::Lattice { .. }
         | Command::Basis { .. }
