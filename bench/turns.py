@@ -2,7 +2,9 @@
 """Turns a second of a turn lock: turns.py [TURNS], shared by 1, 2 and 4 passes, and an eighth of
 them by 64, each pass on a thread of its own.
 
-A scratch repository takes the crates from here and a program that only measures: it is run, and not proved.
+A scratch repository takes the crates from here and a program that only measures; it is proved and built as the
+program of this repository is, which takes some minutes. The toolchain stops a program after 120 seconds: on a busy
+machine take fewer turns.
 """
 import os
 import shutil
@@ -12,11 +14,12 @@ import tempfile
 
 TOP = os.path.dirname(os.path.dirname(os.path.abspath(__file__)))
 
-PROGRAM = """//! Passes sign a roll, each on a thread of its own, and the turns are timed.
+START = """//! Passes sign a roll, each on a thread of its own, and the turns are timed.
 #![tactic(auto)]
 
-ghost use Rattle.std.specs.Prelude.{◌≡◌, List, [], length};
+ghost use Rattle.std.specs.Prelude.{◌≡◌, ◌≤◌, ◌^◌, All, map};
 ghost use Rattle.std.specs.Thread.{IsSync};
+ghost use Rattle.turn_lock.specs.Passes.{badge, Belongs};
 
 use fca_model::Memory;
 use std::alloc::Global;
@@ -26,6 +29,7 @@ use std::thread::{Threads, join_mut};
 use std::time::Instant;
 use turn_lock::{Logged, Pass, TurnLock};
 
+/// Who signed, each with the number of signatures before.
 #[derive(Drop)]
 struct Roll {
     signed: Vec<(u8, usize)>,
@@ -80,86 +84,123 @@ impl Logged for Roll {
     }
 }
 
-fn sign<R: Wait>(rt: &R, lock: &TurnLock<Roll>, pass: &mut Pass<Roll>, turns: u64) {
+/// Signs again and again.
+fn sign<R: Wait>(rt: &R, lock: &TurnLock<Roll>, pass: &mut Pass<Roll>, turns: u64)
+    requires { Belongs lock.now pass.old }
+    ensures { badge pass.new ≡ badge pass.old }
+{
     let by = pass.number();
     for _ in 0..turns {
         let _reply = lock.with_turn(rt, pass, by);
     }
 }
 
-fn sign_all<R: Threads + Wait + Sync>(
+fn sign_1<R: Threads + Wait + Sync>(
     rt: &R,
     lock: &TurnLock<Roll>,
     passes: &mut [Pass<Roll>],
     turns: u64,
-) {
-    if passes.len() == 0 {
-        return;
-    }
+)
+    requires { All (Belongs lock.now) passes.old }
+    ensures { map badge passes.new ≡ map badge passes.old }
+{
     if passes.len() == 1 {
         sign(rt, lock, &mut passes[0], turns);
-        return;
     }
+}
+
+"""
+
+FORK = """fn sign_ALL<R: Threads + Wait + Sync>(
+    rt: &R,
+    lock: &TurnLock<Roll>,
+    passes: &mut [Pass<Roll>],
+    turns: u64,
+)
+    requires { All (Belongs lock.now) passes.old }
+    ensures { map badge passes.new ≡ map badge passes.old }
+{
     let (front, back) = passes.split_at_mut(passes.len() / 2);
     join_mut(
         rt,
-        &mut || sign_all(rt, lock, front, turns),
-        &mut || sign_all(rt, lock, back, turns),
+        &mut ||
+            requires { IsSync R.row × All (Belongs lock.now) front.now }
+            ensures { map badge front.exit.now ≡ map badge front.entry.now }
+        { sign_HALF(rt, lock, front, turns) },
+        &mut ||
+            requires { IsSync R.row × All (Belongs lock.now) back.now }
+            ensures { map badge back.exit.now ≡ map badge back.entry.now }
+        { sign_HALF(rt, lock, back, turns) },
     );
 }
 
-fn signed<R: Threads + Wait + Sync>(
-    rt: &R,
-    alloc: Global,
-    passes: u8,
-    turns: u64,
-) -> Result<usize, Memory> {
+"""
+
+SIGNED = """fn signed_ALL<R: Threads + Wait + Sync>(rt: &R, alloc: Global, turns: u64) -> Result<Roll, Memory> {
     let roll = Roll {
         signed: Vec::new(alloc),
     };
-    let (lock, mut all) = TurnLock::new(alloc, roll, passes, turns)?;
-    sign_all(rt, &lock, all.as_mut_slice(), turns);
-    Ok(lock.close(all).signed.len())
+    let (lock, mut passes) = TurnLock::new(alloc, roll, ALL, 1_000_000_000_000)?;
+    sign_ALL(rt, &lock, passes.as_mut_slice(), turns / ALL);
+    Ok(lock.close(passes))
 }
 
-fn main(rt: HostRuntime) -> io::Result<()> {
-    for (passes, turns) in [(1u8, TURNSu64), (2, TURNS), (4, TURNS), (64, TURNS / 8)] {
-        let begin = Instant::now(&rt)?;
-        let made = signed(&rt, rt.alloc(), passes, turns / u64::from(passes));
-        let millis = begin.elapsed(&rt)?.as_millis();
-        let Ok(made) = made else {
-            println!(rt; "no memory")?;
-            return Ok(());
-        };
-        println!(rt; "{passes} {made} {millis}")?;
-    }
-    Ok(())
-}
 """
+
+TIMED = """    let begin = Instant::now(&rt)?;
+    if let Ok(roll) = signed_ALL(&rt, rt.alloc(), TURNS) {
+        println!(rt; "ALL {} {}", roll.signed.len(), begin.elapsed(&rt)?.as_micros())?;
+    }
+"""
+
+MEASURE = """use Rattle.std.proofs.Common.{◌≡◌}
+use Rattle.turn_lock.specs.Passes.{badge}
+use Rattle.turns.proofs.sign.Given as goal
+
+abbrev pub invariant-loop : goal.invariant-loop
+invariant-loop g l = badge l.pass ≡ badge l.initial.pass
+"""
+
+
+def program(turns):
+    """The program that times so many turns of 1, 2 and 4 passes, and an eighth of them of 64."""
+    text = START
+    for count in (2, 4, 8, 16, 32, 64):
+        text += FORK.replace("ALL", str(count)).replace("HALF", str(count // 2))
+    timed = ((1, turns), (2, turns), (4, turns), (64, turns // 8))
+    text += "".join(SIGNED.replace("ALL", str(count)) for count, _ in timed)
+    text += "fn main(rt: HostRuntime) -> io::Result<()> {\n"
+    text += "".join(TIMED.replace("ALL", str(count)).replace("TURNS", str(most)) for count, most in timed)
+    return text + "    Ok(())\n}\n"
+
+
+def write(path, text):
+    os.makedirs(os.path.dirname(path), exist_ok=True)
+    with open(path, "w") as out:
+        out.write(text)
 
 
 def main():
     turns = int(sys.argv[1]) if len(sys.argv) > 1 else 100000
     top = tempfile.mkdtemp(prefix="turns-")
     try:
-        for name in ["fca_model", "turn_lock"]:
+        for name in ("fca_model", "turn_lock"):
             shutil.copytree(os.path.join(TOP, "crates", name), os.path.join(top, "crates", name))
-        source = os.path.join(top, "crates", "turns", "src")
-        os.makedirs(source)
-        with open(os.path.join(source, "main.rt"), "w") as out:
-            out.write(PROGRAM.replace("TURNS", str(turns)))
+        folder = os.path.join(top, "crates", "turns")
+        write(os.path.join(folder, "src", "main.rt"), program(turns))
+        write(os.path.join(folder, "proofs", "sign", "Invariants.antt"), MEASURE)
         shutil.copy(os.path.join(TOP, "HANDLES"), top)
         with open(os.path.join(TOP, "crates.txt")) as kept, open(os.path.join(top, "crates.txt"), "w") as out:
-            out.writelines(line for line in kept if line.split()[:1] and line.split(":")[0].split()[0] in ("fca_model", "turn_lock"))
+            out.writelines(line for line in kept if line.split(":")[0].split()[:1] in (["fca_model"], ["turn_lock"]))
             out.write("turns: fca_model turn_lock\n")
-        ran = subprocess.run(["rt", "try"], cwd=os.path.join(top, "crates", "turns"), stdout=subprocess.PIPE, stderr=subprocess.STDOUT, text=True)
-        print("%8s %10s %12s %14s" % ("threads", "turns", "milliseconds", "turns / second"))
+        ran = subprocess.run(["rt", "run"], cwd=folder, stdout=subprocess.PIPE, stderr=subprocess.STDOUT, text=True)
+        print("%8s %10s %14s %14s" % ("threads", "turns", "turns / second", "nanoseconds each"))
         found = False
         for line in ran.stdout.splitlines():
             words = line.split()
             if len(words) == 3 and all(word.isdigit() for word in words):
-                passes, made, millis = map(int, words)
-                print("%8d %10d %12d %14d" % (passes, made, millis, made * 1000 // max(millis, 1)))
+                passes, made, micros = map(int, words)
+                print("%8d %10d %14d %14d" % (passes, made, made * 1000000 // max(micros, 1), micros * 1000 // max(made, 1)))
                 found = True
         if not found:
             sys.exit(ran.stdout)

@@ -33,7 +33,7 @@ count_below-agree : (f g : ℕ → Bool) (d : ℕ) → ((j : ℕ) → j < d → 
 count_below-agree f g zero h = refl
 count_below-agree f g (suc d) h = ap₂ (λ x b. x + cond b 1 0) (count_below-agree f g d (λ j l. h j (omega arith))) (h d (omega arith))
 
-ones_of_zero : count_ones 0 ≡ 0
+pub ones_of_zero : count_ones 0 ≡ 0
 unfolding ones ones_in_bits
 ones_of_zero = refl
 

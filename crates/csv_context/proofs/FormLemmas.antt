@@ -1,9 +1,13 @@
 -- One field, and one record, more. What is left of a record after a field is one field shorter, and the form goes on from there with what
 -- the field says.
-use Rattle.std.proofs.Common.{◌≡◌, ◌∙◌, ◌<◌, ◌+◌, ◌-◌, ◌++◌, ◌∷◌, [], ℕ, suc, Bool, true, false, List, Some, Result, Ok, Err, drop, length, replicate, set, slice_get, refl, sym, ap, length-append, append_assoc, arith}
+use Rattle.std.proofs.Common.{◌≡◌, ◌∙◌, ◌<◌, ◌+◌, ◌-◌, ◌++◌, ◌∷◌, [], ℕ, suc, Bool, true, false, List, Some, None, Result, Ok, Err, drop, length, replicate, set, slice_get, bytes_eq, inl, inr, refl, sym, ap, length-append, append_assoc, arith}
 use Rattle.std.specs.Prelude.{◌⊎◌, IsErr, IsErrAnd}
 use Rattle.fca_model.specs.Sets.{Set}
 use Rattle.fca_model.specs.Tables.{Text}
+use Rattle.std.proofs.lemmas.Bool.{cases_Bool}
+use Rattle.std.proofs.lemmas.List.{append-nil}
+use Rattle.std.specs.List.{list_any}
+use Rattle.context_table.specs.Table.{first_repeat, repeat_from}
 use Rattle.cxt_format.proofs.RowLemmas.{set-front}
 use Rattle.cxt_format.proofs.TextLemmas.{drop-item}
 use Rattle.csv_context.specs.Records.{Record}
@@ -31,6 +35,23 @@ module _ (seen : List Text) (fields : Record) (place : ℕ) (field : Text) (at :
 
   pub attributes_form-Err : (e : CsvFault) → attribute_form seen (place + 1) field ≡ Err e → attributes_form seen (place + 1) (drop place fields) ≡ Err e
   attributes_form-Err e is = rw (drop-item fields place field (sym at), is) refl
+
+repeat_from-append : (before names : List Text) (i : ℕ) (name : Text) → repeat_from before i names ≡ None → list_any (bytes_eq name) (before ++ names) ≡ false
+    → repeat_from before i (names ++ name ∷ []) ≡ None
+repeat_from-append before [] i name none new =
+    let unseen : list_any (bytes_eq name) before ≡ false = rw append-nil at new in
+    rw unseen refl
+repeat_from-append before (x ∷ names) i name none new = elim (cases_Bool (list_any (bytes_eq x) before)) [
+  | inl is ↦ let found : Some i ≡ None = rw is at none in cc found
+  | inr isnt ↦
+      let later : repeat_from (before ++ x ∷ []) (i + 1) names ≡ None = rw isnt at none in
+      let unseen : list_any (bytes_eq name) ((before ++ x ∷ []) ++ names) ≡ false = rw (append_assoc before (x ∷ []) names) new in
+      rw isnt (repeat_from-append (before ++ x ∷ []) names (i + 1) name later unseen)
+]
+
+-- a name that was not seen is no repeat
+pub first_repeat-append : (names : List Text) (name : Text) → first_repeat names ≡ None → list_any (bytes_eq name) names ≡ false → first_repeat (names ++ name ∷ []) ≡ None
+first_repeat-append names name none new = repeat_from-append [] names 0 name none new
 
 -- ---- the cells of an object
 

@@ -45,5 +45,5 @@ pub record IsOpen (reader : Reader (Bor (List ℕ))) : Type 0 where
 
 -- a read took the first of the records left, whose fields are text, or found that none is left
 abbrev pub Reads : Reader (Bor (List ℕ)) → Reader (Bor (List ℕ)) → Bool → Record → Type 0
-Reads old new true record' = IsOpen new × AllText record' × (records_left old ≡ record' ∷ records_left new)
-Reads old new false record' = records_left old ≡ []
+Reads old new true fields = IsOpen new × AllText fields × (records_left old ≡ fields ∷ records_left new)
+Reads old new false fields = records_left old ≡ []

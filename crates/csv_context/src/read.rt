@@ -3,6 +3,7 @@
 ghost use Rattle.std.specs.Prelude.{◌≡◌, ◌<◌, ◌≤◌, ◌+◌, [], IfOk, OnOk, drop, length, vec_len};
 ghost use Rattle.csv.specs.Records.{AllText, fields_of};
 ghost use Rattle.csv_context.specs.Records.{IsOpen, csv_records, records_left};
+ghost use Rattle.context_table.specs.Table.{first_repeat};
 ghost use Rattle.csv_context.specs.Form as form;
 ghost use Rattle.csv_context.specs.Form.{Tells, TellsBy};
 
@@ -10,7 +11,7 @@ use crate::CsvFault;
 use crate::fields::{attribute_of, field_at, name_of, row_of};
 use crate::records::{next_record, open};
 use attr_bits::Attrs;
-use context_table::Table;
+use context_table::{Table, TableFault};
 use csv::{ByteRecord, Reader};
 use derivation::Rows;
 use fca_model::{MAX_ATTRIBUTES, MAX_OBJECTS, Memory, Name};
@@ -53,7 +54,8 @@ fn read_text(alloc: Global, text: &str) -> Result<Table, CsvFault>
     let objects = read_objects(alloc, attributes.len() as u32, &mut reader)?;
     match Table::new(alloc, None, objects.names, attributes, objects.rows) {
         Ok(table) => Ok(table),
-        Err(_) => Err(CsvFault::Memory),
+        Err(TableFault::Memory) => Err(CsvFault::Memory),
+        Err(TableFault::TooMany | TableFault::DuplicateAttribute(_)) => unreachable!(),
     }
 }
 
@@ -62,6 +64,7 @@ fn read_header(alloc: Global, fields: &ByteRecord) -> Result<Vec<Name>, CsvFault
     requires { AllText (fields_of fields.now) }
     ensures form { TellsBy (λ names. names.items) result (form.header_form (fields_of fields.now)) }
     ensures few { IfOk result (λ names. vec_len names ≤ MAX_ATTRIBUTES) }
+    ensures differing { IfOk result (λ names. first_repeat names.items ≡ None) }
 {
     if fields.is_empty() {
         return Err(CsvFault::NoHeader);
@@ -79,6 +82,7 @@ fn read_attributes(alloc: Global, fields: &ByteRecord) -> Result<IndexSet<Name>,
     requires some { 0 < length (fields_of fields.now) }
     ensures form { TellsBy (λ names. names.keys) result (form.attributes_form [] 2 (drop 1 (fields_of fields.now))) }
     ensures counted { IfOk result (λ names. length names.keys + 1 ≡ length (fields_of fields.now)) }
+    ensures differing { IfOk result (λ names. first_repeat names.keys ≡ None) }
 {
     let mut names = IndexSet::new(alloc);
     for place in 1..fields.len() {
@@ -99,6 +103,7 @@ fn read_objects(alloc: Global, width: u32, reader: &mut Reader<&[u8]>) -> Result
     requires open { IsOpen reader.old }
     requires narrow { width ≤ MAX_ATTRIBUTES }
     ensures form { TellsBy (λ objects. (objects.names.items, objects.rows.rows)) result (form.objects_form width 2 ([], []) (records_left reader.old)) }
+    ensures few { IfOk result (λ objects. vec_len objects.names ≤ MAX_OBJECTS) }
     ensures counted { IfOk result (λ objects. vec_len objects.names ≡ length objects.rows.rows) }
     ensures width { IfOk result (λ objects. objects.rows.width ≡ width) }
 {

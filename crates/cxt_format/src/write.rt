@@ -14,6 +14,9 @@ use derivation::Rows;
 use fca_model::Memory;
 use std::alloc::Global;
 
+/// The characters of a place without a cross and with one.
+const MARKS: [u8; 2] = [b'.', b'X'];
+
 /// The written form of the table.
 pub fn write_cxt(alloc: Global, table: &Table) -> Result<Vec<u8>, Memory>
     ensures written { IfOk result (λ text. text.items ≡ cxt_text table.now) }
@@ -89,7 +92,7 @@ fn write_row(text: &mut Vec<u8>, row: &Attrs) -> Result<(), Memory>
     ensures { OnOk result (text.new.items ≡ text.old.items ++ row_line row.now ++ 10 ∷ []) }
 {
     for i in 0..row.width() {
-        text.push(if row.has(i) { b'X' } else { b'.' })?;
+        text.push(MARKS[usize::from(row.has(i))])?;
     }
     text.push(b'\n')?;
     Ok(())

@@ -8,6 +8,8 @@ mod parts;
 mod replies;
 mod requests;
 mod scripts;
+#[cfg(test)]
+mod tests;
 mod transcript;
 mod words;
 

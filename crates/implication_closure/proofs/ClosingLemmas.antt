@@ -1,18 +1,20 @@
 -- What is joined to a set because a member is broken lies within each superset that respects all members. So where none is
 -- broken any more the set is the least such superset; and each step makes it larger.
-use Rattle.std.proofs.Common.{◌≡◌, ℕ, suc, ◌+◌, ◌-◌, ◌<◌, ◌≤◌, Bool, true, false, not, ◌&&◌, ◌||◌, cond, Some, None, List, [], ◌∷◌, ◌++◌, length, get_or, take, position, refl, sym, ap, ◌∙◌, subst, arith, inl, inr, eqb, eqb-true, lt-ltb}
-use Rattle.std.proofs.lemmas.Bool.{false≢true, and_parts, and_from, cases_lt}
+use Rattle.std.proofs.Common.{◌≡◌, ℕ, suc, ◌+◌, ◌-◌, ◌<◌, ◌≤◌, Bool, true, false, not, ◌&&◌, ◌||◌, cond, Some, None, List, [], ◌∷◌, ◌++◌, length, get_or, take, position, refl, sym, ap, ◌∙◌, subst, arith, inl, inr, eqb, eqb-true, lt-ltb, ◌≢◌, zero, set, replicate, get_or-set_same, get_or-set_other, length-set}
+use Rattle.std.proofs.lemmas.Bool.{false≢true, and_parts, and_from, cases_lt, cases_eq}
 use Rattle.std.proofs.lemmas.List.Quantifiers.{position-Some}
 use Rattle.std.proofs.lemmas.List.Sums.{AllPass-from_list_all}
 use Rattle.std.proofs.lemmas.List.Folds.{list_all-append}
 use Rattle.std.proofs.lemmas.List.{take_more}
+use Rattle.std.proofs.lemmas.Simd.{get_or-replicate}
 use Rattle.std.specs.List.{list_all, prefix_len}
 use Rattle.fca_model.specs.Sets.{Set, size, within, same, join}
 use Rattle.fca_model.specs.Implications.{Rule, rule, respects, respects_all, follows}
 use Rattle.fca_model.proofs.SetLemmas.{within_refl, within_trans, strictly_from, size_strict, length-join, within-join, within-join_right, join_within, size_le, same-true, same_from, all_sets_at, all_sets_from}
 use Rattle.fca_model.proofs.ClosureLemmas.{respects_at, respects_from}
 use Rattle.fca_model.proofs.ListLemmas.{list_all-mono, bool_iff, implies_at, implies_from}
-use Rattle.implication_closure.specs.Closing.{has_width, HaveWidth, IsClosure, IsPass}
+use Rattle.implication_closure.specs.Closing.{has_width, HaveWidth, IsClosure, IsPass, Fired}
+use Rattle.attr_bits.specs.Difference.{minus}
 
 -- the set does not respect the member
 abbrev pub broken : Set → Rule → Bool
@@ -112,8 +114,92 @@ module _ (J : List Rule) (A C : Set) (i : ℕ) (j : Rule) (lt : i < length J) (i
       (λ _. within-join_right C j.conclusion (p.wide ∙ sym (eqb-true (length j.conclusion) (length A) widths.1)))
       (λ T h r. join_within C j.conclusion T h (respects_at T j r (within_trans j.premise C T t h)))))
 
+  pub absorbs : HaveWidth (length A) J → within j.conclusion (join C j.conclusion) ≡ true
+  absorbs wide =
+      let widths = and_parts (eqb (length j.premise) (length A)) (eqb (length j.conclusion) (length A)) (ap (has_width (length A)) is ∙ AllPass-from_list_all (has_width (length A)) J wide i j lt) in
+      within-join_right C j.conclusion (p.wide ∙ sym (eqb-true (length j.conclusion) (length A) widths.1))
+
   pub pass_skips : within j.premise C ≡ false → IsPass (take (i + 1) J) A C
   pass_skips f = subst (λ Zs. IsPass Zs A C) (sym next) (pass_step (take i J) A C C j p refl (within_refl C) (λ t. absurd (false≢true (sym f ∙ t))) (λ T h _. h))
+
+-- ---- the counters of a pass
+
+not_true : (b : Bool) → (b ≡ true → ⊥) → b ≡ false
+not_true true h = absurd (h refl)
+not_true false h = refl
+
+get_or_any : {X : Type 0} (xs : List X) (k : ℕ) (d e : X) → k < length xs → get_or xs k d ≡ get_or xs k e
+get_or_any [] k d e h = absurd (omega arith)
+get_or_any (x ∷ xs) zero d e h = refl
+get_or_any (x ∷ xs) (suc k) d e h = get_or_any xs k d e (omega arith)
+
+-- nothing is left of a set without the members of another exactly where it lies within it
+pub size-minus_none : (A B : Set) → size (minus A B) ≡ 0 → within A B ≡ true
+size-minus_none [] B h = refl
+size-minus_none (true ∷ A) [] h = absurd (omega arith)
+size-minus_none (false ∷ A) [] h = size-minus_none A [] (omega (arith, h))
+size-minus_none (true ∷ A) (true ∷ B) h = size-minus_none A B (omega (arith, h))
+size-minus_none (true ∷ A) (false ∷ B) h = absurd (omega arith)
+size-minus_none (false ∷ A) (b ∷ B) h = size-minus_none A B (omega (arith, h))
+
+pub size-minus_some : (A B : Set) → within A B ≡ true → size (minus A B) ≡ 0
+size-minus_some [] B h = refl
+size-minus_some (true ∷ A) [] h = absurd (false≢true h)
+size-minus_some (false ∷ A) [] h = omega (arith, size-minus_some A [] h)
+size-minus_some (true ∷ A) (true ∷ B) h = omega (arith, size-minus_some A B h)
+size-minus_some (true ∷ A) (false ∷ B) h = absurd (false≢true h)
+size-minus_some (false ∷ A) (b ∷ B) h = omega (arith, size-minus_some A B h)
+
+-- at the start none is reached
+pub none_fired : (J : List Rule) (n : ℕ) (C : Set) → length J ≤ n → Fired (replicate n 1) J C
+none_fired J n C room k i l is z = absurd (omega (arith, get_or-replicate {A = ℕ} n k 1 0 (omega (arith, room)), z))
+
+-- the first k members have been passed
+pub record IsSwept (left : List ℕ) (J : List Rule) (A : Set) (k : ℕ) (C : Set) : Type 0 where
+  pub pass : IsPass (take k J) A C
+  pub fired : Fired left J C
+  pub room : length J ≤ length left
+
+fired_grows : (left : List ℕ) (J : List Rule) (C D : Set) → within C D ≡ true → Fired left J C → Fired left J D
+fired_grows left J C D up f k i l is z = within_trans i.conclusion C D (f k i l is z) up
+
+fired_set : (left : List ℕ) (J : List Rule) (C : Set) (k v : ℕ) (j : Rule) → k < length left → j ≡ get_or J k j → (v ≡ 0 → within j.conclusion C ≡ true) → Fired left J C → Fired (set left k v) J C
+fired_set left J C k v j inside is here f m i l is_i z = elim (cases_eq m k) [
+  | inl e ↦
+      let mine : i ≡ j = is_i ∙ ap (λ n. get_or J n i) e ∙ get_or_any J k i j (subst (λ n. n < length J) e l) ∙ sym is in
+      ap (λ r. within r.conclusion C) mine ∙ here (sym (get_or-set_same left k v 0 inside) ∙ ap (λ n. get_or (set left k v) n 0) (sym e) ∙ z)
+  | inr other ↦ f m i l is_i (sym (get_or-set_other left k m v 0 other) ∙ z)
+]
+
+module _ (left : List ℕ) (J : List Rule) (A C : Set) (k : ℕ) (j : Rule) (lt : k < length J) (is : j ≡ get_or J k j) (w : IsSwept left J A k C) where
+  -- it was reached before
+  pub sweep_skips : get_or left k 0 ≡ 0 → IsSwept left J A (k + 1) C
+  sweep_skips z = record {
+    pass = subst (λ Zs. IsPass Zs A C) (sym (next J A C k j lt is w.pass)) (pass_step (take k J) A C C j w.pass refl (within_refl C) (λ _. w.fired k j lt is z) (λ T h _. h));
+    fired = w.fired;
+    room = w.room;
+  }
+
+  -- some of its premise is left
+  pub sweep_counts : (v : ℕ) → v ≡ size (minus j.premise C) → v ≢ 0 → IsSwept (set left k v) J A (k + 1) C
+  sweep_counts v e some = record {
+    pass = pass_skips J A C k j lt is w.pass (not_true (within j.premise C) (λ t. some (e ∙ size-minus_some j.premise C t)));
+    fired = fired_set left J C k v j (omega (arith, w.room)) is (λ z. absurd (some z)) w.fired;
+    room = omega (arith, w.room, length-set left k v);
+  }
+
+  -- none is left
+  pub sweep_joins : (v : ℕ) (D : Set) → HaveWidth (length A) J → v ≡ size (minus j.premise C) → v ≡ 0 → D ≡ join C j.conclusion → IsSwept (set left k v) J A (k + 1) D
+  sweep_joins v D wide e none d =
+      let inside : within j.premise C ≡ true = size-minus_none j.premise C (sym e ∙ none) in
+      let joined = pass_joins J A C k j lt is w.pass D wide inside d in
+      let up : within C D ≡ true = ap (within C) d ∙ within-join C j.conclusion in
+      let has = absorbs J A C k j lt is w.pass wide in
+      record {
+        pass = joined;
+        fired = fired_set left J D k v j (omega (arith, w.room)) is (λ _. ap (within j.conclusion) d ∙ has) (fired_grows left J C D up w.fired);
+        room = omega (arith, w.room, length-set left k v);
+      }
 
 -- ---- passes, until one adds nothing
 

@@ -1,5 +1,5 @@
 -- Lists of implications, and the closure of a set under one.
-use Rattle.std.specs.Prelude.{◌≡◌, ◌≤◌, ℕ, Bool, true, ◌&&◌, List, length, ◌==◌, not, ◌||◌}
+use Rattle.std.specs.Prelude.{◌≡◌, ◌≤◌, ℕ, Bool, true, ◌&&◌, List, length, ◌==◌, not, ◌||◌, ◌<◌, slice_index_or}
 use Rattle.std.specs.List.{list_all}
 use Rattle.fca_model.specs.Sets.{Set, within}
 use Rattle.fca_model.specs.Implications.{Rule, respects_all}
@@ -30,6 +30,10 @@ pub record IsPass (J : List Rule) (A C : Set) : Type 0 where
   pub above : within A C ≡ true
   pub absorbed : list_all (λ i. not (within i.premise A) || within i.conclusion C) J ≡ true
   pub bounded : (T : Set) → within A T ≡ true → respects_all J T ≡ true → within C T ≡ true
+
+-- C has the conclusion of each member that has no premise attribute left
+abbrev pub Fired : List ℕ → List Rule → Set → Type 0
+Fired left J C = (k : ℕ) (i : Rule) → k < length J → i ≡ slice_index_or J k i → slice_index_or left k 0 ≡ 0 → within i.conclusion C ≡ true
 
 -- a number of attributes, and for how many members there is room
 pub record Room : Type 0 where

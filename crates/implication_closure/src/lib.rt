@@ -4,7 +4,7 @@
 
 ghost use Rattle.std.specs.Prelude.{◌≡◌, ◌≤◌, ◌++◌, ◌∷◌, [], ◌↔◌, IsTrue, OnOk, OnErr, IfOk, length, position, not};
 ghost use Rattle.fca_model.specs.Implications.{Rule, respects, follows, rule};
-ghost use Rattle.implication_closure.specs.Closing.{RuleList, Room, Fits, IsClosure, HaveWidth, IsPass};
+ghost use Rattle.implication_closure.specs.Closing.{RuleList, Room, Fits, IsClosure, HaveWidth, IsPass, Fired};
 
 use attr_bits::Attrs;
 use fca_model::{MAX_ATTRIBUTES, Memory};
@@ -117,7 +117,7 @@ impl ImplicationList {
         ensures closure { IsClosure self.now.members x.now result }
         ensures scratch { scratch.new ≡ scratch.old }
     {
-        close_by_passes(&self.members, x)
+        close_by_counters(&self.members, &mut scratch.left, x)
     }
 
     /// Whether every set that respects all members respects the implication from p to c.
@@ -130,19 +130,21 @@ impl ImplicationList {
     }
 }
 
-/// Working space for closures under lists of one width.
+/// Working space for closures under lists of one width: for each member the number of premise
+/// attributes that were not reached when it was last counted.
 #[derive(Drop)]
 pub struct Scratch {
     width: u32,
-    room: usize,
+    left: Vec<u32>,
 }
 
 impl Model for Scratch {
+    ghost use Rattle.std.specs.Prelude.{length};
     ghost use Rattle.implication_closure.specs.Closing.{Room};
 
     ghost Value = { Room };
 
-    ghost view = { λ a. record { width = a.width; members = a.room } };
+    ghost view = { λ a. record { width = a.width; members = length a.left.items } };
 }
 
 impl Scratch {
@@ -152,7 +154,7 @@ impl Scratch {
     {
         Ok(Scratch {
             width: list.width,
-            room: list.members.len(),
+            left: vec![in alloc; 0; list.members.len()]?,
         })
     }
 
@@ -160,7 +162,7 @@ impl Scratch {
     pub fn fits(&self, list: &ImplicationList) -> bool
         ensures { IsTrue result ↔ Fits self.now list.now }
     {
-        self.width == list.width && list.members.len() <= self.room
+        self.width == list.width && list.members.len() <= self.left.len()
     }
 }
 
@@ -186,13 +188,15 @@ fn close_from_the_first(members: &[Implication], x: &Attrs) -> Attrs
 }
 
 /// The least superset that respects every member, by passes over the members until one adds nothing.
-fn close_by_passes(members: &[Implication], x: &Attrs) -> Attrs
-    requires { HaveWidth (length x.now) members.now }
+fn close_by_counters(members: &[Implication], left: &mut [u32], x: &Attrs) -> Attrs
+    requires wide { HaveWidth (length x.now) members.now }
+    requires room { length members.now ≤ length left.old }
     ensures { IsClosure members.now x.now result }
 {
+    left.fill(1);
     let mut closed = *x;
     loop {
-        let next = pass(members, &closed);
+        let next = pass(members, left, &closed);
         if next == closed {
             return closed;
         }
@@ -201,14 +205,23 @@ fn close_by_passes(members: &[Implication], x: &Attrs) -> Attrs
 }
 
 /// The set with the conclusion of each member in turn whose premise lies within what there is by then.
-fn pass(members: &[Implication], x: &Attrs) -> Attrs
-    requires { HaveWidth (length x.now) members.now }
-    ensures { IsPass members.now x.now result }
+/// The members that were reached before are passed over.
+fn pass(members: &[Implication], left: &mut [u32], x: &Attrs) -> Attrs
+    requires wide { HaveWidth (length x.now) members.now }
+    requires room { length members.now ≤ length left.old }
+    requires fired { Fired left.old members.now x.now }
+    ensures pass { IsPass members.now x.now result }
+    ensures room { length left.new ≡ length left.old }
+    ensures fired { Fired left.new members.now result }
 {
     let mut closed = *x;
-    for i in members {
-        if i.premise.within(&closed) {
-            closed = closed.join(&i.conclusion);
+    for k in 0..members.len() {
+        let i = &members[k];
+        if left[k] != 0 {
+            left[k] = i.premise.minus(&closed).size();
+            if left[k] == 0 {
+                closed = closed.join(&i.conclusion);
+            }
         }
     }
     closed
@@ -236,6 +249,7 @@ mod tests {
         assert!(&rt; list.naive_closure(&none.with(0)) == Attrs::full(3));
         let mut scratch = Scratch::new(rt.alloc(), &list)?;
         assert!(&rt; list.closure(&mut scratch, &none.with(0)) == Attrs::full(3));
+        assert!(&rt; list.closure(&mut scratch, &none.with(1)) == none.with(1).with(2));
         assert!(&rt; scratch.fits(&list));
         assert!(&rt; list.follows(&none.with(0), &none.with(2)));
         assert!(&rt; !list.follows(&none.with(2), &none.with(0)));

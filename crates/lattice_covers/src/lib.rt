@@ -29,10 +29,11 @@ fn upper_candidates(alloc: Global, rows: &Rows, a: &Attrs) -> Result<Vec<Attrs>,
     requires { length a.now ≡ rows.now.width }
     ensures { IfOk result (λ candidates. LeadUp rows.now a.now candidates.items) }
 {
+    let above = rows.containing(alloc, a)?;
     let mut candidates = Vec::new(alloc);
     for i in (0..rows.width()).rev() {
         if !a.has(i) {
-            let closed = rows.closure(&a.with(i));
+            let closed = above.closure(&a.with(i));
             if closed.first_missing(a) == Some(i) {
                 candidates.push(closed)?;
             }

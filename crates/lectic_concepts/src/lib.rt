@@ -1,6 +1,7 @@
 //! The intents of a context in lectic order, one by one or all at once, and its concepts.
 #![tactic(auto)]
 
+mod tree;
 mod walk;
 
 ghost use Rattle.std.specs.Prelude.{◌≡◌, ◌≤◌, ◌<◌, ◌+◌, ◌*◌, IfOk, length, map};
@@ -13,8 +14,8 @@ use derivation::Rows;
 use fca_io::Steps;
 use fca_model::{Memory, Places};
 use std::alloc::Global;
-use std::marker::Brand;
-use std::sync::ledger::{Blank, Ledger};
+use std::sync::ledger::Ledger;
+pub use tree::all_intents;
 pub use walk::Walk;
 
 /// An intent with its extent.
@@ -22,24 +23,6 @@ pub use walk::Walk;
 pub struct Concept {
     pub intent: Attrs,
     pub extent: Places,
-}
-
-/// All intents, each once, in lectic order.
-pub fn all_intents(alloc: Global, rows: &Rows) -> Result<Vec<Attrs>, Memory>
-    ensures { IfOk result (λ all. all.items ≡ intents rows.now) }
-{
-    intents_over::<Brand>(alloc, rows, Blank::new(1))
-}
-
-/// All intents by a walk over a ledger of its own.
-fn intents_over<L: Ledger>(alloc: Global, rows: &Rows, blank: Blank) -> Result<Vec<Attrs>, Memory>
-    requires name { blank.name ≡ L.name }
-    requires parts { blank.parts ≡ L.parts }
-    requires some { 0 < blank.parts }
-    ensures { IfOk result (λ all. all.items ≡ intents rows.now) }
-{
-    let mut steps: Steps<L> = Steps::open(blank);
-    intents_counted(alloc, rows, &mut steps)
 }
 
 /// All intents by a whole walk. Over c intents of n attributes it takes at most n * c + 1 steps.

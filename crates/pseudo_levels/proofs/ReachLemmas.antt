@@ -90,15 +90,16 @@ module _ (S : List Rule) (K : Context) where
       some_none : {i : Rule} → Some i ≡ None → ⊥
       some_none e = cc
 
-  pub closed_settles : (k : ℕ) (found : List Rule) (X C : Set) (Xs : List Set) → length X ≡ K.width → size X ≡ k → judged S K found X ≡ None → IsClosure (S ++ found) X C → same C X ≡ true → HasLarger X (length X) Xs → IsSettled S K k found (X ∷ []) Xs
-  closed_settles k found X C Xs e s none least is g P ep _ _ f lt h =
-      let closed = judged_none found X none (subst (λ Z. respects_all (S ++ found) Z ≡ true) (same-true C X is) least.respecting) in
+  pub closed_settles : (k : ℕ) (found : List Rule) (X : Set) (Xs : List Set) → length X ≡ K.width → size X ≡ k → is_closed K X ≡ true → HasLarger X (length X) Xs → IsSettled S K k found (X ∷ []) Xs
+  closed_settles k found X Xs e s closed g P ep _ _ f lt h =
       larger_leads X P k Xs e ep closed f (right_of (is_some (judged S K found X)) (within X P) h) (omega arith) (subst (λ n. HasLarger X n Xs) e g)
 
-  pub broken_settles : (k : ℕ) (found : List Rule) (X C : Set) (Xs : List Set) → size X ≡ k → IsClosure (S ++ found) X C → same C X ≡ false → Has C Xs → IsSettled S K k found (X ∷ []) Xs
-  broken_settles k found X C Xs s least other has P ep rs ra f lt h =
+  -- the closure of one that is not closed is another set, since it would be a member of the basis
+  pub broken_settles : (k : ℕ) (found : List Rule) (X C : Set) (Xs : List Set) → size X ≡ k → judged S K found X ≡ None → is_closed K X ≡ false → IsClosure (S ++ found) X C → Has C Xs → IsSettled S K k found (X ∷ []) Xs
+  broken_settles k found X C Xs s none open_set least has P ep rs ra f lt h =
       let inside = least.least P (right_of (is_some (judged S K found X)) (within X P) h) (list_all-append (respects P) S found ∙ and_from (respects_all S P) (respects_all found P) rs ra) in
-      let larger : size X < size C = size_strict X C (sym least.wide) (strictly_from X C least.above (λ z. false≢true (sym other ∙ same_from C X (sym z)))) in
+      let larger : size X < size C = size_strict X C (sym least.wide) (strictly_from X C least.above
+      (λ z. false≢true (sym open_set ∙ judged_none found X none (subst (λ Z. respects_all (S ++ found) Z ≡ true) (sym z) least.respecting)))) in
       leads_by (suc k) C P Xs has (omega arith) inside
 
   member_settles : (k : ℕ) (found : List Rule) (X : Set) (Xs : List Set) → is_some (judged S K found X) ≡ true → IsSettled S K k found (X ∷ []) Xs

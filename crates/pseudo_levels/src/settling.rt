@@ -92,10 +92,9 @@ fn settle(
     ensures scratch { scratch.new ≡ scratch.old }
     ensures grows { Grows rows.now.width candidates.old candidates.new }
 {
-    let closed = found.closure(scratch, set);
-    if closed == *set {
+    if rows.closure(set) == *set {
         candidates.grow(set)
     } else {
-        candidates.add(closed)
+        candidates.add(found.closure(scratch, set))
     }
 }

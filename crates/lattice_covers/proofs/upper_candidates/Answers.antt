@@ -1,19 +1,30 @@
-use Rattle.std.proofs.Common.{◌≡◌, ◌≢◌, ℕ, suc, ◌-◌, Some, List, get_or, set, true, false, sym, ap, ◌∙◌, subst, arith}
-use Rattle.fca_model.specs.Sets.{Set}
+use Rattle.std.proofs.Common.{◌≡◌, ◌≢◌, ℕ, suc, ◌-◌, Some, List, get_or, set, true, false, sym, ap, ◌∙◌, subst, arith, ◌<◌, length, inl, inr, get_or-set_same, get_or-set_other}
+use Rattle.std.proofs.lemmas.Bool.{cases_eq}
+use Rattle.fca_model.specs.Sets.{Set, within}
+use Rattle.fca_model.proofs.SetLemmas.{within_from_places}
 use Rattle.fca_model.specs.Context.{Context, closure}
 use Rattle.fca_model.specs.Exploration.{first_missing}
 use Rattle.lectic_concepts.proofs.NextLemmas.{is_some_of, is_none_of}
+use Rattle.lectic_concepts.proofs.BranchLemmas.{among, closure_among}
 use Rattle.lattice_covers.proofs.CandidateLemmas.{IsReached, reached_at_member, reached_with, reached_without, lead_up}
 use Rattle.lattice_covers.proofs.upper_candidates.Goals as goal
 
-pub loop-i-preserved-in-Continue-1 : goal.loop-i-preserved-in-Continue-1
-loop-i-preserved-in-Continue-1 c =
+-- the rows that contain A give its closures with one attribute more
+closed_above : (K : Context) (A : Set) (i : ℕ) → i < length A → (B : Set) → B ≡ set A i true → (above : Context) → above ≡ among K A → closure above B ≡ closure K (set A i true)
+closed_above K A i inside B b above is =
+    ap (λ X. closure X B) is ∙ closure_among K A B (subst (λ X. within A X ≡ true) (sym b) (within_from_places A (set A i true) (λ j l t. elim (cases_eq j i) [
+      | inl here ↦ ap (λ x. get_or (set A i true) x false) here ∙ get_or-set_same A i true false inside
+      | inr other ↦ get_or-set_other A i j true false other ∙ t
+    ]))) ∙ ap (closure K) b
+
+pub loop-i-preserved-in-Continue-branch-2 : goal.loop-i-preserved-in-Continue-branch-2
+loop-i-preserved-in-Continue-branch-2 c =
     let K : Context = c.args.rows.now in
     let A : Set = c.args.a.now in
     let i : ℕ = c.loop-i.i - 1 in
     let e : c.loop-i.i ≡ suc i = omega arith in
     let lacks : get_or A i false ≡ false = sym c.has.ensures ∙ c.if-not-has.true in
-    let closed : c.closure-closed.result ≡ closure K (set A i true) = c.closure-closed.ensures ∙ ap (closure K) c.with.ensures in
+    let closed : c.closure-closed.result ≡ closure K (set A i true) = c.closure-closed.ensures ∙ closed_above K A i (omega (arith, c.requires, c.loop-i.invariant.inside)) c.with.result c.with.ensures c.in_ok-above.above c.in_ok-above.ensures in
     let found : first_missing 0 c.closure-closed.result A ≡ Some i = sym c.first_missing.ensures ∙ is_some_of c.first_missing.result i (sym c.eq.ensures ∙ c.if-eq.true) in
     record {
       inside = omega (arith, c.loop-i.invariant.inside);
@@ -28,7 +39,7 @@ loop-i-preserved-else-eq c =
     let i : ℕ = c.loop-i.i - 1 in
     let e : c.loop-i.i ≡ suc i = omega arith in
     let lacks : get_or A i false ≡ false = sym c.has.ensures ∙ c.if-not-has.true in
-    let closed : c.closure-closed.result ≡ closure K (set A i true) = c.closure-closed.ensures ∙ ap (closure K) c.with.ensures in
+    let closed : c.closure-closed.result ≡ closure K (set A i true) = c.closure-closed.ensures ∙ closed_above K A i (omega (arith, c.requires, c.loop-i.invariant.inside)) c.with.result c.with.ensures c.in_ok-above.above c.in_ok-above.ensures in
     let other : first_missing 0 c.closure-closed.result A ≢ Some i = λ h. is_none_of c.first_missing.result i (sym c.eq.ensures ∙ c.if-eq.false) (c.first_missing.ensures ∙ h) in
     record {
       inside = omega (arith, c.loop-i.invariant.inside);

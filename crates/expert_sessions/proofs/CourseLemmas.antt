@@ -1,0 +1,309 @@
+-- A session goes line by line. `Goes` says what stands after k lines that were served and are not `quit`; one more such line keeps it;
+-- and where no line is served any more, what stands is what the session has served.
+use Rattle.std.proofs.Common.{◌≡◌, ◌≢◌, ◌≤◌, ◌<◌, ℕ, ◌+◌, List, [], ◌∷◌, ◌++◌, take, drop, length, Some, Result, refl, sym, ap, ◌∙◌, subst, append_assoc, append-nil, length-append, arith, inl, inr, ◌⊎◌}
+use Rattle.std.specs.Prelude.{All, is_err, false, true}
+use Rattle.std.proofs.lemmas.List.Elements.{All-nil, All-append}
+use Rattle.fca_io.specs.Faults.{Rose}
+use Rattle.fca_io.specs.declared.outside.Put.{Put}
+use Rattle.fca_model.specs.Tables.{Text, NamedContext}
+use Rattle.fca_model.specs.declared.TheConstants.{LINE_BYTES}
+use Rattle.fca_model.specs.Exploration.{SetEntry}
+use Rattle.expert_wire.specs.Texts.{line_end}
+use Rattle.expert_wire.specs.Greetings.{greeting}
+use Rattle.expert_wire.specs.Requests.{request_form}
+use Rattle.expert_sessions.specs.declared.said.Said.{Said}
+use Rattle.expert_sessions.specs.declared.said.Said.TheVariants.{Bye}
+use Rattle.expert_sessions.specs.declared.ended.Ended.{Ended}
+use Rattle.expert_sessions.specs.declared.ended.Ended.TheVariants.{Quit, EndOfInput, ReadFault, WriteFault, LongLine, Limit, Spent, Memory}
+use Rattle.expert_sessions.specs.Lines.{Answers, Exchange, IsExchange, IsQuit, IsNotQuit, lines_of, replies_of, entries_of, said_line, before_last}
+use Rattle.expert_sessions.specs.Talks.{GoesOn, HasQuit, LacksLastAnswer}
+use Rattle.expert_sessions.specs.Moves.{Wire, Moves, Place, Enters}
+use Rattle.expert_sessions.specs.Courses.{Writes, Reads, HasFeedAt, LacksLine, Serves, HaltsAt, Halts, Goes, Closes, HasServed}
+use Rattle.expert_sessions.proofs.MoveLemmas.{Rose-later, Moves-trans, Moves-equal, Enters-nil, Enters-trans, Enters-equal}
+use Rattle.expert_sessions.proofs.LineLemmas.{not_bye, bye_quits, is-exchange, lines_of-append, replies_of-append, entries_of-append, before_last-snoc, before_last-All, All-one, sent_whole, write_rose}
+
+-- ---- one line
+
+-- no whole line was read
+pub unread : (t : NamedContext) (e : ℕ) (a b : Wire) (c : Place) (ahead ahead' : Text) (ended : Ended) → Reads a b ahead ahead' → LacksLine a b ahead' ended → Halts t e a b c c ahead ended
+unread t e a b c ahead ahead' ended r h = record {
+  more = [];
+  rest = ahead';
+  taken = r.taken;
+  sent = [];
+  unsent = [];
+  each = All-nil (IsExchange t.context.width e);
+  moves = r.moves;
+  enters = Enters-nil c 1;
+  read = sym r.joined;
+  said = refl;
+  halts = at ended h;
+}
+  where
+    at : (ended : Ended) → LacksLine a b ahead' ended → HaltsAt t.context.width a b c ended [] ahead' []
+    at EndOfInput h = (refl, refl, h.0, h.1)
+    at ReadFault h = (refl, refl, h.0, h.1)
+    at LongLine h = (refl, refl, h)
+    at Quit h = absurd h
+    at WriteFault h = absurd h
+    at Limit h = absurd h
+    at Spent h = absurd h
+    at Memory h = absurd h
+
+-- the line was read, and no turn was left for it
+pub unturned : (t : NamedContext) (e : ℕ) (a b : Wire) (c d : Place) (ahead ahead' : Text) (ended : Ended) → Reads a b ahead ahead' → ended ≡ Spent → d.turns ≡ Some 0 → Enters c d [] 1
+    → Halts t e a b c d ahead ended
+unturned t e a b c d ahead ahead' ended r s none enters = record {
+  more = [];
+  rest = ahead';
+  taken = r.taken;
+  sent = [];
+  unsent = [];
+  each = All-nil (IsExchange t.context.width e);
+  moves = r.moves;
+  enters = enters;
+  read = sym r.joined;
+  said = refl;
+  halts = subst (λ x. HaltsAt t.context.width a b d x [] ahead' []) (sym s) (refl, refl, none);
+}
+
+-- the line was read, and answered; then what was read is the line, and what stands ahead now
+module _ (t : NamedContext) (e : ℕ) (a b b' : Wire) (c d : Place) (ahead ahead' ahead'' : Text) (at : ℕ) (said : Said) (made : List SetEntry)
+    (r : Reads a b ahead ahead') (feed : HasFeedAt ahead' at) (few : at ≤ LINE_BYTES) (answered : Answers e (request_form (take at ahead') t.context.width) said made)
+    (enters : Enters c d made 1) (gone : ahead'' ≡ drop (at + 1) ahead') where
+  exchange : Exchange
+  exchange = record { line = take at ahead'; said = said; made = made }
+
+  line_read : ahead ++ r.taken ≡ (take at ahead' ++ line_end) ++ ahead''
+  line_read = sym r.joined ∙ feed.split ∙ ap (λ z. (take at ahead' ++ line_end) ++ z) (sym gone)
+
+  pub line-served : Moves b b' [] (said_line t.attributes said) → said ≢ Bye → Serves t e a b' c d ahead ahead''
+  line-served moves asks = record {
+    exchange = record { line = take at ahead'; said = said; made = made };
+    is = is-exchange t.context.width e ahead' at said made feed few answered;
+    asking = not_bye e (request_form (take at ahead') t.context.width) said made answered asks;
+    taken = r.taken ++ [];
+    moves = Moves-trans r.moves moves;
+    enters = enters;
+    read = ap (λ z. ahead ++ z) (append-nil r.taken) ∙ line_read;
+  }
+
+  pub line-quits : Moves b b' [] (said_line t.attributes said) → said ≡ Bye → Halts t e a b' c d ahead Quit
+  line-quits moves bye = record {
+    more = record { line = take at ahead'; said = said; made = made } ∷ [];
+    rest = ahead'';
+    taken = r.taken ++ [];
+    sent = said_line t.attributes said;
+    unsent = [];
+    each = All-one (IsExchange t.context.width e) _ (is-exchange t.context.width e ahead' at said made feed few answered);
+    moves = Moves-trans r.moves moves;
+    enters = Enters-equal (sym (append-nil made)) (omega arith) enters;
+    read = ap (λ z. ahead ++ z) (append-nil r.taken) ∙ line_read ∙ ap (λ z. z ++ ahead'') (sym (append-nil (take at ahead' ++ line_end)));
+    said = refl;
+    halts = (record { line = take at ahead'; said = said; made = made }, refl, bye_quits e (request_form (take at ahead') t.context.width) said made answered bye, refl);
+  }
+
+  pub line-unanswered : (result : Result (Unit {0}) Put) → Writes b b' (said_line t.attributes said) result → is_err result ≡ true → Halts t e a b' c d ahead WriteFault
+  line-unanswered result w failed = record {
+    more = record { line = take at ahead'; said = said; made = made } ∷ [];
+    rest = ahead'';
+    taken = r.taken ++ [];
+    sent = w.sent;
+    unsent = w.unsent;
+    each = All-one (IsExchange t.context.width e) _ (is-exchange t.context.width e ahead' at said made feed few answered);
+    moves = Moves-trans r.moves w.moves;
+    enters = Enters-equal (sym (append-nil made)) (omega arith) enters;
+    read = ap (λ z. ahead ++ z) (append-nil r.taken) ∙ line_read ∙ ap (λ z. z ++ ahead'') (sym (append-nil (take at ahead' ++ line_end)));
+    said = append-nil (said_line t.attributes said) ∙ w.split;
+    halts = (record { line = take at ahead'; said = said; made = made }, refl, Rose-later a.writes b.writes b'.writes r.moves.writes (write_rose result w failed));
+  }
+
+-- ---- all lines
+
+pub greeted : (t : NamedContext) (e : ℕ) (a b : Wire) (c : Place) (result : Result (Unit {0}) Put) → Writes a b (greeting t e) result → is_err result ≡ false → Goes t e a b c c [] 0
+greeted t e a b c result w ok = record {
+  served = [];
+  each = All-nil (IsExchange t.context.width e);
+  asking = All-nil (IsNotQuit t.context.width);
+  count = refl;
+  taken = [];
+  moves = Moves-equal refl (sym (append-nil (greeting t e))) (sent_whole result w ok);
+  enters = Enters-nil c 0;
+  read = refl;
+}
+
+pub ungreeted : (t : NamedContext) (e lines : ℕ) (a b : Wire) (c : Place) (result : Result (Unit {0}) Put) → Writes a b (greeting t e) result → is_err result ≡ true
+    → HasServed t e lines a b c c WriteFault
+ungreeted t e lines a b c result w failed = record {
+  taken = [];
+  sent = w.sent;
+  moves = w.moves;
+  course = record {
+    served = [];
+    rest = [];
+    unsent = w.unsent;
+    each = All-nil (IsExchange t.context.width e);
+    order = All-nil (IsNotQuit t.context.width);
+    few = omega arith;
+    lines_taken = refl;
+    answers_sent = append-nil (greeting t e) ∙ w.split;
+    whole = inr (write_rose result w failed);
+  };
+  enters = Enters-nil c lines;
+  closes = (write_rose result w failed, tt);
+}
+
+pub one_more_line : (t : NamedContext) (e : ℕ) (a b b' : Wire) (c d d' : Place) (ahead ahead' : Text) (k : ℕ) → Goes t e a b c d ahead k → Serves t e b b' d d' ahead ahead'
+    → Goes t e a b' c d' ahead' (k + 1)
+one_more_line t e a b b' c d d' ahead ahead' k x y =
+    let all = x.served ++ y.exchange ∷ [] in
+    let replies : (greeting t e ++ replies_of t.attributes x.served) ++ said_line t.attributes y.exchange.said ≡ greeting t e ++ replies_of t.attributes all =
+    append_assoc (greeting t e) (replies_of t.attributes x.served) (said_line t.attributes y.exchange.said)
+    ∙ ap (λ z. greeting t e ++ z) (ap (λ z. replies_of t.attributes x.served ++ z) (sym (append-nil (said_line t.attributes y.exchange.said))) ∙ sym (replies_of-append t.attributes x.served (y.exchange ∷ []))) in
+    let entries : entries_of x.served ++ y.exchange.made ≡ entries_of all =
+    ap (λ z. entries_of x.served ++ z) (sym (append-nil y.exchange.made)) ∙ sym (entries_of-append x.served (y.exchange ∷ [])) in
+    let lines : lines_of x.served ++ (y.exchange.line ++ line_end) ≡ lines_of all =
+    ap (λ z. lines_of x.served ++ z) (sym (append-nil (y.exchange.line ++ line_end))) ∙ sym (lines_of-append x.served (y.exchange ∷ [])) in
+    let number = length-append x.served (y.exchange ∷ []) in
+    let before = x.count in
+    record {
+      served = all;
+      each = All-append (IsExchange t.context.width e) x.served (y.exchange ∷ []) x.each (All-one (IsExchange t.context.width e) y.exchange y.is);
+      asking = All-append (IsNotQuit t.context.width) x.served (y.exchange ∷ []) x.asking (All-one (IsNotQuit t.context.width) y.exchange y.asking);
+      count = omega arith;
+      taken = x.taken ++ y.taken;
+      moves = Moves-equal refl replies (Moves-trans x.moves y.moves);
+      enters = Enters-equal entries (omega arith) (Enters-trans x.enters y.enters);
+      read = ap (λ z. z ++ y.taken) x.read ∙ append_assoc (lines_of x.served) ahead y.taken ∙ ap (λ z. lines_of x.served ++ z) y.read
+          ∙ sym (append_assoc (lines_of x.served) (y.exchange.line ++ line_end) ahead') ∙ ap (λ z. z ++ ahead') lines;
+    }
+
+pub limited : (t : NamedContext) (e lines : ℕ) (a b : Wire) (c d : Place) (ahead : Text) → Goes t e a b c d ahead lines → HasServed t e lines a b c d Limit
+limited t e lines a b c d ahead x = record {
+  taken = x.taken;
+  sent = greeting t e ++ replies_of t.attributes x.served;
+  moves = x.moves;
+  course = record {
+    served = x.served;
+    rest = ahead;
+    unsent = [];
+    each = x.each;
+    order = before_last-All (IsNotQuit t.context.width) x.served x.asking;
+    few = let all = x.count in omega arith;
+    lines_taken = x.read;
+    answers_sent = sym (append-nil (greeting t e ++ replies_of t.attributes x.served));
+    whole = inl refl;
+  };
+  enters = x.enters;
+  closes = (x.asking, x.count, refl);
+}
+
+-- ---- the last line
+
+-- what was served before the session halted, and what was sent of its last answer
+record Last (t : NamedContext) (e lines : ℕ) (xs more : List Exchange) (sent : Text) : Type 0 where
+  asking : All (IsNotQuit t.context.width) xs
+  fewer : length xs < lines
+  part : Text
+  split : sent ≡ (greeting t e ++ replies_of t.attributes xs) ++ part
+
+-- at most one line more was served
+more-few : (n : ℕ) (a b : Wire) (d : Place) (ended : Ended) (more : List Exchange) (rest unsent : Text) → HaltsAt n a b d ended more rest unsent → (more ≡ []) ⊎ ((x : Exchange) × (more ≡ x ∷ []))
+more-few n a b d Quit more rest unsent h = inr (h.0, h.1)
+more-few n a b d WriteFault more rest unsent h = inr (h.0, h.1)
+more-few n a b d EndOfInput more rest unsent h = inl h.0
+more-few n a b d ReadFault more rest unsent h = inl h.0
+more-few n a b d LongLine more rest unsent h = inl h.0
+more-few n a b d Spent more rest unsent h = inl h.0
+more-few n a b d Limit more rest unsent h = absurd h
+more-few n a b d Memory more rest unsent h = absurd h
+
+-- all but the last were not `quit`
+more-order : (P : Exchange → Type 0) (xs more : List Exchange) → All P xs → (more ≡ []) ⊎ ((x : Exchange) × (more ≡ x ∷ [])) → All P (before_last (xs ++ more))
+more-order P xs more all h = elim h as (λ _. All P (before_last (xs ++ more))) [
+  | inl none ↦ subst (λ z. All P (before_last (xs ++ z))) (sym none) (subst (λ z. All P (before_last z)) (sym (append-nil xs)) (before_last-All P xs all))
+  | inr one ↦ subst (λ z. All P (before_last (xs ++ z))) (sym one.1) (subst (All P) (sym (before_last-snoc xs one.0)) all)
+]
+
+more-length : (xs more : List Exchange) → (more ≡ []) ⊎ ((x : Exchange) × (more ≡ x ∷ [])) → length (xs ++ more) ≤ length xs + 1
+more-length xs more h =
+    let all = length-append xs more in
+    elim h as (λ _. length (xs ++ more) ≤ length xs + 1) [
+      | inl none ↦ (let number : length more ≡ 0 = ap length none in omega arith)
+      | inr one ↦ (let number : length more ≡ 1 = ap length one.1 in omega arith)
+    ]
+
+-- no line more was served
+goes_on : (n lines : ℕ) (xs more : List Exchange) → All (IsNotQuit n) xs → length xs < lines → more ≡ [] → GoesOn n lines (xs ++ more)
+goes_on n lines xs more asking fewer none = record {
+  asking = subst (λ z. All (IsNotQuit n) (xs ++ z)) (sym none) (subst (All (IsNotQuit n)) (sym (append-nil xs)) asking);
+  fewer = let all = length-append xs more in let number : length more ≡ 0 = ap length none in omega arith;
+}
+
+has_quit : (n : ℕ) (xs more : List Exchange) (x : Exchange) → more ≡ x ∷ [] → IsQuit n x → HasQuit n (xs ++ more)
+has_quit n xs more x one quit = record {
+  last = x;
+  split = ap (λ z. xs ++ z) one ∙ ap (λ z. z ++ x ∷ []) (sym (before_last-snoc xs x)) ∙ ap (λ z. before_last (xs ++ z) ++ x ∷ []) (sym one);
+  quit = quit;
+}
+
+lacks_last : (t : NamedContext) (e : ℕ) (xs : List Exchange) (x : Exchange) (served : List Exchange) (sent part : Text) → served ≡ xs ++ x ∷ []
+    → sent ≡ (greeting t e ++ replies_of t.attributes xs) ++ part → LacksLastAnswer t e served sent
+lacks_last t e xs x [] sent part split all = tt
+lacks_last t e xs x (y ∷ ys) sent part split all =
+    let front : before_last (y ∷ ys) ≡ xs = ap before_last split ∙ before_last-snoc xs x in
+    (part, all ∙ ap (λ z. (greeting t e ++ replies_of t.attributes z) ++ part) (sym front))
+
+closing : (t : NamedContext) (e lines : ℕ) (a b b' : Wire) (d : Place) (xs more : List Exchange) (rest sent unsent : Text) → Last t e lines xs more sent → a.reads ≤ b.reads → a.writes ≤ b.writes
+    → (ended : Ended) → HaltsAt t.context.width b b' d ended more rest unsent → Closes t e lines a b' d ended (xs ++ more) rest sent unsent
+closing t e lines a b b' d xs more rest sent unsent l reads writes Quit h = (has_quit t.context.width xs more h.0 h.1 h.2, h.3)
+closing t e lines a b b' d xs more rest sent unsent l reads writes EndOfInput h = (goes_on t.context.width lines xs more l.asking l.fewer h.0, h.2, h.3, h.1)
+closing t e lines a b b' d xs more rest sent unsent l reads writes ReadFault h = (goes_on t.context.width lines xs more l.asking l.fewer h.0, Rose-later a.reads b.reads b'.reads reads h.2, h.3, h.1)
+closing t e lines a b b' d xs more rest sent unsent l reads writes LongLine h = (goes_on t.context.width lines xs more l.asking l.fewer h.0, h.2, h.1)
+closing t e lines a b b' d xs more rest sent unsent l reads writes WriteFault h =
+    (Rose-later a.writes b.writes b'.writes writes h.2, lacks_last t e xs h.0 (xs ++ more) sent l.part (ap (λ z. xs ++ z) h.1) l.split)
+closing t e lines a b b' d xs more rest sent unsent l reads writes Spent h = h.2
+closing t e lines a b b' d xs more rest sent unsent l reads writes Limit h = absurd h
+closing t e lines a b b' d xs more rest sent unsent l reads writes Memory h = absurd h
+
+-- all that can be sent was sent, where no write failed
+whole_or_failed : (n : ℕ) (a b b' : Wire) (d : Place) (ended : Ended) (more : List Exchange) (rest unsent : Text) → a.writes ≤ b.writes → HaltsAt n b b' d ended more rest unsent
+    → (unsent ≡ []) ⊎ Rose a.writes b'.writes
+whole_or_failed n a b b' d Quit more rest unsent w h = inl h.3
+whole_or_failed n a b b' d WriteFault more rest unsent w h = inr (Rose-later a.writes b.writes b'.writes w h.2)
+whole_or_failed n a b b' d EndOfInput more rest unsent w h = inl h.1
+whole_or_failed n a b b' d ReadFault more rest unsent w h = inl h.1
+whole_or_failed n a b b' d LongLine more rest unsent w h = inl h.1
+whole_or_failed n a b b' d Spent more rest unsent w h = inl h.1
+whole_or_failed n a b b' d Limit more rest unsent w h = absurd h
+whole_or_failed n a b b' d Memory more rest unsent w h = absurd h
+
+pub halted : (t : NamedContext) (e lines : ℕ) (a b b' : Wire) (c d d' : Place) (ahead : Text) (k : ℕ) (ended : Ended) → Goes t e a b c d ahead k → k < lines → Halts t e b b' d d' ahead ended
+    → HasServed t e lines a b' c d' ended
+halted t e lines a b b' c d d' ahead k ended x below y =
+    let all = x.served ++ y.more in
+    let before = x.count in
+    let fewer : length x.served < lines = omega arith in
+    let few = more-few t.context.width b b' d' ended y.more y.rest y.unsent y.halts in
+    let sent = (greeting t e ++ replies_of t.attributes x.served) ++ y.sent in
+    record {
+      taken = x.taken ++ y.taken;
+      sent = sent;
+      moves = Moves-trans x.moves y.moves;
+      course = record {
+        served = all;
+        rest = y.rest;
+        unsent = y.unsent;
+        each = All-append (IsExchange t.context.width e) x.served y.more x.each y.each;
+        order = more-order (IsNotQuit t.context.width) x.served y.more x.asking few;
+        few = let most = more-length x.served y.more few in omega arith;
+        lines_taken = ap (λ z. z ++ y.taken) x.read ∙ append_assoc (lines_of x.served) ahead y.taken ∙ ap (λ z. lines_of x.served ++ z) y.read
+            ∙ sym (append_assoc (lines_of x.served) (lines_of y.more) y.rest) ∙ ap (λ z. z ++ y.rest) (sym (lines_of-append x.served y.more));
+        answers_sent = ap (λ z. greeting t e ++ z) (replies_of-append t.attributes x.served y.more ∙ ap (λ z. replies_of t.attributes x.served ++ z) y.said)
+            ∙ sym (append_assoc (greeting t e) (replies_of t.attributes x.served) (y.sent ++ y.unsent))
+            ∙ sym (append_assoc (greeting t e ++ replies_of t.attributes x.served) y.sent y.unsent);
+        whole = whole_or_failed t.context.width a b b' d' ended y.more y.rest y.unsent x.moves.writes y.halts;
+      };
+      enters = Enters-equal (sym (entries_of-append x.served y.more)) (omega arith) (Enters-trans x.enters y.enters);
+      closes = closing t e lines a b b' d' x.served y.more y.rest sent y.unsent (record { asking = x.asking; fewer = fewer; part = y.sent; split = refl }) x.moves.reads x.moves.writes ended y.halts;
+    }

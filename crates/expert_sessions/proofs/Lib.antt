@@ -1,0 +1,5 @@
+pub mod MoveLemmas
+pub mod LineLemmas
+pub mod CourseLemmas
+pub mod TalkLemmas
+pub mod ServingLemmas

@@ -1,0 +1,110 @@
+-- One line. Up to the first line feed the bytes are a line, if there are few enough. What it asks for decides what it may be
+-- answered: only `quit` gets `bye`, and gets nothing else.
+use Rattle.std.proofs.Common.{◌≡◌, ◌≢◌, ◌≤◌, ℕ, List, [], ◌∷◌, ◌++◌, take, length, Result, Ok, Err, refl, sym, ap, ◌∙◌, subst, append_assoc, append-nil, arith}
+use Rattle.std.specs.Io.KnownBytes.{Appends, Consumes, Keeps}
+use Rattle.std.proofs.KnownBytes.{Consumes-nil, Consumes-kept}
+use Rattle.fca_io.specs.Transfers.{AppendsFront}
+use Rattle.std.specs.Prelude.{All, Option, is_err, false, true, OnOk, OnErr}
+use Rattle.std.proofs.lemmas.List.{length-take}
+use Rattle.std.proofs.lemmas.List.Elements.{All-nil, All-cons, All-head, All-tail}
+use Rattle.std.proofs.Math.Nat.{min-le_left}
+use Rattle.fca_model.specs.Tables.{Text}
+use Rattle.fca_model.specs.declared.TheConstants.{LINE_BYTES}
+use Rattle.fca_model.specs.Exploration.{SetEvent, SetEntry}
+use Rattle.fca_io.specs.declared.outside.Put.{Put}
+use Rattle.fca_io.specs.Faults.{Rose}
+use Rattle.expert_wire.specs.Texts.{line_end}
+use Rattle.expert_wire.specs.Requests.{request_form}
+use Rattle.expert_wire.specs.declared.requests.Request.{Request}
+use Rattle.expert_wire.specs.declared.requests.Request.TheVariants.{Quit as QuitAsked}
+use Rattle.expert_wire.specs.declared.requests.RequestFault.{RequestFault}
+use Rattle.expert_sessions.specs.declared.said.Said.{Said}
+use Rattle.expert_sessions.specs.declared.said.Said.TheVariants.{Replied, Bye, BadLine, BadWidth, NoMemory}
+use Rattle.expert_sessions.specs.Lines.{Asks, Answers, Exchange, IsExchange, lines_of, replies_of, entries_of, said_line, before_last}
+use Rattle.expert_sessions.specs.Moves.{Wire, Moves}
+use Rattle.expert_sessions.specs.Courses.{Writes, HasFeedAt}
+
+-- ---- answers
+
+-- a request that makes an entry is not `quit`
+asks-not_quit : (e : ℕ) (form : Result Request RequestFault) (event : SetEvent) → Asks e form event → form ≢ Ok QuitAsked
+asks-not_quit e form event h q = subst (λ f. Asks e f event) q h
+
+-- only `quit` gets `bye`
+pub not_bye : (e : ℕ) (form : Result Request RequestFault) (said : Said) (made : List SetEntry) → Answers e form said made → said ≢ Bye → form ≢ Ok QuitAsked
+not_bye e form (Replied reply) made h n = asks-not_quit e form h.0 h.1
+not_bye e form Bye made h n = absurd (n refl)
+not_bye e form BadLine made h n = λ q. let p = h.0 in cc
+not_bye e form BadWidth made h n = λ q. let p = h.0 in cc
+not_bye e form NoMemory made h n = h.0
+
+pub bye_quits : (e : ℕ) (form : Result Request RequestFault) (said : Said) (made : List SetEntry) → Answers e form said made → said ≡ Bye → form ≡ Ok QuitAsked
+bye_quits e form said made h b = let q : Answers e form Bye made = subst (λ s. Answers e form s made) b h in q.0
+
+-- the bytes before the first line feed are a line that was answered
+pub is-exchange : (n e : ℕ) (bytes : Text) (at : ℕ) (said : Said) (made : List SetEntry) → HasFeedAt bytes at → at ≤ LINE_BYTES → Answers e (request_form (take at bytes) n) said made
+    → IsExchange n e (record { line = take at bytes; said = said; made = made })
+is-exchange n e bytes at said made feed few answered = record {
+  short = let long = length-take at bytes in let low = min-le_left at (length bytes) in omega arith;
+  unbroken = feed.unbroken;
+  answered = answered;
+}
+
+-- ---- lists of lines
+
+pub lines_of-append : (xs ys : List Exchange) → lines_of (xs ++ ys) ≡ lines_of xs ++ lines_of ys
+lines_of-append [] ys = refl
+lines_of-append (x ∷ xs) ys = ap (λ z. (x.line ++ line_end) ++ z) (lines_of-append xs ys) ∙ sym (append_assoc (x.line ++ line_end) (lines_of xs) (lines_of ys))
+
+pub replies_of-append : (attributes : List Text) (xs ys : List Exchange) → replies_of attributes (xs ++ ys) ≡ replies_of attributes xs ++ replies_of attributes ys
+replies_of-append attributes [] ys = refl
+replies_of-append attributes (x ∷ xs) ys = ap (λ z. said_line attributes x.said ++ z) (replies_of-append attributes xs ys) ∙ sym (append_assoc (said_line attributes x.said) (replies_of attributes xs) (replies_of attributes ys))
+
+pub entries_of-append : (xs ys : List Exchange) → entries_of (xs ++ ys) ≡ entries_of xs ++ entries_of ys
+entries_of-append [] ys = refl
+entries_of-append (x ∷ xs) ys = ap (λ z. x.made ++ z) (entries_of-append xs ys) ∙ sym (append_assoc x.made (entries_of xs) (entries_of ys))
+
+pub before_last-snoc : (xs : List Exchange) (x : Exchange) → before_last (xs ++ x ∷ []) ≡ xs
+before_last-snoc [] x = refl
+before_last-snoc (y ∷ []) x = refl
+before_last-snoc (y ∷ z ∷ xs) x = ap (λ l. y ∷ l) (before_last-snoc (z ∷ xs) x)
+
+pub before_last-All : (P : Exchange → Type 0) (xs : List Exchange) → All P xs → All P (before_last xs)
+before_last-All P [] h = All-nil P
+before_last-All P (x ∷ []) h = All-nil P
+before_last-All P (x ∷ y ∷ xs) h = All-cons P x (before_last (y ∷ xs)) (All-head P x (y ∷ xs) h) (before_last-All P (y ∷ xs) (All-tail P x (y ∷ xs) h))
+
+pub All-one : (P : Exchange → Type 0) (x : Exchange) → P x → All P (x ∷ [])
+All-one P x h = All-cons P x [] h (All-nil P)
+
+-- ---- writes
+
+-- what succeeded was sent whole
+pub sent_whole : {a b : Wire} {text : Text} (r : Result (Unit {0}) Put) → Writes a b text r → is_err r ≡ false → Moves a b [] text
+sent_whole {a} {b} {text} (Ok u) w e = subst (λ z. Moves a b [] z) (sym (w.split ∙ ap (λ z. w.sent ++ z) w.whole ∙ append-nil w.sent)) w.moves
+sent_whole (Err x) w e = cc
+
+pub write_rose : {a b : Wire} {text : Text} (r : Result (Unit {0}) Put) → Writes a b text r → is_err r ≡ true → Rose a.writes b.writes
+write_rose (Ok u) w e = cc
+write_rose (Err x) w e = w.failed
+
+-- a call that writes leaves alone what stands beside a sink: at an end that is what is left to read
+pub writes-from : (a b : Wire) (text : Text) (r : Result (Unit {0}) Put) (other other' : Option Text) (aside aside' : ℕ)
+    → OnOk r (Appends a.held b.held text) → AppendsFront a.held b.held text → OnErr r (Rose a.writes b.writes) → a.writes ≤ b.writes → Keeps other other' → aside ≤ aside'
+    → other ≡ a.left → other' ≡ b.left → aside ≡ a.reads → aside' ≡ b.reads → Writes a b text r
+writes-from a b text (Ok u) other other' aside aside' whole front failed later keeps later' p q u' v = record {
+  sent = text;
+  unsent = [];
+  split = sym (append-nil text);
+  moves = record { lost = subst (λ z. Consumes a.left z []) q (subst (λ z. Consumes z other' []) p (Consumes-kept other other other' [] (Consumes-nil other) keeps)); gained = whole; reads = omega arith; writes = later };
+  whole = refl;
+  failed = tt;
+}
+writes-from a b text (Err e) other other' aside aside' whole front failed later keeps later' p q u' v = record {
+  sent = front.front;
+  unsent = front.rest;
+  split = front.whole;
+  moves = record { lost = subst (λ z. Consumes a.left z []) q (subst (λ z. Consumes z other' []) p (Consumes-kept other other other' [] (Consumes-nil other) keeps)); gained = front.gained; reads = omega arith; writes = later };
+  whole = tt;
+  failed = failed;
+}

@@ -1,0 +1,67 @@
+use Rattle.std.proofs.Common.{◌≡◌, true, false}
+use Rattle.std.specs.Prelude.{is_err}
+use Rattle.std.proofs.lemmas.Result.{err_from_is_err_and}
+use Rattle.expert_sessions.proofs.LineLemmas.{sent_whole}
+use Rattle.expert_sessions.proofs.CourseLemmas.{unread, unturned, line-served, line-quits, line-unanswered}
+use Rattle.expert_sessions.proofs.talk.serve_line.Goals as goal
+
+pub returns-in_err-at-clause-halted : goal.returns-in_err-at-clause-halted
+returns-in_err-at-clause-halted g c =
+    let p = err_from_is_err_and c.from_residual.result c.from_residual.ensures.1 in
+    rw (p.1, p.2) (unread c.args.table.now (g.D.Desk.number c.args.desk.now)
+    (record { left = g.E.Source.left c.args.end.now; held = g.E.Sink.held c.args.end.now; reads = g.E.Source.faults c.args.end.now; writes = g.E.Sink.faults c.args.end.now })
+    (record { left = g.E.Source.left c.read_line.new.end; held = g.E.Sink.held c.read_line.new.end; reads = g.E.Source.faults c.read_line.new.end; writes = g.E.Sink.faults c.read_line.new.end })
+    (record { entries = g.D.Desk.entries c.args.desk.now; turns = g.D.Desk.left c.args.desk.now })
+    c.args.ahead.now c.read_line.new.self _ c.read_line.ensures.read c.in_err-at.ensures.none)
+
+pub returns-in_err-said-clause-halted : goal.returns-in_err-said-clause-halted
+returns-in_err-said-clause-halted g c =
+    let p = err_from_is_err_and c.from_residual-in_err-said.result c.from_residual-in_err-said.ensures.1 in
+    rw (p.1, p.2) (unturned c.args.table.now (g.D.Desk.number c.args.desk.now)
+    (record { left = g.E.Source.left c.args.end.now; held = g.E.Sink.held c.args.end.now; reads = g.E.Source.faults c.args.end.now; writes = g.E.Sink.faults c.args.end.now })
+    (record { left = g.E.Source.left c.read_line.new.end; held = g.E.Sink.held c.read_line.new.end; reads = g.E.Source.faults c.read_line.new.end; writes = g.E.Sink.faults c.read_line.new.end })
+    (record { entries = g.D.Desk.entries c.args.desk.now; turns = g.D.Desk.left c.args.desk.now })
+    (record { entries = g.D.Desk.entries c.answer.new.desk; turns = g.D.Desk.left c.answer.new.desk })
+    c.args.ahead.now c.read_line.new.self _ c.read_line.ensures.read c.in_err-said.ensures.spent.0 c.in_err-said.ensures.spent.1 c.in_err-said.ensures.spent.2)
+
+pub returns-then-is_err-clause-halted : goal.returns-then-is_err-clause-halted
+returns-then-is_err-clause-halted g c =
+    let answered = rw c.line.ensures at c.in_ok-said.ensures.answered in
+    let failed : is_err c.write_said.result ≡ true = cc (c.is_err.ensures.value, c.if-is_err.true) in
+    line-unanswered c.args.table.now (g.D.Desk.number c.args.desk.now)
+    (record { left = g.E.Source.left c.args.end.now; held = g.E.Sink.held c.args.end.now; reads = g.E.Source.faults c.args.end.now; writes = g.E.Sink.faults c.args.end.now })
+    (record { left = g.E.Source.left c.read_line.new.end; held = g.E.Sink.held c.read_line.new.end; reads = g.E.Source.faults c.read_line.new.end; writes = g.E.Sink.faults c.read_line.new.end })
+    (record { left = g.E.Source.left c.write_said.new.end; held = g.E.Sink.held c.write_said.new.end; reads = g.E.Source.faults c.write_said.new.end; writes = g.E.Sink.faults c.write_said.new.end })
+    (record { entries = g.D.Desk.entries c.args.desk.now; turns = g.D.Desk.left c.args.desk.now })
+    (record { entries = g.D.Desk.entries c.answer.new.desk; turns = g.D.Desk.left c.answer.new.desk })
+    c.args.ahead.now c.read_line.new.self c.forget.new.self c.in_ok-at.at c.in_ok-said.said answered.0
+    c.read_line.ensures.read c.in_ok-at.ensures.line c.in_ok-at.ensures.short answered.1 answered.2 c.forget.ensures
+    c.write_said.result c.write_said.ensures failed
+
+pub returns-in-Bye-clause-halted : goal.returns-in-Bye-clause-halted
+returns-in-Bye-clause-halted g c =
+    let answered = rw c.line.ensures at c.in_ok-said.ensures.answered in
+    let ok : is_err c.write_said.result ≡ false = cc (c.is_err.ensures.value, c.if-is_err.false) in
+    line-quits c.args.table.now (g.D.Desk.number c.args.desk.now)
+    (record { left = g.E.Source.left c.args.end.now; held = g.E.Sink.held c.args.end.now; reads = g.E.Source.faults c.args.end.now; writes = g.E.Sink.faults c.args.end.now })
+    (record { left = g.E.Source.left c.read_line.new.end; held = g.E.Sink.held c.read_line.new.end; reads = g.E.Source.faults c.read_line.new.end; writes = g.E.Sink.faults c.read_line.new.end })
+    (record { left = g.E.Source.left c.write_said.new.end; held = g.E.Sink.held c.write_said.new.end; reads = g.E.Source.faults c.write_said.new.end; writes = g.E.Sink.faults c.write_said.new.end })
+    (record { entries = g.D.Desk.entries c.args.desk.now; turns = g.D.Desk.left c.args.desk.now })
+    (record { entries = g.D.Desk.entries c.answer.new.desk; turns = g.D.Desk.left c.answer.new.desk })
+    c.args.ahead.now c.read_line.new.self c.forget.new.self c.in_ok-at.at c.in_ok-said.said answered.0
+    c.read_line.ensures.read c.in_ok-at.ensures.line c.in_ok-at.ensures.short answered.1 answered.2 c.forget.ensures
+    (sent_whole c.write_said.result c.write_said.ensures ok) c.in-Bye.is
+
+pub returns-in_default-clause-served : goal.returns-in_default-clause-served
+returns-in_default-clause-served g c =
+    let answered = rw c.line.ensures at c.in_ok-said.ensures.answered in
+    let ok : is_err c.write_said.result ≡ false = cc (c.is_err.ensures.value, c.if-is_err.false) in
+    line-served c.args.table.now (g.D.Desk.number c.args.desk.now)
+    (record { left = g.E.Source.left c.args.end.now; held = g.E.Sink.held c.args.end.now; reads = g.E.Source.faults c.args.end.now; writes = g.E.Sink.faults c.args.end.now })
+    (record { left = g.E.Source.left c.read_line.new.end; held = g.E.Sink.held c.read_line.new.end; reads = g.E.Source.faults c.read_line.new.end; writes = g.E.Sink.faults c.read_line.new.end })
+    (record { left = g.E.Source.left c.write_said.new.end; held = g.E.Sink.held c.write_said.new.end; reads = g.E.Source.faults c.write_said.new.end; writes = g.E.Sink.faults c.write_said.new.end })
+    (record { entries = g.D.Desk.entries c.args.desk.now; turns = g.D.Desk.left c.args.desk.now })
+    (record { entries = g.D.Desk.entries c.answer.new.desk; turns = g.D.Desk.left c.answer.new.desk })
+    c.args.ahead.now c.read_line.new.self c.forget.new.self c.in_ok-at.at c.in_ok-said.said answered.0
+    c.read_line.ensures.read c.in_ok-at.ensures.line c.in_ok-at.ensures.short answered.1 answered.2 c.forget.ensures
+    (sent_whole c.write_said.result c.write_said.ensures ok) c.in_default.not-Bye

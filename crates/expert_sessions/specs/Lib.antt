@@ -1,0 +1,6 @@
+pub mod Lines
+pub mod Talks
+pub mod Moves
+pub mod Courses
+pub mod Serving
+pub mod Rooms

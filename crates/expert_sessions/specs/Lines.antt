@@ -1,0 +1,92 @@
+-- The lines of a session: what was asked in each, how it was answered, and the entry that it made.
+--
+-- Over the attributes a and b, with no row, `draw` is answered by `ask .. XX {} -> {a, b}` and makes that entry; `drew` is answered
+-- by `bad line` and makes none.
+use Rattle.std.specs.Prelude.{◌≡◌, ◌≢◌, ◌≤◌, ℕ, false, List, [], ◌∷◌, ◌++◌, Result, Ok, Err, length, codes}
+use Rattle.std.specs.List.{list_any}
+use Rattle.fca_model.specs.Tables.{Text}
+use Rattle.fca_model.specs.declared.TheConstants.{LINE_BYTES}
+use Rattle.fca_model.specs.declared.Event.TheVariants.{Draw, Confirm, Row, Leave}
+use Rattle.fca_model.specs.Exploration.{SetEvent, SetEntry}
+use Rattle.expert_wire.specs.Texts.{line_end}
+use Rattle.expert_wire.specs.Replies.{reply_line}
+use Rattle.expert_wire.specs.Requests.{request_form}
+use Rattle.expert_wire.specs.Scripts.{is_line_feed}
+use Rattle.expert_wire.specs.declared.requests.Request.{Request}
+use Rattle.expert_wire.specs.declared.requests.Request.TheVariants.{Draw as DrawAsked, Confirm as ConfirmAsked, Row as RowAsked, Leave as LeaveAsked, Quit}
+use Rattle.expert_wire.specs.declared.requests.RequestFault.{RequestFault}
+use Rattle.expert_wire.specs.declared.requests.RequestFault.TheVariants.{Line, Width}
+use Rattle.expert_sessions.specs.declared.said.Said.{Said}
+use Rattle.expert_sessions.specs.declared.said.Said.TheVariants.{Replied, Bye, BadLine, BadWidth, NoMemory}
+
+-- ---- one line
+
+-- there is no line feed among the bytes
+abbrev pub HasNoFeed : Text → Type 0
+HasNoFeed bytes = list_any is_line_feed bytes ≡ false
+
+-- what was read asks for this event of expert e
+abbrev pub Asks : ℕ → Result Request RequestFault → SetEvent → Type 0
+Asks e (Ok DrawAsked) event = event ≡ Draw e
+Asks e (Ok ConfirmAsked) event = event ≡ Confirm e
+Asks e (Ok (RowAsked name row)) event = event ≡ Row e name row
+Asks e (Ok LeaveAsked) event = event ≡ Leave e
+Asks e (Ok Quit) event = ⊥
+Asks e (Err fault) event = ⊥
+
+-- what was read is answered so, and these entries are made
+abbrev pub Answers : ℕ → Result Request RequestFault → Said → List SetEntry → Type 0
+Answers e form (Replied reply) made = (event : SetEvent) × Asks e form event × (made ≡ record { event = event; reply = reply } ∷ [])
+Answers e form Bye made = (form ≡ Ok Quit) × (made ≡ [])
+Answers e form BadLine made = (form ≡ Err Line) × (made ≡ [])
+Answers e form BadWidth made = (form ≡ Err Width) × (made ≡ [])
+Answers e form NoMemory made = (form ≢ Ok Quit) × (made ≡ [])
+
+-- the line of an answer, where the attributes have these names
+abbrev pub said_line : List Text → Said → Text
+said_line attributes (Replied reply) = reply_line attributes reply
+said_line attributes Bye = codes "bye\n"
+said_line attributes BadLine = codes "bad line\n"
+said_line attributes BadWidth = codes "bad width\n"
+said_line attributes NoMemory = codes "no memory\n"
+
+-- a line that was served: its bytes before the line feed, its answer, and the entries that it made
+pub record Exchange : Type 0 where
+  pub line : Text
+  pub said : Said
+  pub made : List SetEntry
+
+-- expert e was served, where rows have width n
+pub record IsExchange (n e : ℕ) (x : Exchange) : Type 0 where
+  pub short : length x.line ≤ LINE_BYTES
+  pub unbroken : HasNoFeed x.line
+  pub answered : Answers e (request_form x.line n) x.said x.made
+
+abbrev pub IsQuit : ℕ → Exchange → Type 0
+IsQuit n x = request_form x.line n ≡ Ok Quit
+
+abbrev pub IsNotQuit : ℕ → Exchange → Type 0
+IsNotQuit n x = request_form x.line n ≢ Ok Quit
+
+-- ---- all lines
+
+-- the lines as they were read
+abbrev pub lines_of : List Exchange → Text
+lines_of [] = []
+lines_of (x ∷ xs) = (x.line ++ line_end) ++ lines_of xs
+
+-- their answers
+abbrev pub replies_of : List Text → List Exchange → Text
+replies_of attributes [] = []
+replies_of attributes (x ∷ xs) = said_line attributes x.said ++ replies_of attributes xs
+
+-- the entries that they made
+abbrev pub entries_of : List Exchange → List SetEntry
+entries_of [] = []
+entries_of (x ∷ xs) = x.made ++ entries_of xs
+
+-- all but the last
+abbrev pub before_last : List Exchange → List Exchange
+before_last [] = []
+before_last (x ∷ []) = []
+before_last (x ∷ y ∷ xs) = x ∷ before_last (y ∷ xs)

@@ -1,0 +1,138 @@
+//! Lines as they are read: the bytes that were read and not served yet.
+
+ghost use Rattle.std.specs.Prelude.{◌≡◌, ◌≤◌, ◌<◌, ◌↔◌, ◌+◌, [], IfOk, IfErr, OnErr, IsTrue, MatchOption, length, take, drop};
+ghost use Rattle.std.specs.Io.KnownBytes.{IsAtEnd};
+ghost use Rattle.fca_io.specs.Faults.{Rose};
+ghost use Rattle.fca_model.specs.declared.TheConstants.{LINE_BYTES};
+ghost use Rattle.expert_sessions.specs.Lines.{HasNoFeed};
+ghost use Rattle.expert_sessions.specs.Moves.{Wire};
+ghost use Rattle.expert_sessions.specs.Courses.{Reads, HasFeedAt, LacksLine};
+
+use crate::ended::Ended;
+use fca_io::{Duplex, Failed};
+use fca_model::{LINE_BYTES, Memory};
+use std::alloc::Global;
+use std::marker::Model;
+
+/// As many bytes as a line may have, and a line feed.
+const MOST: usize = LINE_BYTES + 1;
+
+/// The bytes that were read ahead.
+#[derive(Drop)]
+pub(crate) struct Ahead {
+    bytes: Vec<u8>,
+}
+
+impl Model for Ahead {
+    ghost use Rattle.std.specs.Prelude.{ℕ, List, ◌≤◌, ◌+◌, vec_len, vec_capacity};
+    ghost use Rattle.fca_model.specs.declared.TheConstants.{LINE_BYTES};
+
+    ghost Value = { List ℕ };
+
+    ghost view = { λ a. a.bytes.items };
+
+    ghost invariant = { λ a. record { few : vec_len a.bytes ≤ LINE_BYTES + 1; made : LINE_BYTES + 1 ≤ vec_capacity a.bytes } };
+}
+
+impl Ahead {
+    pub(crate) fn new(alloc: Global) -> Result<Ahead, Memory>
+        ensures { IfOk result (λ ahead. ahead ≡ []) }
+    {
+        Ok(Ahead {
+            bytes: Vec::with_capacity(alloc, MOST)?,
+        })
+    }
+
+    /// Reads until there is a whole line, and answers where its line feed stands.
+    pub(crate) fn read_line<E: Duplex>(&mut self, end: &mut E) -> Result<usize, Ended>
+        ensures read { Reads
+            (record { left = E.Source.left end.old; held = E.Sink.held end.old; reads = E.Source.faults end.old; writes = E.Sink.faults end.old })
+            (record { left = E.Source.left end.new; held = E.Sink.held end.new; reads = E.Source.faults end.new; writes = E.Sink.faults end.new })
+            self.old self.new }
+        ensures line { IfOk result (HasFeedAt self.new) }
+        ensures short { IfOk result (λ at. at ≤ LINE_BYTES) }
+        ensures none { IfErr result (LacksLine
+            (record { left = E.Source.left end.old; held = E.Sink.held end.old; reads = E.Source.faults end.old; writes = E.Sink.faults end.old })
+            (record { left = E.Source.left end.new; held = E.Sink.held end.new; reads = E.Source.faults end.new; writes = E.Sink.faults end.new })
+            self.new) }
+    {
+        loop {
+            if let Some(at) = self.feed() {
+                return Ok(at);
+            }
+            if self.is_full() {
+                return Err(Ended::LongLine);
+            }
+            match self.read(end) {
+                Ok(0) => return Err(Ended::EndOfInput),
+                Ok(_) => {}
+                Err(_) => return Err(Ended::ReadFault),
+            }
+        }
+    }
+
+    /// The first bytes, up to this place.
+    pub(crate) fn line(&self, at: usize) -> &[u8]
+        requires { at ≤ length self.now }
+        ensures { result.now ≡ take at self.now }
+    {
+        &self.bytes[..at]
+    }
+
+    /// Forgets the first bytes.
+    pub(crate) fn forget(&mut self, count: usize)
+        requires { count ≤ length self.old }
+        ensures { self.new ≡ drop count self.old }
+    {
+        let left = self.bytes.len() - count;
+        self.bytes.copy_within(count.., 0);
+        self.bytes.truncate(left);
+    }
+
+    /// Where the first line feed stands.
+    fn feed(&self) -> Option<usize>
+        ensures place { MatchOption result (HasNoFeed self.now) (HasFeedAt self.now) }
+        ensures few { length self.now ≤ LINE_BYTES + 1 }
+    {
+        feed_in(&self.bytes)
+    }
+
+    fn is_full(&self) -> bool
+        ensures full { IsTrue result ↔ (length self.now ≡ LINE_BYTES + 1) }
+        ensures few { length self.now ≤ LINE_BYTES + 1 }
+    {
+        self.bytes.len() == MOST
+    }
+
+    /// Reads once, and answers how many bytes: none at the end alone.
+    fn read<E: Duplex>(&mut self, end: &mut E) -> Result<usize, Failed>
+        requires { length self.old ≤ LINE_BYTES }
+        ensures read { Reads
+            (record { left = E.Source.left end.old; held = E.Sink.held end.old; reads = E.Source.faults end.old; writes = E.Sink.faults end.old })
+            (record { left = E.Source.left end.new; held = E.Sink.held end.new; reads = E.Source.faults end.new; writes = E.Sink.faults end.new })
+            self.old self.new }
+        ensures count { IfOk result (λ count. length self.new ≡ length self.old + count) }
+        ensures end { IfOk result (λ count. count ≡ 0 → IsAtEnd (E.Source.left end.new)) }
+        ensures failed { OnErr result ((self.new ≡ self.old) × Rose (E.Source.faults end.old) (E.Source.faults end.new)) }
+    {
+        let mut chunk = [0; MOST];
+        let room = MOST - self.bytes.len();
+        let count = end.read(&mut chunk[..room])?;
+        match self.bytes.extend_from_slice(&chunk[..count]) {
+            Ok(()) => Ok(count),
+            Err(_) => unreachable!(),
+        }
+    }
+}
+
+/// Where the first line feed stands.
+fn feed_in(bytes: &[u8]) -> Option<usize>
+    ensures { MatchOption result (HasNoFeed bytes.now) (HasFeedAt bytes.now) }
+{
+    for (at, byte) in bytes.iter().enumerate() {
+        if *byte == b'\n' {
+            return Some(at);
+        }
+    }
+    None
+}

@@ -1,0 +1,171 @@
+//! The seats of many sessions, side by side on threads.
+
+ghost use Rattle.std.specs.Prelude.{◌≡◌, ◌≤◌, ◌<◌, ◌+◌, [], All, map, vec_len, vec_capacity};
+ghost use Rattle.std.specs.Thread.{IsSync};
+ghost use Rattle.turn_lock.specs.Passes.{Belongs, IsFresh, badge};
+ghost use Rattle.expert_sessions.specs.Moves.{Wire, HasTalked};
+ghost use Rattle.expert_sessions.specs.Serving.{IsReady, EachSeat, HasSat};
+
+use crate::ended::Ended;
+use crate::talk::session;
+use context_table::Table;
+use expert_gate::{ExpertPass, Gate, Seated};
+use fca_io::Duplex;
+use std::alloc::Global;
+use std::sync::Wait;
+use std::thread::{Threads, join_mut};
+
+/// One expert's place: its pass, its end, and how its session ended.
+#[derive(Drop)]
+pub struct Seat<E> {
+    pub(crate) pass: ExpertPass,
+    pub(crate) end: E,
+    pub(crate) ended: Ended,
+}
+
+/// What all sessions are held to: the table that they speak of, and how many lines each may have.
+#[derive(Drop)]
+pub(crate) struct Terms {
+    pub(crate) table: Table,
+    pub(crate) lines: u32,
+    pub(crate) ghost some: { 1 ≤ lines },
+    pub(crate) ghost few: { lines ≤ 1000000 },
+}
+
+/// Every seat's session.
+pub(crate) fn run_seats<R: Threads + Wait + Sync, E: Duplex + Send>(
+    rt: &R,
+    alloc: Global,
+    gate: &Gate,
+    terms: &Terms,
+    seats: &mut Vec<Seat<E>>,
+)
+    requires ready { All (IsReady gate.now) seats.old.items }
+    requires width { gate.now.base.table.context.width ≡ terms.now.table.context.width }
+    requires turns { terms.now.lines + 1 < gate.now.turns }
+    ensures { EachSeat (HasSat E.Source.left E.Sink.held E.Source.faults E.Sink.faults terms.now.table terms.now.lines) seats.old.items seats.new.items }
+{
+    run_halves(rt, &alloc, gate, terms, seats.as_mut_slice())
+}
+
+/// The seats in halves. The allocator is lent, since what threads write would be lost if they held it.
+fn run_halves<R: Threads + Wait + Sync, E: Duplex + Send>(
+    rt: &R,
+    alloc: &Global,
+    gate: &Gate,
+    terms: &Terms,
+    seats: &mut [Seat<E>],
+)
+    requires ready { All (IsReady gate.now) seats.old }
+    requires width { gate.now.base.table.context.width ≡ terms.now.table.context.width }
+    requires turns { terms.now.lines + 1 < gate.now.turns }
+    ensures { EachSeat (HasSat E.Source.left E.Sink.held E.Source.faults E.Sink.faults terms.now.table terms.now.lines) seats.old seats.new }
+{
+    if seats.len() == 0 {
+        return;
+    }
+    if seats.len() == 1 {
+        run_seat(rt, *alloc, gate, terms, &mut seats[0]);
+        return;
+    }
+    let (front, back) = seats.split_at_mut(seats.len() / 2);
+    join_mut(
+        rt,
+        &mut ||
+            requires { IsSync R.row × All (IsReady gate.now) front.now × (gate.now.base.table.context.width ≡ terms.now.table.context.width) × (terms.now.lines + 1 < gate.now.turns) }
+            ensures { EachSeat (HasSat E.Source.left E.Sink.held E.Source.faults E.Sink.faults terms.entry.now.table terms.entry.now.lines) front.entry.now front.exit.now }
+        { run_halves(rt, alloc, gate, terms, front) },
+        &mut ||
+            requires { IsSync R.row × All (IsReady gate.now) back.now × (gate.now.base.table.context.width ≡ terms.now.table.context.width) × (terms.now.lines + 1 < gate.now.turns) }
+            ensures { EachSeat (HasSat E.Source.left E.Sink.held E.Source.faults E.Sink.faults terms.entry.now.table terms.entry.now.lines) back.entry.now back.exit.now }
+        { run_halves(rt, alloc, gate, terms, back) },
+    );
+}
+
+/// One seat's session.
+fn run_seat<R: Wait, E: Duplex>(
+    rt: &R,
+    alloc: Global,
+    gate: &Gate,
+    terms: &Terms,
+    seat: &mut Seat<E>,
+)
+    requires ready { IsReady gate.now seat.old }
+    requires width { gate.now.base.table.context.width ≡ terms.now.table.context.width }
+    requires turns { terms.now.lines + 1 < gate.now.turns }
+    ensures { HasSat E.Source.left E.Sink.held E.Source.faults E.Sink.faults terms.now.table terms.now.lines seat.old seat.new }
+{
+    seat.ended = serve_one(rt, alloc, gate, terms, &mut seat.pass, &mut seat.end);
+}
+
+/// The session of the pass's expert.
+fn serve_one<R: Wait, E: Duplex>(
+    rt: &R,
+    alloc: Global,
+    gate: &Gate,
+    terms: &Terms,
+    pass: &mut ExpertPass,
+    end: &mut E,
+) -> Ended
+    requires lock { Belongs gate.now pass.old }
+    requires fresh { IsFresh pass.old }
+    requires width { gate.now.base.table.context.width ≡ terms.now.table.context.width }
+    requires turns { terms.now.lines + 1 < gate.now.turns }
+    ensures same { badge pass.new ≡ badge pass.old }
+    ensures talk { HasTalked terms.now.table pass.new.number terms.now.lines
+        (record { left = E.Source.left end.old; held = E.Sink.held end.old; reads = E.Source.faults end.old; writes = E.Sink.faults end.old })
+        (record { left = E.Source.left end.new; held = E.Sink.held end.new; reads = E.Source.faults end.new; writes = E.Sink.faults end.new })
+        [] pass.new.own result ⊥ }
+{
+    let expert = pass.number();
+    let mut desk = Seated { rt, gate, pass };
+    session(alloc, &mut desk, &terms.table, expert, end, terms.lines)
+}
+
+/// A seat for each pass, with the end in the same place, in a list that has room for them.
+pub(crate) fn seated<E: Drop>(
+    mut seats: Vec<Seat<E>>,
+    passes: Vec<ExpertPass>,
+    ends: Vec<E>,
+) -> Vec<Seat<E>>
+    requires empty { seats.items ≡ [] }
+    requires many { vec_len passes ≡ vec_len ends }
+    requires room { vec_len ends ≤ vec_capacity seats }
+    ensures passes { map (λ seat. seat.pass) result.items ≡ passes.items }
+    ensures ends { map (λ seat. seat.end) result.items ≡ ends.items }
+{
+    let mut ends = ends.into_iter();
+    for pass in passes {
+        let Some(end) = ends.next() else {
+            unreachable!()
+        };
+        seats.push_reserved(Seat {
+            pass,
+            end,
+            ended: Ended::Memory,
+        });
+    }
+    seats
+}
+
+/// What the seats hold, in lists that have room for it.
+pub(crate) fn risen<E: Drop>(
+    seats: Vec<Seat<E>>,
+    mut passes: Vec<ExpertPass>,
+    mut ends: Vec<E>,
+    mut endings: Vec<Ended>,
+) -> (Vec<ExpertPass>, Vec<E>, Vec<Ended>)
+    requires empty { (passes.items ≡ []) × (ends.items ≡ []) × (endings.items ≡ []) }
+    requires room { (vec_len seats ≤ vec_capacity passes) × (vec_len seats ≤ vec_capacity ends) × (vec_len seats ≤ vec_capacity endings) }
+    ensures passes { result.0.items ≡ map (λ seat. seat.pass) seats.items }
+    ensures ends { result.1.items ≡ map (λ seat. seat.end) seats.items }
+    ensures endings { result.2.items ≡ map (λ seat. seat.ended) seats.items }
+{
+    for seat in seats {
+        let Seat { pass, end, ended } = seat;
+        passes.push_reserved(pass);
+        ends.push_reserved(end);
+        endings.push_reserved(ended);
+    }
+    (passes, ends, endings)
+}

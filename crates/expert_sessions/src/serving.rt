@@ -1,0 +1,140 @@
+//! Many sessions at once: one expert for each end, all at one gate.
+
+ghost use Rattle.std.specs.Prelude.{◌≡◌, ◌≤◌, ◌<◌, ◌+◌, ◌^◌, ◌⊎◌, ℕ, [], All, IfOk, IfErr, map, length, vec_len, vec_capacity};
+ghost use Rattle.fca_model.specs.declared.TheConstants.{MAX_EXPERTS};
+ghost use Rattle.fca_model.specs.Exploration.{plain, own};
+ghost use Rattle.turn_lock.specs.Passes.{badge, roll, IsFresh};
+ghost use Rattle.expert_gate.specs.Histories.{IsHistory};
+ghost use Rattle.expert_sessions.specs.Serving.{EachTalks};
+ghost use Rattle.expert_sessions.specs.Rooms.{IsEmpty, HasRoom};
+
+use crate::ended::Ended;
+use crate::seats::{Seat, Terms, risen, run_seats, seated};
+use context_table::Table;
+use expert_gate::{ExpertPass, Gate};
+use explore_state::Explore;
+use fca_io::Duplex;
+use fca_model::Memory;
+use std::alloc::Global;
+use std::sync::Wait;
+use std::thread::Threads;
+
+/// An exploration by sessions, once all have ended.
+#[derive(Drop)]
+pub struct Served<E> {
+    pub explore: Explore,
+    /// The ends, in the order of their experts.
+    pub ends: Vec<E>,
+    /// How each session ended.
+    pub endings: Vec<Ended>,
+}
+
+/// There was no memory to begin, and no session took place.
+#[derive(Drop)]
+pub struct Unserved<E> {
+    /// The ends as they were.
+    pub ends: Vec<E>,
+}
+
+/// Explores the table: expert k works over the k-th end, at most `lines` lines are answered there, and each expert may
+/// make `turns` turns.
+pub fn serve_ends<R: Threads + Wait + Sync, E: Duplex + Send + Drop>(
+    rt: &R,
+    alloc: Global,
+    table: Table,
+    ends: Vec<E>,
+    lines: u32,
+    turns: u64,
+) -> Result<Served<E>, Unserved<E>>
+    requires ends { (1 ≤ vec_len ends) × (vec_len ends ≤ MAX_EXPERTS) }
+    requires lines { (1 ≤ lines) × (lines ≤ 1000000) }
+    requires turns { (lines + 1 < turns) × (turns ≤ 2 ^ 48) }
+    ensures opening { IfOk result (λ r. r.explore.opening ≡ record { table = table; experts = vec_len ends; settings = plain }) }
+    ensures history { IfOk result (λ r. IsHistory r.explore.opening r.explore.journal) }
+    ensures talks { IfOk result (λ r. EachTalks E.Source.left E.Sink.held E.Source.faults E.Sink.faults table lines
+        r.explore.journal 1 ends.items r.ends.items r.endings.items) }
+    ensures others { IfOk result (λ r. (e : ℕ) → (e ≡ 0) ⊎ (vec_len ends < e) → own r.explore.journal e ≡ []) }
+    ensures untouched { IfErr result (λ e. e.ends ≡ ends) }
+{
+    let Ok(hall) = open_hall(alloc, table, ends.len(), lines, turns) else {
+        return Err(Unserved { ends });
+    };
+    let Hall {
+        terms,
+        gate,
+        passes,
+        room,
+    } = hall;
+    let mut seats = seated(room.seats, passes, ends);
+    run_seats(rt, alloc, &gate, &terms, &mut seats);
+    let (passes, ends, endings) = risen(seats, room.passes, room.ends, room.endings);
+    Ok(Served {
+        explore: gate.close(passes),
+        ends,
+        endings,
+    })
+}
+
+/// Room for what so many seats hold.
+#[derive(Drop)]
+struct Room<E> {
+    seats: Vec<Seat<E>>,
+    passes: Vec<ExpertPass>,
+    ends: Vec<E>,
+    endings: Vec<Ended>,
+}
+
+/// All that the sessions need.
+struct Hall<E> {
+    terms: Terms,
+    gate: Gate,
+    passes: Vec<ExpertPass>,
+    room: Room<E>,
+}
+
+/// Opens the gate, and makes room.
+fn open_hall<E: Drop>(
+    alloc: Global,
+    table: Table,
+    count: usize,
+    lines: u32,
+    turns: u64,
+) -> Result<Hall<E>, Memory>
+    requires count { (1 ≤ count) × (count ≤ MAX_EXPERTS) }
+    requires lines { (1 ≤ lines) × (lines ≤ 1000000) }
+    requires turns { (1 ≤ turns) × (turns ≤ 2 ^ 48) }
+    ensures terms { IfOk result (λ h. (h.terms.table ≡ table) × (h.terms.lines ≡ lines)) }
+    ensures base { IfOk result (λ h. h.gate.base ≡ record { table = table; experts = count; settings = plain }) }
+    ensures counts { IfOk result (λ h. (h.gate.turns ≡ turns) × (h.gate.passes ≡ count)) }
+    ensures passes { IfOk result (λ h. map badge h.passes.items ≡ roll h.gate) }
+    ensures fresh { IfOk result (λ h. All IsFresh h.passes.items) }
+    ensures empty { IfOk result (λ h. IsEmpty h.room) }
+    ensures room { IfOk result (λ h. HasRoom count h.room) }
+{
+    let terms = Terms {
+        table: table.copy()?,
+        lines,
+    };
+    let Ok(explore) = Explore::open(alloc, table, count as u8) else {
+        return Err(Memory);
+    };
+    let (gate, passes) = Gate::open(alloc, explore, turns)?;
+    Ok(Hall {
+        terms,
+        gate,
+        passes,
+        room: make_room(alloc, count)?,
+    })
+}
+
+fn make_room<E: Drop>(alloc: Global, count: usize) -> Result<Room<E>, Memory>
+    ensures empty { IfOk result IsEmpty }
+    ensures room { IfOk result (HasRoom count) }
+{
+    Ok(Room {
+        seats: Vec::with_capacity(alloc, count)?,
+        passes: Vec::with_capacity(alloc, count)?,
+        ends: Vec::with_capacity(alloc, count)?,
+        endings: Vec::with_capacity(alloc, count)?,
+    })
+}

@@ -1,0 +1,111 @@
+//! The session of one expert.
+
+ghost use Rattle.std.specs.Prelude.{◌≡◌, ◌≤◌, ◌+◌, [], Some, OnOk, IfErr};
+ghost use Rattle.fca_model.specs.declared.TheConstants.{MAX_ATTRIBUTES};
+ghost use Rattle.expert_sessions.specs.Moves.{Wire, Place, TakesAtMost, HasTalked};
+ghost use Rattle.expert_sessions.specs.Courses.{Serves, Halts, HasServed};
+
+use crate::ahead::Ahead;
+use crate::answer::answer;
+use crate::ended::Ended;
+use crate::said::{Said, greet, write_said};
+use context_table::Table;
+use expert_gate::Desk;
+use fca_io::Duplex;
+use std::alloc::Global;
+use turn_lock::TurnFault;
+
+/// The session of the desk's expert over the end: it greets, answers at most `lines` lines, and leaves.
+pub fn session<D: Desk, E: Duplex>(
+    alloc: Global,
+    desk: &mut D,
+    table: &Table,
+    expert: u8,
+    end: &mut E,
+    lines: u32,
+) -> Ended
+    requires expert { expert ≡ D.number desk.old }
+    requires width { D.attributes desk.old ≡ table.now.context.width }
+    requires lines { (1 ≤ lines) × (lines ≤ 1000000) }
+    ensures talk { HasTalked table.now expert lines
+        (record { left = E.Source.left end.old; held = E.Sink.held end.old; reads = E.Source.faults end.old; writes = E.Sink.faults end.old })
+        (record { left = E.Source.left end.new; held = E.Sink.held end.new; reads = E.Source.faults end.new; writes = E.Sink.faults end.new })
+        (D.entries desk.old) (D.entries desk.new) result (D.left desk.new ≡ Some 0) }
+    ensures turns { TakesAtMost (lines + 1) (D.left desk.old) (D.left desk.new) }
+    ensures same { (D.number desk.new ≡ D.number desk.old) × (D.lock desk.new ≡ D.lock desk.old) × (D.place desk.new ≡ D.place desk.old) × (D.attributes desk.new ≡ D.attributes desk.old) }
+{
+    let Ok(mut ahead) = Ahead::new(alloc) else {
+        return Ended::Memory;
+    };
+    match serve_lines(alloc, desk, table, expert, end, &mut ahead, lines) {
+        Ended::Spent => Ended::Spent,
+        ended => match desk.leave() {
+            Ok(_) => ended,
+            Err(TurnFault::Spent) => Ended::Spent,
+            Err(TurnFault::Memory) => Ended::Memory,
+        },
+    }
+}
+
+/// Greets, and answers at most `lines` lines.
+fn serve_lines<D: Desk, E: Duplex>(
+    alloc: Global,
+    desk: &mut D,
+    table: &Table,
+    expert: u8,
+    end: &mut E,
+    ahead: &mut Ahead,
+    lines: u32,
+) -> Ended
+    requires none { ahead.old ≡ [] }
+    requires expert { expert ≡ D.number desk.old }
+    requires width { D.attributes desk.old ≡ table.now.context.width }
+    ensures served { HasServed table.now expert lines
+        (record { left = E.Source.left end.old; held = E.Sink.held end.old; reads = E.Source.faults end.old; writes = E.Sink.faults end.old })
+        (record { left = E.Source.left end.new; held = E.Sink.held end.new; reads = E.Source.faults end.new; writes = E.Sink.faults end.new })
+        (record { entries = D.entries desk.old; turns = D.left desk.old }) (record { entries = D.entries desk.new; turns = D.left desk.new }) result }
+    ensures same { (D.number desk.new ≡ D.number desk.old) × (D.lock desk.new ≡ D.lock desk.old) × (D.place desk.new ≡ D.place desk.old) × (D.attributes desk.new ≡ D.attributes desk.old) }
+{
+    if greet(end, table, expert).is_err() {
+        return Ended::WriteFault;
+    }
+    for _count in 0..lines {
+        if let Err(ended) = serve_line(alloc, desk, table, end, ahead) {
+            return ended;
+        }
+    }
+    Ended::Limit
+}
+
+/// Reads a line, does what it asks for, and answers it.
+fn serve_line<D: Desk, E: Duplex>(
+    alloc: Global,
+    desk: &mut D,
+    table: &Table,
+    end: &mut E,
+    ahead: &mut Ahead,
+) -> Result<(), Ended>
+    requires width { D.attributes desk.old ≡ table.now.context.width }
+    ensures served { OnOk result (Serves table.now (D.number desk.old)
+        (record { left = E.Source.left end.old; held = E.Sink.held end.old; reads = E.Source.faults end.old; writes = E.Sink.faults end.old })
+        (record { left = E.Source.left end.new; held = E.Sink.held end.new; reads = E.Source.faults end.new; writes = E.Sink.faults end.new })
+        (record { entries = D.entries desk.old; turns = D.left desk.old }) (record { entries = D.entries desk.new; turns = D.left desk.new })
+        ahead.old ahead.new) }
+    ensures halted { IfErr result (Halts table.now (D.number desk.old)
+        (record { left = E.Source.left end.old; held = E.Sink.held end.old; reads = E.Source.faults end.old; writes = E.Sink.faults end.old })
+        (record { left = E.Source.left end.new; held = E.Sink.held end.new; reads = E.Source.faults end.new; writes = E.Sink.faults end.new })
+        (record { entries = D.entries desk.old; turns = D.left desk.old }) (record { entries = D.entries desk.new; turns = D.left desk.new })
+        ahead.old) }
+    ensures same { (D.number desk.new ≡ D.number desk.old) × (D.lock desk.new ≡ D.lock desk.old) × (D.place desk.new ≡ D.place desk.old) × (D.attributes desk.new ≡ D.attributes desk.old) }
+{
+    let at = ahead.read_line(end)?;
+    let said = answer(alloc, desk, table, ahead.line(at))?;
+    ahead.forget(at + 1);
+    if write_said(end, table, &said).is_err() {
+        return Err(Ended::WriteFault);
+    }
+    match said {
+        Said::Bye => Err(Ended::Quit),
+        _ => Ok(()),
+    }
+}

@@ -1,0 +1,4 @@
+pub mod AcceptedLemmas
+pub mod ServedLemmas
+pub mod StepLemmas
+pub mod EndingLemmas

@@ -1,0 +1,45 @@
+use Rattle.std.proofs.Common.{◌∙◌, sym, arith}
+use Rattle.std.proofs.lemmas.Result.{IfOk-weaker, IfErr-weaker}
+use Rattle.serve_command.proofs.StepLemmas.{expert-range, err-passed, any-err, early-back, short-stops, short-back, memory-stops, risen-ends, sat-answer}
+use Rattle.serve_command.proofs.serving.exploration.Goals as goal
+
+pub returns-in_err-table-clause-ends : goal.returns-in_err-table-clause-ends
+returns-in_err-table-clause-ends g c =
+    let range = expert-range c.args.experts c.requires.experts in
+    any-err c.from_residual.result _ (λ s. early-back _ _ _ _ c.args.experts _ _ range.0)
+
+pub ends_at-requires-clause-some : goal.ends_at-requires-clause-some
+ends_at-requires-clause-some g c κs within = (expert-range c.args.experts c.requires.experts).0
+
+pub returns-in_err-ends-clause-stop : goal.returns-in_err-ends-clause-stop
+returns-in_err-ends-clause-stop g c =
+    err-passed c.from_residual-in_err-ends.result c.in_err-ends.field-0.0 _ c.from_residual-in_err-ends.ensures.1
+    (short-stops _ c.in_ok-table.table _ _ _ _ _ _ c.in_ok-table.ensures.table c.in_err-ends.ensures.short)
+
+pub returns-in_err-ends-clause-ends : goal.returns-in_err-ends-clause-ends
+returns-in_err-ends-clause-ends g c =
+    err-passed c.from_residual-in_err-ends.result c.in_err-ends.field-0.0 _ c.from_residual-in_err-ends.ensures.1
+    (short-back _ _ _ _ _ _ _ _ _ c.in_err-ends.ensures.short)
+
+pub explored-requires-clause-count : goal.explored-requires-clause-count
+explored-requires-clause-count g c κs within =
+    let range = expert-range c.args.experts c.requires.experts in
+    let some = range.0 in
+    let few = range.1 in
+    let many = c.in_ok-ends.ensures.count in
+    (omega arith, omega arith)
+
+pub returns-clause-answer : goal.returns-clause-answer
+returns-clause-answer g c =
+    let many = sym c.in_ok-ends.ends.ok.0 ∙ c.in_ok-ends.ensures.count in
+    IfOk-weaker c.explored.result _ _ (λ answer sat.
+    (c.in_ok-table.table, c.in_ok-table.ensures.table, sat-answer _ _ _ _ _ _ _ _ _ _ _ c.in_ok-ends.ensures.within c.in_ok-ends.ensures.taken many sat))
+    c.explored.ensures.sat
+
+pub returns-clause-stop : goal.returns-clause-stop
+returns-clause-stop g c = IfErr-weaker c.explored.result _ _ (λ stop five. memory-stops _ _ _ _ five) c.explored.ensures.memory
+
+pub returns-clause-ends : goal.returns-clause-ends
+returns-clause-ends g c =
+    let many = sym c.in_ok-ends.ends.ok.0 ∙ c.in_ok-ends.ensures.count in
+    risen-ends _ _ _ _ _ _ _ _ _ c.explored.result c.in_ok-ends.ensures.within c.in_ok-ends.ensures.taken many c.explored.ensures.risen c.explored.ensures.memory

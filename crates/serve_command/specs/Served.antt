@@ -1,0 +1,123 @@
+-- What `serve` writes: the text of one legal history, which the experts at the ends of a link made, and how their sessions ended.
+--
+-- Where the first of two experts quits at once and the second goes at the end of its input, the text ends with the lines `# sessions 2`, `# 1 quit` and
+-- `# 2 end of input`.
+use Rattle.std.specs.Prelude.{◌≡◌, ◌↔◌, ◌⊎◌, ◌<◌, ◌≤◌, ℕ, Bool, false, Option, List, [], ◌++◌, map, length, codes}
+use Rattle.fca_model.specs.Tables.{Text, NamedContext}
+use Rattle.fca_model.specs.Exploration.{SetEntry, plain, own}
+use Rattle.fca_io.specs.Links.{Ends}
+use Rattle.expert_sessions.specs.Serving.{EachTalks}
+use Rattle.expert_sessions.specs.declared.ended.Ended.{Ended}
+use Rattle.expert_sessions.specs.declared.ended.Ended.TheVariants.{Quit, EndOfInput, ReadFault, WriteFault, LongLine, Limit, Spent, Memory}
+use Rattle.basis_report.specs.Explorations.{explore_text, spelled}
+use Rattle.basis_report.specs.Sessions.{sessions_text}
+use Rattle.command_io.specs.Readings.{Reading, MayRead, MayRefuse}
+use Rattle.command_io.specs.Readings.Reading.{Untold, Refused, Read}
+use Rattle.command_io.specs.Endings.{Output, whole_status, IsWhole}
+use Rattle.command_io.specs.Explorations.{Recorded, opening_of, open_at, IsExplored}
+use Rattle.serve_command.specs.Accepted.{TookAndGave, GaveBack, HasRoomFor}
+
+-- the most lines that a session may have
+abbrev pub lines : ℕ
+lines = 1000000
+
+-- the words for an ending
+abbrev pub words_of : Ended → Text
+words_of Quit = codes "quit"
+words_of EndOfInput = codes "end of input"
+words_of ReadFault = codes "read fault"
+words_of WriteFault = codes "write fault"
+words_of LongLine = codes "long line"
+words_of Limit = codes "limit"
+words_of Spent = codes "spent"
+words_of Memory = codes "no memory"
+
+-- the exploration of a table by so many experts that has this history
+abbrev pub served : NamedContext → ℕ → List SetEntry → Recorded
+served table experts H = record { opening = opening_of table experts; journal = H }
+
+-- its text, and how the sessions ended
+abbrev pub served_text : NamedContext → List SetEntry → List Ended → Text
+served_text table H endings = explore_text table plain H ++ sessions_text (map words_of endings)
+
+-- over ends that show what is left and what is held, and their counts of faults
+module _ {E : Type 0} (left held : E → Option Text) (reads writes : E → ℕ) where
+  -- The text spells one legal history, which has no entries but those of the experts at these ends: expert k has talked over the k-th of them,
+  -- and the text tells how that session ended. It is open where a question is, after the last entry
+  pub record IsServedText (table : NamedContext) (before after : List E) (written : Text) (is_open : Bool) : Type 0 where
+    pub history : List SetEntry
+    pub endings : List Ended
+    pub text : written ≡ served_text table history endings
+    pub spells : spelled table plain written ≡ history
+    pub course : IsExplored (served table (length before) history)
+    pub talks : EachTalks left held reads writes table lines history 1 before after endings
+    pub others : (e : ℕ) → (e ≡ 0) ⊎ (length before < e) → own history e ≡ []
+    pub finished : (is_open ≡ false) ↔ (open_at (served table (length before) history) ≡ [])
+
+  -- the ends are as they were, or their experts have talked over them
+  abbrev pub MayHaveTalked : List E → List E → Type 0
+  MayHaveTalked before after =
+      (after ≡ before)
+      ⊎ ((table : NamedContext) × (H : List SetEntry) × (endings : List Ended) × EachTalks left held reads writes table lines H 1 before after endings)
+
+  -- an answer: the ends that were accepted, which are as many as there are experts, are given back, and the text is theirs
+  pub record IsAnswer (table : NamedContext) (experts : ℕ) (old new : Option (Ends E)) (answer : Output) : Type 0 where
+    pub before : List E
+    pub after : List E
+    pub count : length before ≡ experts
+    pub ends : TookAndGave old new before after
+    pub is : IsServedText table before after answer.text answer.is_open
+
+  -- its whole text was written, with this status
+  pub record HasServed (Gained : Text → Type 0) (table : NamedContext) (experts : ℕ) (old new : Option (Ends E)) (result : ℕ) : Type 0 where
+    pub answer : Output
+    pub is : IsAnswer table experts old new answer
+    pub gained : Gained answer.text
+    pub status : result ≡ whole_status answer
+
+  -- its text was begun
+  pub record HasBegun (Gained : Text → Type 0) (table : NamedContext) (experts : ℕ) (old new : Option (Ends E)) : Type 0 where
+    pub answer : Output
+    pub is : IsAnswer table experts old new answer
+    pub gained : Gained answer.text
+
+  -- At most as many ends as there are experts were accepted, the first to come, and just these were given back in their order.
+  -- At 7 they are fewer, and as they were
+  pub record GaveAllBack (experts : ℕ) (old new : Option (Ends E)) (status : ℕ) : Type 0 where
+    pub before : List E
+    pub after : List E
+    pub ends : TookAndGave old new before after
+    pub talked : MayHaveTalked before after
+    pub few : length before ≤ experts
+    pub fewer : status ≡ 7 → (length before < experts) × (after ≡ before)
+
+  -- ---- the steps of a call
+
+  -- these ends have gone through their sessions and were given back where there was room, and the answer is theirs
+  pub record HasSat (table : NamedContext) (before : List E) (old new : Option (Ends E)) (answer : Output) : Type 0 where
+    pub after : List E
+    pub gave : HasRoomFor old (length after) → GaveBack old new after
+    pub long : length after ≡ length before
+    pub is : IsServedText table before after answer.text answer.is_open
+
+  -- these ends were given back where there was room, as they were or after their sessions
+  pub record HasRisen (before : List E) (old new : Option (Ends E)) : Type 0 where
+    pub after : List E
+    pub gave : HasRoomFor old (length after) → GaveBack old new after
+    pub long : length after ≡ length before
+    pub talked : MayHaveTalked before after
+
+-- the status of a call that was not cut off, by what was read; the link may fail it
+abbrev pub Serves : Reading NamedContext → ℕ → Type 0
+Serves Untold status = (status ≡ 2) ⊎ ((status ≡ 7) ⊎ IsWhole status)
+Serves Refused status = status ≡ 2
+Serves (Read table) status = (status ≡ 7) ⊎ IsWhole status
+
+-- a call stopped with this status: 2 where the reading may be refused, 3 where a count of the shelf rose, 7 where the table was read and a count
+-- of the link rose, or 5
+pub record StopsServing (reading : Reading NamedContext) (rose link_rose : Type 0) (status : ℕ) : Type 0 where
+  pub refused : status ≡ 2 → MayRefuse reading
+  pub fault : status ≡ 3 → rose
+  pub read : status ≡ 7 → (table : NamedContext) × MayRead reading table
+  pub link_fault : status ≡ 7 → link_rose
+  pub others : (status ≡ 2) ⊎ ((status ≡ 3) ⊎ ((status ≡ 5) ⊎ (status ≡ 7)))

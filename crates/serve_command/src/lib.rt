@@ -1,0 +1,8 @@
+//! The command `serve`: experts explore a table over the ends that a listener accepts.
+#![tactic(auto)]
+
+mod accepting;
+mod endings;
+mod serving;
+
+pub use serving::serve;
