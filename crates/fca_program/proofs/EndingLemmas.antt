@@ -1,12 +1,18 @@
 -- How a call ends follows from what its command was to write: it has this to write, or it stopped and nothing is written.
-use Rattle.std.proofs.Common.{◌≡◌, ◌∙◌, ◌⊎◌, ℕ, Bool, true, false, cond, Result, Ok, Err, inl, inr, refl, sym, ap, subst, arith}
-use Rattle.std.specs.Prelude.{IfOk, IfErr, IsOk}
+use Rattle.std.proofs.Common.{◌≡◌, ◌∙◌, ◌⊎◌, ℕ, Bool, true, false, cond, Option, Some, None, List, [], Result, Ok, Err, inl, inr, refl, sym, ap, subst, arith}
+use Rattle.std.specs.Prelude.{IfOk, IfErr, IsOk, IfSome, MatchOption}
 use Rattle.fca_model.specs.Tables.{Text}
 use Rattle.command_io.specs.Readings.{Reading, MayRead, MayRefuse, IfRead}
 use Rattle.command_io.specs.Readings.Reading.{Untold, Refused, Read}
 use Rattle.command_io.specs.Endings.{Output, whole_status, IsWhole, IsCutOff, EndsAnswer, Stops, stop_status}
 use Rattle.command_io.specs.declared.stop.Stop.{Stop}
-use Rattle.fca_program.specs.Endings.{Finishes, Ends}
+use Rattle.fca_io.specs.Shelves.{Told}
+use Rattle.fca_command.specs.declared.command.Command.{Command}
+use Rattle.fca_command.specs.declared.command.Command.TheVariants.{Explore, Serve}
+use Rattle.fca_program.specs.Endings.{Finishes, Ends, EndsBy, reads_input, uses_link, HasGivenBack}
+use Rattle.fca_io.specs.Links.{Ends as LinkEnds}
+use Rattle.serve_command.specs.Served.{GaveAllBack}
+use Rattle.serve_command.proofs.AcceptedLemmas.{TookAndGave-none}
 
 gained-read : (reading : Reading Output) (a : Output) (Gained : Text → Type 0) → MayRead reading a → Gained a.text → IfRead reading (λ o. Gained o.text)
 gained-read Untold a Gained may gained = tt
@@ -61,3 +67,42 @@ pub call-ends : (reading : Reading Output) (rose : Type 0) (answer : Result Outp
 call-ends reading rose (Ok a) status may ends stopped stop = answer-ends reading a status may ends
 call-ends reading rose (Err s) status may ends stopped stop =
     subst (Ends reading) (sym stopped) (stop-ends reading (stop_status s) stop.refused stop.others)
+
+-- ---- want of memory for the words
+
+memory-ends : (command : Command) (files : Text → Told) (input : Option Text) (n : ℕ) → n ≡ 5 → EndsBy command files input n
+memory-ends (Explore file experts) files input n e = inr (inr (inr e))
+memory-ends _ files input n e = inr (inr (inr e))
+
+pub memory-status : (found : Option Command) (files : Text → Told) (input : Option Text) (n : ℕ) → n ≡ 5
+    → MatchOption found ((n ≡ 1) ⊎ (n ≡ 5)) (λ command. EndsBy command files input n)
+memory-status None files input n e = inr e
+memory-status (Some command) files input n e = memory-ends command files input n e
+
+pub kept-same : {X : Type 0} (x : X) (found : Option Command) → IfSome found (λ command. reads_input command ≡ false → x ≡ x)
+kept-same x None = tt
+kept-same x (Some command) = λ e. refl
+
+pub link-same : {X : Type 0} (x : X) (found : Option Command) → IfSome found (λ command. uses_link command ≡ false → x ≡ x)
+link-same x None = tt
+link-same x (Some command) = λ e. refl
+
+module _ {E : Type 0} (left held : E → Option Text) (reads writes : E → ℕ) where
+  -- no end was accepted and none given back
+  none-given : (experts : ℕ) (ends : Option (LinkEnds E)) (n : ℕ) → n ≡ 5 → GaveAllBack left held reads writes experts ends ends n
+  none-given experts ends n e = record {
+    before = [];
+    after = [];
+    ends = TookAndGave-none ends;
+    talked = inl refl;
+    few = omega arith;
+    fewer = λ seven. absurd (omega arith);
+  }
+
+  given-by : (command : Command) (ends : Option (LinkEnds E)) (n : ℕ) → n ≡ 5 → HasGivenBack left held reads writes command ends ends n
+  given-by (Serve file experts listen) ends n e = none-given experts ends n e
+  given-by _ ends n e = tt
+
+  pub memory-given : (found : Option Command) (ends : Option (LinkEnds E)) (n : ℕ) → n ≡ 5 → IfSome found (λ command. HasGivenBack left held reads writes command ends ends n)
+  memory-given None ends n e = tt
+  memory-given (Some command) ends n e = given-by command ends n e
