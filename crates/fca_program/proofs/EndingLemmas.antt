@@ -106,3 +106,27 @@ module _ {E : Type 0} (left held : E → Option Text) (reads writes : E → ℕ)
   pub memory-given : (found : Option Command) (ends : Option (LinkEnds E)) (n : ℕ) → n ≡ 5 → IfSome found (λ command. HasGivenBack left held reads writes command ends ends n)
   memory-given None ends n e = tt
   memory-given (Some command) ends n e = given-by command ends n e
+
+-- ---- plain commands do not listen
+
+not_cut_off : (n : ℕ) → n ≡ 7 → IsCutOff n → ⊥
+not_cut_off n e (inl three) = omega arith
+not_cut_off n e (inr (inl four)) = omega arith
+not_cut_off n e (inr (inr five)) = omega arith
+
+not_whole : (n : ℕ) → n ≡ 7 → IsWhole n → ⊥
+not_whole n e (inl zero) = omega arith
+not_whole n e (inr six) = omega arith
+
+not_untold : (n : ℕ) → n ≡ 7 → (n ≡ 2) ⊎ IsWhole n → ⊥
+not_untold n e (inl two) = omega arith
+not_untold n e (inr whole) = not_whole n e whole
+
+not_finished : (reading : Reading Output) (n : ℕ) → n ≡ 7 → Finishes reading n → ⊥
+not_finished Untold n e finished = not_untold n e finished
+not_finished Refused n e finished = omega arith
+not_finished (Read o) n e finished = not_whole n e (either o.is_open n finished)
+
+pub not_seven : (reading : Reading Output) (n : ℕ) → Ends reading n → n ≡ 7 → ⊥
+not_seven reading n (inl finished) e = not_finished reading n e finished
+not_seven reading n (inr cut) e = not_cut_off n e cut

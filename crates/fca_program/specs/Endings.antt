@@ -3,7 +3,7 @@ use Rattle.std.specs.Prelude.{◌≡◌, ◌⊎◌, ℕ, Bool, true, false, Opti
 use Rattle.std.specs.Io.KnownBytes.{IsAtEnd}
 use Rattle.fca_model.specs.Tables.{Text}
 use Rattle.fca_io.specs.Faults.{Rose}
-use Rattle.fca_io.specs.Links.{Ends, MayListenAt}
+use Rattle.fca_io.specs.Links.{Ends as LinkEnds, MayListenAt}
 use Rattle.fca_io.specs.Shelves.{Told}
 use Rattle.fca_command.specs.declared.command.Command.{Command}
 use Rattle.fca_command.specs.declared.command.Command.TheVariants.{Concepts, Lattice, Basis, Follows, Convert, Replay, Explore, Serve}
@@ -95,18 +95,18 @@ MayListen _ listens at = ⊤
 -- over ends that show what is left and what is held, and their counts of faults
 module _ {E : Type 0} (left held : E → Option Text) (reads writes : E → ℕ) where
   -- where the command serves experts at ends, this text was written of their sessions
-  abbrev pub HasServedExperts : Command → (Text → Told) → (Text → Type 0) → Option (Ends E) → Option (Ends E) → ℕ → Type 0
+  abbrev pub HasServedExperts : Command → (Text → Told) → (Text → Type 0) → Option (LinkEnds E) → Option (LinkEnds E) → ℕ → Type 0
   HasServedExperts (Serve file experts listen) files Gained old new status =
       IfRead (table_read file (files file)) (λ table. HasServed left held reads writes Gained table experts old new status)
   HasServedExperts _ files Gained old new status = ⊤
 
   -- where the command serves experts at ends, such a text was begun
-  abbrev pub HasBegunServing : Command → (Text → Told) → (Text → Type 0) → Option (Ends E) → Option (Ends E) → Type 0
+  abbrev pub HasBegunServing : Command → (Text → Told) → (Text → Type 0) → Option (LinkEnds E) → Option (LinkEnds E) → Type 0
   HasBegunServing (Serve file experts listen) files Gained old new =
       IfRead (table_read file (files file)) (λ table. HasServingBegun left held reads writes Gained table experts old new)
   HasBegunServing _ files Gained old new = ⊤
 
   -- where the command serves experts at ends, those that it accepted are given back
-  abbrev pub HasGivenBack : Command → Option (Ends E) → Option (Ends E) → ℕ → Type 0
+  abbrev pub HasGivenBack : Command → Option (LinkEnds E) → Option (LinkEnds E) → ℕ → Type 0
   HasGivenBack (Serve file experts listen) old new status = GaveAllBack left held reads writes experts old new status
   HasGivenBack _ old new status = ⊤
