@@ -1,14 +1,14 @@
 -- The commands, word by word: exactly these lists of words are commands.
-use Rattle.std.specs.Prelude.{◌≡◌, ⊤, length, Bool, true, false, cond, Option, Some, None, List, [], ◌∷◌, option_map, bytes_eq, codes}
+use Rattle.std.specs.Prelude.{◌≡◌, ⊤, length, Bool, true, false, not, ◌&&◌, cond, Option, Some, None, List, [], ◌∷◌, option_map, option_and_then, bytes_eq, codes}
 use Rattle.std.specs.List.{list_all}
 use Rattle.std.specs.Str.{is_utf8}
 use Rattle.fca_model.specs.Tables.{Text}
 use Rattle.fca_model.specs.Exploration.{is_expert}
-use Rattle.fca_command.specs.Experts.{experts_said}
+use Rattle.fca_command.specs.Experts.{experts_said, count_said}
 use Rattle.fca_command.specs.declared.command.Form.{Form}
 use Rattle.fca_command.specs.declared.command.Form.TheVariants.{Cxt, Csv}
 use Rattle.fca_command.specs.declared.command.Command.{Command}
-use Rattle.fca_command.specs.declared.command.Command.TheVariants.{Concepts, Lattice, Basis, Follows, Convert, Replay, Explore}
+use Rattle.fca_command.specs.declared.command.Command.TheVariants.{Concepts, Lattice, Basis, Follows, Convert, Replay, Explore, Serve}
 
 -- ---- the words behind a command's file
 
@@ -54,6 +54,13 @@ replay_command file _ = None
 abbrev pub explore_command : Text → List Text → Option Command
 explore_command file later = option_map (λ experts. Explore file experts) (experts_said later)
 
+-- `serve F --experts N --listen A`
+abbrev pub serve_command : Text → List Text → Option Command
+serve_command file (flag ∷ experts ∷ flag' ∷ listen ∷ []) =
+    cond (bytes_eq flag (codes "--experts") && (bytes_eq flag' (codes "--listen") && not (bytes_eq listen [])))
+    (option_map (λ count. Serve file count listen) (count_said experts)) None
+serve_command file _ = None
+
 -- ---- all commands
 
 -- the command of this name over a file, whose name is not empty
@@ -66,7 +73,8 @@ named_command name file later =
     (cond (bytes_eq name (codes "follows")) (follows_command file later)
     (cond (bytes_eq name (codes "convert")) (convert_command file later)
     (cond (bytes_eq name (codes "replay")) (replay_command file later)
-    (cond (bytes_eq name (codes "explore")) (explore_command file later) None)))))))
+    (cond (bytes_eq name (codes "explore")) (explore_command file later)
+    (cond (bytes_eq name (codes "serve")) (serve_command file later) None))))))))
 
 abbrev pub text_command : List Text → Option Command
 text_command (name ∷ file ∷ later) = named_command name file later
@@ -85,8 +93,10 @@ file_of (Follows file premise conclusion) = file
 file_of (Convert file to) = file
 file_of (Replay file) = file
 file_of (Explore file experts) = file
+file_of (Serve file experts listen) = file
 
 -- the limits of what the words of a command say: 1 to 64 experts
 abbrev pub IsWithinLimits : Command → Type 0
 IsWithinLimits (Explore file experts) = is_expert (length experts) ≡ true
+IsWithinLimits (Serve file experts listen) = is_expert experts ≡ true
 IsWithinLimits _ = ⊤

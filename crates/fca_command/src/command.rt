@@ -3,9 +3,9 @@
 ghost use Rattle.std.specs.Prelude.{◌≡◌, IfOk, IfSome};
 ghost use Rattle.std.specs.List.{list_all};
 ghost use Rattle.std.specs.Str.{is_utf8};
-ghost use Rattle.fca_command.specs.Commands.{command_form, text_command, named_command, concepts_command, lattice_command, basis_command, json_said, follows_command, convert_command, form_named, replay_command, explore_command, file_of, IsWithinLimits};
+ghost use Rattle.fca_command.specs.Commands.{command_form, text_command, named_command, concepts_command, lattice_command, basis_command, json_said, follows_command, convert_command, form_named, replay_command, explore_command, serve_command, file_of, IsWithinLimits};
 
-use crate::experts::experts_said;
+use crate::experts::{count_said, experts_said};
 use crate::words::Words;
 use fca_model::{Memory, Word};
 use std::alloc::Global;
@@ -47,6 +47,11 @@ pub enum Command {
         file: Word,
         experts: Words,
     },
+    Serve {
+        file: Word,
+        experts: u8,
+        listen: Word,
+    },
 }
 
 impl Command {
@@ -61,7 +66,8 @@ impl Command {
             | Command::Follows { file, .. }
             | Command::Convert { file, .. }
             | Command::Replay { file }
-            | Command::Explore { file, .. } => file.bytes(),
+            | Command::Explore { file, .. }
+            | Command::Serve { file, .. } => file.bytes(),
         }
     }
 }
@@ -128,6 +134,8 @@ fn named_command(
         Ok(replay_command(file, later))
     } else if name == b"explore".as_slice() {
         explore_command(alloc, file, later)
+    } else if name == b"serve".as_slice() {
+        serve_command(alloc, file, later)
     } else {
         Ok(None)
     }
@@ -228,4 +236,28 @@ fn explore_command(alloc: Global, file: Word, later: &[Word]) -> Result<Option<C
         Some(experts) => Ok(Some(Command::Explore { file, experts })),
         None => Ok(None),
     }
+}
+
+fn serve_command(alloc: Global, file: Word, later: &[Word]) -> Result<Option<Command>, Memory>
+    ensures command { IfOk result (λ command. command ≡ serve_command file later.now) }
+    ensures limits { IfOk result (λ command. IfSome command IsWithinLimits) }
+{
+    let [experts_flag, experts, listen_flag, listen] = later else {
+        return Ok(None);
+    };
+    if experts_flag.bytes() != b"--experts".as_slice()
+        || listen_flag.bytes() != b"--listen".as_slice()
+        || listen.bytes().is_empty()
+    {
+        return Ok(None);
+    }
+    let Some(experts) = count_said(experts.bytes()) else {
+        return Ok(None);
+    };
+    let listen = Word::new(alloc, listen.bytes())?;
+    Ok(Some(Command::Serve {
+        file,
+        experts,
+        listen,
+    }))
 }

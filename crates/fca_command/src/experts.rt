@@ -1,12 +1,16 @@
-//! The experts that words name, by their files.
+//! The experts that words name: their files, or how many there are.
 
 ghost use Rattle.std.specs.Prelude.{◌≡◌, true, length, IfOk, IfSome, option_map};
 ghost use Rattle.fca_model.specs.Exploration.{is_expert};
-ghost use Rattle.fca_command.specs.Experts.{names_expert, expert_files, experts_said};
+ghost use Rattle.fca_command.specs.Experts.{names_expert, expert_files, experts_said, count_said};
 
 use crate::words::Words;
+use cxt_format::{is_number, value_of};
 use fca_model::{MAX_EXPERTS, Memory, Word};
 use std::alloc::Global;
+
+/// The most digits that a number may have.
+const MAX_DIGITS: usize = 20;
 
 /// The files of one expert or more, each behind its flag.
 pub fn experts_said(alloc: Global, words: &[Word]) -> Result<Option<Words>, Memory>
@@ -42,4 +46,20 @@ fn names_expert(flag: &Word, file: &Word) -> bool
     ensures { result ≡ names_expert flag.now file.now }
 {
     flag.bytes() == b"--expert".as_slice() && !file.bytes().is_empty()
+}
+
+/// The number of experts that the word says.
+pub fn count_said(word: &[u8]) -> Option<u8>
+    ensures count { result ≡ count_said word.now }
+    ensures expert { IfSome result (λ count. is_expert count ≡ true) }
+{
+    if !is_number(word) || word.len() > MAX_DIGITS {
+        return None;
+    }
+    let count = value_of(word);
+    if 1 <= count && count <= MAX_EXPERTS as usize {
+        Some(count as u8)
+    } else {
+        None
+    }
 }

@@ -1,5 +1,5 @@
 -- How a call ends follows from what its command was to write: it has this to write, or it stopped and nothing is written.
-use Rattle.std.proofs.Common.{◌≡◌, ◌∙◌, ◌⊎◌, ℕ, Bool, true, false, cond, Option, Some, None, Result, Ok, Err, inl, inr, refl, sym, ap, subst, arith}
+use Rattle.std.proofs.Common.{◌≡◌, ◌∙◌, ◌⊎◌, ℕ, Bool, true, false, cond, Option, Some, None, List, [], Result, Ok, Err, inl, inr, refl, sym, ap, subst, arith}
 use Rattle.std.specs.Prelude.{IfOk, IfErr, IsOk, IfSome, MatchOption}
 use Rattle.fca_model.specs.Tables.{Text}
 use Rattle.command_io.specs.Readings.{Reading, MayRead, MayRefuse, IfRead}
@@ -8,8 +8,11 @@ use Rattle.command_io.specs.Endings.{Output, whole_status, IsWhole, IsCutOff, En
 use Rattle.command_io.specs.declared.stop.Stop.{Stop}
 use Rattle.fca_io.specs.Shelves.{Told}
 use Rattle.fca_command.specs.declared.command.Command.{Command}
-use Rattle.fca_command.specs.declared.command.Command.TheVariants.{Explore}
-use Rattle.fca_program.specs.Endings.{Finishes, Ends, EndsBy, reads_input}
+use Rattle.fca_command.specs.declared.command.Command.TheVariants.{Explore, Serve}
+use Rattle.fca_program.specs.Endings.{Finishes, Ends, EndsBy, reads_input, uses_link, HasGivenBack}
+use Rattle.fca_io.specs.Links.{Ends as LinkEnds}
+use Rattle.serve_command.specs.Served.{GaveAllBack}
+use Rattle.serve_command.proofs.AcceptedLemmas.{TookAndGave-none}
 
 gained-read : (reading : Reading Output) (a : Output) (Gained : Text → Type 0) → MayRead reading a → Gained a.text → IfRead reading (λ o. Gained o.text)
 gained-read Untold a Gained may gained = tt
@@ -79,3 +82,51 @@ memory-status (Some command) files input n e = memory-ends command files input n
 pub kept-same : {X : Type 0} (x : X) (found : Option Command) → IfSome found (λ command. reads_input command ≡ false → x ≡ x)
 kept-same x None = tt
 kept-same x (Some command) = λ e. refl
+
+pub link-same : {X : Type 0} (x : X) (found : Option Command) → IfSome found (λ command. uses_link command ≡ false → x ≡ x)
+link-same x None = tt
+link-same x (Some command) = λ e. refl
+
+module _ {E : Type 0} (left held : E → Option Text) (reads writes : E → ℕ) where
+  -- no end was accepted and none given back
+  none-given : (experts : ℕ) (ends : Option (LinkEnds E)) (n : ℕ) → n ≡ 5 → GaveAllBack left held reads writes experts ends ends n
+  none-given experts ends n e = record {
+    before = [];
+    after = [];
+    ends = TookAndGave-none ends;
+    talked = inl refl;
+    few = omega arith;
+    fewer = λ seven. absurd (omega arith);
+  }
+
+  given-by : (command : Command) (ends : Option (LinkEnds E)) (n : ℕ) → n ≡ 5 → HasGivenBack left held reads writes command ends ends n
+  given-by (Serve file experts listen) ends n e = none-given experts ends n e
+  given-by _ ends n e = tt
+
+  pub memory-given : (found : Option Command) (ends : Option (LinkEnds E)) (n : ℕ) → n ≡ 5 → IfSome found (λ command. HasGivenBack left held reads writes command ends ends n)
+  memory-given None ends n e = tt
+  memory-given (Some command) ends n e = given-by command ends n e
+
+-- ---- plain commands do not listen
+
+not_cut_off : (n : ℕ) → n ≡ 7 → IsCutOff n → ⊥
+not_cut_off n e (inl three) = omega arith
+not_cut_off n e (inr (inl four)) = omega arith
+not_cut_off n e (inr (inr five)) = omega arith
+
+not_whole : (n : ℕ) → n ≡ 7 → IsWhole n → ⊥
+not_whole n e (inl zero) = omega arith
+not_whole n e (inr six) = omega arith
+
+not_untold : (n : ℕ) → n ≡ 7 → (n ≡ 2) ⊎ IsWhole n → ⊥
+not_untold n e (inl two) = omega arith
+not_untold n e (inr whole) = not_whole n e whole
+
+not_finished : (reading : Reading Output) (n : ℕ) → n ≡ 7 → Finishes reading n → ⊥
+not_finished Untold n e finished = not_untold n e finished
+not_finished Refused n e finished = omega arith
+not_finished (Read o) n e finished = not_whole n e (either o.is_open n finished)
+
+pub not_seven : (reading : Reading Output) (n : ℕ) → Ends reading n → n ≡ 7 → ⊥
+not_seven reading n (inl finished) e = not_finished reading n e finished
+not_seven reading n (inr cut) e = not_cut_off n e cut

@@ -3,15 +3,18 @@ use Rattle.std.specs.Prelude.{◌≡◌, ◌⊎◌, ℕ, Bool, true, false, Opti
 use Rattle.std.specs.Io.KnownBytes.{IsAtEnd}
 use Rattle.fca_model.specs.Tables.{Text}
 use Rattle.fca_io.specs.Faults.{Rose}
+use Rattle.fca_io.specs.Links.{Ends as LinkEnds, MayListenAt}
 use Rattle.fca_io.specs.Shelves.{Told}
 use Rattle.fca_command.specs.declared.command.Command.{Command}
-use Rattle.fca_command.specs.declared.command.Command.TheVariants.{Concepts, Lattice, Basis, Follows, Convert, Replay, Explore}
+use Rattle.fca_command.specs.declared.command.Command.TheVariants.{Concepts, Lattice, Basis, Follows, Convert, Replay, Explore, Serve}
+use Rattle.command_io.specs.Forms.{table_read}
 use Rattle.command_io.specs.Readings.{Reading, IfRead}
 use Rattle.command_io.specs.Readings.Reading.{Untold, Refused, Read}
 use Rattle.command_io.specs.Endings.{Output, whole_status, IsWhole, IsCutOff}
 use Rattle.command_io.specs.Explorations.{IsExplored}
 use Rattle.explore_command.specs.Panels.{panel_read, FileRose}
 use Rattle.explore_command.specs.Played.{HasPlayed, HasBegun, Plays}
+use Rattle.serve_command.specs.Served.{HasServed, HasBegun as HasServingBegun, GaveAllBack, Serves}
 use Rattle.fca_program.specs.Outputs.{output, replayed}
 
 -- the status of a call that was not cut off, by what its command was to write
@@ -27,17 +30,24 @@ Ends reading status = Finishes reading status ⊎ IsCutOff status
 -- whether the command waits for nobody
 abbrev pub is_plain : Command → Bool
 is_plain (Explore file experts) = false
+is_plain (Serve file experts listen) = false
 is_plain _ = true
 
 -- the status of a call of the command
 abbrev pub EndsBy : Command → (Text → Told) → Option Text → ℕ → Type 0
 EndsBy (Explore file experts) files input status = Plays (panel_read file experts files) status ⊎ IsCutOff status
+EndsBy (Serve file experts listen) files input status = Serves (table_read file (files file)) status ⊎ IsCutOff status
 EndsBy command files input status = Ends (output command files input) status
 
 -- whether the command reads the input
 abbrev pub reads_input : Command → Bool
 reads_input (Replay file) = true
 reads_input _ = false
+
+-- whether the command listens for experts
+abbrev pub uses_link : Command → Bool
+uses_link (Serve file experts listen) = true
+uses_link _ = false
 
 -- a count of faults rose for a file of the command, or for the input where the command reads it
 abbrev pub FaultRose : Command → (Text → ℕ) → (Text → ℕ) → ℕ → ℕ → Type 0
@@ -48,6 +58,7 @@ FaultRose (Follows file premise conclusion) files files' input input' = Rose (fi
 FaultRose (Convert file to) files files' input input' = Rose (files file) (files' file)
 FaultRose (Replay file) files files' input input' = Rose (files file) (files' file) ⊎ Rose input input'
 FaultRose (Explore file experts) files files' input input' = FileRose files files' file experts
+FaultRose (Serve file experts listen) files files' input input' = Rose (files file) (files' file)
 
 -- an input that the command reads is at its end
 abbrev pub MayReachEnd : Command → Option Text → Type 0
@@ -68,3 +79,34 @@ HasExplored _ files Gained status = ⊤
 abbrev pub HasBegunExploring : Command → (Text → Told) → (Text → Type 0) → Type 0
 HasBegunExploring (Explore file experts) files Gained = IfRead (panel_read file experts files) (HasBegun Gained)
 HasBegunExploring _ files Gained = ⊤
+
+-- ---- experts at the ends of a link
+
+-- the command listens, and a count of faults rose for the address at which it does, or for the ends that it accepts
+abbrev pub LinkFaultRose : Command → (Text → ℕ) → (Text → ℕ) → ℕ → ℕ → Type 0
+LinkFaultRose (Serve file experts listen) opens opens' accepts accepts' = Rose (opens listen) (opens' listen) ⊎ Rose accepts accepts'
+LinkFaultRose _ opens opens' accepts accepts' = ⊥
+
+-- a link of which this is told listens at the address of the command, where that listens
+abbrev pub MayListen : Command → Bool → Option Text → Type 0
+MayListen (Serve file experts listen) listens at = (listens ≡ true) × MayListenAt at listen
+MayListen _ listens at = ⊤
+
+-- over ends that show what is left and what is held, and their counts of faults
+module _ {E : Type 0} (left held : E → Option Text) (reads writes : E → ℕ) where
+  -- where the command serves experts at ends, this text was written of their sessions
+  abbrev pub HasServedExperts : Command → (Text → Told) → (Text → Type 0) → Option (LinkEnds E) → Option (LinkEnds E) → ℕ → Type 0
+  HasServedExperts (Serve file experts listen) files Gained old new status =
+      IfRead (table_read file (files file)) (λ table. HasServed left held reads writes Gained table experts old new status)
+  HasServedExperts _ files Gained old new status = ⊤
+
+  -- where the command serves experts at ends, such a text was begun
+  abbrev pub HasBegunServing : Command → (Text → Told) → (Text → Type 0) → Option (LinkEnds E) → Option (LinkEnds E) → Type 0
+  HasBegunServing (Serve file experts listen) files Gained old new =
+      IfRead (table_read file (files file)) (λ table. HasServingBegun left held reads writes Gained table experts old new)
+  HasBegunServing _ files Gained old new = ⊤
+
+  -- where the command serves experts at ends, those that it accepted are given back
+  abbrev pub HasGivenBack : Command → Option (LinkEnds E) → Option (LinkEnds E) → ℕ → Type 0
+  HasGivenBack (Serve file experts listen) old new status = GaveAllBack left held reads writes experts old new status
+  HasGivenBack _ old new status = ⊤

@@ -16,7 +16,7 @@ use Rattle.basis_report.specs.Reports.{concepts_text, lattice_text, basis_text}
 use Rattle.basis_report.specs.Verdicts.{follows_text}
 use Rattle.fca_command.specs.Attributes.{attributes_said}
 use Rattle.fca_command.specs.declared.command.Command.{Command}
-use Rattle.fca_command.specs.declared.command.Command.TheVariants.{Concepts, Lattice, Basis, Follows, Convert, Replay, Explore}
+use Rattle.fca_command.specs.declared.command.Command.TheVariants.{Concepts, Lattice, Basis, Follows, Convert, Replay, Explore, Serve}
 use Rattle.fca_command.specs.declared.command.Form.{Form}
 use Rattle.fca_command.specs.declared.command.Form.TheVariants.{Cxt, Csv}
 use Rattle.command_io.specs.Readings.{Reading, then, known}
@@ -86,8 +86,8 @@ follows_output premise conclusion file files = then (table_read file (files file
 
 -- ---- all commands
 
--- What the command writes, where the files and the input hold this. `explore` writes what its oracles did together, of which the
--- files alone tell nothing
+-- What the command writes, where the files and the input hold this. `explore` and `serve` write what experts did together, of
+-- which the files alone tell nothing
 abbrev pub output : Command → (Text → Told) → Option Text → Reading Output
 output (Concepts file json) files input = of_table (table_concepts json) file files
 output (Lattice file) files input = of_table table_lattice file files
@@ -96,3 +96,4 @@ output (Follows file premise conclusion) files input = follows_output premise co
 output (Convert file to) files input = of_table (table_written to) file files
 output (Replay file) files input = replay_output file files input
 output (Explore file experts) files input = Untold
+output (Serve file experts listen) files input = Untold

@@ -9,7 +9,7 @@ ghost use Rattle.explore_command.specs.Played.{IsPlayed};
 ghost use Rattle.command_io.specs.Readings.{IfRead, MayRead};
 ghost use Rattle.fca_program.specs.Outputs.{output};
 ghost use Rattle.command_io.specs.Endings.{Stops, IsWhole, IsSilent, stop_status};
-ghost use Rattle.fca_program.specs.Endings.{is_plain, reads_input, Ends, EndsBy, FaultRose, MayReachEnd, HasCourse, HasExplored, HasBegunExploring};
+ghost use Rattle.fca_program.specs.Endings.{is_plain, reads_input, Ends, EndsBy, FaultRose, MayReachEnd, HasCourse, HasExplored, HasBegunExploring, uses_link, LinkFaultRose, MayListen, HasServedExperts, HasBegunServing, HasGivenBack};
 
 use crate::follows::follows;
 use crate::replay::replay;
@@ -19,6 +19,7 @@ use explore_command::explore;
 use fca_command::{Command, command_of};
 use fca_io::{Listener, Shelf, Sink, Source};
 use fca_model::{Memory, Word};
+use serve_command::serve;
 use std::alloc::Global;
 use std::sync::Wait;
 use std::thread::Threads;
@@ -32,9 +33,9 @@ pub fn run<R: Threads + Wait + Sync, H: Shelf, S: Source, K: Sink, E: Sink, L: L
     input: &mut S,
     out: &mut K,
     err: &mut E,
-    _link: &mut L,
+    link: &mut L,
 ) -> u8
-    requires { L.listens _link.old ≡ false }
+    requires { L.listens link.old ≡ false }
 
     // Which status comes. What the shelf and the input do not tell is not spoken of.
     ensures status { MatchOption (command_form words.now) ((result ≡ 1) ⊎ (result ≡ 5))
@@ -42,6 +43,8 @@ pub fn run<R: Threads + Wait + Sync, H: Shelf, S: Source, K: Sink, E: Sink, L: L
     ensures read_fault { result ≡ 3 → IfSome (command_form words.now)
         (λ command. FaultRose command (H.faults shelf.old) (H.faults shelf.new) (S.faults input.old) (S.faults input.new)) }
     ensures write_fault { result ≡ 4 → Rose (K.faults out.old) (K.faults out.new) }
+    ensures listener_fault { result ≡ 7 → IfSome (command_form words.now)
+        (λ command. LinkFaultRose command (L.open_faults link.old) (L.open_faults link.new) (L.accept_faults link.old) (L.accept_faults link.new)) }
 
     // What out gained.
     ensures plain_output { IsWhole result → IfSome (command_form words.now) (λ command.
@@ -52,6 +55,12 @@ pub fn run<R: Threads + Wait + Sync, H: Shelf, S: Source, K: Sink, E: Sink, L: L
         HasExplored command (H.tells shelf.old) (Appends (K.held out.old) (K.held out.new)) result) }
     ensures partial_explore_output { result ≡ 4 → IfSome (command_form words.now) (λ command.
         HasBegunExploring command (H.tells shelf.old) (AppendsFront (K.held out.old) (K.held out.new))) }
+    ensures serve_output { IsWhole result → IfSome (command_form words.now) (λ command.
+        HasServedExperts L.End.Source.left L.End.Sink.held L.End.Source.faults L.End.Sink.faults command (H.tells shelf.old)
+        (Appends (K.held out.old) (K.held out.new)) (L.ends link.old) (L.ends link.new) result) }
+    ensures partial_serve_output { result ≡ 4 → IfSome (command_form words.now) (λ command.
+        HasBegunServing L.End.Source.left L.End.Sink.held L.End.Source.faults L.End.Sink.faults command (H.tells shelf.old)
+        (AppendsFront (K.held out.old) (K.held out.new)) (L.ends link.old) (L.ends link.new)) }
     ensures no_output { IsSilent result → out.new ≡ out.old }
 
     // The questions written as open are the smallest pseudo-intents that are not accepted; where none is, the accepted
@@ -61,11 +70,14 @@ pub fn run<R: Threads + Wait + Sync, H: Shelf, S: Source, K: Sink, E: Sink, L: L
     // What else was touched.
     ensures read_to_end { IsWhole result → IfSome (command_form words.now) (λ command. MayReachEnd command (S.left input.new)) }
     ensures input_kept { IfSome (command_form words.now) (λ command. reads_input command ≡ false → input.new ≡ input.old) }
-    ensures link_kept { _link.new ≡ _link.old }
+    ensures link_kept { IfSome (command_form words.now) (λ command. uses_link command ≡ false → link.new ≡ link.old) }
+    ensures listens { IsWhole result → IfSome (command_form words.now) (λ command. MayListen command (L.listens link.new) (L.listens_at link.new)) }
+    ensures ends { IfSome (command_form words.now) (λ command.
+        HasGivenBack L.End.Source.left L.End.Sink.held L.End.Source.faults L.End.Sink.faults command (L.ends link.old) (L.ends link.new) result) }
     ensures quiet { IsWhole result → err.new ≡ err.old }
 {
     match command_of(alloc, words) {
-        Ok(Some(command)) => run_command(rt, alloc, &command, shelf, input, out, err),
+        Ok(Some(command)) => run_command(rt, alloc, &command, shelf, input, out, err, link),
         Ok(None) => stopped(err, &Stop::NoCommand),
         Err(Memory) => stopped(err, &Stop::Memory),
     }
@@ -80,7 +92,7 @@ fn stopped<E: Sink>(err: &mut E, stop: &Stop) -> u8
 }
 
 /// Runs the command, and gives the status of the program.
-fn run_command<R: Threads + Wait + Sync, H: Shelf, S: Source, K: Sink, E: Sink>(
+fn run_command<R: Threads + Wait + Sync, H: Shelf, S: Source, K: Sink, E: Sink, L: Listener>(
     rt: &R,
     alloc: Global,
     command: &Command,
@@ -88,31 +100,46 @@ fn run_command<R: Threads + Wait + Sync, H: Shelf, S: Source, K: Sink, E: Sink>(
     input: &mut S,
     out: &mut K,
     err: &mut E,
+    link: &mut L,
 ) -> u8
-    requires { IsWithinLimits command.now }
+    requires limits { IsWithinLimits command.now }
+    requires closed { L.listens link.old ≡ false }
 
     // Which status comes.
     ensures status { EndsBy command.now (H.tells shelf.old) (S.left input.old) result }
     ensures read_fault { result ≡ 3 → FaultRose command.now (H.faults shelf.old) (H.faults shelf.new) (S.faults input.old) (S.faults input.new) }
     ensures write_fault { result ≡ 4 → Rose (K.faults out.old) (K.faults out.new) }
+    ensures listener_fault { result ≡ 7 → LinkFaultRose command.now (L.open_faults link.old) (L.open_faults link.new) (L.accept_faults link.old) (L.accept_faults link.new) }
 
     // What out gained.
     ensures plain_output { IsWhole result → IfRead (output command.now (H.tells shelf.old) (S.left input.old)) (λ o. Appends (K.held out.old) (K.held out.new) o.text) }
     ensures partial_output { result ≡ 4 → IfRead (output command.now (H.tells shelf.old) (S.left input.old)) (λ o. AppendsFront (K.held out.old) (K.held out.new) o.text) }
     ensures explore_output { IsPlayed result → HasExplored command.now (H.tells shelf.old) (Appends (K.held out.old) (K.held out.new)) result }
     ensures partial_explore_output { result ≡ 4 → HasBegunExploring command.now (H.tells shelf.old) (AppendsFront (K.held out.old) (K.held out.new)) }
+    ensures serve_output { IsWhole result → HasServedExperts L.End.Source.left L.End.Sink.held L.End.Source.faults L.End.Sink.faults command.now
+        (H.tells shelf.old) (Appends (K.held out.old) (K.held out.new)) (L.ends link.old) (L.ends link.new) result }
+    ensures partial_serve_output { result ≡ 4 → HasBegunServing L.End.Source.left L.End.Sink.held L.End.Source.faults L.End.Sink.faults command.now
+        (H.tells shelf.old) (AppendsFront (K.held out.old) (K.held out.new)) (L.ends link.old) (L.ends link.new) }
     ensures no_output { IsSilent result → out.new ≡ out.old }
     ensures explored { IsWhole result → HasCourse command.now (H.tells shelf.old) (S.left input.old) }
 
     // What else was touched.
     ensures read_to_end { IsWhole result → MayReachEnd command.now (S.left input.new) }
     ensures input_kept { reads_input command.now ≡ false → input.new ≡ input.old }
+    ensures link_kept { uses_link command.now ≡ false → link.new ≡ link.old }
+    ensures listens { IsWhole result → MayListen command.now (L.listens link.new) (L.listens_at link.new) }
+    ensures ends { HasGivenBack L.End.Source.left L.End.Sink.held L.End.Source.faults L.End.Sink.faults command.now (L.ends link.old) (L.ends link.new) result }
     ensures quiet { IsWhole result → err.new ≡ err.old }
 {
     match command {
         Command::Explore { file, experts } => {
             explore(rt, alloc, shelf, file, experts.as_slice(), out, err)
         }
+        Command::Serve {
+            file,
+            experts,
+            listen,
+        } => serve(rt, alloc, shelf, file, *experts, listen, out, err, link),
         Command::Concepts { .. }
         | Command::Lattice { .. }
         | Command::Basis { .. }
@@ -184,6 +211,6 @@ fn answer_to<R: Threads + Sync, H: Shelf, S: Source>(
         } => follows(rt, alloc, shelf, file, premise, conclusion),
         Command::Convert { file, to } => convert(alloc, shelf, file, *to),
         Command::Replay { file } => replay(alloc, shelf, input, file),
-        Command::Explore { .. } => unreachable!(),
+        Command::Explore { .. } | Command::Serve { .. } => unreachable!(),
     }
 }

@@ -1,7 +1,7 @@
 //! Whole calls over ends in memory: what each writes, and its status.
 
 use crate::run::run;
-use fca_io::{MemoryLink, MemoryShelf, MemorySink, MemorySource};
+use fca_io::{MemoryEnd, MemoryLink, MemoryShelf, MemorySink, MemorySource};
 use fca_model::{Memory, Word};
 use std::alloc::Global;
 use std::sync::Wait;
@@ -435,6 +435,31 @@ fn outcome<R: Threads + Wait + Sync>(
     Ok(Called { status, out, err })
 }
 
+/// Serves two experts, of whom one quits and the other draws and answers. The calls of the link with these numbers fail.
+fn serve_two<R: Threads + Wait + Sync>(
+    rt: &R,
+    alloc: Global,
+    link_fails: &[usize],
+) -> Result<(Called, MemoryLink), Memory> {
+    let words = words_of(
+        alloc,
+        &[b"serve", b"F", b"--experts", b"2", b"--listen", b"x"],
+    )?;
+    let mut shelf = MemoryShelf::new(alloc, &[])?;
+    shelf.put(b"F", TWO)?;
+    let mut input = MemorySource::new(alloc, b"", &[], 7)?;
+    let mut out = MemorySink::new(alloc, 1000, &[], 10)?;
+    let mut err = MemorySink::new(alloc, 100, &[], 7)?;
+    let mut ends = Vec::new(alloc);
+    ends.push(MemoryEnd::new(alloc, b"quit\n", 1000, &[], &[], 7)?)?;
+    ends.push(MemoryEnd::new(alloc, b"draw\nrow .. p\n", 1000, &[], &[], 7)?)?;
+    let mut link = MemoryLink::new(alloc, b"x", ends, link_fails)?;
+    let status = run(
+        rt, alloc, &words, &mut shelf, &mut input, &mut out, &mut err, &mut link,
+    );
+    Ok((Called { status, out, err }, link))
+}
+
 /// Puts so many of the byte behind the text.
 fn repeat(text: &mut Vec<u8>, byte: u8, count: usize) -> Result<(), Memory> {
     for _ in 0..count {
@@ -510,6 +535,38 @@ fn oracles_explore_together(rt: HostRuntime) -> Result<(), Fail> {
     )?;
     assert_eq!(rt; called.status, 0);
     assert!(&rt; called.out.written().ends_with(LIVING_EXPLORED));
+    Ok(())
+}
+
+#[test]
+fn experts_are_served(rt: HostRuntime) -> Result<(), Fail> {
+    let (called, link) = serve_two(&rt, rt.alloc(), &[])?;
+    assert_eq!(rt; called.status, 6);
+    assert!(&rt;
+        called.out.written().ends_with(
+            b"# recorded 1\n# 1 .. p\n# accepted 0\n# open 2\n# .X XX {b} -> {a}\n# X. XX {a} -> {b}\n# sessions 2\n# 1 quit\n# 2 end of input\n"
+        )
+    );
+    assert_eq!(rt; called.err.written().len(), 0);
+    assert_eq!(rt; link.given().len(), 2);
+    assert_eq!(rt;
+        link.given()[0].written(),
+        b"exploration 1\nexpert 1\nattributes 2\na\nb\nbye\n".as_slice()
+    );
+    assert_eq!(rt;
+        link.given()[1].written(),
+        b"exploration 1\nexpert 2\nattributes 2\na\nb\nask .. XX {} -> {a, b}\ntaken 1\n".as_slice()
+    );
+    Ok(())
+}
+
+#[test]
+fn failing_links_are_told(rt: HostRuntime) -> Result<(), Fail> {
+    let (called, link) = serve_two(&rt, rt.alloc(), &[3])?;
+    assert_eq!(rt; called.status, 7);
+    assert_eq!(rt; called.err.written(), b"fca: listener fault\n".as_slice());
+    assert_eq!(rt; called.out.written().len(), 0);
+    assert_eq!(rt; link.given().len(), 1);
     Ok(())
 }
 
