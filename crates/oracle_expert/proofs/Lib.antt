@@ -1,2 +1,5 @@
 pub mod AnswerLemmas
 pub mod RunLemmas
+pub mod TurnLemmas
+pub mod CountLemmas
+pub mod SameLemmas

@@ -1,3 +1,4 @@
 pub mod Answers
 pub mod Oracles
 pub mod Runs
+pub mod Counts

@@ -2,7 +2,7 @@
 -- where no row of its table is left to refute it: the question is accepted, or it is stale. Or it gives a row that refutes it: the row is recorded, or the
 -- question is stale, or the row breaks a rule and is dropped. A question is stale where a recorded row refutes it or its premise was accepted.
 use Rattle.std.proofs.Common.{◌≡◌, ℕ, ◌+◌, Bool, true, false, not, ◌&&◌, ◌||◌, cond, Option, Some, None, List, [], ◌∷◌, ◌++◌, length, refl, sym, ap, ◌∙◌, subst}
-use Rattle.std.proofs.lemmas.Bool.{or_left, or_right, false≢true, true≢false}
+use Rattle.std.proofs.lemmas.Bool.{or_left, or_right, false≢true}
 use Rattle.std.specs.List.{list_all, list_any}
 use Rattle.fca_model.specs.declared.Event.TheVariants.{Draw, Confirm, Row}
 use Rattle.fca_model.specs.declared.Reply.TheVariants.{Ask, Done, AllHeld, Accepted, Taken, Breaks}
@@ -12,7 +12,7 @@ use Rattle.fca_model.specs.Tables.{NamedContext}
 use Rattle.fca_model.specs.Implications.{Rule, respects, respects_all, refutes}
 use Rattle.fca_model.specs.Questions.{has_premise}
 use Rattle.fca_model.specs.Invariant.{Among, IsValid}
-use Rattle.fca_model.specs.Exploration.{State, SetHold, SetEvent, SetReply, RowName, rules_of, open_in, held_by, given_back, least_held, all_held, asked, draw_reply, first_with, first_missing, confirm_unheard, confirm_unrefuted, confirm_reply, row_new, row_unbroken, row_refuting, row_fitting, row_reply, reply_to, release, accept, record_row, after_draw, after_confirm, after_row, after, next, is_expert}
+use Rattle.fca_model.specs.Exploration.{State, SetHold, SetReply, RowName, rules_of, open_in, held_by, given_back, least_held, all_held, asked, draw_reply, first_with, first_missing, confirm_unheard, confirm_unrefuted, confirm_reply, row_new, row_unbroken, row_refuting, row_fitting, row_reply, reply_to, release, accept, record_row, after_draw, after_confirm, after_row, after, next, is_expert}
 use Rattle.fca_model.proofs.ListLemmas.{list_any-not}
 use Rattle.fca_model.proofs.StepLemmas.{first_with_none, draw_asks}
 use Rattle.fca_model.proofs.ListLemmas.{list_all-from_none}

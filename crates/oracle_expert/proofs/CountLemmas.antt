@@ -2,23 +2,24 @@
 -- the oracle or, where its question was stale when it answered, by another. So twice what was recorded, and one turn more for each row that was dropped,
 -- is an upper bound of the turns that were taken when a draw is due. While a question is due the bound has one turn less, and two more where the question is
 -- still fresh, for then what is recorded for it is yet to come. The last draw, which is answered Done, is one turn more.
-use Rattle.std.proofs.Common.{◌≡◌, ℕ, suc, ◌+◌, ◌*◌, ◌^◌, ◌<◌, ◌≤◌, ◌⊎◌, Bool, true, false, not, ◌&&◌, ◌||◌, cond, eqb, eq-eqb, option_map, find, get_or, zero, Option, Some, None, List, [], ◌∷◌, ◌++◌, length, map, filter, slice_get, slice_set, refl, inl, inr, sym, ap, ◌∙◌, subst, arith, length-append}
+use Rattle.std.proofs.Common.{◌≡◌, append-nil, append_assoc, ℕ, suc, ◌+◌, ◌*◌, ◌^◌, ◌<◌, ◌≤◌, ◌⊎◌, Bool, true, false, not, ◌&&◌, ◌||◌, cond, eqb, eq-eqb, option_map, find, get_or, zero, Option, Some, None, List, [], ◌∷◌, ◌++◌, length, map, filter, slice_get, slice_set, refl, inl, inr, sym, ap, ◌∙◌, subst, arith, length-append}
 use Rattle.std.proofs.Math.Pow.{pow_mono}
 use Rattle.std.proofs.lemmas.List.{length-map, length-set}
-use Rattle.std.proofs.lemmas.Bool.{cases_Bool, and_parts, or_from, false≢true, not-true, eqb-true}
-use Rattle.std.proofs.lemmas.Option.{slice_get-get_or, get_or_from_slice_get}
+use Rattle.std.proofs.lemmas.Bool.{and_parts, or_from, false≢true, not-true, eqb-true}
+use Rattle.std.proofs.lemmas.Option.{slice_get-get_or}
 use Rattle.std.specs.List.{list_all, list_any}
 use Rattle.std.specs.Option.{is_none}
-use Rattle.fca_model.specs.declared.Reply.TheVariants.{Done, Breaks}
+use Rattle.fca_model.specs.declared.Event.TheVariants.{Draw, Confirm, Row, Leave}
+use Rattle.fca_model.specs.declared.Reply.TheVariants.{Done, Accepted, Taken, Breaks}
 use Rattle.fca_model.specs.declared.TheConstants.{MAX_EXPERTS, MAX_OBJECTS}
-use Rattle.fca_model.specs.Sets.{Set, within, size}
+use Rattle.fca_model.specs.Sets.{Set, within, same, size}
 use Rattle.fca_model.specs.Tables.{NamedContext}
 use Rattle.fca_model.specs.Context.{Context}
 use Rattle.fca_model.specs.Implications.{Rule, holds, respects, respects_all, refutes}
-use Rattle.fca_model.specs.Questions.{has_premise, waiting, open_questions, smallest, least_size}
+use Rattle.fca_model.specs.Questions.{has_premise, waiting, open_questions, least_size}
 use Rattle.fca_model.specs.Pseudo.{basis_known}
 use Rattle.fca_model.specs.Invariant.{Among, IsValid}
-use Rattle.fca_model.specs.Exploration.{State, Settings, RowName, plain, opening, SetHold, SetEvent, SetReply, SetEntry, open_in, held_by, given_back, release, reply_to, next, state_after, journal_of, events_of, expert_of, is_expert, IsLegal, own}
+use Rattle.fca_model.specs.Exploration.{State, Settings, RowName, plain, opening, SetHold, SetEvent, SetReply, SetEntry, rules_of, open_in, held_by, given_back, first_with, first_missing, draw_reply, confirm_unheard, confirm_unrefuted, confirm_reply, row_new, row_unbroken, row_refuting, row_fitting, row_reply, release, accept, after, after_draw, after_confirm, after_row, reply_to, next, state_after, journal_of, events_of, expert_of, is_expert, IsLegal, own}
 use Rattle.fca_model.proofs.ListLemmas.{list_all_from, list_all-filter_kept, filter_passes}
 use Rattle.fca_model.proofs.ClosureLemmas.{holds_by_rows}
 use Rattle.fca_model.proofs.PseudoLemmas.{basis_holds}
@@ -27,12 +28,14 @@ use Rattle.fca_model.proofs.StepLemmas.{by_change}
 use Rattle.fca_model.proofs.ValidLemmas.{next_valid, opening_valid}
 use Rattle.fca_model.proofs.CourseLemmas.{next_settings, exploration_count}
 use Rattle.fca_model.proofs.RunLemmas.{legal_events}
+use Rattle.explore_state.specs.History.{is_recorded}
+use Rattle.explore_state.proofs.CourseLemmas.{draw_not_recorded}
 use Rattle.oracle_expert.specs.Answers.{event_of}
 use Rattle.oracle_expert.specs.Oracles.{Conflicts, no_conflict, conflicts_told, counterexample, answer_with, drop_given, drop_at}
 use Rattle.oracle_expert.specs.Runs.{Moment, IsOracleFront, conflicts_of, row_due, OracleRunsFrom, StopsAtDone, event_due, moment_after, moment_at, is_done}
-use Rattle.oracle_expert.proofs.AnswerLemmas.{IsCounterexample, counterexample_is}
-use Rattle.oracle_course.specs.Counts.{dropped}
-use Rattle.oracle_course.proofs.TurnLemmas.{is_stale, holding, moment, draws, confirms, gives}
+use Rattle.oracle_expert.proofs.AnswerLemmas.{counterexample_is}
+use Rattle.oracle_expert.specs.Counts.{recorded_in, dropped}
+use Rattle.oracle_expert.proofs.TurnLemmas.{is_stale, moment, draws, confirms, gives}
 
 -- ---- holds
 
@@ -295,6 +298,129 @@ few_dropped D entries =
     let within = dropped_within (conflicts_of D entries) in
     omega arith
 
+-- ---- what is recorded
+
+-- what an entry with this reply adds to the rows and the accepted implications
+abbrev adds : SetReply → ℕ
+adds reply = cond (is_recorded reply) 1 0
+
+module _ (s : State) where
+  abbrev Adds : State → SetReply → Type 0
+  Adds t reply = rows_and_rules t ≡ rows_and_rules s + adds reply
+
+  draw_adds : (e : ℕ) → Adds (next s (Draw e)) (reply_to s (Draw e))
+  unfolding after reply_to
+  draw_adds e = go (draw_reply s.settings.holders (given_back e s.holds) (open_in s)) (draw_not_recorded s e)
+    where
+      go : (reply : SetReply) → is_recorded reply ≡ false → Adds (after_draw e s reply) reply
+      go (Accepted k) h = absurd (false≢true (sym h))
+      go (Taken k) h = absurd (false≢true (sym h))
+      go _ h = omega arith
+
+  confirm_adds : (e : ℕ) → Adds (next s (Confirm e)) (reply_to s (Confirm e))
+  unfolding after reply_to
+  confirm_adds e = go (held_by e s.holds) refl
+    where
+      unheard : (q : Rule) → held_by e s.holds ≡ Some q → (o : Option (ℕ × Rule)) → Adds (after_confirm e s (confirm_unheard s o)) (confirm_unheard s o)
+      unheard q held (Some found) = omega arith
+      unheard q held None = subst (λ o. rows_and_rules (release e (accept o s)) ≡ rows_and_rules s + 1) (sym held) (omega (arith, length-append s.accepted (q ∷ [])))
+
+      unrefuted : (q : Rule) → held_by e s.holds ≡ Some q → (o : Option (ℕ × Set)) → Adds (after_confirm e s (confirm_unrefuted s q o)) (confirm_unrefuted s q o)
+      unrefuted q held (Some found) = omega arith
+      unrefuted q held None = unheard q held (first_with (λ i. same i.premise q.premise) (length s.settings.known) s.accepted)
+
+      go : (o : Option Rule) → held_by e s.holds ≡ o → Adds (after_confirm e s (confirm_reply s o)) (confirm_reply s o)
+      go None h = omega arith
+      go (Some q) h = unrefuted q h (first_with (λ r. refutes r q) 0 s.context.rows)
+
+  abbrev RowAdds : ℕ → RowName → Set → SetReply → Type 0
+  RowAdds e name r reply = Adds (after_row e name r s reply) reply
+
+  row_adds : (e : ℕ) (name : RowName) (r : Set) → Adds (next s (Row e name r)) (reply_to s (Row e name r))
+  unfolding after reply_to
+  row_adds e name r = go (held_by e s.holds)
+    where
+      new : (o : Option (ℕ × Set)) → RowAdds e name r (row_new s o)
+      new (Some found) = omega arith
+      new None = omega (arith, length-append s.context.rows (r ∷ []))
+
+      unbroken : (q : Rule) (o : Option (ℕ × Rule)) → RowAdds e name r (row_unbroken s q o)
+      unbroken q (Some found) = omega arith
+      unbroken q None = new (first_with (λ r. refutes r q) 0 s.context.rows)
+
+      refuting : (q : Rule) (b : Bool) → RowAdds e name r (row_refuting s q r b)
+      refuting q true = omega arith
+      refuting q false = unbroken q (first_with (λ i. not (respects r i)) 0 (rules_of s))
+
+      fitting : (q : Rule) (o : Option ℕ) → RowAdds e name r (row_fitting s q r o)
+      fitting q (Some a) = omega arith
+      fitting q None = refuting q (within q.conclusion r)
+
+      go : (o : Option Rule) → RowAdds e name r (row_reply s o r)
+      go None = omega arith
+      go (Some q) = fitting q (first_missing 0 q.premise r)
+
+  next_adds : (x : SetEvent) → Adds (next s x) (reply_to s x)
+  unfolding after reply_to
+  next_adds (Draw e) = draw_adds e
+  next_adds (Confirm e) = confirm_adds e
+  next_adds (Row e name r) = row_adds e name r
+  next_adds (Leave e) = omega arith
+
+length-one_more : {X : Type 0} (b : Bool) (x : X) (xs : List X) → length (cond b (x ∷ xs) xs) ≡ cond b 1 0 + length xs
+length-one_more true x xs = omega arith
+length-one_more false x xs = omega arith
+
+-- the rows and the accepted implications are those that were there and those that were recorded
+pub run_adds : (s : State) (es : List SetEvent) → rows_and_rules (state_after s es) ≡ rows_and_rules s + recorded_in (journal_of s es)
+unfolding state_after journal_of
+run_adds s [] = omega arith
+run_adds s (x ∷ es) =
+    let here = next_adds s x in
+    let more = run_adds (next s x) es in
+    let entry : SetEntry = record { event = x; reply = reply_to s x } in
+    let counted = length-one_more (is_recorded (reply_to s x)) entry (filter (λ (h : SetEntry). is_recorded h.reply) (journal_of (next s x) es)) in
+    omega arith
+
+recorded_rows : (s : State) (es : List SetEvent) → (rows : List Set) × ((state_after s es).context.rows ≡ s.context.rows ++ rows)
+unfolding state_after
+recorded_rows s [] = ([], sym (append-nil s.context.rows))
+recorded_rows s (x ∷ es) =
+    let same : (rows : List Set) × (s.context.rows ≡ s.context.rows ++ rows) = ([], sym (append-nil s.context.rows)) in
+    let one = by_change s x (λ t. (rows : List Set) × (t.context.rows ≡ s.context.rows ++ rows)) same same (λ _ _. same) (λ _ _ _ _. same) (λ name r q _ _ _ _ _. (r ∷ [], refl)) in
+    let more = recorded_rows (next s x) es in
+    (one.0 ++ more.0, more.1 ∙ ap (λ rows. rows ++ more.0) one.1 ∙ append_assoc s.context.rows one.0 more.0)
+
+-- ---- the entries behind some that an expert has already
+
+module _ (D : NamedContext) (e : ℕ) (i : is_expert e ≡ true) (entries : List SetEntry) (front : IsOracleFront D e entries) where
+  -- the bound of what was recorded from the state on
+  abbrev Later : State → List SetEvent → Type 0
+  Later s es = length entries + 2 * rows_and_rules s ≤ 2 * rows_and_rules (state_after s es) + dropped (conflicts_of D entries) + 1
+
+  later_bound : (es : List SetEvent) (s : State) (before : List SetEntry) → IsValid s → s.settings.holders ≡ MAX_EXPERTS → list_all (λ event. is_expert (expert_of event)) es ≡ true
+      → own (journal_of s es) e ≡ before ++ entries → Later s es
+  unfolding state_after journal_of
+  later_bound es s [] v holders is own_is =
+      let none : dropped (no_conflict D) ≡ 0 = none_dropped D.context.rows in
+      let bound : Bound D e i (rows_and_rules s) entries 0 None (no_conflict D) (state_after s es) =
+      subst (λ xs. OracleRunsFrom D e (moment None (no_conflict D)) xs → Bound D e i (rows_and_rules s) xs 0 None (no_conflict D) (state_after s es)) own_is
+      (run_bound D e i (rows_and_rules s) es 0 s (no_conflict D) None v holders is (omega arith) tt) front in
+      omega arith
+  later_bound [] s (b ∷ before) v holders is own_is = cc
+  later_bound (x ∷ es) s (b ∷ before) v holders is own_is =
+      let parts = and_parts (is_expert (expert_of x)) (list_all (λ event. is_expert (expert_of event)) es) is in
+      let still = ap (λ (t : Settings). t.holders) (next_settings s x) ∙ holders in
+      let grown = grows s x in
+      let more : Later (next s x) es =
+      go (eqb (expert_of x) e) (λ before. later_bound es (next s x) before (next_valid s v x parts.0) still parts.1) own_is in
+      omega arith
+    where
+      go : (mine : Bool) → ((before : List SetEntry) → own (journal_of (next s x) es) e ≡ before ++ entries → Later (next s x) es)
+          → cond mine (record { event = x; reply = reply_to s x } ∷ own (journal_of (next s x) es) e) (own (journal_of (next s x) es) e) ≡ b ∷ before ++ entries → Later (next s x) es
+      go true on h = on before (cc)
+      go false on h = on (b ∷ before) h
+
 module _ (K : Context) (names : List RowName) (H : List SetEntry) (legal : IsLegal (opening K names plain) H) where
   abbrev first : State
   first = opening K names plain
@@ -302,22 +428,31 @@ module _ (K : Context) (names : List RowName) (H : List SetEntry) (legal : IsLeg
   valid : IsValid first
   valid = opening_valid K names plain (list_all_from (respects_all []) (λ row. refl) K.rows)
 
-  pub oracle_turns : (rows : List Set) → (state_after first (events_of H)).context.rows ≡ K.rows ++ rows → (D : NamedContext) (e : ℕ) → is_expert e ≡ true → IsOracleFront D e (own H e)
-      → length (own H e) ≤ 2 * (length rows + length (state_after first (events_of H)).accepted) + dropped (conflicts_of D (own H e)) + 1
-  oracle_turns rows recorded D e i front =
+  counted : rows_and_rules (state_after first (events_of H)) ≡ rows_and_rules first + recorded_in H
+  counted = run_adds first (events_of H) ∙ ap (λ J. rows_and_rules first + recorded_in J) legal.replayed
+
+  pub oracle_turns : (D : NamedContext) (e : ℕ) → is_expert e ≡ true → (before entries : List SetEntry) → own H e ≡ before ++ entries → IsOracleFront D e entries
+      → length entries ≤ 2 * recorded_in H + dropped (conflicts_of D entries) + 1
+  oracle_turns D e i before entries own_is front =
       let events = legal_events first H legal in
-      let none : dropped (no_conflict D) ≡ 0 = none_dropped D.context.rows in
-      let longer : length (state_after first (events_of H)).context.rows ≡ length K.rows + length rows = ap length recorded ∙ length-append K.rows rows in
-      let bound = subst (λ J. OracleRunsFrom D e (moment None (no_conflict D)) (own J e) → Bound D e i (rows_and_rules first) (own J e) 0 None (no_conflict D) (state_after first (events_of H))) legal.replayed
-      (run_bound D e i (rows_and_rules first) (events_of H) 0 first (no_conflict D) None valid refl events.0 (omega arith) tt) front in
+      let bound = later_bound D e i entries front (events_of H) first before valid refl events.0 (ap (λ J. own J e) legal.replayed ∙ own_is) in
+      let all = counted in
       omega arith
 
-  pub oracle_few : (rows : List Set) → (state_after first (events_of H)).context.rows ≡ K.rows ++ rows → (D : NamedContext) (e : ℕ) → is_expert e ≡ true → IsOracleFront D e (own H e)
-      → K.width ≤ 46 → length D.context.rows ≤ MAX_OBJECTS → length (own H e) < 2 ^ 48
-  oracle_few rows recorded D e i front narrow small =
+  pub recorded_few : recorded_in H ≤ 2 ^ K.width
+  recorded_few =
       let events = legal_events first H legal in
-      let turns = oracle_turns rows recorded D e i front in
-      let drops = few_dropped D (own H e) in
-      let count = exploration_count first valid (events_of H) events.0 rows recorded in
+      let rows = recorded_rows first (events_of H) in
+      let count = exploration_count first valid (events_of H) events.0 rows.0 rows.1 in
+      let longer : length (state_after first (events_of H)).context.rows ≡ length K.rows + length rows.0 = ap length rows.1 ∙ length-append K.rows rows.0 in
+      let all = counted in
+      omega arith
+
+  pub oracle_few : (D : NamedContext) (e : ℕ) → is_expert e ≡ true → (before entries : List SetEntry) → own H e ≡ before ++ entries → IsOracleFront D e entries
+      → K.width ≤ 46 → length D.context.rows ≤ MAX_OBJECTS → length entries < 2 ^ 48
+  oracle_few D e i before entries own_is front narrow small =
+      let turns = oracle_turns D e i before entries own_is front in
+      let drops = few_dropped D entries in
+      let count = recorded_few in
       let most : 2 ^ K.width ≤ 2 ^ 46 = pow_mono narrow in
       omega arith

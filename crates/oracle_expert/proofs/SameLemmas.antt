@@ -1,20 +1,18 @@
 -- Oracles of one table. None of them ever drops a row. For as long as that is so, a row that is given is a row of the table, and a question that is confirmed
 -- holds there; so all that is accepted holds in the table, and its rows respect it, and none breaks it. Once no question is open the accepted implications are
 -- the basis of the recorded rows. They hold in the table and the recorded rows are rows of it, so both have one basis.
-use Rattle.std.proofs.Common.{◌≡◌, ℕ, zero, suc, ◌+◌, ◌<◌, Bool, true, false, not, ◌&&◌, ◌||◌, cond, eqb, eq-eqb, position, Option, Some, None, List, [], ◌∷◌, ◌++◌, length, map, get_or, refl, sym, ap, ◌∙◌, subst, arith}
-use Rattle.std.proofs.lemmas.Bool.{and_parts, and_from, or_left, or_right, or_from, false≢true, not-true, eqb-true}
+use Rattle.std.proofs.Common.{◌≡◌, ℕ, zero, suc, ◌+◌, ◌<◌, Bool, true, false, not, ◌&&◌, ◌||◌, cond, eqb, eq-eqb, Option, Some, None, List, [], ◌∷◌, ◌++◌, length, map, get_or, refl, sym, ap, ◌∙◌, subst, arith}
+use Rattle.std.proofs.lemmas.Bool.{and_parts, and_from, or_left, or_right, false≢true, not-true, eqb-true}
 use Rattle.std.proofs.lemmas.List.Folds.{list_all-append}
 use Rattle.std.proofs.lemmas.Iterator.Adapters.{position_from-zero}
 use Rattle.std.specs.List.{list_all, list_any, position_from, zip}
-use Rattle.std.specs.Option.{is_none}
-use Rattle.fca_model.specs.declared.TheConstants.{MAX_EXPERTS}
 use Rattle.fca_model.specs.Sets.{Set, within, same}
 use Rattle.fca_model.specs.Context.{Context, closure}
 use Rattle.fca_model.specs.Tables.{NamedContext}
 use Rattle.fca_model.specs.Implications.{Rule, rule, holds, respects, respects_all, refutes}
 use Rattle.fca_model.specs.Pseudo.{basis, basis_known}
-use Rattle.fca_model.specs.Invariant.{Among, IsValid, SameMembers}
-use Rattle.fca_model.specs.Exploration.{State, Settings, RowName, SetHold, SetEvent, SetReply, SetEntry, plain, rules_of, open_in, held_by, release, reply_to, next, opening, state_after, journal_of, events_of, expert_of, is_expert, IsLegal, own}
+use Rattle.fca_model.specs.Invariant.{IsValid, SameMembers}
+use Rattle.fca_model.specs.Exploration.{State, Settings, RowName, SetEvent, SetReply, SetEntry, plain, rules_of, open_in, reply_to, next, opening, state_after, journal_of, events_of, expert_of, is_expert, IsLegal, own}
 use Rattle.fca_model.proofs.ListLemmas.{and_true, list_all_from, list_all-mono}
 use Rattle.fca_model.proofs.SetLemmas.{within_trans, same_refl}
 use Rattle.fca_model.proofs.ClosureLemmas.{closure_in_rows, respects_at, respects_from}
@@ -25,10 +23,10 @@ use Rattle.fca_model.proofs.CourseLemmas.{next_settings, next_width, run_setting
 use Rattle.fca_model.proofs.RunLemmas.{legal_events}
 use Rattle.oracle_expert.specs.Answers.{event_of}
 use Rattle.oracle_expert.specs.Oracles.{Conflicts, no_conflict, is_counterexample, counterexample, answer_with}
-use Rattle.oracle_expert.specs.Runs.{Moment, IsOracleFront, OracleRunsFrom, StopsAtDone, event_due, moment_after, moment_at, conflicts_of}
+use Rattle.oracle_expert.specs.Runs.{Moment, IsOracleFront, OracleRunsFrom, event_due, moment_after, moment_at, conflicts_of}
 use Rattle.oracle_expert.proofs.AnswerLemmas.{counterexample_is}
-use Rattle.oracle_course.proofs.TurnLemmas.{is_stale, holding, moment, draws, confirms, gives}
-use Rattle.oracle_course.proofs.CountLemmas.{Holding, held_new, held_by_other}
+use Rattle.oracle_expert.proofs.TurnLemmas.{moment, draws, confirms, gives}
+use Rattle.oracle_expert.proofs.CountLemmas.{Holding, held_new, held_by_other}
 
 -- ---- lists
 
@@ -214,12 +212,17 @@ module _ (D : Context) (tables : ℕ → NamedContext) (same_context : (e : ℕ)
     nothing_dropped e = whole.1 e
 
     -- and once no question is open, the basis is the table's
-    pub one_basis : open_in final ≡ [] → basis final.context ≡ basis D
-    one_basis done =
-        let events = legal_events first H legal in
-        let plainly = run_settings first (events_of H) in
-        let v = run_valid first (events_of H) events.0 valid in
-        let known : final.settings.known ≡ [] = ap (λ (t : Settings). t.known) plainly in
-        let members : list_all (holds D) (basis_known final.settings.known final.context) ≡ true =
-        sym (accepted_members final.settings.known final.context final.accepted v.accepted done (holds D)) ∙ whole.0.rules in
-        agreeing_basis [] final.context D (wide ∙ sym (run_width first (events_of H))) whole.0.rows refl (subst (λ (S : List Rule). list_all (holds D) (basis_known S final.context) ≡ true) known members)
+    module _ (done : open_in final ≡ []) where
+      settled : final.settings ≡ plain
+      settled = run_settings first (events_of H)
+
+      accepted_all : SameMembers final.accepted (basis final.context)
+      accepted_all =
+          let v = run_valid first (events_of H) (legal_events first H legal).0 valid in
+          subst (λ (S : Settings). SameMembers final.accepted (basis_known S.known final.context)) settled (accepted_members final.settings.known final.context final.accepted v.accepted done)
+
+      pub one_basis : basis final.context ≡ basis D
+      one_basis = agreeing_basis [] final.context D (wide ∙ sym (run_width first (events_of H))) whole.0.rows refl (sym (accepted_all (holds D)) ∙ whole.0.rules)
+
+      pub one_accepted : SameMembers final.accepted (basis D)
+      one_accepted = λ p. accepted_all p ∙ ap (list_all p) one_basis

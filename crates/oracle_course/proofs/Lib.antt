@@ -1,3 +1,0 @@
-pub mod TurnLemmas
-pub mod CountLemmas
-pub mod SameLemmas

@@ -1,8 +1,0 @@
-use Rattle.oracle_course.proofs.SameLemmas.{nothing_dropped, one_basis}
-use Rattle.oracle_course.proofs.laws.same_table_same_basis.Goals as goal
-
-pub returns : goal.returns
-returns c = record {
-  dropped = λ C K names H tables legal wide part same runs. nothing_dropped C tables same K names H legal wide part runs;
-  basis = λ C K names H tables legal wide part same runs. one_basis C tables same K names H legal wide part runs;
-}

@@ -1,0 +1,9 @@
+use Rattle.oracle_expert.proofs.SameLemmas.{nothing_dropped, one_basis, one_accepted}
+use Rattle.oracle_expert.proofs.laws.same_table_same_basis.Goals as goal
+
+pub returns : goal.returns
+returns c = record {
+  dropped = λ C K names H tables legal wide part same runs. nothing_dropped C tables same K names H legal wide part runs;
+  basis = λ C K names H tables legal wide part same runs done. one_basis C tables same K names H legal wide part runs done;
+  accepted = λ C K names H tables legal wide part same runs done. one_accepted C tables same K names H legal wide part runs done;
+}

@@ -1,0 +1,15 @@
+-- What is counted of an exploration by oracles.
+use Rattle.std.specs.Prelude.{ℕ, suc, Some, None, List, [], ◌∷◌, filter, length}
+use Rattle.fca_model.specs.Exploration.{SetEntry}
+use Rattle.explore_state.specs.History.{is_recorded}
+use Rattle.oracle_expert.specs.Oracles.{Conflicts}
+
+-- how many answers were recorded in a history: rows that were taken and implications that were accepted
+abbrev pub recorded_in : List SetEntry → ℕ
+recorded_in H = length (filter (λ entry. is_recorded entry.reply) H)
+
+-- how many rows were dropped
+abbrev pub dropped : Conflicts → ℕ
+dropped [] = 0
+dropped (None ∷ conflicts) = dropped conflicts
+dropped (Some k ∷ conflicts) = suc (dropped conflicts)
