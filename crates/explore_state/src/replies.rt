@@ -25,7 +25,8 @@ pub(crate) fn reply_to_draw(questions: &[Question], held: &[Hold], expert: u8, m
     Reply::Ask(*question)
 }
 
-/// The place of the first question whose premise is held by the fewest other experts.
+/// The place of the first question whose premise is held by the fewest other experts. Once one is found that nobody holds, no
+/// further question is looked at.
 fn fewest_held(questions: &[Question], held: &[Hold], expert: u8) -> usize
     requires { 0 < length questions.now }
     ensures { IsFewest (given_back expert held.now) questions.now (length questions.now) result }
@@ -33,6 +34,9 @@ fn fewest_held(questions: &[Question], held: &[Hold], expert: u8) -> usize
     let mut best = 0;
     let mut fewest = holders(held, expert, &questions[0].premise);
     for place in 1..questions.len() {
+        if fewest == 0 {
+            return best;
+        }
         let count = holders(held, expert, &questions[place].premise);
         if count < fewest {
             best = place;

@@ -1,3 +1,4 @@
 pub mod RowLemmas
 pub mod AcceptLemmas
 pub mod OpenLemmas
+mod NarrowLemmas

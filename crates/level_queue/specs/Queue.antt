@@ -1,8 +1,8 @@
 -- A queue of the open questions: what callers see of it, and what it keeps. It stands at a level, the size of the open premises.
 -- All smaller members of the basis are accepted, and with the candidates it can find the larger ones.
-use Rattle.std.specs.Prelude.{◌≡◌, ℕ, ◌≤◌, ◌+◌, Bool, true, not, ◌||◌, List, [], map, filter, nat_le}
+use Rattle.std.specs.Prelude.{◌≡◌, ℕ, ◌≤◌, ◌+◌, Bool, true, not, ◌||◌, cond, List, [], map, filter, nat_le}
 use Rattle.std.specs.List.{list_all}
-use Rattle.fca_model.specs.Sets.{Set, size, same}
+use Rattle.fca_model.specs.Sets.{Set, size, same, within, meet}
 use Rattle.fca_model.specs.Context.{Context, closure}
 use Rattle.fca_model.specs.Implications.{Rule, rule}
 use Rattle.fca_model.specs.Pseudo.{basis_known}
@@ -51,6 +51,10 @@ pub record IsKept (K : Context) (k : ℕ) (acc : RuleList) (questions : List Rul
 -- a question with its closure in the rows
 abbrev pub renewed : Context → Rule → Rule
 renewed K i = rule i.premise (closure K i.premise)
+
+-- a question of which it is only known that this row is new: where the row has the premise, the conclusion loses what the row lacks
+abbrev pub narrowed : Set → Rule → Rule
+narrowed row i = cond (within i.premise row) (rule i.premise (meet i.conclusion row)) i
 
 -- the premises of the questions that are closed now
 abbrev pub settled_premises : List Rule → List Set

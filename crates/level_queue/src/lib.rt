@@ -119,6 +119,7 @@ impl LevelQueue {
             self.alloc,
             &mut self.candidates,
             &self.rows,
+            &row,
             &self.accepted,
             &self.questions,
             self.level,

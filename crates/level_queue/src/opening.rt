@@ -5,7 +5,7 @@ ghost use Rattle.std.specs.Prelude.{IfOk, ◌≡◌, ◌≤◌, ◌+◌, [], len
 ghost use Rattle.std.specs.List.{list_all};
 ghost use Rattle.fca_model.specs.Levels.{HasBelow};
 ghost use Rattle.pseudo_levels.specs.Search.{AreWide, Grows, LeadsAll};
-ghost use Rattle.level_queue.specs.Queue.{FitsContext, IsKept, IsQueue, Renewable, Acceptable, renewed, settled_premises, still_open, others};
+ghost use Rattle.level_queue.specs.Queue.{FitsContext, IsKept, IsQueue, Renewable, Acceptable, narrowed, renewed, settled_premises, still_open, others};
 
 use attr_bits::Attrs;
 use derivation::Rows;
@@ -21,11 +21,12 @@ pub(crate) struct Opened {
     pub(crate) questions: Vec<Question>,
 }
 
-/// The questions in rows with one row more.
+/// The questions in the rows, of which the last is new.
 pub(crate) fn reopen(
     alloc: Global,
     candidates: &mut Candidates,
     rows: &Rows,
+    row: &Attrs,
     accepted: &ImplicationList,
     questions: &[Question],
     level: u32,
@@ -34,13 +35,14 @@ pub(crate) fn reopen(
     requires bounded { level ≤ rows.now.width + 1 }
     requires wide { list_all (λ i. length i.premise == rows.now.width) questions.now ≡ true }
     requires renewable { Renewable rows.now level accepted.now.members questions.now candidates.old }
+    requires narrowed { map (narrowed row.now) questions.now ≡ map (renewed rows.now) questions.now }
     ensures opened { IfOk result (λ opened. IsKept rows.now opened.level accepted.now opened.questions.items candidates.new) }
     ensures grows { Grows rows.now.width candidates.old candidates.new }
 {
-    let renewed = renew(alloc, rows, questions)?;
-    let closed = closed_premises(alloc, &renewed)?;
+    let narrowed = narrow(alloc, row, questions)?;
+    let closed = closed_premises(alloc, &narrowed)?;
     candidates.grow_all(&closed)?;
-    let rest = unclosed(alloc, &renewed)?;
+    let rest = unclosed(alloc, &narrowed)?;
     finish(alloc, candidates, rows, accepted, rest, level)
 }
 
@@ -118,27 +120,38 @@ pub(crate) fn next_level(
     })
 }
 
-/// The questions with their closures in the rows.
-fn renew(alloc: Global, rows: &Rows, questions: &[Question]) -> Result<Vec<Implication>, Memory>
-    ensures { IfOk result (λ result. result.items ≡ map (renewed rows.now) questions.now) }
+/// The questions once there is this row too: those whose premise it has lose what it lacks.
+fn narrow(alloc: Global, row: &Attrs, questions: &[Question]) -> Result<Vec<Question>, Memory>
+    ensures { IfOk result (λ result. result.items ≡ map (narrowed row.now) questions.now) }
 {
     Ok(
         questions
             .iter()
-            .map(|question| Implication {
-                premise: question.premise,
-                conclusion: rows.closure(&question.premise),
-            })
+            .map(|question| narrowed(row, question))
             .collect(alloc)?,
     )
 }
 
+/// The question once there is this row too.
+fn narrowed(row: &Attrs, question: &Question) -> Question
+    ensures { result ≡ narrowed row.now question.now }
+{
+    if question.premise.within(row) {
+        Implication {
+            premise: question.premise,
+            conclusion: question.conclusion.meet(row),
+        }
+    } else {
+        *question
+    }
+}
+
 /// The premises that are closed.
-fn closed_premises(alloc: Global, renewed: &[Implication]) -> Result<Vec<Attrs>, Memory>
-    ensures { IfOk result (λ premises. premises.items ≡ settled_premises renewed.now) }
+fn closed_premises(alloc: Global, questions: &[Question]) -> Result<Vec<Attrs>, Memory>
+    ensures { IfOk result (λ premises. premises.items ≡ settled_premises questions.now) }
 {
     Ok(
-        renewed
+        questions
             .iter()
             .filter(|i| i.premise == i.conclusion)
             .map(|i| i.premise)
@@ -146,12 +159,12 @@ fn closed_premises(alloc: Global, renewed: &[Implication]) -> Result<Vec<Attrs>,
     )
 }
 
-/// The implications whose premises are not closed.
-fn unclosed(alloc: Global, renewed: &[Implication]) -> Result<Vec<Question>, Memory>
-    ensures { IfOk result (λ rest. rest.items ≡ still_open renewed.now) }
+/// The questions whose premises are not closed.
+fn unclosed(alloc: Global, questions: &[Question]) -> Result<Vec<Question>, Memory>
+    ensures { IfOk result (λ rest. rest.items ≡ still_open questions.now) }
 {
     Ok(
-        renewed
+        questions
             .iter()
             .copied()
             .filter(|i| i.premise != i.conclusion)

@@ -1,20 +1,21 @@
 -- Why larger candidates lead on. Let P be a set that is not closed and respects S and what was found, and let X be a set within P.
--- Where X breaks a rule, its closure under the rules lies within P and is larger. Where X is closed, it is not P, so P has an
+-- Where X breaks a rule, X with its conclusion lies within P and is larger. Where X is closed, it is not P, so P has an
 -- attribute that X lacks, and X with that attribute lies within P.
-use Rattle.std.proofs.Common.{◌≡◌, ℕ, zero, suc, ◌+◌, ◌<◌, ◌≤◌, Bool, true, false, not, ◌&&◌, ◌||◌, cond, Option, Some, None, List, [], ◌∷◌, ◌++◌, map, length, filter, get_or, set, take, refl, sym, ap, ◌∙◌, subst, arith, inl, inr, eqb, eq-eqb, leb, le-leb, leb-true}
+use Rattle.std.proofs.Common.{◌≡◌, ℕ, zero, suc, ◌+◌, ◌<◌, ◌≤◌, Bool, true, false, not, ◌&&◌, ◌||◌, cond, Option, Some, None, List, [], ◌∷◌, ◌++◌, map, length, filter, get_or, set, take, position, refl, sym, ap, ◌∙◌, subst, arith, inl, inr, eqb, eq-eqb, leb, le-leb, leb-true}
 use Rattle.std.proofs.lemmas.Bool.{false≢true, and_parts, and_from, cases_Bool, cases_lt, or_cases, or_left, or_right}
 use Rattle.std.proofs.lemmas.List.{take_more, get_or_default}
 use Rattle.std.proofs.lemmas.List.Folds.{list_all-append, list_any-append}
 use Rattle.std.specs.List.{list_any}
 use Rattle.std.specs.Option.{is_some}
-use Rattle.fca_model.specs.Sets.{Set, size, within, same, strictly_within}
+use Rattle.fca_model.specs.Sets.{Set, size, within, join, same, strictly_within}
 use Rattle.fca_model.specs.Context.{Context, closure, is_closed}
 use Rattle.fca_model.specs.Implications.{Rule, rule, respects, respects_all}
 use Rattle.fca_model.specs.Levels.{absorbs_all}
-use Rattle.fca_model.proofs.SetLemmas.{within_antisymm, same-true, same_from, strictly_from, strictly-parts, size_strict, size-set, set_within, lacks}
+use Rattle.fca_model.proofs.SetLemmas.{within_antisymm, same-true, same_from, strictly-parts, size-set, set_within, lacks}
 use Rattle.fca_model.proofs.ClosureLemmas.{respects_at}
 use Rattle.fca_model.proofs.ListLemmas.{implies_from, list_all-mono}
-use Rattle.implication_closure.specs.Closing.{IsClosure}
+use Rattle.implication_closure.specs.Closing.{HaveWidth}
+use Rattle.implication_closure.proofs.ClosingLemmas.{closes_within, closes_measure, position_none}
 use Rattle.pseudo_levels.specs.Search.{judged, Has, HasLarger, leads, Grows, IsSettled}
 use Rattle.pseudo_levels.proofs.CandidateLemmas.{any_has}
 
@@ -60,6 +61,15 @@ answer_at f Xs answers i X a e l x y = y ∙ ap (λ zs. get_or zs i a) e ∙ at 
     at (Y ∷ Ys) zero h = refl
     at (Y ∷ Ys) (suc j) h = at Ys j (omega arith)
 
+-- where no rule is the first that X breaks, X respects all
+pub unbroken : (found : List Rule) (X : Set) → position (λ i. not (respects X i)) found ≡ None → respects_all found X ≡ true
+unbroken found X none =
+    list_all-mono (λ i. not (not (respects X i))) (respects X) (λ i h. twice (respects X i) h) found (position_none (λ i. not (respects X i)) found none)
+  where
+    twice : (b : Bool) → not (not b) ≡ true → b ≡ true
+    twice true h = refl
+    twice false h = absurd (false≢true h)
+
 module _ (S : List Rule) (K : Context) where
   -- a closed set within one that is not, with one attribute more
   pub larger_leads : (C P : Set) (k : ℕ) (Xs : List Set) → length C ≡ K.width → length P ≡ K.width → is_closed K C ≡ true → is_closed K P ≡ false → within C P ≡ true → k ≤ size C
@@ -94,13 +104,13 @@ module _ (S : List Rule) (K : Context) where
   closed_settles k found X Xs e s closed g P ep _ _ f lt h =
       larger_leads X P k Xs e ep closed f (right_of (is_some (judged S K found X)) (within X P) h) (omega arith) (subst (λ n. HasLarger X n Xs) e g)
 
-  -- the closure of one that is not closed is another set, since it would be a member of the basis
-  pub broken_settles : (k : ℕ) (found : List Rule) (X C : Set) (Xs : List Set) → size X ≡ k → judged S K found X ≡ None → is_closed K X ≡ false → IsClosure (S ++ found) X C → Has C Xs → IsSettled S K k found (X ∷ []) Xs
-  broken_settles k found X C Xs s none open_set least has P ep rs ra f lt h =
-      let inside = least.least P (right_of (is_some (judged S K found X)) (within X P) h) (list_all-append (respects P) S found ∙ and_from (respects_all S P) (respects_all found P) rs ra) in
-      let larger : size X < size C = size_strict X C (sym least.wide) (strictly_from X C least.above
-      (λ z. false≢true (sym open_set ∙ judged_none found X none (subst (λ Z. respects_all (S ++ found) Z ≡ true) (sym z) least.respecting)))) in
-      leads_by (suc k) C P Xs has (omega arith) inside
+  -- a set with the conclusion of a member that it breaks
+  pub broken_settles : (k i : ℕ) (found : List Rule) (X N : Set) (j : Rule) (Xs : List Set) → size X ≡ k → HaveWidth (length X) found → position (λ i. not (respects X i)) found ≡ Some i → j ≡ get_or found i j
+      → N ≡ join X j.conclusion → Has N Xs → IsSettled S K k found (X ∷ []) Xs
+  broken_settles k i found X N j Xs s w at is e has P _ _ ra _ _ h =
+      let inside = subst (λ Z. within Z P ≡ true) (sym e) (closes_within found X w X P i j at is (right_of (is_some (judged S K found X)) (within X P) h) ra) in
+      let larger = closes_measure found X w X N i j refl at is e in
+      leads_by (suc k) N P Xs has (omega arith) inside
 
   member_settles : (k : ℕ) (found : List Rule) (X : Set) (Xs : List Set) → is_some (judged S K found X) ≡ true → IsSettled S K k found (X ∷ []) Xs
   member_settles k found X Xs e P _ _ _ _ _ h = absurd (false≢true (none (is_some (judged S K found X)) (within X P) e h))

@@ -67,22 +67,19 @@ pub fn judge_all(
     )
 }
 
-/// The set's implication to its closure, where it is a member of the basis by the smaller ones.
+/// The set's implication to its closure, where it is a member of the basis by the smaller ones. Most sets are closed, which is seen
+/// without a look at the members.
 pub(crate) fn judge(rows: &Rows, smaller: &[Implication], set: &Attrs) -> Option<Implication>
     ensures { result ≡ judged [] rows.now smaller.now set.now }
 {
-    if !absorbs_all(smaller, set) {
+    let closure = rows.closure(set);
+    if closure == *set || !absorbs_all(smaller, set) {
         return None;
     }
-    let closure = rows.closure(set);
-    if closure == *set {
-        None
-    } else {
-        Some(Implication {
-            premise: *set,
-            conclusion: closure,
-        })
-    }
+    Some(Implication {
+        premise: *set,
+        conclusion: closure,
+    })
 }
 
 /// Whether the set takes in the conclusion of each premise that lies strictly within it.

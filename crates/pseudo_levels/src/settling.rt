@@ -4,14 +4,13 @@ ghost use Rattle.std.specs.Prelude.{◌≡◌, [], ◌∷◌, OnOk, IfOk, length
 ghost use Rattle.std.specs.List.{list_all};
 ghost use Rattle.fca_model.specs.Sets.{size, increasing};
 ghost use Rattle.fca_model.specs.Levels.{HasBelow};
-ghost use Rattle.implication_closure.specs.Closing.{Fits};
 ghost use Rattle.pseudo_levels.specs.Search.{judged, members_of, AreWide, Grows, LeadsAll, IsSettled, IsOpened};
 
 use crate::Candidates;
 use attr_bits::Attrs;
 use derivation::Rows;
 use fca_model::Memory;
-use implication_closure::{Implication, ImplicationList, Scratch};
+use implication_closure::{Implication, ImplicationList};
 use std::alloc::Global;
 
 /// The members of the basis among the candidates of size k, which were judged by the smaller
@@ -36,7 +35,7 @@ pub fn open_level(
     ensures opened { IfOk result (λ members. IsOpened [] rows.now k found.now.members members.items candidates.new) }
     ensures grows { Grows rows.now.width candidates.old candidates.new }
 {
-    settle_all(alloc, candidates, rows, found, sets, answers, k)?;
+    settle_all(candidates, rows, found, sets, answers, k)?;
     members(alloc, answers)
 }
 
@@ -49,7 +48,6 @@ fn members(alloc: Global, answers: &[Option<Implication>]) -> Result<Vec<Implica
 
 /// Puts what the sets of size k that are no members lead to among the candidates.
 fn settle_all(
-    alloc: Global,
     candidates: &mut Candidates,
     rows: &Rows,
     found: &ImplicationList,
@@ -65,36 +63,34 @@ fn settle_all(
     ensures settled { OnOk result (IsSettled [] rows.now k found.now.members sets.now candidates.new) }
     ensures grows { Grows rows.now.width candidates.old candidates.new }
 {
-    let mut scratch = Scratch::new(alloc, found)?;
     for i in 0..sets.len() {
         if answers[i].is_none() {
-            settle(candidates, &mut scratch, rows, found, &sets[i])?;
+            settle(candidates, rows, found, &sets[i])?;
         }
     }
     Ok(())
 }
 
 /// Puts what a set that is no member leads to among the candidates: where it is closed, itself with
-/// each further attribute, and else its closure under what was found.
+/// each further attribute, and else itself with the conclusion of the first member that it breaks.
 fn settle(
     candidates: &mut Candidates,
-    scratch: &mut Scratch,
     rows: &Rows,
     found: &ImplicationList,
     set: &Attrs,
 ) -> Result<(), Memory>
-    requires fits { Fits scratch.old found.now }
     requires width { found.now.width ≡ rows.now.width }
     requires wide { length set.now ≡ rows.now.width }
     requires answer { judged [] rows.now found.now.members set.now ≡ None }
 
     ensures settled { OnOk result (IsSettled [] rows.now (size set.now) found.now.members (set.now ∷ []) candidates.new) }
-    ensures scratch { scratch.new ≡ scratch.old }
     ensures grows { Grows rows.now.width candidates.old candidates.new }
 {
     if rows.closure(set) == *set {
-        candidates.grow(set)
-    } else {
-        candidates.add(found.closure(scratch, set))
+        return candidates.grow(set);
     }
+    let Some(place) = found.first_broken(set) else {
+        unreachable!()
+    };
+    candidates.add(set.join(&found.as_slice()[place].conclusion))
 }

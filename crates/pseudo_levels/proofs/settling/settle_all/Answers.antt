@@ -1,7 +1,6 @@
 use Rattle.std.proofs.Common.{◌∙◌, ◌+◌, [], ap, sym, subst, take, eqb, eqb-true, not}
 use Rattle.std.proofs.lemmas.List.Sums.{AllPass-from_list_all}
 use Rattle.fca_model.specs.Sets.{Set, size}
-use Rattle.implication_closure.specs.Closing.{Fits}
 use Rattle.pseudo_levels.specs.Search.{IsSettled, Grows}
 use Rattle.pseudo_levels.proofs.CandidateLemmas.{grows_trans}
 use Rattle.pseudo_levels.proofs.ReachLemmas.{settled_set, settled_member}
@@ -21,14 +20,12 @@ loop-i-preserved c =
           record {
             settled = subst (λ Zs. IsSettled [] K c.args.k found (take (i + 1) Xs) Zs) (sym w.candidates-is)
                 (settled_set [] K c.args.k i found Xs c.loop-i.candidates w.settle.new.candidates X c.loop-i-test.true w.index-sets-i.is at_size w.settle.ensures.grows c.loop-i.invariant.settled w.in_ok-settle.ensures.settled);
-            fits = subst (λ s. Fits s c.args.found.now) (sym (w.scratch-is ∙ w.settle.ensures.scratch)) c.loop-i.invariant.fits;
             grows = subst (λ Zs. Grows K.width c.args.candidates.now Zs) (sym w.candidates-is) (grows_trans K.width c.args.candidates.now c.loop-i.candidates w.settle.new.candidates c.loop-i.invariant.grows w.settle.ensures.grows);
           }
       | else-is_none w ↦ record {
         settled = subst (λ Zs. IsSettled [] K c.args.k found (take (i + 1) Xs) Zs) (sym w.candidates-is)
             (settled_member [] K c.args.k i found Xs c.loop-i.candidates c.args.answers.now c.index-answers-i.result c.loop-i-test.true c.requires.answers c.index-answers-i.is
             (c.is_none.ensures ∙ ap not w.if-is_none.false) c.loop-i.invariant.settled);
-        fits = subst (λ s. Fits s c.args.found.now) (sym w.scratch-is) c.loop-i.invariant.fits;
         grows = subst (λ Zs. Grows K.width c.args.candidates.now Zs) (sym w.candidates-is) c.loop-i.invariant.grows;
       }
     ]

@@ -1,0 +1,52 @@
+-- One row more lessens the closure of a set that the row contains: it is met with the row. So the questions with their closures in the
+-- rows before, each met with the row where that has its premise, are the questions with their closures in the rows now.
+use Rattle.std.proofs.Common.{◌≡◌, ℕ, Bool, true, false, cond, List, [], ◌∷◌, map, filter, refl, sym, ap, ap₂, ◌∙◌, subst}
+use Rattle.std.proofs.lemmas.Bool.{and_parts}
+use Rattle.std.proofs.lemmas.List.Elements.{filter-append}
+use Rattle.std.proofs.lemmas.List.Sums.{fold-append}
+use Rattle.std.specs.List.{list_all, fold}
+use Rattle.fca_model.specs.Sets.{Set, within, meet, full, same}
+use Rattle.fca_model.specs.Context.{Context, closure, with_row}
+use Rattle.fca_model.specs.Implications.{Rule, rule}
+use Rattle.fca_model.proofs.SetLemmas.{same_refl, same-true}
+use Rattle.pseudo_levels.proofs.LevelLemmas.{level_all}
+use Rattle.level_queue.specs.Queue.{IsQueue, narrowed, renewed}
+use Rattle.level_queue.proofs.RowLemmas.{questions_all}
+
+closure-with_row : (K : Context) (r A : Set) → closure (with_row K r) A ≡ cond (within A r) (meet (closure K A) r) (closure K A)
+closure-with_row K r A =
+    ap (fold meet (full K.width)) (filter-append (within A) K.rows (r ∷ []))
+    ∙ fold-append meet (full K.width) (filter (within A) K.rows) (filter (within A) (r ∷ []))
+    ∙ last (within A r)
+  where
+    last : (b : Bool) → fold meet (closure K A) (cond b (r ∷ []) []) ≡ cond b (meet (closure K A) r) (closure K A)
+    last true = refl
+    last false = refl
+
+-- the conclusion is the closure of the premise
+closes : Context → Rule → Bool
+closes K i = same i.conclusion (closure K i.premise)
+
+narrowed_renews : (K : Context) (r : Set) (i : Rule) → i.conclusion ≡ closure K i.premise → narrowed r i ≡ renewed (with_row K r) i
+narrowed_renews K r i e =
+    choice (within i.premise r) ∙ ap (λ C. rule i.premise (cond (within i.premise r) (meet C r) C)) e ∙ ap (rule i.premise) (sym (closure-with_row K r i.premise))
+  where
+    choice : (b : Bool) → cond b (rule i.premise (meet i.conclusion r)) i ≡ rule i.premise (cond b (meet i.conclusion r) i.conclusion)
+    choice true = refl
+    choice false = refl
+
+map-narrowed : (K : Context) (r : Set) (questions : List Rule) → list_all (closes K) questions ≡ true → map (narrowed r) questions ≡ map (renewed (with_row K r)) questions
+unfolding closes
+map-narrowed K r [] h = refl
+map-narrowed K r (i ∷ is) h =
+    let parts = and_parts (same i.conclusion (closure K i.premise)) (list_all (closes K) is) h in
+    ap₂ (λ j js. j ∷ js) (narrowed_renews K r i (same-true i.conclusion (closure K i.premise) parts.0)) (map-narrowed K r is parts.1)
+
+-- the questions of a queue, once there is the row
+pub narrowed_in : (K K₁ : Context) (r : Set) (k : ℕ) (acc questions questions₁ : List Rule) (Xs : List Set) → IsQueue [] K k acc questions Xs → K₁ ≡ with_row K r → questions₁ ≡ questions
+    → map (narrowed r) questions₁ ≡ map (renewed K₁) questions₁
+unfolding closes
+narrowed_in K K₁ r k acc questions questions₁ Xs queue e o =
+    let closed : list_all (closes K) questions ≡ true = questions_all [] K k acc questions Xs (closes K) queue (level_all [] K k (closes K) (λ P _ _ _. same_refl (closure K P))) in
+    subst (λ L. map (narrowed r) questions₁ ≡ map (renewed L) questions₁) (sym e)
+    (map-narrowed K r questions₁ (ap (list_all (closes K)) o ∙ closed))
