@@ -5,11 +5,8 @@ compare.py [FOLDER]: FOLDER has programs `concepts`, `lattice` and `basis` that 
 write the same bytes. They are no part of this repository; without FOLDER the program alone is timed. Every second is of
 the processor, the least of three runs, since other work on the machine changes the wall time. `differs` marks other bytes.
 """
-import hashlib
 import os
-import subprocess
 import sys
-import tempfile
 
 sys.path.insert(0, os.path.dirname(os.path.abspath(__file__)))
 import measure
@@ -21,30 +18,6 @@ CASES = {
     "basis": [(7, 60, 40, 1), (5, 300, 18, 6), (1, 30, 20, 2), (1, 200, 30, 2), (1, 100, 40, 2)],
 }
 ALGORITHMS = {"concepts": ["nextclosure", "hybrid"], "lattice": ["lindig", "fast"], "basis": ["ganter", "lincbo"]}
-LIMIT = int(os.environ.get("BENCH_LIMIT", "60"))
-
-
-def timed(words, repeat=3):
-    """The least processor seconds, the peak of memory in megabytes, and a digest of what was written; nothing past the limit."""
-    least, peak, digest = None, 0, None
-    for _ in range(repeat):
-        with tempfile.TemporaryFile() as out:
-            child = subprocess.Popen(["timeout", str(LIMIT)] + words, stdout=out, stderr=subprocess.DEVNULL)
-            _, ended, usage = os.wait4(child.pid, 0)
-            if os.waitstatus_to_exitcode(ended) != 0:
-                return None, 0, None
-            took = usage.ru_utime + usage.ru_stime
-            least = took if least is None else min(least, took)
-            peak = max(peak, usage.ru_maxrss / 1024)
-            out.seek(0)
-            digest = hashlib.sha256(out.read()).hexdigest()
-        if least > LIMIT / 6:
-            break
-    return least, peak, digest
-
-
-def shown(seconds):
-    return ">%d" % LIMIT if seconds is None else "%.3f" % seconds
 
 
 def main():
@@ -54,13 +27,13 @@ def main():
         for case in cases:
             path = measure.table(*case)
             name = "%dx%dx%dx%d" % case
-            mine, peak, digest = timed([measure.FCA, job, path])
-            print("%-10s %-18s %-14s %9s %9.1f" % (job, name, "fca", shown(mine), peak), flush=True)
+            mine, peak, digest = measure.timed([measure.FCA, job, path])
+            print("%-10s %-18s %-14s %9s %9.1f" % (job, name, "fca", measure.shown(mine), peak), flush=True)
             for algorithm in ALGORITHMS[job] if folder else []:
-                other, peak, text = timed([os.path.join(folder, job), algorithm, "print", path])
+                other, peak, text = measure.timed([os.path.join(folder, job), algorithm, "print", path])
                 ratio = "%.2f" % (mine / other) if mine and other else ""
                 differs = " differs" if digest and text and digest != text else ""
-                print("%-10s %-18s %-14s %9s %9.1f %7s%s" % (job, name, algorithm, shown(other), peak, ratio, differs), flush=True)
+                print("%-10s %-18s %-14s %9s %9.1f %7s%s" % (job, name, algorithm, measure.shown(other), peak, ratio, differs), flush=True)
 
 
 main()

@@ -1,18 +1,25 @@
 """Runs a command of the program and tells its seconds, its peak of memory and its status."""
+import hashlib
 import os
 import subprocess
 import tempfile
 import time
 
 TOP = os.path.dirname(os.path.dirname(os.path.abspath(__file__)))
-FCA = os.path.join(TOP, "fca")
+FCA = os.environ.get("BENCH_FCA", os.path.join(TOP, "fca"))
+LIMIT = int(os.environ.get("BENCH_LIMIT", "60"))
+
+
+def tables_folder():
+    """Where the tables are kept."""
+    folder = os.environ.get("BENCH_TABLES", "/tmp/fca-bench")
+    os.makedirs(folder, exist_ok=True)
+    return folder
 
 
 def table(seed, objects, attributes, density, form="cxt"):
     """The path of the generated table, which is made where it is not there yet."""
-    folder = os.environ.get("BENCH_TABLES", "/tmp/fca-bench")
-    os.makedirs(folder, exist_ok=True)
-    path = os.path.join(folder, "%d-%d-%d-%d.%s" % (seed, objects, attributes, density, form))
+    path = os.path.join(tables_folder(), "%d-%d-%d-%d.%s" % (seed, objects, attributes, density, form))
     if not os.path.exists(path):
         script = os.path.join(TOP, "bench", "table.py")
         with open(path + ".part", "wb") as out:
@@ -39,3 +46,31 @@ def run(words, stdin=b"", repeat=3):
             out.seek(0)
             text = out.read()
     return least, peak, status, text
+
+
+def digest(text):
+    """Stands for the bytes where they are compared."""
+    return hashlib.sha256(text).hexdigest()
+
+
+def timed(words, repeat=3):
+    """The least processor seconds, the peak of memory in megabytes, and a digest of what was written; nothing past the limit."""
+    least, peak, written = None, 0, None
+    for _ in range(repeat):
+        with tempfile.TemporaryFile() as out:
+            child = subprocess.Popen(["timeout", str(LIMIT)] + words, stdout=out, stderr=subprocess.DEVNULL)
+            _, ended, usage = os.wait4(child.pid, 0)
+            if os.waitstatus_to_exitcode(ended) != 0:
+                return None, 0, None
+            took = usage.ru_utime + usage.ru_stime
+            least = took if least is None else min(least, took)
+            peak = max(peak, usage.ru_maxrss / 1024)
+            out.seek(0)
+            written = digest(out.read())
+        if least > LIMIT / 6:
+            break
+    return least, peak, written
+
+
+def shown(seconds):
+    return ">%d" % LIMIT if seconds is None else "%.3f" % seconds

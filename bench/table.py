@@ -37,4 +37,5 @@ def main():
             out.write("".join("X" if cell else "." for cell in row) + "\n")
 
 
-main()
+if __name__ == "__main__":
+    main()

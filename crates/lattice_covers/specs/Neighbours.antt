@@ -1,10 +1,19 @@
 -- The upper neighbours of an intent, among candidates that lie below every larger intent.
-use Rattle.std.specs.Prelude.{◌≡◌, ℕ, Bool, true, List, map}
+use Rattle.std.specs.Prelude.{◌≡◌, ℕ, Bool, true, List, map, filter, All}
 use Rattle.std.specs.List.{list_any, prefix_len}
 use Rattle.std.specs.Ordering.{is_lt}
 use Rattle.fca_model.specs.Sets.{Set, within, same, strictly_within, lectic_cmp, increasing}
 use Rattle.fca_model.specs.Context.{Context}
 use Rattle.fca_model.specs.Pseudo.{intents}
+use Rattle.lattice_covers.specs.declared.chain.Link.{Link}
+
+-- the context of the rows that contain A
+abbrev pub rows_above : Context → Set → Context
+rows_above K A = record { width = K.width; rows = filter (within A) K.rows }
+
+-- each link has the rows that contain its intent
+abbrev pub AreAbove : Context → List Link → Type 0
+AreAbove K links = All (λ link. link.above ≡ rows_above K link.intent) links
 
 -- intents that contain A strictly, in lectic order, of which each intent that contains A strictly contains one
 pub record LeadUp (K : Context) (A : Set) (Cs : List Set) : Type 0 where

@@ -1,14 +1,19 @@
 //! The covers among the intents of a context, found by upper neighbours.
 #![tactic(auto)]
 
+mod chain;
+mod places;
+
 ghost use Rattle.std.specs.Prelude.{◌≡◌, ◌++◌, true, not, filter, length, IfOk, OnOk};
 ghost use Rattle.fca_model.specs.Sets.{increasing};
 ghost use Rattle.fca_model.specs.Pseudo.{intents as closed_sets, covers};
-ghost use Rattle.lattice_covers.specs.Neighbours.{LeadUp, has_smaller, place_in, pairs_with};
+ghost use Rattle.lattice_covers.specs.Neighbours.{rows_above, LeadUp, has_smaller, pairs_with};
 
 use attr_bits::Attrs;
+use chain::{Link, rows_above};
 use derivation::Rows;
 use fca_model::Memory;
+use places::place_in;
 use std::alloc::Global;
 
 /// The pairs of places of intents of which the second is an upper neighbour of the first, ordered by the first and then the second.
@@ -16,20 +21,30 @@ pub fn covers(alloc: Global, rows: &Rows, intents: &[Attrs]) -> Result<Vec<(usiz
     requires { intents.now ≡ closed_sets rows.now }
     ensures { IfOk result (λ pairs. pairs.items ≡ covers rows.now) }
 {
+    let mut latest = vec![in alloc; 0; rows.width() as usize]?;
+    let mut chain = Vec::new(alloc);
     let mut pairs = Vec::new(alloc);
     for (i, a) in intents.iter().enumerate() {
-        let candidates = upper_candidates(alloc, rows, a)?;
-        add_pairs(&mut pairs, intents, i, &candidates)?;
+        let above = rows_above(alloc, rows, &mut chain, a)?;
+        let candidates = upper_candidates(alloc, rows, &above, a)?;
+        add_pairs(&mut pairs, intents, &mut latest, i, a, &candidates)?;
+        chain.push(Link { intent: *a, above })?;
     }
     Ok(pairs)
 }
 
 /// The closures of a with one attribute that a lacks, where that is the least new attribute of the closure. Of each intent above a, one of them is a part.
-fn upper_candidates(alloc: Global, rows: &Rows, a: &Attrs) -> Result<Vec<Attrs>, Memory>
-    requires { length a.now ≡ rows.now.width }
+/// The rows that contain a are enough to find them.
+fn upper_candidates(
+    alloc: Global,
+    rows: &Rows,
+    above: &Rows,
+    a: &Attrs,
+) -> Result<Vec<Attrs>, Memory>
+    requires wide { length a.now ≡ rows.now.width }
+    requires above { above.now ≡ rows_above rows.now a.now }
     ensures { IfOk result (λ candidates. LeadUp rows.now a.now candidates.items) }
 {
-    let above = rows.containing(alloc, a)?;
     let mut candidates = Vec::new(alloc);
     for i in (0..rows.width()).rev() {
         if !a.has(i) {
@@ -42,11 +57,13 @@ fn upper_candidates(alloc: Global, rows: &Rows, a: &Attrs) -> Result<Vec<Attrs>,
     Ok(candidates)
 }
 
-/// Puts the pairs of i with the places of the minimal candidates last.
+/// Puts the pairs of i with the places of the minimal candidates above a last.
 fn add_pairs(
     pairs: &mut Vec<(usize, usize)>,
     intents: &[Attrs],
+    latest: &mut [usize],
     i: usize,
+    a: &Attrs,
     candidates: &[Attrs],
 ) -> Result<(), Memory>
     requires { increasing intents.now ≡ true }
@@ -55,7 +72,8 @@ fn add_pairs(
 {
     for x in candidates {
         if !has_smaller(candidates, x) {
-            pairs.push((i, place_in(intents, x)))?;
+            let attribute = x.first_missing(a).unwrap_or(0);
+            pairs.push((i, place_in(intents, latest, attribute, x)))?;
         }
     }
     Ok(())
@@ -66,14 +84,6 @@ fn has_smaller(sets: &[Attrs], x: &Attrs) -> bool
     ensures { result ≡ has_smaller sets.now x.now }
 {
     sets.iter().any(|set| set.within(x) && set != x)
-}
-
-/// How many of the sets, which are in lectic order, come before x.
-fn place_in(sets: &[Attrs], x: &Attrs) -> usize
-    requires { increasing sets.now ≡ true }
-    ensures { result ≡ place_in sets.now x.now }
-{
-    sets.partition_point(|set| set.lectic_cmp(x).is_lt())
 }
 
 #[cfg(test)]

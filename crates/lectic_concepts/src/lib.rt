@@ -1,6 +1,7 @@
 //! The intents of a context in lectic order, one by one or all at once, and its concepts.
 #![tactic(auto)]
 
+mod extents;
 mod tree;
 mod walk;
 
@@ -11,6 +12,7 @@ ghost use Rattle.lectic_concepts.specs.Concepts.{concepts};
 
 use attr_bits::Attrs;
 use derivation::Rows;
+use extents::extent_of;
 use fca_io::Steps;
 use fca_model::{Memory, Places};
 use std::alloc::Global;
@@ -47,11 +49,14 @@ pub fn all_concepts(alloc: Global, rows: &Rows) -> Result<Vec<Concept>, Memory>
     ensures { IfOk result (λ all. all.items ≡ concepts rows.now) }
 {
     let intents = all_intents(alloc, rows)?;
+    let mut chain = Vec::new(alloc);
     let mut all = Vec::new(alloc);
     for intent in &intents {
+        let extent = extent_of(alloc, rows, &all, &mut chain, intent)?;
+        chain.push(all.len())?;
         all.push(Concept {
             intent: *intent,
-            extent: rows.extent(alloc, intent)?,
+            extent,
         })?;
     }
     Ok(all)

@@ -1,11 +1,13 @@
-use Rattle.std.proofs.Common.{◌≡◌, ℕ, ◌+◌, ◌<◌, true, not, List, ◌++◌, drop, filter, length, get_or, sym, ap, ◌∙◌, subst, append_assoc}
+use Rattle.std.proofs.Common.{◌≡◌, ℕ, ◌+◌, ◌<◌, true, not, List, [], ◌∷◌, ◌++◌, drop, filter, length, get_or, sym, ap, ◌∙◌, subst, append_assoc}
 use Rattle.std.proofs.lemmas.List.{at_drop_more, at_drop_all, append-nil}
 use Rattle.std.specs.List.{flat_map, enumerate_from, list_any}
 use Rattle.fca_model.specs.Sets.{Set, same, increasing}
 use Rattle.fca_model.specs.Context.{Context}
 use Rattle.fca_model.specs.Pseudo.{intents, covers, covers_of, is_cover}
 use Rattle.lectic_concepts.proofs.IntentLemmas.{of_intents, intents_increasing}
-use Rattle.lattice_covers.specs.Neighbours.{LeadUp, has_smaller, pairs_with}
+use Rattle.std.proofs.lemmas.List.Elements.{All-push}
+use Rattle.lattice_covers.specs.declared.chain.Link.{Link}
+use Rattle.lattice_covers.specs.Neighbours.{rows_above, AreAbove, LeadUp, has_smaller, pairs_with}
 use Rattle.lattice_covers.proofs.MemberLemmas.{in_at}
 use Rattle.lattice_covers.proofs.CoverLemmas.{covers_are_minimal}
 use Rattle.lattice_covers.proofs.PlaceLemmas.{row_of, pairs_with-filter}
@@ -28,8 +30,12 @@ module _ (K : Context) (Xs : List Set) (all : Xs ≡ intents K) (i : ℕ) (A : S
       ap (λ p. p ++ left) (made ∙ ap (λ r. old ++ r) (row_is Cs lead)) ∙ append_assoc old (row_of Xs (i, A)) left
       ∙ ap (λ r. old ++ r) (ap (λ X. row_of Xs (i, X) ++ left) is ∙ sym (at_drop_more (λ Ys. flat_map (row_of Xs) (enumerate_from i Ys)) Xs i A inside)) ∙ h
 
-pub upper_candidates-requires : goal.upper_candidates-requires
-upper_candidates-requires c = wide c.args.rows.now c.args.intents.now c.requires c.loop-i.i c.index-intents-i.result c.loop-i-test.true c.index-intents-i.is
+-- one link more
+links_more : (K : Context) (old new : List Link) (link : Link) → new ≡ old ++ link ∷ [] → AreAbove K old → link.above ≡ rows_above K link.intent → AreAbove K new
+links_more K old new link made h is = subst (AreAbove K) (sym made) (All-push (λ (l : Link). l.above ≡ rows_above K l.intent) old link h is)
+
+pub upper_candidates-requires-clause-wide : goal.upper_candidates-requires-clause-wide
+upper_candidates-requires-clause-wide c = wide c.args.rows.now c.args.intents.now c.requires c.loop-i.i c.index-intents-i.result c.loop-i-test.true c.index-intents-i.is
 
 pub add_pairs-requires : goal.add_pairs-requires
 add_pairs-requires c = subst (λ (Ys : List Set). increasing Ys ≡ true) (sym c.requires) (intents_increasing c.args.rows.now)
@@ -37,10 +43,14 @@ add_pairs-requires c = subst (λ (Ys : List Set). increasing Ys ≡ true) (sym c
 pub loop-i-preserved : goal.loop-i-preserved
 loop-i-preserved c =
     let Cs : List Set = c.in_ok-candidates.candidates.items in
-    more c.args.rows.now c.args.intents.now c.requires c.loop-i.i c.index-intents-i.result c.loop-i-test.true c.index-intents-i.is c.loop-i.pairs.items c.add_pairs.new.pairs.items Cs
-    c.in_ok-candidates.ensures
-    (c.in_ok-add_pairs.ensures ∙ ap (λ (Ys : List Set). c.loop-i.pairs.items ++ pairs_with c.args.intents.now c.loop-i.i (filter (λ X. not (has_smaller Ys X)) Ys)) c.deref.ensures.value)
-    c.loop-i.invariant
+    record {
+      listed = more c.args.rows.now c.args.intents.now c.requires c.loop-i.i c.index-intents-i.result c.loop-i-test.true c.index-intents-i.is c.loop-i.pairs.items c.add_pairs.new.pairs.items Cs
+          c.in_ok-candidates.ensures
+          (c.in_ok-add_pairs.ensures ∙ ap (λ (Ys : List Set). c.loop-i.pairs.items ++ pairs_with c.args.intents.now c.loop-i.i (filter (λ X. not (has_smaller Ys X)) Ys)) c.deref.ensures.value)
+          c.loop-i.invariant.listed;
+      above = links_more c.args.rows.now c.rows_above.new.chain.items c.push.new.self.items (record { intent = c.index-intents-i.result; above = c.in_ok-above.above })
+          c.in_ok-push.ensures.items c.in_ok-above.ensures.chain c.in_ok-above.ensures.above;
+    }
 
 pub returns : goal.returns
 unfolding covers
@@ -48,4 +58,4 @@ returns c =
     let Xs : List Set = c.args.intents.now in
     sym (append-nil c.loop-i.pairs.items)
     ∙ ap (λ q. c.loop-i.pairs.items ++ q) (sym (at_drop_all (λ Ys. flat_map (row_of Xs) (enumerate_from c.loop-i.i Ys)) Xs c.loop-i.i c.loop-i-test.false))
-    ∙ c.loop-i.invariant ∙ ap covers_of c.requires
+    ∙ c.loop-i.invariant.listed ∙ ap covers_of c.requires

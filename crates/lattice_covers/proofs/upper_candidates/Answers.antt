@@ -17,19 +17,19 @@ closed_above K A i inside B b above is =
       | inr other ↦ get_or-set_other A i j true false other ∙ t
     ]))) ∙ ap (closure K) b
 
-pub loop-i-preserved-in-Continue-branch-2 : goal.loop-i-preserved-in-Continue-branch-2
-loop-i-preserved-in-Continue-branch-2 c =
+pub loop-i-preserved-in-Continue-1 : goal.loop-i-preserved-in-Continue-1
+loop-i-preserved-in-Continue-1 c =
     let K : Context = c.args.rows.now in
     let A : Set = c.args.a.now in
     let i : ℕ = c.loop-i.i - 1 in
     let e : c.loop-i.i ≡ suc i = omega arith in
     let lacks : get_or A i false ≡ false = sym c.has.ensures ∙ c.if-not-has.true in
-    let closed : c.closure-closed.result ≡ closure K (set A i true) = c.closure-closed.ensures ∙ closed_above K A i (omega (arith, c.requires, c.loop-i.invariant.inside)) c.with.result c.with.ensures c.in_ok-above.above c.in_ok-above.ensures in
+    let closed : c.closure-closed.result ≡ closure K (set A i true) = c.closure-closed.ensures ∙ closed_above K A i (omega (arith, c.requires.wide, c.loop-i.invariant.inside)) c.with.result c.with.ensures c.args.above.now c.requires.above in
     let found : first_missing 0 c.closure-closed.result A ≡ Some i = sym c.first_missing.ensures ∙ is_some_of c.first_missing.result i (sym c.eq.ensures ∙ c.if-eq.true) in
     record {
       inside = omega (arith, c.loop-i.invariant.inside);
       reached = subst (λ (Cs : List Set). IsReached K A i Cs) (sym c.in_ok-push.ensures.items)
-          (reached_with K A i c.loop-i.i e c.requires c.loop-i.invariant.inside c.loop-i.candidates.items c.loop-i.invariant.reached lacks c.closure-closed.result closed found);
+          (reached_with K A i c.loop-i.i e c.requires.wide c.loop-i.invariant.inside c.loop-i.candidates.items c.loop-i.invariant.reached lacks c.closure-closed.result closed found);
     }
 
 pub loop-i-preserved-else-eq : goal.loop-i-preserved-else-eq
@@ -39,11 +39,11 @@ loop-i-preserved-else-eq c =
     let i : ℕ = c.loop-i.i - 1 in
     let e : c.loop-i.i ≡ suc i = omega arith in
     let lacks : get_or A i false ≡ false = sym c.has.ensures ∙ c.if-not-has.true in
-    let closed : c.closure-closed.result ≡ closure K (set A i true) = c.closure-closed.ensures ∙ closed_above K A i (omega (arith, c.requires, c.loop-i.invariant.inside)) c.with.result c.with.ensures c.in_ok-above.above c.in_ok-above.ensures in
+    let closed : c.closure-closed.result ≡ closure K (set A i true) = c.closure-closed.ensures ∙ closed_above K A i (omega (arith, c.requires.wide, c.loop-i.invariant.inside)) c.with.result c.with.ensures c.args.above.now c.requires.above in
     let other : first_missing 0 c.closure-closed.result A ≢ Some i = λ h. is_none_of c.first_missing.result i (sym c.eq.ensures ∙ c.if-eq.false) (c.first_missing.ensures ∙ h) in
     record {
       inside = omega (arith, c.loop-i.invariant.inside);
-      reached = reached_without K A i c.loop-i.i e c.requires c.loop-i.invariant.inside c.loop-i.candidates.items c.loop-i.invariant.reached lacks c.closure-closed.result closed other;
+      reached = reached_without K A i c.loop-i.i e c.requires.wide c.loop-i.invariant.inside c.loop-i.candidates.items c.loop-i.invariant.reached lacks c.closure-closed.result closed other;
     }
 
 pub loop-i-preserved : goal.loop-i-preserved
@@ -54,10 +54,10 @@ loop-i-preserved c =
     let e : c.loop-i.i ≡ suc i = omega arith in
     record {
       inside = omega (arith, c.loop-i.invariant.inside);
-      reached = reached_at_member K A i c.loop-i.i e c.requires c.loop-i.invariant.inside c.loop-i.candidates.items c.loop-i.invariant.reached (sym c.has.ensures ∙ c.if-not-has.false);
+      reached = reached_at_member K A i c.loop-i.i e c.requires.wide c.loop-i.invariant.inside c.loop-i.candidates.items c.loop-i.invariant.reached (sym c.has.ensures ∙ c.if-not-has.false);
     }
 
 pub returns : goal.returns
 returns c =
     let end : c.loop-i.i ≡ 0 = omega arith in
-    lead_up c.args.rows.now c.args.a.now c.loop-i.candidates.items c.requires (subst (λ k. IsReached c.args.rows.now c.args.a.now k c.loop-i.candidates.items) end c.loop-i.invariant.reached)
+    lead_up c.args.rows.now c.args.a.now c.loop-i.candidates.items c.requires.wide (subst (λ k. IsReached c.args.rows.now c.args.a.now k c.loop-i.candidates.items) end c.loop-i.invariant.reached)

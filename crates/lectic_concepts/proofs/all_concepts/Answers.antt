@@ -5,4 +5,4 @@ use Rattle.lectic_concepts.proofs.all_concepts.Goals as goal
 
 pub returns : goal.returns
 unfolding concepts
-returns c = c.loop-intent.invariant ∙ ap (λ xs. map (concept_of c.args.rows.now) xs) (take_all c.loop-intent.intent-index _ c.loop-intent-test.false ∙ c.deref-intent-items.ensures.value ∙ c.in_ok-intents.ensures)
+returns c = c.loop-intent.invariant.listed ∙ ap (λ xs. map (concept_of c.args.rows.now) xs) (take_all c.loop-intent.intent-index _ c.loop-intent-test.false ∙ c.deref-intent-items.ensures.value ∙ c.in_ok-intents.ensures)

@@ -1,0 +1,55 @@
+//! Where a set stands in a list in lectic order.
+
+ghost use Rattle.std.specs.Prelude.{◌≡◌, true};
+ghost use Rattle.fca_model.specs.Sets.{increasing};
+ghost use Rattle.lattice_covers.specs.Neighbours.{place_in};
+
+use attr_bits::Attrs;
+
+/// How many places behind the one of the set before are looked at.
+const WINDOW: usize = 64;
+
+/// How many of the sets, which are in lectic order, come before x. `latest` says for each attribute where the last set stood whose least new attribute
+/// it was: upper neighbours of intents that follow each other mostly follow each other too. A place that is found so is looked at before it is told.
+pub(crate) fn place_in(sets: &[Attrs], latest: &mut [usize], attribute: u32, x: &Attrs) -> usize
+    requires { increasing sets.now ≡ true }
+    ensures { result ≡ place_in sets.now x.now }
+{
+    let place = place_from(sets, latest_of(latest, attribute), x);
+    if let Some(kept) = latest.get_mut(attribute as usize) {
+        *kept = place;
+    }
+    place
+}
+
+fn latest_of(latest: &[usize], attribute: u32) -> usize {
+    latest.get(attribute as usize).copied().unwrap_or(0)
+}
+
+/// The place, which is looked for behind the place given first.
+fn place_from(sets: &[Attrs], before: usize, x: &Attrs) -> usize
+    requires { increasing sets.now ≡ true }
+    ensures { result ≡ place_in sets.now x.now }
+{
+    let near = place_near(sets, before.saturating_add(1), x);
+    if near < sets.len() && sets[near] == *x {
+        return near;
+    }
+    count_before(sets, x)
+}
+
+/// A place from the given one on where the set may stand.
+fn place_near(sets: &[Attrs], from: usize, x: &Attrs) -> usize {
+    let end = sets.len().min(from.saturating_add(WINDOW));
+    if end <= from || sets[from] == *x {
+        return from;
+    }
+    from.saturating_add(count_before(&sets[from..end], x))
+}
+
+/// How many of the sets come before x, by halves of the list.
+fn count_before(sets: &[Attrs], x: &Attrs) -> usize
+    ensures { increasing sets.now ≡ true → result ≡ place_in sets.now x.now }
+{
+    sets.partition_point(|set| set.lectic_cmp(x).is_lt())
+}
