@@ -2,7 +2,7 @@
 
 use crate::run::run;
 use fca_io::{MemoryEnd, MemoryLink, MemoryShelf, MemorySink, MemorySource};
-use fca_model::{Memory, Word};
+use fca_model::{FILE_BYTES, Memory, Word};
 use std::alloc::Global;
 use std::sync::Wait;
 use std::test::Fail;
@@ -32,6 +32,9 @@ const ONE_FULL_ROW: &[u8] = b"B\n\n1\n3\n\ng\na\nb\nc\nXXX\n";
 
 /// A nominal scale.
 const NOMINAL: &[u8] = b"B\n\n3\n3\n\n1\n2\n3\na\nb\nc\nX..\n.X.\n..X\n";
+
+/// A contranominal scale.
+const CONTRANOMINAL: &[u8] = b"B\n\n3\n3\n\n1\n2\n3\na\nb\nc\n.XX\nX.X\nXX.\n";
 
 /// Living beings and water.
 const LIVING: &[u8] =
@@ -139,7 +142,7 @@ const EXPLORATIONS: [Call; 11] = [
     ),
 ];
 
-const TABLES: [Call; 17] = [
+const TABLES: [Call; 21] = [
     (
         &[b"concepts", b"F"],
         NO_ATTRIBUTES,
@@ -183,6 +186,28 @@ const TABLES: [Call; 17] = [
         b"",
         0,
         b"basis 3\n1 {b, c} -> {a}\n2 {a, c} -> {b}\n3 {a, b} -> {c}\n",
+    ),
+    (
+        &[b"lattice", b"F"],
+        CONTRANOMINAL,
+        b"",
+        0,
+        b"concepts 8\n1 {} | {1, 2, 3}\n2 {c} | {1, 2}\n3 {b} | {1, 3}\n4 {b, c} | {1}\n5 {a} | {2, 3}\n6 {a, c} | {2}\n7 {a, b} | {3}\n8 {a, b, c} | {}\ncovers 12\n1 2\n1 3\n1 5\n2 4\n2 6\n3 4\n3 7\n4 8\n5 6\n5 7\n6 8\n7 8\n",
+    ),
+    (&[b"basis", b"F"], CONTRANOMINAL, b"", 0, b"basis 0\n"),
+    (
+        &[b"lattice", b"F"],
+        LIVING,
+        b"",
+        0,
+        b"concepts 19\n1 {a} | {leech, bream, frog, dog, spike-weed, reed, bean, maize}\n2 {a, g} | {leech, bream, frog, dog}\n3 {a, g, h} | {bream, frog, dog}\n4 {a, d} | {spike-weed, reed, bean, maize}\n5 {a, d, f} | {spike-weed, reed, maize}\n6 {a, c} | {frog, dog, reed, bean, maize}\n7 {a, c, g, h} | {frog, dog}\n8 {a, c, g, h, i} | {dog}\n9 {a, c, d} | {reed, bean, maize}\n10 {a, c, d, f} | {reed, maize}\n11 {a, c, d, e} | {bean}\n12 {a, b} | {leech, bream, frog, spike-weed, reed}\n13 {a, b, g} | {leech, bream, frog}\n14 {a, b, g, h} | {bream, frog}\n15 {a, b, d, f} | {spike-weed, reed}\n16 {a, b, c} | {frog, reed}\n17 {a, b, c, g, h} | {frog}\n18 {a, b, c, d, f} | {reed}\n19 {a, b, c, d, e, f, g, h, i} | {}\ncovers 32\n1 2\n1 4\n1 6\n1 12\n2 3\n2 13\n3 7\n3 14\n4 5\n4 9\n5 10\n5 15\n6 7\n6 9\n6 16\n7 8\n7 17\n8 19\n9 10\n9 11\n10 18\n11 19\n12 13\n12 15\n12 16\n13 14\n14 17\n15 18\n16 17\n16 18\n17 19\n18 19\n",
+    ),
+    (
+        &[b"basis", b"F"],
+        LIVING,
+        b"",
+        0,
+        b"basis 10\n1 {} -> {a}\n2 {a, i} -> {c, g, h}\n3 {a, h} -> {g}\n4 {a, f} -> {d}\n5 {a, e} -> {c, d}\n6 {a, d, g} -> {b, c, e, f, h, i}\n7 {a, c, g} -> {h}\n8 {a, c, d, e, f} -> {b, g, h, i}\n9 {a, b, d} -> {f}\n10 {a, b, c, g, h, i} -> {d, e, f}\n",
     ),
     (
         &[b"concepts", b"F", b"--json"],
@@ -249,7 +274,7 @@ const TABLES: [Call; 17] = [
     ),
 ];
 
-const REFUSALS: [Call; 23] = [
+const REFUSALS: [Call; 33] = [
     (
         CONVERT,
         b"B\n\n2\n2\n\ng\nh\na\nb\nX.\n",
@@ -294,6 +319,29 @@ const REFUSALS: [Call; 23] = [
         b"fca: F: line 4: too many\n",
     ),
     (
+        CONVERT,
+        b"B\n\xFF\n",
+        b"",
+        2,
+        b"fca: F: byte 2: not UTF-8\n",
+    ),
+    (CONVERT, b"A\n", b"", 2, b"fca: F: line 1: not B\n"),
+    (
+        CONVERT,
+        b"B\nzzzzzzzzzzzzzzzzzzzzzzzzzzzzzzzzzzzzzzzzzzzzzzzzzzzzzzzzzzzzzzzzzzzzzzzzzzzzzzzzzzzzzzzzzzzzzzzzzzzzzzzzzzzzzzzzzzzzzzzzzzzzzzzzzzzzzzzzzzzzzzzzzzzzzzzzzzzzzzzzzzzzzzzzzzzzzzzzzzzzzzzzzzzzzzzzzzzzzzzzzzzzzzzzzzzzzzzzzzzzzzzzzzzzzzzzzzzzzzzzzzzzzzzzzzzzzzzz\n",
+        b"",
+        2,
+        b"fca: F: line 2: long name\n",
+    ),
+    (CONVERT, b"B\na\rb\n", b"", 2, b"fca: F: line 2: bad name\n"),
+    (
+        CONVERT,
+        b"B\n\n1\n0\n\n\n",
+        b"",
+        2,
+        b"fca: F: line 6: empty name\n",
+    ),
+    (
         &[b"follows", b"F", b"z", b"a"],
         LIVING,
         b"",
@@ -322,6 +370,34 @@ const REFUSALS: [Call; 23] = [
         b"fca: F.csv: record 1: field 3: duplicate attribute\n",
     ),
     (CONVERT_CSV, b"", b"", 2, b"fca: F.csv: no header\n"),
+    (
+        CONVERT_CSV,
+        b",,,,,,,,,,,,,,,,,,,,,,,,,,,,,,,,,,,,,,,,,,,,,,,,,,,,,,,,,,,,,,,,,,,,,,,,,,,,,,,,,,,,,,,,,,,,,,,,,,,,,,,,,,,,,,,,,,,,,,,,,,,,,,,,,,,,,,,,,,,,,,,,,,,,,,,,,,,,,,,,,,,,,,,,,,,,,,,,,,,,,,,,,,,,,,,,,,,,,,,,,,,,,,,,,,,,,,,,,,,,,,,,,,,,,,,,,,,,,,,,,,,,,,,,,,,,,,,,,\n",
+        b"",
+        2,
+        b"fca: F.csv: too many attributes\n",
+    ),
+    (
+        CONVERT_CSV,
+        b",a,\n",
+        b"",
+        2,
+        b"fca: F.csv: record 1: field 3: empty name\n",
+    ),
+    (
+        CONVERT_CSV,
+        b",a\nzzzzzzzzzzzzzzzzzzzzzzzzzzzzzzzzzzzzzzzzzzzzzzzzzzzzzzzzzzzzzzzzzzzzzzzzzzzzzzzzzzzzzzzzzzzzzzzzzzzzzzzzzzzzzzzzzzzzzzzzzzzzzzzzzzzzzzzzzzzzzzzzzzzzzzzzzzzzzzzzzzzzzzzzzzzzzzzzzzzzzzzzzzzzzzzzzzzzzzzzzzzzzzzzzzzzzzzzzzzzzzzzzzzzzzzzzzzzzzzzzzzzzzzzzzzzzzzz,X\n",
+        b"",
+        2,
+        b"fca: F.csv: record 2: field 1: long name\n",
+    ),
+    (
+        CONVERT_CSV,
+        b",\"a\nb\"\n",
+        b"",
+        2,
+        b"fca: F.csv: record 1: field 2: bad name\n",
+    ),
     (
         REPLAY,
         TWO,
@@ -352,6 +428,13 @@ const REFUSALS: [Call; 23] = [
     ),
     (
         &[b"concepts", b"nofile"],
+        TWO,
+        b"",
+        3,
+        b"fca: nofile: read fault\n",
+    ),
+    (
+        &[b"convert", b"nofile", b"cxt"],
         TWO,
         b"",
         3,
@@ -468,6 +551,17 @@ fn repeat(text: &mut Vec<u8>, byte: u8, count: usize) -> Result<(), Memory> {
     Ok(())
 }
 
+/// Puts the names of the attributes from m1 to m256 behind the text, from one to another of them.
+fn list_names(alloc: Global, text: &mut Vec<u8>, first: u32, last: u32) -> Result<(), Memory> {
+    for i in first..last {
+        let name = format!(in alloc; "m{i}, ")?;
+        text.extend_from_slice(name.as_bytes())?;
+    }
+    let name = format!(in alloc; "m{last}")?;
+    text.extend_from_slice(name.as_bytes())?;
+    Ok(())
+}
+
 /// A table of 256 attributes whose one object has the last alone.
 fn wide_table(alloc: Global) -> Result<Vec<u8>, Memory> {
     let mut text = Vec::new(alloc);
@@ -499,15 +593,34 @@ fn wide_text(alloc: Global) -> Result<Vec<u8>, Memory> {
     repeat(&mut text, b'.', 254)?;
     text.extend_from_slice(b"XX ")?;
     repeat(&mut text, b'X', 256)?;
-    text.extend_from_slice(b" {m255, m256} -> {m1")?;
-    for i in 2..255u32 {
-        let name = format!(in alloc; ", m{i}")?;
-        text.extend_from_slice(name.as_bytes())?;
-    }
+    text.extend_from_slice(b" {m255, m256} -> {")?;
+    list_names(alloc, &mut text, 1, 254)?;
     text.extend_from_slice(b"}\n# recorded 0\n# accepted 1\n# 1 ")?;
     first_question(&mut text)?;
     text.extend_from_slice(b"# open 255\n")?;
     Ok(text)
+}
+
+/// The concepts of that table.
+fn wide_concepts(alloc: Global) -> Result<Vec<u8>, Memory> {
+    let mut text = Vec::new(alloc);
+    text.extend_from_slice(b"concepts 2\n1 {m256} | {g}\n2 {")?;
+    list_names(alloc, &mut text, 1, 256)?;
+    text.extend_from_slice(b"} | {}\n")?;
+    Ok(text)
+}
+
+/// Its basis: how it begins, and its last member.
+fn wide_basis(alloc: Global) -> Result<(Vec<u8>, Vec<u8>), Memory> {
+    let mut first = Vec::new(alloc);
+    first.extend_from_slice(b"basis 256\n1 {} -> {m256}\n2 {m255, m256} -> {")?;
+    list_names(alloc, &mut first, 1, 254)?;
+    first.extend_from_slice(b"}\n")?;
+    let mut last = Vec::new(alloc);
+    last.extend_from_slice(b"\n256 {m1, m256} -> {")?;
+    list_names(alloc, &mut last, 2, 255)?;
+    last.extend_from_slice(b"}\n")?;
+    Ok((first, last))
 }
 
 #[test]
@@ -518,6 +631,17 @@ fn explores_256_attributes(rt: HostRuntime) -> Result<(), Fail> {
     let called = outcome(&rt, rt.alloc(), REPLAY, &file, script, 1_000_000, &[], &[])?;
     assert_eq!(rt; called.status, 6);
     assert!(&rt; called.out.written().starts_with(&text));
+    let words: &[&[u8]] = &[b"concepts", b"F"];
+    let concepts = outcome(&rt, rt.alloc(), words, &file, b"", 10_000, &[], &[])?;
+    assert_eq!(rt;
+        concepts.out.written(),
+        wide_concepts(rt.alloc())?.as_slice()
+    );
+    let words: &[&[u8]] = &[b"basis", b"F"];
+    let basis = outcome(&rt, rt.alloc(), words, &file, b"", 1_000_000, &[], &[])?;
+    let (first, last) = wide_basis(rt.alloc())?;
+    assert!(&rt; basis.out.written().starts_with(&first));
+    assert!(&rt; basis.out.written().ends_with(&last));
     Ok(())
 }
 
@@ -589,6 +713,10 @@ fn refused_calls_say_why(rt: HostRuntime) -> Result<(), Fail> {
         assert_eq!(rt; called.status, row.3);
         assert_eq!(rt; called.out.written().len(), 0);
     }
+    let mut long = Vec::new(rt.alloc());
+    long.resize(FILE_BYTES + 1, b'B')?;
+    let called = outcome(&rt, rt.alloc(), CONVERT, &long, b"", 0, &[], &[])?;
+    assert_eq!(rt; called.err.written(), b"fca: F: too long\n".as_slice());
     Ok(())
 }
 
@@ -603,5 +731,6 @@ fn failing_ends_are_told(rt: HostRuntime) -> Result<(), Fail> {
     let cut = call(&rt, rt.alloc(), &TABLES[6], &[], &[2])?;
     assert_eq!(rt; cut.status, 4);
     assert_eq!(rt; cut.out.written(), b"concepts 5".as_slice());
+    assert_eq!(rt; cut.err.written(), b"fca: write fault\n".as_slice());
     Ok(())
 }
