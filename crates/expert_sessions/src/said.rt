@@ -1,14 +1,20 @@
 //! What a line is answered.
 
+ghost use Rattle.std.specs.Prelude.{◌≤◌, OnOk, OnErr};
+ghost use Rattle.std.specs.Io.KnownBytes.{Appends, Keeps};
+ghost use Rattle.fca_io.specs.Faults.{Rose};
+ghost use Rattle.fca_io.specs.Transfers.{AppendsFront};
 ghost use Rattle.expert_sessions.specs.Lines.{said_line};
 ghost use Rattle.expert_sessions.specs.Moves.{Wire};
 ghost use Rattle.expert_sessions.specs.Courses.{Writes};
 ghost use Rattle.expert_wire.specs.Greetings.{greeting};
+ghost use Rattle.expert_wire.specs.Replies.{reply_line};
 
 use context_table::Table;
-use expert_wire::{write_greeting, write_reply};
+use expert_wire::{Draft, write_greeting, write_reply};
 use explore_state::Reply;
-use fca_io::{Duplex, Put, write_text};
+use fca_io::{Duplex, Put, Sink, write_text};
+use std::alloc::Global;
 
 /// The answer to a line.
 #[derive(Drop)]
@@ -34,17 +40,45 @@ pub(crate) fn greet<E: Duplex>(end: &mut E, table: &Table, expert: u8) -> Result
 }
 
 /// Writes the line of the answer.
-pub(crate) fn write_said<E: Duplex>(end: &mut E, table: &Table, said: &Said) -> Result<(), Put>
+pub(crate) fn write_said<E: Duplex>(
+    alloc: Global,
+    end: &mut E,
+    table: &Table,
+    said: &Said,
+) -> Result<(), Put>
     ensures { Writes
         (record { left = E.Source.left end.old; held = E.Sink.held end.old; reads = E.Source.faults end.old; writes = E.Sink.faults end.old })
         (record { left = E.Source.left end.new; held = E.Sink.held end.new; reads = E.Source.faults end.new; writes = E.Sink.faults end.new })
         (said_line table.now.attributes said.now) result }
 {
     match said {
-        Said::Replied(reply) => write_reply(end, table, reply),
+        Said::Replied(reply) => write_at_once(alloc, end, table, reply),
         Said::Bye => write_text(end, b"bye\n"),
         Said::BadLine => write_text(end, b"bad line\n"),
         Said::BadWidth => write_text(end, b"bad width\n"),
         Said::NoMemory => write_text(end, b"no memory\n"),
+    }
+}
+
+/// Writes the line of the reply: whole where there is memory for it, so that an end sends it in one piece, and else part by part.
+fn write_at_once<K: Sink>(
+    alloc: Global,
+    sink: &mut K,
+    table: &Table,
+    reply: &Reply,
+) -> Result<(), Put>
+    ensures whole { OnOk result (Appends (K.held sink.old) (K.held sink.new) (reply_line table.now.attributes reply.now)) }
+    ensures front { AppendsFront (K.held sink.old) (K.held sink.new) (reply_line table.now.attributes reply.now) }
+
+    ensures failed { OnErr result (Rose (K.faults sink.old) (K.faults sink.new)) }
+    ensures later { K.faults sink.old ≤ K.faults sink.new }
+
+    ensures beside { Keeps (K.beside sink.old) (K.beside sink.new) }
+    ensures later_beside { K.faults_beside sink.old ≤ K.faults_beside sink.new }
+{
+    let mut line = Draft::new(alloc);
+    match line.reply(table, reply) {
+        Ok(()) => write_text(sink, line.into_bytes().as_slice()),
+        Err(_) => write_reply(sink, table, reply),
     }
 }

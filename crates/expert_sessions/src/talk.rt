@@ -101,7 +101,7 @@ fn serve_line<D: Desk, E: Duplex>(
     let at = ahead.read_line(end)?;
     let said = answer(alloc, desk, table, ahead.line(at))?;
     ahead.forget(at + 1);
-    if write_said(end, table, &said).is_err() {
+    if write_said(alloc, end, table, &said).is_err() {
         return Err(Ended::WriteFault);
     }
     match said {
