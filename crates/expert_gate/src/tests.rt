@@ -146,9 +146,9 @@ fn a_look_shows_the_state(rt: HostRuntime) -> Result<(), Fail> {
     Ok(())
 }
 
-// ---- two experts on two threads
+// ---- one turn each
 
-/// How many of two draws at a desk are answered by a question.
+/// The reply to the second of two draws.
 fn draw_twice<R: Wait>(rt: &R, gate: &Gate, pass: &mut ExpertPass) -> Result<Reply, TurnFault>
     requires { Belongs gate.now pass.old }
     ensures { badge pass.new ≡ badge pass.old }
@@ -164,6 +164,28 @@ fn draw_alone<R: Wait>(rt: &R, gate: &Gate, passes: &mut [ExpertPass]) -> bool
     ensures { map badge passes.new ≡ map badge passes.old }
 {
     passes.len() == 1 && matches!(draw_twice(rt, gate, &mut passes[0]), Err(TurnFault::Spent))
+}
+
+fn drawn_by_one<R: Wait>(rt: &R, alloc: Global) -> Result<(bool, Explore), Memory> {
+    let (gate, mut passes) = Gate::open(alloc, opened(alloc, 1)?, 1)?;
+    let spent = draw_alone(rt, &gate, passes.as_mut_slice());
+    Ok((spent, gate.close(passes)))
+}
+
+#[test]
+fn an_expert_has_one_turn(rt: HostRuntime) -> Result<(), Fail> {
+    let Ok((spent, explore)) = drawn_by_one(&rt, rt.alloc()) else {
+        panic!(rt; "memory")
+    };
+    assert!(rt; spent, "the second draw");
+    assert_eq!(rt; explore.journal().len(), 1);
+    assert!(rt;
+        explore
+            .journal()
+            .iter()
+            .all(|entry| is_first_draw(entry, 1))
+    );
+    Ok(())
 }
 
 fn draw_both<R: Threads + Wait + Sync>(rt: &R, gate: &Gate, passes: &mut [ExpertPass]) -> bool

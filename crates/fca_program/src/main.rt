@@ -54,4 +54,6 @@ fn words_of(alloc: Global, arguments: Args) -> Result<Vec<Word>, Memory> {
 }
 
 #[cfg(test)]
+mod serving_tests;
+#[cfg(test)]
 mod tests;
