@@ -139,11 +139,20 @@ module _ (gate : Lock Opening) (ps : List (Known Opening SetEntry)) (before : Li
 
 -- ---- the oracles of tables
 
-pub untold_wide : (n : ℕ) (Ds : List NamedContext) → All (λ (D : NamedContext). D.context.width ≡ n) Ds → All (λ (r : Recall). r.table.context.width ≡ n) (map untold Ds)
-untold_wide n [] wide = All-nil (λ (r : Recall). r.table.context.width ≡ n)
-untold_wide n (D ∷ Ds) wide =
-    All-cons (λ (r : Recall). r.table.context.width ≡ n) (untold D) (map untold Ds) (All-head (λ (K : NamedContext). K.context.width ≡ n) D Ds wide)
-    (untold_wide n Ds (All-tail (λ (K : NamedContext). K.context.width ≡ n) D Ds wide))
+pub untold_all : (P : NamedContext → Type 0) (Ds : List NamedContext) → All P Ds → All (λ (r : Recall). P r.table) (map untold Ds)
+untold_all P [] all = All-nil (λ (r : Recall). P r.table)
+untold_all P (D ∷ Ds) all = All-cons (λ (r : Recall). P r.table) (untold D) (map untold Ds) (All-head P D Ds all) (untold_all P Ds (All-tail P D Ds all))
+
+-- oracles of the same tables
+pub tables_all : (P : NamedContext → Type 0) (oracles before : List Recall) → map (λ (r : Recall). r.table) oracles ≡ map (λ (r : Recall). r.table) before → All (λ (r : Recall). P r.table) before
+    → All (λ (r : Recall). P r.table) oracles
+tables_all P [] before e all = All-nil (λ (r : Recall). P r.table)
+tables_all P (oracle ∷ oracles) [] e all = cc
+tables_all P (oracle ∷ oracles) (old ∷ before) e all =
+    let Q : Recall → Type 0 = λ r. P r.table in
+    let here : oracle.table ≡ old.table = cc in
+    let rest : map (λ (r : Recall). r.table) oracles ≡ map (λ (r : Recall). r.table) before = cc in
+    All-cons Q oracle oracles (subst P (sym here) (All-head Q old before all)) (tables_all P oracles before rest (All-tail Q old before all))
 
 pub untold_tables : (Ds : List NamedContext) → map (λ (r : Recall). r.table) (map untold Ds) ≡ Ds
 untold_tables [] = refl

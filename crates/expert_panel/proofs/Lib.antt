@@ -4,3 +4,4 @@ pub mod SeatLemmas
 pub mod DoneLemmas
 pub mod ShareLemmas
 pub mod EndingLemmas
+pub mod CourseLemmas

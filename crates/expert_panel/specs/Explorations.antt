@@ -1,10 +1,18 @@
 -- Explorations by oracles: what each did in the one history.
-use Rattle.std.specs.Prelude.{◌≡◌, ℕ, ◌+◌, ◌≤◌, ◌<◌, ◌⊎◌, ◌↔◌, Bool, true, false, Option, Some, List, [], map, length, slice_get}
+use Rattle.std.specs.Prelude.{◌≡◌, ℕ, ◌+◌, ◌*◌, ◌≤◌, ◌<◌, ◌⊎◌, ◌↔◌, Bool, true, false, Option, Some, List, [], All, map, length, slice_get}
+use Rattle.std.specs.List.{list_all, list_any}
+use Rattle.fca_model.specs.declared.TheConstants.{MAX_OBJECTS}
+use Rattle.fca_model.specs.Sets.{same}
+use Rattle.fca_model.specs.Context.{Context}
+use Rattle.fca_model.specs.Pseudo.{basis}
+use Rattle.fca_model.specs.Invariant.{SameMembers}
 use Rattle.fca_model.specs.Exploration.{SetEntry, IsLegal, own}
-use Rattle.explore_state.specs.History.{Opening, History, opening_state, open_of}
+use Rattle.explore_state.specs.History.{Opening, History, opening_state, state_of, open_of}
 use Rattle.turn_lock.specs.Passes.{Lock}
-use Rattle.oracle_expert.specs.Oracles.{Recall}
+use Rattle.oracle_expert.specs.Counts.{recorded_in, dropped}
+use Rattle.oracle_expert.specs.Oracles.{Recall, no_conflict}
 use Rattle.oracle_expert.specs.Runs.{IsOracleFront, ends_done, conflicts_of}
+use Rattle.expert_panel.specs.declared.seat.Seat.{Seat}
 use Rattle.expert_panel.specs.declared.end.SeatEnd.{SeatEnd}
 use Rattle.expert_panel.specs.declared.end.SeatEnd.TheVariants.{Spent, Memory}
 
@@ -38,3 +46,31 @@ pub record HasEnded (gate : Lock Opening) (before : List Recall) (explore : Hist
   pub others : (e : ℕ) → (e ≡ 0) ⊎ (length before < e) → own explore.journal e ≡ []
   pub spent : (some_spent ≡ true) ↔ ((e : ℕ) × (1 ≤ e) × (e ≤ length before) × (ends_done (own explore.journal e) ≡ false))
   pub finished : some_spent ≡ false → open_of explore ≡ []
+
+-- the oracle's table has no more rows than a table may have
+abbrev pub HasFewRows : Recall → Type 0
+HasFewRows oracle = length oracle.table.context.rows ≤ MAX_OBJECTS
+
+-- two turns for each answer that was recorded in the history, one for each row that the oracle dropped, and one more
+abbrev pub most_turns : List SetEntry → Recall → ℕ
+most_turns H oracle = 2 * recorded_in H + dropped oracle.conflicts + 1
+
+-- the entries of expert e are no more
+abbrev pub IsWithinTurns : List SetEntry → ℕ → Recall → Type 0
+IsWithinTurns H e oracle = length (own H e) ≤ most_turns H oracle
+
+-- nor are the turns that the seat made; and where its last turn was refused for memory, one more
+abbrev pub SeatsTurns : List SetEntry → Seat Recall → Seat Recall → Type 0
+SeatsTurns H old new =
+    (new.pass.made ≤ old.pass.made + most_turns H new.expert)
+    ⊎ ((new.ended ≡ Some Memory) × (new.pass.made ≤ old.pass.made + most_turns H new.expert + 1))
+
+-- each row of K is a row of C
+abbrev pub is_part : Context → Context → Bool
+is_part K C = list_all (λ row. list_any (same row) C.rows) K.rows
+
+-- What comes of oracles of one context C: none dropped a row; and if none was spent, what was accepted is the basis of C, and so is the basis of the recorded rows
+pub record HasAgreed (C : Context) (explore : History) (oracles : List Recall) (spent : Bool) : Type 0 where
+  pub kept : All (λ oracle. oracle.conflicts ≡ no_conflict oracle.table) oracles
+  pub accepted : spent ≡ false → SameMembers (state_of explore).accepted (basis C)
+  pub basis : spent ≡ false → basis (state_of explore).context ≡ basis C

@@ -2,12 +2,13 @@
 
 ghost use Rattle.std.specs.Prelude.{◌≡◌, ◌≤◌, ◌<◌, ◌^◌, ◌⊎◌, ◌↔◌, ℕ, true, false, [], All, IfOk, map, length, vec_len};
 ghost use Rattle.std.specs.List.{list_any};
+ghost use Rattle.fca_model.specs.Context.{Context};
 ghost use Rattle.fca_model.specs.Exploration.{plain, own, IsLegal};
 ghost use Rattle.explore_state.specs.History.{opening_state, open_of};
 ghost use Rattle.turn_lock.specs.Passes.{badge, roll, IsFresh};
 ghost use Rattle.oracle_expert.specs.Oracles.{untold, no_conflict};
 ghost use Rattle.oracle_expert.specs.Runs.{ends_done};
-ghost use Rattle.expert_panel.specs.Explorations.{IsOraclesShare, EachNumbered, HasEnded, is_spent, is_refused};
+ghost use Rattle.expert_panel.specs.Explorations.{IsOraclesShare, EachNumbered, HasEnded, HasFewRows, IsWithinTurns, HasAgreed, is_part, is_spent, is_refused};
 
 use crate::end::SeatEnd;
 use crate::panel::run_panel;
@@ -52,6 +53,10 @@ pub fn explore_with_oracles<R: Threads + Wait + Sync>(
     ensures spent { IfOk result (λ r. (r.spent ≡ true)
         ↔ ((e : ℕ) × (1 ≤ e) × (e ≤ vec_len experts) × (ends_done (own r.explore.journal e) ≡ false))) }
     ensures finished { IfOk result (λ r. r.spent ≡ false → open_of r.explore ≡ []) }
+    ensures turns { IfOk result (λ r. EachNumbered (IsWithinTurns r.explore.journal) r.oracles.items) }
+    ensures unspent { IfOk result (λ r. turns ≡ 2 ^ 48 → table.context.width ≤ 46 → r.spent ≡ false) }
+    ensures agreed { IfOk result (λ r. (C : Context) → All (λ expert. expert.context ≡ C) experts.items
+        → is_part table.context C ≡ true → HasAgreed C r.explore r.oracles.items r.spent) }
 {
     let count = experts.len() as u8;
     let oracles = oracles_of(alloc, experts)?;
@@ -64,11 +69,14 @@ pub fn explore_with_oracles<R: Threads + Wait + Sync>(
 
 /// The oracles of the tables, in their order.
 fn oracles_of(alloc: Global, tables: Vec<Table>) -> Result<Vec<Oracle>, Memory>
-    ensures { IfOk result (λ oracles. oracles.items ≡ map untold tables.items) }
+    ensures untold { IfOk result (λ oracles. oracles.items ≡ map untold tables.items) }
+    ensures few { IfOk result (λ oracles. All HasFewRows oracles.items) }
 {
     let mut oracles = Vec::with_capacity(alloc, tables.len())?;
     for table in tables {
-        oracles.push(Oracle::new(alloc, table)?)?;
+        let oracle = Oracle::new(alloc, table)?;
+        let _rows = oracle.table().rows();
+        oracles.push(oracle)?;
     }
     Ok(oracles)
 }

@@ -4,6 +4,7 @@
 mod attend;
 mod end;
 mod explored;
+pub mod laws;
 mod panel;
 mod seat;
 
@@ -11,3 +12,6 @@ pub use end::SeatEnd;
 pub use explored::{Explored, explore_with_oracles};
 pub use panel::run_panel;
 pub use seat::{Seat, seated};
+
+#[cfg(test)]
+mod tests;

@@ -1,26 +1,39 @@
-use Rattle.std.proofs.Common.{◌≡◌, ◌∙◌, ◌<◌, ◌⊎◌, ℕ, [], length, map, sym, ap, subst, arith, All, vec_len}
+use Rattle.std.proofs.Common.{◌≡◌, ◌∙◌, ◌<◌, ◌≤◌, ◌⊎◌, ◌↔◌, ◌^◌, ℕ, true, false, None, List, [], length, map, refl, sym, ap, subst, arith, All, vec_len}
 use Rattle.std.proofs.lemmas.List.{length-map}
-use Rattle.fca_model.specs.Exploration.{own}
+use Rattle.fca_model.specs.declared.TheConstants.{MAX_OBJECTS}
+use Rattle.fca_model.specs.Context.{Context}
+use Rattle.fca_model.specs.Tables.{NamedContext}
+use Rattle.fca_model.specs.Exploration.{own, plain}
 use Rattle.explore_state.specs.History.{Opening}
 use Rattle.oracle_expert.specs.Oracles.{Recall, no_conflict, untold}
-use Rattle.expert_panel.specs.Explorations.{HasEnded, IsOraclesShare, EachNumbered}
+use Rattle.oracle_expert.specs.Runs.{ends_done}
+use Rattle.expert_panel.specs.Explorations.{HasEnded, HasFewRows, IsOraclesShare, EachNumbered, IsWithinTurns, HasAgreed, is_part}
 use Rattle.expert_panel.proofs.ShareLemmas.{untold_free}
-use Rattle.expert_panel.proofs.EndingLemmas.{untold_wide, untold_tables, IfOk-mono}
+use Rattle.expert_panel.proofs.EndingLemmas.{untold_all, untold_tables, tables_all, IfOk-mono}
+use Rattle.expert_panel.proofs.CourseLemmas.{within_turns, never_spent, agreed}
 use Rattle.expert_panel.proofs.explored.explore_with_oracles.Goals as goal
 
+as_many : (oracles before : List Recall) → map (λ (r : Recall). r.table) oracles ≡ map (λ (r : Recall). r.table) before → length oracles ≡ length before
+as_many oracles before e = sym (length-map oracles (λ (r : Recall). r.table)) ∙ ap length e ∙ length-map before (λ (r : Recall). r.table)
+
+one_width : (Ds : List NamedContext) (C : Context) (n : ℕ) → 1 ≤ length Ds → All (λ (D : NamedContext). D.context ≡ C) Ds → All (λ (D : NamedContext). D.context.width ≡ n) Ds → C.width ≡ n
+one_width Ds C n some same wide =
+    let bare : NamedContext = record { title = None; objects = []; attributes = []; context = C } in
+    sym (ap (λ (K : Context). K.width) (same 0 bare (omega arith))) ∙ wide 0 bare (omega arith)
+
 pub run_oracles-requires-clause-untold : goal.run_oracles-requires-clause-untold
-run_oracles-requires-clause-untold g c κs within = subst (All (λ (r : Recall). r.conflicts ≡ no_conflict r.table)) (sym c.in_ok-oracles.ensures) (untold_free c.args.experts.items)
+run_oracles-requires-clause-untold g c κs within = subst (All (λ (r : Recall). r.conflicts ≡ no_conflict r.table)) (sym c.in_ok-oracles.ensures.untold) (untold_free c.args.experts.items)
 
 pub run_oracles-requires-clause-width : goal.run_oracles-requires-clause-width
 run_oracles-requires-clause-width g c κs within =
     let opening = ap (λ (o : Opening). o.table.context.width) (c.in_ok-gate.ensures.opening ∙ c.in-Ok.ensures.opening) in
     subst (λ (n : ℕ). All (λ (r : Recall). r.table.context.width ≡ n) c.in_ok-oracles.oracles.items) (sym opening)
-    (subst (All (λ (r : Recall). r.table.context.width ≡ c.args.table.context.width)) (sym c.in_ok-oracles.ensures) (untold_wide c.args.table.context.width c.args.experts.items c.requires.width))
+    (subst (All (λ (r : Recall). r.table.context.width ≡ c.args.table.context.width)) (sym c.in_ok-oracles.ensures.untold) (untold_all (λ (D : NamedContext). D.context.width ≡ c.args.table.context.width) c.args.experts.items c.requires.width))
 
 pub returns-clause-tables : goal.returns-clause-tables
 returns-clause-tables g c =
     IfOk-mono (λ r. HasEnded c.in_ok-gate.gate c.in_ok-oracles.oracles.items r.explore r.oracles.items r.spent) (λ r. map (λ (o : Recall). o.table) r.oracles.items ≡ c.args.experts.items) c.run_oracles.result
-    (λ r ended. ended.tables ∙ ap (map (λ (o : Recall). o.table)) c.in_ok-oracles.ensures ∙ untold_tables c.args.experts.items) c.run_oracles.ensures
+    (λ r ended. ended.tables ∙ ap (map (λ (o : Recall). o.table)) c.in_ok-oracles.ensures.untold ∙ untold_tables c.args.experts.items) c.run_oracles.ensures
 
 pub returns-clause-oracles : goal.returns-clause-oracles
 returns-clause-oracles g c =
@@ -29,6 +42,53 @@ returns-clause-oracles g c =
 
 pub returns-clause-others : goal.returns-clause-others
 returns-clause-others g c =
-    let many : length c.in_ok-oracles.oracles.items ≡ vec_len c.args.experts = ap length c.in_ok-oracles.ensures ∙ length-map c.args.experts.items untold ∙ omega arith in
+    let many : length c.in_ok-oracles.oracles.items ≡ vec_len c.args.experts = ap length c.in_ok-oracles.ensures.untold ∙ length-map c.args.experts.items untold ∙ omega arith in
     IfOk-mono (λ r. HasEnded c.in_ok-gate.gate c.in_ok-oracles.oracles.items r.explore r.oracles.items r.spent) (λ r. (e : ℕ) → (e ≡ 0) ⊎ (vec_len c.args.experts < e) → own r.explore.journal e ≡ []) c.run_oracles.result
     (λ r ended. subst (λ (n : ℕ). (e : ℕ) → (e ≡ 0) ⊎ (n < e) → own r.explore.journal e ≡ []) many ended.others) c.run_oracles.ensures
+
+pub returns-clause-turns : goal.returns-clause-turns
+returns-clause-turns g c =
+    let gate = c.in_ok-gate.gate in
+    let before = c.in_ok-oracles.oracles.items in
+    let plainly : gate.base.settings ≡ plain = ap (λ (o : Opening). o.settings) (c.in_ok-gate.ensures.opening ∙ c.in-Ok.ensures.opening) in
+    let many : length before ≡ vec_len c.args.experts = ap length c.in_ok-oracles.ensures.untold ∙ length-map c.args.experts.items untold ∙ omega arith in
+    let most = c.requires.experts.1 in
+    IfOk-mono (λ r. HasEnded gate before r.explore r.oracles.items r.spent) (λ r. EachNumbered (IsWithinTurns r.explore.journal) r.oracles.items) c.run_oracles.result
+    (λ r ended. let same = as_many r.oracles.items before ended.tables in
+    within_turns gate.base r.explore.journal gate.turns r.oracles.items plainly ended.is_legal (omega arith) ended.shares) c.run_oracles.ensures
+
+pub returns-clause-unspent : goal.returns-clause-unspent
+returns-clause-unspent g c =
+    let gate = c.in_ok-gate.gate in
+    let before = c.in_ok-oracles.oracles.items in
+    let plainly : gate.base.settings ≡ plain = ap (λ (o : Opening). o.settings) (c.in_ok-gate.ensures.opening ∙ c.in-Ok.ensures.opening) in
+    let table : gate.base.table ≡ c.args.table = ap (λ (o : Opening). o.table) (c.in_ok-gate.ensures.opening ∙ c.in-Ok.ensures.opening) in
+    let many : length before ≡ vec_len c.args.experts = ap length c.in_ok-oracles.ensures.untold ∙ length-map c.args.experts.items untold ∙ omega arith in
+    let most = c.requires.experts.1 in
+    IfOk-mono (λ r. HasEnded gate before r.explore r.oracles.items r.spent) (λ r. c.args.turns ≡ 2 ^ 48 → c.args.table.context.width ≤ 46 → r.spent ≡ false) c.run_oracles.result
+    (λ r ended all narrow.
+    let same : length r.oracles.items ≡ length before = as_many r.oracles.items before ended.tables in
+    let few : All HasFewRows r.oracles.items = tables_all (λ (D : NamedContext). length D.context.rows ≤ MAX_OBJECTS) r.oracles.items before ended.tables c.in_ok-oracles.ensures.few in
+    never_spent gate.base r.explore.journal gate.turns r.oracles.items plainly ended.is_legal (omega arith) ended.shares r.spent
+    (subst (λ (n : ℕ). (r.spent ≡ true) ↔ ((e : ℕ) × (1 ≤ e) × (e ≤ n) × (ends_done (own r.explore.journal e) ≡ false))) (sym same) ended.spent)
+    few (c.in_ok-gate.ensures.counts.0 ∙ all) (subst (λ (K : NamedContext). K.context.width ≤ 46) (sym table) narrow)) c.run_oracles.ensures
+
+pub returns-clause-agreed : goal.returns-clause-agreed
+returns-clause-agreed g c =
+    let gate = c.in_ok-gate.gate in
+    let before = c.in_ok-oracles.oracles.items in
+    let plainly : gate.base.settings ≡ plain = ap (λ (o : Opening). o.settings) (c.in_ok-gate.ensures.opening ∙ c.in-Ok.ensures.opening) in
+    let table : gate.base.table ≡ c.args.table = ap (λ (o : Opening). o.table) (c.in_ok-gate.ensures.opening ∙ c.in-Ok.ensures.opening) in
+    let many : length before ≡ vec_len c.args.experts = ap length c.in_ok-oracles.ensures.untold ∙ length-map c.args.experts.items untold ∙ omega arith in
+    let some = c.requires.experts.0 in
+    let most = c.requires.experts.1 in
+    IfOk-mono (λ r. HasEnded gate before r.explore r.oracles.items r.spent)
+    (λ r. (C : Context) → All (λ (D : NamedContext). D.context ≡ C) c.args.experts.items → is_part c.args.table.context C ≡ true → HasAgreed C r.explore r.oracles.items r.spent) c.run_oracles.result
+    (λ r ended C same part.
+    let as_long : length r.oracles.items ≡ length before = as_many r.oracles.items before ended.tables in
+    let befores : All (λ (o : Recall). o.table.context ≡ C) before = subst (All (λ (o : Recall). o.table.context ≡ C)) (sym c.in_ok-oracles.ensures.untold) (untold_all (λ (D : NamedContext). D.context ≡ C) c.args.experts.items same) in
+    let wide : C.width ≡ gate.base.table.context.width = one_width c.args.experts.items C c.args.table.context.width (omega arith) same c.requires.width ∙ ap (λ (K : NamedContext). K.context.width) (sym table) in
+    agreed gate.base r.explore.journal gate.turns r.oracles.items plainly ended.is_legal (omega arith) ended.shares C wide (subst (λ (K : NamedContext). is_part K.context C ≡ true) (sym table) part)
+    (tables_all (λ (D : NamedContext). D.context ≡ C) r.oracles.items before ended.tables befores)
+    (subst (λ (n : ℕ). (e : ℕ) → (e ≡ 0) ⊎ (n < e) → own r.explore.journal e ≡ []) (sym as_long) ended.others)
+    r.explore r.spent ended.opening refl ended.finished) c.run_oracles.ensures

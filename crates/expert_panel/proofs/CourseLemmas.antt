@@ -1,0 +1,158 @@
+-- What the laws of oracles say of an exploration at a gate. Each oracle's share in the history is its own entries, so they are few; and with few attributes they
+-- are fewer than its turns. Where all tables have one context, a number of no expert has no entry, and stands for an expert of any such table.
+use Rattle.std.proofs.Common.{◌≡◌, ℕ, zero, suc, ◌+◌, ◌*◌, ◌^◌, ◌<◌, ◌≤◌, ◌⊎◌, ◌↔◌, Bool, true, false, Option, Some, None, List, [], length, get_or, slice_get, All, inl, inr, refl, sym, ap, ◌∙◌, subst, arith, le-leb, leb}
+use Rattle.std.proofs.lemmas.Bool.{cases_Bool, cases_lt, and_from, false≢true}
+use Rattle.std.proofs.lemmas.List.{get_or_past}
+use Rattle.std.proofs.lemmas.Option.{get_or_from_slice_get, slice_get_within, slice_get-get_or}
+use Rattle.fca_model.specs.declared.TheConstants.{MAX_EXPERTS}
+use Rattle.fca_model.specs.Context.{Context}
+use Rattle.fca_model.specs.Tables.{NamedContext}
+use Rattle.fca_model.specs.Pseudo.{basis}
+use Rattle.fca_model.specs.Invariant.{SameMembers}
+use Rattle.fca_model.specs.Questions.{open_questions}
+use Rattle.fca_model.specs.Exploration.{State, Settings, SetEntry, plain, opening, open_in, state_after, events_of, is_expert, own, IsLegal}
+use Rattle.fca_model.proofs.CourseLemmas.{run_settings}
+use Rattle.explore_state.specs.History.{Opening, History, opening_state, state_of, open_of}
+use Rattle.oracle_expert.specs.Counts.{recorded_in, dropped}
+use Rattle.oracle_expert.specs.Oracles.{Recall, no_conflict}
+use Rattle.oracle_expert.specs.Runs.{IsOracleFront, ends_done, conflicts_of}
+use Rattle.oracle_expert.proofs.CountLemmas.{oracle_turns, oracle_few}
+use Rattle.oracle_expert.proofs.SameLemmas.{nothing_dropped, one_basis, one_accepted}
+use Rattle.oracle_expert.proofs.RunLemmas.{IsOracles, oracle_runs}
+use Rattle.turn_lock.specs.Passes.{Badge}
+use Rattle.expert_panel.specs.declared.seat.Seat.{Seat}
+use Rattle.expert_panel.specs.declared.end.SeatEnd.{SeatEnd}
+use Rattle.expert_panel.specs.declared.end.SeatEnd.TheVariants.{Done, Spent, Memory}
+use Rattle.expert_panel.specs.Seats.{IsEnd}
+use Rattle.expert_panel.specs.Explorations.{IsOraclesShare, EachNumbered, HasFewRows, most_turns, IsWithinTurns, SeatsTurns, HasAgreed, is_part}
+use Rattle.expert_panel.proofs.ShareLemmas.{Run}
+
+module _ (o : Opening) (H : List SetEntry) (turns : ℕ) (oracles : List Recall) (plainly : o.settings ≡ plain) (legal : IsLegal (opening_state o) H) (count : length oracles ≤ MAX_EXPERTS)
+    (shares : EachNumbered (IsOraclesShare turns H) oracles) where
+  abbrev K : Context
+  K = o.table.context
+
+  abbrev first : State
+  first = opening K o.table.objects plain
+
+  plain_legal : IsLegal first H
+  plain_legal = subst (λ (S : Settings). IsLegal (opening K o.table.objects S) H) plainly legal
+
+  is_number : (k : ℕ) (oracle : Recall) → slice_get oracles k ≡ Some oracle → is_expert (k + 1) ≡ true
+  is_number k oracle at =
+      let within = slice_get_within oracles k oracle at in
+      and_from (leb 1 (k + 1)) (leb (k + 1) MAX_EXPERTS) (le-leb 1 (k + 1) (omega arith)) (le-leb (k + 1) MAX_EXPERTS (omega arith))
+
+  pub within_turns : EachNumbered (IsWithinTurns H) oracles
+  within_turns = λ k oracle at.
+      let share = shares k oracle at in
+      subst (λ (cs : List (Option ℕ)). length (own H (k + 1)) ≤ 2 * recorded_in H + dropped cs + 1) (sym share.conflicts)
+      (oracle_turns K o.table.objects H plain_legal oracle.table (k + 1) (is_number k oracle at) [] (own H (k + 1)) refl share.front)
+
+  -- with few attributes each has its last reply Done
+  done_by_few : (k : ℕ) (oracle : Recall) → slice_get oracles k ≡ Some oracle → HasFewRows oracle → turns ≡ 2 ^ 48 → K.width ≤ 46 → ends_done (own H (k + 1)) ≡ true
+  done_by_few k oracle at small many narrow = by_end (shares k oracle at).end
+    where
+      by_end : (ends_done (own H (k + 1)) ≡ true) ⊎ ((ends_done (own H (k + 1)) ≡ false) × (length (own H (k + 1)) ≡ turns)) → ends_done (own H (k + 1)) ≡ true
+      by_end (inl done) = done
+      by_end (inr all) =
+          let few : length (own H (k + 1)) < 2 ^ 48 = oracle_few K o.table.objects H plain_legal oracle.table (k + 1) (is_number k oracle at) [] (own H (k + 1)) refl (shares k oracle at).front narrow small in
+          let taken = all.1 in
+          absurd (omega arith)
+
+  pub never_spent : (spent : Bool) → (spent ≡ true) ↔ ((e : ℕ) × (1 ≤ e) × (e ≤ length oracles) × (ends_done (own H e) ≡ false)) → All HasFewRows oracles → turns ≡ 2 ^ 48 → K.width ≤ 46 → spent ≡ false
+  never_spent spent when small many narrow = elim (cases_Bool spent) [
+    | inr f ↦ f
+    | inl t ↦ (let e = when.0 t in absurd (none_undone e.0 e.1 e.2 e.3))
+  ]
+    where
+      none_undone : (e : ℕ) → 1 ≤ e → e ≤ length oracles → ends_done (own H e) ≡ false → ⊥
+      none_undone zero from to h = omega arith
+      none_undone (suc k) from to h =
+          let oracle = get_or oracles k (record { table = o.table; conflicts = []; given = None }) in
+          let next : k + 1 ≡ suc k = omega arith in
+          let done : ends_done (own H (k + 1)) ≡ true = done_by_few k oracle (slice_get-get_or oracles k (record { table = o.table; conflicts = []; given = None }) (omega arith))
+          (small k (record { table = o.table; conflicts = []; given = None }) (omega arith)) many narrow in
+          false≢true (sym h ∙ subst (λ (n : ℕ). ends_done (own H n) ≡ true) next done)
+
+  -- ---- tables of one context
+
+  module _ (C : Context) (wide : C.width ≡ K.width) (part : is_part K C ≡ true) (same : All (λ (oracle : Recall). oracle.table.context ≡ C) oracles)
+      (others : (e : ℕ) → (e ≡ 0) ⊎ (length oracles < e) → own H e ≡ []) where
+    -- an oracle of C that knows no names
+    abbrev bare : Recall
+    bare = record { table = record { title = None; objects = []; attributes = []; context = C }; conflicts = []; given = None }
+
+    abbrev oracle_of : ℕ → Recall
+    oracle_of zero = bare
+    oracle_of (suc k) = get_or oracles k bare
+
+    abbrev table_of : ℕ → NamedContext
+    table_of e = (oracle_of e).table
+
+    one_context : (e : ℕ) → (table_of e).context ≡ C
+    one_context zero = refl
+    one_context (suc k) = elim (cases_lt k (length oracles)) [
+      | inl lt ↦ same k bare lt
+      | inr ge ↦ ap (λ (r : Recall). r.table.context) (get_or_past oracles k bare ge)
+    ]
+
+    no_entries : (e : ℕ) → own H e ≡ [] → IsOracleFront (table_of e) e (own H e)
+    no_entries e none = subst (IsOracleFront (table_of e) e) (sym none) tt
+
+    fronts : (e : ℕ) → IsOracleFront (table_of e) e (own H e)
+    fronts zero = no_entries zero (others zero (inl refl))
+    fronts (suc k) = elim (cases_lt k (length oracles)) [
+      | inl lt ↦
+          let next : k + 1 ≡ suc k = omega arith in
+          let front = (shares k (get_or oracles k bare) (slice_get-get_or oracles k bare lt)).front in
+          subst (λ (n : ℕ). IsOracleFront (get_or oracles k bare).table n (own H n)) next front
+      | inr ge ↦ no_entries (suc k) (others (suc k) (inr (omega arith)))
+    ]
+
+    none_dropped : All (λ (oracle : Recall). oracle.conflicts ≡ no_conflict oracle.table) oracles
+    none_dropped k d within =
+        let oracle = get_or oracles k d in
+        let at = slice_get-get_or oracles k d within in
+        let next : k + 1 ≡ suc k = omega arith in
+        let mine : get_or oracles k bare ≡ oracle = get_or_from_slice_get oracles k oracle bare at in
+        (shares k oracle at).conflicts ∙ ap (λ (n : ℕ). conflicts_of oracle.table (own H n)) next ∙ ap (λ (r : Recall). conflicts_of r.table (own H (suc k))) (sym mine)
+        ∙ nothing_dropped C table_of one_context K o.table.objects H plain_legal wide part fronts (suc k) ∙ ap (λ (r : Recall). no_conflict r.table) mine
+
+    pub agreed : (explore : History) (spent : Bool) → explore.opening ≡ o → explore.journal ≡ H → (spent ≡ false → open_of explore ≡ []) → HasAgreed C explore oracles spent
+    agreed explore spent opened journal finished =
+        let final : State = state_after first (events_of H) in
+        let is : state_of explore ≡ final = ap (λ (p : Opening). state_after (opening_state p) (events_of explore.journal)) opened ∙ ap (λ (J : List SetEntry). state_after (opening_state o) (events_of J)) journal
+        ∙ ap (λ (S : Settings). state_after (opening K o.table.objects S) (events_of H)) plainly in
+        let done : spent ≡ false → open_in final ≡ [] = λ h.
+        ap (λ (S : Settings). open_questions S.known final.context final.accepted) (run_settings first (events_of H)) ∙ ap (λ (t : State). open_questions [] t.context t.accepted) (sym is) ∙ finished h in
+        record {
+          kept = none_dropped;
+          accepted = λ h. subst (λ (t : State). SameMembers t.accepted (basis C)) (sym is) (one_accepted C table_of one_context K o.table.objects H plain_legal wide part fronts (done h));
+          basis = λ h. ap (λ (t : State). basis t.context) is ∙ one_basis C table_of one_context K o.table.objects H plain_legal wide part fronts (done h);
+        }
+
+-- ---- one seat
+
+module _ (o : Opening) (old new : Seat Recall) (plainly : o.settings ≡ plain) (run : Run o old new) (free : old.expert.conflicts ≡ no_conflict old.expert.table) where
+  its_bound : (H : List SetEntry) → IsLegal (opening_state o) H → is_expert new.pass.number ≡ true → own H new.pass.number ≡ new.pass.own → length run.attended.entries ≤ most_turns H new.expert
+  its_bound H legal i owns =
+      let D = old.expert.table in
+      let e = old.pass.number in
+      let entries = run.attended.entries in
+      let oracles : IsOracles D e (record { due = None; conflicts = no_conflict D }) entries new.expert = oracle_runs D e None (no_conflict D) old.expert entries new.expert refl free run.attended.run in
+      let same : new.pass.number ≡ e = ap (λ (b : Badge Opening). b.number) run.attended.pass.same in
+      let legal_here : IsLegal (opening o.table.context o.table.objects plain) H = subst (λ (S : Settings). IsLegal (opening o.table.context o.table.objects S) H) plainly legal in
+      subst (λ (cs : List (Option ℕ)). length entries ≤ 2 * recorded_in H + dropped cs + 1) (sym oracles.conflicts)
+      (oracle_turns o.table.context o.table.objects H legal_here D e (subst (λ (n : ℕ). is_expert n ≡ true) same i) old.pass.own entries (ap (own H) (sym same) ∙ owns ∙ run.attended.pass.own) oracles.run)
+
+  by_end : (H : List SetEntry) (end : SeatEnd) → new.ended ≡ Some end → IsEnd end old.pass run.attended.entries new.pass → length run.attended.entries ≤ most_turns H new.expert → SeatsTurns H old new
+  by_end H Done e end bound = inl (let took = end.1 in omega arith)
+  by_end H Spent e end bound = inl (let took = end.1 in omega arith)
+  by_end H Memory e end bound = elim end.1 [
+    | inl took ↦ inl (omega arith)
+    | inr took ↦ inr (e, omega arith)
+  ]
+
+  pub turns_of_seat : (H : List SetEntry) → IsLegal (opening_state o) H → is_expert new.pass.number ≡ true → own H new.pass.number ≡ new.pass.own → SeatsTurns H old new
+  turns_of_seat H legal i owns = by_end H run.end run.ended run.attended.end (its_bound H legal i owns)

@@ -1,0 +1,151 @@
+//! Panels over the attributes a and b.
+
+ghost use Rattle.std.specs.Prelude.{◌≡◌, [], IfOk, length, vec_len};
+
+use crate::{Explored, SeatEnd, explore_with_oracles, run_panel, seated};
+use attr_bits::Attrs;
+use context_table::Table;
+use derivation::Rows;
+use expert_gate::Gate;
+use explore_state::{Explore, Question, Reply};
+use fca_model::{Memory, Name};
+use oracle_expert::{Answer, Expert};
+use std::alloc::Global;
+use std::hint;
+use std::sync::Wait;
+use std::sync::atomic::{AtomicU64, Ordering};
+use std::test::Fail;
+use std::thread::Threads;
+
+/// How often an expert looks whether the other was asked, before it gives up.
+const LOOKS: u64 = 500_000_000;
+
+fn named(alloc: Global, text: &str) -> Result<Name, Memory> {
+    Name::new(alloc, text).map_err(|_| Memory)
+}
+
+fn table(alloc: Global, objects: Vec<Name>, rows: Rows) -> Result<Table, Memory>
+    requires objects { vec_len objects ≡ length rows.rows }
+    requires width { rows.width ≡ 2 }
+    ensures { IfOk result (λ table. table.context ≡ rows) }
+{
+    let mut attributes = Vec::new(alloc);
+    attributes.push(named(alloc, "a")?)?;
+    attributes.push(named(alloc, "b")?)?;
+    Table::new(alloc, None, objects, attributes, rows).map_err(|_| Memory)
+}
+
+/// No object.
+fn bare(alloc: Global) -> Result<Table, Memory>
+    ensures { IfOk result (λ table. table.context.width ≡ 2) }
+{
+    table(alloc, Vec::new(alloc), Rows::new(alloc, 2)?)
+}
+
+/// The object g has a.
+fn with_g(alloc: Global) -> Result<Table, Memory>
+    ensures { IfOk result (λ table. table.context.width ≡ 2) }
+{
+    let mut rows = Rows::new(alloc, 2)?;
+    rows.push(Attrs::empty(2).with(0))?;
+    let mut objects = Vec::new(alloc);
+    objects.push(named(alloc, "g")?)?;
+    table(alloc, objects, rows)
+}
+
+// ---- two oracles of one table
+
+fn explored<R: Threads + Wait + Sync>(rt: &R, alloc: Global) -> Result<Explored, Memory> {
+    let mut experts = Vec::new(alloc);
+    experts.push(with_g(alloc)?)?;
+    experts.push(with_g(alloc)?)?;
+    explore_with_oracles(rt, alloc, bare(alloc)?, experts, 1 << 48)
+}
+
+#[test]
+fn oracles_explore(rt: HostRuntime) -> Result<(), Fail> {
+    let Ok(explored) = explored(&rt, rt.alloc()) else {
+        panic!(rt; "memory")
+    };
+    assert!(rt; !explored.spent);
+    assert!(rt; explored.oracles.len() == 2);
+    assert!(rt; explored.explore.open_questions().is_empty());
+    assert!(rt; explored.explore.accepted().len() == 1, "{{}} -> {{a}}");
+    assert!(rt; explored.explore.rows().len() == 1, "the row of g, once");
+    Ok(())
+}
+
+// ---- two seats at once
+
+/// Confirms, and holds each answer until the other expert was asked.
+#[derive(Drop)]
+struct Meeting<'a> {
+    asked: &'a AtomicU64,
+    other: &'a AtomicU64,
+    met: bool,
+}
+
+impl Expert for Meeting<'_> {
+    type Memory = ();
+
+    ghost memory = { λ _. tt };
+
+    ghost width = { λ _. 2 };
+
+    ghost answers = { λ _ _ _ _. Unit {0} };
+
+    ghost learns = { λ _ _ _. Unit {0} };
+
+    fn answer(&mut self, _alloc: Global, _question: &Question) -> Result<Answer, Memory> {
+        self.asked.store(1, Ordering::SeqCst);
+        for _ in 0..LOOKS {
+            if self.other.load(Ordering::SeqCst) == 1 {
+                self.met = true;
+                break;
+            }
+            hint::spin_loop();
+        }
+        Ok(Answer::Confirm)
+    }
+
+    fn told(&mut self, _reply: &Reply) {}
+}
+
+fn opened(alloc: Global) -> Result<Explore, Memory>
+    ensures journal { IfOk result (λ explore. explore.journal ≡ []) }
+    ensures width { IfOk result (λ explore. explore.opening.table.context.width ≡ 2) }
+{
+    Explore::open(alloc, bare(alloc)?, 2).map_err(|_| Memory)
+}
+
+/// Whether each of two experts was asked while the other held its answer.
+fn meet<R: Threads + Wait + Sync>(rt: &R, alloc: Global) -> Result<bool, Memory> {
+    let (gate, passes) = Gate::open(alloc, opened(alloc)?, 1 << 48)?;
+    let flags = [AtomicU64::new(0), AtomicU64::new(0)];
+    let mut experts = Vec::new(alloc);
+    experts.push(Meeting {
+        asked: &flags[0],
+        other: &flags[1],
+        met: false,
+    })?;
+    experts.push(Meeting {
+        asked: &flags[1],
+        other: &flags[0],
+        met: false,
+    })?;
+    if passes.len() != experts.len() {
+        return Err(Memory);
+    }
+    let mut seats = seated(alloc, passes, experts)?;
+    run_panel(rt, alloc, &gate, seats.as_mut_slice());
+    Ok(seats.iter().all(|seat| seat.expert.met && seat.ended == Some(SeatEnd::Done)))
+}
+
+#[test]
+fn two_seats_run_at_once(rt: HostRuntime) -> Result<(), Fail> {
+    let Ok(met) = meet(&rt, rt.alloc()) else {
+        panic!(rt; "memory")
+    };
+    assert!(rt; met);
+    Ok(())
+}
