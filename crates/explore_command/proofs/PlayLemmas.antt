@@ -1,21 +1,33 @@
 -- The text of an exploration by oracles: the conflicts that the oracles have are those of their entries, lines of conflicts change nothing of what the text
 -- spells, and what is promised of the oracles is said of the tables of the experts.
-use Rattle.std.proofs.Common.{◌≡◌, ◌↔◌, ◌⊎◌, ◌≤◌, ◌<◌, ◌∙◌, ◌+◌, ◌++◌, ◌∷◌, [], ℕ, zero, suc, List, Bool, true, false, map, length, Option, Some, None, refl, sym, ap, subst, arith}
-use Rattle.std.specs.Prelude.{slice_get, option_map}
+use Rattle.std.proofs.Common.{◌≡◌, ◌↔◌, ◌⊎◌, ◌≤◌, ◌<◌, ◌∙◌, ◌+◌, ◌++◌, ◌∷◌, [], ℕ, suc, List, Bool, true, false, All, map, length, append_assoc, Option, Some, None, refl, sym, ap, subst, arith}
+use Rattle.std.specs.Prelude.{slice_get, option_map, codes}
+use Rattle.std.specs.List.{flat_map, enumerate_from}
 use Rattle.std.proofs.lemmas.Option.{slice_get-map}
+use Rattle.std.proofs.lemmas.List.Elements.{All-head, All-tail}
+use Rattle.fca_model.specs.Sets.{Set}
+use Rattle.fca_model.specs.Context.{Context}
 use Rattle.fca_model.specs.Tables.{Text, NamedContext}
-use Rattle.fca_model.specs.Exploration.{State, SetEntry, own, plain, state_after, events_of, is_expert, IsLegal}
-use Rattle.oracle_expert.specs.Oracles.{Recall, Conflicts}
+use Rattle.fca_model.specs.Implications.{Rule}
+use Rattle.fca_model.specs.Questions.{open_questions}
+use Rattle.fca_model.specs.Pseudo.{basis}
+use Rattle.fca_model.specs.Exploration.{Settings, SetEntry, own, plain, opening, open_in, state_after, events_of, is_expert, IsLegal}
+use Rattle.fca_model.proofs.CourseLemmas.{run_settings}
+use Rattle.oracle_expert.specs.Oracles.{Recall, Conflicts, no_conflict}
 use Rattle.oracle_expert.specs.Runs.{ends_done, conflicts_of}
-use Rattle.expert_panel.specs.Explorations.{IsOraclesShare, EachNumbered}
+use Rattle.expert_panel.specs.Explorations.{IsOraclesShare, EachNumbered, HasAgreed, is_part}
 use Rattle.explore_state.specs.History.{Opening, History, opening_state, state_of, open_of}
 use Rattle.basis_report.specs.Comments.{comments as comments_of, are_lines, AreComments}
-use Rattle.basis_report.specs.Explorations.{explore_text, spelled, SpellsBefore}
-use Rattle.basis_report.specs.Conflicts.{conflicts_text}
-use Rattle.command_io.specs.Explorations.{opening_of, last_state, open_at}
+use Rattle.expert_wire.specs.Replies.{transcript}
+use Rattle.basis_report.specs.Reports.{counted, arrow_lines}
+use Rattle.basis_report.specs.Explorations.{recorded_section, accepted_section, open_section, basis_section, state_of_text, explore_text, spelled, SpellsBefore}
+use Rattle.basis_report.specs.Conflicts.{dropped_at, dropped_of, dropped_from, conflicts_section, conflicts_text}
+use Rattle.basis_report.proofs.ExplorationLemmas.{sections-plain}
+use Rattle.basis_report.proofs.OrderLemmas.{finished_basis}
+use Rattle.command_io.specs.Explorations.{opening_of, open_at}
 use Rattle.command_io.proofs.CourseLemmas.{legal-course}
 use Rattle.explore_command.specs.Panels.{Panel}
-use Rattle.explore_command.specs.Played.{turns, IsShare, dropped_in, played, panel_text, IsPanelText}
+use Rattle.explore_command.specs.Played.{turns, IsShare, dropped_in, played, panel_text, recorded_text, basis_alone, IsPanelText}
 
 -- an oracle's table with its conflicts
 abbrev pub with_conflicts : Recall → NamedContext × Conflicts
@@ -55,6 +67,49 @@ pub record IsPlay (p : Panel) (explore : History) (oracles : List Recall) (spent
   pub others : (e : ℕ) → (e ≡ 0) ⊎ (length p.experts < e) → own explore.journal e ≡ []
   pub unfinished : (spent ≡ true) ↔ ((e : ℕ) × (1 ≤ e) × (e ≤ length p.experts) × (ends_done (own explore.journal e) ≡ false))
   pub finished : spent ≡ false → open_of explore ≡ []
+  pub unspent : p.table.context.width ≤ 46 → spent ≡ false
+  pub agreed : (C : Context) → All (λ D. D.context ≡ C) p.experts → is_part p.table.context C ≡ true → HasAgreed C explore oracles spent
+
+-- ---- oracles who know one table
+
+-- no row of a table was dropped
+none_dropped-of : (e : ℕ) (D : NamedContext) (k : ℕ) (rows : List Set) → flat_map (λ x. dropped_at e D x.0 x.1) (enumerate_from k (map (λ _. None) rows)) ≡ []
+none_dropped-of e D k [] = refl
+none_dropped-of e D k (row ∷ rows) = none_dropped-of e D (k + 1) rows
+
+none_dropped-from : (e : ℕ) (oracles : List Recall) → All (λ (oracle : Recall). oracle.conflicts ≡ no_conflict oracle.table) oracles → dropped_from e (map with_conflicts oracles) ≡ []
+none_dropped-from e [] kept = refl
+none_dropped-from e (oracle ∷ oracles) kept =
+    let Kept : Recall → Type 0 = λ o. o.conflicts ≡ no_conflict o.table in
+    let here : dropped_of e oracle.table oracle.conflicts ≡ [] = ap (dropped_of e oracle.table) (All-head Kept oracle oracles kept) ∙ none_dropped-of e oracle.table 0 oracle.table.context.rows in
+    ap (λ l. l ++ dropped_from (e + 1) (map with_conflicts oracles)) here ∙ none_dropped-from (e + 1) oracles (All-tail Kept oracle oracles kept)
+
+no_conflicts : (attributes : List Text) (J L : List Rule) (oracles : List Recall) → All (λ (oracle : Recall). oracle.conflicts ≡ no_conflict oracle.table) oracles
+    → conflicts_text attributes J (map with_conflicts oracles) ≡ conflicts_section attributes L []
+unfolding conflicts_text
+no_conflicts attributes J L oracles kept = ap (conflicts_section attributes J) (none_dropped-from 0 oracles kept)
+
+regrouped : (t r a o b c : Text) → (t ++ (r ++ (a ++ (o ++ b)))) ++ c ≡ (t ++ (r ++ a)) ++ (o ++ (b ++ c))
+regrouped t r a o b c = simp append_assoc
+
+-- the text of an exploration at whose end no question is open, before such conflicts
+agreed_text : (T : NamedContext) (H : List SetEntry) (C : Context) (conflicts : Text) → IsLegal (opening T.context T.objects plain) H
+    → open_questions [] (state_of_text T plain H).context (state_of_text T plain H).accepted ≡ [] → basis (state_of_text T plain H).context ≡ basis C
+    → explore_text T plain H ++ conflicts
+    ≡ (transcript T.attributes H ++ (recorded_section H ++ accepted_section T.attributes 0 (state_of_text T plain H).accepted))
+    ++ (open_section T.attributes [] ++ ((counted (codes "# basis ") (length (basis C)) ++ arrow_lines (codes "# ") T.attributes (basis C)) ++ conflicts))
+unfolding explore_text
+agreed_text T H C conflicts legal done same =
+    let s = state_of_text T plain H in
+    let settled = run_settings (opening T.context T.objects plain) (events_of H) in
+    let none : open_in s ≡ [] = ap (λ (S : Settings). open_questions S.known s.context s.accepted) settled ∙ done in
+    let at_end : basis_section T.attributes s.accepted [] ≡ counted (codes "# basis ") (length (basis C)) ++ arrow_lines (codes "# ") T.attributes (basis C) =
+    finished_basis T H legal none ∙ ap (λ (J : List Rule). counted (codes "# basis ") (length J) ++ arrow_lines (codes "# ") T.attributes J) same in
+    ap (λ l. (transcript T.attributes H ++ l) ++ conflicts)
+    (sections-plain T.attributes H s settled ∙ ap (λ (Q : List Rule). recorded_section H ++ (accepted_section T.attributes 0 s.accepted ++ (open_section T.attributes Q ++ basis_section T.attributes s.accepted Q))) done
+    ∙ ap (λ l. recorded_section H ++ (accepted_section T.attributes 0 s.accepted ++ (open_section T.attributes [] ++ l))) at_end)
+    ∙ regrouped (transcript T.attributes H) (recorded_section H) (accepted_section T.attributes 0 s.accepted) (open_section T.attributes [])
+    (counted (codes "# basis ") (length (basis C)) ++ arrow_lines (codes "# ") T.attributes (basis C)) conflicts
 
 pub panel_text-play : (p : Panel) (explore : History) (oracles : List Recall) (spent : Bool) → IsPlay p explore oracles spent
     → explore_text explore.opening.table explore.opening.settings explore.journal ++ conflicts_text explore.opening.table.attributes (state_of explore).accepted (map with_conflicts oracles)
@@ -66,6 +121,24 @@ panel_text-play p explore oracles spent play =
     let dropped = dropped-oracles H 1 oracles (λ k oracle at. (play.shares k oracle at).conflicts) in
     ap (λ o. text o (map with_conflicts oracles)) play.opening
     ∙ ap (text (opening_of p.table (length p.experts))) (dropped ∙ ap (dropped_in H 1) play.tables)
+
+agreed-play : (p : Panel) (explore : History) (oracles : List Recall) (spent : Bool) (first conflicts text : Text) → IsPlay p explore oracles spent
+    → first ≡ explore_text explore.opening.table explore.opening.settings explore.journal
+    → conflicts ≡ conflicts_text explore.opening.table.attributes (state_of explore).accepted (map with_conflicts oracles) → text ≡ first ++ conflicts
+    → (C : Context) → All (λ (D : NamedContext). D.context ≡ C) p.experts → is_part p.table.context C ≡ true → spent ≡ false
+    → text ≡ recorded_text p explore.journal ++ basis_alone p.table.attributes (basis C)
+agreed-play p explore oracles spent first conflicts text play first_is conflicts_is joined C same part unspent =
+    let H = explore.journal in
+    let o : Opening = opening_of p.table (length p.experts) in
+    let agreed = play.agreed C same part in
+    let legal : IsLegal (opening_state o) H = subst (λ (x : Opening). IsLegal (opening_state x) H) play.opening play.legal in
+    let done : open_at (played p H) ≡ [] = subst (λ (x : Opening). open_of (record { opening = x; journal = H; spare = 0 }) ≡ []) play.opening (play.finished unspent) in
+    let same_basis : basis (state_of_text p.table plain H).context ≡ basis C = subst (λ (x : Opening). basis (state_after (opening_state x) (events_of H)).context ≡ basis C) play.opening (agreed.basis unspent) in
+    let none : conflicts ≡ conflicts_section p.table.attributes (basis C) [] =
+    conflicts_is ∙ ap (λ (x : Opening). conflicts_text x.table.attributes (state_of explore).accepted (map with_conflicts oracles)) play.opening
+    ∙ no_conflicts p.table.attributes (state_of explore).accepted (basis C) oracles agreed.kept in
+    joined ∙ ap (λ l. l ++ conflicts) (first_is ∙ ap (λ (x : Opening). explore_text x.table x.settings H) play.opening) ∙ ap (λ l. explore_text p.table plain H ++ l) none
+    ∙ agreed_text p.table H C (conflicts_section p.table.attributes (basis C) []) legal done same_basis
 
 pub IsPanelText-play : (p : Panel) (explore : History) (oracles : List Recall) (spent : Bool) (first conflicts text : Text) → is_expert (length p.experts) ≡ true
     → IsPlay p explore oracles spent → first ≡ explore_text explore.opening.table explore.opening.settings explore.journal
@@ -89,4 +162,6 @@ IsPanelText-play p explore oracles spent first conflicts text expert play first_
       others = play.others;
       unfinished = play.unfinished;
       finished = subst Open play.opening play.finished;
+      unspent = play.unspent;
+      agreed = agreed-play p explore oracles spent first conflicts text play first_is conflicts_is joined;
     }

@@ -1,12 +1,17 @@
 -- What `explore` writes: the text of one legal history, which the oracles of the experts' tables made, and the conflicts in which rows of theirs were dropped.
-use Rattle.std.specs.Prelude.{◌≡◌, ◌↔◌, ◌⊎◌, ◌≤◌, ◌<◌, ◌+◌, ◌^◌, ℕ, Bool, true, false, cond, List, [], ◌∷◌, ◌++◌, length}
+use Rattle.std.specs.Prelude.{◌≡◌, ◌↔◌, ◌⊎◌, ◌≤◌, ◌<◌, ◌+◌, ◌^◌, ℕ, Bool, true, false, cond, List, [], ◌∷◌, ◌++◌, length, All, codes}
+use Rattle.fca_model.specs.Context.{Context}
 use Rattle.fca_model.specs.Tables.{Text, NamedContext}
+use Rattle.fca_model.specs.Implications.{Rule}
+use Rattle.fca_model.specs.Pseudo.{basis}
 use Rattle.fca_model.specs.Exploration.{SetEntry, plain, own}
 use Rattle.oracle_expert.specs.Oracles.{Conflicts}
 use Rattle.oracle_expert.specs.Runs.{IsOracleFront, ends_done, conflicts_of}
-use Rattle.expert_panel.specs.Explorations.{EachNumbered}
-use Rattle.basis_report.specs.Explorations.{explore_text, spelled}
-use Rattle.basis_report.specs.Conflicts.{conflicts_text}
+use Rattle.expert_panel.specs.Explorations.{EachNumbered, is_part}
+use Rattle.expert_wire.specs.Replies.{transcript}
+use Rattle.basis_report.specs.Reports.{counted, arrow_lines}
+use Rattle.basis_report.specs.Explorations.{recorded_section, accepted_section, open_section, explore_text, spelled}
+use Rattle.basis_report.specs.Conflicts.{conflicts_section, conflicts_text}
 use Rattle.command_io.specs.Readings.{Reading}
 use Rattle.command_io.specs.Readings.Reading.{Untold, Refused, Read}
 use Rattle.command_io.specs.Explorations.{Recorded, opening_of, last_state, open_at, IsExplored}
@@ -34,8 +39,20 @@ played p H = record { opening = opening_of p.table (length p.experts); journal =
 abbrev pub panel_text : Panel → List SetEntry → Text
 panel_text p H = explore_text p.table plain H ++ conflicts_text p.table.attributes (last_state (played p H)).accepted (dropped_in H 1 p.experts)
 
+-- what its text says before the open questions
+abbrev pub recorded_text : Panel → List SetEntry → Text
+recorded_text p H =
+    transcript p.table.attributes H ++ (recorded_section H ++ accepted_section p.table.attributes 0 (last_state (played p H)).accepted)
+
+-- `# open 0`; then `# basis N`, and these N implications with their numbers; then `# conflicts 0`
+abbrev pub basis_alone : List Text → List Rule → Text
+basis_alone attributes J =
+    open_section attributes [] ++ ((counted (codes "# basis ") (length J) ++ arrow_lines (codes "# ") attributes J) ++ conflicts_section attributes J [])
+
 -- The text spells one legal history, which has no entries but those of the panel's oracles. Where one of them took all its turns,
--- the exploration is spent; else no question is open at its end
+-- the exploration is spent; else no question is open at its end. With at most 46 attributes it is never spent. Where all experts'
+-- tables have one context C, and each row of the panel's table is a row of C, the text ends with the basis of C in lectic order,
+-- and no conflict
 pub record IsPanelText (p : Panel) (text : Text) (spent : Bool) : Type 0 where
   pub history : List SetEntry
   pub whole : text ≡ panel_text p history
@@ -45,6 +62,9 @@ pub record IsPanelText (p : Panel) (text : Text) (spent : Bool) : Type 0 where
   pub others : (e : ℕ) → (e ≡ 0) ⊎ (length p.experts < e) → own history e ≡ []
   pub unfinished : (spent ≡ true) ↔ ((e : ℕ) × (1 ≤ e) × (e ≤ length p.experts) × (ends_done (own history e) ≡ false))
   pub finished : spent ≡ false → open_at (played p history) ≡ []
+  pub unspent : p.table.context.width ≤ 46 → spent ≡ false
+  pub agreed : (C : Context) → All (λ D. D.context ≡ C) p.experts → is_part p.table.context C ≡ true
+      → spent ≡ false → text ≡ recorded_text p history ++ basis_alone p.table.attributes (basis C)
 
 -- ---- statuses
 

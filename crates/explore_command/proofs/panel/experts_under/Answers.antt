@@ -1,4 +1,4 @@
-use Rattle.std.proofs.Common.{◌≡◌, ◌≤◌, ◌<◌, ◌+◌, ◌++◌, ◌∷◌, ◌∙◌, [], length, drop, List, sym, subst, arith}
+use Rattle.std.proofs.Common.{◌≡◌, ◌<◌, ◌+◌, ◌++◌, ◌∷◌, ◌∙◌, [], length, drop, List, sym, subst, arith}
 use Rattle.std.specs.Prelude.{All}
 use Rattle.fca_model.specs.Tables.{NamedContext}
 use Rattle.std.proofs.lemmas.List.Elements.{All-push}

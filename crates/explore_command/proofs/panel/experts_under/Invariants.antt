@@ -1,5 +1,5 @@
 -- What may be read of the files that are left may be read of all, behind the tables that were read; and nothing else was touched.
-use Rattle.std.proofs.Common.{◌≡◌, ◌≤◌, ℕ, List, length, drop}
+use Rattle.std.proofs.Common.{◌≡◌, ◌≤◌, drop}
 use Rattle.std.specs.Prelude.{All, vec_len}
 use Rattle.fca_model.specs.Tables.{Text}
 use Rattle.explore_command.proofs.PanelLemmas.{ReadsOn}

@@ -1,4 +1,4 @@
-use Rattle.std.proofs.Common.{◌≡◌, ◌↔◌, ◌⊎◌, ◌∙◌, ◌≤◌, ◌<◌, ◌++◌, [], ℕ, map, true, false, length, sym, ap, subst}
+use Rattle.std.proofs.Common.{◌≡◌, ◌↔◌, ◌⊎◌, ◌∙◌, ◌≤◌, ◌<◌, ◌++◌, [], ℕ, map, true, false, length, refl, sym, ap, subst}
 use Rattle.std.specs.Prelude.{vec_len}
 use Rattle.fca_model.specs.Exploration.{own, is_expert}
 use Rattle.oracle_expert.specs.Runs.{ends_done}
@@ -29,6 +29,8 @@ returns g c =
       others = subst Others count c.in_ok-explored.ensures.others;
       unfinished = subst Unfinished count c.in_ok-explored.ensures.spent;
       finished = c.in_ok-explored.ensures.finished;
+      unspent = c.in_ok-explored.ensures.unspent refl;
+      agreed = c.in_ok-explored.ensures.agreed;
     } in
     let IsFew : Panel → Type 0 = λ q. is_expert (length q.experts) ≡ true in
     let Gives : Panel → Type 0 = λ q. IsPanelText q c.extend_from_slice.new.self.items explored.spent in
