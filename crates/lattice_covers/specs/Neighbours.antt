@@ -1,10 +1,9 @@
--- The upper neighbours of an intent, among candidates that lie below every larger intent.
-use Rattle.std.specs.Prelude.{◌≡◌, ℕ, Bool, true, List, map, filter, All}
-use Rattle.std.specs.List.{list_any, prefix_len}
+-- The rows above an intent, and the places of its upper neighbours.
+use Rattle.std.specs.Prelude.{◌≡◌, ℕ, List, map, filter, All}
+use Rattle.std.specs.List.{prefix_len}
 use Rattle.std.specs.Ordering.{is_lt}
-use Rattle.fca_model.specs.Sets.{Set, within, same, strictly_within, lectic_cmp, increasing}
+use Rattle.fca_model.specs.Sets.{Set, within, lectic_cmp}
 use Rattle.fca_model.specs.Context.{Context}
-use Rattle.fca_model.specs.Pseudo.{intents}
 use Rattle.lattice_covers.specs.declared.chain.Link.{Link}
 
 -- the context of the rows that contain A
@@ -14,16 +13,6 @@ rows_above K A = record { width = K.width; rows = filter (within A) K.rows }
 -- each link has the rows that contain its intent
 abbrev pub AreAbove : Context → List Link → Type 0
 AreAbove K links = All (λ link. link.above ≡ rows_above K link.intent) links
-
--- intents that contain A strictly, in lectic order, of which each intent that contains A strictly contains one
-pub record LeadUp (K : Context) (A : Set) (Cs : List Set) : Type 0 where
-  pub ordered : increasing Cs ≡ true
-  pub sound : (X : Set) → list_any (same X) Cs ≡ true → (list_any (same X) (intents K) ≡ true) × (strictly_within A X ≡ true)
-  pub complete : (B : Set) → list_any (same B) (intents K) ≡ true → strictly_within A B ≡ true → list_any (λ C. within C B) Cs ≡ true
-
--- a set of the list lies strictly within X
-abbrev pub has_smaller : List Set → Set → Bool
-has_smaller Cs X = list_any (λ C. strictly_within C X) Cs
 
 -- how many sets of a list in lectic order come before X: the place of X, if it is in the list
 abbrev pub place_in : List Set → Set → ℕ

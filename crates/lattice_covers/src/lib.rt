@@ -4,10 +4,10 @@
 mod chain;
 mod places;
 
-ghost use Rattle.std.specs.Prelude.{◌≡◌, ◌++◌, true, not, filter, length, IfOk, OnOk};
+ghost use Rattle.std.specs.Prelude.{◌≡◌, ◌++◌, true, filter, length, IfOk, OnOk};
 ghost use Rattle.fca_model.specs.Sets.{increasing};
-ghost use Rattle.fca_model.specs.Pseudo.{intents as closed_sets, covers};
-ghost use Rattle.lattice_covers.specs.Neighbours.{rows_above, LeadUp, has_smaller, pairs_with};
+ghost use Rattle.fca_model.specs.Pseudo.{intents as closed_sets, covers, is_cover};
+ghost use Rattle.lattice_covers.specs.Neighbours.{rows_above, pairs_with};
 
 use attr_bits::Attrs;
 use chain::{Link, rows_above};
@@ -23,67 +23,63 @@ pub fn covers(alloc: Global, rows: &Rows, intents: &[Attrs]) -> Result<Vec<(usiz
 {
     let mut latest = vec![in alloc; 0; rows.width() as usize]?;
     let mut chain = Vec::new(alloc);
+    let mut neighbours = Vec::new(alloc);
     let mut pairs = Vec::new(alloc);
     for (i, a) in intents.iter().enumerate() {
         let above = rows_above(alloc, rows, &mut chain, a)?;
-        let candidates = upper_candidates(alloc, rows, &above, a)?;
-        add_pairs(&mut pairs, intents, &mut latest, i, a, &candidates)?;
+        find_neighbours(&mut neighbours, rows, &above, a)?;
+        add_pairs(&mut pairs, intents, &mut latest, i, a, &neighbours)?;
         chain.push(Link { intent: *a, above })?;
     }
     Ok(pairs)
 }
 
-/// The closures of a with one attribute that a lacks, where that is the least new attribute of the closure. Of each intent above a, one of them is a part.
-/// The rows that contain a are enough to find them.
-fn upper_candidates(
-    alloc: Global,
+/// Puts the upper neighbours of a into the list, in the place of what it had. The rows that contain a are enough to find them.
+/// The closure of a with one attribute more is one of them, unless it has a further new attribute that is still to be tried, or that has led to one
+/// (Lindig, "Fast concept analysis", 2000).
+fn find_neighbours(
+    neighbours: &mut Vec<Attrs>,
     rows: &Rows,
     above: &Rows,
     a: &Attrs,
-) -> Result<Vec<Attrs>, Memory>
+) -> Result<(), Memory>
     requires wide { length a.now ≡ rows.now.width }
     requires above { above.now ≡ rows_above rows.now a.now }
-    ensures { IfOk result (λ candidates. LeadUp rows.now a.now candidates.items) }
+    ensures { OnOk result (neighbours.new.items ≡ filter (is_cover (closed_sets rows.now) a.now) (closed_sets rows.now)) }
 {
-    let mut candidates = Vec::new(alloc);
+    neighbours.clear();
+    let mut settled = *a;
     for i in (0..rows.width()).rev() {
         if !a.has(i) {
             let closed = above.closure(&a.with(i));
-            if closed.first_missing(a) == Some(i) {
-                candidates.push(closed)?;
+            let allowed = settled.with(i);
+            if closed.within(&allowed) {
+                neighbours.push(closed)?;
+            } else {
+                settled = allowed;
             }
         }
     }
-    Ok(candidates)
+    Ok(())
 }
 
-/// Puts the pairs of i with the places of the minimal candidates above a last.
+/// Puts the pairs of i with the places of the sets, which are larger than a, last.
 fn add_pairs(
     pairs: &mut Vec<(usize, usize)>,
     intents: &[Attrs],
     latest: &mut [usize],
     i: usize,
     a: &Attrs,
-    candidates: &[Attrs],
+    sets: &[Attrs],
 ) -> Result<(), Memory>
     requires { increasing intents.now ≡ true }
-    ensures { OnOk result (pairs.new.items ≡ pairs.old.items
-        ++ pairs_with intents.now i (filter (λ X. not (has_smaller candidates.now X)) candidates.now)) }
+    ensures { OnOk result (pairs.new.items ≡ pairs.old.items ++ pairs_with intents.now i sets.now) }
 {
-    for x in candidates {
-        if !has_smaller(candidates, x) {
-            let attribute = x.first_missing(a).unwrap_or(0);
-            pairs.push((i, place_in(intents, latest, attribute, x)))?;
-        }
+    for x in sets {
+        let attribute = x.first_missing(a).unwrap_or(0);
+        pairs.push((i, place_in(intents, latest, attribute, x)))?;
     }
     Ok(())
-}
-
-/// Whether a set of the list lies strictly within x.
-fn has_smaller(sets: &[Attrs], x: &Attrs) -> bool
-    ensures { result ≡ has_smaller sets.now x.now }
-{
-    sets.iter().any(|set| set.within(x) && set != x)
 }
 
 #[cfg(test)]

@@ -1,4 +1,4 @@
-use Rattle.std.proofs.Common.{◌≡◌, ℕ, ◌+◌, ◌<◌, true, not, List, [], ◌∷◌, ◌++◌, drop, filter, length, get_or, sym, ap, ◌∙◌, subst, append_assoc}
+use Rattle.std.proofs.Common.{◌≡◌, ℕ, ◌+◌, ◌<◌, true, List, [], ◌∷◌, ◌++◌, drop, filter, length, get_or, sym, ap, ◌∙◌, subst, append_assoc}
 use Rattle.std.proofs.lemmas.List.{at_drop_more, at_drop_all, append-nil}
 use Rattle.std.specs.List.{flat_map, enumerate_from, list_any}
 use Rattle.fca_model.specs.Sets.{Set, same, increasing}
@@ -7,9 +7,8 @@ use Rattle.fca_model.specs.Pseudo.{intents, covers, covers_of, is_cover}
 use Rattle.lectic_concepts.proofs.IntentLemmas.{of_intents, intents_increasing}
 use Rattle.std.proofs.lemmas.List.Elements.{All-push}
 use Rattle.lattice_covers.specs.declared.chain.Link.{Link}
-use Rattle.lattice_covers.specs.Neighbours.{rows_above, AreAbove, LeadUp, has_smaller, pairs_with}
+use Rattle.lattice_covers.specs.Neighbours.{rows_above, AreAbove, pairs_with}
 use Rattle.lattice_covers.proofs.MemberLemmas.{in_at}
-use Rattle.lattice_covers.proofs.CoverLemmas.{covers_are_minimal}
 use Rattle.lattice_covers.proofs.PlaceLemmas.{row_of, pairs_with-filter}
 use Rattle.lattice_covers.proofs.covers.Goals as goal
 
@@ -17,40 +16,37 @@ module _ (K : Context) (Xs : List Set) (all : Xs ≡ intents K) (i : ℕ) (A : S
   wide : length A ≡ K.width
   wide = (of_intents K A (subst (λ Ys. list_any (same A) Ys ≡ true) all (subst (λ X. list_any (same X) Xs ≡ true) (sym is) (in_at Xs i A inside)))).wide
 
-  -- the pairs of the intent at place i are those of its minimal candidates
-  row_is : (Cs : List Set) → LeadUp K A Cs → pairs_with Xs i (filter (λ X. not (has_smaller Cs X)) Cs) ≡ row_of Xs (i, A)
-  row_is Cs lead =
-      ap (pairs_with Xs i) (covers_are_minimal K A Cs lead ∙ ap (λ Ys. filter (is_cover Ys A) Ys) (sym all))
+  -- the pairs of the intent at place i are those of its upper neighbours
+  row_is : pairs_with Xs i (filter (is_cover (intents K) A) (intents K)) ≡ row_of Xs (i, A)
+  row_is = ap (λ Ys. pairs_with Xs i (filter (is_cover Ys A) Ys)) (sym all)
       ∙ sym (pairs_with-filter Xs (subst (λ Ys. increasing Ys ≡ true) (sym all) (intents_increasing K)) (is_cover Xs A) i)
 
-  more : (old new : List (ℕ × ℕ)) (Cs : List Set) → LeadUp K A Cs → new ≡ old ++ pairs_with Xs i (filter (λ X. not (has_smaller Cs X)) Cs)
+  more : (old new : List (ℕ × ℕ)) (Cs : List Set) → Cs ≡ filter (is_cover (intents K) A) (intents K) → new ≡ old ++ pairs_with Xs i Cs
       → old ++ flat_map (row_of Xs) (enumerate_from i (drop i Xs)) ≡ covers_of Xs → new ++ flat_map (row_of Xs) (enumerate_from (i + 1) (drop (i + 1) Xs)) ≡ covers_of Xs
-  more old new Cs lead made h =
+  more old new Cs found made h =
       let left = flat_map (row_of Xs) (enumerate_from (i + 1) (drop (i + 1) Xs)) in
-      ap (λ p. p ++ left) (made ∙ ap (λ r. old ++ r) (row_is Cs lead)) ∙ append_assoc old (row_of Xs (i, A)) left
+      ap (λ p. p ++ left) (made ∙ ap (λ Ys. old ++ pairs_with Xs i Ys) found ∙ ap (λ r. old ++ r) row_is) ∙ append_assoc old (row_of Xs (i, A)) left
       ∙ ap (λ r. old ++ r) (ap (λ X. row_of Xs (i, X) ++ left) is ∙ sym (at_drop_more (λ Ys. flat_map (row_of Xs) (enumerate_from i Ys)) Xs i A inside)) ∙ h
 
 -- one link more
 links_more : (K : Context) (old new : List Link) (link : Link) → new ≡ old ++ link ∷ [] → AreAbove K old → link.above ≡ rows_above K link.intent → AreAbove K new
 links_more K old new link made h is = subst (AreAbove K) (sym made) (All-push (λ (l : Link). l.above ≡ rows_above K l.intent) old link h is)
 
-pub upper_candidates-requires-clause-wide : goal.upper_candidates-requires-clause-wide
-upper_candidates-requires-clause-wide c = wide c.args.rows.now c.args.intents.now c.requires c.loop-i.i c.index-intents-i.result c.loop-i-test.true c.index-intents-i.is
+pub find_neighbours-requires-clause-wide : goal.find_neighbours-requires-clause-wide
+find_neighbours-requires-clause-wide c = wide c.args.rows.now c.args.intents.now c.requires c.loop-i.i c.index-intents-i.result c.loop-i-test.true c.index-intents-i.is
 
 pub add_pairs-requires : goal.add_pairs-requires
 add_pairs-requires c = subst (λ (Ys : List Set). increasing Ys ≡ true) (sym c.requires) (intents_increasing c.args.rows.now)
 
 pub loop-i-preserved : goal.loop-i-preserved
-loop-i-preserved c =
-    let Cs : List Set = c.in_ok-candidates.candidates.items in
-    record {
-      listed = more c.args.rows.now c.args.intents.now c.requires c.loop-i.i c.index-intents-i.result c.loop-i-test.true c.index-intents-i.is c.loop-i.pairs.items c.add_pairs.new.pairs.items Cs
-          c.in_ok-candidates.ensures
-          (c.in_ok-add_pairs.ensures ∙ ap (λ (Ys : List Set). c.loop-i.pairs.items ++ pairs_with c.args.intents.now c.loop-i.i (filter (λ X. not (has_smaller Ys X)) Ys)) c.deref.ensures.value)
-          c.loop-i.invariant.listed;
-      above = links_more c.args.rows.now c.rows_above.new.chain.items c.push.new.self.items (record { intent = c.index-intents-i.result; above = c.in_ok-above.above })
-          c.in_ok-push.ensures.items c.in_ok-above.ensures.chain c.in_ok-above.ensures.above;
-    }
+loop-i-preserved c = record {
+  listed = more c.args.rows.now c.args.intents.now c.requires c.loop-i.i c.index-intents-i.result c.loop-i-test.true c.index-intents-i.is c.loop-i.pairs.items c.add_pairs.new.pairs.items
+      c.find_neighbours.new.neighbours.items c.in_ok-find_neighbours.ensures
+      (c.in_ok-add_pairs.ensures ∙ ap (λ (Ys : List Set). c.loop-i.pairs.items ++ pairs_with c.args.intents.now c.loop-i.i Ys) c.deref.ensures.value)
+      c.loop-i.invariant.listed;
+  above = links_more c.args.rows.now c.rows_above.new.chain.items c.push.new.self.items (record { intent = c.index-intents-i.result; above = c.in_ok-above.above })
+      c.in_ok-push.ensures.items c.in_ok-above.ensures.chain c.in_ok-above.ensures.above;
+}
 
 pub returns : goal.returns
 unfolding covers

@@ -1,13 +1,12 @@
-use Rattle.std.proofs.Common.{◌≡◌, ◌≢◌, ℕ, suc, ◌-◌, Some, List, get_or, set, true, false, sym, ap, ◌∙◌, subst, arith, ◌<◌, length, inl, inr, get_or-set_same, get_or-set_other}
+use Rattle.std.proofs.Common.{◌≡◌, ℕ, suc, ◌-◌, List, get_or, set, true, false, sym, ap, ◌∙◌, subst, arith, ◌<◌, length, inl, inr, get_or-set_same, get_or-set_other}
 use Rattle.std.proofs.lemmas.Bool.{cases_eq}
 use Rattle.fca_model.specs.Sets.{Set, within}
 use Rattle.fca_model.proofs.SetLemmas.{within_from_places}
 use Rattle.fca_model.specs.Context.{Context, closure}
-use Rattle.fca_model.specs.Exploration.{first_missing}
-use Rattle.lectic_concepts.proofs.NextLemmas.{is_some_of, is_none_of}
 use Rattle.lectic_concepts.proofs.BranchLemmas.{among, closure_among}
 use Rattle.lattice_covers.proofs.CandidateLemmas.{IsReached, reached_at_member, reached_with, reached_without, lead_up}
-use Rattle.lattice_covers.proofs.upper_candidates.Goals as goal
+use Rattle.lattice_covers.proofs.CoverLemmas.{they_are_covers}
+use Rattle.lattice_covers.proofs.find_neighbours.Goals as goal
 
 -- the rows that contain A give its closures with one attribute more
 closed_above : (K : Context) (A : Set) (i : ℕ) → i < length A → (B : Set) → B ≡ set A i true → (above : Context) → above ≡ among K A → closure above B ≡ closure K (set A i true)
@@ -21,29 +20,32 @@ pub loop-i-preserved-in-Continue-1 : goal.loop-i-preserved-in-Continue-1
 loop-i-preserved-in-Continue-1 c =
     let K : Context = c.args.rows.now in
     let A : Set = c.args.a.now in
+    let L : Set = c.loop-i.settled in
     let i : ℕ = c.loop-i.i - 1 in
     let e : c.loop-i.i ≡ suc i = omega arith in
     let lacks : get_or A i false ≡ false = sym c.has.ensures ∙ c.if-not-has.true in
     let closed : c.closure-closed.result ≡ closure K (set A i true) = c.closure-closed.ensures ∙ closed_above K A i (omega (arith, c.requires.wide, c.loop-i.invariant.inside)) c.with.result c.with.ensures c.args.above.now c.requires.above in
-    let found : first_missing 0 c.closure-closed.result A ≡ Some i = sym c.first_missing.ensures ∙ is_some_of c.first_missing.result i (sym c.eq.ensures ∙ c.if-eq.true) in
+    let settled : within c.closure-closed.result (set L i true) ≡ true = ap (within c.closure-closed.result) (sym c.with-allowed.ensures) ∙ sym c.within.ensures ∙ c.if-within.true in
     record {
       inside = omega (arith, c.loop-i.invariant.inside);
-      reached = subst (λ (Cs : List Set). IsReached K A i Cs) (sym c.in_ok-push.ensures.items)
-          (reached_with K A i c.loop-i.i e c.requires.wide c.loop-i.invariant.inside c.loop-i.candidates.items c.loop-i.invariant.reached lacks c.closure-closed.result closed found);
+      reached = subst (λ (Cs : List Set). IsReached K A i L Cs) (sym c.in_ok-push.ensures.items)
+          (reached_with K A i c.loop-i.i e c.requires.wide c.loop-i.invariant.inside L c.loop-i.neighbours.items c.loop-i.invariant.reached lacks c.closure-closed.result closed settled);
     }
 
-pub loop-i-preserved-else-eq : goal.loop-i-preserved-else-eq
-loop-i-preserved-else-eq c =
+pub loop-i-preserved-else-within : goal.loop-i-preserved-else-within
+loop-i-preserved-else-within c =
     let K : Context = c.args.rows.now in
     let A : Set = c.args.a.now in
+    let L : Set = c.loop-i.settled in
     let i : ℕ = c.loop-i.i - 1 in
     let e : c.loop-i.i ≡ suc i = omega arith in
     let lacks : get_or A i false ≡ false = sym c.has.ensures ∙ c.if-not-has.true in
     let closed : c.closure-closed.result ≡ closure K (set A i true) = c.closure-closed.ensures ∙ closed_above K A i (omega (arith, c.requires.wide, c.loop-i.invariant.inside)) c.with.result c.with.ensures c.args.above.now c.requires.above in
-    let other : first_missing 0 c.closure-closed.result A ≢ Some i = λ h. is_none_of c.first_missing.result i (sym c.eq.ensures ∙ c.if-eq.false) (c.first_missing.ensures ∙ h) in
+    let other : within c.closure-closed.result (set L i true) ≡ false = ap (within c.closure-closed.result) (sym c.with-allowed.ensures) ∙ sym c.within.ensures ∙ c.if-within.false in
     record {
       inside = omega (arith, c.loop-i.invariant.inside);
-      reached = reached_without K A i c.loop-i.i e c.requires.wide c.loop-i.invariant.inside c.loop-i.candidates.items c.loop-i.invariant.reached lacks c.closure-closed.result closed other;
+      reached = subst (λ (M : Set). IsReached K A i M c.loop-i.neighbours.items) (sym c.with-allowed.ensures)
+          (reached_without K A i c.loop-i.i e c.requires.wide c.loop-i.invariant.inside L c.loop-i.neighbours.items c.loop-i.invariant.reached lacks c.closure-closed.result closed other);
     }
 
 pub loop-i-preserved : goal.loop-i-preserved
@@ -54,10 +56,13 @@ loop-i-preserved c =
     let e : c.loop-i.i ≡ suc i = omega arith in
     record {
       inside = omega (arith, c.loop-i.invariant.inside);
-      reached = reached_at_member K A i c.loop-i.i e c.requires.wide c.loop-i.invariant.inside c.loop-i.candidates.items c.loop-i.invariant.reached (sym c.has.ensures ∙ c.if-not-has.false);
+      reached = reached_at_member K A i c.loop-i.i e c.requires.wide c.loop-i.invariant.inside c.loop-i.settled c.loop-i.neighbours.items c.loop-i.invariant.reached (sym c.has.ensures ∙ c.if-not-has.false);
     }
 
 pub returns : goal.returns
 returns c =
+    let K : Context = c.args.rows.now in
+    let A : Set = c.args.a.now in
+    let Cs : List Set = c.loop-i.neighbours.items in
     let end : c.loop-i.i ≡ 0 = omega arith in
-    lead_up c.args.rows.now c.args.a.now c.loop-i.candidates.items c.requires.wide (subst (λ k. IsReached c.args.rows.now c.args.a.now k c.loop-i.candidates.items) end c.loop-i.invariant.reached)
+    they_are_covers K A Cs (lead_up K A c.loop-i.settled Cs c.requires.wide (subst (λ k. IsReached K A k c.loop-i.settled Cs) end c.loop-i.invariant.reached))
