@@ -8,7 +8,7 @@ mod walk;
 ghost use Rattle.std.specs.Prelude.{◌≡◌, ◌≤◌, ◌<◌, ◌+◌, ◌*◌, IfOk, length, map};
 ghost use Rattle.fca_model.specs.Context.{Context, extent};
 ghost use Rattle.fca_model.specs.Pseudo.{intents};
-ghost use Rattle.lectic_concepts.specs.Concepts.{concepts};
+ghost use Rattle.lectic_concepts.specs.Concepts.{concept_of, concepts};
 
 use attr_bits::Attrs;
 use derivation::Rows;
@@ -49,9 +49,20 @@ pub fn all_concepts(alloc: Global, rows: &Rows) -> Result<Vec<Concept>, Memory>
     ensures { IfOk result (λ all. all.items ≡ concepts rows.now) }
 {
     let intents = all_intents(alloc, rows)?;
+    concepts_of(alloc, rows, &intents)
+}
+
+/// The concepts of these intents.
+pub fn concepts_of(
+    alloc: Global,
+    rows: &Rows,
+    intents: &[Attrs],
+) -> Result<Vec<Concept>, Memory>
+    ensures { IfOk result (λ all. all.items ≡ map (concept_of rows.now) intents.now) }
+{
     let mut chain = Vec::new(alloc);
-    let mut all = Vec::new(alloc);
-    for intent in &intents {
+    let mut all = Vec::with_capacity(alloc, intents.len())?;
+    for intent in intents {
         let extent = extent_of(alloc, rows, &all, &mut chain, intent)?;
         chain.push(all.len())?;
         all.push(Concept {
