@@ -1,10 +1,11 @@
 -- Sets of at most 64 attributes. All words but the first are 0, so meets, inclusions and sizes are those of the first words.
-use Rattle.std.proofs.Common.{◌≡◌, ◌≢◌, ℕ, zero, suc, ◌+◌, ◌*◌, ◌^◌, ◌<◌, ◌≤◌, true, false, eqb, List, [], ◌∷◌, length, get_or, set, refl, sym, ap, ap₂, ◌∙◌, arith, inl, inr, bit_and, count_ones, eq-eqb, ne_eqb, get_or-set_same, get_or-set_other, length-set}
+use Rattle.std.proofs.Common.{◌≡◌, ℕ, zero, suc, ◌+◌, ◌*◌, ◌<◌, ◌≤◌, true, false, eqb, List, [], ◌∷◌, get_or, set, refl, sym, ap, ap₂, ◌∙◌, arith, inl, inr, bit_and, count_ones, eq-eqb, ne_eqb, get_or-set_same, get_or-set_other, length-set}
 use Rattle.std.proofs.lemmas.Bool.{cases_eq, false≢true}
 use Rattle.std.proofs.lemmas.List.{take_all}
 use Rattle.std.proofs.lemmas.Nat.Bits.{bit_at-lt, bit_at-zero, same_from_bits_below}
 use Rattle.std.specs.Int.{bit_at}
 use Rattle.fca_model.specs.Sets.{Set, within, meet, size}
+use Rattle.fca_model.proofs.SetLemmas.{within_refl}
 use Rattle.attr_bits.specs.Words.{ones_in}
 use Rattle.attr_bits.specs.WordLaws.{word_bit_in}
 use Rattle.attr_bits.proofs.PlaceLemmas.{IsWords}
@@ -59,3 +60,7 @@ module _ {m n : ℕ} {a : List ℕ} {A : Set} (wa : IsWords m a n A) where
       | inl none ↦ eq-eqb _ 0 none ∙ sym (within_yes wa wb (lacking_word none))
       | inr some ↦ ne_eqb _ 0 some ∙ sym (within_no wa wb 0 some)
     ]
+
+-- sets of the same first word
+pub within_same : {m n v : ℕ} {a b : List ℕ} {A B : Set} → IsWords m a n A → IsWords m b v B → n ≤ 64 → v ≤ 64 → get_or a 0 0 ≡ get_or b 0 0 → within A B ≡ true
+within_same {b = b} {B = B} wa wb narrow narrow_b e = sym (within_first wa wb narrow) ∙ ap (λ x. eqb (lacking x (get_or b 0 0)) 0) e ∙ within_first wb wb narrow_b ∙ within_refl B

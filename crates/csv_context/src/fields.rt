@@ -94,7 +94,7 @@ pub fn row_of(width: u32, i: usize, fields: &ByteRecord) -> Result<Attrs, CsvFau
         let field = field_at(fields, place as usize + 1);
         let cross = cell_of(i, place as usize + 2, field)?;
         if cross {
-            row = row.with(place);
+            row.insert(place);
         }
     }
     Ok(row)

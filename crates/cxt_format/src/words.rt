@@ -159,7 +159,7 @@ pub fn row_of(width: u32, number: usize, line: &[u8]) -> Result<Attrs, CxtFault>
             None => return Err(CxtFault::BadRow(number)),
         };
         if cross {
-            row = row.with(i);
+            row.insert(i);
         }
     }
     Ok(row)

@@ -97,7 +97,7 @@ fn crossed(marks: &[u8]) -> Attrs
     let mut set = Attrs::empty(marks.len() as u32);
     for (attribute, byte) in marks.iter().enumerate() {
         if is_cross(*byte) {
-            set = set.with(attribute as u32);
+            set.insert(attribute as u32);
         }
     }
     set

@@ -23,7 +23,7 @@ pub fn attributes_said(table: &Table, word: &[u8]) -> Option<Attrs>
     while let Some(text) = rest {
         let (item, later) = split_item(text);
         let place = place_of(table, trimmed(item))?;
-        said = said.with(place);
+        said.insert(place);
         rest = later;
     }
     Some(said)

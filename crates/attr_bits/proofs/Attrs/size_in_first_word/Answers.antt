@@ -1,4 +1,4 @@
-use Rattle.std.proofs.Common.{◌≡◌, ◌≤◌, count_ones, get_or, ◌∙◌, sym, arith}
+use Rattle.std.proofs.Common.{◌≡◌, count_ones, get_or, arith}
 use Rattle.fca_model.specs.Sets.{size}
 use Rattle.fca_model.proofs.SetLemmas.{size_le}
 use Rattle.attr_bits.proofs.PlaceLemmas.{shown, width_is}

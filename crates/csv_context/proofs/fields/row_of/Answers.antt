@@ -23,7 +23,7 @@ loop-place-preserved c =
     elim c.if-cross.branch [
       | then-cross w ↦
           let mark : cell_form c.args.i (loop.place + 2) field ≡ Ok true = sym c.in_ok-cross.ensures ∙ ap Ok w.if-cross.true in
-          subst P (sym w.with-row.ensures ∙ sym w.row-is) (ReadTo-cross c.args.i c.args.width fields loop.row loop.place field at loop.invariant c.loop-place-test.true mark)
+          subst P (sym w.insert.ensures ∙ sym w.row-is) (ReadTo-cross c.args.i c.args.width fields loop.row loop.place field at loop.invariant c.loop-place-test.true mark)
       | else-cross w ↦
           let mark : cell_form c.args.i (loop.place + 2) field ≡ Ok false = sym c.in_ok-cross.ensures ∙ ap Ok w.if-cross.false in
           subst P (sym w.row-is) (ReadTo-none c.args.i c.args.width fields loop.row loop.place field at loop.invariant c.loop-place-test.true mark)

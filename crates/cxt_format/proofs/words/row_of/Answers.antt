@@ -28,7 +28,7 @@ loop-i-preserved c =
     elim c.if-cross.branch [
       | then-cross w ↦
           let mark : mark_of (get_or c.args.line.now c.loop-i.i 0) ≡ Some true = sym c.mark_of.ensures ∙ c.in-Some.is ∙ ap Some w.if-cross.true in
-          subst P (sym w.with-row.ensures ∙ sym w.row-is) (ReadTo-cross c.args.width c.loop-i.i c.args.line.now c.loop-i.row c.loop-i.invariant c.loop-i-test.true in_line mark)
+          subst P (sym w.insert.ensures ∙ sym w.row-is) (ReadTo-cross c.args.width c.loop-i.i c.args.line.now c.loop-i.row c.loop-i.invariant c.loop-i-test.true in_line mark)
       | else-cross w ↦
           let mark : mark_of (get_or c.args.line.now c.loop-i.i 0) ≡ Some false = sym c.mark_of.ensures ∙ c.in-Some.is ∙ ap Some w.if-cross.false in
           subst P (sym w.row-is) (ReadTo-none c.args.width c.loop-i.i c.args.line.now c.loop-i.row c.loop-i.invariant c.loop-i-test.true in_line mark)
