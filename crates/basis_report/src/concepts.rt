@@ -31,7 +31,8 @@ pub fn lattice_text(
 {
     let mut draft = Draft::new(alloc);
     write_concepts(&mut draft, table, concepts)?;
-    write_covers(&mut draft, table, covers)?;
+    write_counted(&mut draft, table, b"covers ", covers.len())?;
+    write_covers(&mut draft, covers)?;
     Ok(draft.into_bytes())
 }
 
@@ -45,20 +46,14 @@ fn write_concepts(draft: &mut Draft, table: &Table, concepts: &[Concept]) -> Res
     Ok(())
 }
 
-fn write_covers(draft: &mut Draft, table: &Table, covers: &[(usize, usize)]) -> Result<(), Memory>
-    ensures { OnOk result (draft.new ≡ draft.old ++ (counted (codes "covers ") (length covers.now) ++ flat_map cover_line covers.now)) }
+fn write_covers(draft: &mut Draft, covers: &[(usize, usize)]) -> Result<(), Memory>
+    ensures { OnOk result (draft.new ≡ draft.old ++ flat_map cover_line covers.now) }
 {
-    write_counted(draft, table, b"covers ", covers.len())?;
     for pair in covers {
-        draft.parts(
-            table,
-            &[
-                Part::Ordinal(pair.0),
-                Part::Bytes(b" "),
-                Part::Ordinal(pair.1),
-                Part::Bytes(b"\n"),
-            ],
-        )?;
+        draft.ordinal(pair.0)?;
+        draft.bytes(b" ")?;
+        draft.ordinal(pair.1)?;
+        draft.bytes(b"\n")?;
     }
     Ok(())
 }
@@ -90,36 +85,26 @@ fn write_concept(
 ) -> Result<(), Memory>
     ensures { OnOk result (draft.new ≡ draft.old ++ concept_line table.now place concept.now) }
 {
-    draft.parts(
-        table,
-        &[
-            Part::Ordinal(place),
-            Part::Bytes(b" "),
-            Part::Braces(concept.intent),
-            Part::Bytes(b" | "),
-        ],
-    )?;
+    draft.ordinal(place)?;
+    draft.bytes(b" ")?;
+    draft.parts(table, &[Part::Braces(concept.intent)])?;
+    draft.bytes(b" | ")?;
     write_objects(draft, table, concept.extent.as_slice())?;
-    draft.parts(table, &[Part::Bytes(b"\n")])
+    draft.bytes(b"\n")
 }
 
 /// The names of the objects at these places, in braces.
 fn write_objects(draft: &mut Draft, table: &Table, places: &[usize]) -> Result<(), Memory>
     ensures { OnOk result (draft.new ≡ draft.old ++ braced (names_at table.now.objects places.now)) }
 {
-    draft.parts(table, &[Part::Bytes(b"{")])?;
+    draft.bytes(b"{")?;
     let mut between = b"".as_slice();
     for place in places {
-        draft.parts(
-            table,
-            &[
-                Part::Bytes(between),
-                Part::Bytes(object_text(table, *place).as_bytes()),
-            ],
-        )?;
+        draft.bytes(between)?;
+        draft.bytes(object_text(table, *place).as_bytes())?;
         between = b", ".as_slice();
     }
-    draft.parts(table, &[Part::Bytes(b"}")])
+    draft.bytes(b"}")
 }
 
 /// The name of the object, or nothing where there is none.

@@ -4,7 +4,7 @@ ghost use Rattle.std.specs.Prelude.{◌≡◌, ◌<◌, ◌≤◌, ◌++◌, [],
 ghost use Rattle.std.specs.Io.KnownBytes.{WriteAppends};
 ghost use Rattle.fca_io.specs.Faults.{Rose};
 ghost use Rattle.expert_wire.specs.Parts.{parts_text};
-ghost use Rattle.expert_wire.specs.Texts.{line_end, full_text};
+ghost use Rattle.expert_wire.specs.Texts.{line_end, ordinal, full_text};
 ghost use Rattle.expert_wire.specs.Replies.{reply_line, numbered_rule};
 
 use crate::parts::{Part, write_parts};
@@ -13,6 +13,7 @@ use context_table::Table;
 use explore_state::{Implication, Reply};
 use fca_io::{Failed, Sink};
 use fca_model::Memory;
+use itoa::Buffer;
 use std::alloc::Global;
 use std::marker::Model;
 
@@ -48,6 +49,24 @@ impl Draft {
         ensures { result.items ≡ self }
     {
         self.sink.bytes
+    }
+
+    /// Appends the bytes.
+    pub fn bytes(&mut self, bytes: &[u8]) -> Result<(), Memory>
+        ensures { OnOk result (self.new ≡ self.old ++ bytes.now) }
+    {
+        self.sink.bytes.extend_from_slice(bytes)?;
+        Ok(())
+    }
+
+    /// Appends the number, from 1 on, of what stands at the place.
+    pub fn ordinal(&mut self, place: usize) -> Result<(), Memory>
+        ensures { OnOk result (self.new ≡ self.old ++ ordinal place) }
+    {
+        match place.checked_add(1) {
+            Some(number) => self.bytes(Buffer::new().format(number).as_bytes()),
+            None => self.bytes(Buffer::new().format(place as u128 + 1).as_bytes()),
+        }
     }
 
     /// Appends the parts.

@@ -18,7 +18,7 @@ use fca_command::Form;
 use fca_io::Shelf;
 use fca_model::{Memory, Word};
 use lattice_covers::covers;
-use lectic_concepts::{all_concepts, all_intents};
+use lectic_concepts::{all_concepts, all_intents, concepts_of};
 use std::alloc::Global;
 use std::thread::Threads;
 
@@ -96,7 +96,7 @@ fn table_lattice(alloc: Global, table: &Table) -> Result<Vec<u8>, Memory>
 {
     let intents = all_intents(alloc, table.rows())?;
     let covers = covers(alloc, table.rows(), &intents)?;
-    let concepts = all_concepts(alloc, table.rows())?;
+    let concepts = concepts_of(alloc, table.rows(), &intents)?;
     lattice_text(alloc, table, &concepts, &covers)
 }
 
