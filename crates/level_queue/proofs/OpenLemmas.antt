@@ -1,7 +1,7 @@
 -- The questions of the queue are the open ones: none that waits is smaller than the level, since each smaller member is accepted,
 -- so those of the level that were not accepted are the smallest, if there are any. Where there are none, each member up to the
 -- level is accepted, and the next level can be opened.
-use Rattle.std.proofs.Common.{◌≡◌, ◌≢◌, ℕ, suc, ◌+◌, ◌<◌, ◌≤◌, Bool, true, false, not, ◌&&◌, ◌||◌, Option, Some, None, List, [], ◌∷◌, length, filter, get_or, position, refl, sym, ap, ap₂, ◌∙◌, subst, arith, inl, inr, eqb, eqb-true, eq-eqb, leb, le-leb, leb-true, ltb, lt-ltb}
+use Rattle.std.proofs.Common.{◌≡◌, ◌≢◌, ℕ, suc, ◌+◌, ◌<◌, ◌≤◌, Bool, true, false, not, ◌&&◌, ◌||◌, Option, Some, None, List, [], ◌∷◌, map, length, filter, get_or, position, refl, sym, ap, ap₂, ◌∙◌, subst, arith, inl, inr, eqb, eqb-true, eq-eqb, leb, le-leb, leb-true, ltb, lt-ltb}
 use Rattle.std.proofs.lemmas.Bool.{false≢true, and_parts, and_from, cases_Bool, cases_lt, or_cases, or_left, or_right, lt-leb, ltb-true, eqb-false}
 use Rattle.std.proofs.lemmas.List.Quantifiers.{position-Some}
 use Rattle.std.proofs.lemmas.Option.{slice_get-get_or}
@@ -21,9 +21,10 @@ use Rattle.fca_model.proofs.InvariantLemmas.{member_from, member_parts}
 use Rattle.fca_model.proofs.QuestionLemmas.{open_none}
 use Rattle.fca_model.proofs.LevelLemmas.{level_waiting, none_waits, smallest_is}
 use Rattle.implication_closure.proofs.ClosingLemmas.{position_none}
-use Rattle.pseudo_levels.specs.Search.{AreWide, LeadsAll, IsOpened}
+use Rattle.implication_closure.specs.Closing.{RuleList}
+use Rattle.pseudo_levels.specs.Search.{judged, AreWide, Grows, LeadsAll, IsOpened}
 use Rattle.pseudo_levels.proofs.LevelLemmas.{level_all}
-use Rattle.level_queue.specs.Queue.{HasPart, IsQueue}
+use Rattle.level_queue.specs.Queue.{FitsContext, HasPart, IsQueue}
 use Rattle.level_queue.proofs.RowLemmas.{questions_all}
 use Rattle.level_queue.proofs.AcceptLemmas.{question_member, question_size, question_new}
 
@@ -245,3 +246,16 @@ place_is xs q (Some i) e among = refl
 place_is xs q None e among =
     let none : not (is_rule q q) ≡ true = among (λ i. not (is_rule q i)) (position_none (is_rule q) xs (sym e)) in
     absurd (false≢true (sym (ap not (and_from (same q.premise q.premise) (same q.conclusion q.conclusion) (same_refl q.premise) (same_refl q.conclusion))) ∙ none))
+
+-- ---- levels that are judged and opened by an index of the accepted implications
+
+pub opened_by_index : (K : Context) (k : ℕ) (acc found : RuleList) (old new Xs : List Set) (answers : List (Option Rule)) (members : List Rule) → found ≡ acc → FitsContext K acc → HasBelow [] K k acc.members → LeadsAll [] K k acc.members old
+    → answers ≡ map (judged [] K found.members) Xs
+    → ((C : Context) → C.width ≡ found.width → HasBelow [] C k found.members → LeadsAll [] C k found.members old → answers ≡ map (judged [] C found.members) Xs → IsOpened [] C k found.members members new)
+    → IsOpened [] K k acc.members members new
+opened_by_index K k acc found old new Xs answers members e fits below leads answered opened =
+    subst (λ (J : RuleList). IsOpened [] K k J.members members new) e
+    (opened K (sym (ap (λ (J : RuleList). J.width) e ∙ fits.even)) (subst (λ (J : RuleList). HasBelow [] K k J.members) (sym e) below) (subst (λ (J : RuleList). LeadsAll [] K k J.members old) (sym e) leads) answered)
+
+pub grows_by_index : (K : Context) (acc found : RuleList) (old new : List Set) → found ≡ acc → FitsContext K acc → Grows found.width old new → Grows K.width old new
+grows_by_index K acc found old new e fits g = subst (λ n. Grows n old new) (ap (λ (J : RuleList). J.width) e ∙ fits.even) g

@@ -11,7 +11,7 @@ use attr_bits::Attrs;
 use derivation::Rows;
 use fca_model::Memory;
 use implication_closure::{Implication, ImplicationList, Question};
-use pseudo_levels::{Candidates, judge_all, open_level};
+use pseudo_levels::{Candidates, MemberIndex, judge_all, open_level};
 use std::alloc::Global;
 
 /// A level with its open questions.
@@ -106,10 +106,11 @@ pub(crate) fn next_level(
     ensures opened { IfOk result (λ opened. IsKept rows.now opened.level accepted.now opened.questions.items candidates.new) }
     ensures grows { Grows rows.now.width candidates.old candidates.new }
 {
+    let found = MemberIndex::of(alloc, accepted)?;
     for level in from..rows.width() + 1 {
         let sets = candidates.of_size(alloc, level)?;
-        let answers = judge_all(alloc, rows, accepted.as_slice(), &sets)?;
-        let questions = open_level(alloc, candidates, rows, accepted, &sets, &answers, level)?;
+        let answers = judge_all(alloc, rows, &found, &sets)?;
+        let questions = open_level(alloc, candidates, &found, &sets, &answers, level)?;
         if !questions.is_empty() {
             return Ok(Opened { level, questions });
         }

@@ -2,3 +2,4 @@ pub mod CandidateLemmas
 pub mod ReachLemmas
 pub mod LevelLemmas
 pub mod LeastLemmas
+pub mod IndexLemmas

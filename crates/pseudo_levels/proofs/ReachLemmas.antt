@@ -1,22 +1,20 @@
 -- Why larger candidates lead on. Let P be a set that is not closed and respects S and what was found, and let X be a set within P.
 -- Where X breaks a rule, X with its conclusion lies within P and is larger. Where X is closed, it is not P, so P has an
 -- attribute that X lacks, and X with that attribute lies within P.
-use Rattle.std.proofs.Common.{◌≡◌, ℕ, zero, suc, ◌+◌, ◌<◌, ◌≤◌, Bool, true, false, not, ◌&&◌, ◌||◌, cond, Option, Some, None, List, [], ◌∷◌, ◌++◌, map, length, filter, get_or, set, take, position, refl, sym, ap, ◌∙◌, subst, arith, inl, inr, eqb, eq-eqb, leb, le-leb, leb-true}
+use Rattle.std.proofs.Common.{◌≡◌, ℕ, zero, suc, ◌+◌, ◌<◌, ◌≤◌, Bool, true, false, not, ◌&&◌, ◌||◌, cond, Option, Some, None, List, [], ◌∷◌, ◌++◌, map, length, filter, get_or, set, take, refl, sym, ap, ◌∙◌, subst, arith, inl, inr, eqb, eq-eqb, leb, le-leb, leb-true}
 use Rattle.std.proofs.lemmas.Bool.{false≢true, and_parts, and_from, cases_Bool, cases_lt, or_cases, or_left, or_right}
 use Rattle.std.proofs.lemmas.List.{take_more, get_or_default}
-use Rattle.std.proofs.lemmas.List.Folds.{list_all-append, list_any-append}
+use Rattle.std.proofs.lemmas.List.Folds.{list_any-append}
 use Rattle.std.specs.List.{list_any}
 use Rattle.std.specs.Option.{is_some}
 use Rattle.fca_model.specs.Sets.{Set, size, within, join, same, strictly_within}
 use Rattle.fca_model.specs.Context.{Context, closure, is_closed}
 use Rattle.fca_model.specs.Implications.{Rule, rule, respects, respects_all}
 use Rattle.fca_model.specs.Levels.{absorbs_all}
-use Rattle.fca_model.proofs.SetLemmas.{within_antisymm, same-true, same_from, strictly-parts, size-set, set_within, lacks}
+use Rattle.fca_model.proofs.SetLemmas.{within_antisymm, within_trans, within-join, within-join_right, join_within, length-join, same-true, same_from, strictly-parts, strictly_from, size_strict, size-set, set_within, lacks}
 use Rattle.fca_model.proofs.ClosureLemmas.{respects_at}
-use Rattle.fca_model.proofs.ListLemmas.{implies_from, list_all-mono}
-use Rattle.implication_closure.specs.Closing.{HaveWidth}
-use Rattle.implication_closure.proofs.ClosingLemmas.{closes_within, closes_measure, position_none}
 use Rattle.pseudo_levels.specs.Search.{judged, Has, HasLarger, leads, Grows, IsSettled}
+use Rattle.pseudo_levels.specs.Index.{IsBroken}
 use Rattle.pseudo_levels.proofs.CandidateLemmas.{any_has}
 
 -- what leads on is larger, or of the size
@@ -52,6 +50,11 @@ right_of false true h = refl
 right_of false false h = absurd (false≢true h)
 right_of true b h = absurd (false≢true h)
 
+-- no answer
+pub none_from : {X : Type 0} (a : Option X) → is_some a ≡ false → a ≡ None
+none_from None h = refl
+none_from (Some x) h = absurd (false≢true (sym h))
+
 -- the answer at a place is that of the set there
 pub answer_at : (f : Set → Option Rule) (Xs : List Set) (answers : List (Option Rule)) (i : ℕ) (X : Set) (a : Option Rule) → answers ≡ map f Xs → i < length Xs → X ≡ get_or Xs i X → a ≡ get_or answers i a → a ≡ f X
 answer_at f Xs answers i X a e l x y = y ∙ ap (λ zs. get_or zs i a) e ∙ at Xs i l ∙ ap f (sym x)
@@ -60,15 +63,6 @@ answer_at f Xs answers i X a e l x y = y ∙ ap (λ zs. get_or zs i a) e ∙ at 
     at [] j h = absurd (omega arith)
     at (Y ∷ Ys) zero h = refl
     at (Y ∷ Ys) (suc j) h = at Ys j (omega arith)
-
--- where no rule is the first that X breaks, X respects all
-pub unbroken : (found : List Rule) (X : Set) → position (λ i. not (respects X i)) found ≡ None → respects_all found X ≡ true
-unbroken found X none =
-    list_all-mono (λ i. not (not (respects X i))) (respects X) (λ i h. twice (respects X i) h) found (position_none (λ i. not (respects X i)) found none)
-  where
-    twice : (b : Bool) → not (not b) ≡ true → b ≡ true
-    twice true h = refl
-    twice false h = absurd (false≢true h)
 
 module _ (S : List Rule) (K : Context) where
   -- a closed set within one that is not, with one attribute more
@@ -86,31 +80,36 @@ module _ (S : List Rule) (K : Context) where
 
   -- ---- one set
 
-  -- a set that respects all, and is no member of the basis, is closed
-  pub judged_none : (found : List Rule) (X : Set) → judged S K found X ≡ None → respects_all (S ++ found) X ≡ true → is_closed K X ≡ true
-  judged_none found X e r =
-      let both = and_parts (respects_all S X) (respects_all found X) (sym (list_all-append (respects X) S found) ∙ r) in
-      let absorbs : absorbs_all found X ≡ true = list_all-mono (respects X) (λ i. not (strictly_within i.premise X) || within i.conclusion X)
-      (λ i h. implies_from (strictly_within i.premise X) (within i.conclusion X) (λ s. respects_at X i h (strictly-parts i.premise X s).0)) found both.1 in
+  -- a set that takes in all conclusions below it, and is no member of the basis, is closed
+  judged_none : (found : List Rule) (X : Set) → judged S K found X ≡ None → respects_all S X ≡ true → absorbs_all found X ≡ true → is_closed K X ≡ true
+  judged_none found X e known absorbs =
       elim (cases_Bool (same (closure K X) X)) [
         | inl t ↦ same_from X (closure K X) (sym (same-true (closure K X) X t))
-        | inr f ↦ absurd (some_none (sym (ap (λ b. cond b (Some (rule X (closure K X))) None) (and_from (respects_all S X) (absorbs_all found X && not (same (closure K X) X)) both.0 (and_from (absorbs_all found X) (not (same (closure K X) X)) absorbs (ap not f)))) ∙ e))
+        | inr f ↦ absurd (some_none (sym (ap (λ b. cond b (Some (rule X (closure K X))) None) (and_from (respects_all S X) (absorbs_all found X && not (same (closure K X) X)) known (and_from (absorbs_all found X) (not (same (closure K X) X)) absorbs (ap not f)))) ∙ e))
       ]
     where
       some_none : {i : Rule} → Some i ≡ None → ⊥
       some_none e = cc
 
-  pub closed_settles : (k : ℕ) (found : List Rule) (X : Set) (Xs : List Set) → length X ≡ K.width → size X ≡ k → is_closed K X ≡ true → HasLarger X (length X) Xs → IsSettled S K k found (X ∷ []) Xs
-  closed_settles k found X Xs e s closed g P ep _ _ f lt h =
-      larger_leads X P k Xs e ep closed f (right_of (is_some (judged S K found X)) (within X P) h) (omega arith) (subst (λ n. HasLarger X n Xs) e g)
+  -- a set that breaks no member below it, with each attribute more
+  pub closed_settles : (found : List Rule) (X : Set) (Xs : List Set) → length X ≡ K.width → respects_all S X ≡ true → absorbs_all found X ≡ true → HasLarger X (length X) Xs
+      → judged S K found X ≡ None → IsSettled S K (size X) found (X ∷ []) Xs
+  closed_settles found X Xs e known absorbs g none P ep _ _ f lt h =
+      larger_leads X P (size X) Xs e ep (judged_none found X none known absorbs) f (right_of (is_some (judged S K found X)) (within X P) h) (omega arith) (subst (λ n. HasLarger X n Xs) e g)
 
   -- a set with the conclusion of a member that it breaks
-  pub broken_settles : (k i : ℕ) (found : List Rule) (X N : Set) (j : Rule) (Xs : List Set) → size X ≡ k → HaveWidth (length X) found → position (λ i. not (respects X i)) found ≡ Some i → j ≡ get_or found i j
-      → N ≡ join X j.conclusion → Has N Xs → IsSettled S K k found (X ∷ []) Xs
-  broken_settles k i found X N j Xs s w at is e has P _ _ ra _ _ h =
-      let inside = subst (λ Z. within Z P ≡ true) (sym e) (closes_within found X w X P i j at is (right_of (is_some (judged S K found X)) (within X P) h) ra) in
-      let larger = closes_measure found X w X N i j refl at is e in
-      leads_by (suc k) N P Xs has (omega arith) inside
+  pub broken_settles : (found : List Rule) (X N : Set) (i : Rule) (Xs : List Set) → length i.conclusion ≡ length X → IsBroken found X i → N ≡ join X i.conclusion → Has N Xs → IsSettled S K (size X) found (X ∷ []) Xs
+  broken_settles found X N i Xs wide b is has P _ _ ra _ _ h =
+      let inside : within X P ≡ true = right_of (is_some (judged S K found X)) (within X P) h in
+      let parts = and_parts (strictly_within i.premise X) (not (within i.conclusion X)) b.broken in
+      let taken : within i.conclusion P ≡ true = respects_at P i (b.member (respects P) ra) (within_trans i.premise X P (strictly-parts i.premise X parts.0).0 inside) in
+      let more : size X < size N = size_strict X N (sym (ap length is ∙ length-join X i.conclusion)) (strictly_from X N (ap (within X) is ∙ within-join X i.conclusion)
+      (λ e. true_false (sym (ap (within i.conclusion) is ∙ within-join_right X i.conclusion (sym wide)) ∙ ap (within i.conclusion) (sym e)) parts.1)) in
+      leads_by (suc (size X)) N P Xs has (omega arith) (subst (λ Z. within Z P ≡ true) (sym is) (join_within X i.conclusion P inside taken))
+    where
+      true_false : {b : Bool} → true ≡ b → not b ≡ true → ⊥
+      true_false {b = true} e h = false≢true h
+      true_false {b = false} e h = false≢true (sym e)
 
   member_settles : (k : ℕ) (found : List Rule) (X : Set) (Xs : List Set) → is_some (judged S K found X) ≡ true → IsSettled S K k found (X ∷ []) Xs
   member_settles k found X Xs e P _ _ _ _ _ h = absurd (false≢true (none (is_some (judged S K found X)) (within X P) e h))

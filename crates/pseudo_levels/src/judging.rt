@@ -1,9 +1,9 @@
 //! Which candidates are members of the basis, by the members of smaller size.
 
 ghost use Rattle.std.specs.Prelude.{◌≡◌, [], IfOk, map};
-ghost use Rattle.fca_model.specs.Levels.{absorbs_all};
 ghost use Rattle.pseudo_levels.specs.Search.{judged};
 
+use crate::MemberIndex;
 use attr_bits::Attrs;
 use derivation::Rows;
 use fca_model::Memory;
@@ -22,24 +22,25 @@ pub fn level<R: Threads + Sync>(
 ) -> Result<Vec<Option<Implication>>, Memory>
     ensures { IfOk result (λ answers. answers.items ≡ map (judged [] rows.now smaller.now.members) candidates.now) }
 {
-    judge_in_threads(rt, alloc, rows, smaller.as_slice(), candidates)
+    let smaller = MemberIndex::of(alloc, smaller)?;
+    judge_in_threads(rt, alloc, rows, &smaller, candidates)
 }
 
-/// The same, over a slice.
-fn judge_in_threads<R: Threads + Sync>(
+/// The same, by an index.
+pub(crate) fn judge_in_threads<R: Threads + Sync>(
     rt: &R,
     alloc: Global,
     rows: &Rows,
-    smaller: &[Implication],
+    smaller: &MemberIndex,
     candidates: &[Attrs],
 ) -> Result<Vec<Option<Implication>>, Memory>
-    ensures { IfOk result (λ answers. answers.items ≡ map (judged [] rows.now smaller.now) candidates.now) }
+    ensures { IfOk result (λ answers. answers.items ≡ map (judged [] rows.now smaller.now.members) candidates.now) }
 {
     let answers = candidates
         .par_iter()
         .map(
             |set: &Attrs| -> Option<Implication>
-                ensures { result ≡ judged [] rows.entry.now smaller.entry.now set.now }
+                ensures { result ≡ judged [] rows.entry.now smaller.entry.now.members set.now }
             { judge(rows, smaller, set) },
         )
         .with_min_len(1)
@@ -54,10 +55,10 @@ fn judge_in_threads<R: Threads + Sync>(
 pub fn judge_all(
     alloc: Global,
     rows: &Rows,
-    smaller: &[Implication],
+    smaller: &MemberIndex,
     candidates: &[Attrs],
 ) -> Result<Vec<Option<Implication>>, Memory>
-    ensures { IfOk result (λ answers. answers.items ≡ map (judged [] rows.now smaller.now) candidates.now) }
+    ensures { IfOk result (λ answers. answers.items ≡ map (judged [] rows.now smaller.now.members) candidates.now) }
 {
     Ok(
         candidates
@@ -67,25 +68,16 @@ pub fn judge_all(
     )
 }
 
-/// The set's implication to its closure, where it is a member of the basis by the smaller ones. Most sets are closed, which is seen
-/// without a look at the members.
-pub(crate) fn judge(rows: &Rows, smaller: &[Implication], set: &Attrs) -> Option<Implication>
-    ensures { result ≡ judged [] rows.now smaller.now set.now }
+/// The set's implication to its closure, where it is a member of the basis by the smaller ones.
+pub(crate) fn judge(rows: &Rows, smaller: &MemberIndex, set: &Attrs) -> Option<Implication>
+    ensures { result ≡ judged [] rows.now smaller.now.members set.now }
 {
     let closure = rows.closure(set);
-    if closure == *set || !absorbs_all(smaller, set) {
+    if closure == *set || smaller.broken(set).is_some() {
         return None;
     }
     Some(Implication {
         premise: *set,
         conclusion: closure,
     })
-}
-
-/// Whether the set takes in the conclusion of each premise that lies strictly within it.
-fn absorbs_all(smaller: &[Implication], set: &Attrs) -> bool
-    ensures { result ≡ absorbs_all smaller.now set.now }
-{
-    smaller.iter().all(|i| !(i.premise.within(set) && i.premise != *set)
-        || i.conclusion.within(set))
 }

@@ -4,6 +4,7 @@
 
 mod candidates;
 mod judging;
+mod member_index;
 mod settling;
 
 ghost use Rattle.std.specs.Prelude.{◌≡◌, [], IfOk, map};
@@ -15,7 +16,9 @@ pub use candidates::Candidates;
 use derivation::Rows;
 use fca_model::Memory;
 use implication_closure::{Implication, ImplicationList};
+use judging::judge_in_threads;
 pub use judging::{judge_all, level};
+pub use member_index::MemberIndex;
 pub use settling::open_level;
 use std::alloc::Global;
 use std::thread::Threads;
@@ -29,17 +32,17 @@ pub fn basis_by_levels<R: Threads + Sync>(
     ensures members { IfOk result (λ basis. basis ≡ record { width = rows.now.width; members = by_size [] rows.now }) }
     ensures least { IfOk result (λ basis. IsLeastBasis rows.now basis.members) }
 {
-    let mut found = ImplicationList::new(alloc, rows.width())?;
+    let mut found = MemberIndex::new(alloc, rows.width())?;
     let mut candidates = Candidates::new(alloc, rows.width())?;
     for size in 0..rows.width() + 1 {
         let sets = candidates.of_size(alloc, size)?;
-        let answers = level(rt, alloc, rows, &found, &sets)?;
-        let members = open_level(alloc, &mut candidates, rows, &found, &sets, &answers, size)?;
+        let answers = judge_in_threads(rt, alloc, rows, &found, &sets)?;
+        let members = open_level(alloc, &mut candidates, &found, &sets, &answers, size)?;
         let closures = conclusions(alloc, &members)?;
         candidates.grow_all(&closures)?;
         found.extend_from_slice(&members)?;
     }
-    Ok(found)
+    Ok(found.into_list())
 }
 
 /// The conclusion of each implication.

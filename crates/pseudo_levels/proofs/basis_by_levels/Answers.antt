@@ -2,7 +2,7 @@ use Rattle.std.proofs.Common.{◌∙◌, ◌∷◌, ◌++◌, [], ap, sym, subst
 use Rattle.fca_model.specs.Implications.{Rule}
 use Rattle.fca_model.specs.Levels.{by_size}
 use Rattle.implication_closure.specs.Closing.{RuleList, HaveWidth}
-use Rattle.pseudo_levels.specs.Search.{HaveLarger}
+use Rattle.pseudo_levels.specs.Search.{judged, AreWide, HaveLarger, IsOpened}
 use Rattle.pseudo_levels.proofs.LevelLemmas.{levels_none, levels_next, levels_all, leads_first, leads_more, first_wide, found_below, members_wide, conclusions_grow}
 use Rattle.pseudo_levels.proofs.LeastLemmas.{by_size_least, list_is}
 use Rattle.pseudo_levels.proofs.basis_by_levels.Goals as goal
@@ -17,38 +17,44 @@ loop-size-init g c =
       wide = first_wide c.args.rows.now c.in_ok-candidates.candidates first;
     }
 
-pub open_level-requires-clause-below : goal.open_level-requires-clause-below
-open_level-requires-clause-below g c = found_below [] c.args.rows.now c.loop-size.size c.loop-size.found.members c.loop-size.invariant.members
-
 pub extend_from_slice-requires : goal.extend_from_slice-requires
 extend_from_slice-requires g c =
-    subst (λ n. HaveWidth n c.deref-in-loop-size-5.result.now) (sym c.loop-size.invariant.width) (subst (λ ms. HaveWidth c.args.rows.now.width ms) (sym c.deref-in-loop-size-5.ensures.value)
-    (members_wide [] c.args.rows.now c.loop-size.size c.in_ok-members.members.items c.in_ok-members.ensures.opened.members_are))
+    let K = c.args.rows.now in
+    let k = c.loop-size.size in
+    let found = c.loop-size.found.members in
+    let answers = c.deref-in-loop-size-2.ensures.value ∙ c.in_ok-answers.ensures ∙ ap (map (judged [] K found)) (c.deref.ensures.value ∙ sym c.deref-in-loop-size.ensures.value) in
+    let opened : IsOpened [] K k found c.in_ok-members.members.items c.open_level.new.candidates = c.in_ok-members.ensures.opened K (sym c.loop-size.invariant.width)
+    (found_below [] K k found c.loop-size.invariant.members) c.loop-size.invariant.leads_all answers in
+    subst (λ n. HaveWidth n c.deref-in-loop-size-5.result.now) (sym c.loop-size.invariant.width) (subst (λ ms. HaveWidth K.width ms) (sym c.deref-in-loop-size-5.ensures.value)
+    (members_wide [] K k c.in_ok-members.members.items opened.members_are))
 
 pub loop-size-preserved : goal.loop-size-preserved
 loop-size-preserved g c =
     let K = c.args.rows.now in
     let k = c.loop-size.size in
     let found = c.loop-size.found.members in
-    let opened = c.in_ok-members.ensures.opened in
+    let width = c.loop-size.invariant.width in
+    let below = found_below [] K k found c.loop-size.invariant.members in
+    let answers = c.deref-in-loop-size-2.ensures.value ∙ c.in_ok-answers.ensures ∙ ap (map (judged [] K found)) (c.deref.ensures.value ∙ sym c.deref-in-loop-size.ensures.value) in
     let mid = c.open_level.new.candidates in
     let new = c.grow_all.new.self in
     let members = c.in_ok-members.members.items in
+    let opened : IsOpened [] K k found members mid = c.in_ok-members.ensures.opened K (sym width) below c.loop-size.invariant.leads_all answers in
     let closures = c.deref-in-loop-size-4.ensures.value ∙ c.in_ok-closures.ensures ∙ ap (map (λ (i : Rule). i.conclusion)) c.deref-in-loop-size-3.ensures.value in
     let grows = conclusions_grow [] K k members c.deref-in-loop-size-4.result.now mid new opened.members_are closures c.grow_all.ensures.grows in
     let more = ap (λ (l : RuleList). l.members) c.in_ok-extend_from_slice.ensures.ok ∙ ap (λ ms. found ++ ms) c.deref-in-loop-size-5.ensures.value in
     record {
-      width = ap (λ (l : RuleList). l.width) c.in_ok-extend_from_slice.ensures.ok ∙ c.loop-size.invariant.width;
+      width = ap (λ (l : RuleList). l.width) c.in_ok-extend_from_slice.ensures.ok ∙ width;
       members = levels_next [] K k found members c.extend_from_slice.new.self.members c.loop-size.invariant.members opened.members_are more;
-      leads_all = leads_more [] K k found members c.extend_from_slice.new.self.members mid new (found_below [] K k found c.loop-size.invariant.members) opened
+      leads_all = leads_more [] K k found members c.extend_from_slice.new.self.members mid new below opened
           (subst (λ Cs. HaveLarger Cs new) closures c.in_ok-grow_all.ensures.grown) grows more;
-      wide = grows.wide (c.open_level.ensures.grows.wide c.loop-size.invariant.wide);
+      wide = grows.wide (subst (λ n. AreWide n mid) width (c.open_level.ensures.grows.wide (subst (λ n. AreWide n c.loop-size.candidates) (sym width) c.loop-size.invariant.wide)));
     }
 
 pub returns-clause-members : goal.returns-clause-members
 returns-clause-members g c =
-    list_is c.loop-size.found c.args.rows.now.width (by_size [] c.args.rows.now) c.loop-size.invariant.width
+    c.into_list.ensures ∙ list_is c.loop-size.found c.args.rows.now.width (by_size [] c.args.rows.now) c.loop-size.invariant.width
     (levels_all [] c.args.rows.now c.loop-size.size c.loop-size.found.members (omega (arith, c.width-size-end.ensures.width)) c.loop-size.invariant.members)
 
 pub returns-clause-least : goal.returns-clause-least
-returns-clause-least g c = by_size_least c.args.rows.now c.loop-size.found.members (levels_all [] c.args.rows.now c.loop-size.size c.loop-size.found.members (omega (arith, c.width-size-end.ensures.width)) c.loop-size.invariant.members)
+returns-clause-least g c = by_size_least c.args.rows.now c.into_list.result.members (ap (λ (l : RuleList). l.members) c.into_list.ensures ∙ levels_all [] c.args.rows.now c.loop-size.size c.loop-size.found.members (omega (arith, c.width-size-end.ensures.width)) c.loop-size.invariant.members)

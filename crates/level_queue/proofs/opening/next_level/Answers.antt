@@ -1,7 +1,8 @@
-use Rattle.std.proofs.Common.{◌≡◌, ◌∙◌, ◌+◌, [], sym, subst, arith, vec_len}
+use Rattle.std.proofs.Common.{◌≡◌, ◌∙◌, ◌+◌, [], map, sym, ap, subst, arith, vec_len}
 use Rattle.pseudo_levels.proofs.CandidateLemmas.{grows_trans}
+use Rattle.pseudo_levels.specs.Search.{judged}
 use Rattle.level_queue.specs.Queue.{IsQueue}
-use Rattle.level_queue.proofs.OpenLemmas.{opened_queue, queue_open, done_below, done_leads, past_queue, past_open, is_nil, not_nil}
+use Rattle.level_queue.proofs.OpenLemmas.{opened_by_index, grows_by_index, opened_queue, queue_open, done_below, done_leads, past_queue, past_open, is_nil, not_nil}
 use Rattle.level_queue.proofs.opening.next_level.Goals as goal
 
 pub returns-then-not-is_empty-clause-opened : goal.returns-then-not-is_empty-clause-opened
@@ -11,7 +12,11 @@ returns-then-not-is_empty-clause-opened c =
     let k = c.loop-level.level in
     let new = c.open_level.new.candidates in
     let qs = c.in_ok-questions.questions in
-    let queue = opened_queue [] K k acc qs.items new c.loop-level.invariant.below c.in_ok-questions.ensures.opened (c.open_level.ensures.grows.wide c.loop-level.invariant.wide) in
+    let answers = c.deref-in-loop-level-2.ensures.value ∙ c.in_ok-answers.ensures ∙ ap (map (judged [] K c.in_ok-found.found.members)) (c.deref.ensures.value ∙ sym c.deref-in-loop-level.ensures.value) in
+    let opened = opened_by_index K k c.args.accepted.now c.in_ok-found.found c.loop-level.candidates new c.deref-in-loop-level.result.now c.deref-in-loop-level-2.result.now qs.items
+    c.in_ok-found.ensures c.requires.accepted c.loop-level.invariant.below c.loop-level.invariant.leads_all answers c.in_ok-questions.ensures.opened in
+    let grows = grows_by_index K c.args.accepted.now c.in_ok-found.found c.loop-level.candidates new c.in_ok-found.ensures c.requires.accepted c.open_level.ensures.grows in
+    let queue = opened_queue [] K k acc qs.items new c.loop-level.invariant.below opened (grows.wide c.loop-level.invariant.wide) in
     record {
       accepted = c.requires.accepted;
       queue = queue;
@@ -26,13 +31,17 @@ loop-level-preserved c =
     let k = c.loop-level.level in
     let new = c.open_level.new.candidates in
     let qs = c.in_ok-questions.questions in
-    let queue = opened_queue [] K k acc qs.items new c.loop-level.invariant.below c.in_ok-questions.ensures.opened (c.open_level.ensures.grows.wide c.loop-level.invariant.wide) in
+    let answers = c.deref-in-loop-level-2.ensures.value ∙ c.in_ok-answers.ensures ∙ ap (map (judged [] K c.in_ok-found.found.members)) (c.deref.ensures.value ∙ sym c.deref-in-loop-level.ensures.value) in
+    let opened = opened_by_index K k c.args.accepted.now c.in_ok-found.found c.loop-level.candidates new c.deref-in-loop-level.result.now c.deref-in-loop-level-2.result.now qs.items
+    c.in_ok-found.ensures c.requires.accepted c.loop-level.invariant.below c.loop-level.invariant.leads_all answers c.in_ok-questions.ensures.opened in
+    let grows = grows_by_index K c.args.accepted.now c.in_ok-found.found c.loop-level.candidates new c.in_ok-found.ensures c.requires.accepted c.open_level.ensures.grows in
+    let queue = opened_queue [] K k acc qs.items new c.loop-level.invariant.below opened (grows.wide c.loop-level.invariant.wide) in
     let none = is_nil qs.items (vec_len qs) qs.ok.0 c.is_empty.result c.is_empty.ensures c.if-not-is_empty.false in
     record {
       below = done_below [] K k acc qs.items new queue none;
       leads_all = done_leads [] K k acc qs.items new queue none;
       wide = queue.wide;
-      grows = grows_trans K.width c.args.candidates.now c.loop-level.candidates new c.loop-level.invariant.grows c.open_level.ensures.grows;
+      grows = grows_trans K.width c.args.candidates.now c.loop-level.candidates new c.loop-level.invariant.grows grows;
     }
 
 pub returns-clause-opened : goal.returns-clause-opened

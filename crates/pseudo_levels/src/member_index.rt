@@ -1,0 +1,205 @@
+//! The members found so far, by the first two attributes of their premises.
+
+ghost use Rattle.std.specs.Prelude.{◌≡◌, ℕ, suc, ◌+◌, ◌*◌, ◌<◌, ◌≤◌, ◌++◌, ◌∷◌, [], true, false, map, length, OnOk, OnErr, IfOk, IfSome, MatchOption, slice_index_or, find};
+ghost use Rattle.fca_model.specs.Implications.{Rule};
+ghost use Rattle.fca_model.specs.Levels.{absorbs_all};
+ghost use Rattle.implication_closure.specs.Closing.{RuleList, HaveWidth};
+ghost use Rattle.pseudo_levels.specs.Index.{IsBroken, IsBrokenIn, IsPut, breaks_below, bucket, meets};
+
+use attr_bits::Attrs;
+use fca_model::{MAX_ATTRIBUTES, Memory};
+use implication_closure::{Implication, ImplicationList};
+use std::alloc::Global;
+use std::marker::Model;
+
+/// A list of implications, each also in the bucket of the first two attributes of its premise. A
+/// set breaks only members whose two attributes it has, and looks into no other bucket.
+#[derive(Drop)]
+pub struct MemberIndex {
+    alloc: Global,
+    list: ImplicationList,
+    buckets: Vec<Vec<Implication>>,
+}
+
+impl Model for MemberIndex {
+    ghost use Rattle.std.specs.Prelude.{map};
+    ghost use Rattle.implication_closure.specs.Closing.{RuleList};
+    ghost use Rattle.pseudo_levels.specs.Index.{IsFiled};
+
+    ghost Value = { RuleList };
+
+    ghost view = { λ a. a.list };
+
+    ghost invariant = { λ a. IsFiled a.list.members (map (λ v. v.items) a.buckets.items) };
+}
+
+impl MemberIndex {
+    /// The index of no implications, between sets of width n.
+    pub fn new(alloc: Global, n: u32) -> Result<MemberIndex, Memory>
+        requires { n ≤ MAX_ATTRIBUTES }
+        ensures { IfOk result (λ index. index ≡ record { width = n; members = [] }) }
+    {
+        Ok(MemberIndex {
+            alloc,
+            list: ImplicationList::new(alloc, n)?,
+            buckets: Vec::new(alloc),
+        })
+    }
+
+    /// The index of the implications of the list.
+    pub fn of(alloc: Global, list: &ImplicationList) -> Result<MemberIndex, Memory>
+        ensures { IfOk result (λ index. index ≡ list.now) }
+    {
+        let mut index = MemberIndex::new(alloc, list.width())?;
+        index.extend_from_slice(list.as_slice())?;
+        Ok(index)
+    }
+
+    /// Puts the implication last.
+    pub fn push(&mut self, i: Implication) -> Result<(), Memory>
+        requires premise { length i.premise ≡ self.old.width }
+        requires conclusion { length i.conclusion ≡ self.old.width }
+        ensures ok { OnOk result (self.new ≡ record self.old { members = self.old.members ++ i ∷ [] }) }
+        ensures err { OnErr result (self.new ≡ self.old) }
+    {
+        self.list.push(i)?;
+        match file(self.alloc, &mut self.buckets, &i) {
+            Ok(()) => Ok(()),
+            Err(error) => {
+                self.list.pop();
+                Err(error)
+            }
+        }
+    }
+
+    /// Puts the implications last; where memory is refused, some of them may be there.
+    pub fn extend_from_slice(&mut self, more: &[Implication]) -> Result<(), Memory>
+        requires { HaveWidth self.old.width more.now }
+        ensures ok { OnOk result (self.new ≡ record self.old { members = self.old.members ++ more.now }) }
+        ensures width { self.new.width ≡ self.old.width }
+    {
+        for i in more {
+            self.push(*i)?;
+        }
+        Ok(())
+    }
+
+    /// The implications, in the order in which they were pushed.
+    pub fn into_list(self) -> ImplicationList
+        ensures { result ≡ self }
+    {
+        self.list
+    }
+
+    /// A member whose premise lies strictly within the set and whose conclusion does not.
+    pub fn broken(&self, set: &Attrs) -> Option<Implication>
+        ensures broken { MatchOption result (absorbs_all self.now.members set.now ≡ true) (λ i. IsBroken self.now.members set.now i) }
+        ensures wide { IfSome result (λ i. length i.conclusion ≡ self.now.width) }
+    {
+        let _width = self.list.width();
+        if let Some(i) = broken_in(&self.buckets, 0, set) {
+            return Some(i);
+        }
+        broken_by_pairs(&self.buckets, set)
+    }
+}
+
+/// Puts the implication into a bucket whose attributes its premise has.
+fn file(alloc: Global, buckets: &mut Vec<Vec<Implication>>, i: &Implication) -> Result<(), Memory>
+    ensures ok { OnOk result (IsPut (map (λ v. v.items) buckets.old.items) (map (λ v. v.items) buckets.new.items) i.now) }
+    ensures err { OnErr result ((s : ℕ) → bucket s (map (λ v. v.items) buckets.new.items) ≡ bucket s (map (λ v. v.items) buckets.old.items)) }
+{
+    let place = bucket_of(&i.premise);
+    make_room(alloc, buckets, place)?;
+    buckets[place].push(*i)?;
+    Ok(())
+}
+
+/// Puts empty buckets last until there is one at the place.
+fn make_room(alloc: Global, buckets: &mut Vec<Vec<Implication>>, place: usize) -> Result<(), Memory>
+    requires { place ≤ MAX_ATTRIBUTES * MAX_ATTRIBUTES }
+    ensures room { OnOk result (place < length buckets.new.items) }
+    ensures same { (s : ℕ) → bucket s (map (λ v. v.items) buckets.new.items) ≡ bucket s (map (λ v. v.items) buckets.old.items) }
+{
+    for _ in buckets.len()..place + 1 {
+        buckets.push(Vec::new(alloc))?;
+    }
+    Ok(())
+}
+
+/// The bucket of the first two attributes of a premise, of which the second is the first where there is one alone.
+fn bucket_of(premise: &Attrs) -> usize
+    ensures met { meets result premise.now ≡ true }
+    ensures in_range { result ≤ MAX_ATTRIBUTES * MAX_ATTRIBUTES }
+{
+    let _width = premise.width();
+    let Some(first) = premise.next_member(0) else {
+        return 0;
+    };
+    match premise.next_member(first + 1) {
+        Some(second) => bucket_of_pair(first, second),
+        None => bucket_of_pair(first, first),
+    }
+}
+
+/// The bucket of two attributes.
+fn bucket_of_pair(first: u32, second: u32) -> usize
+    ensures { result ≡ suc (MAX_ATTRIBUTES * first + second) }
+{
+    MAX_ATTRIBUTES as usize * first as usize + second as usize + 1
+}
+
+/// An implication that the set breaks, of a bucket of two of its attributes.
+fn broken_by_pairs(buckets: &[Vec<Implication>], set: &Attrs) -> Option<Implication>
+    ensures { MatchOption result
+        ((a b : ℕ) → a ≤ b → slice_index_or set.now a false ≡ true → slice_index_or set.now b false ≡ true → absorbs_all (bucket (suc (MAX_ATTRIBUTES * a + b)) (map (λ v. v.items) buckets.now)) set.now ≡ true)
+        (λ i. IsBrokenIn (map (λ v. v.items) buckets.now) set.now i) }
+{
+    let _width = set.width();
+    let mut from = 0;
+    while let Some(first) = set.next_member(from) {
+        if let Some(i) = broken_by_first(buckets, first, set) {
+            return Some(i);
+        }
+        from = first + 1;
+    }
+    None
+}
+
+/// An implication that the set breaks, of a bucket of this attribute and a later one.
+fn broken_by_first(buckets: &[Vec<Implication>], first: u32, set: &Attrs) -> Option<Implication>
+    requires { first < length set.now }
+    ensures { MatchOption result
+        ((b : ℕ) → first ≤ b → slice_index_or set.now b false ≡ true → absorbs_all (bucket (suc (MAX_ATTRIBUTES * first + b)) (map (λ v. v.items) buckets.now)) set.now ≡ true)
+        (λ i. IsBrokenIn (map (λ v. v.items) buckets.now) set.now i) }
+{
+    let _width = set.width();
+    let mut from = first;
+    while let Some(second) = set.next_member(from) {
+        if let Some(i) = broken_in(buckets, bucket_of_pair(first, second), set) {
+            return Some(i);
+        }
+        from = second + 1;
+    }
+    None
+}
+
+/// The first implication of a bucket that the set breaks.
+fn broken_in(buckets: &[Vec<Implication>], place: usize, set: &Attrs) -> Option<Implication>
+    ensures { result ≡ find (breaks_below set.now) (bucket place (map (λ v. v.items) buckets.now)) }
+{
+    if place < buckets.len() {
+        first_broken(&buckets[place], set)
+    } else {
+        None
+    }
+}
+
+/// The first implication that the set breaks.
+fn first_broken(members: &[Implication], set: &Attrs) -> Option<Implication>
+    ensures { result ≡ find (breaks_below set.now) members.now }
+{
+    members.iter().copied().find(|i| {
+        i.premise.within(set) && !i.conclusion.within(set) && i.premise != *set
+    })
+}
