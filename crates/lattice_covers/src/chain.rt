@@ -89,7 +89,9 @@ pub(crate) fn closure_if_allowed(
     if !allowed.has(link.implied[i as usize]) {
         return None;
     }
-    let closed = link.above.closure(&link.intent.with(i));
+    let mut larger = link.intent;
+    larger.insert(i);
+    let closed = link.above.closure(&larger);
     match closed.first_missing(allowed) {
         None => Some(closed),
         Some(further) => {

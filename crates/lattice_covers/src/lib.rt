@@ -47,13 +47,15 @@ fn find_neighbours(neighbours: &mut Vec<Attrs>, rows: &Rows, link: &mut Link) ->
 {
     neighbours.clear();
     let mut settled = link.intent;
+    let mut allowed = link.intent;
     for i in (0..rows.width()).rev() {
         if !link.intent.has(i) {
-            let allowed = settled.with(i);
+            allowed.insert(i);
             if let Some(closed) = closure_if_allowed(rows, link, i, &allowed) {
                 neighbours.push(closed)?;
+                allowed = settled;
             } else {
-                settled = allowed;
+                settled.insert(i);
             }
         }
     }

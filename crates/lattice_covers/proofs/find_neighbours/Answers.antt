@@ -5,8 +5,8 @@ use Rattle.lattice_covers.proofs.CandidateLemmas.{IsReached, reached_at_member, 
 use Rattle.lattice_covers.proofs.CoverLemmas.{they_are_covers}
 use Rattle.lattice_covers.proofs.find_neighbours.Goals as goal
 
-pub loop-i-preserved-in-Continue-1 : goal.loop-i-preserved-in-Continue-1
-loop-i-preserved-in-Continue-1 c =
+pub loop-i-preserved-in-Some : goal.loop-i-preserved-in-Some
+loop-i-preserved-in-Some c =
     let K : Context = c.args.rows.now in
     let A : Set = c.args.link.now.intent in
     let L : Set = c.loop-i.settled in
@@ -15,11 +15,13 @@ loop-i-preserved-in-Continue-1 c =
     let same_intent : c.loop-i.link.intent ≡ A = c.loop-i.invariant.intent in
     let lacks : get_or A i false ≡ false = ap (λ (B : Set). get_or B i false) (sym same_intent) ∙ sym c.has.ensures ∙ c.if-not-has.true in
     let closed : c.in-Some.closed ≡ closure K (set A i true) = c.in-Some.ensures.closed.0 ∙ ap (λ (B : Set). closure K (set B i true)) same_intent in
-    let settled : within c.in-Some.closed (set L i true) ≡ true = ap (within c.in-Some.closed) (sym c.with-allowed.ensures) ∙ c.in-Some.ensures.closed.1 in
+    let allowed : c.insert.new.self ≡ set L i true = c.insert.ensures ∙ ap (λ (B : Set). set B i true) c.loop-i.invariant.allowed in
+    let settled : within c.in-Some.closed (set L i true) ≡ true = ap (within c.in-Some.closed) (sym allowed) ∙ c.in-Some.ensures.closed.1 in
     record {
       inside = omega (arith, c.loop-i.invariant.inside);
       link = c.closure_if_allowed.ensures.link;
       intent = c.closure_if_allowed.ensures.intent ∙ same_intent;
+      allowed = refl;
       reached = subst (λ (Cs : List Set). IsReached K A i L Cs) (sym c.in_ok-push.ensures.items)
           (reached_with K A i c.loop-i.i e c.requires.wide c.loop-i.invariant.inside L c.loop-i.neighbours.items c.loop-i.invariant.reached lacks c.in-Some.closed closed settled);
     }
@@ -33,13 +35,15 @@ loop-i-preserved-in_default c =
     let e : c.loop-i.i ≡ suc i = omega arith in
     let same_intent : c.loop-i.link.intent ≡ A = c.loop-i.invariant.intent in
     let lacks : get_or A i false ≡ false = ap (λ (B : Set). get_or B i false) (sym same_intent) ∙ sym c.has.ensures ∙ c.if-not-has.true in
+    let allowed : c.insert.new.self ≡ set L i true = c.insert.ensures ∙ ap (λ (B : Set). set B i true) c.loop-i.invariant.allowed in
     let other : within (closure K (set A i true)) (set L i true) ≡ false =
-    ap (λ (B : Set). within (closure K (set B i true)) (set L i true)) (sym same_intent) ∙ ap (within (closure K (set c.loop-i.link.intent i true))) (sym c.with-allowed.ensures) ∙ c.in_default.ensures.closed in
+    ap (λ (B : Set). within (closure K (set B i true)) (set L i true)) (sym same_intent) ∙ ap (within (closure K (set c.loop-i.link.intent i true))) (sym allowed) ∙ c.in_default.ensures.closed in
     record {
       inside = omega (arith, c.loop-i.invariant.inside);
       link = c.closure_if_allowed.ensures.link;
       intent = c.closure_if_allowed.ensures.intent ∙ same_intent;
-      reached = subst (λ (M : Set). IsReached K A i M c.loop-i.neighbours.items) (sym c.with-allowed.ensures)
+      allowed = allowed ∙ sym c.insert-in_default.ensures;
+      reached = subst (λ (M : Set). IsReached K A i M c.loop-i.neighbours.items) (sym c.insert-in_default.ensures)
           (reached_without K A i c.loop-i.i e c.requires.wide c.loop-i.invariant.inside L c.loop-i.neighbours.items c.loop-i.invariant.reached lacks (closure K (set A i true)) refl other);
     }
 
@@ -53,6 +57,7 @@ loop-i-preserved c =
       inside = omega (arith, c.loop-i.invariant.inside);
       link = c.loop-i.invariant.link;
       intent = c.loop-i.invariant.intent;
+      allowed = c.loop-i.invariant.allowed;
       reached = reached_at_member K A i c.loop-i.i e c.requires.wide c.loop-i.invariant.inside c.loop-i.settled c.loop-i.neighbours.items c.loop-i.invariant.reached
           (ap (λ (B : Set). get_or B i false) (sym c.loop-i.invariant.intent) ∙ sym c.has.ensures ∙ c.if-not-has.false);
     }

@@ -8,5 +8,6 @@ invariant-loop-i l = record {
   inside : l.i ≤ l.rows.width;
   link : IsLink l.rows l.link;
   intent : l.link.intent ≡ l.initial.link.intent;
+  allowed : l.allowed ≡ l.settled;
   reached : IsReached l.rows l.initial.link.intent l.i l.settled l.neighbours.items;
 }

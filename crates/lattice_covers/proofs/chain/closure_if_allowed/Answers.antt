@@ -33,14 +33,14 @@ pub returns-in-None-clause-closed : goal.returns-in-None-clause-closed
 returns-in-None-clause-closed c =
     let K : Context = c.args.rows.now in
     let A : Set = c.args.link.now.intent in
-    let closed : c.closure-closed.result ≡ closure K (set A c.args.i true) = c.closure-closed.ensures ∙ closure_above K A c.args.i (omega (arith, c.requires.wide, c.requires.inside)) c.with.result c.with.ensures c.args.link.now.above c.requires.link.above in
+    let closed : c.closure-closed.result ≡ closure K (set A c.args.i true) = c.closure-closed.ensures ∙ closure_above K A c.args.i (omega (arith, c.requires.wide, c.requires.inside)) c.insert.new.self c.insert.ensures c.args.link.now.above c.requires.link.above in
     (closed, first_missing_none 0 c.closure-closed.result c.args.allowed.now (sym c.first_missing.ensures ∙ c.in-None.is))
 
 pub returns-in-Some-clause-closed : goal.returns-in-Some-clause-closed
 returns-in-Some-clause-closed c =
     let K : Context = c.args.rows.now in
     let A : Set = c.args.link.now.intent in
-    let closed : c.closure-closed.result ≡ closure K (set A c.args.i true) = c.closure-closed.ensures ∙ closure_above K A c.args.i (omega (arith, c.requires.wide, c.requires.inside)) c.with.result c.with.ensures c.args.link.now.above c.requires.link.above in
+    let closed : c.closure-closed.result ≡ closure K (set A c.args.i true) = c.closure-closed.ensures ∙ closure_above K A c.args.i (omega (arith, c.requires.wide, c.requires.inside)) c.insert.new.self c.insert.ensures c.args.link.now.above c.requires.link.above in
     let further = first_missing-parts c.closure-closed.result c.args.allowed.now c.in-Some.further (sym c.first_missing.ensures ∙ c.in-Some.is) in
     not_within_at (closure K (set A c.args.i true)) c.args.allowed.now c.in-Some.further (subst (λ (D : Set). get_or D c.in-Some.further false ≡ true) closed further.0) further.1
 
@@ -48,7 +48,7 @@ pub returns-in-Some-clause-link : goal.returns-in-Some-clause-link
 returns-in-Some-clause-link c =
     let K : Context = c.args.rows.now in
     let A : Set = c.args.link.now.intent in
-    let closed : c.closure-closed.result ≡ closure K (set A c.args.i true) = c.closure-closed.ensures ∙ closure_above K A c.args.i (omega (arith, c.requires.wide, c.requires.inside)) c.with.result c.with.ensures c.args.link.now.above c.requires.link.above in
+    let closed : c.closure-closed.result ≡ closure K (set A c.args.i true) = c.closure-closed.ensures ∙ closure_above K A c.args.i (omega (arith, c.requires.wide, c.requires.inside)) c.insert.new.self c.insert.ensures c.args.link.now.above c.requires.link.above in
     let further = first_missing-parts c.closure-closed.result c.args.allowed.now c.in-Some.further (sym c.first_missing.ensures ∙ c.in-Some.is) in
     record {
       above = c.requires.link.above;
