@@ -1,11 +1,13 @@
--- The rows that contain A are among those that contain a part of A.
-use Rattle.std.proofs.Common.{◌≡◌, true, ◌&&◌, cond, List, [], ◌∷◌, filter, refl, ap, ap₂, ◌∙◌}
-use Rattle.std.proofs.lemmas.Bool.{and_parts, and_from}
+-- The rows that contain A are among those that contain a part L of A, and the closure of A with an attribute contains that of L with it.
+use Rattle.std.proofs.Common.{◌≡◌, ℕ, ◌<◌, true, false, ◌&&◌, cond, List, [], ◌∷◌, length, get_or, set, filter, refl, sym, ap, ap₂, ◌∙◌, subst, arith, inl, inr, get_or-set_same, get_or-set_other, length-set}
+use Rattle.std.proofs.lemmas.Bool.{and_parts, and_from, cases_eq}
 use Rattle.fca_model.specs.Sets.{Set, within}
-use Rattle.fca_model.specs.Context.{Context}
-use Rattle.fca_model.proofs.SetLemmas.{within_trans}
+use Rattle.fca_model.specs.Context.{Context, closure}
+use Rattle.fca_model.proofs.SetLemmas.{within_trans, within_at_place, within_from_places}
+use Rattle.fca_model.proofs.ClosureLemmas.{closure_extensive, closure_monotone}
 use Rattle.fca_model.proofs.ListLemmas.{bool_iff, filter-filter}
-use Rattle.lattice_covers.specs.Neighbours.{rows_above}
+use Rattle.lectic_concepts.proofs.BranchLemmas.{closure_among}
+use Rattle.lattice_covers.specs.Neighbours.{rows_above, AreImplied}
 
 pub rows_above-rows_above : (K : Context) (L A : Set) → within L A ≡ true → rows_above (rows_above K L) A ≡ rows_above K A
 rows_above-rows_above K L A h = ap (λ (Rs : List Set). record { width = K.width; rows = Rs }) (filter-filter (within A) (within L) K.rows ∙ same_rows K.rows)
@@ -14,3 +16,46 @@ rows_above-rows_above K L A h = ap (λ (Rs : List Set). record { width = K.width
     same_rows [] = refl
     same_rows (R ∷ Rs) = ap₂ (λ b Zs. cond b (R ∷ Zs) Zs)
         (bool_iff (within L R && within A R) (within A R) (λ t. (and_parts (within L R) (within A R) t).1) (λ t. and_from (within L R) (within A R) (within_trans L A R h t) t)) (same_rows Rs)
+
+-- ---- members of closures
+
+-- the set with i is larger for a larger set
+within-set : (L A : Set) (i : ℕ) → i < length A → within L A ≡ true → within (set L i true) (set A i true) ≡ true
+within-set L A i inside h = within_from_places (set L i true) (set A i true) (λ j l t. elim (cases_eq j i) [
+  | inl here ↦ ap (λ k. get_or (set A i true) k false) here ∙ get_or-set_same A i true false inside
+  | inr other ↦ get_or-set_other A i j true false other ∙ within_at_place L A h j (sym (get_or-set_other L i j true false other) ∙ t)
+])
+
+pub implied_larger : (K : Context) (L A : Set) (ws : List ℕ) → length A ≡ K.width → within L A ≡ true → AreImplied K L ws → AreImplied K A ws
+implied_larger K L A ws e h m = record {
+  wide = m.wide;
+  member = λ i l. within_at_place (closure K (set L i true)) (closure K (set A i true)) (closure_monotone K (set L i true) (set A i true) (within-set L A i (omega (arith, e)) h)) (get_or ws i 0) (m.member i l);
+}
+
+-- each attribute is a member of the closure with it
+pub implied_first : (K : Context) (A : Set) (ws : List ℕ) → length A ≡ K.width → length ws ≡ K.width → ((i : ℕ) → i < K.width → get_or ws i 0 ≡ i) → AreImplied K A ws
+implied_first K A ws wide long f = record {
+  wide = long;
+  member = λ i l. subst (λ k. get_or (closure K (set A i true)) k false ≡ true) (sym (f i l))
+      (within_at_place (set A i true) (closure K (set A i true)) (closure_extensive K (set A i true) (length-set A i true ∙ wide)) i
+      (get_or-set_same A i true false (omega (arith, wide))));
+}
+
+-- another member for attribute i
+pub implied_set : (K : Context) (A : Set) (ws : List ℕ) (i w : ℕ) → i < K.width → AreImplied K A ws → get_or (closure K (set A i true)) w false ≡ true → AreImplied K A (set ws i w)
+implied_set K A ws i w inside m h = record {
+  wide = length-set ws i w ∙ m.wide;
+  member = λ j l. elim (cases_eq j i) [
+    | inl here ↦ subst (λ k. get_or (closure K (set A k true)) (get_or (set ws i w) k 0) false ≡ true) (sym here)
+        (subst (λ v. get_or (closure K (set A i true)) v false ≡ true) (sym (get_or-set_same ws i w 0 (omega (arith, m.wide)))) h)
+    | inr other ↦ subst (λ v. get_or (closure K (set A j true)) v false ≡ true) (sym (get_or-set_other ws i j w 0 other)) (m.member j l)
+  ];
+}
+
+-- the rows that contain A give its closures with one attribute more
+pub closure_above : (K : Context) (A : Set) (i : ℕ) → i < length A → (B : Set) → B ≡ set A i true → (above : Context) → above ≡ rows_above K A → closure above B ≡ closure K (set A i true)
+closure_above K A i inside B b above is =
+    ap (λ X. closure X B) is ∙ closure_among K A B (subst (λ X. within A X ≡ true) (sym b) (within_from_places A (set A i true) (λ j l t. elim (cases_eq j i) [
+      | inl here ↦ ap (λ x. get_or (set A i true) x false) here ∙ get_or-set_same A i true false inside
+      | inr other ↦ get_or-set_other A i j true false other ∙ t
+    ]))) ∙ ap (closure K) b

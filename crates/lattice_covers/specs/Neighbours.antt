@@ -1,18 +1,27 @@
--- The rows above an intent, and the places of its upper neighbours.
-use Rattle.std.specs.Prelude.{◌≡◌, ℕ, List, map, filter, All}
+-- The rows above an intent, what its closures have, and the places of its upper neighbours.
+use Rattle.std.specs.Prelude.{◌≡◌, ◌<◌, ℕ, true, false, List, length, slice_index_or, slice_set, map, filter, All}
 use Rattle.std.specs.List.{prefix_len}
 use Rattle.std.specs.Ordering.{is_lt}
 use Rattle.fca_model.specs.Sets.{Set, within, lectic_cmp}
-use Rattle.fca_model.specs.Context.{Context}
+use Rattle.fca_model.specs.Context.{Context, closure}
 use Rattle.lattice_covers.specs.declared.chain.Link.{Link}
 
 -- the context of the rows that contain A
 abbrev pub rows_above : Context → Set → Context
 rows_above K A = record { width = K.width; rows = filter (within A) K.rows }
 
--- each link has the rows that contain its intent
-abbrev pub AreAbove : Context → List Link → Type 0
-AreAbove K links = All (λ link. link.above ≡ rows_above K link.intent) links
+-- for each attribute a member of the closure of A with it
+pub record AreImplied (K : Context) (A : Set) (ws : List ℕ) : Type 0 where
+  pub wide : length ws ≡ K.width
+  pub member : (i : ℕ) → i < K.width → slice_index_or (closure K (slice_set A i true)) (slice_index_or ws i 0) false ≡ true
+
+-- the link has the rows that contain its intent, and members of closures above it
+pub record IsLink (K : Context) (link : Link) : Type 0 where
+  pub above : link.above ≡ rows_above K link.intent
+  pub implied : AreImplied K link.intent link.implied.items
+
+abbrev pub AreLinks : Context → List Link → Type 0
+AreLinks K links = All (IsLink K) links
 
 -- how many sets of a list in lectic order come before X: the place of X, if it is in the list
 abbrev pub place_in : List Set → Set → ℕ

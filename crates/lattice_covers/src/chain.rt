@@ -1,36 +1,102 @@
-//! The rows above an intent, found among the rows above an intent that it contains.
+//! The intents below an intent, each with the rows that contain it and with what was seen of the closures above it.
 
-ghost use Rattle.std.specs.Prelude.{◌≡◌, IfOk};
-ghost use Rattle.lattice_covers.specs.Neighbours.{rows_above, AreAbove};
+ghost use Rattle.std.specs.Prelude.{◌≡◌, ◌<◌, ℕ, true, false, length, slice_set, slice_index_or, MatchOption, IfOk};
+ghost use Rattle.fca_model.specs.Sets.{within};
+ghost use Rattle.fca_model.specs.Context.{closure};
+ghost use Rattle.lattice_covers.specs.Neighbours.{IsLink, AreLinks};
 
 use attr_bits::Attrs;
 use derivation::Rows;
 use fca_model::Memory;
 use std::alloc::Global;
 
-/// An intent and the rows that contain it.
+/// An intent, the rows that contain it, and for each attribute a member of the closure of the intent with it.
 #[derive(Drop)]
 pub(crate) struct Link {
     pub(crate) intent: Attrs,
     pub(crate) above: Rows,
+    pub(crate) implied: Vec<u32>,
 }
 
-/// The rows that contain a. Links whose intents a does not contain are dropped from the end, and the rows of the last one that is left are looked through.
-pub(crate) fn rows_above(
+/// The link of a. Links whose intents a does not contain are dropped from the end; the rows of the last one that is left are looked through, and what
+/// its closures have, those of a have too.
+pub(crate) fn link_of(
     alloc: Global,
     rows: &Rows,
     chain: &mut Vec<Link>,
     a: &Attrs,
-) -> Result<Rows, Memory>
-    requires { AreAbove rows.now chain.old.items }
-    ensures above { IfOk result (λ above. above ≡ rows_above rows.now a.now) }
-    ensures chain { AreAbove rows.now chain.new.items }
+) -> Result<Link, Memory>
+    requires wide { length a.now ≡ rows.now.width }
+    requires links { AreLinks rows.now chain.old.items }
+    ensures link { IfOk result (λ link. (link.intent ≡ a.now) × IsLink rows.now link) }
+    ensures links { AreLinks rows.now chain.new.items }
 {
     while let Some(link) = chain.last() {
         if link.intent.within(a) {
-            return link.above.containing(alloc, a);
+            return next_link(alloc, rows, link, a);
         }
         chain.pop();
     }
-    rows.containing(alloc, a)
+    first_link(alloc, rows, a)
+}
+
+/// The link of a, whose part the intent of the given one is.
+fn next_link(alloc: Global, rows: &Rows, link: &Link, a: &Attrs) -> Result<Link, Memory>
+    requires wide { length a.now ≡ rows.now.width }
+    requires link { IsLink rows.now link.now }
+    requires larger { within link.now.intent a.now ≡ true }
+    ensures { IfOk result (λ next. (next.intent ≡ a.now) × IsLink rows.now next) }
+{
+    Ok(Link {
+        intent: *a,
+        above: link.above.containing(alloc, a)?,
+        implied: Vec::from_slice(alloc, &link.implied)?,
+    })
+}
+
+/// The link of a, of which nothing was seen yet.
+fn first_link(alloc: Global, rows: &Rows, a: &Attrs) -> Result<Link, Memory>
+    requires { length a.now ≡ rows.now.width }
+    ensures { IfOk result (λ link. (link.intent ≡ a.now) × IsLink rows.now link) }
+{
+    let mut implied = Vec::new(alloc);
+    for i in 0..rows.width() {
+        implied.push(i)?;
+    }
+    Ok(Link {
+        intent: *a,
+        above: rows.containing(alloc, a)?,
+        implied,
+    })
+}
+
+/// The closure of the intent with attribute i, if all its members are allowed. Where that was seen to fail for a smaller intent, it is not computed.
+pub(crate) fn closure_if_allowed(
+    rows: &Rows,
+    link: &mut Link,
+    i: u32,
+    allowed: &Attrs,
+) -> Option<Attrs>
+    requires wide { length link.old.intent ≡ rows.now.width }
+    requires allowed { length allowed.now ≡ rows.now.width }
+    requires link { IsLink rows.now link.old }
+    requires inside { i < rows.now.width }
+    ensures closed { MatchOption result (within (closure rows.now (slice_set link.old.intent i true)) allowed.now ≡ false)
+        (λ closed. (closed ≡ closure rows.now (slice_set link.old.intent i true)) × (within closed allowed.now ≡ true)) }
+    ensures link { IsLink rows.now link.new }
+    ensures intent { link.new.intent ≡ link.old.intent }
+{
+    if !allowed.has(link.implied[i as usize]) {
+        return None;
+    }
+    let mut larger = link.intent;
+    larger.insert(i);
+    let closed = link.above.closure(&larger);
+    match closed.first_missing(allowed) {
+        None => Some(closed),
+        Some(further) => {
+            link.implied[i as usize] = further;
+            None
+        }
+    }
 }

@@ -7,10 +7,10 @@ mod places;
 ghost use Rattle.std.specs.Prelude.{◌≡◌, ◌++◌, true, filter, length, IfOk, OnOk};
 ghost use Rattle.fca_model.specs.Sets.{increasing};
 ghost use Rattle.fca_model.specs.Pseudo.{intents as closed_sets, covers, is_cover};
-ghost use Rattle.lattice_covers.specs.Neighbours.{rows_above, pairs_with};
+ghost use Rattle.lattice_covers.specs.Neighbours.{IsLink, pairs_with};
 
 use attr_bits::Attrs;
-use chain::{Link, rows_above};
+use chain::{Link, closure_if_allowed, link_of};
 use derivation::Rows;
 use fca_model::Memory;
 use places::place_in;
@@ -26,37 +26,36 @@ pub fn covers(alloc: Global, rows: &Rows, intents: &[Attrs]) -> Result<Vec<(usiz
     let mut neighbours = Vec::new(alloc);
     let mut pairs = Vec::new(alloc);
     for (i, a) in intents.iter().enumerate() {
-        let above = rows_above(alloc, rows, &mut chain, a)?;
-        find_neighbours(&mut neighbours, rows, &above, a)?;
+        let mut link = link_of(alloc, rows, &mut chain, a)?;
+        find_neighbours(&mut neighbours, rows, &mut link)?;
         add_pairs(&mut pairs, intents, &mut latest, i, a, &neighbours)?;
-        chain.push(Link { intent: *a, above })?;
+        chain.push(link)?;
     }
     Ok(pairs)
 }
 
-/// Puts the upper neighbours of a into the list, in the place of what it had. The rows that contain a are enough to find them.
-/// The closure of a with one attribute more is one of them, unless it has a further new attribute that is still to be tried, or that has led to one
-/// (Lindig, "Fast concept analysis", 2000).
-fn find_neighbours(
-    neighbours: &mut Vec<Attrs>,
-    rows: &Rows,
-    above: &Rows,
-    a: &Attrs,
-) -> Result<(), Memory>
-    requires wide { length a.now ≡ rows.now.width }
-    requires above { above.now ≡ rows_above rows.now a.now }
-    ensures { OnOk result (neighbours.new.items ≡ filter (is_cover (closed_sets rows.now) a.now) (closed_sets rows.now)) }
+/// Puts the upper neighbours of the intent into the list, in the place of what it had.
+/// The closure of the intent with one attribute more is one of them, unless it has a further new attribute that is still to be tried, or that has led to
+/// one (Lindig, "Fast concept analysis", 2000).
+fn find_neighbours(neighbours: &mut Vec<Attrs>, rows: &Rows, link: &mut Link) -> Result<(), Memory>
+    requires wide { length link.old.intent ≡ rows.now.width }
+    requires link { IsLink rows.now link.old }
+    ensures found { OnOk result (neighbours.new.items
+        ≡ filter (is_cover (closed_sets rows.now) link.old.intent) (closed_sets rows.now)) }
+    ensures link { IsLink rows.now link.new }
+    ensures intent { link.new.intent ≡ link.old.intent }
 {
     neighbours.clear();
-    let mut settled = *a;
+    let mut settled = link.intent;
+    let mut allowed = link.intent;
     for i in (0..rows.width()).rev() {
-        if !a.has(i) {
-            let closed = above.closure(&a.with(i));
-            let allowed = settled.with(i);
-            if closed.within(&allowed) {
+        if !link.intent.has(i) {
+            allowed.insert(i);
+            if let Some(closed) = closure_if_allowed(rows, link, i, &allowed) {
                 neighbours.push(closed)?;
+                allowed = settled;
             } else {
-                settled = allowed;
+                settled.insert(i);
             }
         }
     }

@@ -7,7 +7,7 @@ use Rattle.fca_model.specs.Pseudo.{intents, covers, covers_of, is_cover}
 use Rattle.lectic_concepts.proofs.IntentLemmas.{of_intents, intents_increasing}
 use Rattle.std.proofs.lemmas.List.Elements.{All-push}
 use Rattle.lattice_covers.specs.declared.chain.Link.{Link}
-use Rattle.lattice_covers.specs.Neighbours.{rows_above, AreAbove, pairs_with}
+use Rattle.lattice_covers.specs.Neighbours.{IsLink, AreLinks, pairs_with}
 use Rattle.lattice_covers.proofs.MemberLemmas.{in_at}
 use Rattle.lattice_covers.proofs.PlaceLemmas.{row_of, pairs_with-filter}
 use Rattle.lattice_covers.proofs.covers.Goals as goal
@@ -29,24 +29,28 @@ module _ (K : Context) (Xs : List Set) (all : Xs ≡ intents K) (i : ℕ) (A : S
       ∙ ap (λ r. old ++ r) (ap (λ X. row_of Xs (i, X) ++ left) is ∙ sym (at_drop_more (λ Ys. flat_map (row_of Xs) (enumerate_from i Ys)) Xs i A inside)) ∙ h
 
 -- one link more
-links_more : (K : Context) (old new : List Link) (link : Link) → new ≡ old ++ link ∷ [] → AreAbove K old → link.above ≡ rows_above K link.intent → AreAbove K new
-links_more K old new link made h is = subst (AreAbove K) (sym made) (All-push (λ (l : Link). l.above ≡ rows_above K l.intent) old link h is)
+links_more : (K : Context) (old new : List Link) (link : Link) → new ≡ old ++ link ∷ [] → AreLinks K old → IsLink K link → AreLinks K new
+links_more K old new link made h is = subst (AreLinks K) (sym made) (All-push (IsLink K) old link h is)
+
+pub link_of-requires-clause-wide : goal.link_of-requires-clause-wide
+link_of-requires-clause-wide c = wide c.args.rows.now c.args.intents.now c.requires c.loop-i.i c.index-intents-i.result c.loop-i-test.true c.index-intents-i.is
 
 pub find_neighbours-requires-clause-wide : goal.find_neighbours-requires-clause-wide
-find_neighbours-requires-clause-wide c = wide c.args.rows.now c.args.intents.now c.requires c.loop-i.i c.index-intents-i.result c.loop-i-test.true c.index-intents-i.is
+find_neighbours-requires-clause-wide c = ap length c.in_ok-link.ensures.link.0 ∙ wide c.args.rows.now c.args.intents.now c.requires c.loop-i.i c.index-intents-i.result c.loop-i-test.true c.index-intents-i.is
 
 pub add_pairs-requires : goal.add_pairs-requires
 add_pairs-requires c = subst (λ (Ys : List Set). increasing Ys ≡ true) (sym c.requires) (intents_increasing c.args.rows.now)
 
 pub loop-i-preserved : goal.loop-i-preserved
-loop-i-preserved c = record {
-  listed = more c.args.rows.now c.args.intents.now c.requires c.loop-i.i c.index-intents-i.result c.loop-i-test.true c.index-intents-i.is c.loop-i.pairs.items c.add_pairs.new.pairs.items
-      c.find_neighbours.new.neighbours.items c.in_ok-find_neighbours.ensures
-      (c.in_ok-add_pairs.ensures ∙ ap (λ (Ys : List Set). c.loop-i.pairs.items ++ pairs_with c.args.intents.now c.loop-i.i Ys) c.deref.ensures.value)
-      c.loop-i.invariant.listed;
-  above = links_more c.args.rows.now c.rows_above.new.chain.items c.push.new.self.items (record { intent = c.index-intents-i.result; above = c.in_ok-above.above })
-      c.in_ok-push.ensures.items c.in_ok-above.ensures.chain c.in_ok-above.ensures.above;
-}
+loop-i-preserved c =
+    let K : Context = c.args.rows.now in
+    record {
+      listed = more K c.args.intents.now c.requires c.loop-i.i c.index-intents-i.result c.loop-i-test.true c.index-intents-i.is c.loop-i.pairs.items c.add_pairs.new.pairs.items
+          c.find_neighbours.new.neighbours.items (c.in_ok-find_neighbours.ensures.found ∙ ap (λ (A : Set). filter (is_cover (intents K) A) (intents K)) c.in_ok-link.ensures.link.0)
+          (c.in_ok-add_pairs.ensures ∙ ap (λ (Ys : List Set). c.loop-i.pairs.items ++ pairs_with c.args.intents.now c.loop-i.i Ys) c.deref.ensures.value)
+          c.loop-i.invariant.listed;
+      links = links_more K c.link_of.new.chain.items c.push.new.self.items c.find_neighbours.new.link c.in_ok-push.ensures.items c.in_ok-link.ensures.links c.in_ok-find_neighbours.ensures.link;
+    }
 
 pub returns : goal.returns
 unfolding covers
