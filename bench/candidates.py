@@ -2,8 +2,8 @@
 """Candidates that `basis` looks at, against the members that it finds: candidates.py [FOLDER].
 
 The steps of `basis` are followed here: for each size the candidates of that size are judged by the members found below it;
-a closed one is grown by each attribute that it lacks, one that breaks a smaller member gets the conclusion of the first
-that it breaks, and the conclusion of each member is grown. What the program writes must be the basis that is found so.
+a closed one is grown by each attribute that it lacks, one that breaks a smaller member gets the conclusion of one that it
+breaks, the first by the first two attributes of the premise, and the conclusion of each member is grown. What the program writes must be the basis that is found so.
 Seconds are of the processor, the least of three runs; FOLDER has a program `basis` that is called as
 `basis ALGORITHM print FILE` (see compare.py).
 """
@@ -49,15 +49,24 @@ def closure_in_rows(columns, bits):
     return sum(bit(a, columns.width) for a in range(columns.width) if extent & ~columns.having[a] == 0)
 
 
-def first_broken(premises, conclusions, bits):
-    """The place of the first member whose premise lies within the set while its conclusion does not, or none."""
+def pair(bits, width):
+    """The first two attributes of a set, the first twice where it has one alone."""
+    first = members(bits, width)[:2]
+    return first * 2 if len(first) == 1 else first
+
+
+def first_broken(premises, conclusions, pairs, bits):
+    """The place of the first member, by its pair, whose premise lies within the set while its conclusion does not, or none."""
     blocked, gaining = 0, 0
     for a in range(premises.width):
         if not bits & bit(a, premises.width):
             blocked |= premises.having[a]
             gaining |= conclusions.having[a]
-    broken = gaining & ~blocked
-    return (broken & -broken).bit_length() - 1 if broken else None
+    broken, places = gaining & ~blocked, []
+    while broken:
+        places.append((broken & -broken).bit_length() - 1)
+        broken &= broken - 1
+    return min(places, key=lambda place: (pairs[place], place), default=None)
 
 
 def grow(levels, bits, width):
@@ -77,7 +86,7 @@ def search(rows, width):
         columns.push(sum(bit(a, width) for a in range(width) if row[a]))
     levels = [set() for _ in range(width + 1)]
     keep(levels, 0)
-    found, looked_at = [], 0
+    found, pairs, looked_at = [], [], 0
     for level in levels:
         opened = []
         for bits in sorted(level):
@@ -86,13 +95,14 @@ def search(rows, width):
             if closed == bits:
                 grow(levels, bits, width)
                 continue
-            place = first_broken(premises, conclusions, bits)
+            place = first_broken(premises, conclusions, pairs, bits)
             if place is None:
                 opened.append((bits, closed))
             else:
                 keep(levels, bits | found[place][1])
         for bits, closed in opened:
             found.append((bits, closed))
+            pairs.append(pair(bits, width))
             premises.push(bits)
             conclusions.push(closed)
             grow(levels, closed, width)

@@ -44,7 +44,7 @@ has-insert_key A (X ∷ Xs) = go (lectic_cmp A X) refl (has-insert_key A Xs)
     go Equal e rest = or_left (same A X) (list_any (same A) Xs) (ap (same A) (sym (lectic_equal A X e)) ∙ same_refl A)
     go Greater e rest = or_right (same A X) (list_any (same A) (insert_key lectic_cmp Xs A)) rest
 
-list_all-insert_key : (p : Set → Bool) (A : Set) (Xs : List Set) → list_all p Xs ≡ true → p A ≡ true → list_all p (insert_key lectic_cmp Xs A) ≡ true
+pub list_all-insert_key : (p : Set → Bool) (A : Set) (Xs : List Set) → list_all p Xs ≡ true → p A ≡ true → list_all p (insert_key lectic_cmp Xs A) ≡ true
 list_all-insert_key p A [] h t = and_from (p A) true t refl
 list_all-insert_key p A (X ∷ Xs) h t =
     let parts = and_parts (p X) (list_all p Xs) h in

@@ -3,3 +3,4 @@ pub mod ReachLemmas
 pub mod LevelLemmas
 pub mod LeastLemmas
 pub mod IndexLemmas
+pub mod BySizeLemmas

@@ -1,3 +1,4 @@
 pub mod Search
 pub mod LeastBasis
 pub mod Index
+pub mod BySize

@@ -1,6 +1,6 @@
 //! The sets among which the members of the basis are found.
 
-ghost use Rattle.std.specs.Prelude.{◌≡◌, ℕ, ◌∷◌, [], OnOk, IfOk, length, filter, replicate, false, true, ◌≤◌, ◌==◌};
+ghost use Rattle.std.specs.Prelude.{◌≡◌, ℕ, suc, ◌∷◌, [], OnOk, IfOk, length, map, filter, replicate, false, true, ◌≤◌, ◌==◌};
 ghost use Rattle.fca_model.specs.Sets.{size, increasing};
 ghost use Rattle.pseudo_levels.specs.Search.{AreWide, Has, HasLarger, HaveLarger, Grows};
 
@@ -10,19 +10,22 @@ use std::alloc::Global;
 use std::collections::BTreeSet;
 use std::marker::Model;
 
-/// A growing collection of sets, each once.
+/// A growing collection of sets, each once, those of one size together.
 #[derive(Drop)]
 pub struct Candidates {
-    sets: BTreeSet<Attrs>,
+    by_size: Vec<BTreeSet<Attrs>>,
 }
 
 impl Model for Candidates {
-    ghost use Rattle.std.specs.Prelude.{List};
+    ghost use Rattle.std.specs.Prelude.{List, map};
     ghost use Rattle.fca_model.specs.Sets.{Set};
+    ghost use Rattle.pseudo_levels.specs.BySize.{together, AreBySize};
 
     ghost Value = { List Set };
 
-    ghost view = { λ a. a.sets.keys };
+    ghost view = { λ a. together (map (λ sets. sets.keys) a.by_size.items) };
+
+    ghost invariant = { λ a. AreBySize (map (λ sets. sets.keys) a.by_size.items) };
 }
 
 impl Candidates {
@@ -31,9 +34,9 @@ impl Candidates {
         requires { n ≤ MAX_ATTRIBUTES }
         ensures { IfOk result (λ candidates. candidates ≡ replicate n false ∷ []) }
     {
-        let mut sets = BTreeSet::new(alloc);
-        sets.insert(Attrs::empty(n))?;
-        Ok(Candidates { sets })
+        let mut by_size = no_sets(alloc)?;
+        by_size[0].insert(Attrs::empty(n))?;
+        Ok(Candidates { by_size })
     }
 
     /// Puts the set among them.
@@ -41,7 +44,8 @@ impl Candidates {
         ensures added { OnOk result (Has set self.new) }
         ensures grows { Grows (length set) self.old self.new }
     {
-        self.sets.insert(set)?;
+        let _width = set.width();
+        self.by_size[set.size() as usize].insert(set)?;
         Ok(())
     }
 
@@ -74,19 +78,38 @@ impl Candidates {
         ensures sets { IfOk result (λ sets. sets.items ≡ filter (λ X. size X == k) self.now) }
         ensures ordered { IfOk result (λ sets. increasing sets.items ≡ true) }
     {
-        let _count = self.sets.len();
-        select(alloc, &self.sets, k)
+        let place = k as usize;
+        if place < self.by_size.len() {
+            in_order(alloc, &self.by_size[place])
+        } else {
+            Ok(Vec::new(alloc))
+        }
     }
 }
 
-/// The sets of size k.
-fn select(alloc: Global, sets: &BTreeSet<Attrs>, k: u32) -> Result<Vec<Attrs>, Memory>
-    ensures { IfOk result (λ selected. selected.items ≡ filter (λ X. size X == k) sets.now.keys) }
+/// No sets of any size.
+fn no_sets(alloc: Global) -> Result<Vec<BTreeSet<Attrs>>, Memory>
+    ensures { IfOk result (λ by_size. map (λ sets. sets.keys) by_size.items ≡ replicate (suc MAX_ATTRIBUTES) []) }
 {
-    Ok(
-        sets.iter()
-            .copied()
-            .filter(|set| set.size() == k)
-            .collect(alloc)?,
-    )
+    let mut by_size = Vec::new(alloc);
+    for _ in 0..MAX_ATTRIBUTES + 1 {
+        by_size.push(BTreeSet::new(alloc))?;
+    }
+    Ok(by_size)
+}
+
+/// The sets in lectic order.
+fn in_order(alloc: Global, sets: &BTreeSet<Attrs>) -> Result<Vec<Attrs>, Memory>
+    ensures sets { IfOk result (λ all. all.items ≡ sets.now.keys) }
+    ensures ordered { IfOk result (λ all. increasing all.items ≡ true) }
+{
+    let _count = sets.len();
+    sets_of(alloc, sets)
+}
+
+/// The sets in their order.
+fn sets_of(alloc: Global, sets: &BTreeSet<Attrs>) -> Result<Vec<Attrs>, Memory>
+    ensures { IfOk result (λ all. all.items ≡ sets.now.keys) }
+{
+    Ok(sets.iter().copied().collect(alloc)?)
 }

@@ -72,8 +72,11 @@ pub fn judge_all(
 pub(crate) fn judge(rows: &Rows, smaller: &MemberIndex, set: &Attrs) -> Option<Implication>
     ensures { result ≡ judged [] rows.now smaller.now.members set.now }
 {
+    if smaller.broken(set).is_some() {
+        return None;
+    }
     let closure = rows.closure(set);
-    if closure == *set || smaller.broken(set).is_some() {
+    if closure == *set {
         return None;
     }
     Some(Implication {

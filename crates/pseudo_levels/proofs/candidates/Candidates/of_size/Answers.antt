@@ -1,12 +1,15 @@
-use Rattle.std.proofs.Common.{◌≡◌, ◌∙◌, ap, filter, true, ◌==◌}
+use Rattle.std.proofs.Common.{◌≡◌, ◌∙◌, ap, filter, ◌==◌, arith}
 use Rattle.std.proofs.lemmas.Result.{IfOk-weaker}
-use Rattle.fca_model.specs.Sets.{increasing, size}
-use Rattle.fca_model.proofs.SortedLemmas.{increasing-filter}
-use Rattle.pseudo_levels.proofs.CandidateLemmas.{increasing_keys}
+use Rattle.fca_model.specs.Sets.{Set, size}
+use Rattle.pseudo_levels.proofs.BySizeLemmas.{sets_at, sets_past}
 use Rattle.pseudo_levels.proofs.candidates.Candidates.of_size.Goals as goal
 
-pub returns-clause-ordered : goal.returns-clause-ordered
-returns-clause-ordered c =
-    let keys = c.self.inside.sets.keys in
-    IfOk-weaker c.select.result (λ sets. sets.items ≡ filter (λ X. size X == c.args.k) keys) (λ sets. increasing sets.items ≡ true)
-    (λ sets is. ap increasing is ∙ increasing-filter (λ X. size X == c.args.k) keys (increasing_keys keys c.len-count.ensures.ordered)) c.select.ensures
+pub returns-then-place-len-clause-sets : goal.returns-then-place-len-clause-sets
+returns-then-place-len-clause-sets c =
+    IfOk-weaker c.in_order.result (λ all. all.items ≡ c.index.result.now.keys) (λ sets. sets.items ≡ filter (λ X. size X == c.args.k) c.args.self.now)
+    (λ all is. is ∙ sets_at (λ sets. sets.keys) c.self.inside.by_size.items c.args.k c.index.result.now c.self.invariant (omega arith) c.index.ensures ∙ ap (filter (λ (X : Set). size X == c.args.k)) c.self.view_is)
+    c.in_order.ensures.sets
+
+pub returns-else-place-len-clause-sets : goal.returns-else-place-len-clause-sets
+returns-else-place-len-clause-sets c =
+    c.new.ensures.items ∙ sets_past (λ sets. sets.keys) c.self.inside.by_size.items c.args.k c.self.invariant (omega arith) ∙ ap (filter (λ (X : Set). size X == c.args.k)) c.self.view_is
