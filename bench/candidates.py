@@ -3,7 +3,8 @@
 
 The steps of `basis` are followed here: for each size the candidates of that size are judged by the members found below it;
 a closed one is grown by each attribute that it lacks, one that breaks a smaller member gets the conclusion of one that it
-breaks, the first by the first two attributes of the premise, and the conclusion of each member is grown. What the program writes must be the basis that is found so.
+breaks, the first by the first two attributes of the premise, and the conclusion of each member is grown. What the program
+writes must be the basis that is found so.
 Seconds are of the processor, the least of three runs; FOLDER has a program `basis` that is called as
 `basis ALGORITHM print FILE` (see compare.py).
 """
