@@ -1,4 +1,5 @@
-use Rattle.std.proofs.Common.{◌≡◌, ◌≢◌, ℕ, ◌+◌, ◌-◌, ◌<◌, ◌++◌, suc, true, false, Some, List, length, get_or, set, sym, ap, ◌∙◌, arith, append_assoc, filter}
+use Rattle.std.proofs.Common.{◌≡◌, ◌≢◌, ℕ, ◌+◌, ◌-◌, ◌<◌, ◌++◌, suc, true, false, Some, List, length, get_or, set, sym, ap, ◌∙◌, subst, arith, append_assoc, filter}
+use Rattle.std.specs.Result.{OnOk}
 use Rattle.std.proofs.lemmas.List.{append-nil}
 use Rattle.fca_model.specs.Sets.{Set, same}
 use Rattle.fca_model.specs.Context.{Context, closure, is_closed}
@@ -9,7 +10,7 @@ use Rattle.lectic_concepts.specs.Branches.{branch}
 use Rattle.lectic_concepts.proofs.IntentLemmas.{IsIntent, intent_with}
 use Rattle.lectic_concepts.proofs.NextLemmas.{is_some_of, is_none_of}
 use Rattle.lectic_concepts.proofs.BranchLemmas.{among, with_it, branch_end, branch_member, branch_splits, with_found, with_none, closure_among, branch_among}
-use Rattle.lectic_concepts.proofs.tree.+add_branch.Goals as goal
+use Rattle.lectic_concepts.proofs.tree.+branch.Goals as goal
 
 -- the list so far, and what attribute i adds to it
 module _ (K : Context) (A : Set) (i : ℕ) (old all : List Set) (so_far : all ≡ old ++ branch K A (suc i)) where
@@ -21,13 +22,13 @@ module _ (K : Context) (A : Set) (i : ℕ) (old all : List Set) (so_far : all �
     nothing_found ne = so_far ∙ ap (λ Zs. old ++ Zs)
         (sym (append-nil (branch K A (suc i))) ∙ ap (λ Zs. branch K A (suc i) ++ Zs) (sym (with_none K A i lacks wide inside D is ne)) ∙ sym (branch_splits K A i lacks))
 
-    branch_found : (new : List Set) (above : Context) → first_missing 0 D A ≡ Some i → above ≡ among K D → new ≡ all ++ branch above D (suc i) → new ≡ old ++ branch K A i
-    branch_found new above found rows_are listed =
-        listed ∙ ap (λ Zs. all ++ Zs) (ap (λ X. branch X D (suc i)) rows_are ∙ branch_among K D (suc i) ∙ sym (with_found K A i lacks wide inside D is found))
+    branch_found : (new : List Set) → first_missing 0 D A ≡ Some i → new ≡ all ++ branch K D (suc i) → new ≡ old ++ branch K A i
+    branch_found new found listed =
+        listed ∙ ap (λ Zs. all ++ Zs) (sym (with_found K A i lacks wide inside D is found))
         ∙ ap (λ Zs. Zs ++ filter (with_it K A i) (intents K)) so_far ∙ append_assoc old (branch K A (suc i)) (filter (with_it K A i) (intents K)) ∙ ap (λ Zs. old ++ Zs) (sym (branch_splits K A i lacks))
 
-pub loop-i-init : goal.loop-i-init
-loop-i-init t c =
+pub add_branch-loop-i-init : goal.add_branch-loop-i-init
+add_branch-loop-i-init t c =
     let K : Context = c.args.rows.now in
     let A : Set = c.args.a.now in
     let a : IsIntent K A = record { wide = c.requires.wide; closed = c.requires.closed } in
@@ -37,23 +38,19 @@ loop-i-init t c =
       listed = c.in_ok-push.ensures.items ∙ ap (λ Zs. c.args.all.now.items ++ Zs) (sym (branch_end K A a) ∙ ap (branch K A) (sym c.width-i.ensures.width));
     }
 
-pub add_branch-requires : goal.add_branch-requires
-add_branch-requires t c =
+pub add_branch-add_child-requires : goal.add_branch-add_child-requires
+add_branch-add_child-requires t c =
     let K : Context = c.args.rows.now in
     let A : Set = c.args.a.now in
     let i : ℕ = c.loop-i.i - 1 in
     let D : Set = c.closure-closed.result in
     let lacks : get_or A i false ≡ false = sym c.has.ensures ∙ c.if-not-has.true in
     let is : D ≡ closure K (set A i true) = c.closure-closed.ensures ∙ ap (closure K) c.with.ensures in
-    let rows_are : c.in_ok-above.above ≡ among K D = c.in_ok-above.ensures in
     let d : IsIntent K D = intent_with K A i c.requires.wide (omega (arith, c.loop-i.invariant.inside, c.loop-i.invariant.from_on, c.loop-i-test.true)) D is in
-    let wide : length D ≡ c.in_ok-above.above.width = d.wide ∙ ap (λ X. X.width) (sym rows_are) in
-    let closed : is_closed c.in_ok-above.above D ≡ true = ap (λ X. is_closed X D) rows_are ∙ ap (same D) (closure_among K D D (within_refl D)) ∙ d.closed in
-    let width : c.in_ok-above.above.width ≡ K.width = ap (λ X. X.width) rows_are in
-    (omega (arith, c.decreases, width, c.loop-i.invariant.inside, c.loop-i.invariant.from_on, c.loop-i-test.true), (wide, (closed, omega (arith, width, c.loop-i.invariant.inside, c.loop-i.invariant.from_on, c.loop-i-test.true))))
+    (omega (arith, c.decreases, c.loop-i.invariant.inside, c.loop-i.invariant.from_on, c.loop-i-test.true), (d.wide, (d.closed, omega (arith, c.loop-i.invariant.inside, c.loop-i.invariant.from_on, c.loop-i-test.true))))
 
-pub loop-i-preserved-then-eq : goal.loop-i-preserved-then-eq
-loop-i-preserved-then-eq t c =
+pub add_branch-loop-i-preserved-in-Continue-branch-2 : goal.add_branch-loop-i-preserved-in-Continue-branch-2
+add_branch-loop-i-preserved-in-Continue-branch-2 t c =
     let K : Context = c.args.rows.now in
     let A : Set = c.args.a.now in
     let i : ℕ = c.loop-i.i - 1 in
@@ -67,12 +64,12 @@ loop-i-preserved-then-eq t c =
     record {
       from_on = omega (arith, c.loop-i.invariant.from_on, c.loop-i-test.true);
       inside = omega (arith, c.loop-i.invariant.inside);
-      listed = branch_found K A i c.args.all.now.items c.loop-i.all.items so_far lacks c.requires.wide (omega (arith, c.loop-i.invariant.inside)) D is c.add_branch.new.all.items c.in_ok-above.above found c.in_ok-above.ensures
-          (c.in_ok-add_branch.ensures ∙ ap (λ k. c.loop-i.all.items ++ branch c.in_ok-above.above D k) next);
+      listed = branch_found K A i c.args.all.now.items c.loop-i.all.items so_far lacks c.requires.wide (omega (arith, c.loop-i.invariant.inside)) D is c.add_child.new.all.items found
+          (c.in_ok-add_child.ensures ∙ ap (λ k. c.loop-i.all.items ++ branch K D k) next);
     }
 
-pub loop-i-preserved-else-eq : goal.loop-i-preserved-else-eq
-loop-i-preserved-else-eq t c =
+pub add_branch-loop-i-preserved-else-eq : goal.add_branch-loop-i-preserved-else-eq
+add_branch-loop-i-preserved-else-eq t c =
     let K : Context = c.args.rows.now in
     let A : Set = c.args.a.now in
     let i : ℕ = c.loop-i.i - 1 in
@@ -88,8 +85,8 @@ loop-i-preserved-else-eq t c =
       listed = nothing_found K A i c.args.all.now.items c.loop-i.all.items so_far lacks c.requires.wide (omega (arith, c.loop-i.invariant.inside)) D is other;
     }
 
-pub loop-i-preserved : goal.loop-i-preserved
-loop-i-preserved t c =
+pub add_branch-loop-i-preserved : goal.add_branch-loop-i-preserved
+add_branch-loop-i-preserved t c =
     let K : Context = c.args.rows.now in
     let A : Set = c.args.a.now in
     let i : ℕ = c.loop-i.i - 1 in
@@ -102,5 +99,25 @@ loop-i-preserved t c =
       listed = nothing_here K A i c.args.all.now.items c.loop-i.all.items so_far has;
     }
 
-pub returns : goal.returns
-returns t c = c.loop-i.invariant.listed ∙ ap (λ k. c.args.all.now.items ++ branch c.args.rows.now c.args.a.now k) (omega (arith, c.loop-i-test.false, c.loop-i.invariant.from_on))
+pub add_branch-returns : goal.add_branch-returns
+add_branch-returns t c = c.loop-i.invariant.listed ∙ ap (λ k. c.args.all.now.items ++ branch c.args.rows.now c.args.a.now k) (omega (arith, c.loop-i-test.false, c.loop-i.invariant.from_on))
+
+-- ---- the rows set apart
+
+pub add_child-add_branch-requires-2 : goal.add_child-add_branch-requires-2
+add_child-add_branch-requires-2 t c =
+    let K : Context = c.args.rows.now in
+    let A : Set = c.args.a.now in
+    let X : Context = c.in_ok-above.above in
+    let rows_are : X ≡ among K A = c.in_ok-above.ensures in
+    let width : X.width ≡ K.width = ap (λ Y. Y.width) rows_are in
+    let closed : is_closed X A ≡ true = ap (λ Y. is_closed Y A) rows_are ∙ ap (same A) (closure_among K A A (within_refl A)) ∙ c.requires.closed in
+    (omega (arith, c.decreases, width), (c.requires.wide ∙ sym width, (closed, omega (arith, width, c.requires.inside))))
+
+pub add_child-returns : goal.add_child-returns
+add_child-returns t c =
+    let K : Context = c.args.rows.now in
+    let A : Set = c.args.a.now in
+    let k : ℕ = c.args.from in
+    subst (λ (Zs : List Set). OnOk c.add_branch-2.result (c.add_branch-2.new.all.items ≡ c.args.all.now.items ++ Zs))
+    (ap (λ X. branch X A k) c.in_ok-above.ensures ∙ branch_among K A k) c.add_branch-2.ensures
