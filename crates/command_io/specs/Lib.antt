@@ -1,3 +1,4 @@
+pub mod Causes
 pub mod ErrLines
 pub mod Readings
 pub mod Forms

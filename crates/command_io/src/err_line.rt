@@ -22,14 +22,14 @@ pub enum Place {
     Field(usize, usize),
 }
 
-/// GainsLine why there is no text: `file` is the name of the file that is at fault, if one is. What err refuses is lost.
+/// Tells why there is no text: `file` is the name of the file that is at fault, if one is. What err refuses is lost.
 pub fn report<E: Sink>(err: &mut E, file: &[u8], stop: &Stop)
     ensures { GainsLine (E.held err.old) (E.held err.new) (E.faults err.old) (E.faults err.new) (stop_line file.now stop.now) }
 {
     let _ = write_stop(err, file, stop);
 }
 
-/// GainsLine in these words what went wrong.
+/// Tells in these words what went wrong.
 pub fn report_plain<E: Sink>(err: &mut E, words: &[u8])
     ensures { GainsLine (E.held err.old) (E.held err.new) (E.faults err.old) (E.faults err.new) (plain_line words.now) }
 {
