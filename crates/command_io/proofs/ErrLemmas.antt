@@ -3,7 +3,7 @@
 use Rattle.std.proofs.Common.{◌≡◌, ◌≢◌, ◌⊎◌, ◌<◌, ◌++◌, ℕ, suc, List, length, drop, get_or, Bool, true, false, cond, Option, Result, Ok, Err, inl, inr, refl, sym, ap, subst, arith}
 use Rattle.std.proofs.Math.Seq.{drop-cons}
 use Rattle.std.specs.List.{flat_map}
-use Rattle.std.specs.Prelude.{IfOk, IfErr}
+use Rattle.std.specs.Prelude.{IfOk, IfErr, IsErrAnd}
 use Rattle.fca_io.specs.declared.outside.Put.{Put}
 use Rattle.fca_model.specs.Tables.{Text}
 use Rattle.expert_wire.specs.Parts.{Writes}
@@ -36,21 +36,21 @@ stop-silent Listener = inr (inr (inr (inr refl)))
 stop-silent _ = inr (inl refl)
 
 -- a stop tells its line
-pub stop-told : (Told : Text → Type 0) (file_at_fault : Stop → Text) (s : Stop) (n : ℕ) → n ≡ stop_status s → Told (stop_line (file_at_fault s) s)
-    → IsTold Told file_at_fault n
-stop-told Told file_at_fault s n e told =
+pub stop-told : (Told : Text → Type 0) (MayCome : Stop → Type 0) (file_at_fault : Stop → Text) (s : Stop) (n : ℕ) → n ≡ stop_status s → MayCome s → Told (stop_line (file_at_fault s) s)
+    → IsTold Told MayCome file_at_fault n
+stop-told Told MayCome file_at_fault s n e may told =
     let silent : IsSilent n = subst IsSilent (sym e) (stop-silent s) in
     let apart = silent-apart n silent in
     record {
-      stop = λ _. (s, sym e, told);
+      stop = λ _. (s, sym e, may, told);
       fault = λ four. absurd (apart.1 four);
       spent = λ eight. absurd (apart.3 eight);
     }
 
 -- a text tells nothing but why it is not whole, or who did not come to an end
-pub text-told : (Told : Text → Type 0) (file_at_fault : Stop → Text) (n : ℕ) → (IsSilent n → ⊥) → (n ≡ 4 → Told write_fault_line) → (n ≡ 8 → Told turns_spent_line)
-    → IsTold Told file_at_fault n
-text-told Told file_at_fault n loud fault spent = record { stop = λ silent. absurd (loud silent); fault = fault; spent = spent }
+pub text-told : (Told : Text → Type 0) (MayCome : Stop → Type 0) (file_at_fault : Stop → Text) (n : ℕ) → (IsSilent n → ⊥) → (n ≡ 4 → Told write_fault_line) → (n ≡ 8 → Told turns_spent_line)
+    → IsTold Told MayCome file_at_fault n
+text-told Told MayCome file_at_fault n loud fault spent = record { stop = λ silent. absurd (loud silent); fault = fault; spent = spent }
 
 whole-loud : (b : Bool) (n : ℕ) → n ≡ cond b 6 0 → IsSilent n → ⊥
 whole-loud true n e silent = (silent-apart n silent).2 e
@@ -69,7 +69,14 @@ answer-not_eight o n (inl e) = whole-not_eight o.is_open n e
 answer-not_eight o n (inr four) = λ eight. omega arith
 
 -- a call that wrote an answer, or told of the stop in place of one
-pub conclude-told : (Told : Text → Type 0) (file_at_fault : Stop → Text) (answer : Result Output Stop) (n : ℕ) → IfOk answer (λ a. EndsAnswer a n) → IfErr answer (λ stop. n ≡ stop_status stop)
-    → IfErr answer (λ stop. Told (stop_line (file_at_fault stop) stop)) → (n ≡ 4 → Told write_fault_line) → IsTold Told file_at_fault n
-conclude-told Told file_at_fault (Ok o) n ends stopped told fault = text-told Told file_at_fault n (answer-loud o n ends) fault (λ eight. absurd (answer-not_eight o n ends eight))
-conclude-told Told file_at_fault (Err s) n ends stopped told fault = stop-told Told file_at_fault s n stopped told
+pub conclude-told : (Told : Text → Type 0) (MayCome : Stop → Type 0) (file_at_fault : Stop → Text) (answer : Result Output Stop) (n : ℕ) → IfOk answer (λ a. EndsAnswer a n)
+    → IfErr answer (λ stop. n ≡ stop_status stop) → IfErr answer MayCome → IfErr answer (λ stop. Told (stop_line (file_at_fault stop) stop)) → (n ≡ 4 → Told write_fault_line)
+    → IsTold Told MayCome file_at_fault n
+conclude-told Told MayCome file_at_fault (Ok o) n ends stopped may told fault =
+    text-told Told MayCome file_at_fault n (answer-loud o n ends) fault (λ eight. absurd (answer-not_eight o n ends eight))
+conclude-told Told MayCome file_at_fault (Err s) n ends stopped may told fault = stop-told Told MayCome file_at_fault s n stopped may told
+
+-- what the exit of a `?` returns
+pub err-passed : {X F : Type 0} (r : Result X F) (e : F) (P : F → Type 0) → IsErrAnd r (λ passed. passed ≡ e) → P e → IfErr r P
+err-passed (Ok x) e P passed p = tt
+err-passed (Err f) e P passed p = subst P (sym passed) p

@@ -138,9 +138,9 @@ file_at_fault file experts stop = expert_file file experts (stop_expert stop)
 abbrev pub GainsLine : Option Text → Option Text → ℕ → ℕ → Text → Type 0
 GainsLine old new faults faults' line = Appends old new line ⊎ (AppendsFront old new line × Rose faults faults')
 
--- What err gained of a call with this status: the line of a stop that has the status, by the name of the file at fault, where
--- there is no text; and one of its own where out failed, or where a whole text was written of experts who took all their turns
-pub record IsTold (Told : Text → Type 0) (file_at_fault : Stop → Text) (status : ℕ) : Type 0 where
-  pub stop : IsSilent status → (stop : Stop) × (stop_status stop ≡ status) × Told (stop_line (file_at_fault stop) stop)
+-- What err gained of a call with this status: where there is no text, the line of a stop that has the status and may come, by the
+-- name of the file at fault; and one of its own where out failed, or where a text was written of experts who took all their turns
+pub record IsTold (Told : Text → Type 0) (MayCome : Stop → Type 0) (file_at_fault : Stop → Text) (status : ℕ) : Type 0 where
+  pub stop : IsSilent status → (stop : Stop) × (stop_status stop ≡ status) × MayCome stop × Told (stop_line (file_at_fault stop) stop)
   pub fault : status ≡ 4 → Told write_fault_line
   pub spent : status ≡ 8 → Told turns_spent_line
