@@ -1,3 +1,5 @@
+pub mod Causes
+pub mod ErrLines
 pub mod Readings
 pub mod Forms
 pub mod Endings

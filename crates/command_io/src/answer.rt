@@ -5,8 +5,9 @@ ghost use Rattle.std.specs.Io.KnownBytes.{Appends};
 ghost use Rattle.fca_io.specs.Faults.{Rose};
 ghost use Rattle.fca_io.specs.Transfers.{AppendsFront};
 ghost use Rattle.command_io.specs.Endings.{finished, stop_status, IsWhole, EndsAnswer};
+ghost use Rattle.command_io.specs.ErrLines.{stop_line, write_fault_line, GainsLine};
 
-use crate::err_line::report;
+use crate::err_line::{report, report_plain};
 use crate::stop::Stop;
 use fca_io::{Sink, write_text};
 use std::marker::Model;
@@ -55,6 +56,8 @@ pub fn conclude<K: Sink, E: Sink>(
 
     ensures fault { result ≡ 4 → Rose (K.faults out.old) (K.faults out.new) }
     ensures quiet { IsWhole result → err.new ≡ err.old }
+    ensures told { IfErr answer (λ stop. GainsLine (E.held err.old) (E.held err.new) (E.faults err.old) (E.faults err.new) (stop_line file.now stop)) }
+    ensures told_fault { result ≡ 4 → GainsLine (E.held err.old) (E.held err.new) (E.faults err.old) (E.faults err.new) write_fault_line }
 {
     match answer {
         Ok(answer) => written(&answer, out, err),
@@ -72,9 +75,10 @@ fn written<K: Sink, E: Sink>(answer: &Answer, out: &mut K, err: &mut E) -> u8
     ensures front { result ≡ 4 → AppendsFront (K.held out.old) (K.held out.new) answer.now.text }
     ensures fault { result ≡ 4 → Rose (K.faults out.old) (K.faults out.new) }
     ensures quiet { IsWhole result → err.new ≡ err.old }
+    ensures told_fault { result ≡ 4 → GainsLine (E.held err.old) (E.held err.new) (E.faults err.old) (E.faults err.new) write_fault_line }
 {
     if write_text(out, &answer.text).is_err() {
-        let _ = write_text(err, b"fca: write fault\n");
+        report_plain(err, b"write fault");
         return 4;
     }
     if answer.is_open { 6 } else { 0 }

@@ -1,5 +1,10 @@
 //! The line on err that tells why there is no text.
 
+ghost use Rattle.std.specs.Prelude.{◌≡◌};
+ghost use Rattle.std.specs.List.{flat_map};
+ghost use Rattle.expert_wire.specs.Parts.{Writes};
+ghost use Rattle.command_io.specs.ErrLines.{plain_line, numbered_line, field_line, placed_line, cxt_told, csv_told, script_told, name_of, stop_line, write_fault_line, GainsLine};
+
 use crate::stop::{Origin, Stop};
 use csv_context::CsvFault;
 use cxt_format::CxtFault;
@@ -9,7 +14,7 @@ use itoa::Buffer;
 
 /// Where in a file or a script a fault is.
 #[derive(Clone, Copy)]
-enum Place {
+pub enum Place {
     Whole,
     Byte(usize),
     Line(usize),
@@ -18,74 +23,172 @@ enum Place {
 }
 
 /// Tells why there is no text: `file` is the name of the file that is at fault, if one is. What err refuses is lost.
-pub fn report<E: Sink>(err: &mut E, file: &[u8], stop: &Stop) {
-    let _ = write_line(err, file, stop);
+pub fn report<E: Sink>(err: &mut E, file: &[u8], stop: &Stop)
+    ensures { GainsLine (E.held err.old) (E.held err.new) (E.faults err.old) (E.faults err.new) (stop_line file.now stop.now) }
+{
+    let _ = write_stop(err, file, stop);
 }
 
-fn write_line<E: Sink>(err: &mut E, file: &[u8], stop: &Stop) -> Result<(), Put> {
-    write_text(err, b"fca: ")?;
-    write_stop(err, file, stop)?;
-    write_text(err, b"\n")
+/// Tells in these words what went wrong.
+pub fn report_plain<E: Sink>(err: &mut E, words: &[u8])
+    ensures { GainsLine (E.held err.old) (E.held err.new) (E.faults err.old) (E.faults err.new) (plain_line words.now) }
+{
+    let _ = write_plain(err, words);
 }
 
-fn write_stop<E: Sink>(err: &mut E, file: &[u8], stop: &Stop) -> Result<(), Put> {
+fn write_stop<E: Sink>(err: &mut E, file: &[u8], stop: &Stop) -> Result<(), Put>
+    ensures { Writes (E.held err.old) (E.held err.new) (E.faults err.old) (E.faults err.new) (E.beside err.old) (E.beside err.new)
+        (E.faults_beside err.old) (E.faults_beside err.new) (stop_line file.now stop.now) result }
+{
     match stop {
-        Stop::NoCommand => write_text(err, b"no such command"),
-        Stop::TooLong(origin) => write_fault(err, file, *origin, Place::Whole, b"too long"),
+        Stop::NoCommand => write_plain(err, b"no such command"),
+        Stop::TooLong(origin) => {
+            write_placed(err, name_of(file, *origin), Place::Whole, b"too long")
+        }
         Stop::NoTable(origin, fault) => {
             let (place, words) = table_fault(fault);
-            write_fault(err, file, *origin, place, words)
+            write_placed(err, name_of(file, *origin), place, words)
         }
         Stop::NoCsv(origin, fault) => {
             let (place, words) = csv_fault(fault);
-            write_fault(err, file, *origin, place, words)
+            write_placed(err, name_of(file, *origin), place, words)
         }
         Stop::NoScript(fault) => {
             let (place, words) = script_fault(fault);
-            write_fault(err, file, Origin::Input, place, words)
+            write_placed(err, b"input", place, words)
         }
-        Stop::UnknownAttribute => write_text(err, b"unknown attribute"),
-        Stop::OtherAttributes(origin) => {
-            write_fault(err, file, *origin, Place::Whole, b"attributes differ")
+        Stop::UnknownAttribute => write_plain(err, b"unknown attribute"),
+        Stop::OtherAttributes(origin) => write_placed(
+            err,
+            name_of(file, *origin),
+            Place::Whole,
+            b"attributes differ",
+        ),
+        Stop::Fault(origin) => {
+            write_placed(err, name_of(file, *origin), Place::Whole, b"read fault")
         }
-        Stop::Fault(origin) => write_fault(err, file, *origin, Place::Whole, b"read fault"),
-        Stop::Listener => write_text(err, b"listener fault"),
-        Stop::Memory => write_text(err, b"no memory"),
+        Stop::Listener => write_plain(err, b"listener fault"),
+        Stop::Memory => write_plain(err, b"no memory"),
     }
 }
 
-fn write_fault<E: Sink>(
-    err: &mut E,
-    file: &[u8],
-    origin: Origin,
-    place: Place,
-    words: &[u8],
-) -> Result<(), Put> {
+/// The name under which the line speaks of what is at fault.
+fn name_of(file: &[u8], origin: Origin) -> &[u8]
+    ensures { result.now ≡ name_of file.now origin }
+{
     match origin {
-        Origin::File | Origin::Expert(_) => write_text(err, file)?,
-        Origin::Input => write_text(err, b"input")?,
+        Origin::File | Origin::Expert(_) => file,
+        Origin::Input => b"input",
     }
-    write_text(err, b": ")?;
+}
+
+/// A line of these words alone.
+fn write_plain<E: Sink>(err: &mut E, words: &[u8]) -> Result<(), Put>
+    ensures { Writes (E.held err.old) (E.held err.new) (E.faults err.old) (E.faults err.new) (E.beside err.old) (E.beside err.new)
+        (E.faults_beside err.old) (E.faults_beside err.new) (plain_line words.now) result }
+{
+    write_parts(err, &[b"fca: ", words, b"\n"])
+}
+
+/// A line of these words on a place of what has this name.
+fn write_placed<E: Sink>(err: &mut E, name: &[u8], place: Place, words: &[u8]) -> Result<(), Put>
+    ensures { Writes (E.held err.old) (E.held err.new) (E.faults err.old) (E.faults err.new) (E.beside err.old) (E.beside err.new)
+        (E.faults_beside err.old) (E.faults_beside err.new) (placed_line name.now place words.now) result }
+{
     match place {
-        Place::Whole => {}
-        Place::Byte(number) => write_number(err, b"byte ", number)?,
-        Place::Line(number) => write_number(err, b"line ", number)?,
-        Place::Record(number) => write_number(err, b"record ", number)?,
-        Place::Field(record, field) => {
-            write_number(err, b"record ", record)?;
-            write_number(err, b"field ", field)?;
-        }
+        Place::Whole => write_parts(err, &[b"fca: ", name, b": ", words, b"\n"]),
+        Place::Byte(at) => write_numbered(
+            err,
+            name,
+            b": byte ",
+            Buffer::new().format(at).as_bytes(),
+            words,
+        ),
+        Place::Line(at) => write_numbered(
+            err,
+            name,
+            b": line ",
+            Buffer::new().format(at).as_bytes(),
+            words,
+        ),
+        Place::Record(at) => write_numbered(
+            err,
+            name,
+            b": record ",
+            Buffer::new().format(at).as_bytes(),
+            words,
+        ),
+        Place::Field(at, field) => write_field(
+            err,
+            name,
+            Buffer::new().format(at).as_bytes(),
+            Buffer::new().format(field).as_bytes(),
+            words,
+        ),
     }
-    write_text(err, words)
 }
 
-fn write_number<E: Sink>(err: &mut E, kind: &[u8], number: usize) -> Result<(), Put> {
-    write_text(err, kind)?;
-    write_text(err, Buffer::new().format(number).as_bytes())?;
-    write_text(err, b": ")
+/// A line of these words on the place of this kind, which has this number.
+fn write_numbered<E: Sink>(
+    err: &mut E,
+    name: &[u8],
+    kind: &[u8],
+    number: &[u8],
+    words: &[u8],
+) -> Result<(), Put>
+    ensures { Writes (E.held err.old) (E.held err.new) (E.faults err.old) (E.faults err.new) (E.beside err.old) (E.beside err.new)
+        (E.faults_beside err.old) (E.faults_beside err.new) (numbered_line name.now kind.now number.now words.now) result }
+{
+    write_parts(err, &[b"fca: ", name, kind, number, b": ", words, b"\n"])
 }
 
-fn table_fault(fault: &CxtFault) -> (Place, &'static [u8]) {
+/// A line of these words on a field of a record.
+fn write_field<E: Sink>(
+    err: &mut E,
+    name: &[u8],
+    number: &[u8],
+    field: &[u8],
+    words: &[u8],
+) -> Result<(), Put>
+    ensures { Writes (E.held err.old) (E.held err.new) (E.faults err.old) (E.faults err.new) (E.beside err.old) (E.beside err.new)
+        (E.faults_beside err.old) (E.faults_beside err.new) (field_line name.now number.now field.now words.now) result }
+{
+    let parts: [&[u8]; 9] = [
+        b"fca: ",
+        name,
+        b": record ",
+        number,
+        b": field ",
+        field,
+        b": ",
+        words,
+        b"\n",
+    ];
+    write_parts(err, &parts)
+}
+
+/// The parts, one behind the other.
+fn write_parts<E: Sink>(err: &mut E, parts: &[&[u8]]) -> Result<(), Put>
+    ensures { Writes (E.held err.old) (E.held err.new) (E.faults err.old) (E.faults err.new) (E.beside err.old) (E.beside err.new)
+        (E.faults_beside err.old) (E.faults_beside err.new) (flat_map (λ part. part.now) parts.now) result }
+{
+    for part in parts {
+        write_part(err, part)?;
+    }
+    Ok(())
+}
+
+fn write_part<E: Sink>(err: &mut E, part: &[u8]) -> Result<(), Put>
+    ensures { Writes (E.held err.old) (E.held err.new) (E.faults err.old) (E.faults err.new) (E.beside err.old) (E.beside err.new)
+        (E.faults_beside err.old) (E.faults_beside err.new) part.now result }
+{
+    write_text(err, part)
+}
+
+fn table_fault(fault: &CxtFault) -> (Place, &'static [u8])
+    ensures place { result.0 ≡ (cxt_told fault.now).0 }
+    ensures words { result.1.now ≡ (cxt_told fault.now).1 }
+{
     match fault {
         CxtFault::NotUtf8(at) => (Place::Byte(*at), b"not UTF-8"),
         CxtFault::NotB => (Place::Line(1), b"not B"),
@@ -102,7 +205,10 @@ fn table_fault(fault: &CxtFault) -> (Place, &'static [u8]) {
     }
 }
 
-fn csv_fault(fault: &CsvFault) -> (Place, &'static [u8]) {
+fn csv_fault(fault: &CsvFault) -> (Place, &'static [u8])
+    ensures place { result.0 ≡ (csv_told fault.now).0 }
+    ensures words { result.1.now ≡ (csv_told fault.now).1 }
+{
     match fault {
         CsvFault::NotUtf8(at) => (Place::Byte(*at), b"not UTF-8"),
         CsvFault::NoHeader => (Place::Whole, b"no header"),
@@ -118,7 +224,10 @@ fn csv_fault(fault: &CsvFault) -> (Place, &'static [u8]) {
     }
 }
 
-fn script_fault(fault: &ScriptFault) -> (Place, &'static [u8]) {
+fn script_fault(fault: &ScriptFault) -> (Place, &'static [u8])
+    ensures place { result.0 ≡ (script_told fault.now).0 }
+    ensures words { result.1.now ≡ (script_told fault.now).1 }
+{
     match fault {
         ScriptFault::BadLine(line) => (Place::Line(*line), b"bad line"),
         ScriptFault::BadExpert(line) => (Place::Line(*line), b"bad expert"),

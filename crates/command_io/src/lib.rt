@@ -7,6 +7,6 @@ mod readings;
 mod stop;
 
 pub use answer::{Answer, conclude};
-pub use err_line::report;
+pub use err_line::{report, report_plain};
 pub use readings::{script_on, table_under};
 pub use stop::{Origin, Stop};

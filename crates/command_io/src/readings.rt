@@ -1,6 +1,6 @@
 //! A file as a table, and the input as a script.
 
-ghost use Rattle.std.specs.Prelude.{◌≡◌, ◌≤◌, ℕ, List, IfOk, IfErr, OnOk, length, true, Result};
+ghost use Rattle.std.specs.Prelude.{◌≡◌, ◌≤◌, ℕ, List, IfOk, IfErr, OnOk, length, true, false, Some, Result};
 ghost use Rattle.std.specs.List.{list_all};
 ghost use Rattle.std.specs.Io.KnownBytes.{IsAtEnd};
 ghost use Rattle.fca_model.specs.declared.TheConstants.{MAX_ATTRIBUTES, FILE_BYTES};
@@ -10,6 +10,7 @@ ghost use Rattle.cxt_format.specs.Form.{cxt_form};
 ghost use Rattle.csv_context.specs.Form.{csv_form};
 ghost use Rattle.command_io.specs.Readings.{formed, MayRead};
 ghost use Rattle.command_io.specs.Forms.{is_csv, table_formed, may_apply, table_read, script_read};
+ghost use Rattle.command_io.specs.Causes.{taken_stop, IsFormStop, IsFileStop, IsScriptStop};
 ghost use Rattle.command_io.specs.Endings.{stop_status, Stops, taken_status};
 
 use crate::stop::{Origin, Stop};
@@ -24,7 +25,8 @@ use std::alloc::Global;
 
 /// Why bytes of this origin were not taken.
 fn not_taken(taken: Taken, origin: Origin) -> Stop
-    ensures { stop_status result ≡ taken_status taken }
+    ensures stop { result ≡ taken_stop taken origin }
+    ensures status { stop_status result ≡ taken_status taken }
 {
     match taken {
         Taken::Failed => Stop::Fault(origin),
@@ -43,6 +45,7 @@ pub fn table_under<H: Shelf>(
     ensures table { IfOk result (λ table. MayRead (table_read file.now (H.tells shelf.old file.now)) table) }
     ensures stop { IfErr result (λ stop. Stops (table_read file.now (H.tells shelf.old file.now))
         (Rose (H.faults shelf.old file.now) (H.faults shelf.new file.now)) (stop_status stop)) }
+    ensures cause { IfErr result (IsFileStop file.now (H.tells shelf.old file.now) origin) }
     ensures kept { (other : List ℕ) → H.tells shelf.new other ≡ H.tells shelf.old other }
     ensures later { (other : List ℕ) → H.faults shelf.old other ≤ H.faults shelf.new other }
 {
@@ -57,6 +60,7 @@ pub fn table_under<H: Shelf>(
 fn table_of(alloc: Global, bytes: &[u8], name: &[u8], origin: Origin) -> Result<Table, Stop>
     ensures table { IfOk result (λ table. MayRead (table_formed name.now bytes.now) table) }
     ensures stop { IfErr result (λ stop. Stops (table_formed name.now bytes.now) ⊥ (stop_status stop)) }
+    ensures cause { IfErr result (IsFormStop name.now origin bytes.now) }
 {
     if is_csv(name) {
         csv_table(alloc, bytes, origin)
@@ -75,6 +79,7 @@ fn is_csv(name: &[u8]) -> bool
 fn csv_table(alloc: Global, bytes: &[u8], origin: Origin) -> Result<Table, Stop>
     ensures table { IfOk result (λ table. MayRead (formed (csv_form bytes.now)) table) }
     ensures stop { IfErr result (λ stop. Stops (formed (csv_form bytes.now)) ⊥ (stop_status stop)) }
+    ensures cause { (name : List ℕ) → is_csv name ≡ true → IfErr result (IsFormStop name origin bytes.now) }
 {
     match read_csv(alloc, bytes) {
         Ok(table) => Ok(table),
@@ -86,6 +91,7 @@ fn csv_table(alloc: Global, bytes: &[u8], origin: Origin) -> Result<Table, Stop>
 fn cxt_table(alloc: Global, bytes: &[u8], origin: Origin) -> Result<Table, Stop>
     ensures table { IfOk result (λ table. MayRead (formed (cxt_form bytes.now)) table) }
     ensures stop { IfErr result (λ stop. Stops (formed (cxt_form bytes.now)) ⊥ (stop_status stop)) }
+    ensures cause { (name : List ℕ) → is_csv name ≡ false → IfErr result (IsFormStop name origin bytes.now) }
 {
     match read_cxt(alloc, bytes) {
         Ok(table) => Ok(table),
@@ -101,6 +107,7 @@ pub fn script_on<S: Source>(alloc: Global, input: &mut S, n: u32) -> Result<Vec<
     ensures fits { IfOk result (λ events. list_all (may_apply n) events.items ≡ true) }
     ensures end { OnOk result (IsAtEnd (S.left input.new)) }
     ensures stop { IfErr result (λ stop. Stops (script_read n (S.left input.old)) (Rose (S.faults input.old) (S.faults input.new)) (stop_status stop)) }
+    ensures cause { IfErr result (IsScriptStop n (S.left input.old)) }
 {
     let bytes = match read_all(alloc, input, FILE_BYTES) {
         Ok(bytes) => bytes,
@@ -115,6 +122,7 @@ fn script_of(alloc: Global, bytes: &[u8], n: u32) -> Result<Vec<Event>, Stop>
     ensures script { IfOk result (λ events. MayRead (formed (script_form bytes.now n)) events.items) }
     ensures fits { IfOk result (λ events. list_all (may_apply n) events.items ≡ true) }
     ensures stop { IfErr result (λ stop. Stops (formed (script_form bytes.now n)) ⊥ (stop_status stop)) }
+    ensures cause { IfErr result (IsScriptStop n (Some bytes.now)) }
 {
     match read_script(alloc, bytes, n) {
         Ok(events) => Ok(events),

@@ -2,6 +2,7 @@
 
 ghost use Rattle.std.specs.Prelude.{◌≡◌};
 ghost use Rattle.command_io.specs.Endings.{stop_status};
+ghost use Rattle.command_io.specs.ErrLines.{stop_expert};
 
 use csv_context::CsvFault;
 use cxt_format::CxtFault;
@@ -67,7 +68,9 @@ impl<T: Drop> From<AllocFailed<T>> for Stop {
 
 impl Stop {
     /// The place of the expert whose file is at fault, if one is.
-    pub fn expert(&self) -> Option<usize> {
+    pub fn expert(&self) -> Option<usize>
+        ensures { result ≡ stop_expert self.now }
+    {
         match self {
             Stop::TooLong(Origin::Expert(place))
             | Stop::NoTable(Origin::Expert(place), _)

@@ -4,6 +4,7 @@ use Rattle.std.proofs.Common.{◌≡◌, ◌∙◌, ◌≤◌, ◌<◌, ◌+◌,
 use Rattle.std.specs.Prelude.{bytes_eq, IfErr, IsErr, IsErrAnd}
 use Rattle.std.proofs.Math.Seq.{drop-cons}
 use Rattle.std.proofs.lemmas.List.{drop_all}
+use Rattle.std.proofs.lemmas.Option.{slice_get_read}
 use Rattle.std.proofs.lemmas.Bool.{and_parts, cases_Bool}
 use Rattle.std.proofs.lemmas.Slice.Eq.{bytes_eq-Decides}
 use Rattle.fca_model.specs.Tables.{Text, NamedContext}
@@ -11,9 +12,10 @@ use Rattle.fca_io.specs.Faults.{Rose}
 use Rattle.fca_io.specs.Shelves.{Told}
 use Rattle.command_io.specs.Readings.{Reading, then, MayRead, MayRefuse}
 use Rattle.command_io.specs.Readings.Reading.{Untold, Refused, Read}
-use Rattle.explore_command.specs.Panels.{Panel, same_names, agreeing, expert_read, experts_read, panel_read, SomeRose, FileRose}
+use Rattle.explore_command.specs.Panels.{Panel, same_names, agreeing, expert_read, experts_read, panel_read, IsExpertStop, IsExpertsStop, SomeRose, FileRose}
 use Rattle.command_io.specs.Forms.{table_read}
 use Rattle.command_io.specs.Endings.{Stops, stop_status}
+use Rattle.command_io.specs.declared.stop.Origin.TheVariants.{Expert}
 use Rattle.command_io.specs.declared.stop.Stop.{Stop}
 
 -- ---- names
@@ -203,6 +205,21 @@ Stops-panel file files tells now counts between after table n here same later st
       fault = λ three. inr (SomeRose-before files counts between after later (stop.fault three));
       others = stop.others;
     }
+
+-- ---- which stop it is
+
+-- of an expert's file, which tells the same now
+pub experts-stop : (files : List Text) (i : ℕ) (file : Text) (tells now : Text → Told) (s : Stop) → i < length files → file ≡ get_or files i file
+    → ((other : Text) → now other ≡ tells other) → IsExpertStop file (now file) (Expert i) s → IsExpertsStop files tells s
+experts-stop files i file tells now s inside is same stop =
+    let StopsOf : Told → Type 0 = λ told. IsExpertStop file told (Expert i) s in
+    inr (i, file, slice_get_read files (length files) i file refl inside is, subst StopsOf (same file) stop)
+
+pub told-later : (experts : List Text) (tells now : Text → Told) (s : Stop) → ((other : Text) → now other ≡ tells other) → IsExpertsStop experts now s → IsExpertsStop experts tells s
+told-later experts tells now s same (inl memory) = inl memory
+told-later experts tells now s same (inr found) =
+    let StopsOf : Told → Type 0 = λ told. IsExpertStop found.1 told (Expert found.0) s in
+    inr (found.0, found.1, found.2, subst StopsOf (same found.1) found.3)
 
 -- ---- stops that are passed on
 

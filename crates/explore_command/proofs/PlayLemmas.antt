@@ -1,6 +1,6 @@
 -- The text of an exploration by oracles: the conflicts that the oracles have are those of their entries, lines of conflicts change nothing of what the text
 -- spells, and what is promised of the oracles is said of the tables of the experts.
-use Rattle.std.proofs.Common.{◌≡◌, ◌↔◌, ◌⊎◌, ◌≤◌, ◌<◌, ◌∙◌, ◌+◌, ◌++◌, ◌∷◌, [], ℕ, suc, List, Bool, true, false, All, map, length, append_assoc, Option, Some, None, refl, sym, ap, subst, arith}
+use Rattle.std.proofs.Common.{◌≡◌, ◌↔◌, ◌⊎◌, ◌≤◌, ◌<◌, ◌∙◌, ◌+◌, ◌++◌, ◌∷◌, [], ℕ, suc, List, Bool, true, false, All, map, length, append_assoc, Option, Some, None, inl, inr, refl, sym, ap, subst, arith}
 use Rattle.std.specs.Prelude.{slice_get, option_map, codes}
 use Rattle.std.specs.List.{flat_map, enumerate_from}
 use Rattle.std.proofs.lemmas.Option.{slice_get-map}
@@ -24,10 +24,12 @@ use Rattle.basis_report.specs.Explorations.{recorded_section, accepted_section, 
 use Rattle.basis_report.specs.Conflicts.{dropped_at, dropped_of, dropped_from, conflicts_section, conflicts_text}
 use Rattle.basis_report.proofs.ExplorationLemmas.{sections-plain}
 use Rattle.basis_report.proofs.OrderLemmas.{finished_basis}
+use Rattle.command_io.specs.Endings.{IsSilent}
 use Rattle.command_io.specs.Explorations.{opening_of, open_at}
+use Rattle.command_io.proofs.ErrLemmas.{silent-apart}
 use Rattle.command_io.proofs.CourseLemmas.{legal-course}
 use Rattle.explore_command.specs.Panels.{Panel}
-use Rattle.explore_command.specs.Played.{turns, IsShare, dropped_in, played, panel_text, recorded_text, basis_alone, IsPanelText}
+use Rattle.explore_command.specs.Played.{turns, IsShare, dropped_in, played, panel_text, recorded_text, basis_alone, played_status, IsPanelText}
 
 -- an oracle's table with its conflicts
 abbrev pub with_conflicts : Recall → NamedContext × Conflicts
@@ -165,3 +167,11 @@ IsPanelText-play p explore oracles spent first conflicts text expert play first_
       unspent = play.unspent;
       agreed = agreed-play p explore oracles spent first conflicts text play first_is conflicts_is joined;
     }
+
+-- ---- what is told
+
+-- the status of a text that was written, whole or not, is none of a stop
+pub played-loud : (spent : Bool) (n : ℕ) → (n ≡ played_status spent) ⊎ (n ≡ 4) → IsSilent n → ⊥
+played-loud true n (inl eight) silent = (silent-apart n silent).3 eight
+played-loud false n (inl zero) silent = (silent-apart n silent).0 zero
+played-loud spent n (inr four) silent = (silent-apart n silent).1 four

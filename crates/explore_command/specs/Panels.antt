@@ -1,11 +1,16 @@
 -- What `explore` reads: a table, and of each expert a table that has the same attributes in the same order.
-use Rattle.std.specs.Prelude.{ℕ, ◌⊎◌, Bool, true, false, ◌&&◌, cond, List, [], ◌∷◌, bytes_eq}
+use Rattle.std.specs.Prelude.{◌≡◌, ℕ, ◌⊎◌, Bool, true, false, ◌&&◌, cond, Some, List, [], ◌∷◌, slice_get, bytes_eq}
 use Rattle.fca_model.specs.Tables.{Text, NamedContext}
 use Rattle.fca_io.specs.Faults.{Rose}
 use Rattle.fca_io.specs.Shelves.{Told}
 use Rattle.command_io.specs.Readings.{Reading, then}
 use Rattle.command_io.specs.Readings.Reading.{Refused, Read}
 use Rattle.command_io.specs.Forms.{table_read}
+use Rattle.command_io.specs.Causes.{IsFileStop}
+use Rattle.command_io.specs.declared.stop.Origin.{Origin}
+use Rattle.command_io.specs.declared.stop.Origin.TheVariants.{File, Expert}
+use Rattle.command_io.specs.declared.stop.Stop.{Stop}
+use Rattle.command_io.specs.declared.stop.Stop.TheVariants.{OtherAttributes, Memory}
 
 -- a table, and those of the experts
 pub record Panel : Type 0 where
@@ -38,6 +43,19 @@ panel_read file experts files =
     then (table_read file (files file)) (λ table.
     then (experts_read table experts files) (λ tables.
     Read (record { table = table; experts = tables })))
+
+-- the stop of the file of an expert, whose table has other attributes where it has one
+abbrev pub IsExpertStop : Text → Told → Origin → Stop → Type 0
+IsExpertStop file told origin stop = IsFileStop file told origin stop ⊎ (stop ≡ OtherAttributes origin)
+
+-- the stop of the file of one of the experts, or of memory
+abbrev pub IsExpertsStop : List Text → (Text → Told) → Stop → Type 0
+IsExpertsStop experts files stop =
+    (stop ≡ Memory) ⊎ ((place : ℕ) × (file : Text) × (slice_get experts place ≡ Some file) × IsExpertStop file (files file) (Expert place) stop)
+
+-- the stop of the first file, or of the file of one of the experts
+abbrev pub IsPanelStop : Text → List Text → (Text → Told) → Stop → Type 0
+IsPanelStop file experts files stop = IsFileStop file (files file) File stop ⊎ IsExpertsStop experts files stop
 
 -- a count of faults rose for one of the files
 abbrev pub SomeRose : (Text → ℕ) → (Text → ℕ) → List Text → Type 0

@@ -4,7 +4,7 @@ ghost use Rattle.std.specs.Prelude.{◌≡◌, ◌≤◌, ℕ, List, All, IfOk, 
 ghost use Rattle.command_io.specs.Readings.{MayRead};
 ghost use Rattle.command_io.specs.Endings.{stop_status, Stops};
 ghost use Rattle.fca_io.specs.Faults.{Rose};
-ghost use Rattle.explore_command.specs.Panels.{agreeing, expert_read, experts_read, panel_read, SomeRose, FileRose};
+ghost use Rattle.explore_command.specs.Panels.{agreeing, expert_read, experts_read, panel_read, IsExpertStop, IsExpertsStop, IsPanelStop, SomeRose, FileRose};
 
 use command_io::{Origin, Stop, table_under};
 use context_table::Table;
@@ -40,6 +40,7 @@ pub fn panel_under<H: Shelf>(
     ensures wide { IfOk result (λ panel. All (λ expert. expert.context.width ≡ panel.table.context.width) panel.experts) }
     ensures stop { IfErr result (λ stop. Stops (panel_read file.now experts.now (H.tells shelf.old))
         (FileRose (H.faults shelf.old) (H.faults shelf.new) file.now experts.now) (stop_status stop)) }
+    ensures cause { IfErr result (IsPanelStop file.now experts.now (H.tells shelf.old)) }
 {
     let table = table_under(alloc, shelf, file, Origin::File)?;
     let experts = experts_under(alloc, shelf, &table, experts)?;
@@ -58,6 +59,7 @@ fn experts_under<H: Shelf>(
     ensures wide { IfOk result (λ tables. All (λ expert. expert.context.width ≡ table.now.context.width) tables.items) }
     ensures stop { IfErr result (λ stop. Stops (experts_read table.now files.now (H.tells shelf.old))
         (SomeRose (H.faults shelf.old) (H.faults shelf.new) files.now) (stop_status stop)) }
+    ensures cause { IfErr result (IsExpertsStop files.now (H.tells shelf.old)) }
     ensures later { (other : List ℕ) → H.faults shelf.old other ≤ H.faults shelf.new other }
 {
     let mut tables = Vec::new(alloc);
@@ -80,6 +82,7 @@ fn expert_under<H: Shelf>(
     ensures wide { IfOk result (λ expert. expert.context.width ≡ table.now.context.width) }
     ensures stop { IfErr result (λ stop. Stops (expert_read table.now file.now (H.tells shelf.old))
         (Rose (H.faults shelf.old file.now) (H.faults shelf.new file.now)) (stop_status stop)) }
+    ensures cause { IfErr result (IsExpertStop file.now (H.tells shelf.old file.now) origin) }
     ensures kept { (other : List ℕ) → H.tells shelf.new other ≡ H.tells shelf.old other }
     ensures later { (other : List ℕ) → H.faults shelf.old other ≤ H.faults shelf.new other }
 {
@@ -93,6 +96,7 @@ fn agreeing(table: &Table, expert: Table, origin: Origin) -> Result<Table, Stop>
     ensures same { IfOk result (λ r. r ≡ expert) }
     ensures wide { IfOk result (λ r. r.context.width ≡ table.now.context.width) }
     ensures stop { IfErr result (λ stop. Stops (agreeing table.now expert) ⊥ (stop_status stop)) }
+    ensures cause { IfErr result (λ stop. stop ≡ Stop.OtherAttributes origin) }
 {
     if expert.rows().width() == table.rows().width() && expert.same_attributes(table) {
         Ok(expert)

@@ -1,20 +1,21 @@
 //! The exploration by the oracles of the panel, its text, and the status of the call.
 
-ghost use Rattle.std.specs.Prelude.{◌≡◌, ◌≤◌, ◌⊎◌, true, All, Result, Ok, Err, IfOk, IfErr, length};
+ghost use Rattle.std.specs.Prelude.{◌≡◌, ◌≤◌, ◌⊎◌, true, All, Result, Ok, Err, Some, IfOk, IfErr, length};
 ghost use Rattle.std.specs.Io.KnownBytes.{Appends};
 ghost use Rattle.fca_model.specs.Exploration.{is_expert};
 ghost use Rattle.fca_io.specs.Faults.{Rose};
 ghost use Rattle.fca_io.specs.Transfers.{AppendsFront};
 ghost use Rattle.command_io.specs.Readings.{IfRead};
 ghost use Rattle.command_io.specs.Endings.{IsCutOff, IsSilent, Stops, stop_status};
-ghost use Rattle.explore_command.specs.Panels.{panel_read, FileRose};
+ghost use Rattle.command_io.specs.ErrLines.{expert_file, file_at_fault, write_fault_line, turns_spent_line, GainsLine, IsTold};
+ghost use Rattle.explore_command.specs.Panels.{panel_read, IsPanelStop, FileRose};
 ghost use Rattle.explore_command.specs.Played.{IsPanelText, HasPlayed, HasBegun, IsPlayed, Plays, played_status};
 
 use crate::panel::{Panel, panel_under};
 use basis_report::{conflicts_text, explore_text};
-use command_io::{Answer, Stop, conclude};
+use command_io::{Answer, Stop, conclude, report_plain};
 use expert_panel::explore_with_oracles;
-use fca_io::{Shelf, Sink, write_text};
+use fca_io::{Shelf, Sink};
 use fca_model::{Memory, Word};
 use std::alloc::Global;
 use std::sync::Wait;
@@ -53,22 +54,38 @@ pub fn explore<R: Threads + Wait + Sync, H: Shelf, K: Sink, E: Sink>(
     ensures partial_output { result ≡ 4 → IfRead (panel_read file.now experts.now (H.tells shelf.old))
         (λ panel. HasBegun (AppendsFront (K.held out.old) (K.held out.new)) panel) }
     ensures no_output { IsSilent result → out.new ≡ out.old }
+
+    // What err gained.
     ensures quiet { result ≡ 0 → err.new ≡ err.old }
+    ensures told { IsTold (GainsLine (E.held err.old) (E.held err.new) (E.faults err.old) (E.faults err.new))
+        (IsPanelStop file.now experts.now (H.tells shelf.old)) (file_at_fault file.now experts.now) result }
 {
     match exploration(rt, alloc, shelf, file, experts) {
         Ok(played) => write_played(played, out, err),
         Err(stop) => {
-            let name = name_at_fault(&stop, file, experts);
+            let name = file_at_fault(&stop, file, experts);
             conclude(Err(stop), name, out, err)
         }
     }
 }
 
 /// The name of the file that is at fault.
-fn name_at_fault<'a>(stop: &Stop, file: &'a Word, experts: &'a [Word]) -> &'a [u8] {
+fn file_at_fault<'a>(stop: &Stop, file: &'a Word, experts: &'a [Word]) -> &'a [u8]
+    ensures { result.now ≡ file_at_fault file.now experts.now stop.now }
+{
     match stop.expert() {
-        Some(place) if place < experts.len() => experts[place].bytes(),
-        _ => file.bytes(),
+        Some(place) => expert_file(file, experts, place),
+        None => file.bytes(),
+    }
+}
+
+/// The name of the expert's file, where there is one.
+fn expert_file<'a>(file: &'a Word, experts: &'a [Word], place: usize) -> &'a [u8]
+    ensures { result.now ≡ expert_file file.now experts.now (Some place) }
+{
+    match experts.get(place) {
+        Some(expert) => expert.bytes(),
+        None => file.bytes(),
     }
 }
 
@@ -79,10 +96,12 @@ fn write_played<K: Sink, E: Sink>(played: Played, out: &mut K, err: &mut E) -> u
     ensures front { result ≡ 4 → AppendsFront (K.held out.old) (K.held out.new) played.text.items }
     ensures fault { result ≡ 4 → Rose (K.faults out.old) (K.faults out.new) }
     ensures quiet { result ≡ 0 → err.new ≡ err.old }
+    ensures told_fault { result ≡ 4 → GainsLine (E.held err.old) (E.held err.new) (E.faults err.old) (E.faults err.new) write_fault_line }
+    ensures told_spent { result ≡ 8 → GainsLine (E.held err.old) (E.held err.new) (E.faults err.old) (E.faults err.new) turns_spent_line }
 {
     let status = conclude(Ok(Answer::finished(played.text)), b"", out, err);
     if status == 0 && played.spent {
-        let _ = write_text(err, b"fca: turns spent\n");
+        report_plain(err, b"turns spent");
         return 8;
     }
     status
@@ -100,6 +119,7 @@ fn exploration<R: Threads + Wait + Sync, H: Shelf>(
     ensures played { IfOk result (λ played. IfRead (panel_read file.now experts.now (H.tells shelf.old)) (λ panel. IsPanelText panel played.text.items played.spent)) }
     ensures stop { IfErr result (λ stop. Stops (panel_read file.now experts.now (H.tells shelf.old))
         (FileRose (H.faults shelf.old) (H.faults shelf.new) file.now experts.now) (stop_status stop)) }
+    ensures cause { IfErr result (IsPanelStop file.now experts.now (H.tells shelf.old)) }
 {
     let panel = panel_under(alloc, shelf, file, experts)?;
     Ok(play(rt, alloc, panel)?)

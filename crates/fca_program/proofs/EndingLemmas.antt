@@ -5,11 +5,14 @@ use Rattle.fca_model.specs.Tables.{Text}
 use Rattle.command_io.specs.Readings.{Reading, MayRead, MayRefuse, IfRead}
 use Rattle.command_io.specs.Readings.Reading.{Untold, Refused, Read}
 use Rattle.command_io.specs.Endings.{Output, whole_status, IsWhole, IsCutOff, EndsAnswer, Stops, stop_status}
+use Rattle.command_io.specs.ErrLines.{stop_line, IsTold}
 use Rattle.command_io.specs.declared.stop.Stop.{Stop}
+use Rattle.command_io.specs.declared.stop.Stop.TheVariants.{NoCommand, Memory}
 use Rattle.fca_io.specs.Shelves.{Told}
+use Rattle.fca_command.specs.Commands.{file_of}
 use Rattle.fca_command.specs.declared.command.Command.{Command}
-use Rattle.fca_command.specs.declared.command.Command.TheVariants.{Explore, Serve}
-use Rattle.fca_program.specs.Endings.{Finishes, Ends, EndsBy, reads_input, uses_link, HasGivenBack}
+use Rattle.fca_command.specs.declared.command.Command.TheVariants.{Follows, Replay, Explore, Serve}
+use Rattle.fca_program.specs.Endings.{Finishes, Ends, EndsBy, is_plain, reads_input, uses_link, IsCommandStop, IsCallStop, fault_file, HasGivenBack}
 use Rattle.fca_io.specs.Links.{Ends as LinkEnds}
 use Rattle.serve_command.specs.Served.{GaveAllBack}
 use Rattle.serve_command.proofs.AcceptedLemmas.{TookAndGave-none}
@@ -130,3 +133,33 @@ not_finished (Read o) n e finished = not_whole n e (either o.is_open n finished)
 pub not_seven : (reading : Reading Output) (n : ℕ) → Ends reading n → n ≡ 7 → ⊥
 not_seven reading n (inl finished) e = not_finished reading n e finished
 not_seven reading n (inr cut) e = not_cut_off n e cut
+
+-- ---- what is told
+
+-- the file at fault is the command's, where the command waits for nobody
+pub fault_file-plain : (command : Command) → is_plain command ≡ true → (stop : Stop) → fault_file (Some command) stop ≡ file_of command
+fault_file-plain (Explore file experts) plain stop = cc
+fault_file-plain _ plain stop = refl
+
+pub told-by : (Told : Text → Type 0) (MayCome : Stop → Type 0) (f g : Stop → Text) (n : ℕ) → ((stop : Stop) → f stop ≡ g stop) → IsTold Told MayCome f n → IsTold Told MayCome g n
+told-by Told MayCome f g n same told = record {
+  stop = λ silent. let t = told.stop silent in let ToldOf : Text → Type 0 = λ file. Told (stop_line file t.0) in (t.0, t.1, t.2, subst ToldOf (same t.0) t.3);
+  fault = told.fault;
+  spent = told.spent;
+}
+
+-- want of memory may come of each call
+memory-comes_of : (command : Command) (files : Text → Told) (input : Option Text) → IsCommandStop command files input Memory
+memory-comes_of (Follows file premise conclusion) files input = inl tt
+memory-comes_of (Replay file) files input = inl tt
+memory-comes_of (Explore file experts) files input = inl tt
+memory-comes_of (Serve file experts listen) files input = inl tt
+memory-comes_of _ files input = tt
+
+pub memory-comes : (found : Option Command) (files : Text → Told) (input : Option Text) → IsCallStop found files input Memory
+memory-comes None files input = inr refl
+memory-comes (Some command) files input = memory-comes_of command files input
+
+pub none-comes : (found : Option Command) (files : Text → Told) (input : Option Text) → found ≡ None → IsCallStop found files input NoCommand
+none-comes None files input none = inl refl
+none-comes (Some command) files input none = cc

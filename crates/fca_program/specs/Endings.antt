@@ -1,20 +1,26 @@
 -- How a call of the program ends: its status, and what it says of the outside.
-use Rattle.std.specs.Prelude.{◌≡◌, ◌⊎◌, ℕ, Bool, true, false, Option, ⊤}
+use Rattle.std.specs.Prelude.{◌≡◌, ◌⊎◌, ℕ, Bool, true, false, Option, None, Some, [], ⊤}
 use Rattle.std.specs.Io.KnownBytes.{IsAtEnd}
-use Rattle.fca_model.specs.Tables.{Text}
+use Rattle.fca_model.specs.Tables.{Text, NamedContext}
 use Rattle.fca_io.specs.Faults.{Rose}
 use Rattle.fca_io.specs.Links.{Ends as LinkEnds, MayListenAt}
 use Rattle.fca_io.specs.Shelves.{Told}
+use Rattle.fca_command.specs.Commands.{file_of}
 use Rattle.fca_command.specs.declared.command.Command.{Command}
 use Rattle.fca_command.specs.declared.command.Command.TheVariants.{Concepts, Lattice, Basis, Follows, Convert, Replay, Explore, Serve}
 use Rattle.command_io.specs.Forms.{table_read}
-use Rattle.command_io.specs.Readings.{Reading, IfRead}
+use Rattle.command_io.specs.Readings.{Reading, MayRead, IfRead}
 use Rattle.command_io.specs.Readings.Reading.{Untold, Refused, Read}
 use Rattle.command_io.specs.Endings.{Output, whole_status, IsWhole, IsCutOff}
+use Rattle.command_io.specs.ErrLines.{file_at_fault}
+use Rattle.command_io.specs.Causes.{IsFileStop, IsScriptStop}
+use Rattle.command_io.specs.declared.stop.Origin.TheVariants.{File}
+use Rattle.command_io.specs.declared.stop.Stop.{Stop}
+use Rattle.command_io.specs.declared.stop.Stop.TheVariants.{NoCommand, UnknownAttribute, Memory}
 use Rattle.command_io.specs.Explorations.{IsExplored}
-use Rattle.explore_command.specs.Panels.{panel_read, FileRose}
+use Rattle.explore_command.specs.Panels.{panel_read, IsPanelStop, FileRose}
 use Rattle.explore_command.specs.Played.{HasPlayed, HasBegun, Plays}
-use Rattle.serve_command.specs.Served.{HasServed, HasBegun as HasServingBegun, GaveAllBack, Serves}
+use Rattle.serve_command.specs.Served.{IsServeStop, HasServed, HasBegun as HasServingBegun, GaveAllBack, Serves}
 use Rattle.fca_program.specs.Outputs.{output, replayed}
 
 -- the status of a call that was not cut off, by what its command was to write
@@ -79,6 +85,30 @@ HasExplored _ files Gained status = ⊤
 abbrev pub HasBegunExploring : Command → (Text → Told) → (Text → Type 0) → Type 0
 HasBegunExploring (Explore file experts) files Gained = IfRead (panel_read file experts files) (HasBegun Gained)
 HasBegunExploring _ files Gained = ⊤
+
+-- the stop of the table of a replay, or of its script
+abbrev pub IsReplayStop : Text → (Text → Told) → Option Text → Stop → Type 0
+IsReplayStop file files input stop = IsFileStop file (files file) File stop
+    ⊎ ((table : NamedContext) × MayRead (table_read file (files file)) table × IsScriptStop table.context.width input stop)
+
+-- the stop of the command, where the files and the input hold this
+abbrev pub IsCommandStop : Command → (Text → Told) → Option Text → Stop → Type 0
+IsCommandStop (Follows file premise conclusion) files input stop = IsFileStop file (files file) File stop ⊎ (stop ≡ UnknownAttribute)
+IsCommandStop (Replay file) files input stop = IsReplayStop file files input stop
+IsCommandStop (Explore file experts) files input stop = IsPanelStop file experts files stop
+IsCommandStop (Serve file experts listen) files input stop = IsServeStop file files stop
+IsCommandStop command files input stop = IsFileStop (file_of command) (files (file_of command)) File stop
+
+-- the stop of a call, which may be that its words are no command
+abbrev pub IsCallStop : Option Command → (Text → Told) → Option Text → Stop → Type 0
+IsCallStop None files input stop = (stop ≡ NoCommand) ⊎ (stop ≡ Memory)
+IsCallStop (Some command) files input stop = IsCommandStop command files input stop
+
+-- the name of the file at fault where the command stops, or none where there is no command
+abbrev pub fault_file : Option Command → Stop → Text
+fault_file None stop = []
+fault_file (Some (Explore file experts)) stop = file_at_fault file experts stop
+fault_file (Some command) stop = file_of command
 
 -- ---- experts at the ends of a link
 

@@ -1,9 +1,10 @@
 //! Whether an implication between attributes of a table holds.
 
-ghost use Rattle.std.specs.Prelude.{◌≡◌, IfOk, IfErr, length};
+ghost use Rattle.std.specs.Prelude.{◌≡◌, ◌⊎◌, IfOk, IfErr, length};
 ghost use Rattle.fca_io.specs.Faults.{Rose};
 ghost use Rattle.command_io.specs.Readings.{MayRead};
 ghost use Rattle.fca_program.specs.Outputs.{attributes_read, table_verdict, verdict_output, follows_output};
+ghost use Rattle.command_io.specs.Causes.{IsFileStop};
 ghost use Rattle.command_io.specs.Endings.{stop_status, Stops};
 
 use attr_bits::Attrs;
@@ -29,6 +30,7 @@ pub fn follows<R: Threads + Sync, H: Shelf>(
     ensures output { IfOk result (λ answer. MayRead (follows_output premise.now conclusion.now file.now (H.tells shelf.old)) answer) }
     ensures stop { IfErr result (λ stop. Stops (follows_output premise.now conclusion.now file.now (H.tells shelf.old))
         (Rose (H.faults shelf.old file.now) (H.faults shelf.new file.now)) (stop_status stop)) }
+    ensures cause { IfErr result (λ stop. IsFileStop file.now (H.tells shelf.old file.now) Origin.File stop ⊎ (stop ≡ Stop.UnknownAttribute)) }
 {
     let table = table_under(alloc, shelf, file, Origin::File)?;
     verdict(rt, alloc, &table, premise, conclusion)
@@ -44,6 +46,7 @@ fn verdict<R: Threads + Sync>(
 ) -> Result<Answer, Stop>
     ensures output { IfOk result (λ answer. MayRead (verdict_output premise.now conclusion.now table.now) answer) }
     ensures stop { IfErr result (λ stop. Stops (verdict_output premise.now conclusion.now table.now) ⊥ (stop_status stop)) }
+    ensures cause { IfErr result (λ stop. (stop ≡ Stop.Memory) ⊎ (stop ≡ Stop.UnknownAttribute)) }
 {
     let premise = attributes_in(table, premise)?;
     let conclusion = attributes_in(table, conclusion)?;
@@ -55,6 +58,7 @@ fn attributes_in(table: &Table, word: &Word) -> Result<Attrs, Stop>
     ensures attributes { IfOk result (λ set. MayRead (attributes_read table.now word.now) set) }
     ensures wide { IfOk result (λ set. length set ≡ table.now.context.width) }
     ensures stop { IfErr result (λ stop. Stops (attributes_read table.now word.now) ⊥ (stop_status stop)) }
+    ensures cause { IfErr result (λ stop. stop ≡ Stop.UnknownAttribute) }
 {
     match attributes_said(table, word.bytes()) {
         Some(set) => Ok(set),

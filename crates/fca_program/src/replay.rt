@@ -8,6 +8,7 @@ ghost use Rattle.command_io.specs.Readings.{MayRead, IfRead};
 ghost use Rattle.command_io.specs.Forms.{may_apply};
 ghost use Rattle.command_io.specs.Explorations.{IsExplored, recorded};
 ghost use Rattle.fca_program.specs.Outputs.{replayed, replay_output, explored, exploration_output};
+ghost use Rattle.fca_program.specs.Endings.{IsReplayStop};
 ghost use Rattle.command_io.specs.Endings.{stop_status, Stops};
 
 use basis_report::explore_text;
@@ -30,6 +31,7 @@ pub fn replay<H: Shelf, S: Source>(
     ensures end { OnOk result (IsAtEnd (S.left input.new)) }
     ensures stop { IfErr result (λ stop. Stops (replay_output file.now (H.tells shelf.old) (S.left input.old))
         (Rose (H.faults shelf.old file.now) (H.faults shelf.new file.now) ⊎ Rose (S.faults input.old) (S.faults input.new)) (stop_status stop)) }
+    ensures cause { IfErr result (IsReplayStop file.now (H.tells shelf.old) (S.left input.old)) }
 {
     let explore = exploration(alloc, shelf, input, file)?;
     Ok(exploration_answer(alloc, &explore)?)
@@ -47,6 +49,7 @@ fn exploration<H: Shelf, S: Source>(
     ensures end { OnOk result (IsAtEnd (S.left input.new)) }
     ensures stop { IfErr result (λ stop. Stops (replayed file.now (H.tells shelf.old) (S.left input.old))
         (Rose (H.faults shelf.old file.now) (H.faults shelf.new file.now) ⊎ Rose (S.faults input.old) (S.faults input.new)) (stop_status stop)) }
+    ensures cause { IfErr result (IsReplayStop file.now (H.tells shelf.old) (S.left input.old)) }
 {
     let table = table_under(alloc, shelf, file, Origin::File)?;
     let events = script_on(alloc, input, table.rows().width())?;

@@ -1,6 +1,6 @@
 //! The top call.
 
-ghost use Rattle.std.specs.Prelude.{◌≡◌, ◌⊎◌, true, false, Result, Some, IfSome, IfOk, IfErr, OnOk, MatchOption};
+ghost use Rattle.std.specs.Prelude.{◌≡◌, ◌⊎◌, [], true, false, Result, Some, IfSome, IfOk, IfErr, OnOk, MatchOption};
 ghost use Rattle.std.specs.Io.KnownBytes.{Appends, IsAtEnd};
 ghost use Rattle.fca_io.specs.Faults.{Rose};
 ghost use Rattle.fca_io.specs.Transfers.{AppendsFront};
@@ -9,7 +9,8 @@ ghost use Rattle.explore_command.specs.Played.{IsPlayed};
 ghost use Rattle.command_io.specs.Readings.{IfRead, MayRead};
 ghost use Rattle.fca_program.specs.Outputs.{output};
 ghost use Rattle.command_io.specs.Endings.{Stops, IsWhole, IsSilent, stop_status};
-ghost use Rattle.fca_program.specs.Endings.{is_plain, reads_input, Ends, EndsBy, FaultRose, MayReachEnd, HasCourse, HasExplored, HasBegunExploring, uses_link, LinkFaultRose, MayListen, HasServedExperts, HasBegunServing, HasGivenBack};
+ghost use Rattle.command_io.specs.ErrLines.{stop_line, GainsLine, IsTold};
+ghost use Rattle.fca_program.specs.Endings.{is_plain, reads_input, Ends, EndsBy, FaultRose, MayReachEnd, HasCourse, HasExplored, HasBegunExploring, uses_link, LinkFaultRose, IsCommandStop, IsCallStop, fault_file, MayListen, HasServedExperts, HasBegunServing, HasGivenBack};
 
 use crate::follows::follows;
 use crate::replay::replay;
@@ -74,7 +75,10 @@ pub fn run<R: Threads + Wait + Sync, H: Shelf, S: Source, K: Sink, E: Sink, L: L
     ensures listens { IsWhole result → IfSome (command_form words.now) (λ command. MayListen command (L.listens link.new) (L.listens_at link.new)) }
     ensures ends { IfSome (command_form words.now) (λ command.
         HasGivenBack L.End.Source.left L.End.Sink.held L.End.Source.faults L.End.Sink.faults command (L.ends link.old) (L.ends link.new) result) }
+    // What err gained.
     ensures quiet { IsWhole result → err.new ≡ err.old }
+    ensures told { IsTold (GainsLine (E.held err.old) (E.held err.new) (E.faults err.old) (E.faults err.new))
+        (IsCallStop (command_form words.now) (H.tells shelf.old) (S.left input.old)) (fault_file (command_form words.now)) result }
 {
     match command_of(alloc, words) {
         Ok(Some(command)) => run_command(rt, alloc, &command, shelf, input, out, err, link),
@@ -83,9 +87,10 @@ pub fn run<R: Threads + Wait + Sync, H: Shelf, S: Source, K: Sink, E: Sink, L: L
     }
 }
 
-/// Tells on err why there was no command to run.
+/// GainsLine on err why there was no command to run.
 fn stopped<E: Sink>(err: &mut E, stop: &Stop) -> u8
-    ensures { result ≡ stop_status stop.now }
+    ensures status { result ≡ stop_status stop.now }
+    ensures told { GainsLine (E.held err.old) (E.held err.new) (E.faults err.old) (E.faults err.new) (stop_line [] stop.now) }
 {
     report(err, b"", stop);
     stop.status()
@@ -129,7 +134,11 @@ fn run_command<R: Threads + Wait + Sync, H: Shelf, S: Source, K: Sink, E: Sink, 
     ensures link_kept { uses_link command.now ≡ false → link.new ≡ link.old }
     ensures listens { IsWhole result → MayListen command.now (L.listens link.new) (L.listens_at link.new) }
     ensures ends { HasGivenBack L.End.Source.left L.End.Sink.held L.End.Source.faults L.End.Sink.faults command.now (L.ends link.old) (L.ends link.new) result }
+
+    // What err gained.
     ensures quiet { IsWhole result → err.new ≡ err.old }
+    ensures told { IsTold (GainsLine (E.held err.old) (E.held err.new) (E.faults err.old) (E.faults err.new))
+        (IsCommandStop command.now (H.tells shelf.old) (S.left input.old)) (fault_file (Some command.now)) result }
 {
     match command {
         Command::Explore { file, experts } => {
@@ -178,7 +187,11 @@ pub fn run_plain<R: Threads + Sync, H: Shelf, S: Source, K: Sink, E: Sink>(
     // What else was touched.
     ensures read_to_end { IsWhole result → MayReachEnd command.now (S.left input.new) }
     ensures input_kept { reads_input command.now ≡ false → input.new ≡ input.old }
+
+    // What err gained.
     ensures quiet { IsWhole result → err.new ≡ err.old }
+    ensures told { IsTold (GainsLine (E.held err.old) (E.held err.new) (E.faults err.old) (E.faults err.new))
+        (IsCommandStop command.now (H.tells shelf.old) (S.left input.old)) (fault_file (Some command.now)) result }
 {
     let answer = answer_to(rt, alloc, command, shelf, input);
     conclude(answer, command.file(), out, err)
@@ -196,6 +209,7 @@ fn answer_to<R: Threads + Sync, H: Shelf, S: Source>(
     ensures output { IfOk result (λ answer. MayRead (output command.now (H.tells shelf.old) (S.left input.old)) answer) }
     ensures stop { IfErr result (λ stop. Stops (output command.now (H.tells shelf.old) (S.left input.old))
         (FaultRose command.now (H.faults shelf.old) (H.faults shelf.new) (S.faults input.old) (S.faults input.new)) (stop_status stop)) }
+    ensures cause { IfErr result (IsCommandStop command.now (H.tells shelf.old) (S.left input.old)) }
     ensures explored { OnOk result (HasCourse command.now (H.tells shelf.old) (S.left input.old)) }
     ensures end { OnOk result (MayReachEnd command.now (S.left input.new)) }
     ensures kept { reads_input command.now ≡ false → input.new ≡ input.old }

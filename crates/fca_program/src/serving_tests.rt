@@ -3,14 +3,14 @@
 ghost use Rattle.std.specs.Prelude.{◌≡◌, ◌≤◌, true, false, IfSome};
 
 use crate::link::TcpLink;
-use crate::run::run;
+use crate::tests::{SERVE, TWO, status_of};
 use context_table::Table;
 use derivation::Rows;
 use expert_sessions::{Ended, serve_ends};
 use fca_io::{
     Duplex, Failed, Listener, MemoryEnd, MemoryShelf, MemorySink, MemorySource, Sink, Source,
 };
-use fca_model::{Memory, Name, Word};
+use fca_model::{Memory, Name};
 use std::alloc::Global;
 use std::io::{self, Read, Write};
 use std::net::TcpStream;
@@ -183,19 +183,8 @@ fn serve_patient<'a, R: Threads + Wait + Sync>(
     first: &'a AtomicBool,
     second: &'a AtomicBool,
 ) -> Result<(u8, MemorySink, PatientLink<'a>), Memory> {
-    let mut words = Vec::new(alloc);
-    for bytes in [
-        b"serve".as_slice(),
-        b"F",
-        b"--experts",
-        b"2",
-        b"--listen",
-        b"x",
-    ] {
-        words.push(Word::new(alloc, bytes)?)?;
-    }
     let mut shelf = MemoryShelf::new(alloc, &[])?;
-    shelf.put(b"F", b"B\n\n0\n2\n\na\nb\n")?;
+    shelf.put(b"F", TWO)?;
     let mut input = MemorySource::new(alloc, b"", &[], 7)?;
     let mut out = MemorySink::new(alloc, 1000, &[], 10)?;
     let mut err = MemorySink::new(alloc, 100, &[], 7)?;
@@ -208,9 +197,9 @@ fn serve_patient<'a, R: Threads + Wait + Sync>(
         given: Vec::new(alloc),
         faults: 0,
     };
-    let status = run(
-        rt, alloc, &words, &mut shelf, &mut input, &mut out, &mut err, &mut link,
-    );
+    let status = status_of(
+        rt, alloc, SERVE, &mut shelf, &mut input, &mut out, &mut err, &mut link,
+    )?;
     Ok((status, out, link))
 }
 

@@ -6,6 +6,7 @@ ghost use Rattle.fca_model.specs.Pseudo.{basis, covers};
 ghost use Rattle.lectic_concepts.specs.Concepts.{concepts};
 ghost use Rattle.fca_program.specs.Outputs.{of_table, table_concepts, table_lattice, table_basis, table_written};
 ghost use Rattle.command_io.specs.Readings.{MayRead};
+ghost use Rattle.command_io.specs.Causes.{IsFileStop};
 ghost use Rattle.command_io.specs.Endings.{stop_status, Stops};
 
 use basis_report::{basis_json, basis_text, concepts_json, concepts_text, lattice_text};
@@ -32,6 +33,7 @@ pub fn concepts<H: Shelf>(
     ensures output { IfOk result (λ answer. MayRead (of_table (table_concepts json) file.now (H.tells shelf.old)) answer) }
     ensures stop { IfErr result (λ stop. Stops (of_table (table_concepts json) file.now (H.tells shelf.old))
         (Rose (H.faults shelf.old file.now) (H.faults shelf.new file.now)) (stop_status stop)) }
+    ensures cause { IfErr result (IsFileStop file.now (H.tells shelf.old file.now) Origin.File) }
 {
     let table = table_under(alloc, shelf, file, Origin::File)?;
     Ok(Answer::finished(table_concepts(alloc, json, &table)?))
@@ -42,6 +44,7 @@ pub fn lattice<H: Shelf>(alloc: Global, shelf: &mut H, file: &Word) -> Result<An
     ensures output { IfOk result (λ answer. MayRead (of_table table_lattice file.now (H.tells shelf.old)) answer) }
     ensures stop { IfErr result (λ stop. Stops (of_table table_lattice file.now (H.tells shelf.old))
         (Rose (H.faults shelf.old file.now) (H.faults shelf.new file.now)) (stop_status stop)) }
+    ensures cause { IfErr result (IsFileStop file.now (H.tells shelf.old file.now) Origin.File) }
 {
     let table = table_under(alloc, shelf, file, Origin::File)?;
     Ok(Answer::finished(table_lattice(alloc, &table)?))
@@ -58,6 +61,7 @@ pub fn basis_of_file<R: Threads + Sync, H: Shelf>(
     ensures output { IfOk result (λ answer. MayRead (of_table (table_basis json) file.now (H.tells shelf.old)) answer) }
     ensures stop { IfErr result (λ stop. Stops (of_table (table_basis json) file.now (H.tells shelf.old))
         (Rose (H.faults shelf.old file.now) (H.faults shelf.new file.now)) (stop_status stop)) }
+    ensures cause { IfErr result (IsFileStop file.now (H.tells shelf.old file.now) Origin.File) }
 {
     let table = table_under(alloc, shelf, file, Origin::File)?;
     Ok(Answer::finished(table_basis(rt, alloc, json, &table)?))
@@ -73,6 +77,7 @@ pub fn convert<H: Shelf>(
     ensures output { IfOk result (λ answer. MayRead (of_table (table_written to) file.now (H.tells shelf.old)) answer) }
     ensures stop { IfErr result (λ stop. Stops (of_table (table_written to) file.now (H.tells shelf.old))
         (Rose (H.faults shelf.old file.now) (H.faults shelf.new file.now)) (stop_status stop)) }
+    ensures cause { IfErr result (IsFileStop file.now (H.tells shelf.old file.now) Origin.File) }
 {
     let table = table_under(alloc, shelf, file, Origin::File)?;
     Ok(Answer::finished(table_written(alloc, to, &table)?))

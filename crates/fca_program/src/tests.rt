@@ -1,7 +1,11 @@
 //! Whole calls over ends in memory: what each writes, and its status.
 
+ghost use Rattle.std.specs.Prelude.{◌≡◌, false};
+
 use crate::run::run;
-use fca_io::{MemoryEnd, MemoryLink, MemoryShelf, MemorySink, MemorySource};
+use fca_io::{
+    Listener, MemoryEnd, MemoryLink, MemoryShelf, MemorySink, MemorySource, Shelf, Sink, Source,
+};
 use fca_model::{FILE_BYTES, Memory, Word};
 use std::alloc::Global;
 use std::sync::Wait;
@@ -19,7 +23,7 @@ type Call = (
 );
 
 /// Two attributes and no objects.
-const TWO: &[u8] = b"B\n\n0\n2\n\na\nb\n";
+pub const TWO: &[u8] = b"B\n\n0\n2\n\na\nb\n";
 
 /// Three attributes, and an object with none of them.
 const THREE: &[u8] = b"B\n\n1\n3\n\no\na\nb\nc\n...\n";
@@ -63,6 +67,9 @@ const EXPLORE: &[&[u8]] = &[
     b"--expert",
     b"G",
 ];
+
+/// Two experts at the address x.
+pub const SERVE: &[&[u8]] = &[b"serve", b"F", b"--experts", b"2", b"--listen", b"x"];
 
 const CONVERT: &[&[u8]] = &[b"convert", b"F", b"cxt"];
 
@@ -480,6 +487,23 @@ fn words_of(alloc: Global, words: &[&[u8]]) -> Result<Vec<Word>, Memory> {
     Ok(list)
 }
 
+/// The status of the call of these words over these ends.
+pub fn status_of<R: Threads + Wait + Sync, H: Shelf, S: Source, K: Sink, E: Sink, L: Listener>(
+    rt: &R,
+    alloc: Global,
+    words: &[&[u8]],
+    shelf: &mut H,
+    input: &mut S,
+    out: &mut K,
+    err: &mut E,
+    link: &mut L,
+) -> Result<u8, Memory>
+    requires { L.listens link.old ≡ false }
+{
+    let words = words_of(alloc, words)?;
+    Ok(run(rt, alloc, &words, shelf, input, out, err, link))
+}
+
 /// Runs one call over ends in memory that move a few bytes at a time, and of which these calls fail.
 fn call<R: Threads + Wait + Sync>(
     rt: &R,
@@ -503,7 +527,6 @@ fn outcome<R: Threads + Wait + Sync>(
     input_fails: &[usize],
     out_fails: &[usize],
 ) -> Result<Called, Memory> {
-    let words = words_of(alloc, words)?;
     let mut shelf = MemoryShelf::new(alloc, &[])?;
     shelf.put(b"F", file)?;
     shelf.put(b"F.csv", file)?;
@@ -512,9 +535,9 @@ fn outcome<R: Threads + Wait + Sync>(
     let mut out = MemorySink::new(alloc, room, out_fails, 10)?;
     let mut err = MemorySink::new(alloc, 100, &[], 7)?;
     let mut link = MemoryLink::new(alloc, b"x", Vec::new(alloc), &[])?;
-    let status = run(
-        rt, alloc, &words, &mut shelf, &mut input, &mut out, &mut err, &mut link,
-    );
+    let status = status_of(
+        rt, alloc, words, &mut shelf, &mut input, &mut out, &mut err, &mut link,
+    )?;
     Ok(Called { status, out, err })
 }
 
@@ -524,10 +547,6 @@ fn serve_two<R: Threads + Wait + Sync>(
     alloc: Global,
     link_fails: &[usize],
 ) -> Result<(Called, MemoryLink), Memory> {
-    let words = words_of(
-        alloc,
-        &[b"serve", b"F", b"--experts", b"2", b"--listen", b"x"],
-    )?;
     let mut shelf = MemoryShelf::new(alloc, &[])?;
     shelf.put(b"F", TWO)?;
     let mut input = MemorySource::new(alloc, b"", &[], 7)?;
@@ -537,9 +556,9 @@ fn serve_two<R: Threads + Wait + Sync>(
     ends.push(MemoryEnd::new(alloc, b"quit\n", 1000, &[], &[], 7)?)?;
     ends.push(MemoryEnd::new(alloc, b"draw\nrow .. p\n", 1000, &[], &[], 7)?)?;
     let mut link = MemoryLink::new(alloc, b"x", ends, link_fails)?;
-    let status = run(
-        rt, alloc, &words, &mut shelf, &mut input, &mut out, &mut err, &mut link,
-    );
+    let status = status_of(
+        rt, alloc, SERVE, &mut shelf, &mut input, &mut out, &mut err, &mut link,
+    )?;
     Ok((Called { status, out, err }, link))
 }
 

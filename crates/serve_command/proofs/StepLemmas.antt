@@ -8,11 +8,13 @@ use Rattle.fca_model.specs.declared.TheConstants.{MAX_EXPERTS}
 use Rattle.fca_model.specs.Exploration.{is_expert}
 use Rattle.fca_io.specs.Faults.{Rose}
 use Rattle.fca_io.specs.Links.{Ends, IsWithinRoom}
+use Rattle.fca_io.specs.Shelves.{Told}
 use Rattle.command_io.specs.Readings.{Reading, MayRead}
 use Rattle.command_io.specs.Endings.{Output, Stops, stop_status}
 use Rattle.command_io.specs.declared.stop.Stop.{Stop}
+use Rattle.command_io.specs.declared.stop.Stop.TheVariants.{Listener, Memory}
 use Rattle.serve_command.specs.Accepted.{TookFirst, FallsShort}
-use Rattle.serve_command.specs.Served.{StopsServing, IsAnswer, GaveAllBack, HasSat, HasRisen}
+use Rattle.serve_command.specs.Served.{StopsServing, IsServeStop, IsAnswer, GaveAllBack, HasSat, HasRisen}
 use Rattle.serve_command.proofs.AcceptedLemmas.{TookAndGave-none, TookAndGave-both}
 
 pub expert-range : (n : ℕ) → is_expert n ≡ true → (1 ≤ n) × (n ≤ MAX_EXPERTS)
@@ -22,11 +24,6 @@ pub range-expert : (n : ℕ) → 1 ≤ n → n ≤ MAX_EXPERTS → is_expert n �
 range-expert n some few = rw (le-leb 1 n some) (le-leb n MAX_EXPERTS few)
 
 -- ---- results
-
--- what the exit of a `?` returns
-pub err-passed : {X F : Type 0} (r : Result X F) (e : F) (P : F → Type 0) → IsErrAnd r (λ passed. passed ≡ e) → P e → IfErr r P
-err-passed (Ok x) e P passed p = tt
-err-passed (Err f) e P passed p = subst P (sym passed) p
 
 pub any-err : {X F : Type 0} (r : Result X F) (P : F → Type 0) → ((e : F) → P e) → IfErr r P
 any-err (Ok x) P all = tt
@@ -145,3 +142,12 @@ module _ {E : Type 0} where
     ends = TookAndGave-both a b c before sat.after within sat.long took sat.gave;
     is = sat.is;
   }
+
+-- ---- which stop it is
+
+pub memory-serve : (file : Text) (files : Text → Told) (s : Stop) → s ≡ Memory → IsServeStop file files s
+memory-serve file files s e = let P : Stop → Type 0 = IsServeStop file files in subst P (sym e) (inl tt)
+
+pub link-serve : (file : Text) (files : Text → Told) (s : Stop) → (s ≡ Listener) ⊎ (s ≡ Memory) → IsServeStop file files s
+link-serve file files s (inl e) = inr e
+link-serve file files s (inr e) = memory-serve file files s e

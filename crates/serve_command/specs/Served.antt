@@ -13,6 +13,11 @@ use Rattle.basis_report.specs.Explorations.{explore_text, spelled}
 use Rattle.basis_report.specs.Sessions.{sessions_text}
 use Rattle.command_io.specs.Readings.{Reading, MayRead, MayRefuse}
 use Rattle.command_io.specs.Readings.Reading.{Untold, Refused, Read}
+use Rattle.fca_io.specs.Shelves.{Told}
+use Rattle.command_io.specs.Causes.{IsFileStop}
+use Rattle.command_io.specs.declared.stop.Origin.TheVariants.{File}
+use Rattle.command_io.specs.declared.stop.Stop.{Stop}
+use Rattle.command_io.specs.declared.stop.Stop.TheVariants.{Listener}
 use Rattle.command_io.specs.Endings.{Output, whole_status, IsWhole}
 use Rattle.command_io.specs.Explorations.{Recorded, opening_of, open_at, IsExplored}
 use Rattle.serve_command.specs.Accepted.{TookAndGave, GaveBack, HasRoomFor}
@@ -106,6 +111,10 @@ module _ {E : Type 0} (left held : E → Option Text) (reads writes : E → ℕ)
     pub gave : HasRoomFor old (length after) → GaveBack old new after
     pub long : length after ≡ length before
     pub talked : MayHaveTalked before after
+
+-- the stop of the file, or of the link
+abbrev pub IsServeStop : Text → (Text → Told) → Stop → Type 0
+IsServeStop file files stop = IsFileStop file (files file) File stop ⊎ (stop ≡ Listener)
 
 -- the status of a call that was not cut off, by what was read; the link may fail it
 abbrev pub Serves : Reading NamedContext → ℕ → Type 0

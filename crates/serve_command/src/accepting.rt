@@ -27,6 +27,7 @@ pub fn ends_at<L: Listener>(
     ensures short { IfErr result (λ stop. FallsShort count (L.ends link.old) (L.ends link.new)
         (Rose (L.open_faults link.old address.now) (L.open_faults link.new address.now) ⊎ Rose (L.accept_faults link.old) (L.accept_faults link.new))
         (stop_status stop)) }
+    ensures cause { IfErr result (λ stop. (stop ≡ Stop.Listener) ⊎ (stop ≡ Stop.Memory)) }
 {
     if link.open(address).is_err() {
         return Err(Stop::Listener);
@@ -43,6 +44,7 @@ fn accept_ends<L: Listener>(alloc: Global, link: &mut L, count: u8) -> Result<Ve
     ensures count { IfOk result (λ ends. vec_len ends ≡ count) }
     ensures short { IfErr result (λ stop. FallsShort count (L.ends link.old) (L.ends link.new)
         (Rose (L.accept_faults link.old) (L.accept_faults link.new)) (stop_status stop)) }
+    ensures cause { IfErr result (λ stop. (stop ≡ Stop.Listener) ⊎ (stop ≡ Stop.Memory)) }
 
     ensures same { (L.listens link.new ≡ true) × (L.listens_at link.new ≡ L.listens_at link.old) }
     ensures later { (other : List ℕ) → L.open_faults link.old other ≤ L.open_faults link.new other }

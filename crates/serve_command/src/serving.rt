@@ -14,7 +14,8 @@ ghost use Rattle.basis_report.specs.Sessions.{sessions_text};
 ghost use Rattle.command_io.specs.Readings.{IfRead, MayRead};
 ghost use Rattle.command_io.specs.Forms.{table_read};
 ghost use Rattle.command_io.specs.Endings.{IsCutOff, IsSilent, IsWhole, stop_status};
-ghost use Rattle.serve_command.specs.Served.{words_of, Serves, StopsServing, IsAnswer, HasServed, HasBegun, GaveAllBack, HasSat, HasRisen};
+ghost use Rattle.command_io.specs.ErrLines.{GainsLine, IsTold};
+ghost use Rattle.serve_command.specs.Served.{words_of, Serves, StopsServing, IsServeStop, IsAnswer, HasServed, HasBegun, GaveAllBack, HasSat, HasRisen};
 
 use crate::accepting::{ends_at, give_back};
 use crate::endings::words_of_all;
@@ -65,7 +66,11 @@ pub fn serve<R: Threads + Wait + Sync, H: Shelf, K: Sink, E: Sink, L: Listener>(
         (λ table. HasBegun L.End.Source.left L.End.Sink.held L.End.Source.faults L.End.Sink.faults
         (AppendsFront (K.held out.old) (K.held out.new)) table experts (L.ends link.old) (L.ends link.new)) }
     ensures no_output { IsSilent result → out.new ≡ out.old }
+
+    // What err gained.
     ensures quiet { IsWhole result → err.new ≡ err.old }
+    ensures told { IsTold (GainsLine (E.held err.old) (E.held err.new) (E.faults err.old) (E.faults err.new))
+        (IsServeStop file.now (H.tells shelf.old)) (λ _. file.now) result }
 
     // What became of the link and its ends, whatever the status.
     ensures ends { GaveAllBack L.End.Source.left L.End.Sink.held L.End.Source.faults L.End.Sink.faults
@@ -96,6 +101,7 @@ fn exploration<R: Threads + Wait + Sync, H: Shelf, L: Listener>(
         (Rose (H.faults shelf.old file.now) (H.faults shelf.new file.now))
         (Rose (L.open_faults link.old listen.now) (L.open_faults link.new listen.now) ⊎ Rose (L.accept_faults link.old) (L.accept_faults link.new))
         (stop_status stop)) }
+    ensures cause { IfErr result (IsServeStop file.now (H.tells shelf.old)) }
     ensures ends { IfErr result (λ stop. GaveAllBack L.End.Source.left L.End.Sink.held L.End.Source.faults L.End.Sink.faults
         experts (L.ends link.old) (L.ends link.new) (stop_status stop)) }
 {
@@ -119,6 +125,7 @@ fn explored<R: Threads + Wait + Sync, L: Listener>(
     ensures risen { IfErr result (λ _. HasRisen L.End.Source.left L.End.Sink.held L.End.Source.faults L.End.Sink.faults
         ends.items (L.ends link.old) (L.ends link.new)) }
     ensures memory { IfErr result (λ stop. stop_status stop ≡ 5) }
+    ensures cause { IfErr result (λ stop. stop ≡ Stop.Memory) }
     ensures same { (L.listens link.new ≡ L.listens link.old) × (L.listens_at link.new ≡ L.listens_at link.old) }
 {
     match serve_ends(rt, alloc, table, ends, LINES, TURNS) {

@@ -2,7 +2,9 @@ use Rattle.std.proofs.Common.{◌≡◌, ◌<◌, ◌+◌, ◌++◌, ◌∷◌, 
 use Rattle.std.specs.Prelude.{All}
 use Rattle.fca_model.specs.Tables.{NamedContext}
 use Rattle.std.proofs.lemmas.List.Elements.{All-push}
-use Rattle.explore_command.proofs.PanelLemmas.{ReadsOn, ReadsOn-next, ReadsOn-all, Stops-file, Stops-passed}
+use Rattle.command_io.proofs.ErrLemmas.{err-passed}
+use Rattle.explore_command.specs.Panels.{IsExpertsStop}
+use Rattle.explore_command.proofs.PanelLemmas.{ReadsOn, ReadsOn-next, ReadsOn-all, Stops-file, experts-stop, Stops-passed}
 use Rattle.explore_command.proofs.panel.experts_under.Goals as goal
 
 pub returns-in_err-expert-clause-stop : goal.returns-in_err-expert-clause-stop
@@ -14,6 +16,14 @@ returns-in_err-expert-clause-stop g c =
     (Stops-file c.args.table.now c.args.files.now c.loop-place.place c.index-files-place.result (g.H.Shelf.tells c.args.shelf.now) (g.H.Shelf.tells c.loop-place.shelf)
     (g.H.Shelf.faults c.args.shelf.now) (g.H.Shelf.faults c.loop-place.shelf) (g.H.Shelf.faults c.expert_under.new.shelf) c.loop-place.tables.items _
     inside c.index-files-place.is inv.3 inv.4 inv.0 c.in_err-expert.ensures.stop)
+
+pub returns-in_err-expert-clause-cause : goal.returns-in_err-expert-clause-cause
+returns-in_err-expert-clause-cause g c =
+    let stop = c.in_err-expert.field-0.0 in
+    let inside : c.loop-place.place < length c.args.files.now = omega arith in
+    err-passed c.from_residual.result stop (IsExpertsStop c.args.files.now (g.H.Shelf.tells c.args.shelf.now)) c.from_residual.ensures.1
+    (experts-stop c.args.files.now c.loop-place.place c.index-files-place.result (g.H.Shelf.tells c.args.shelf.now) (g.H.Shelf.tells c.loop-place.shelf) stop
+    inside c.index-files-place.is c.loop-place.invariant.3 c.in_err-expert.ensures.cause)
 
 pub loop-place-preserved : goal.loop-place-preserved
 loop-place-preserved g c =

@@ -1,10 +1,14 @@
+use Rattle.std.proofs.Common.{sym}
+use Rattle.command_io.specs.declared.stop.Stop.TheVariants.{NoCommand, Memory}
+use Rattle.command_io.proofs.ErrLemmas.{stop-told}
 use Rattle.fca_command.specs.Commands.{command_form}
-use Rattle.fca_program.proofs.EndingLemmas.{memory-status, kept-same, link-same, memory-given}
+use Rattle.fca_program.specs.Endings.{IsCallStop, fault_file}
+use Rattle.fca_program.proofs.EndingLemmas.{memory-status, kept-same, link-same, memory-given, memory-comes, none-comes}
 use Rattle.fca_program.proofs.run.run.Goals as goal
 
 pub returns-in-Err-clause-status : goal.returns-in-Err-clause-status
 returns-in-Err-clause-status g c =
-    memory-status (command_form c.args.words.now) (g.H.Shelf.tells c.args.shelf.now) (g.S.Source.left c.args.input.now) c.stopped-in-Err.result c.stopped-in-Err.ensures
+    memory-status (command_form c.args.words.now) (g.H.Shelf.tells c.args.shelf.now) (g.S.Source.left c.args.input.now) c.stopped-in-Err.result c.stopped-in-Err.ensures.status
 
 pub returns-in-Err-clause-input_kept : goal.returns-in-Err-clause-input_kept
 returns-in-Err-clause-input_kept g c = kept-same c.args.input.now (command_form c.args.words.now)
@@ -13,4 +17,18 @@ pub returns-in-Err-clause-link_kept : goal.returns-in-Err-clause-link_kept
 returns-in-Err-clause-link_kept g c = link-same c.args.link.now (command_form c.args.words.now)
 
 pub returns-in-Err-clause-ends : goal.returns-in-Err-clause-ends
-returns-in-Err-clause-ends g c = memory-given g.L.End.Source.left g.L.End.Sink.held g.L.End.Source.faults g.L.End.Sink.faults (command_form c.args.words.now) (g.L.Listener.ends c.args.link.now) c.stopped-in-Err.result c.stopped-in-Err.ensures
+returns-in-Err-clause-ends g c = memory-given g.L.End.Source.left g.L.End.Sink.held g.L.End.Source.faults g.L.End.Sink.faults (command_form c.args.words.now) (g.L.Listener.ends c.args.link.now) c.stopped-in-Err.result c.stopped-in-Err.ensures.status
+
+pub returns-in-Err-clause-told : goal.returns-in-Err-clause-told
+returns-in-Err-clause-told g c =
+    let form = command_form c.args.words.now in
+    let files = g.H.Shelf.tells c.args.shelf.now in
+    let input = g.S.Source.left c.args.input.now in
+    stop-told _ (IsCallStop form files input) (fault_file form) Memory c.stopped-in-Err.result c.stopped-in-Err.ensures.status (memory-comes form files input) c.stopped-in-Err.ensures.told
+
+pub returns-in-None-clause-told : goal.returns-in-None-clause-told
+returns-in-None-clause-told g c =
+    let form = command_form c.args.words.now in
+    let files = g.H.Shelf.tells c.args.shelf.now in
+    let input = g.S.Source.left c.args.input.now in
+    stop-told _ (IsCallStop form files input) (fault_file form) NoCommand c.stopped-in-None.result c.stopped-in-None.ensures.status (none-comes form files input (sym c.in-None.ensures.command)) c.stopped-in-None.ensures.told

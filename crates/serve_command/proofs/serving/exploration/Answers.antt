@@ -1,6 +1,7 @@
 use Rattle.std.proofs.Common.{◌∙◌, sym, arith}
 use Rattle.std.proofs.lemmas.Result.{IfOk-weaker, IfErr-weaker}
-use Rattle.serve_command.proofs.StepLemmas.{expert-range, err-passed, any-err, early-back, short-stops, short-back, memory-stops, risen-ends, sat-answer}
+use Rattle.command_io.proofs.ErrLemmas.{err-passed}
+use Rattle.serve_command.proofs.StepLemmas.{expert-range, any-err, early-back, short-stops, short-back, memory-stops, risen-ends, sat-answer, memory-serve, link-serve}
 use Rattle.serve_command.proofs.serving.exploration.Goals as goal
 
 pub returns-in_err-table-clause-ends : goal.returns-in_err-table-clause-ends
@@ -43,3 +44,10 @@ pub returns-clause-ends : goal.returns-clause-ends
 returns-clause-ends g c =
     let many = sym c.in_ok-ends.ends.ok.0 ∙ c.in_ok-ends.ensures.count in
     risen-ends _ _ _ _ _ _ _ _ _ c.explored.result c.in_ok-ends.ensures.within c.in_ok-ends.ensures.taken many c.explored.ensures.risen c.explored.ensures.memory
+
+pub returns-in_err-ends-clause-cause : goal.returns-in_err-ends-clause-cause
+returns-in_err-ends-clause-cause g c =
+    err-passed c.from_residual-in_err-ends.result c.in_err-ends.field-0.0 _ c.from_residual-in_err-ends.ensures.1 (link-serve _ _ _ c.in_err-ends.ensures.cause)
+
+pub returns-clause-cause : goal.returns-clause-cause
+returns-clause-cause g c = IfErr-weaker c.explored.result _ _ (λ stop memory. memory-serve _ _ _ memory) c.explored.ensures.cause

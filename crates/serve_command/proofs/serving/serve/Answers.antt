@@ -4,6 +4,10 @@ use Rattle.fca_model.specs.Tables.{Text}
 use Rattle.fca_io.specs.Faults.{Rose}
 use Rattle.fca_io.specs.Links.{MayListenAt}
 use Rattle.fca_io.specs.Transfers.{AppendsFront}
+use Rattle.command_io.specs.declared.stop.Stop.{Stop}
+use Rattle.command_io.specs.ErrLines.{GainsLine, IsTold}
+use Rattle.command_io.proofs.ErrLemmas.{conclude-told}
+use Rattle.serve_command.specs.Served.{IsServeStop}
 use Rattle.serve_command.proofs.EndingLemmas.{call-ends, call-read_fault, call-listener_fault, call-whole, call-front, call-back, silent-same, made-ok}
 use Rattle.serve_command.proofs.serving.serve.Goals as goal
 
@@ -58,3 +62,12 @@ returns-clause-listens g c = λ whole.
     let answer = c.exploration-answer in
     let ListensAt : Text → Type 0 = λ address. (g.L.Listener.listens answer.new.link ≡ true) × MayListenAt (g.L.Listener.listens_at answer.new.link) address in
     subst ListensAt c.bytes.ensures (made-ok answer.result _ (c.conclude.ensures.made whole) answer.ensures.listens)
+
+pub returns-clause-told : goal.returns-clause-told
+returns-clause-told g c =
+    let end = c.conclude.ensures in
+    let Told : Text → Type 0 = GainsLine (g.E.Sink.held c.args.err.now) (g.E.Sink.held c.conclude.new.err) (g.E.Sink.faults c.args.err.now) (g.E.Sink.faults c.conclude.new.err) in
+    let MayCome : Stop → Type 0 = IsServeStop c.args.file.now (g.H.Shelf.tells c.args.shelf.now) in
+    let ToldOf : Text → Type 0 = λ file. IsTold Told MayCome (λ _. file) c.conclude.result in
+    subst ToldOf c.bytes-2.ensures (conclude-told Told MayCome (λ _. c.bytes-2.result.now) c.exploration-answer.result c.conclude.result end.answered end.stopped
+    c.exploration-answer.ensures.cause end.told end.told_fault)

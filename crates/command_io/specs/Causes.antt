@@ -1,0 +1,62 @@
+-- Why a table or a script could not be read: which stop it is.
+use Rattle.std.specs.Prelude.{◌≡◌, ⊤, ℕ, true, false, Option, None, Some, Err, length, ◌<◌}
+use Rattle.fca_model.specs.Tables.{Text}
+use Rattle.fca_model.specs.declared.TheConstants.{FILE_BYTES}
+use Rattle.fca_io.specs.Shelves.{Told, MayExceed}
+use Rattle.fca_io.specs.declared.outside.Taken.{Taken}
+use Rattle.fca_io.specs.declared.outside.Taken.TheVariants as taken
+use Rattle.cxt_format.specs.Form.{cxt_form}
+use Rattle.csv_context.specs.Form.{csv_form}
+use Rattle.expert_wire.specs.Scripts.{script_form}
+use Rattle.command_io.specs.Forms.{is_csv}
+use Rattle.command_io.specs.declared.stop.Origin.{Origin}
+use Rattle.command_io.specs.declared.stop.Origin.TheVariants.{Input}
+use Rattle.command_io.specs.declared.stop.Stop.{Stop}
+use Rattle.command_io.specs.declared.stop.Stop.TheVariants.{TooLong, NoTable, NoCsv, NoScript, Fault, Memory}
+
+-- the stop where bytes of this origin were not taken
+abbrev pub taken_stop : Taken → Origin → Stop
+taken_stop taken.Failed origin = Fault origin
+taken_stop taken.Long origin = TooLong origin
+taken_stop taken.Memory origin = Memory
+
+-- the stop of bytes under this name, which come from the origin: they are not of the form
+abbrev pub IsFormStop : Text → Origin → Text → Stop → Type 0
+IsFormStop name origin bytes (NoTable at fault) = (at ≡ origin) × (is_csv name ≡ false) × (cxt_form bytes ≡ Err fault)
+IsFormStop name origin bytes (NoCsv at fault) = (at ≡ origin) × (is_csv name ≡ true) × (csv_form bytes ≡ Err fault)
+IsFormStop name origin bytes Memory = ⊤
+IsFormStop name origin bytes _ = ⊥
+
+-- where it is told what a file holds, P holds of it
+abbrev pub IfHeld : Told → (Text → Type 0) → Type 0
+IfHeld None P = ⊤
+IfHeld (Some None) P = ⊥
+IfHeld (Some (Some bytes)) P = P bytes
+
+-- The stop of the file of this name, of which this is told and which comes from the origin: it could not be read, it is too long,
+-- or its bytes are not of the form
+abbrev pub IsFileStop : Text → Told → Origin → Stop → Type 0
+IsFileStop name told origin (Fault at) = at ≡ origin
+IsFileStop name told origin (TooLong at) = (at ≡ origin) × MayExceed told FILE_BYTES
+IsFileStop name told origin (NoTable at fault) = (at ≡ origin) × (is_csv name ≡ false) × IfHeld told (λ bytes. cxt_form bytes ≡ Err fault)
+IsFileStop name told origin (NoCsv at fault) = (at ≡ origin) × (is_csv name ≡ true) × IfHeld told (λ bytes. csv_form bytes ≡ Err fault)
+IsFileStop name told origin Memory = ⊤
+IsFileStop name told origin _ = ⊥
+
+-- there may be more left than the limit
+abbrev pub MayBeLonger : Option Text → ℕ → Type 0
+MayBeLonger None limit = ⊤
+MayBeLonger (Some bytes) limit = limit < length bytes
+
+-- where the input tells what is left, P holds of it
+abbrev pub IfLeft : Option Text → (Text → Type 0) → Type 0
+IfLeft None P = ⊤
+IfLeft (Some bytes) P = P bytes
+
+-- the stop of a script on this input, whose rows have width n
+abbrev pub IsScriptStop : ℕ → Option Text → Stop → Type 0
+IsScriptStop n input (Fault at) = at ≡ Input
+IsScriptStop n input (TooLong at) = (at ≡ Input) × MayBeLonger input FILE_BYTES
+IsScriptStop n input (NoScript fault) = IfLeft input (λ bytes. script_form bytes n ≡ Err fault)
+IsScriptStop n input Memory = ⊤
+IsScriptStop n input _ = ⊥

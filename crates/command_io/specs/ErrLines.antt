@@ -1,0 +1,146 @@
+-- The lines on err. Each begins with `fca: ` and tells why a call wrote no text or not all of it: where it is of a file or of the
+-- script, by the name of the file or `input`, and by the place in it where there is one.
+--
+-- A row that is too short, in line 9 of the file F: `fca: F: line 9: bad row`.
+use Rattle.std.specs.Prelude.{◌≡◌, ◌⊎◌, ℕ, decimal, codes, Option, None, Some, List, [], ◌∷◌, slice_get, unwrap_or}
+use Rattle.std.specs.List.{concat}
+use Rattle.std.specs.Io.KnownBytes.{Appends}
+use Rattle.fca_model.specs.Tables.{Text}
+use Rattle.fca_io.specs.Faults.{Rose}
+use Rattle.fca_io.specs.Transfers.{AppendsFront}
+use Rattle.cxt_format.specs.declared.CxtFault.{CxtFault}
+use Rattle.cxt_format.specs.declared.CxtFault.TheVariants as cxt
+use Rattle.csv_context.specs.declared.CsvFault.{CsvFault}
+use Rattle.csv_context.specs.declared.CsvFault.TheVariants as csv
+use Rattle.expert_wire.specs.Texts.{line_end}
+use Rattle.expert_wire.specs.declared.scripts.ScriptFault.{ScriptFault}
+use Rattle.expert_wire.specs.declared.scripts.ScriptFault.TheVariants as script
+use Rattle.command_io.specs.Endings.{stop_status, IsSilent}
+use Rattle.command_io.specs.declared.stop.Origin.{Origin}
+use Rattle.command_io.specs.declared.stop.Origin.TheVariants.{File, Expert, Input}
+use Rattle.command_io.specs.declared.stop.Stop.{Stop}
+use Rattle.command_io.specs.declared.stop.Stop.TheVariants.{NoCommand, TooLong, NoTable, NoCsv, NoScript, UnknownAttribute, OtherAttributes, Fault, Listener, Memory}
+use Rattle.command_io.specs.declared.err_line.Place.{Place}
+use Rattle.command_io.specs.declared.err_line.Place.TheVariants.{Whole, Byte, Line, Record, Field}
+
+-- ---- the form of a line
+
+-- a line of these words alone
+abbrev pub plain_line : Text → Text
+plain_line words = concat (codes "fca: " ∷ words ∷ line_end ∷ [])
+
+-- a line of these words on a place of this kind, which has this number
+abbrev pub numbered_line : Text → Text → Text → Text → Text
+numbered_line name kind number words = concat (codes "fca: " ∷ name ∷ kind ∷ number ∷ codes ": " ∷ words ∷ line_end ∷ [])
+
+-- a line of these words on a field of a record
+abbrev pub field_line : Text → Text → Text → Text → Text
+field_line name number field words =
+    concat (codes "fca: " ∷ name ∷ codes ": record " ∷ number ∷ codes ": field " ∷ field ∷ codes ": " ∷ words ∷ line_end ∷ [])
+
+-- a line of these words on a place of what has this name
+abbrev pub placed_line : Text → Place → Text → Text
+placed_line name Whole words = concat (codes "fca: " ∷ name ∷ codes ": " ∷ words ∷ line_end ∷ [])
+placed_line name (Byte n) words = numbered_line name (codes ": byte ") (decimal n) words
+placed_line name (Line n) words = numbered_line name (codes ": line ") (decimal n) words
+placed_line name (Record n) words = numbered_line name (codes ": record ") (decimal n) words
+placed_line name (Field n k) words = field_line name (decimal n) (decimal k) words
+
+-- ---- what is told of each fault: its place, and the words
+
+abbrev pub cxt_told : CxtFault → Place × Text
+cxt_told (cxt.NotUtf8 at) = (Byte at, codes "not UTF-8")
+cxt_told cxt.NotB = (Line 1, codes "not B")
+cxt_told (cxt.BadCount line) = (Line line, codes "bad count")
+cxt_told (cxt.TooMany line) = (Line line, codes "too many")
+cxt_told (cxt.Ended line) = (Line line, codes "ended")
+cxt_told (cxt.EmptyName line) = (Line line, codes "empty name")
+cxt_told (cxt.LongName line) = (Line line, codes "long name")
+cxt_told (cxt.BadName line) = (Line line, codes "bad name")
+cxt_told (cxt.DuplicateAttribute line) = (Line line, codes "duplicate attribute")
+cxt_told (cxt.BadRow line) = (Line line, codes "bad row")
+cxt_told (cxt.Trailing line) = (Line line, codes "trailing text")
+cxt_told cxt.Memory = (Whole, codes "no memory")
+
+abbrev pub csv_told : CsvFault → Place × Text
+csv_told (csv.NotUtf8 at) = (Byte at, codes "not UTF-8")
+csv_told csv.NoHeader = (Whole, codes "no header")
+csv_told (csv.RaggedRecord n) = (Record n, codes "ragged")
+csv_told (csv.BadCell n field) = (Field n field, codes "bad cell")
+csv_told (csv.EmptyName n field) = (Field n field, codes "empty name")
+csv_told (csv.LongName n field) = (Field n field, codes "long name")
+csv_told (csv.BadName n field) = (Field n field, codes "bad name")
+csv_told (csv.DuplicateAttribute field) = (Field 1 field, codes "duplicate attribute")
+csv_told csv.TooManyAttributes = (Whole, codes "too many attributes")
+csv_told csv.TooManyObjects = (Whole, codes "too many objects")
+csv_told csv.Memory = (Whole, codes "no memory")
+
+abbrev pub script_told : ScriptFault → Place × Text
+script_told (script.BadLine line) = (Line line, codes "bad line")
+script_told (script.BadExpert line) = (Line line, codes "bad expert")
+script_told (script.BadWidth line) = (Line line, codes "bad width")
+script_told script.Memory = (Whole, codes "no memory")
+
+-- ---- the line of a stop
+
+-- the name under which the line speaks of what is at fault, where a file at fault has the name `file`
+abbrev pub name_of : Text → Origin → Text
+name_of file File = file
+name_of file (Expert place) = file
+name_of file Input = codes "input"
+
+-- the line of a stop, where a file at fault has the name `file`
+abbrev pub stop_line : Text → Stop → Text
+stop_line file NoCommand = plain_line (codes "no such command")
+stop_line file (TooLong origin) = placed_line (name_of file origin) Whole (codes "too long")
+stop_line file (NoTable origin fault) = placed_line (name_of file origin) (cxt_told fault).0 (cxt_told fault).1
+stop_line file (NoCsv origin fault) = placed_line (name_of file origin) (csv_told fault).0 (csv_told fault).1
+stop_line file (NoScript fault) = placed_line (codes "input") (script_told fault).0 (script_told fault).1
+stop_line file UnknownAttribute = plain_line (codes "unknown attribute")
+stop_line file (OtherAttributes origin) = placed_line (name_of file origin) Whole (codes "attributes differ")
+stop_line file (Fault origin) = placed_line (name_of file origin) Whole (codes "read fault")
+stop_line file Listener = plain_line (codes "listener fault")
+stop_line file Memory = plain_line (codes "no memory")
+
+-- where out failed
+abbrev pub write_fault_line : Text
+write_fault_line = plain_line (codes "write fault")
+
+-- where an expert took all turns before it was done
+abbrev pub turns_spent_line : Text
+turns_spent_line = plain_line (codes "turns spent")
+
+-- the place of the expert whose file is at fault, if one is
+abbrev pub origin_expert : Origin → Option ℕ
+origin_expert File = None
+origin_expert (Expert place) = Some place
+origin_expert Input = None
+
+abbrev pub stop_expert : Stop → Option ℕ
+stop_expert (TooLong origin) = origin_expert origin
+stop_expert (NoTable origin fault) = origin_expert origin
+stop_expert (NoCsv origin fault) = origin_expert origin
+stop_expert (OtherAttributes origin) = origin_expert origin
+stop_expert (Fault origin) = origin_expert origin
+stop_expert _ = None
+
+-- the name of the file at fault: that of an expert's file, where it is one, else that of the first file
+abbrev pub expert_file : Text → List Text → Option ℕ → Text
+expert_file file experts None = file
+expert_file file experts (Some place) = unwrap_or (slice_get experts place) file
+
+abbrev pub file_at_fault : Text → List Text → Stop → Text
+file_at_fault file experts stop = expert_file file experts (stop_expert stop)
+
+-- ---- what err gained
+
+-- the whole line, or a front of it where a count of faults rose; and never anything else
+abbrev pub GainsLine : Option Text → Option Text → ℕ → ℕ → Text → Type 0
+GainsLine old new faults faults' line = Appends old new line ⊎ (AppendsFront old new line × Rose faults faults')
+
+-- What err gained of a call with this status: where there is no text, the line of a stop that has the status and may come, by the
+-- name of the file at fault; and one of its own where out failed, or where a text was written of experts who took all their turns
+pub record IsTold (Told : Text → Type 0) (MayCome : Stop → Type 0) (file_at_fault : Stop → Text) (status : ℕ) : Type 0 where
+  pub stop : IsSilent status → (stop : Stop) × (stop_status stop ≡ status) × MayCome stop × Told (stop_line (file_at_fault stop) stop)
+  pub fault : status ≡ 4 → Told write_fault_line
+  pub spent : status ≡ 8 → Told turns_spent_line
