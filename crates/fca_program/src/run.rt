@@ -87,7 +87,7 @@ pub fn run<R: Threads + Wait + Sync, H: Shelf, S: Source, K: Sink, E: Sink, L: L
     }
 }
 
-/// GainsLine on err why there was no command to run.
+/// Tells on err why there was no command to run.
 fn stopped<E: Sink>(err: &mut E, stop: &Stop) -> u8
     ensures status { result ≡ stop_status stop.now }
     ensures told { GainsLine (E.held err.old) (E.held err.new) (E.faults err.old) (E.faults err.new) (stop_line [] stop.now) }
