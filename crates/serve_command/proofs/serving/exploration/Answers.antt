@@ -47,7 +47,7 @@ returns-clause-ends g c =
 
 pub returns-in_err-ends-clause-cause : goal.returns-in_err-ends-clause-cause
 returns-in_err-ends-clause-cause g c =
-    err-passed c.from_residual-in_err-ends.result c.in_err-ends.field-0.0 _ c.from_residual-in_err-ends.ensures.1 (link-serve _ _ _ c.in_err-ends.ensures.cause)
+    err-passed c.from_residual-in_err-ends.result c.in_err-ends.field-0.0 _ c.from_residual-in_err-ends.ensures.1 (link-serve c.args.file.now (g.H.Shelf.tells c.args.shelf.now) _ c.in_err-ends.ensures.cause)
 
 pub returns-clause-cause : goal.returns-clause-cause
-returns-clause-cause g c = IfErr-weaker c.explored.result _ _ (λ stop memory. memory-serve _ _ _ memory) c.explored.ensures.cause
+returns-clause-cause g c = IfErr-weaker c.explored.result _ _ (λ stop memory. memory-serve c.args.file.now (g.H.Shelf.tells c.args.shelf.now) stop memory) c.explored.ensures.cause
