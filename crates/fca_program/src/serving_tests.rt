@@ -1,15 +1,13 @@
 //! Sessions at once over ends of the tests, and one session over a real socket.
 
-ghost use Rattle.std.specs.Prelude.{◌≡◌, ◌≤◌, true, false, IfSome};
+ghost use Rattle.std.specs.Prelude.{◌≡◌, ◌≤◌, true, false, IfSome, IfOk};
 
 use crate::link::TcpLink;
-use crate::tests::{SERVE, TWO, status_of};
+use crate::tests::{Ends, SERVE, TWO, ends_of, status_over};
 use context_table::Table;
 use derivation::Rows;
 use expert_sessions::{Ended, serve_ends};
-use fca_io::{
-    Duplex, Failed, Listener, MemoryEnd, MemoryShelf, MemorySink, MemorySource, Sink, Source,
-};
+use fca_io::{Duplex, Failed, Listener, MemoryEnd, Sink, Source};
 use fca_model::{Memory, Name};
 use std::alloc::Global;
 use std::io::{self, Read, Write};
@@ -176,40 +174,45 @@ fn patient<'a>(
     })
 }
 
+/// A link with two such ends.
+fn patient_link<'a>(
+    alloc: Global,
+    first: &'a AtomicBool,
+    second: &'a AtomicBool,
+) -> Result<PatientLink<'a>, Memory>
+    ensures { IfOk result (λ link. link.listens ≡ false) }
+{
+    let mut ends = Vec::new(alloc);
+    ends.push(patient(alloc, second, first)?)?;
+    ends.push(patient(alloc, first, second)?)?;
+    Ok(PatientLink {
+        listens: false,
+        to_come: ends,
+        given: Vec::new(alloc),
+        faults: 0,
+    })
+}
+
 /// Serves two experts, of whom each goes on only once the other was asked.
 fn serve_patient<'a, R: Threads + Wait + Sync>(
     rt: &R,
     alloc: Global,
     first: &'a AtomicBool,
     second: &'a AtomicBool,
-) -> Result<(u8, MemorySink, PatientLink<'a>), Memory> {
-    let mut shelf = MemoryShelf::new(alloc, &[])?;
-    shelf.put(b"F", TWO)?;
-    let mut input = MemorySource::new(alloc, b"", &[], 7)?;
-    let mut out = MemorySink::new(alloc, 1000, &[], 10)?;
-    let mut err = MemorySink::new(alloc, 100, &[], 7)?;
-    let mut ends = Vec::new(alloc);
-    ends.push(patient(alloc, second, first)?)?;
-    ends.push(patient(alloc, first, second)?)?;
-    let mut link = PatientLink {
-        listens: false,
-        to_come: ends,
-        given: Vec::new(alloc),
-        faults: 0,
-    };
-    let status = status_of(
-        rt, alloc, SERVE, &mut shelf, &mut input, &mut out, &mut err, &mut link,
-    )?;
-    Ok((status, out, link))
+) -> Result<(u8, Ends, PatientLink<'a>), Memory> {
+    let mut ends = ends_of(alloc, TWO, b"", 1000, &[], &[])?;
+    let mut link = patient_link(alloc, first, second)?;
+    let status = status_over(rt, alloc, SERVE, &mut ends, &mut link)?;
+    Ok((status, ends, link))
 }
 
 #[test]
 fn sessions_run_at_once(rt: HostRuntime) -> Result<(), Fail> {
     let (first, second) = (AtomicBool::new(false), AtomicBool::new(false));
-    let (status, out, link) = serve_patient(&rt, rt.alloc(), &first, &second)?;
+    let (status, ends, link) = serve_patient(&rt, rt.alloc(), &first, &second)?;
     assert_eq!(rt; status, 6);
     assert!(&rt;
-        out.written().ends_with(
+        ends.out.written().ends_with(
             b"# recorded 0\n# accepted 0\n# open 1\n# .. XX {} -> {a, b}\n# sessions 2\n# 1 quit\n# 2 quit\n"
         )
     );

@@ -1,6 +1,6 @@
 //! Whole calls over ends in memory: what each writes, and its status.
 
-ghost use Rattle.std.specs.Prelude.{◌≡◌, false};
+ghost use Rattle.std.specs.Prelude.{◌≡◌, false, IfOk};
 
 use crate::run::run;
 use fca_io::{
@@ -467,12 +467,20 @@ const REFUSALS: [Call; 33] = [
     ),
 ];
 
-/// What a call left: its status, out and err.
+/// The ends of a call but its link.
+#[derive(Drop)]
+pub struct Ends {
+    shelf: MemoryShelf,
+    input: MemorySource,
+    pub out: MemorySink,
+    pub err: MemorySink,
+}
+
+/// What a call left: its status, and its ends.
 #[derive(Drop)]
 struct Called {
     status: u8,
-    out: MemorySink,
-    err: MemorySink,
+    ends: Ends,
 }
 
 /// The words as they come from the command line.
@@ -488,7 +496,7 @@ fn words_of(alloc: Global, words: &[&[u8]]) -> Result<Vec<Word>, Memory> {
 }
 
 /// The status of the call of these words over these ends.
-pub fn status_of<R: Threads + Wait + Sync, H: Shelf, S: Source, K: Sink, E: Sink, L: Listener>(
+fn status_of<R: Threads + Wait + Sync, H: Shelf, S: Source, K: Sink, E: Sink, L: Listener>(
     rt: &R,
     alloc: Global,
     words: &[&[u8]],
@@ -504,19 +512,58 @@ pub fn status_of<R: Threads + Wait + Sync, H: Shelf, S: Source, K: Sink, E: Sink
     Ok(run(rt, alloc, &words, shelf, input, out, err, link))
 }
 
-/// Runs one call over ends in memory that move a few bytes at a time, and of which these calls fail.
-fn call<R: Threads + Wait + Sync>(
-    rt: &R,
-    alloc: Global,
-    call: &Call,
-    input_fails: &[usize],
-    out_fails: &[usize],
-) -> Result<Called, Memory> {
-    let (words, file, bytes, _, _) = *call;
-    outcome(rt, alloc, words, file, bytes, 1000, input_fails, out_fails)
+/// A shelf with the bytes under the names `F` and `F.csv`, and the living beings under `G`.
+fn shelf_of(alloc: Global, file: &[u8]) -> Result<MemoryShelf, Memory> {
+    let mut shelf = MemoryShelf::new(alloc, &[])?;
+    shelf.put(b"F", file)?;
+    shelf.put(b"F.csv", file)?;
+    shelf.put(b"G", LIVING)?;
+    Ok(shelf)
 }
 
-/// The same of these words, with room for so many bytes on out.
+/// Ends that move a few bytes at a time, and of which these calls fail, with room for so many bytes on out.
+pub fn ends_of(
+    alloc: Global,
+    file: &[u8],
+    bytes: &[u8],
+    room: usize,
+    input_fails: &[usize],
+    out_fails: &[usize],
+) -> Result<Ends, Memory> {
+    Ok(Ends {
+        shelf: shelf_of(alloc, file)?,
+        input: MemorySource::new(alloc, bytes, input_fails, 7)?,
+        out: MemorySink::new(alloc, room, out_fails, 10)?,
+        err: MemorySink::new(alloc, 100, &[], 7)?,
+    })
+}
+
+/// The status of the call of these words over these ends.
+pub fn status_over<R: Threads + Wait + Sync, L: Listener>(
+    rt: &R,
+    alloc: Global,
+    words: &[&[u8]],
+    ends: &mut Ends,
+    link: &mut L,
+) -> Result<u8, Memory>
+    requires { L.listens link.old ≡ false }
+{
+    let Ends {
+        shelf,
+        input,
+        out,
+        err,
+    } = ends;
+    status_of(rt, alloc, words, shelf, input, out, err, link)
+}
+
+/// Runs the call of the row.
+fn call<R: Threads + Wait + Sync>(rt: &R, alloc: Global, row: &Call) -> Result<Called, Memory> {
+    let (words, file, bytes, _, _) = *row;
+    outcome(rt, alloc, words, file, bytes, 1000, &[], &[])
+}
+
+/// Runs the call of these words, with room for so many bytes on out. These calls of the input and of out fail.
 fn outcome<R: Threads + Wait + Sync>(
     rt: &R,
     alloc: Global,
@@ -527,39 +574,32 @@ fn outcome<R: Threads + Wait + Sync>(
     input_fails: &[usize],
     out_fails: &[usize],
 ) -> Result<Called, Memory> {
-    let mut shelf = MemoryShelf::new(alloc, &[])?;
-    shelf.put(b"F", file)?;
-    shelf.put(b"F.csv", file)?;
-    shelf.put(b"G", LIVING)?;
-    let mut input = MemorySource::new(alloc, bytes, input_fails, 7)?;
-    let mut out = MemorySink::new(alloc, room, out_fails, 10)?;
-    let mut err = MemorySink::new(alloc, 100, &[], 7)?;
+    let mut ends = ends_of(alloc, file, bytes, room, input_fails, out_fails)?;
     let mut link = MemoryLink::new(alloc, b"x", Vec::new(alloc), &[])?;
-    let status = status_of(
-        rt, alloc, words, &mut shelf, &mut input, &mut out, &mut err, &mut link,
-    )?;
-    Ok(Called { status, out, err })
+    let status = status_over(rt, alloc, words, &mut ends, &mut link)?;
+    Ok(Called { status, ends })
 }
 
-/// Serves two experts, of whom one quits and the other draws and answers. The calls of the link with these numbers fail.
+/// Ends of two experts, of whom one quits and the other draws and answers. The calls of the link with these numbers fail.
+fn link_of_two(alloc: Global, link_fails: &[usize]) -> Result<MemoryLink, Memory>
+    ensures { IfOk result (λ link. link.listens ≡ false) }
+{
+    let mut ends = Vec::new(alloc);
+    ends.push(MemoryEnd::new(alloc, b"quit\n", 1000, &[], &[], 7)?)?;
+    ends.push(MemoryEnd::new(alloc, b"draw\nrow .. p\n", 1000, &[], &[], 7)?)?;
+    MemoryLink::new(alloc, b"x", ends, link_fails)
+}
+
+/// Serves these two experts.
 fn serve_two<R: Threads + Wait + Sync>(
     rt: &R,
     alloc: Global,
     link_fails: &[usize],
 ) -> Result<(Called, MemoryLink), Memory> {
-    let mut shelf = MemoryShelf::new(alloc, &[])?;
-    shelf.put(b"F", TWO)?;
-    let mut input = MemorySource::new(alloc, b"", &[], 7)?;
-    let mut out = MemorySink::new(alloc, 1000, &[], 10)?;
-    let mut err = MemorySink::new(alloc, 100, &[], 7)?;
-    let mut ends = Vec::new(alloc);
-    ends.push(MemoryEnd::new(alloc, b"quit\n", 1000, &[], &[], 7)?)?;
-    ends.push(MemoryEnd::new(alloc, b"draw\nrow .. p\n", 1000, &[], &[], 7)?)?;
-    let mut link = MemoryLink::new(alloc, b"x", ends, link_fails)?;
-    let status = status_of(
-        rt, alloc, SERVE, &mut shelf, &mut input, &mut out, &mut err, &mut link,
-    )?;
-    Ok((Called { status, out, err }, link))
+    let mut ends = ends_of(alloc, TWO, b"", 1000, &[], &[])?;
+    let mut link = link_of_two(alloc, link_fails)?;
+    let status = status_over(rt, alloc, SERVE, &mut ends, &mut link)?;
+    Ok((Called { status, ends }, link))
 }
 
 /// Puts so many of the byte behind the text.
@@ -645,22 +685,32 @@ fn wide_basis(alloc: Global) -> Result<(Vec<u8>, Vec<u8>), Memory> {
 #[test]
 fn explores_256_attributes(rt: HostRuntime) -> Result<(), Fail> {
     let file = wide_table(rt.alloc())?;
-    let text = wide_text(rt.alloc())?;
     let script = b"draw 1\nconfirm 1\ndraw 1\n".as_slice();
     let called = outcome(&rt, rt.alloc(), REPLAY, &file, script, 1_000_000, &[], &[])?;
     assert_eq!(rt; called.status, 6);
-    assert!(&rt; called.out.written().starts_with(&text));
+    let text = wide_text(rt.alloc())?;
+    assert!(&rt; called.ends.out.written().starts_with(&text));
+    Ok(())
+}
+
+#[test]
+fn lists_concepts_of_256_attributes(rt: HostRuntime) -> Result<(), Fail> {
+    let file = wide_table(rt.alloc())?;
     let words: &[&[u8]] = &[b"concepts", b"F"];
-    let concepts = outcome(&rt, rt.alloc(), words, &file, b"", 10_000, &[], &[])?;
-    assert_eq!(rt;
-        concepts.out.written(),
-        wide_concepts(rt.alloc())?.as_slice()
-    );
+    let called = outcome(&rt, rt.alloc(), words, &file, b"", 10_000, &[], &[])?;
+    let text = wide_concepts(rt.alloc())?;
+    assert_eq!(rt; called.ends.out.written(), text.as_slice());
+    Ok(())
+}
+
+#[test]
+fn lists_the_basis_of_256_attributes(rt: HostRuntime) -> Result<(), Fail> {
+    let file = wide_table(rt.alloc())?;
     let words: &[&[u8]] = &[b"basis", b"F"];
-    let basis = outcome(&rt, rt.alloc(), words, &file, b"", 1_000_000, &[], &[])?;
+    let called = outcome(&rt, rt.alloc(), words, &file, b"", 1_000_000, &[], &[])?;
     let (first, last) = wide_basis(rt.alloc())?;
-    assert!(&rt; basis.out.written().starts_with(&first));
-    assert!(&rt; basis.out.written().ends_with(&last));
+    assert!(&rt; called.ends.out.written().starts_with(&first));
+    assert!(&rt; called.ends.out.written().ends_with(&last));
     Ok(())
 }
 
@@ -677,7 +727,7 @@ fn oracles_explore_together(rt: HostRuntime) -> Result<(), Fail> {
         &[],
     )?;
     assert_eq!(rt; called.status, 0);
-    assert!(&rt; called.out.written().ends_with(LIVING_EXPLORED));
+    assert!(&rt; called.ends.out.written().ends_with(LIVING_EXPLORED));
     Ok(())
 }
 
@@ -686,11 +736,11 @@ fn experts_are_served(rt: HostRuntime) -> Result<(), Fail> {
     let (called, link) = serve_two(&rt, rt.alloc(), &[])?;
     assert_eq!(rt; called.status, 6);
     assert!(&rt;
-        called.out.written().ends_with(
+        called.ends.out.written().ends_with(
             b"# recorded 1\n# 1 .. p\n# accepted 0\n# open 2\n# .X XX {b} -> {a}\n# X. XX {a} -> {b}\n# sessions 2\n# 1 quit\n# 2 end of input\n"
         )
     );
-    assert_eq!(rt; called.err.written().len(), 0);
+    assert_eq!(rt; called.ends.err.written().len(), 0);
     assert_eq!(rt; link.given().len(), 2);
     assert_eq!(rt;
         link.given()[0].written(),
@@ -707,8 +757,11 @@ fn experts_are_served(rt: HostRuntime) -> Result<(), Fail> {
 fn failing_links_are_told(rt: HostRuntime) -> Result<(), Fail> {
     let (called, link) = serve_two(&rt, rt.alloc(), &[3])?;
     assert_eq!(rt; called.status, 7);
-    assert_eq!(rt; called.err.written(), b"fca: listener fault\n".as_slice());
-    assert_eq!(rt; called.out.written().len(), 0);
+    assert_eq!(rt;
+        called.ends.err.written(),
+        b"fca: listener fault\n".as_slice()
+    );
+    assert_eq!(rt; called.ends.out.written().len(), 0);
     assert_eq!(rt; link.given().len(), 1);
     Ok(())
 }
@@ -716,10 +769,10 @@ fn failing_links_are_told(rt: HostRuntime) -> Result<(), Fail> {
 #[test]
 fn calls_write_their_texts(rt: HostRuntime) -> Result<(), Fail> {
     for row in EXPLORATIONS.iter().chain(TABLES.iter()) {
-        let called = call(&rt, rt.alloc(), row, &[], &[])?;
-        assert_eq!(rt; called.out.written(), row.4);
+        let called = call(&rt, rt.alloc(), row)?;
+        assert_eq!(rt; called.ends.out.written(), row.4);
         assert_eq!(rt; called.status, row.3);
-        assert_eq!(rt; called.err.written().len(), 0);
+        assert_eq!(rt; called.ends.err.written().len(), 0);
     }
     Ok(())
 }
@@ -727,29 +780,43 @@ fn calls_write_their_texts(rt: HostRuntime) -> Result<(), Fail> {
 #[test]
 fn refused_calls_say_why(rt: HostRuntime) -> Result<(), Fail> {
     for row in &REFUSALS {
-        let called = call(&rt, rt.alloc(), row, &[], &[])?;
-        assert_eq!(rt; called.err.written(), row.4);
+        let called = call(&rt, rt.alloc(), row)?;
+        assert_eq!(rt; called.ends.err.written(), row.4);
         assert_eq!(rt; called.status, row.3);
-        assert_eq!(rt; called.out.written().len(), 0);
+        assert_eq!(rt; called.ends.out.written().len(), 0);
     }
+    Ok(())
+}
+
+#[test]
+fn long_files_are_refused(rt: HostRuntime) -> Result<(), Fail> {
     let mut long = Vec::new(rt.alloc());
     long.resize(FILE_BYTES + 1, b'B')?;
     let called = outcome(&rt, rt.alloc(), CONVERT, &long, b"", 0, &[], &[])?;
-    assert_eq!(rt; called.err.written(), b"fca: F: too long\n".as_slice());
+    assert_eq!(rt; called.ends.err.written(), b"fca: F: too long\n".as_slice());
     Ok(())
 }
 
 #[test]
 fn failing_ends_are_told(rt: HostRuntime) -> Result<(), Fail> {
-    let unread = call(&rt, rt.alloc(), &EXPLORATIONS[0], &[1], &[])?;
+    let unread = outcome(&rt, rt.alloc(), REPLAY, TWO, b"draw 1\n", 1000, &[1], &[])?;
     assert_eq!(rt; unread.status, 3);
     assert_eq!(rt;
-        unread.err.written(),
+        unread.ends.err.written(),
         b"fca: input: read fault\n".as_slice()
     );
-    let cut = call(&rt, rt.alloc(), &TABLES[6], &[], &[2])?;
+    let cut = outcome(
+        &rt,
+        rt.alloc(),
+        &[b"lattice", b"F"],
+        NOMINAL,
+        b"",
+        1000,
+        &[],
+        &[2],
+    )?;
     assert_eq!(rt; cut.status, 4);
-    assert_eq!(rt; cut.out.written(), b"concepts 5".as_slice());
-    assert_eq!(rt; cut.err.written(), b"fca: write fault\n".as_slice());
+    assert_eq!(rt; cut.ends.out.written(), b"concepts 5".as_slice());
+    assert_eq!(rt; cut.ends.err.written(), b"fca: write fault\n".as_slice());
     Ok(())
 }
