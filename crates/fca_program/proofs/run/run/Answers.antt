@@ -1,4 +1,7 @@
-use Rattle.std.proofs.Common.{sym}
+use Rattle.std.proofs.Common.{◌≡◌, ◌∙◌, Option, None, sym, subst}
+use Rattle.fca_model.specs.Tables.{Text}
+use Rattle.command_io.specs.ErrLines.{GainsLine, IsTold}
+use Rattle.fca_command.specs.declared.command.Command.{Command}
 use Rattle.command_io.specs.declared.stop.Stop.TheVariants.{NoCommand, Memory}
 use Rattle.command_io.proofs.ErrLemmas.{stop-told}
 use Rattle.fca_command.specs.Commands.{command_form}
@@ -26,9 +29,18 @@ returns-in-Err-clause-told g c =
     let input = g.S.Source.left c.args.input.now in
     stop-told _ (IsCallStop form files input) (fault_file form) Memory c.stopped-in-Err.result c.stopped-in-Err.ensures.status (memory-comes form files input) c.stopped-in-Err.ensures.told
 
-pub returns-in-None-clause-told : goal.returns-in-None-clause-told
-returns-in-None-clause-told g c =
+pub returns-in-Ok-None-clause-told : goal.returns-in-Ok-None-clause-told
+returns-in-Ok-None-clause-told g c =
     let form = command_form c.args.words.now in
     let files = g.H.Shelf.tells c.args.shelf.now in
     let input = g.S.Source.left c.args.input.now in
-    stop-told _ (IsCallStop form files input) (fault_file form) NoCommand c.stopped-in-None.result c.stopped-in-None.ensures.status (none-comes form files input (sym c.in-None.ensures.command)) c.stopped-in-None.ensures.told
+    let none : form ≡ None = sym c.in-Ok-None.ensures.command ∙ c.in-Ok-None.field-0-is in
+    stop-told _ (IsCallStop form files input) (fault_file form) NoCommand c.stopped.result c.stopped.ensures.status (none-comes form files input none) c.stopped.ensures.told
+
+pub returns-in-Ok-Some-clause-told : goal.returns-in-Ok-Some-clause-told
+returns-in-Ok-Some-clause-told g c =
+    let Told : Text → Type 0 = GainsLine (g.E.Sink.held c.args.err.now) (g.E.Sink.held c.run_command.new.err) (g.E.Sink.faults c.args.err.now) (g.E.Sink.faults c.run_command.new.err) in
+    let ToldOf : Option Command → Type 0 = λ found.
+    IsTold Told (IsCallStop found (g.H.Shelf.tells c.args.shelf.now) (g.S.Source.left c.args.input.now)) (fault_file found) c.run_command.result in
+    let same = sym c.in-Ok-Some.field-0-is ∙ c.in-Ok-Some.ensures.command in
+    subst ToldOf same c.run_command.ensures.told

@@ -1,7 +1,10 @@
-use Rattle.std.proofs.Common.{sym, subst}
+use Rattle.std.proofs.Common.{List, Some, sym, subst}
+use Rattle.fca_model.specs.Tables.{Text}
+use Rattle.command_io.specs.ErrLines.{GainsLine, IsTold, file_at_fault}
+use Rattle.explore_command.specs.Panels.{IsPanelStop}
 use Rattle.std.specs.Io.KnownBytes.{Appends}
 use Rattle.fca_command.specs.declared.command.Command.{Command}
-use Rattle.fca_program.specs.Endings.{HasServedExperts}
+use Rattle.fca_program.specs.Endings.{IsCommandStop, fault_file, HasServedExperts}
 use Rattle.fca_program.proofs.EndingLemmas.{not_seven}
 use Rattle.fca_program.proofs.run.run_command.Goals as goal
 
@@ -14,3 +17,18 @@ returns-in-Serve-clause-serve_output g c = λ whole.
 
 pub returns-in-Concepts-clause-listener_fault : goal.returns-in-Concepts-clause-listener_fault
 returns-in-Concepts-clause-listener_fault g c = λ seven. absurd (not_seven _ c.run_plain.result c.run_plain.ensures.status seven)
+
+pub returns-in-Explore-clause-told : goal.returns-in-Explore-clause-told
+returns-in-Explore-clause-told g c =
+    let files = g.H.Shelf.tells c.args.shelf.now in
+    let Told : Text → Type 0 = GainsLine (g.E.Sink.held c.args.err.now) (g.E.Sink.held c.explore.new.err) (g.E.Sink.faults c.args.err.now) (g.E.Sink.faults c.explore.new.err) in
+    let ToldBy : List Text → Type 0 = λ experts. IsTold Told (IsPanelStop c.in-Explore.file experts files) (file_at_fault c.in-Explore.file experts) c.explore.result in
+    let ToldOf : Command → Type 0 = λ command. IsTold Told (IsCommandStop command files (g.S.Source.left c.args.input.now)) (fault_file (Some command)) c.explore.result in
+    subst ToldOf (sym c.in-Explore.is) (subst ToldBy c.as_slice.ensures c.explore.ensures.told)
+
+pub returns-in-Serve-clause-told : goal.returns-in-Serve-clause-told
+returns-in-Serve-clause-told g c =
+    let files = g.H.Shelf.tells c.args.shelf.now in
+    let Told : Text → Type 0 = GainsLine (g.E.Sink.held c.args.err.now) (g.E.Sink.held c.serve.new.err) (g.E.Sink.faults c.args.err.now) (g.E.Sink.faults c.serve.new.err) in
+    let ToldOf : Command → Type 0 = λ command. IsTold Told (IsCommandStop command files (g.S.Source.left c.args.input.now)) (fault_file (Some command)) c.serve.result in
+    subst ToldOf (sym c.in-Serve.is) c.serve.ensures.told
