@@ -59,15 +59,13 @@ impl ImplicationList {
         Ok(())
     }
 
-    /// Puts the implications last; where memory is refused, some of them may be there.
+    /// Puts the implications last, all of them or none.
     pub fn extend_from_slice(&mut self, more: &[Implication]) -> Result<(), Memory>
         requires { HaveWidth self.old.width more.now }
         ensures ok { OnOk result (self.new ≡ record self.old { members = self.old.members ++ more.now }) }
-        ensures width { self.new.width ≡ self.old.width }
+        ensures err { OnErr result (self.new ≡ self.old) }
     {
-        for i in more {
-            self.push(*i)?;
-        }
+        self.members.extend_from_slice(more)?;
         Ok(())
     }
 
