@@ -1,7 +1,7 @@
 -- Where no question is open, what was accepted is the basis. Each premise of the basis is then accepted, and with its closure, since each accepted
 -- implication is a member; so both have the same members. In both no premise stands twice, so neither is longer. And two lists of members with their
 -- premises in lectic order have the same premises in the same places, and each premise has one conclusion.
-use Rattle.std.proofs.Common.{◌≡◌, ◌≤◌, Bool, true, false, not, ◌&&◌, ◌||◌, List, [], ◌∷◌, ◌++◌, map, length, filter, refl, sym, ap, ap₂, ◌∙◌, subst, arith}
+use Rattle.std.proofs.Common.{◌≡◌, ◌≤◌, ◌↔◌, Bool, true, false, not, ◌&&◌, ◌||◌, List, [], ◌∷◌, ◌++◌, map, length, filter, refl, sym, ap, ap₂, ◌∙◌, subst, arith}
 use Rattle.std.proofs.lemmas.Bool.{false≢true, and_parts, and_from, false_from_ne_true}
 use Rattle.std.proofs.lemmas.List.{length-map}
 use Rattle.std.proofs.lemmas.List.Folds.{list_all-append, list_all-map}
@@ -13,7 +13,7 @@ use Rattle.fca_model.specs.Context.{Context, closure}
 use Rattle.fca_model.specs.Implications.{Rule, rule, premises, respects, respects_all, holds, follows, equivalent}
 use Rattle.fca_model.specs.Pseudo.{pseudo_known, basis_known}
 use Rattle.fca_model.specs.Questions.{has_premise, open_questions}
-use Rattle.fca_model.specs.Invariant.{is_member, IsAccepted, SameMembers, distinct_premises}
+use Rattle.fca_model.specs.Invariant.{Among, is_member, IsAccepted, SameMembers, distinct_premises}
 use Rattle.fca_model.proofs.ListLemmas.{bool_iff, list_all-and, list_any_at, list_any-not, list_any-map}
 use Rattle.fca_model.proofs.SetLemmas.{same-true, same_refl, lectic_refl, all_sets_increasing, all_sets_agree}
 use Rattle.fca_model.proofs.SortedLemmas.{same_members, increasing-filter}
@@ -54,6 +54,14 @@ by_premises S K (i ∷ J) h =
 module _ (S : List Rule) (K : Context) where
   pub basis_members : list_all (is_member S K) (basis_known S K) ≡ true
   basis_members = basis_all S K (is_member S K) (λ P e p. member_from S K P (closure K P) e p refl)
+
+  -- a member passes each test that all of the basis pass, and one of these tests is whether it is a member
+  pub member_among : (i : Rule) → (is_member S K i ≡ true) ↔ Among (basis_known S K) i
+  member_among i = (
+    λ m p all. let parts = member_parts S K i m in
+        subst (λ j. p j ≡ true) (sym parts.2) (basis_at S K p i.premise parts.0 parts.1 all),
+    λ among. among (is_member S K) basis_members,
+  )
 
   -- the premises of the basis are in lectic order
   pub basis_increasing : increasing (premises (basis_known S K)) ≡ true
