@@ -3,9 +3,13 @@
 
 ghost use Rattle.std.specs.Prelude.{◌≡◌, ◌<◌, ◌≤◌, ◌↔◌, ◌∷◌, ◌++◌, ℕ, List, [], None, Some, All, IfOk, IfErr, OnOk, IsErrOf, IsTrue, length, vec_len, slice_get, option_copied, position, bytes_eq};
 ghost use Rattle.context_table.specs.Table.{IsTable, first_repeat};
+ghost use Rattle.context_table.specs.Generated.{made_table};
+
+mod generated;
 
 use derivation::Rows;
 use fca_model::{MAX_ATTRIBUTES, MAX_OBJECTS, Memory, Name};
+use generated::{Cells, numbered};
 use indexmap::IndexSet;
 use std::alloc::{AllocError, AllocFailed, Global};
 use std::marker::Model;
@@ -99,6 +103,30 @@ impl Table {
             attributes,
             rows,
         })
+    }
+
+    /// The generated table: objects g1, g2 and so on, attributes m1, m2 and so on, and about `density` crosses in eight cells,
+    /// drawn row by row by a linear congruential generator (Knuth, MMIX) from the seed on.
+    pub fn make(
+        alloc: Global,
+        seed: u64,
+        objects: u32,
+        attributes: u32,
+        density: u8,
+    ) -> Result<Table, Memory>
+        requires objects { objects ≤ MAX_OBJECTS }
+        requires attributes { attributes ≤ MAX_ATTRIBUTES }
+        ensures { IfOk result (λ table. table ≡ made_table seed objects attributes density) }
+    {
+        let rows = Cells::new(seed, density).into_rows(alloc, objects, attributes)?;
+        let objects = numbered(alloc, 'g', objects)?;
+        let attributes = numbered(alloc, 'm', attributes)?;
+        match Table::new(alloc, None, objects, attributes, rows) {
+            Ok(table) => Ok(table),
+            Err(TableFault::Memory) => Err(Memory),
+            Err(TableFault::TooMany) => unreachable!(),
+            Err(TableFault::DuplicateAttribute(_)) => unreachable!(),
+        }
     }
 
     /// The title.
@@ -252,5 +280,16 @@ mod tests {
     fn an_attribute_stands_once(rt: HostRuntime) {
         let made = table(rt.alloc(), "a", "a");
         assert!(&rt; matches!(made, Err(TableFault::DuplicateAttribute(1))));
+    }
+
+    #[test]
+    fn a_table_is_made_from_a_seed(rt: HostRuntime) -> Result<(), Memory> {
+        let table = Table::make(rt.alloc(), 0, 2, 2, 4)?;
+        let rows = table.rows();
+        assert!(&rt; rows.len() == 2 && rows.width() == 2);
+        assert!(&rt; rows.as_slice() == [Attrs::full(2), Attrs::empty(2).with(1)].as_slice());
+        assert!(&rt; table.object(1).bytes() == b"g2".as_slice());
+        assert!(&rt; table.attribute_name(0).bytes() == b"m1".as_slice());
+        Ok(())
     }
 }

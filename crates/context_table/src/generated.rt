@@ -1,0 +1,106 @@
+//! What a generated table is made of: cells that are drawn one by one, and names by number.
+
+ghost use Rattle.std.specs.Prelude.{◌≡◌, ◌≤◌, IfOk, None};
+ghost use Rattle.context_table.specs.Generated.{next_state, state_after, is_cross, row_from, rows_from, numbered};
+ghost use Rattle.fca_model.specs.Names.{name_fault};
+
+use attr_bits::Attrs;
+use derivation::Rows;
+use fca_model::{MAX_ATTRIBUTES, Memory, Name, NameFault};
+use itoa::Buffer;
+use std::alloc::Global;
+
+/// The factor and the summand of a step, those of Knuth's MMIX.
+const MULTIPLIER: u64 = 6_364_136_223_846_793_005;
+
+const INCREMENT: u64 = 1_442_695_040_888_963_407;
+
+/// How many bits lie below the three highest, which decide on a cell.
+const LOWER: u32 = 61;
+
+/// A linear congruential generator of cells.
+#[derive(Drop)]
+pub struct Cells {
+    state: u64,
+    density: u8,
+}
+
+impl Cells {
+    /// The cells from this seed, of which about `density` in eight are crosses.
+    pub fn new(seed: u64, density: u8) -> Cells
+        ensures state { result.state ≡ seed }
+        ensures density { result.density ≡ density }
+    {
+        Cells {
+            state: seed,
+            density,
+        }
+    }
+
+    /// Whether the next cell is a cross.
+    fn next_cell(&mut self) -> bool
+        ensures state { self.new.state ≡ next_state self.old.state }
+        ensures density { self.new.density ≡ self.old.density }
+        ensures cross { result ≡ is_cross self.new.density self.new.state }
+    {
+        self.state = self.state.wrapping_mul(MULTIPLIER).wrapping_add(INCREMENT);
+        self.state >> LOWER < u64::from(self.density)
+    }
+
+    /// The next n cells.
+    fn row(&mut self, n: u32) -> Attrs
+        requires { n ≤ MAX_ATTRIBUTES }
+        ensures state { self.new.state ≡ state_after n self.old.state }
+        ensures density { self.new.density ≡ self.old.density }
+        ensures row { result ≡ row_from self.old.density n self.old.state }
+    {
+        let mut row = Attrs::empty(n);
+        for j in 0..n {
+            if self.next_cell() {
+                row.insert(j);
+            }
+        }
+        row
+    }
+
+    /// The next `count` rows of n cells.
+    pub fn into_rows(mut self, alloc: Global, count: u32, n: u32) -> Result<Rows, Memory>
+        requires { n ≤ MAX_ATTRIBUTES }
+        ensures { IfOk result (λ rows. rows ≡ record { width = n; rows = rows_from self.density count n self.state }) }
+    {
+        let mut rows = Rows::new(alloc, n)?;
+        for _ in 0..count {
+            rows.push(self.row(n))?;
+        }
+        Ok(rows)
+    }
+}
+
+/// Names of a lower-case letter and a number, from 1 on.
+pub fn numbered(alloc: Global, letter: char, count: u32) -> Result<Vec<Name>, Memory>
+    requires from_a { 97 ≤ letter }
+    requires to_z { letter ≤ 122 }
+    ensures { IfOk result (λ names. names.items ≡ numbered letter count) }
+{
+    let mut names = Vec::with_capacity(alloc, count as usize)?;
+    let mut text = String::new(alloc);
+    for i in 0..count {
+        text.clear();
+        text.push(letter)?;
+        text.push_str(Buffer::new().format(i + 1))?;
+        names.push(named(alloc, &text)?)?;
+    }
+    Ok(names)
+}
+
+/// The name with this text, which has no fault.
+fn named(alloc: Global, text: &str) -> Result<Name, Memory>
+    requires { name_fault text.now ≡ None }
+    ensures { IfOk result (λ name. name ≡ text.now) }
+{
+    match Name::new(alloc, text) {
+        Ok(name) => Ok(name),
+        Err(NameFault::Memory) => Err(Memory),
+        Err(_) => unreachable!(),
+    }
+}
