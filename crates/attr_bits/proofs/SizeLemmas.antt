@@ -65,6 +65,13 @@ ones_in_more [] k h = absurd (omega arith)
 ones_in_more (x ∷ xs) zero h = omega arith
 ones_in_more (x ∷ xs) (suc k) h = omega (arith, ones_in_more xs k (omega arith))
 
+-- fewer words have fewer members
+pub ones_in_mono : (k m : ℕ) (a : List ℕ) → k ≤ m → ones_in (take k a) ≤ ones_in (take m a)
+ones_in_mono zero m a h = omega arith
+ones_in_mono (suc k) zero a h = absurd (omega arith)
+ones_in_mono (suc k) (suc m) [] h = omega arith
+ones_in_mono (suc k) (suc m) (x ∷ xs) h = omega (arith, ones_in_mono k m xs (omega arith))
+
 -- the members in the first k words
 count_words : (a : List ℕ) → ((k : ℕ) → get_or a k 0 < 2 ^ 64) → (k : ℕ) → k ≤ length a → count_below (word_bit a) (64 * k) ≡ ones_in (take k a)
 count_words a small zero h = refl
@@ -75,12 +82,13 @@ count_words a small (suc k) h =
     (count_below-agree (λ j. word_bit a (64 * k + j)) (λ j. eqb (bit_at (get_or a k 0) j) 1) 64 (λ j l. word_bit_in a k j l) ∙ sym (ones_by_bits (get_or a k 0) (small k)))
     ∙ sym (ones_in_more a k h)
 
-pub size_is : {m n : ℕ} {a : List ℕ} {A : Set} → IsWords m a n A → ones_in (take m a) ≡ size A
+-- the words that the width reaches have all members
+pub size_reached : {m n : ℕ} {a : List ℕ} {A : Set} → IsWords m a n A → (k : ℕ) → k ≤ m → n ≤ 64 * k → ones_in (take k a) ≡ size A
 unfolding set_of
-size_is {m} {n} {a} w =
-    sym (count_words a w.fits.small m (omega (arith, w.fits.count)))
-    ∙ (let e : n + (64 * m - n) ≡ 64 * m = omega (arith, w.fits.narrow) in
-    ap (count_below (word_bit a)) (sym e) ∙ count_below-add (word_bit a) n (64 * m - n)
-    ∙ ap (λ x. count_below (word_bit a) n + x) (count_below-none (λ j. word_bit a (n + j)) (64 * m - n) (λ j l. w.fits.clear (n + j) (omega arith)))
+size_reached {m} {n} {a} w k inside reached =
+    sym (count_words a w.fits.small k (omega (arith, w.fits.count)))
+    ∙ (let e : n + (64 * k - n) ≡ 64 * k = omega arith in
+    ap (count_below (word_bit a)) (sym e) ∙ count_below-add (word_bit a) n (64 * k - n)
+    ∙ ap (λ x. count_below (word_bit a) n + x) (count_below-none (λ j. word_bit a (n + j)) (64 * k - n) (λ j l. w.fits.clear (n + j) (omega arith)))
     ∙ add-zero (count_below (word_bit a) n))
     ∙ sym (size_below (word_bit a) n) ∙ ap size w.view

@@ -1,7 +1,9 @@
 -- Intents: members of their list, and the least intent that contains a set and one attribute more.
-use Rattle.std.proofs.Common.{◌≡◌, ℕ, ◌<◌, true, false, length, get_or, set, sym, ap, ◌∙◌, subst, arith, inl, inr, eqb, eqb-true, get_or-set_same, get_or-set_other, length-set, List}
-use Rattle.std.proofs.lemmas.Bool.{cases_eq}
-use Rattle.std.specs.List.{list_any}
+use Rattle.std.proofs.Common.{◌≡◌, All, ℕ, ◌<◌, true, false, length, get_or, set, sym, ap, ◌∙◌, subst, arith, inl, inr, eqb, eqb-true, ne_eqb, get_or-set_same, get_or-set_other, length-set, List}
+use Rattle.std.proofs.lemmas.Bool.{cases_eq, false≢true}
+use Rattle.std.proofs.lemmas.List.Elements.{All-filter}
+use Rattle.std.proofs.lemmas.List.Folds.{list_all_at}
+use Rattle.std.specs.List.{list_all, list_any}
 use Rattle.fca_model.specs.Sets.{Set, same, within, all_sets, increasing}
 use Rattle.fca_model.specs.Context.{Context, closure, is_closed}
 use Rattle.fca_model.specs.Pseudo.{intents}
@@ -31,6 +33,17 @@ of_intents K X h =
 pub intents_increasing : (K : Context) → increasing (intents K) ≡ true
 unfolding intents
 intents_increasing K = increasing-filter (is_closed K) (all_sets K.width) (all_sets_increasing K.width)
+
+wide_at : (n : ℕ) (Xs : List Set) → list_all (λ A. eqb (length A) n) Xs ≡ true → (i : ℕ) (d : Set) → i < length Xs → length (get_or Xs i d) ≡ n
+wide_at n Xs h i d l = elim (cases_eq (length (get_or Xs i d)) n) [
+  | inl e ↦ e
+  | inr other ↦ absurd (false≢true (sym (list_all_at (λ A. eqb (length A) n) Xs i d l (ne_eqb _ n other)) ∙ h))
+]
+
+-- all intents are as wide as the context
+pub intents_wide : (K : Context) → All (λ A. length A ≡ K.width) (intents K)
+unfolding intents
+intents_wide K = All-filter (is_closed K) (λ A. length A ≡ K.width) (all_sets K.width) (wide_at K.width (all_sets K.width) (all_sets_widths K.width))
 
 -- ---- closures
 

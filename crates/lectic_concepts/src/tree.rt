@@ -2,36 +2,75 @@
 //! lacks, from the last such attribute on. Below an intent only the rows that contain it matter; where few attributes are left to be tried, it does not
 //! pay to set them apart.
 
-ghost use Rattle.std.specs.Prelude.{◌≡◌, ◌≤◌, ◌++◌, true, OnOk, IfOk, length};
+ghost use Rattle.std.specs.Prelude.{◌≡◌, ◌≤◌, ◌<◌, ◌+◌, ◌++◌, ℕ, true, OnOk, IfOk, All, IfSome, MatchOption, length};
 ghost use Rattle.fca_model.specs.Context.{is_closed};
 ghost use Rattle.fca_model.specs.Pseudo.{intents};
 ghost use Rattle.lectic_concepts.specs.Branches.{branch};
 
-use attr_bits::Attrs;
-use derivation::Rows;
-use fca_model::Memory;
+use attr_bits::{Attrs, Bits};
+use derivation::{Rows, RowsOf};
+use fca_model::{MAX_ATTRIBUTES, Memory};
 use std::alloc::Global;
+
+/// How many attributes one word holds.
+const ONE_WORD: u32 = 64;
+
+/// How many attributes four words hold.
+const FOUR_WORDS: u32 = 256;
 
 /// For so many attributes the rows that matter are not set apart.
 const FEW: u32 = 3;
 
-/// All intents, each once, in lectic order.
+/// All intents, each once, in lectic order. They are found in sets as narrow as the table.
 pub fn all_intents(alloc: Global, rows: &Rows) -> Result<Vec<Attrs>, Memory>
     ensures { IfOk result (λ all. all.items ≡ intents rows.now) }
 {
+    let width = rows.width();
+    if width <= ONE_WORD {
+        let found = intents_of(alloc, &rows.resized::<1>(alloc)?)?;
+        return widened(alloc, width, &found);
+    }
+    if width <= FOUR_WORDS {
+        let found = intents_of(alloc, &rows.resized::<4>(alloc)?)?;
+        return widened(alloc, width, &found);
+    }
+    intents_of(alloc, rows)
+}
+
+/// The same sets as sets of any table.
+fn widened<const W: usize>(
+    alloc: Global,
+    width: u32,
+    sets: &[Bits<W>],
+) -> Result<Vec<Attrs>, Memory>
+    requires narrow { width ≤ MAX_ATTRIBUTES }
+    requires even { All (λ A. length A ≡ width) sets.now }
+    ensures { IfOk result (λ all. all.items ≡ sets.now) }
+{
+    let mut all = Vec::with_capacity(alloc, sets.len())?;
+    for set in sets {
+        all.push(set.resized())?;
+    }
+    Ok(all)
+}
+
+/// All intents, as sets of the words that the rows have.
+pub fn intents_of<const W: usize>(alloc: Global, rows: &RowsOf<W>) -> Result<Vec<Bits<W>>, Memory>
+    ensures intents { IfOk result (λ all. all.items ≡ intents rows.now) }
+    ensures even { IfOk result (λ all. All (λ A. length A ≡ rows.now.width) all.items) }
+{
     let mut all = Vec::new(alloc);
-    let least = rows.closure(&Attrs::empty(rows.width()));
+    let least = rows.closure(&Bits::empty(rows.width()));
     add_branch(alloc, &mut all, rows, &least, 0)?;
     Ok(all)
 }
 
-/// Puts the intents that contain a and agree with it before attribute `from` last.
-#[cycle(branch)]
-fn add_branch(
+/// Puts the intents that contain a and agree with it before attribute `from` last. The rows that contain a child are set apart first, where that pays.
+fn add_branch<const W: usize>(
     alloc: Global,
-    all: &mut Vec<Attrs>,
-    rows: &Rows,
-    a: &Attrs,
+    all: &mut Vec<Bits<W>>,
+    rows: &RowsOf<W>,
+    a: &Bits<W>,
     from: u32,
 ) -> Result<(), Memory>
     requires wide { length a.now ≡ rows.now.width }
@@ -41,39 +80,56 @@ fn add_branch(
 {
     all.push(*a)?;
     for i in (from..rows.width()).rev() {
-        if !a.has(i) {
-            let closed = rows.closure(&a.with(i));
-            if closed.first_missing(a) == Some(i) {
-                add_child(alloc, all, rows, &closed, i + 1)?;
+        if let Some(child) = child_at(rows, a, i) {
+            if lacks_few(&child, i + 1) {
+                add_branch(alloc, all, rows, &child, i + 1)?;
+            } else {
+                let above = rows_above(alloc, rows, &child)?;
+                add_branch(alloc, all, &above, &child, i + 1)?;
             }
         }
     }
     Ok(())
 }
 
-/// Puts the same intents last. The rows that contain a are set apart first, where that pays.
-#[cycle(branch)]
-fn add_child(
-    alloc: Global,
-    all: &mut Vec<Attrs>,
-    rows: &Rows,
-    a: &Attrs,
-    from: u32,
-) -> Result<(), Memory>
+/// The least intent that contains a and attribute i, where it agrees with a before i and a lacks i.
+fn child_at<const W: usize>(rows: &RowsOf<W>, a: &Bits<W>, i: u32) -> Option<Bits<W>>
     requires wide { length a.now ≡ rows.now.width }
     requires closed { is_closed rows.now a.now ≡ true }
-    requires inside { from ≤ rows.now.width }
-    ensures { OnOk result (all.new.items ≡ all.old.items ++ branch rows.now a.now from) }
+    requires inside { i < rows.now.width }
+    ensures wide { IfSome result (λ D. length D ≡ rows.now.width) }
+    ensures closed { IfSome result (λ D. is_closed rows.now D ≡ true) }
+    ensures splits { MatchOption result
+        (branch rows.now a.now i ≡ branch rows.now a.now (i + 1))
+        (λ D. branch rows.now a.now i ≡ branch rows.now a.now (i + 1) ++ branch rows.now D (i + 1)) }
 {
-    if lacks_few(a, from) {
-        return add_branch(alloc, all, rows, a, from);
+    if a.has(i) {
+        return None;
     }
-    let above = rows.containing(alloc, a)?;
-    add_branch(alloc, all, &above, a, from)
+    let closed = rows.closure(&a.with(i));
+    if closed.first_missing(a) == Some(i) {
+        return Some(closed);
+    }
+    None
+}
+
+/// The rows that contain a, which have the same branch.
+fn rows_above<const W: usize>(
+    alloc: Global,
+    rows: &RowsOf<W>,
+    a: &Bits<W>,
+) -> Result<RowsOf<W>, Memory>
+    requires wide { length a.now ≡ rows.now.width }
+    requires closed { is_closed rows.now a.now ≡ true }
+    ensures width { IfOk result (λ above. above.width ≡ rows.now.width) }
+    ensures closed { IfOk result (λ above. is_closed above a.now ≡ true) }
+    ensures branch { IfOk result (λ above. (k : ℕ) → branch above a.now k ≡ branch rows.now a.now k) }
+{
+    rows.containing(alloc, a)
 }
 
 /// Whether a lacks few attributes from that one on. What is found is the same either way, so no contract speaks of it.
-fn lacks_few(a: &Attrs, from: u32) -> bool {
+fn lacks_few<const W: usize>(a: &Bits<W>, from: u32) -> bool {
     let mut lacking = 0u32;
     for i in from..a.width() {
         if !a.has(i) {
