@@ -41,6 +41,7 @@ class Terminal:
         end = time.time() + SECONDS
         while len(self.written()) < len(self.shown) and time.time() < end:
             time.sleep(0.05)
+        time.sleep(0.2)  # a session gives back what it holds behind its last answer
 
     def end(self):
         self.child.stdin.close()
