@@ -1,0 +1,155 @@
+#!/usr/bin/env python3
+"""Runs the examples of the documents and compares what comes with what they show: check.py [DOCUMENT ..]
+
+In a fenced block a line that begins with `$ ` is a command, and the lines behind it are what it writes. The commands of
+one document run in one new folder, which has the program and the examples. A command `./fca serve` or
+`examples/expert.sh` is a terminal that stays open, numbered from 1; a row `| 2 | typed | answered |` of a table types a
+line at terminal 2. The port 7000 becomes a free one.
+Each script of `examples/` is replayed too, and its text is fed back. The status is 0 where all is as shown.
+"""
+import os
+import re
+import socket
+import subprocess
+import sys
+import tempfile
+import time
+
+TOP = os.path.dirname(os.path.dirname(os.path.abspath(__file__)))
+FCA = os.path.join(TOP, "fca")
+DOCUMENTS = ["README.md", "docs/TUTORIAL.md", "docs/FORMATS.md"]
+SECONDS = 60
+TYPED = re.compile(r"\| (\d+) \| `(.*)` \| `(.*)` \|\n")
+
+
+class Terminal:
+    """A command that stays open, and the lines that it should have written so far."""
+
+    def __init__(self, number, command, shown, folder):
+        self.number, self.shown = number, shown
+        self.out = tempfile.TemporaryFile()
+        self.child = subprocess.Popen(["bash", "-c", command], cwd=folder, stdin=subprocess.PIPE, stdout=self.out)
+
+    def written(self):
+        return os.pread(self.out.fileno(), 1 << 24, 0).decode().splitlines()
+
+    def type(self, line, answer):
+        """Types a line, and waits until as many lines are written as should be there then."""
+        self.child.stdin.write((line + "\n").encode())
+        self.child.stdin.flush()
+        self.shown = self.shown + [answer]
+        end = time.time() + SECONDS
+        while len(self.written()) < len(self.shown) and time.time() < end:
+            time.sleep(0.05)
+        time.sleep(0.2)  # a session gives back what it holds behind its last answer
+
+    def end(self):
+        self.child.stdin.close()
+        self.child.wait(SECONDS)
+
+
+def steps(path):
+    """In their order the line number of each command, or of each line typed at a terminal, with what should come of it."""
+    found, shown, in_block = [], [], False
+    with open(path) as text:
+        for number, line in enumerate(text, 1):
+            typed = TYPED.fullmatch(line)
+            if line.startswith("```"):
+                shown, in_block = [], not in_block
+            elif in_block and line.startswith("$ "):
+                shown = []
+                found.append((number, line[2:].rstrip("\n"), shown))
+            elif in_block:
+                shown.append(line.rstrip("\n"))
+            elif typed:
+                found.append((number, int(typed[1]), (typed[2], typed[3])))
+    return found
+
+
+def free_port():
+    with socket.socket() as free:
+        free.bind(("127.0.0.1", 0))
+        return str(free.getsockname()[1])
+
+
+class Run:
+    """The examples of one document, and how many of them did not write what is shown."""
+
+    def __init__(self, name, folder):
+        self.name, self.folder, self.port = name, folder, free_port()
+        self.terminals, self.count, self.wrong = [], 0, 0
+
+    def compare(self, number, written, shown):
+        self.count += 1
+        if written != shown:
+            self.wrong += 1
+            print("%s:%d: shown are\n  %s\nand written were\n  %s" % (self.name, number, "\n  ".join(shown), "\n  ".join(written)))
+
+    def open(self, number, command, shown):
+        self.terminals.append(Terminal(number, command, shown, self.folder))
+        time.sleep(1)  # so that the next terminal finds this one listening, or connected
+
+    def close(self):
+        for terminal in reversed(self.terminals):
+            terminal.end()
+            self.compare(terminal.number, terminal.written(), terminal.shown)
+        self.terminals = []
+
+    def command(self, number, command, shown):
+        command = command.replace("7000", self.port)
+        if command.startswith(("./fca serve ", "examples/expert.sh ")):
+            self.open(number, command, shown)
+            return
+        self.close()
+        words = ["bash", "-c", command]
+        ran = subprocess.run(words, cwd=self.folder, stdin=subprocess.DEVNULL, stdout=subprocess.PIPE, timeout=SECONDS)
+        self.compare(number, ran.stdout.decode().splitlines(), shown)
+
+    def all(self):
+        for number, what, shown in steps(os.path.join(TOP, self.name)):
+            if isinstance(what, int):
+                self.terminals[what - 1].type(*shown)
+            else:
+                self.command(number, what, shown)
+        self.close()
+
+
+def check_document(name):
+    with tempfile.TemporaryDirectory() as folder:
+        for linked in ("fca", "examples"):
+            os.symlink(os.path.join(TOP, linked), os.path.join(folder, linked))
+        run = Run(name, folder)
+        run.all()
+    print("%s: %d examples, %d not as shown" % (name, run.count, run.wrong))
+    return run.wrong
+
+
+def replayed(table, script):
+    ran = subprocess.run([FCA, "replay", table], input=script, stdout=subprocess.PIPE, timeout=SECONDS)
+    return ran.returncode, ran.stdout
+
+
+def check_scripts():
+    """Each script ends with no open question over the table of its name, and its text fed back gives itself."""
+    folder = os.path.join(TOP, "examples")
+    names = sorted(name[: -len(".script")] for name in os.listdir(folder) if name.endswith(".script"))
+    wrong = 0
+    for name in names:
+        table = os.path.join(folder, name + ".cxt")
+        with open(os.path.join(folder, name + ".script"), "rb") as script:
+            status, text = replayed(table, script.read())
+        if status != 0 or replayed(table, text) != (0, text):
+            wrong += 1
+            print("examples/%s.script: status %d, or its text fed back gives another" % (name, status))
+    print("examples: %d scripts, %d not as they should be" % (len(names), wrong))
+    return wrong
+
+
+def main():
+    subprocess.run([FCA], stderr=subprocess.DEVNULL)  # builds the program where it is not built
+    wrong = sum(check_document(name) for name in sys.argv[1:] or DOCUMENTS) + check_scripts()
+    sys.exit(1 if wrong else 0)
+
+
+if __name__ == "__main__":
+    main()
