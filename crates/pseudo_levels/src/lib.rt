@@ -4,6 +4,7 @@
 
 mod candidates;
 mod judging;
+pub mod laws;
 mod member_index;
 mod settling;
 
