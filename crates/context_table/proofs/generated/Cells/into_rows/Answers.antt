@@ -17,7 +17,7 @@ loop-init c = record {
 pub push-requires : goal.push-requires
 push-requires c =
     let width = ap (λ (K : Context). K.width) c.loop.invariant.rows in
-    rw c.row.ensures.row (rw width (length-map-range_with_len _ 0 c.args.n))
+    (omega arith, (omega arith, rw c.row.ensures.row (rw width (length-map-range_with_len _ 0 c.args.n))))
 
 pub loop-preserved : goal.loop-preserved
 loop-preserved c =
