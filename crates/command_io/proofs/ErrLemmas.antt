@@ -28,7 +28,7 @@ silent-apart n (inr (inr (inl three))) = (λ e. omega arith, λ e. omega arith, 
 silent-apart n (inr (inr (inr (inl five)))) = (λ e. omega arith, λ e. omega arith, λ e. omega arith, λ e. omega arith)
 silent-apart n (inr (inr (inr (inr seven)))) = (λ e. omega arith, λ e. omega arith, λ e. omega arith, λ e. omega arith)
 
-stop-silent : (s : Stop) → IsSilent (stop_status s)
+pub stop-silent : (s : Stop) → IsSilent (stop_status s)
 stop-silent NoCommand = inl refl
 stop-silent (Fault origin) = inr (inr (inl refl))
 stop-silent Memory = inr (inr (inr (inl refl)))

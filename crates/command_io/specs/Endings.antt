@@ -28,6 +28,10 @@ IsWhole status = (status ≡ 0) ⊎ (status ≡ 6)
 abbrev pub IsCutOff : ℕ → Type 0
 IsCutOff status = (status ≡ 3) ⊎ ((status ≡ 4) ⊎ (status ≡ 5))
 
+-- something that the command reads was refused, or could not be read
+abbrev pub IsUnread : ℕ → Type 0
+IsUnread status = (status ≡ 2) ⊎ (status ≡ 3)
+
 -- a status under which nothing was written
 abbrev pub IsSilent : ℕ → Type 0
 IsSilent status = (status ≡ 1) ⊎ ((status ≡ 2) ⊎ ((status ≡ 3) ⊎ ((status ≡ 5) ⊎ (status ≡ 7))))

@@ -4,15 +4,18 @@ use Rattle.fca_model.specs.Tables.{Text}
 use Rattle.fca_model.specs.declared.TheConstants.{FILE_BYTES}
 use Rattle.fca_io.specs.Shelves.{Told}
 
--- what reading comes to, where no call of the outside fails and memory is there
+-- what reading comes to, where no call of the outside fails and memory is there: it is not told, there is nothing to read, and so a call fails, it is
+-- refused, or this is read
 pub data Reading (X : Type 0) : Type 0 where
   Untold : Reading X
+  Missing : Reading X
   Refused : Reading X
   Read : X → Reading X
 
 -- one reading after the other
 abbrev pub then : {X Y : Type 0} → Reading X → (X → Reading Y) → Reading Y
 then Untold next = Untold
+then Missing next = Missing
 then Refused next = Refused
 then (Read x) next = next x
 
@@ -29,10 +32,10 @@ known None = Refused
 abbrev pub bytes_read : {X : Type 0} → (Text → Reading X) → Text → Reading X
 bytes_read form bytes = cond (nat_le (length bytes) FILE_BYTES) (form bytes) Refused
 
--- a file, read so. That there is no such file is a fault, and no reading
+-- a file, read so
 abbrev pub file_read : {X : Type 0} → (Text → Reading X) → Told → Reading X
 file_read form None = Untold
-file_read form (Some None) = Untold
+file_read form (Some None) = Missing
 file_read form (Some (Some bytes)) = bytes_read form bytes
 
 -- all that is left of the input, read so
@@ -43,17 +46,20 @@ input_read form (Some bytes) = bytes_read form bytes
 -- x may have been read
 abbrev pub MayRead : {X : Type 0} → Reading X → X → Type 0
 MayRead Untold x = ⊤
+MayRead Missing x = ⊥
 MayRead Refused x = ⊥
 MayRead (Read y) x = x ≡ y
 
 -- the reading may be refused
 abbrev pub MayRefuse : {X : Type 0} → Reading X → Type 0
 MayRefuse Untold = ⊤
+MayRefuse Missing = ⊥
 MayRefuse Refused = ⊤
 MayRefuse (Read y) = ⊥
 
 -- the reading is not refused, and P holds of what was read
 abbrev pub IfRead : {X : Type 0} → Reading X → (X → Type 0) → Type 0
 IfRead Untold P = ⊤
+IfRead Missing P = ⊥
 IfRead Refused P = ⊥
 IfRead (Read x) P = P x

@@ -11,7 +11,7 @@ use Rattle.fca_model.specs.Tables.{Text, NamedContext}
 use Rattle.fca_io.specs.Faults.{Rose}
 use Rattle.fca_io.specs.Shelves.{Told}
 use Rattle.command_io.specs.Readings.{Reading, then, MayRead, MayRefuse}
-use Rattle.command_io.specs.Readings.Reading.{Untold, Refused, Read}
+use Rattle.command_io.specs.Readings.Reading.{Untold, Missing, Refused, Read}
 use Rattle.explore_command.specs.Panels.{Panel, same_names, agreeing, expert_read, experts_read, panel_read, IsExpertStop, IsExpertsStop, SomeRose, FileRose}
 use Rattle.command_io.specs.Forms.{table_read}
 use Rattle.command_io.specs.Endings.{Stops, stop_status}
@@ -58,17 +58,20 @@ ReadsOn-none table all tells = record { read = λ later may. may; refused = λ m
 read_behind : (D : NamedContext) (rest : Reading (List NamedContext)) (later : List NamedContext) → MayRead rest later
     → MayRead (then rest (λ experts. Read (D ∷ experts))) (D ∷ later)
 read_behind D Untold later may = tt
+read_behind D Missing later may = may
 read_behind D Refused later may = may
 read_behind D (Read experts) later may = ap (λ l. D ∷ l) may
 
 refused_behind : (D : NamedContext) (rest : Reading (List NamedContext)) → MayRefuse rest → MayRefuse (then rest (λ experts. Read (D ∷ experts)))
 refused_behind D Untold may = tt
+refused_behind D Missing may = may
 refused_behind D Refused may = tt
 refused_behind D (Read experts) may = may
 
 first_read : (D : NamedContext) (first : Reading NamedContext) (rest : Reading (List NamedContext)) (later : List NamedContext) → MayRead first D → MayRead rest later
     → MayRead (then first (λ D. then rest (λ experts. Read (D ∷ experts)))) (D ∷ later)
 first_read D Untold rest later here may = tt
+first_read D Missing rest later here may = here
 first_read D Refused rest later here may = here
 first_read D (Read E) rest later here may =
     let P : NamedContext → Type 0 = λ x. MayRead (then rest (λ experts. Read (x ∷ experts))) (D ∷ later) in subst P here (read_behind D rest later may)
@@ -76,6 +79,7 @@ first_read D (Read E) rest later here may =
 first_refused : (D : NamedContext) (first : Reading NamedContext) (rest : Reading (List NamedContext)) → MayRead first D → MayRefuse rest
     → MayRefuse (then first (λ D. then rest (λ experts. Read (D ∷ experts))))
 first_refused D Untold rest here may = tt
+first_refused D Missing rest here may = here
 first_refused D Refused rest here may = tt
 first_refused D (Read E) rest here may = refused_behind E rest may
 
@@ -90,6 +94,7 @@ ReadsOn-more table file files all tells before D here on = record {
 
 refused_here : (first : Reading NamedContext) (rest : Reading (List NamedContext)) → MayRefuse first → MayRefuse (then first (λ D. then rest (λ experts. Read (D ∷ experts))))
 refused_here Untold rest may = tt
+refused_here Missing rest may = may
 refused_here Refused rest may = tt
 refused_here (Read E) rest may = absurd may
 
@@ -162,22 +167,26 @@ Stops-file table files i file tells now counts between after before n inside is 
 
 refused_then : {X Y : Type 0} (r : Reading X) (next : X → Reading Y) → MayRefuse r → MayRefuse (then r next)
 refused_then Untold next may = tt
+refused_then Missing next may = may
 refused_then Refused next may = tt
 refused_then (Read x) next may = absurd may
 
 refused_after : {X Y : Type 0} (r : Reading X) (x : X) (next : X → Reading Y) → MayRead r x → MayRefuse (next x) → MayRefuse (then r next)
 refused_after Untold x next here may = tt
+refused_after Missing x next here may = here
 refused_after Refused x next here may = tt
 refused_after {X = X} (Read y) x next here may = let P : X → Type 0 = λ z. MayRefuse (next z) in subst P here may
 
 read_after : {X Y : Type 0} (r : Reading X) (x : X) (next : X → Reading Y) (y : Y) → MayRead r x → MayRead (next x) y → MayRead (then r next) y
 read_after Untold x next y here may = tt
+read_after Missing x next y here may = here
 read_after Refused x next y here may = here
 read_after {X = X} (Read z) x next y here may = let P : X → Type 0 = λ w. MayRead (next w) y in subst P here may
 
 read_panel : (table : NamedContext) (r : Reading (List NamedContext)) (tables : List NamedContext) → MayRead r tables
     → MayRead {X = Panel} (then r (λ tables. Read (record { table = table; experts = tables }))) (record { table = table; experts = tables })
 read_panel table Untold tables may = tt
+read_panel table Missing tables may = may
 read_panel table Refused tables may = may
 read_panel table (Read others) tables may = ap (λ (l : List NamedContext). record { table = table; experts = l }) may
 

@@ -13,7 +13,7 @@ use Rattle.basis_report.specs.Reports.{counted, arrow_lines}
 use Rattle.basis_report.specs.Explorations.{recorded_section, accepted_section, open_section, explore_text, spelled}
 use Rattle.basis_report.specs.Conflicts.{conflicts_section, conflicts_text}
 use Rattle.command_io.specs.Readings.{Reading}
-use Rattle.command_io.specs.Readings.Reading.{Untold, Refused, Read}
+use Rattle.command_io.specs.Readings.Reading.{Untold, Missing, Refused, Read}
 use Rattle.command_io.specs.Explorations.{Recorded, opening_of, last_state, open_at, IsExplored}
 use Rattle.explore_command.specs.Panels.{Panel}
 
@@ -79,6 +79,7 @@ IsPlayed status = (status ≡ 0) ⊎ (status ≡ 8)
 -- the status of a call that was not cut off, by what was read
 abbrev pub Plays : Reading Panel → ℕ → Type 0
 Plays Untold status = (status ≡ 2) ⊎ IsPlayed status
+Plays Missing status = ⊥
 Plays Refused status = status ≡ 2
 Plays (Read p) status = IsPlayed status
 

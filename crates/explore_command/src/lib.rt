@@ -6,6 +6,3 @@ mod play;
 
 pub use panel::{Panel, panel_under};
 pub use play::explore;
-
-#[cfg(test)]
-mod tests;

@@ -6,11 +6,7 @@ use Rattle.fca_model.specs.Tables.{Text}
 use Rattle.fca_command.specs.Experts.{names_expert, expert_files}
 use Rattle.std.specs.List.{list_all}
 use Rattle.std.specs.Str.{is_utf8}
-use Rattle.fca_command.specs.Commands.{command_form, text_command, named_command}
-
--- equal words and equal rests
-same_parts : {A B C D : Type 0} (f : A → B → C → D) (a x : A) (b y : B) (c z : C) → x ≡ a → y ≡ b → z ≡ c → f a b c ≡ f x y z
-same_parts f a x b y c z e g h = cc
+use Rattle.fca_command.specs.Commands.{command_form, text_command, named_command, over_file, file_command}
 
 same_two : {A B C : Type 0} (f : A → B → C) (a x : A) (b y : B) → x ≡ a → y ≡ b → f a b ≡ f x y
 same_two f a x b y e g = cc
@@ -24,11 +20,22 @@ taken_by b found h = rw h refl
 pub command_form-text : (words : List Text) → list_all is_utf8 words ≡ true → command_form words ≡ text_command words
 command_form-text words text = taken_by (list_all is_utf8 words) (text_command words) text
 
-pub text_command-parts : (words : List Text) (name file : Text) → 2 ≤ length words → name ≡ get_or words 0 name → file ≡ get_or words 1 file
-    → text_command words ≡ named_command name file (take (length words - 2) (drop 2 words))
-text_command-parts [] name file h e g = absurd (omega arith)
-text_command-parts (a ∷ []) name file h e g = absurd (omega arith)
-text_command-parts (a ∷ b ∷ rest) name file h e g = same_parts named_command a name b file rest _ e g (rest_of a b rest)
+behind_first : (a : Text) (rest : List Text) → take (length (a ∷ rest) - 1) (drop 1 (a ∷ rest)) ≡ rest
+behind_first a rest = take_all _ rest (omega arith)
+
+-- what is said of the first of some words and of those behind it
+pub by_first : {X : Type 0} (f : List Text → X) (g : Text → List Text → X) → ((a : Text) (rest : List Text) → f (a ∷ rest) ≡ g a rest)
+    → (words : List Text) (first : Text) → 1 ≤ length words → first ≡ get_or words 0 first → f words ≡ g first (take (length words - 1) (drop 1 words))
+by_first f g same [] first h e = absurd (omega arith)
+by_first f g same (a ∷ rest) first h e = same a rest ∙ same_two g a first rest _ e (behind_first a rest)
+
+pub text_command-first : (words : List Text) (name : Text) → 1 ≤ length words → name ≡ get_or words 0 name
+    → text_command words ≡ named_command name (take (length words - 1) (drop 1 words))
+text_command-first words name h e = by_first text_command named_command (λ a rest. refl) words name h e
+
+pub over_file-first : (name : Text) (words : List Text) (file : Text) → 1 ≤ length words → file ≡ get_or words 0 file
+    → over_file name words ≡ file_command name file (take (length words - 1) (drop 1 words))
+over_file-first name words file h e = by_first (over_file name) (file_command name) (λ a rest. refl) words file h e
 
 -- files in front of those that were found, one more or not
 with_front : (files new : List Text) (file : Text) (found : Option (List Text)) → new ≡ files ++ file ∷ []

@@ -64,8 +64,8 @@ serve_command file _ = None
 -- ---- all commands
 
 -- the command of this name over a file, whose name is not empty
-abbrev pub named_command : Text → Text → List Text → Option Command
-named_command name file later =
+abbrev pub file_command : Text → Text → List Text → Option Command
+file_command name file later =
     cond (bytes_eq file []) None
     (cond (bytes_eq name (codes "concepts")) (concepts_command file later)
     (cond (bytes_eq name (codes "lattice")) (lattice_command file later)
@@ -76,24 +76,72 @@ named_command name file later =
     (cond (bytes_eq name (codes "explore")) (explore_command file later)
     (cond (bytes_eq name (codes "serve")) (serve_command file later) None))))))))
 
+-- the command of this name over the file that the next word names
+abbrev pub over_file : Text → List Text → Option Command
+over_file name [] = None
+over_file name (file ∷ later) = file_command name file later
+
+-- the command of this name by the words behind it
+abbrev pub named_command : Text → List Text → Option Command
+named_command name later = over_file name later
+
 abbrev pub text_command : List Text → Option Command
-text_command (name ∷ file ∷ later) = named_command name file later
-text_command _ = None
+text_command [] = None
+text_command (name ∷ later) = named_command name later
 
 -- the command that the words are: each word is text
 abbrev pub command_form : List Text → Option Command
 command_form words = cond (list_all is_utf8 words) (text_command words) None
 
--- the file that the command reads first
-abbrev pub file_of : Command → Text
-file_of (Concepts file json) = file
-file_of (Lattice file) = file
-file_of (Basis file json) = file
-file_of (Follows file premise conclusion) = file
-file_of (Convert file to) = file
-file_of (Replay file) = file
-file_of (Explore file experts) = file
-file_of (Serve file experts listen) = file
+-- ---- what a command reads
+
+-- the file of the table that the command reports on, where it writes a text about one table and does nothing else
+abbrev pub reported : Command → Option Text
+reported (Concepts file json) = Some file
+reported (Lattice file) = Some file
+reported (Basis file json) = Some file
+reported (Follows file premise conclusion) = Some file
+reported (Convert file to) = Some file
+reported _ = None
+
+-- the files that a command reads, in their order, where it reports on this one or on none
+abbrev pub files_by : Option Text → Command → List Text
+files_by (Some file) command = file ∷ []
+files_by None (Replay file) = file ∷ []
+files_by None (Explore file experts) = file ∷ experts
+files_by None (Serve file experts listen) = file ∷ []
+files_by None _ = []
+
+-- the files that the command reads, in their order
+abbrev pub files_of : Command → List Text
+files_of command = files_by (reported command) command
+
+-- the name of the first of these files, or none
+abbrev pub first_of : List Text → Text
+first_of [] = []
+first_of (file ∷ later) = file
+
+-- whether the command reads the input
+abbrev pub reads_input : Command → Bool
+reads_input (Replay file) = true
+reads_input _ = false
+
+-- whether the command listens for experts
+abbrev pub uses_link : Command → Bool
+uses_link (Serve file experts listen) = true
+uses_link _ = false
+
+-- whether the text of the command may leave a question open
+abbrev pub may_end_open : Command → Bool
+may_end_open (Replay file) = true
+may_end_open (Serve file experts listen) = true
+may_end_open _ = false
+
+-- whether the command waits for nobody
+abbrev pub is_plain : Command → Bool
+is_plain (Explore file experts) = false
+is_plain (Serve file experts listen) = false
+is_plain _ = true
 
 -- the limits of what the words of a command say: 1 to 64 experts
 abbrev pub IsWithinLimits : Command → Type 0

@@ -1,9 +1,9 @@
 //! What the words of the command line ask for.
 
-ghost use Rattle.std.specs.Prelude.{◌≡◌, IfOk, IfSome};
+ghost use Rattle.std.specs.Prelude.{◌≡◌, IfOk, IfSome, option_copied};
 ghost use Rattle.std.specs.List.{list_all};
 ghost use Rattle.std.specs.Str.{is_utf8};
-ghost use Rattle.fca_command.specs.Commands.{command_form, text_command, named_command, concepts_command, lattice_command, basis_command, json_said, follows_command, convert_command, form_named, replay_command, explore_command, serve_command, file_of, IsWithinLimits};
+ghost use Rattle.fca_command.specs.Commands.{command_form, text_command, named_command, over_file, file_command, concepts_command, lattice_command, basis_command, json_said, follows_command, convert_command, form_named, replay_command, explore_command, serve_command, reported, files_of, first_of, IsWithinLimits};
 
 use crate::experts::{count_said, experts_said};
 use crate::words::Words;
@@ -55,9 +55,23 @@ pub enum Command {
 }
 
 impl Command {
-    /// The name of the file that is read first.
-    pub fn file(&self) -> &[u8]
-        ensures { result.now ≡ file_of self.now }
+    /// The file of the table that the command reports on, where it writes a text about one table and does nothing else.
+    pub fn reported(&self) -> Option<&Word>
+        ensures { option_copied result ≡ reported self.now }
+    {
+        match self {
+            Command::Concepts { file, .. }
+            | Command::Lattice { file }
+            | Command::Basis { file, .. }
+            | Command::Follows { file, .. }
+            | Command::Convert { file, .. } => Some(file),
+            _ => None,
+        }
+    }
+
+    /// The name of the file that is read first, or no byte where none is.
+    pub fn first_file(&self) -> &[u8]
+        ensures { result.now ≡ first_of (files_of self.now) }
     {
         match self {
             Command::Concepts { file, .. }
@@ -101,19 +115,38 @@ fn text_command(alloc: Global, words: &[Word]) -> Result<Option<Command>, Memory
     ensures limits { IfOk result (λ command. IfSome command IsWithinLimits) }
 {
     match words {
-        [name, file, later @ ..] => named_command(alloc, name.bytes(), file, later),
-        _ => Ok(None),
+        [name, later @ ..] => named_command(alloc, name.bytes(), later),
+        [] => Ok(None),
+    }
+}
+
+/// The command of this name, by the words behind it.
+fn named_command(alloc: Global, name: &[u8], later: &[Word]) -> Result<Option<Command>, Memory>
+    ensures command { IfOk result (λ command. command ≡ named_command name.now later.now) }
+    ensures limits { IfOk result (λ command. IfSome command IsWithinLimits) }
+{
+    over_file(alloc, name, later)
+}
+
+/// The command of this name over the file that the next word names.
+fn over_file(alloc: Global, name: &[u8], words: &[Word]) -> Result<Option<Command>, Memory>
+    ensures command { IfOk result (λ command. command ≡ over_file name.now words.now) }
+    ensures limits { IfOk result (λ command. IfSome command IsWithinLimits) }
+{
+    match words {
+        [file, later @ ..] => file_command(alloc, name, file, later),
+        [] => Ok(None),
     }
 }
 
 /// The command of this name over the file, by the words behind it.
-fn named_command(
+fn file_command(
     alloc: Global,
     name: &[u8],
     file: &Word,
     later: &[Word],
 ) -> Result<Option<Command>, Memory>
-    ensures command { IfOk result (λ command. command ≡ named_command name.now file.now later.now) }
+    ensures command { IfOk result (λ command. command ≡ file_command name.now file.now later.now) }
     ensures limits { IfOk result (λ command. IfSome command IsWithinLimits) }
 {
     if file.bytes().is_empty() {

@@ -11,7 +11,7 @@ use Rattle.fca_model.proofs.RunLemmas.{legal_journal}
 use Rattle.fca_io.specs.Shelves.{Told}
 use Rattle.explore_state.specs.History.{opening_state}
 use Rattle.command_io.specs.Readings.{Reading, then, MayRead, IfRead}
-use Rattle.command_io.specs.Readings.Reading.{Untold, Refused, Read}
+use Rattle.command_io.specs.Readings.Reading.{Untold, Missing, Refused, Read}
 use Rattle.command_io.specs.Forms.{may_apply, table_read, script_read}
 use Rattle.command_io.specs.Explorations.{opening_of, IsExplored}
 use Rattle.command_io.proofs.CourseLemmas.{legal-course}
@@ -34,6 +34,7 @@ explored-course table events may =
 script-course : (table : NamedContext) (events : List SetEvent) (script : Reading (List SetEvent)) → MayRead script events
     → list_all (may_apply table.context.width) events ≡ true → IfRead (then script (λ es. Read (explored table es))) IsExplored
 script-course table events Untold read may = tt
+script-course table events Missing read may = read
 script-course table events Refused read may = read
 script-course table events (Read es) read may =
     let P : List SetEvent → Type 0 = λ l. list_all (may_apply table.context.width) l ≡ true in explored-course table es (subst P read may)
@@ -42,6 +43,7 @@ table-course : (table : NamedContext) (events : List SetEvent) (first : Reading 
     → MayRead (script_read table.context.width input) events → list_all (may_apply table.context.width) events ≡ true
     → IfRead (then first (λ t. then (script_read t.context.width input) (λ es. Read (explored t es)))) IsExplored
 table-course table events Untold input first second may = tt
+table-course table events Missing input first second may = first
 table-course table events Refused input first second may = first
 table-course table events (Read t) input first second may =
     let P : NamedContext → Type 0 = λ u. IfRead (then (script_read u.context.width input) (λ es. Read (explored u es))) IsExplored in

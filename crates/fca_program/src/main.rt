@@ -1,19 +1,22 @@
 //! A workbench for formal concepts: commands over tables, and explorations by scripts.
 #![tactic(auto)]
 
+ghost use Rattle.std.specs.Prelude.{◌≡◌, IfErr};
+
 mod ends;
-mod follows;
 mod link;
 mod replay;
+mod reports;
 mod run;
-mod tables;
 
 use crate::ends::{FileShelf, StdFault, StdInput, StdOutput};
 use crate::link::TcpLink;
-use crate::run::run;
-use fca_model::{Memory, Word};
+use crate::run::{run, stopped};
+use command_io::Stop;
+use fca_model::Word;
 use std::alloc::Global;
 use std::env::{self, Args};
+use std::io::{Error, ErrorKind};
 use std::process::ExitCode;
 
 fn main(rt: HostRuntime) -> ExitCode {
@@ -24,31 +27,39 @@ fn main(rt: HostRuntime) -> ExitCode {
     let mut link = TcpLink::new(&rt);
     let words = match env::args(&rt) {
         Ok(arguments) => words_of(rt.alloc(), arguments),
-        Err(_) => Ok(Vec::new(rt.alloc())),
+        Err(error) => Err(wordless(&error)),
     };
-    let Ok(words) = words else {
-        return ExitCode::from(5);
+    let status = match words {
+        Ok(words) => run(
+            &rt,
+            rt.alloc(),
+            &words,
+            &mut shelf,
+            &mut input,
+            &mut out,
+            &mut err,
+            &mut link,
+        ),
+        Err(stop) => stopped(&mut err, &stop),
     };
-    ExitCode::from(run(
-        &rt,
-        rt.alloc(),
-        &words,
-        &mut shelf,
-        &mut input,
-        &mut out,
-        &mut err,
-        &mut link,
-    ))
+    ExitCode::from(status)
+}
+
+/// Why the system's words are not to be had: one of them is no text, or memory is wanting.
+fn wordless(error: &Error) -> Stop {
+    match error.kind() {
+        ErrorKind::InvalidData => Stop::NoCommand,
+        _ => Stop::Memory,
+    }
 }
 
 /// The words behind the program's name.
-fn words_of(alloc: Global, arguments: Args) -> Result<Vec<Word>, Memory> {
+fn words_of(alloc: Global, arguments: Args) -> Result<Vec<Word>, Stop>
+    ensures { IfErr result (λ stop. stop ≡ Stop.Memory) }
+{
     let mut words = Vec::new(alloc);
     for argument in arguments.skip(1) {
-        let word = Word::new(alloc, argument.as_bytes())?;
-        if words.push(word).is_err() {
-            return Err(Memory);
-        }
+        words.push(Word::new(alloc, argument.as_bytes())?)?;
     }
     Ok(words)
 }

@@ -1,20 +1,19 @@
 //! The top call.
 
-ghost use Rattle.std.specs.Prelude.{◌≡◌, ◌⊎◌, [], true, false, Result, Some, IfSome, IfOk, IfErr, OnOk, MatchOption};
+ghost use Rattle.std.specs.Prelude.{◌≡◌, ◌⊎◌, [], true, false, Result, None, Some, IfSome, IfOk, IfErr, OnOk, MatchOption};
 ghost use Rattle.std.specs.Io.KnownBytes.{Appends, IsAtEnd};
 ghost use Rattle.fca_io.specs.Faults.{Rose};
 ghost use Rattle.fca_io.specs.Transfers.{AppendsFront};
-ghost use Rattle.fca_command.specs.Commands.{command_form, IsWithinLimits};
+ghost use Rattle.fca_command.specs.Commands.{command_form, reported, reads_input, uses_link, may_end_open, is_plain, IsWithinLimits};
 ghost use Rattle.explore_command.specs.Played.{IsPlayed};
 ghost use Rattle.command_io.specs.Readings.{IfRead, MayRead};
-ghost use Rattle.fca_program.specs.Outputs.{output};
-ghost use Rattle.command_io.specs.Endings.{Stops, IsWhole, IsSilent, stop_status};
+ghost use Rattle.fca_program.specs.Outputs.{output, other_output};
+ghost use Rattle.command_io.specs.Endings.{Stops, IsWhole, IsSilent, IsUnread, stop_status};
 ghost use Rattle.command_io.specs.ErrLines.{stop_line, GainsLine, IsTold};
-ghost use Rattle.fca_program.specs.Endings.{is_plain, reads_input, Ends, EndsBy, FaultRose, MayReachEnd, HasCourse, HasExplored, HasBegunExploring, uses_link, LinkFaultRose, IsCommandStop, IsCallStop, fault_file, MayListen, HasServedExperts, HasBegunServing, HasGivenBack};
+ghost use Rattle.fca_program.specs.Endings.{Ends, EndsBy, FaultRose, MayReachEnd, HasCourse, HasExplored, HasBegunExploring, LinkFaultRose, IsCommandStop, IsOtherStop, IsCallStop, fault_file, MayListen, HasServedExperts, HasBegunServing, HasGivenBack};
 
-use crate::follows::follows;
 use crate::replay::replay;
-use crate::tables::{basis_of_file, concepts, convert, lattice};
+use crate::reports::report_answer;
 use command_io::{Answer, Stop, conclude, report};
 use explore_command::explore;
 use fca_command::{Command, command_of};
@@ -46,6 +45,7 @@ pub fn run<R: Threads + Wait + Sync, H: Shelf, S: Source, K: Sink, E: Sink, L: L
     ensures write_fault { result ≡ 4 → Rose (K.faults out.old) (K.faults out.new) }
     ensures listener_fault { result ≡ 7 → IfSome (command_form words.now)
         (λ command. LinkFaultRose command (L.open_faults link.old) (L.open_faults link.new) (L.accept_faults link.old) (L.accept_faults link.new)) }
+    ensures open { result ≡ 6 → IfSome (command_form words.now) (λ command. may_end_open command ≡ true) }
 
     // What out gained.
     ensures plain_output { IsWhole result → IfSome (command_form words.now) (λ command.
@@ -71,10 +71,13 @@ pub fn run<R: Threads + Wait + Sync, H: Shelf, S: Source, K: Sink, E: Sink, L: L
     // What else was touched.
     ensures read_to_end { IsWhole result → IfSome (command_form words.now) (λ command. MayReachEnd command (S.left input.new)) }
     ensures input_kept { IfSome (command_form words.now) (λ command. reads_input command ≡ false → input.new ≡ input.old) }
-    ensures link_kept { IfSome (command_form words.now) (λ command. uses_link command ≡ false → link.new ≡ link.old) }
+    ensures link_kept { IfSome (command_form words.now) (λ command. (uses_link command ≡ false) ⊎ IsUnread result → link.new ≡ link.old) }
+    ensures untouched { command_form words.now ≡ None
+        → (shelf.new ≡ shelf.old) × (input.new ≡ input.old) × (out.new ≡ out.old) × (link.new ≡ link.old) }
     ensures listens { IsWhole result → IfSome (command_form words.now) (λ command. MayListen command (L.listens link.new) (L.listens_at link.new)) }
     ensures ends { IfSome (command_form words.now) (λ command.
         HasGivenBack L.End.Source.left L.End.Sink.held L.End.Source.faults L.End.Sink.faults command (L.ends link.old) (L.ends link.new) result) }
+
     // What err gained.
     ensures quiet { IsWhole result → err.new ≡ err.old }
     ensures told { IsTold (GainsLine (E.held err.old) (E.held err.new) (E.faults err.old) (E.faults err.new))
@@ -88,7 +91,7 @@ pub fn run<R: Threads + Wait + Sync, H: Shelf, S: Source, K: Sink, E: Sink, L: L
 }
 
 /// Tells on err why there was no command to run.
-fn stopped<E: Sink>(err: &mut E, stop: &Stop) -> u8
+pub fn stopped<E: Sink>(err: &mut E, stop: &Stop) -> u8
     ensures status { result ≡ stop_status stop.now }
     ensures told { GainsLine (E.held err.old) (E.held err.new) (E.faults err.old) (E.faults err.new) (stop_line [] stop.now) }
 {
@@ -115,6 +118,7 @@ fn run_command<R: Threads + Wait + Sync, H: Shelf, S: Source, K: Sink, E: Sink, 
     ensures read_fault { result ≡ 3 → FaultRose command.now (H.faults shelf.old) (H.faults shelf.new) (S.faults input.old) (S.faults input.new) }
     ensures write_fault { result ≡ 4 → Rose (K.faults out.old) (K.faults out.new) }
     ensures listener_fault { result ≡ 7 → LinkFaultRose command.now (L.open_faults link.old) (L.open_faults link.new) (L.accept_faults link.old) (L.accept_faults link.new) }
+    ensures open { result ≡ 6 → may_end_open command.now ≡ true }
 
     // What out gained.
     ensures plain_output { IsWhole result → IfRead (output command.now (H.tells shelf.old) (S.left input.old)) (λ o. Appends (K.held out.old) (K.held out.new) o.text) }
@@ -131,7 +135,7 @@ fn run_command<R: Threads + Wait + Sync, H: Shelf, S: Source, K: Sink, E: Sink, 
     // What else was touched.
     ensures read_to_end { IsWhole result → MayReachEnd command.now (S.left input.new) }
     ensures input_kept { reads_input command.now ≡ false → input.new ≡ input.old }
-    ensures link_kept { uses_link command.now ≡ false → link.new ≡ link.old }
+    ensures link_kept { (uses_link command.now ≡ false) ⊎ IsUnread result → link.new ≡ link.old }
     ensures listens { IsWhole result → MayListen command.now (L.listens link.new) (L.listens_at link.new) }
     ensures ends { HasGivenBack L.End.Source.left L.End.Sink.held L.End.Source.faults L.End.Sink.faults command.now (L.ends link.old) (L.ends link.new) result }
 
@@ -149,12 +153,7 @@ fn run_command<R: Threads + Wait + Sync, H: Shelf, S: Source, K: Sink, E: Sink, 
             experts,
             listen,
         } => serve(rt, alloc, shelf, file, *experts, listen, out, err, link),
-        Command::Concepts { .. }
-        | Command::Lattice { .. }
-        | Command::Basis { .. }
-        | Command::Follows { .. }
-        | Command::Convert { .. }
-        | Command::Replay { .. } => run_plain(rt, alloc, command, shelf, input, out, err),
+        _ => run_plain(rt, alloc, command, shelf, input, out, err),
     }
 }
 
@@ -174,6 +173,7 @@ pub fn run_plain<R: Threads + Sync, H: Shelf, S: Source, K: Sink, E: Sink>(
     ensures status { Ends (output command.now (H.tells shelf.old) (S.left input.old)) result }
     ensures read_fault { result ≡ 3 → FaultRose command.now (H.faults shelf.old) (H.faults shelf.new) (S.faults input.old) (S.faults input.new) }
     ensures write_fault { result ≡ 4 → Rose (K.faults out.old) (K.faults out.new) }
+    ensures open { result ≡ 6 → may_end_open command.now ≡ true }
 
     // What out gained.
     ensures plain_output { IsWhole result → IfRead (output command.now (H.tells shelf.old) (S.left input.old)) (λ o. Appends (K.held out.old) (K.held out.new) o.text) }
@@ -194,7 +194,7 @@ pub fn run_plain<R: Threads + Sync, H: Shelf, S: Source, K: Sink, E: Sink>(
         (IsCommandStop command.now (H.tells shelf.old) (S.left input.old)) (fault_file (Some command.now)) result }
 {
     let answer = answer_to(rt, alloc, command, shelf, input);
-    conclude(answer, command.file(), out, err)
+    conclude(answer, command.first_file(), out, err)
 }
 
 /// What the command is to write.
@@ -211,20 +211,36 @@ fn answer_to<R: Threads + Sync, H: Shelf, S: Source>(
         (FaultRose command.now (H.faults shelf.old) (H.faults shelf.new) (S.faults input.old) (S.faults input.new)) (stop_status stop)) }
     ensures cause { IfErr result (IsCommandStop command.now (H.tells shelf.old) (S.left input.old)) }
     ensures explored { OnOk result (HasCourse command.now (H.tells shelf.old) (S.left input.old)) }
+    ensures open { IfOk result (λ answer. may_end_open command.now ≡ false → answer.is_open ≡ false) }
+    ensures end { OnOk result (MayReachEnd command.now (S.left input.new)) }
+    ensures kept { reads_input command.now ≡ false → input.new ≡ input.old }
+{
+    match command.reported() {
+        Some(file) => report_answer(rt, alloc, command, shelf, file),
+        None => other_answer(alloc, command, shelf, input),
+    }
+}
+
+/// What a command that reports on no table is to write.
+fn other_answer<H: Shelf, S: Source>(
+    alloc: Global,
+    command: &Command,
+    shelf: &mut H,
+    input: &mut S,
+) -> Result<Answer, Stop>
+    requires plain { is_plain command.now ≡ true }
+    requires other { reported command.now ≡ None }
+    ensures output { IfOk result (λ answer. MayRead (other_output command.now (H.tells shelf.old) (S.left input.old)) answer) }
+    ensures stop { IfErr result (λ stop. Stops (other_output command.now (H.tells shelf.old) (S.left input.old))
+        (FaultRose command.now (H.faults shelf.old) (H.faults shelf.new) (S.faults input.old) (S.faults input.new)) (stop_status stop)) }
+    ensures cause { IfErr result (IsOtherStop command.now (H.tells shelf.old) (S.left input.old)) }
+    ensures explored { OnOk result (HasCourse command.now (H.tells shelf.old) (S.left input.old)) }
+    ensures open { IfOk result (λ answer. may_end_open command.now ≡ false → answer.is_open ≡ false) }
     ensures end { OnOk result (MayReachEnd command.now (S.left input.new)) }
     ensures kept { reads_input command.now ≡ false → input.new ≡ input.old }
 {
     match command {
-        Command::Concepts { file, json } => concepts(alloc, shelf, file, *json),
-        Command::Lattice { file } => lattice(alloc, shelf, file),
-        Command::Basis { file, json } => basis_of_file(rt, alloc, shelf, file, *json),
-        Command::Follows {
-            file,
-            premise,
-            conclusion,
-        } => follows(rt, alloc, shelf, file, premise, conclusion),
-        Command::Convert { file, to } => convert(alloc, shelf, file, *to),
         Command::Replay { file } => replay(alloc, shelf, input, file),
-        Command::Explore { .. } | Command::Serve { .. } => unreachable!(),
+        _ => unreachable!(),
     }
 }

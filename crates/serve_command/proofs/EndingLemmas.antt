@@ -5,8 +5,8 @@ use Rattle.std.specs.Prelude.{IfOk, IfErr, IsOk, OnOk}
 use Rattle.fca_model.specs.Tables.{Text, NamedContext}
 use Rattle.fca_io.specs.Links.{Ends}
 use Rattle.command_io.specs.Readings.{Reading, MayRead, MayRefuse, IfRead}
-use Rattle.command_io.specs.Readings.Reading.{Untold, Refused, Read}
-use Rattle.command_io.specs.Endings.{Output, whole_status, IsWhole, IsCutOff, IsSilent, EndsAnswer, stop_status}
+use Rattle.command_io.specs.Readings.Reading.{Untold, Missing, Refused, Read}
+use Rattle.command_io.specs.Endings.{Output, whole_status, IsWhole, IsCutOff, IsSilent, IsUnread, EndsAnswer, stop_status}
 use Rattle.command_io.specs.declared.stop.Stop.{Stop}
 use Rattle.serve_command.specs.Served.{Serves, StopsServing, IsAnswer, HasServed, HasBegun, GaveAllBack}
 
@@ -21,16 +21,19 @@ answer-ends o n (inr four) = inr four
 
 whole-serves : (reading : Reading NamedContext) (table : NamedContext) (n : ℕ) → MayRead reading table → IsWhole n → Serves reading n
 whole-serves Untold table n may whole = inr (inr whole)
+whole-serves Missing table n may whole = absurd may
 whole-serves Refused table n may whole = absurd may
 whole-serves (Read t) table n may whole = inr whole
 
 refused-serves : (reading : Reading NamedContext) (n : ℕ) → MayRefuse reading → n ≡ 2 → Serves reading n
 refused-serves Untold n may two = inl two
+refused-serves Missing n may two = absurd may
 refused-serves Refused n may two = two
 refused-serves (Read t) n may two = absurd may
 
 unheard-serves : (reading : Reading NamedContext) (table : NamedContext) (n : ℕ) → MayRead reading table → n ≡ 7 → Serves reading n
 unheard-serves Untold table n may seven = inr (inl seven)
+unheard-serves Missing table n may seven = absurd may
 unheard-serves Refused table n may seven = absurd may
 unheard-serves (Read t) table n may seven = inl seven
 
@@ -47,6 +50,7 @@ read-ends reading table n may (inr four) = inr (inr (inl four))
 
 if-read : (reading : Reading NamedContext) (table : NamedContext) (P : NamedContext → Type 0) → MayRead reading table → P table → IfRead reading P
 if-read Untold table P may p = tt
+if-read Missing table P may p = may
 if-read Refused table P may p = may
 if-read (Read t) table P may p = subst P may p
 
@@ -87,6 +91,16 @@ not_silent n (inr four) (inr (inr (inr (inr seven)))) = omega arith
 pub silent-same : (result : Result Output Stop) (n : ℕ) (Same : Type 0) → IfOk result (λ o. EndsAnswer o n) → IfErr result (λ stop. Same) → IsSilent n → Same
 silent-same (Ok o) n Same ends same silent = absurd (not_silent n (answer-ends o n ends) silent)
 silent-same (Err stop) n Same ends same silent = same
+
+not_unread : (n : ℕ) → IsWhole n ⊎ (n ≡ 4) → IsUnread n → ⊥
+not_unread n made (inl two) = not_silent n made (inr (inl two))
+not_unread n made (inr three) = not_silent n made (inr (inr (inl three)))
+
+-- where the table could not be read, what a stop says is so
+pub unread-same : (n : ℕ) (result : Result Output Stop) (Same : Type 0) → IfOk result (λ o. EndsAnswer o n) → IfErr result (λ stop. n ≡ stop_status stop)
+    → IfErr result (λ stop. IsUnread (stop_status stop) → Same) → IsUnread n → Same
+unread-same n (Ok o) Same ends stopped same unread = absurd (not_unread n (answer-ends o n ends) unread)
+unread-same n (Err s) Same ends stopped same unread = same (subst IsUnread stopped unread)
 
 pub call-read_fault : (reading : Reading NamedContext) (rose link_rose : Type 0) (n : ℕ) (result : Result Output Stop) → IfOk result (λ o. EndsAnswer o n) → IfErr result (λ stop. n ≡ stop_status stop)
     → IfErr result (λ stop. StopsServing reading rose link_rose (stop_status stop)) → n ≡ 3 → rose

@@ -10,7 +10,7 @@ use Rattle.fca_io.specs.Faults.{Rose}
 use Rattle.fca_io.specs.Links.{Ends, IsWithinRoom}
 use Rattle.fca_io.specs.Shelves.{Told}
 use Rattle.command_io.specs.Readings.{Reading, MayRead}
-use Rattle.command_io.specs.Endings.{Output, Stops, stop_status}
+use Rattle.command_io.specs.Endings.{Output, IsUnread, Stops, stop_status}
 use Rattle.command_io.specs.declared.stop.Stop.{Stop}
 use Rattle.command_io.specs.declared.stop.Stop.TheVariants.{Listener, Memory}
 use Rattle.serve_command.specs.Accepted.{TookFirst, FallsShort}
@@ -74,6 +74,10 @@ neither n (inl five) (inl two) = omega arith
 neither n (inl five) (inr three) = omega arith
 neither n (inr seven) (inl two) = omega arith
 neither n (inr seven) (inr three) = omega arith
+
+-- what came of the link or of memory is not unread
+pub heard : (n : ℕ) (Same : Type 0) → (n ≡ 5) ⊎ (n ≡ 7) → IsUnread n → Same
+heard n Same ended unread = absurd (neither n ended unread)
 
 five_or_seven : (n : ℕ) → (n ≡ 5) ⊎ (n ≡ 7) → (n ≡ 2) ⊎ ((n ≡ 3) ⊎ ((n ≡ 5) ⊎ (n ≡ 7)))
 five_or_seven n (inl five) = inr (inr (inl five))

@@ -12,7 +12,7 @@ use Rattle.expert_sessions.specs.declared.ended.Ended.TheVariants.{Quit, EndOfIn
 use Rattle.basis_report.specs.Explorations.{explore_text, spelled}
 use Rattle.basis_report.specs.Sessions.{sessions_text}
 use Rattle.command_io.specs.Readings.{Reading, MayRead, MayRefuse}
-use Rattle.command_io.specs.Readings.Reading.{Untold, Refused, Read}
+use Rattle.command_io.specs.Readings.Reading.{Untold, Missing, Refused, Read}
 use Rattle.fca_io.specs.Shelves.{Told}
 use Rattle.command_io.specs.Causes.{IsFileStop}
 use Rattle.command_io.specs.declared.stop.Origin.TheVariants.{File}
@@ -119,6 +119,7 @@ IsServeStop file files stop = IsFileStop file (files file) File stop ⊎ (stop �
 -- the status of a call that was not cut off, by what was read; the link may fail it
 abbrev pub Serves : Reading NamedContext → ℕ → Type 0
 Serves Untold status = (status ≡ 2) ⊎ ((status ≡ 7) ⊎ IsWhole status)
+Serves Missing status = ⊥
 Serves Refused status = status ≡ 2
 Serves (Read table) status = (status ≡ 7) ⊎ IsWhole status
 

@@ -13,7 +13,7 @@ ghost use Rattle.basis_report.specs.Explorations.{explore_text, spelled};
 ghost use Rattle.basis_report.specs.Sessions.{sessions_text};
 ghost use Rattle.command_io.specs.Readings.{IfRead, MayRead};
 ghost use Rattle.command_io.specs.Forms.{table_read};
-ghost use Rattle.command_io.specs.Endings.{IsCutOff, IsSilent, IsWhole, stop_status};
+ghost use Rattle.command_io.specs.Endings.{IsCutOff, IsSilent, IsUnread, IsWhole, stop_status};
 ghost use Rattle.command_io.specs.ErrLines.{GainsLine, IsTold};
 ghost use Rattle.serve_command.specs.Served.{words_of, Serves, StopsServing, IsServeStop, IsAnswer, HasServed, HasBegun, GaveAllBack, HasSat, HasRisen};
 
@@ -72,7 +72,8 @@ pub fn serve<R: Threads + Wait + Sync, H: Shelf, K: Sink, E: Sink, L: Listener>(
     ensures told { IsTold (GainsLine (E.held err.old) (E.held err.new) (E.faults err.old) (E.faults err.new))
         (IsServeStop file.now (H.tells shelf.old)) (λ _. file.now) result }
 
-    // What became of the link and its ends, whatever the status.
+    // What became of the link and its ends, whatever the status: where the table could not be read it is as it was.
+    ensures unheard { IsUnread result → link.new ≡ link.old }
     ensures ends { GaveAllBack L.End.Source.left L.End.Sink.held L.End.Source.faults L.End.Sink.faults
         experts (L.ends link.old) (L.ends link.new) result }
     ensures listens { IsWhole result → (L.listens link.new ≡ true) × MayListenAt (L.listens_at link.new) listen.now }
@@ -102,6 +103,7 @@ fn exploration<R: Threads + Wait + Sync, H: Shelf, L: Listener>(
         (Rose (L.open_faults link.old listen.now) (L.open_faults link.new listen.now) ⊎ Rose (L.accept_faults link.old) (L.accept_faults link.new))
         (stop_status stop)) }
     ensures cause { IfErr result (IsServeStop file.now (H.tells shelf.old)) }
+    ensures unheard { IfErr result (λ stop. IsUnread (stop_status stop) → link.new ≡ link.old) }
     ensures ends { IfErr result (λ stop. GaveAllBack L.End.Source.left L.End.Sink.held L.End.Source.faults L.End.Sink.faults
         experts (L.ends link.old) (L.ends link.new) (stop_status stop)) }
 {

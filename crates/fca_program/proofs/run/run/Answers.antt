@@ -17,7 +17,7 @@ pub returns-in-Err-clause-input_kept : goal.returns-in-Err-clause-input_kept
 returns-in-Err-clause-input_kept g c = kept-same c.args.input.now (command_form c.args.words.now)
 
 pub returns-in-Err-clause-link_kept : goal.returns-in-Err-clause-link_kept
-returns-in-Err-clause-link_kept g c = link-same c.args.link.now (command_form c.args.words.now)
+returns-in-Err-clause-link_kept g c = link-same c.args.link.now c.stopped-in-Err.result (command_form c.args.words.now)
 
 pub returns-in-Err-clause-ends : goal.returns-in-Err-clause-ends
 returns-in-Err-clause-ends g c = memory-given g.L.End.Source.left g.L.End.Sink.held g.L.End.Source.faults g.L.End.Sink.faults (command_form c.args.words.now) (g.L.Listener.ends c.args.link.now) c.stopped-in-Err.result c.stopped-in-Err.ensures.status

@@ -1,11 +1,12 @@
 use Rattle.std.proofs.Common.{List, Some, sym, subst}
 use Rattle.fca_model.specs.Tables.{Text}
-use Rattle.command_io.specs.ErrLines.{GainsLine, IsTold, file_at_fault}
+use Rattle.command_io.specs.ErrLines.{GainsLine, IsTold, stop_expert, file_at_fault}
 use Rattle.explore_command.specs.Panels.{IsPanelStop}
 use Rattle.std.specs.Io.KnownBytes.{Appends}
 use Rattle.fca_command.specs.declared.command.Command.{Command}
+use Rattle.fca_command.specs.declared.command.Command.TheVariants.{Serve}
 use Rattle.fca_program.specs.Endings.{IsCommandStop, fault_file, HasServedExperts}
-use Rattle.fca_program.proofs.EndingLemmas.{not_seven}
+use Rattle.fca_program.proofs.EndingLemmas.{not_seven, played-not_six, one_file, told-by}
 use Rattle.fca_program.proofs.run.run_command.Goals as goal
 
 pub returns-in-Serve-clause-serve_output : goal.returns-in-Serve-clause-serve_output
@@ -15,8 +16,8 @@ returns-in-Serve-clause-serve_output g c = λ whole.
     (Appends (g.K.Sink.held c.args.out.now) (g.K.Sink.held c.serve.new.out)) (g.L.Listener.ends c.args.link.now) (g.L.Listener.ends c.serve.new.link) c.serve.result in
     subst P (sym c.in-Serve.is) (c.serve.ensures.whole_output whole)
 
-pub returns-in-Concepts-clause-listener_fault : goal.returns-in-Concepts-clause-listener_fault
-returns-in-Concepts-clause-listener_fault g c = λ seven. absurd (not_seven _ c.run_plain.result c.run_plain.ensures.status seven)
+pub returns-in-Explore-clause-open : goal.returns-in-Explore-clause-open
+returns-in-Explore-clause-open g c = λ six. absurd (played-not_six _ c.explore.result c.explore.ensures.status six)
 
 pub returns-in-Explore-clause-told : goal.returns-in-Explore-clause-told
 returns-in-Explore-clause-told g c =
@@ -31,4 +32,7 @@ returns-in-Serve-clause-told g c =
     let files = g.H.Shelf.tells c.args.shelf.now in
     let Told : Text → Type 0 = GainsLine (g.E.Sink.held c.args.err.now) (g.E.Sink.held c.serve.new.err) (g.E.Sink.faults c.args.err.now) (g.E.Sink.faults c.serve.new.err) in
     let ToldOf : Command → Type 0 = λ command. IsTold Told (IsCommandStop command files (g.S.Source.left c.args.input.now)) (fault_file (Some command)) c.serve.result in
-    subst ToldOf (sym c.in-Serve.is) c.serve.ensures.told
+    let command : Command = Serve c.in-Serve.file c.in-Serve.experts c.in-Serve.listen in
+    subst ToldOf (sym c.in-Serve.is)
+    (told-by Told (IsCommandStop command files (g.S.Source.left c.args.input.now)) (λ _. c.in-Serve.file) (fault_file (Some command)) c.serve.result
+    (λ stop. sym (one_file c.in-Serve.file (stop_expert stop))) c.serve.ensures.told)

@@ -1,7 +1,7 @@
-use Rattle.std.proofs.Common.{◌∙◌, sym, arith}
+use Rattle.std.proofs.Common.{◌∙◌, inl, sym, arith}
 use Rattle.std.proofs.lemmas.Result.{IfOk-weaker, IfErr-weaker}
 use Rattle.command_io.proofs.ErrLemmas.{err-passed}
-use Rattle.serve_command.proofs.StepLemmas.{expert-range, any-err, early-back, short-stops, short-back, memory-stops, risen-ends, sat-answer, memory-serve, link-serve}
+use Rattle.serve_command.proofs.StepLemmas.{expert-range, any-err, early-back, short-stops, short-back, memory-stops, risen-ends, sat-answer, memory-serve, link-serve, heard}
 use Rattle.serve_command.proofs.serving.exploration.Goals as goal
 
 pub returns-in_err-table-clause-ends : goal.returns-in_err-table-clause-ends
@@ -51,3 +51,11 @@ returns-in_err-ends-clause-cause g c =
 
 pub returns-clause-cause : goal.returns-clause-cause
 returns-clause-cause g c = IfErr-weaker c.explored.result _ _ (λ stop memory. memory-serve c.args.file.now (g.H.Shelf.tells c.args.shelf.now) stop memory) c.explored.ensures.cause
+
+pub returns-in_err-ends-clause-unheard : goal.returns-in_err-ends-clause-unheard
+returns-in_err-ends-clause-unheard g c =
+    err-passed c.from_residual-in_err-ends.result c.in_err-ends.field-0.0 _ c.from_residual-in_err-ends.ensures.1
+    (λ unread. heard _ _ c.in_err-ends.ensures.short.status unread)
+
+pub returns-clause-unheard : goal.returns-clause-unheard
+returns-clause-unheard g c = IfErr-weaker c.explored.result _ _ (λ stop five. λ unread. heard _ _ (inl five) unread) c.explored.ensures.memory

@@ -8,7 +8,7 @@ use Rattle.command_io.specs.declared.stop.Stop.{Stop}
 use Rattle.command_io.specs.ErrLines.{GainsLine, IsTold}
 use Rattle.command_io.proofs.ErrLemmas.{conclude-told}
 use Rattle.serve_command.specs.Served.{IsServeStop}
-use Rattle.serve_command.proofs.EndingLemmas.{call-ends, call-read_fault, call-listener_fault, call-whole, call-front, call-back, silent-same, made-ok}
+use Rattle.serve_command.proofs.EndingLemmas.{call-ends, call-read_fault, call-listener_fault, call-whole, call-front, call-back, silent-same, unread-same, made-ok}
 use Rattle.serve_command.proofs.serving.serve.Goals as goal
 
 pub returns-clause-status : goal.returns-clause-status
@@ -71,3 +71,9 @@ returns-clause-told g c =
     let ToldOf : Text → Type 0 = λ file. IsTold Told MayCome (λ _. file) c.conclude.result in
     subst ToldOf c.bytes-2.ensures (conclude-told Told MayCome (λ _. c.bytes-2.result.now) c.exploration-answer.result c.conclude.result end.answered end.stopped
     c.exploration-answer.ensures.cause end.told end.told_fault)
+
+pub returns-clause-unheard : goal.returns-clause-unheard
+returns-clause-unheard g c = λ unread.
+    let answer = c.exploration-answer in
+    let end = c.conclude.ensures in
+    unread-same c.conclude.result answer.result (answer.new.link ≡ c.args.link.now) end.answered end.stopped answer.ensures.unheard unread

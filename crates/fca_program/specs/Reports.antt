@@ -1,0 +1,65 @@
+-- What a command reports of one table: a text, and where its words name attributes, none if some name is no attribute's.
+use Rattle.std.specs.Prelude.{Bool, cond}
+use Rattle.fca_model.specs.Sets.{Set}
+use Rattle.fca_model.specs.Tables.{Text, NamedContext}
+use Rattle.fca_model.specs.Pseudo.{basis, covers}
+use Rattle.fca_io.specs.Shelves.{Told}
+use Rattle.lectic_concepts.specs.Concepts.{concepts}
+use Rattle.cxt_format.specs.Written.{cxt_text}
+use Rattle.csv_context.specs.Written.{csv_text}
+use Rattle.basis_report.specs.Json.{concepts_json, basis_json}
+use Rattle.basis_report.specs.Reports.{concepts_text, lattice_text, basis_text}
+use Rattle.basis_report.specs.Verdicts.{follows_text}
+use Rattle.fca_command.specs.Attributes.{attributes_said}
+use Rattle.fca_command.specs.declared.command.Command.{Command}
+use Rattle.fca_command.specs.declared.command.Command.TheVariants.{Concepts, Lattice, Basis, Follows, Convert}
+use Rattle.fca_command.specs.declared.command.Form.{Form}
+use Rattle.fca_command.specs.declared.command.Form.TheVariants.{Cxt, Csv}
+use Rattle.command_io.specs.Readings.{Reading, then, known}
+use Rattle.command_io.specs.Readings.Reading.{Refused, Read}
+use Rattle.command_io.specs.Forms.{table_read}
+use Rattle.command_io.specs.Endings.{Output, finished}
+
+-- the concepts, as JSON or as a list
+abbrev pub table_concepts : Bool → NamedContext → Text
+table_concepts json table = cond json (concepts_json table (concepts table.context)) (concepts_text table (concepts table.context))
+
+abbrev pub table_lattice : NamedContext → Text
+table_lattice table = lattice_text table (concepts table.context) (covers table.context)
+
+-- the basis, as JSON or as a list
+abbrev pub table_basis : Bool → NamedContext → Text
+table_basis json table = cond json (basis_json table.attributes (basis table.context)) (basis_text table.attributes (basis table.context))
+
+-- whether the implication from P to C holds
+abbrev pub table_verdict : Set → Set → NamedContext → Text
+table_verdict P C table = follows_text table (basis table.context) P C
+
+-- the attributes of the table that a word names
+abbrev pub attributes_read : NamedContext → Text → Reading Set
+attributes_read table word = known (attributes_said table.attributes word)
+
+-- whether the implication between the attributes that two words name holds
+abbrev pub verdict_read : Text → Text → NamedContext → Reading Text
+verdict_read premise conclusion table =
+    then (attributes_read table premise) (λ P.
+    then (attributes_read table conclusion) (λ C.
+    Read (table_verdict P C table)))
+
+abbrev pub table_written : Form → NamedContext → Text
+table_written Cxt table = cxt_text table
+table_written Csv table = csv_text table
+
+-- what the command reports of the table, where it is one that reports on a table
+abbrev pub table_report : Command → NamedContext → Reading Text
+table_report (Concepts file json) table = Read (table_concepts json table)
+table_report (Lattice file) table = Read (table_lattice table)
+table_report (Basis file json) table = Read (table_basis json table)
+table_report (Follows file premise conclusion) table = verdict_read premise conclusion table
+table_report (Convert file to) table = Read (table_written to table)
+table_report _ table = Refused
+
+-- what the command reports of the table in the file
+abbrev pub report_read : Command → Text → (Text → Told) → Reading Output
+report_read command file files =
+    then (table_read file (files file)) (λ table. then (table_report command table) (λ text. Read (finished text)))
