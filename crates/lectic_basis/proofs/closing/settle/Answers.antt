@@ -41,7 +41,7 @@ loop-k-preserved-in-Continue-1 c =
 pub join-requires : goal.join-requires
 join-requires c =
     let there : c.loop-k.k < length (bucket c.args.z c.loop-k.found.buckets) = omega (arith, c.loop-k-test.true, c.count.ensures) in
-    subst (λ X. length X ≤ length c.loop-k.closed) (sym c.conclusion.ensures) (watch.join_fits c.loop-k.invariant.settling there c.requires.wide)
+    (omega arith, subst (λ X. length X ≤ length c.loop-k.closed) (sym c.conclusion.ensures) (watch.join_fits c.loop-k.invariant.settling there c.requires.wide))
 
 pub agrees-requires : goal.agrees-requires
 agrees-requires c =
