@@ -7,18 +7,19 @@ use fca_model::Memory;
 use implication_closure::ImplicationList;
 use std::rt::HostRuntime;
 
+// Three attributes, and one object that has the last alone.
 #[test]
-fn three_objects_with_one_attribute_each(rt: HostRuntime) -> Result<(), Memory> {
+fn one_object_with_the_last_attribute(rt: HostRuntime) -> Result<(), Memory> {
+    let none = Attrs::empty(3);
     let mut rows = Rows::new(rt.alloc(), 3)?;
-    for i in 0..3 {
-        rows.push(Attrs::empty(3).with(i))?;
-    }
+    rows.push(none.with(2))?;
     let known = ImplicationList::new(rt.alloc(), 3)?;
     let found = basis_watched(rt.alloc(), &rows, &known)?;
-    assert!(&rt; found.as_slice().len() == 3);
-    for (member, lacking) in found.as_slice().iter().zip(0..3) {
-        assert!(&rt; member.premise == Attrs::full(3).without(lacking));
-        assert!(&rt; member.conclusion == Attrs::full(3));
-    }
+    let members = found.as_slice();
+    assert!(&rt; members.len() == 3);
+    assert!(&rt; members[0].premise == none && members[0].conclusion == none.with(2));
+    assert!(&rt; members[1].premise == none.with(1).with(2));
+    assert!(&rt; members[2].premise == none.with(0).with(2));
+    assert!(&rt; members[2].conclusion == Attrs::full(3));
     Ok(())
 }
