@@ -43,3 +43,6 @@ arrow_lines words attributes J = flat_map (λ x. arrow_line words attributes x.0
 
 abbrev pub basis_text : List Text → List Rule → Text
 basis_text attributes J = counted (codes "basis ") (length J) ++ arrow_lines [] attributes J
+
+abbrev pub direct_text : List Text → List Rule → Text
+direct_text attributes J = counted (codes "direct ") (length J) ++ arrow_lines [] attributes J

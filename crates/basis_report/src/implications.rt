@@ -1,7 +1,7 @@
 //! The texts of lists of implications.
 
 ghost use Rattle.std.specs.Prelude.{◌≡◌, ◌++◌, ℕ, codes, IfOk, OnOk};
-ghost use Rattle.basis_report.specs.Reports.{arrow_line, arrow_lines, basis_text};
+ghost use Rattle.basis_report.specs.Reports.{arrow_line, arrow_lines, basis_text, direct_text};
 
 use crate::concepts::write_counted;
 use context_table::Table;
@@ -16,6 +16,16 @@ pub fn basis_text(alloc: Global, table: &Table, list: &ImplicationList) -> Resul
 {
     let mut draft = Draft::new(alloc);
     write_counted(&mut draft, table, b"basis ", list.as_slice().len())?;
+    write_arrows(&mut draft, table, b"", list.as_slice())?;
+    Ok(draft.into_bytes())
+}
+
+/// The same of a direct basis.
+pub fn direct_text(alloc: Global, table: &Table, list: &ImplicationList) -> Result<Vec<u8>, Memory>
+    ensures { IfOk result (λ v. v.items ≡ direct_text table.now.attributes list.now.members) }
+{
+    let mut draft = Draft::new(alloc);
+    write_counted(&mut draft, table, b"direct ", list.as_slice().len())?;
     write_arrows(&mut draft, table, b"", list.as_slice())?;
     Ok(draft.into_bytes())
 }

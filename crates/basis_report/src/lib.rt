@@ -16,7 +16,7 @@ mod verdicts;
 pub use concepts::{concepts_text, lattice_text};
 pub use conflicts::conflicts_text;
 pub use explorations::explore_text;
-pub use implications::basis_text;
+pub use implications::{basis_text, direct_text};
 pub use json_lines::{basis_json, concepts_json};
 pub use sessions::sessions_text;
 pub use verdicts::follows_text;

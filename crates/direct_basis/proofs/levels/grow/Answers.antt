@@ -1,0 +1,23 @@
+use Rattle.std.proofs.Common.{◌≡◌, ◌∙◌, ◌+◌, ℕ, ◌++◌, ◌∷◌, [], ap, filter, map, set, true, arith}
+use Rattle.std.proofs.lemmas.List.FromFn.{map-range_with_len_more}
+use Rattle.std.specs.List.{range_with_len}
+use Rattle.fca_model.specs.Sets.{Set}
+use Rattle.direct_basis.specs.Direct.{proper}
+use Rattle.direct_basis.specs.Levels.{free, placed}
+use Rattle.direct_basis.proofs.LevelLemmas.{more_kept, more_placed}
+use Rattle.direct_basis.proofs.levels.grow.Goals as goal
+
+pub loop-i-preserved : goal.loop-i-preserved
+loop-i-preserved c =
+    let K = c.args.rows.now in
+    let k = c.loop-i.i in
+    let f : ℕ → Set = λ i. set c.args.set.now i true in
+    let before = map f (range_with_len 0 k) in
+    let after = map f (range_with_len 0 (k + 1)) in
+    let one_more : after ≡ before ++ f k ∷ [] = map-range_with_len_more f 0 k k (omega arith) in
+    record {
+      level = more_kept (free K) c.args.level.now.items c.loop-i.level.items c.visit.new.level.items before (f k ∷ []) after one_more c.loop-i.invariant.level
+          (c.in_ok-visit.ensures.level ∙ ap (λ (X : Set). c.loop-i.level.items ++ filter (free K) (X ∷ [])) c.with.ensures);
+      found = more_placed (proper K) c.args.found.now.keys c.loop-i.found.keys c.visit.new.found.keys before (f k ∷ []) after one_more c.loop-i.invariant.found
+          (c.in_ok-visit.ensures.found ∙ ap (λ (X : Set). placed c.loop-i.found.keys (filter (proper K) (X ∷ []))) c.with.ensures);
+    }
