@@ -19,4 +19,4 @@ pub use explorations::explore_text;
 pub use implications::{basis_text, direct_text};
 pub use json_lines::{basis_json, concepts_json};
 pub use sessions::sessions_text;
-pub use verdicts::follows_text;
+pub use verdicts::{follows_text, verdict_text};

@@ -16,6 +16,28 @@ use expert_wire::{Draft, Part};
 use fca_model::Memory;
 use implication_closure::{Implication, ImplicationList};
 use std::alloc::Global;
+use std::thread::Threads;
+
+/// The verdict on the implication from p to c, where the basis is not there yet: it is made only where no row refutes the implication.
+pub fn verdict_text<R: Threads + Sync>(
+    rt: &R,
+    alloc: Global,
+    table: &Table,
+    p: &Attrs,
+    c: &Attrs,
+) -> Result<Vec<u8>, Memory>
+    requires premise { length p.now ≡ table.now.context.width }
+    requires conclusion { length c.now ≡ table.now.context.width }
+    ensures { IfOk result (λ v. v.items ≡ follows_text table.now (basis table.now.context) p.now c.now) }
+{
+    if let Some(place) = table.rows().refuter(p, c) {
+        let mut draft = Draft::new(alloc);
+        write_refuted(&mut draft, table, place)?;
+        return Ok(draft.into_bytes());
+    }
+    let list = canonical_basis::basis(rt, alloc, table.rows())?;
+    follows_text(alloc, table, &list, p, c)
+}
 
 /// Whether the implication from p to c holds, by a derivation from the basis or by the first row that refutes it.
 pub fn follows_text(

@@ -18,24 +18,23 @@ use derivation::Rows;
 pub use derivations::{Derivation, check, derive};
 use fca_model::Memory;
 use implication_closure::ImplicationList;
-use ordering::{close_in_list, close_in_rows, premises_in_order};
-use pseudo_levels::basis_by_levels;
+use lectic_basis::basis_watched;
+use ordering::{close_in_list, premises_in_order};
 use reducing::reduce_list;
 use std::alloc::Global;
 use std::thread::Threads;
 
 /// The Duquenne-Guigues basis of the context with these rows, in lectic order of the premises.
 pub fn basis<R: Threads + Sync>(
-    rt: &R,
+    _rt: &R,
     alloc: Global,
     rows: &Rows,
 ) -> Result<ImplicationList, Memory>
     ensures members { IfOk result (λ list. list ≡ record { width = rows.now.width; members = basis rows.now }) }
     ensures least { IfOk result (λ list. IsLeastBasis rows.now list.members) }
 {
-    let by_size = basis_by_levels(rt, alloc, rows)?;
-    let premises = premises_in_order(alloc, by_size.as_slice())?;
-    close_in_rows(alloc, rows, &premises)
+    let nothing = ImplicationList::new(alloc, rows.width())?;
+    basis_watched(alloc, rows, &nothing)
 }
 
 /// The Duquenne-Guigues basis of the context whose rows are all sets that respect the list, in

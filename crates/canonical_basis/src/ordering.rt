@@ -9,7 +9,6 @@ ghost use Rattle.pseudo_levels.specs.Search.{AreWide};
 ghost use Rattle.canonical_basis.specs.Reduced.{context_of};
 
 use attr_bits::Attrs;
-use derivation::Rows;
 use fca_model::Memory;
 use implication_closure::{Implication, ImplicationList, Scratch};
 use std::alloc::Global;
@@ -52,25 +51,6 @@ pub(crate) fn premises(alloc: Global, members: &[Implication]) -> Result<Vec<Att
     ensures { IfOk result (λ sets. sets.items ≡ premises members.now) }
 {
     Ok(members.iter().map(|i| i.premise).collect(alloc)?)
-}
-
-/// The implication of each set to its closure in the rows.
-pub(crate) fn close_in_rows(
-    alloc: Global,
-    rows: &Rows,
-    sets: &[Attrs],
-) -> Result<ImplicationList, Memory>
-    requires { AreWide rows.now.width sets.now }
-    ensures { IfOk result (λ list. list ≡ record { width = rows.now.width; members = map (λ P. rule P (closure rows.now P)) sets.now }) }
-{
-    let mut closed = ImplicationList::new(alloc, rows.width())?;
-    for set in sets {
-        closed.push(Implication {
-            premise: *set,
-            conclusion: rows.closure(set),
-        })?;
-    }
-    Ok(closed)
 }
 
 /// The implication of each set to its closure under the list.

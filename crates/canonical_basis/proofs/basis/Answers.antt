@@ -1,32 +1,26 @@
-use Rattle.std.proofs.Common.{◌≡◌, [], ap, sym, subst, map}
+use Rattle.std.proofs.Common.{◌≡◌, ◌++◌, [], true, refl, sym, ap, ◌∙◌, subst}
 use Rattle.std.proofs.lemmas.Result.{IfOk-weaker}
-use Rattle.fca_model.specs.Context.{closure}
-use Rattle.fca_model.specs.Implications.{rule}
+use Rattle.std.specs.List.{list_all}
+use Rattle.fca_model.specs.Implications.{holds}
 use Rattle.fca_model.specs.Pseudo.{basis_known}
-use Rattle.fca_model.specs.Invariant.{SameMembers}
 use Rattle.implication_closure.specs.Closing.{RuleList}
 use Rattle.pseudo_levels.specs.LeastBasis.{IsLeastBasis}
-use Rattle.pseudo_levels.proofs.LeastLemmas.{by_size_members}
-use Rattle.canonical_basis.proofs.OrderLemmas.{rule_list, closing_wide, closing_is, basis_is_least}
+use Rattle.canonical_basis.proofs.OrderLemmas.{rule_list, basis_is_least}
 use Rattle.canonical_basis.proofs.basis.Goals as goal
 
-pub close_in_rows-requires : goal.close_in_rows-requires
-close_in_rows-requires g c =
-    let K = c.args.rows.now in
-    let J = c.in_ok-by_size.by_size.members in
-    let h = subst (λ js. SameMembers js (basis_known [] K)) (sym (ap (λ (l : RuleList). l.members) c.in_ok-by_size.ensures.members)) (by_size_members [] K) in
-    closing_wide K J c.as_slice.result.now c.in_ok-premises.premises.items c.deref.result.now h c.as_slice.ensures.members c.deref.ensures.value c.in_ok-premises.ensures.ordered c.in_ok-premises.ensures.members
+pub basis_watched-requires-clause-wide : goal.basis_watched-requires-clause-wide
+basis_watched-requires-clause-wide g c = ap (λ (L : RuleList). L.width) c.in_ok-nothing.ensures ∙ c.width.ensures.width
+
+pub basis_watched-requires-clause-holds : goal.basis_watched-requires-clause-holds
+basis_watched-requires-clause-holds g c = subst (λ (L : RuleList). list_all (holds c.args.rows.now) L.members ≡ true) (sym c.in_ok-nothing.ensures) refl
 
 pub returns-clause-members : goal.returns-clause-members
 returns-clause-members g c =
     let K = c.args.rows.now in
-    let J = c.in_ok-by_size.by_size.members in
-    let h = subst (λ js. SameMembers js (basis_known [] K)) (sym (ap (λ (l : RuleList). l.members) c.in_ok-by_size.ensures.members)) (by_size_members [] K) in
-    IfOk-weaker c.close_in_rows.result (λ list. list ≡ rule_list K.width (map (λ P. rule P (closure K P)) c.deref.result.now)) (λ list. list ≡ rule_list K.width (basis_known [] K))
-    (closing_is K J c.as_slice.result.now c.in_ok-premises.premises.items c.deref.result.now h c.as_slice.ensures.members c.deref.ensures.value c.in_ok-premises.ensures.ordered c.in_ok-premises.ensures.members)
-    c.close_in_rows.ensures
+    IfOk-weaker c.basis_watched.result (λ list. list ≡ rule_list K.width (c.in_ok-nothing.nothing.members ++ basis_known c.in_ok-nothing.nothing.members K)) (λ list. list ≡ rule_list K.width (basis_known [] K))
+    (λ list e. e ∙ ap (λ (L : RuleList). rule_list K.width (L.members ++ basis_known L.members K)) c.in_ok-nothing.ensures) c.basis_watched.ensures
 
 pub returns-clause-least : goal.returns-clause-least
 returns-clause-least g c =
     let K = c.args.rows.now in
-    IfOk-weaker c.close_in_rows.result (λ list. list ≡ rule_list K.width (basis_known [] K)) (λ (list : RuleList). IsLeastBasis K list.members) (basis_is_least K) (returns-clause-members g c)
+    IfOk-weaker c.basis_watched.result (λ list. list ≡ rule_list K.width (basis_known [] K)) (λ (list : RuleList). IsLeastBasis K list.members) (basis_is_least K) (returns-clause-members g c)

@@ -1,0 +1,9 @@
+pub mod PlaceLemmas
+pub mod ListingLemmas
+pub mod FamilyLemmas
+pub mod TreeLemmas
+pub mod BucketLemmas
+pub mod EntryLemmas
+pub mod WatchLemmas
+pub mod WaitLemmas
+pub mod WalkLemmas

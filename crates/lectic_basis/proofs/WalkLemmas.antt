@@ -1,0 +1,253 @@
+-- The steps of the walk. At a set that is no intent a member is pushed, and the walk goes on with its closure, or ends where that differs before the
+-- attribute by which the set was entered. Below an intent each attribute that it lacks is tried, the last first; what was found at attribute i is what stands up
+-- to place i of the intent.
+use Rattle.std.proofs.Common.{◌≡◌, ℕ, suc, ◌+◌, ◌-◌, ◌<◌, ◌≤◌, true, false, Option, MatchOption, List, [], ◌∷◌, ◌++◌, length, get_or, set, replicate, length-set, refl, sym, ap, ◌∙◌, subst, arith}
+use Rattle.std.proofs.lemmas.Bool.{false≢true, false_from_ne_true}
+use Rattle.std.specs.List.{list_all}
+use Rattle.fca_model.specs.Sets.{Set, same, within}
+use Rattle.fca_model.specs.Context.{Context, closure, is_closed}
+use Rattle.fca_model.specs.Implications.{Rule, rule, respects_all, holds}
+use Rattle.fca_model.proofs.SetLemmas.{same-true, same_from, within_refl, within_trans, within_at_place}
+use Rattle.fca_model.proofs.ClosureLemmas.{length-closure, closure_extensive}
+use Rattle.implication_closure.specs.Closing.{RuleList, IsClosure}
+use Rattle.lectic_concepts.specs.Branches.{agree_before}
+use Rattle.lectic_concepts.proofs.BranchLemmas.{among, closure_among}
+use Rattle.lectic_basis.specs.Trees.{InFamily, IsLeastBehind, up_to, members_where, found_where}
+use Rattle.lectic_basis.specs.Walks.{IsVisit, IsBelow, HasFound, IsPart, IsPartBefore}
+use Rattle.lectic_basis.specs.Watches.{Watched, IsFiled, IsGood, CanClose, HasMoved, IsClosedBefore, Differs, IsPutBefore, Covers}
+use Rattle.lectic_basis.proofs.PlaceLemmas.{up_to_member, within_set, agree_with}
+use Rattle.lectic_basis.proofs.FamilyLemmas.{family_of_closed, closed_closure, same_where, closed_respects_where}
+use Rattle.lectic_basis.proofs.TreeLemmas as tree
+use Rattle.lectic_basis.proofs.WaitLemmas.{push_filed, push_good, push_covers, kept_good, good_covers, closed_good}
+
+-- ---- the start
+
+pub root_visit : (S : List Rule) (K : Context) (A : Set) (F : Watched) → list_all (holds K) S ≡ true → IsClosure S (replicate K.width false) A
+    → F.list ≡ record { width = K.width; members = S } → IsFiled F.list.width F.list.members F.buckets → IsGood F.list.members F.buckets A → IsVisit S K K A 0 F
+root_visit S K A F known a list filed good = record {
+  at = record { holds = known; family = tree.root_family S K A a; inside = omega arith; near = λ X h. refl; filed = filed; good = good };
+  least = tree.root_from S K A a;
+  found = list ∙ ap (λ Zs. record { width = K.width; members = Zs }) (sym (tree.where_none S K A));
+  entered = λ k e. absurd (omega (arith, e));
+}
+
+-- ---- what was found
+
+module _ {S : List Rule} {K : Context} {A : Set} {from : ℕ} {F G : Watched} where
+  pub part_before : HasFound S K A from (IsPart A) F G → HasFound S K A from (IsPartBefore A from) F G
+  part_before x = record { found = x.found; filed = x.filed; kept = λ X h. x.kept X h.part }
+
+-- the rows that contain A are enough
+pub near_below : {S : List Rule} {K L M : Context} {A : Set} {from : ℕ} {F : Watched} → IsBelow S K L A from F → M ≡ among L A → IsBelow S K M A from F
+near_below {L = L} {A = A} b m = record {
+  at = record {
+    holds = b.at.holds;
+    family = b.at.family;
+    inside = b.at.inside;
+    near = λ X h. ap (λ N. closure N X) m ∙ closure_among L A X h ∙ b.at.near X h;
+    filed = b.at.filed;
+    good = b.at.good;
+  };
+  least = b.least;
+  found = b.found;
+}
+
+-- ---- a visit
+
+module _ {S : List Rule} {K L : Context} {A : Set} {from : ℕ} {F : Watched} (v : IsVisit S K L A from F) where
+  wide : length A ≡ K.width
+  wide = v.at.family.wide
+
+  width : F.list.width ≡ K.width
+  width = ap (λ (M : RuleList). M.width) v.found
+
+  module _ {B : Set} (b : B ≡ closure L A) where
+    closure_is : B ≡ closure K A
+    closure_is = b ∙ v.at.near A (within_refl A)
+
+    pub closure_wide : length B ≡ F.list.width
+    closure_wide = ap length closure_is ∙ length-closure K A ∙ sym width
+
+    pub closure_up : within A B ≡ true
+    closure_up = subst (λ X. within A X ≡ true) (sym closure_is) (closure_extensive K A wide)
+
+    -- an intent
+    pub visit_closed : same B A ≡ true → IsBelow S K L A from F
+    visit_closed one = record {
+      at = v.at;
+      least = tree.visit_behind S K A v.at.family from v.at.inside v.least;
+      found = v.found ∙ tree.visit_closed S K A v.at.family from v.at.inside v.least (same_from A (closure K A) (sym (same-true B A one) ∙ closure_is));
+    }
+
+    -- a pseudo-intent, whose member was pushed
+    module _ (differs : same B A ≡ false) (G : Watched) (list : G.list ≡ record { width = F.list.width; members = F.list.members ++ rule A B ∷ [] }) (put : IsPutBefore from F.buckets G.buckets (rule A B)) where
+      open_set : is_closed K A ≡ false
+      open_set = false_from_ne_true (is_closed K A) (λ t. false≢true (sym differs ∙ same_from B A (closure_is ∙ sym (same-true A (closure K A) t))))
+
+      pushed : G.list ≡ record { width = F.list.width; members = F.list.members ++ rule A (closure K A) ∷ [] }
+      pushed = list ∙ ap (λ X. record { width = F.list.width; members = F.list.members ++ rule A X ∷ [] }) closure_is
+
+      filed_pushed : IsFiled G.list.width G.list.members G.buckets
+      filed_pushed = subst (λ (M : RuleList). IsFiled M.width M.members G.buckets) (sym list) (push_filed F.list.width F.list.members F.buckets G.buckets from (rule A B) put v.at.filed v.entered)
+
+      good_pushed : (X : Set) → IsPartBefore A from X → IsGood F.list.members F.buckets X → IsGood G.list.members G.buckets X
+      good_pushed X h good = subst (λ (M : RuleList). IsGood M.members G.buckets X) (sym list) (push_good F.list.width F.list.members F.buckets G.buckets from (rule A B) put X h.attribute h.entered h.lacks good)
+
+      pub visit_ends : agree_before from A B ≡ false → HasFound S K A from (IsPartBefore A from) F G
+      visit_ends ends = record {
+        found = tree.visit_ends S K A v.at.family from v.at.inside v.least open_set (ap (agree_before from A) (sym closure_is) ∙ ends) F.list G.list v.found pushed;
+        filed = filed_pushed;
+        kept = good_pushed;
+      }
+
+      module _ (agree : agree_before from A B ≡ true) where
+        pub visit_can_close : CanClose G from A B
+        visit_can_close = record {
+          done_wide = wide ∙ sym width ∙ sym (ap (λ (M : RuleList). M.width) list);
+          wide = closure_wide ∙ sym (ap (λ (M : RuleList). M.width) list);
+          above = closure_up;
+          agree = agree;
+          filed = filed_pushed;
+          covers = subst (λ (M : RuleList). Covers M.members G.buckets A B) (sym list) (push_covers F.list.width F.list.members F.buckets G.buckets from (rule A B) put A B v.at.good closure_up (within_refl B));
+        }
+
+        agree_closure : agree_before from A (closure K A) ≡ true
+        agree_closure = ap (agree_before from A) (sym closure_is) ∙ agree
+
+        module _ {H : Watched} (m : HasMoved A G H) where
+          grown : H.list ≡ found_where S K (up_to K.width B)
+          grown = m.list ∙ tree.visit_grows S K A v.at.family from v.at.inside v.least open_set agree_closure F.list G.list v.found pushed
+              ∙ ap (λ X. found_where S K (up_to K.width X)) (sym closure_is)
+
+          closed_b : is_closed K B ≡ true
+          closed_b = subst (λ X. is_closed K X ≡ true) (sym closure_is) (closed_closure S K A wide)
+
+          family_b : InFamily S K B
+          family_b = family_of_closed S K v.at.holds B (ap length closure_is ∙ length-closure K A) closed_b
+
+          respecting : respects_all G.list.members B ≡ true
+          respecting = subst (λ (M : RuleList). respects_all M.members B ≡ true) (sym grown ∙ m.list) (closed_respects_where S K (up_to K.width B) B family_b closed_b)
+
+          pub visit_below : (r : Option Set) → MatchOption r (Differs G.list.members from A B) (λ c. IsClosedBefore G.list.members H.buckets from A B c) → IsBelow S K L B from H
+          visit_below r closed = record {
+            at = record {
+              holds = v.at.holds;
+              family = family_b;
+              inside = v.at.inside;
+              near = λ X h. v.at.near X (within_trans A B X closure_up h);
+              filed = m.filed;
+              good = subst (λ (M : RuleList). IsGood M.members H.buckets B) (sym m.list) (closed_good G.list.members H.buckets from A B r closed respecting agree);
+            };
+            least = subst (λ X. IsLeastBehind S K X from) (sym closure_is) (tree.grows_behind S K A v.at.family from v.at.inside v.least open_set agree_closure);
+            found = grown;
+          }
+
+          pub visit_done : {I : Watched} → HasFound S K B from (IsPart B) H I → HasFound S K A from (IsPartBefore A from) F I
+          visit_done x = record {
+            found = x.found ∙ ap (λ X. found_where S K (up_to from X)) closure_is ∙ tree.grows_done S K A v.at.family from v.at.inside v.least open_set agree_closure;
+            filed = x.filed;
+            kept = λ X h good. x.kept X (within_trans X A B h.part closure_up)
+                (subst (λ (M : RuleList). IsGood M.members H.buckets X) (sym m.list) (kept_good G.list.members G.buckets H.buckets X (m.kept X h.part) (good_pushed X h good)));
+          }
+
+-- ---- below an intent
+
+-- attribute i is tried, and all behind it were
+pub record IsTrying (S : List Rule) (K : Context) (A : Set) (from i : ℕ) (F G : Watched) : Type 0 where
+  pub on : from ≤ i
+  pub inside : i < K.width
+  pub found : HasFound S K A (suc i) (IsPart A) F G
+
+pub trying : {S : List Rule} {K : Context} {A : Set} {from j : ℕ} {F G : Watched} → j ≤ K.width → HasFound S K A j (IsPart A) F G → from < j → IsTrying S K A from (j - 1) F G
+trying {S = S} {K = K} {A = A} {j = j} {F = F} {G = G} le found lt =
+    let e : j ≡ suc (j - 1) = omega (arith, lt) in
+    record { on = omega (arith, lt); inside = omega (arith, le, lt); found = subst (λ k. HasFound S K A k (IsPart A) F G) e found }
+
+module _ {S : List Rule} {K L : Context} {A : Set} {from : ℕ} {F : Watched} (b : IsBelow S K L A from F) where
+  pub below_start : HasFound S K A K.width (IsPart A) F F
+  below_start = record { found = b.found; filed = b.at.filed; kept = λ X h good. good }
+
+  module _ {i : ℕ} {G : Watched} (t : IsTrying S K A from i F G) where
+    abbrev on : from ≤ i
+    on = t.on
+
+    abbrev inside : i < K.width
+    inside = t.inside
+
+    abbrev g : HasFound S K A (suc i) (IsPart A) F G
+    g = t.found
+
+    next : suc i ≡ i + 1
+    next = omega arith
+
+    -- an attribute that A has
+    pub below_member : get_or A i false ≡ true → HasFound S K A i (IsPart A) F G
+    below_member has = record {
+      found = g.found ∙ same_where S K (up_to (suc i) A) (up_to i A) (λ P w t. up_to_member i A P has);
+      filed = g.filed;
+      kept = g.kept;
+    }
+
+    -- one that A lacks
+    module _ (lacks : get_or A i false ≡ false) {X : Set} (x : X ≡ set A i true) where
+      up : within A X ≡ true
+      up = subst (λ Y. within A Y ≡ true) (sym x) (within_set A i)
+
+      width_g : G.list.width ≡ K.width
+      width_g = ap (λ (M : RuleList). M.width) g.found
+
+      pub below_can_close : CanClose G i A X
+      below_can_close = record {
+        done_wide = b.at.family.wide ∙ sym width_g;
+        wide = ap length x ∙ length-set A i true ∙ b.at.family.wide ∙ sym width_g;
+        above = up;
+        agree = subst (λ Y. agree_before i A Y ≡ true) (sym x) (agree_with i A);
+        filed = g.filed;
+        covers = good_covers G.list.members G.buckets A X up (g.kept A (within_refl A) b.at.good);
+      }
+
+      module _ {H : Watched} (m : HasMoved A G H) where
+        good_moved : (Y : Set) → within Y A ≡ true → IsGood F.list.members F.buckets Y → IsGood H.list.members H.buckets Y
+        good_moved Y h good = subst (λ (M : RuleList). IsGood M.members H.buckets Y) (sym m.list) (kept_good G.list.members G.buckets H.buckets Y (m.kept Y h) (g.kept Y h good))
+
+        pub below_none : Differs G.list.members i A X → HasFound S K A i (IsPart A) F H
+        below_none differs = record {
+          found = m.list ∙ g.found ∙ tree.none_below S K A b.at.family.wide from i on inside b.least lacks
+              (λ T h r. differs T (subst (λ Y. within Y T ≡ true) (sym x) h) (subst (λ (M : RuleList). respects_all M.members T ≡ true) (sym g.found) r));
+          filed = m.filed;
+          kept = good_moved;
+        }
+
+        module _ {C : Set} (c : IsClosedBefore G.list.members H.buckets i A X C) where
+          closed : IsClosure (members_where S K (up_to (suc i) A)) (set A i true) C
+          closed = subst (λ (M : RuleList). IsClosure M.members (set A i true) C) g.found (subst (λ Y. IsClosure G.list.members Y C) x c.closure)
+
+          up_c : within A C ≡ true
+          up_c = tree.child_up S K A b.at.family.wide from i on inside b.least lacks C closed
+
+          pub below_visit : IsVisit S K L C (i + 1) H
+          below_visit = subst (λ k. IsVisit S K L C k H) next (record {
+            at = record {
+              holds = b.at.holds;
+              family = tree.child_family S K A b.at.family.wide from i on inside b.least lacks C closed c.agree;
+              inside = omega (arith, inside);
+              near = λ Y h. b.at.near Y (within_trans A C Y up_c h);
+              filed = m.filed;
+              good = subst (λ (M : RuleList). IsGood M.members H.buckets C) (sym m.list) c.good;
+            };
+            least = tree.child_least S K A b.at.family.wide from i on inside b.least lacks C closed c.agree;
+            found = m.list ∙ g.found ∙ tree.child_found S K A b.at.family.wide from i on inside b.least lacks C closed c.agree;
+            entered = λ k e. let one : i ≡ k = omega (arith, e) in subst (λ j. get_or C j false ≡ true) one (tree.child_has S K A b.at.family.wide from i on inside b.least lacks C closed);
+          })
+
+          pub below_visited : {I : Watched} → HasFound S K C (i + 1) (IsPartBefore C (i + 1)) H I → HasFound S K A i (IsPart A) F I
+          below_visited done = record {
+            found = done.found ∙ ap (λ k. found_where S K (up_to k C)) (sym next) ∙ tree.child_done S K A b.at.family.wide from i on inside b.least lacks C closed c.agree;
+            filed = done.filed;
+            kept = λ Y h good. done.kept Y (record {
+              part = within_trans Y A C h up_c;
+              attribute = i;
+              entered = sym next;
+              lacks = false_from_ne_true (get_or Y i false) (λ t. false≢true (sym lacks ∙ within_at_place Y A h i t));
+            }) (good_moved Y h good);
+          }

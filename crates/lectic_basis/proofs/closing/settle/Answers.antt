@@ -1,0 +1,66 @@
+use Rattle.std.proofs.Common.{◌≡◌, ◌<◌, ◌≤◌, true, false, length, get_or, refl, sym, ap, ◌∙◌, subst, arith}
+use Rattle.std.proofs.lemmas.Bool.{false≢true}
+use Rattle.fca_model.specs.Sets.{Set, within, join}
+use Rattle.fca_model.specs.Implications.{Rule}
+use Rattle.fca_model.specs.Exploration.{first_missing}
+use Rattle.fca_model.proofs.SetLemmas.{within_trans, within_at_place, within-join}
+use Rattle.fca_model.proofs.StepLemmas.{first_missing_none}
+use Rattle.attr_bits.proofs.DifferenceLemmas.{first_missing-parts}
+use Rattle.attr_bits.proofs.PlaceLemmas.{member_below}
+use Rattle.lectic_basis.specs.Watches.{bucket, waiting_at}
+use Rattle.lectic_basis.proofs.WatchLemmas as watch
+use Rattle.lectic_basis.proofs.closing.settle.Goals as goal
+
+pub loop-k-init : goal.loop-k-init
+loop-k-init c = record { list = refl; settling = watch.settle_start c.requires.sorted; agree = c.requires.agree }
+
+pub move_to-requires-clause-other_inside : goal.move_to-requires-clause-other_inside
+move_to-requires-clause-other_inside c =
+    let there : c.loop-k.k < length (bucket c.args.z c.loop-k.found.buckets) = omega (arith, c.loop-k-test.true, c.count.ensures) in
+    let i : Rule = waiting_at c.args.z c.loop-k.k c.loop-k.found.buckets in
+    let parts = first_missing-parts i.premise c.loop-k.closed c.in-Some.other (ap (λ P. first_missing 0 P c.loop-k.closed) (sym c.premise.ensures) ∙ sym c.first_missing.ensures ∙ c.in-Some.is) in
+    omega (arith, member_below i.premise c.in-Some.other parts.0, watch.premise_wide c.loop-k.invariant.settling there c.requires.wide, c.requires.room, c.loop-k.invariant.settling.room)
+
+pub move_to-requires-clause-elsewhere : goal.move_to-requires-clause-elsewhere
+move_to-requires-clause-elsewhere c =
+    let i : Rule = waiting_at c.args.z c.loop-k.k c.loop-k.found.buckets in
+    let parts = first_missing-parts i.premise c.loop-k.closed c.in-Some.other (ap (λ P. first_missing 0 P c.loop-k.closed) (sym c.premise.ensures) ∙ sym c.first_missing.ensures ∙ c.in-Some.is) in
+    λ e. false≢true (sym parts.1 ∙ ap (λ m. get_or c.loop-k.closed m false) e ∙ within_at_place c.args.closed.now c.loop-k.closed c.loop-k.invariant.settling.up c.args.z c.requires.member)
+
+pub loop-k-preserved-in-Continue-1 : goal.loop-k-preserved-in-Continue-1
+loop-k-preserved-in-Continue-1 c =
+    let there : c.loop-k.k < length (bucket c.args.z c.loop-k.found.buckets) = omega (arith, c.loop-k-test.true, c.count.ensures) in
+    let i : Rule = waiting_at c.args.z c.loop-k.k c.loop-k.found.buckets in
+    let parts = first_missing-parts i.premise c.loop-k.closed c.in-Some.other (ap (λ P. first_missing 0 P c.loop-k.closed) (sym c.premise.ensures) ∙ sym c.first_missing.ensures ∙ c.in-Some.is) in
+    record {
+      list = c.move_to.ensures.list ∙ c.loop-k.invariant.list;
+      settling = watch.settle_move c.loop-k.invariant.settling there c.in_ok-move_to-in-Some.ensures.moved parts.0 parts.1;
+      agree = c.loop-k.invariant.agree;
+    }
+
+pub join-requires : goal.join-requires
+join-requires c =
+    let there : c.loop-k.k < length (bucket c.args.z c.loop-k.found.buckets) = omega (arith, c.loop-k-test.true, c.count.ensures) in
+    subst (λ X. length X ≤ length c.loop-k.closed) (sym c.conclusion.ensures) (watch.join_fits c.loop-k.invariant.settling there c.requires.wide)
+
+pub agrees-requires : goal.agrees-requires
+agrees-requires c =
+    let D : Set = c.loop-k.closed in
+    within_trans c.args.done.now D c.join.result (within_trans c.args.done.now c.args.closed.now D c.requires.above c.loop-k.invariant.settling.up)
+    (subst (λ X. within D X ≡ true) (sym c.join.ensures) (within-join D c.conclusion.result))
+
+pub returns-then-not-agrees-clause-settling : goal.returns-then-not-agrees-clause-settling
+returns-then-not-agrees-clause-settling c =
+    let there : c.loop-k.k < length (bucket c.args.z c.loop-k.found.buckets) = omega (arith, c.loop-k-test.true, c.count.ensures) in
+    let i : Rule = waiting_at c.args.z c.loop-k.k c.loop-k.found.buckets in
+    let inside : within i.premise c.loop-k.closed ≡ true = first_missing_none 0 i.premise c.loop-k.closed (ap (λ P. first_missing 0 P c.loop-k.closed) (sym c.premise.ensures) ∙ sym c.first_missing.ensures ∙ c.in-None.is) in
+    let joined = watch.settle_join c.loop-k.invariant.settling there c.requires.wide inside (c.join.ensures ∙ ap (join c.loop-k.closed) c.conclusion.ensures) in
+    watch.settle_any joined
+
+pub loop-k-preserved : goal.loop-k-preserved
+loop-k-preserved c =
+    let there : c.loop-k.k < length (bucket c.args.z c.loop-k.found.buckets) = omega (arith, c.loop-k-test.true, c.count.ensures) in
+    let i : Rule = waiting_at c.args.z c.loop-k.k c.loop-k.found.buckets in
+    let inside : within i.premise c.loop-k.closed ≡ true = first_missing_none 0 i.premise c.loop-k.closed (ap (λ P. first_missing 0 P c.loop-k.closed) (sym c.premise.ensures) ∙ sym c.first_missing.ensures ∙ c.in-None.is) in
+    let joined = watch.settle_join c.loop-k.invariant.settling there c.requires.wide inside (c.join.ensures ∙ ap (join c.loop-k.closed) c.conclusion.ensures) in
+    record { list = c.loop-k.invariant.list; settling = joined; agree = sym c.agrees.ensures ∙ c.if-not-agrees.false }

@@ -1,0 +1,84 @@
+//! The closure under the members of a list, each of which waits for one attribute of its premise.
+
+ghost use Rattle.std.specs.Prelude.{◌≡◌, ℕ, true, false, length, slice_index_or, OnOk, IfOk, MatchOption};
+ghost use Rattle.std.specs.List.{list_all};
+ghost use Rattle.fca_model.specs.Sets.{within};
+ghost use Rattle.implication_closure.specs.Closing.{HaveWidth};
+ghost use Rattle.lectic_concepts.specs.Branches.{agree_before};
+ghost use Rattle.lectic_basis.specs.Watches.{bucket, CanClose, Differs, HasMoved, IsClosedBefore, IsSettling, IsSorted};
+
+use crate::watched_list::WatchedList;
+use attr_bits::Attrs;
+use fca_model::Memory;
+
+/// The closure of x, which contains `done`, under the members; or nothing where it differs from `done` before the limit. Members that wait for an attribute
+/// of the closure wait for another from then on.
+pub(crate) fn close(
+    found: &mut WatchedList,
+    done: &Attrs,
+    x: &Attrs,
+    limit: u32,
+) -> Result<Option<Attrs>, Memory>
+    requires { CanClose found.old limit done.now x.now }
+    ensures moved { OnOk result (HasMoved done.now found.old found.new) }
+    ensures closure { IfOk result (λ closed. MatchOption closed (Differs found.old.list.members limit done.now x.now)
+        (λ c. IsClosedBefore found.old.list.members found.new.buckets limit done.now x.now c)) }
+{
+    let _width = found.width();
+    let mut seen = *done;
+    let mut closed = *x;
+    while let Some(z) = closed.first_missing(&seen) {
+        if !settle(found, z, done, limit, &mut closed)? {
+            return Ok(None);
+        }
+        seen.insert(z);
+    }
+    Ok(Some(closed))
+}
+
+/// Looks through the bucket of attribute z of the set, which takes in conclusions. Whether it still agrees with `done` before the limit; if not, the rest of
+/// the bucket is not looked at.
+fn settle(
+    found: &mut WatchedList,
+    z: u32,
+    done: &Attrs,
+    limit: u32,
+    closed: &mut Attrs,
+) -> Result<bool, Memory>
+    requires room { length found.old.buckets ≡ length closed.old }
+    requires member { slice_index_or closed.old z false ≡ true }
+    requires above { within done.now closed.old ≡ true }
+    requires agree { agree_before limit done.now closed.old ≡ true }
+    requires sorted { IsSorted found.old.buckets }
+    requires wide { (w : ℕ) → HaveWidth (length closed.old) (bucket w found.old.buckets) }
+    ensures list { found.new.list ≡ found.old.list }
+    ensures settling { OnOk result (IsSettling z 0 closed.old closed.new found.old.buckets found.new.buckets) }
+    ensures finished { IfOk result (λ finished. finished ≡ true → list_all (λ i. within i.conclusion closed.new) (bucket z found.new.buckets) ≡ true) }
+    ensures agree { IfOk result (λ finished. finished ≡ agree_before limit done.now closed.new) }
+{
+    let mut k = 0;
+    while k < found.count(z) {
+        match found.premise(z, k).first_missing(closed) {
+            Some(other) => found.move_to(z, k, other)?,
+            None => {
+                *closed = closed.join(&found.conclusion(z, k));
+                if !agrees(done, closed, limit) {
+                    return Ok(false);
+                }
+                k += 1;
+            }
+        }
+    }
+    Ok(true)
+}
+
+/// Whether the larger set agrees with a before attribute `from`.
+pub(crate) fn agrees(a: &Attrs, larger: &Attrs, from: u32) -> bool
+    requires { within a.now larger.now ≡ true }
+    ensures { result ≡ agree_before from a.now larger.now }
+{
+    match larger.first_missing(a) {
+        None => true,
+        Some(new) => from <= new,
+    }
+}

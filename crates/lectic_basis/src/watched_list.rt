@@ -1,0 +1,195 @@
+//! A list of implications, each of which may wait for an attribute of its premise.
+
+ghost use Rattle.std.specs.Prelude.{◌≡◌, ◌≢◌, ◌<◌, ◌≤◌, ◌++◌, ◌∷◌, [], ℕ, true, length, map, OnOk, IfOk};
+ghost use Rattle.fca_model.specs.Implications.{respects_all};
+ghost use Rattle.implication_closure.specs.Closing.{HaveWidth};
+ghost use Rattle.lectic_basis.specs.Watches.{bucket, member_at, waiting_at, IsFiled, IsGood, IsMoved, IsPut, IsPutBefore};
+
+use attr_bits::Attrs;
+use fca_model::Memory;
+use implication_closure::{Implication, ImplicationList};
+use std::alloc::Global;
+use std::marker::Model;
+
+/// A member that waits: its premise, and its place in the list.
+#[derive(Clone, Copy)]
+struct Entry {
+    premise: Attrs,
+    place: usize,
+}
+
+/// The list, and for each attribute the members that wait for it.
+#[derive(Drop)]
+pub(crate) struct WatchedList {
+    list: ImplicationList,
+    buckets: Vec<Vec<Entry>>,
+}
+
+impl Model for WatchedList {
+    ghost use Rattle.std.specs.Prelude.{map};
+    ghost use Rattle.lectic_basis.specs.Watches.{Watched, member_at};
+    ghost use Rattle.lectic_basis.specs.Entries.{HaveEntries};
+
+    ghost Value = { Watched };
+
+    ghost view = { λ a. record { list = a.list; buckets = map (map (λ e. member_at a.list.members e.place)) (map (λ v. v.items) a.buckets.items) } };
+
+    ghost invariant = { λ a. HaveEntries (λ e. e.premise) (λ e. e.place) a.list.members (map (λ v. v.items) a.buckets.items) };
+}
+
+impl WatchedList {
+    /// The same implications. Each waits for an attribute outside x, or has its conclusion within x.
+    pub(crate) fn of(
+        alloc: Global,
+        list: &ImplicationList,
+        x: &Attrs,
+    ) -> Result<WatchedList, Memory>
+        requires wide { length x.now ≡ list.now.width }
+        requires respecting { respects_all list.now.members x.now ≡ true }
+        ensures list { IfOk result (λ watched. watched.list ≡ list.now) }
+        ensures filed { IfOk result (λ watched. IsFiled list.now.width list.now.members watched.buckets) }
+        ensures good { IfOk result (λ watched. IsGood list.now.members watched.buckets x.now) }
+    {
+        let mut watched = WatchedList::new(alloc, list)?;
+        for (place, member) in list.as_slice().iter().enumerate() {
+            if let Some(w) = member.premise.first_missing(x) {
+                watched.wait_for(place, w)?;
+            }
+        }
+        Ok(watched)
+    }
+
+    /// The same implications, of which none waits.
+    fn new(alloc: Global, list: &ImplicationList) -> Result<WatchedList, Memory>
+        ensures list { IfOk result (λ watched. watched.list ≡ list.now) }
+        ensures room { IfOk result (λ watched. length watched.buckets ≡ list.now.width) }
+        ensures empty { IfOk result (λ watched. (w : ℕ) → bucket w watched.buckets ≡ []) }
+    {
+        let mut copy = ImplicationList::new(alloc, list.width())?;
+        copy.extend_from_slice(list.as_slice())?;
+        let buckets = empty_buckets(alloc, list.width())?;
+        Ok(WatchedList {
+            list: copy,
+            buckets,
+        })
+    }
+
+    /// The number of attributes.
+    pub(crate) fn width(&self) -> u32
+        ensures width { result ≡ self.now.list.width }
+        ensures even { HaveWidth self.now.list.width self.now.list.members }
+    {
+        self.list.width()
+    }
+
+    /// The list, with nothing that waits.
+    pub(crate) fn into_list(self) -> ImplicationList
+        ensures { result ≡ self.list }
+    {
+        self.list
+    }
+
+    /// How many members wait for attribute w.
+    pub(crate) fn count(&self, w: u32) -> usize
+        requires { w < length self.now.buckets }
+        ensures { result ≡ length (bucket w self.now.buckets) }
+    {
+        self.buckets[w as usize].len()
+    }
+
+    /// The entry at place k of the bucket of attribute w.
+    fn entry(&self, w: u32, k: usize) -> Entry
+        requires inside { w < length self.now.buckets }
+        requires there { k < length (bucket w self.now.buckets) }
+        ensures place { result.place < length self.now.list.members }
+        ensures member { member_at self.now.list.members result.place ≡ waiting_at w k self.now.buckets }
+        ensures premise { result.premise ≡ (waiting_at w k self.now.buckets).premise }
+    {
+        self.buckets[w as usize][k]
+    }
+
+    /// The premise at place k of the bucket of attribute w.
+    pub(crate) fn premise(&self, w: u32, k: usize) -> Attrs
+        requires inside { w < length self.now.buckets }
+        requires there { k < length (bucket w self.now.buckets) }
+        ensures { result ≡ (waiting_at w k self.now.buckets).premise }
+    {
+        self.entry(w, k).premise
+    }
+
+    /// The conclusion at place k of the bucket of attribute w.
+    pub(crate) fn conclusion(&self, w: u32, k: usize) -> Attrs
+        requires inside { w < length self.now.buckets }
+        requires there { k < length (bucket w self.now.buckets) }
+        ensures { result ≡ (waiting_at w k self.now.buckets).conclusion }
+    {
+        let place = self.entry(w, k).place;
+        self.list.as_slice()[place].conclusion
+    }
+
+    /// Moves the member at place k of bucket w to another bucket.
+    pub(crate) fn move_to(&mut self, w: u32, k: usize, other: u32) -> Result<(), Memory>
+        requires inside { w < length self.old.buckets }
+        requires other_inside { other < length self.old.buckets }
+        requires there { k < length (bucket w self.old.buckets) }
+        requires elsewhere { other ≢ w }
+        ensures list { self.new.list ≡ self.old.list }
+        ensures moved { OnOk result (IsMoved self.old.buckets self.new.buckets w k other (waiting_at w k self.old.buckets)) }
+    {
+        let entry = self.buckets[w as usize][k];
+        self.buckets[other as usize].push(entry)?;
+        self.buckets[w as usize].swap_remove(k);
+        Ok(())
+    }
+
+    /// Puts the implication last; it waits for the attribute before `from`, if there is one.
+    pub(crate) fn push_before(&mut self, member: Implication, from: u32) -> Result<(), Memory>
+        requires premise { length member.premise ≡ self.old.list.width }
+        requires conclusion { length member.conclusion ≡ self.old.list.width }
+        requires inside { from ≤ length self.old.buckets }
+        ensures list { OnOk result (self.new.list ≡ record { width = self.old.list.width; members = self.old.list.members ++ member ∷ [] }) }
+        ensures put { OnOk result (IsPutBefore from self.old.buckets self.new.buckets member) }
+    {
+        let place = self.list.as_slice().len();
+        self.push(member)?;
+        if from == 0 {
+            return Ok(());
+        }
+        self.wait_for(place, from - 1)
+    }
+
+    /// Puts the implication last. It does not wait.
+    fn push(&mut self, member: Implication) -> Result<(), Memory>
+        requires premise { length member.premise ≡ self.old.list.width }
+        requires conclusion { length member.conclusion ≡ self.old.list.width }
+        ensures list { OnOk result (self.new.list ≡ record { width = self.old.list.width; members = self.old.list.members ++ member ∷ [] }) }
+        ensures buckets { OnOk result (self.new.buckets ≡ self.old.buckets) }
+    {
+        self.list.push(member)?;
+        Ok(())
+    }
+
+    /// Has the member at the place wait for attribute w.
+    fn wait_for(&mut self, place: usize, w: u32) -> Result<(), Memory>
+        requires there { place < length self.old.list.members }
+        requires inside { w < length self.old.buckets }
+        ensures list { self.new.list ≡ self.old.list }
+        ensures put { OnOk result (IsPut self.old.buckets self.new.buckets w (member_at self.old.list.members place)) }
+    {
+        let premise = self.list.as_slice()[place].premise;
+        self.buckets[w as usize].push(Entry { premise, place })?;
+        Ok(())
+    }
+}
+
+/// As many empty buckets.
+fn empty_buckets(alloc: Global, n: u32) -> Result<Vec<Vec<Entry>>, Memory>
+    ensures room { IfOk result (λ buckets. length buckets.items ≡ n) }
+    ensures empty { IfOk result (λ buckets. (w : ℕ) → bucket w (map (λ v. v.items) buckets.items) ≡ []) }
+{
+    let mut buckets = Vec::new(alloc);
+    for _ in 0..n {
+        buckets.push(Vec::new(alloc))?;
+    }
+    Ok(buckets)
+}
