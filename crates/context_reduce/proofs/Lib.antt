@@ -1,0 +1,9 @@
+pub mod RangeLemmas
+pub mod DenseLemmas
+pub mod PartLemmas
+pub mod ReduceLemmas
+pub mod ColumnLemmas
+pub mod SortLemmas
+pub mod TableLemmas
+pub mod ArrowLemmas
+pub mod Examples

@@ -1,0 +1,80 @@
+//! Finding the arrows of a table.
+
+ghost use Rattle.std.specs.Prelude.{◌≡◌, ◌<◌, IfOk, All, length, map};
+ghost use Rattle.std.specs.List.{range_with_len};
+ghost use Rattle.context_reduce.specs.Reduce.{above, AreSorted};
+ghost use Rattle.context_reduce.specs.Arrows.{arrow_of, arrow_at, arrow_table, TellIrreducibles};
+
+use crate::columns::{above, column_order};
+use crate::marks::{Arrow, Arrows};
+use crate::rows::{meet_of_larger, sorted_rows};
+use attr_bits::Attrs;
+use context_table::Table;
+use derivation::Rows;
+use fca_model::Memory;
+use std::alloc::Global;
+
+/// The arrows of the table.
+pub fn arrows(alloc: Global, table: &Table) -> Result<Arrows, Memory>
+    ensures arrows { IfOk result (λ found. found ≡ arrow_table table.now.context) }
+    ensures wide { IfOk result (λ found. All (λ list. length list ≡ table.now.context.width) found) }
+    ensures irreducible { IfOk result (λ found. TellIrreducibles table.now.context found) }
+{
+    let rows = table.rows();
+    let larger = all_above(alloc, rows)?;
+    let sorted = sorted_rows(alloc, rows)?;
+    let mut lists = Vec::new(alloc);
+    for g in 0..rows.len() {
+        lists.push(arrows_of_object(alloc, rows, &sorted, &larger, g)?)?;
+    }
+    Ok(Arrows::of(lists))
+}
+
+/// For each attribute those whose column strictly contains its column.
+fn all_above(alloc: Global, rows: &Rows) -> Result<Vec<Attrs>, Memory>
+    ensures { IfOk result (λ sets. sets.items ≡ map (above rows.now) (range_with_len 0 rows.now.width)) }
+{
+    let order = column_order(alloc, rows)?;
+    let mut sets = Vec::new(alloc);
+    for m in 0..rows.width() {
+        sets.push(above(rows, &order, m))?;
+    }
+    Ok(sets)
+}
+
+/// The arrows of one object.
+fn arrows_of_object(
+    alloc: Global,
+    rows: &Rows,
+    sorted: &[Attrs],
+    larger: &[Attrs],
+    g: usize,
+) -> Result<Vec<Arrow>, Memory>
+    requires object { g < length rows.now.rows }
+    requires sorted { AreSorted rows.now sorted.now }
+    requires larger { larger.now ≡ map (above rows.now) (range_with_len 0 rows.now.width) }
+    ensures { IfOk result (λ list. list.items ≡ map (arrow_at rows.now g) (range_with_len 0 rows.now.width)) }
+{
+    let row = rows.get(g);
+    let shared = meet_of_larger(rows, sorted, &row);
+    let mut list = Vec::new(alloc);
+    for m in 0..rows.width() {
+        let down = shared.has(m);
+        let up = larger[m as usize].within(&row);
+        list.push(arrow_of(row.has(m), down, up))?;
+    }
+    Ok(list)
+}
+
+/// A cross, or else the arrows that are there.
+fn arrow_of(cross: bool, down: bool, up: bool) -> Arrow
+    ensures { result ≡ arrow_of cross down up }
+{
+    match (cross, down, up) {
+        (true, _, _) => Arrow::Cross,
+        (false, true, true) => Arrow::Both,
+        (false, true, false) => Arrow::Down,
+        (false, false, true) => Arrow::Up,
+        (false, false, false) => Arrow::Plain,
+    }
+}

@@ -1,0 +1,67 @@
+//! Clarifying and reducing a table, and the arrows between its objects and attributes (Ganter and
+//! Wille, "Formal Concept Analysis", 1999).
+#![tactic(auto)]
+
+mod columns;
+mod finding;
+pub mod laws;
+mod marks;
+mod parts;
+mod rows;
+mod texts;
+
+ghost use Rattle.std.specs.Prelude.{◌≡◌, IfOk};
+ghost use Rattle.context_reduce.specs.Reduce.{distinct_objects, distinct_attributes, irreducible_objects, irreducible_attributes, KeepsIntents, AreItsPlaces};
+
+use columns::{column_order, distinct_columns, irreducible_columns};
+use context_table::Table;
+use fca_model::{Memory, Places};
+pub use finding::arrows;
+pub use marks::{Arrow, Arrows};
+pub use parts::part;
+use rows::{distinct_rows, irreducible_rows};
+use std::alloc::Global;
+pub use texts::arrows_text;
+
+/// The places of the objects and attributes of a table that are kept, ascending.
+#[derive(Drop)]
+pub struct Kept {
+    pub objects: Places,
+    pub attributes: Places,
+}
+
+/// The objects whose row and the attributes whose column no earlier one has.
+pub fn clarify(alloc: Global, table: &Table) -> Result<Kept, Memory>
+    ensures objects { IfOk result (λ kept. kept.objects ≡ distinct_objects table.now.context) }
+    ensures attributes { IfOk result (λ kept. kept.attributes ≡ distinct_attributes table.now.context) }
+    ensures places { IfOk result (λ kept. AreItsPlaces table.now kept.objects kept.attributes) }
+    ensures intents { IfOk result (λ kept. KeepsIntents table.now.context kept.objects kept.attributes) }
+{
+    let rows = table.rows();
+    let order = column_order(alloc, rows)?;
+    Ok(Kept {
+        objects: distinct_rows(alloc, rows)?,
+        attributes: distinct_columns(alloc, rows, &order)?,
+    })
+}
+
+/// Those objects and attributes of `clarify` whose row, or column, is not the intersection of all
+/// rows, or columns, that strictly contain it. The intersection of none is the full one.
+pub fn irreducible(alloc: Global, table: &Table) -> Result<Kept, Memory>
+    ensures objects { IfOk result (λ kept. kept.objects ≡ irreducible_objects table.now.context) }
+    ensures attributes { IfOk result (λ kept. kept.attributes ≡ irreducible_attributes table.now.context) }
+    ensures places { IfOk result (λ kept. AreItsPlaces table.now kept.objects kept.attributes) }
+    ensures intents { IfOk result (λ kept. KeepsIntents table.now.context kept.objects kept.attributes) }
+{
+    let rows = table.rows();
+    let order = column_order(alloc, rows)?;
+    let objects = distinct_rows(alloc, rows)?;
+    let attributes = distinct_columns(alloc, rows, &order)?;
+    Ok(Kept {
+        objects: irreducible_rows(alloc, rows, &objects)?,
+        attributes: irreducible_columns(alloc, rows, &order, &attributes)?,
+    })
+}
+
+#[cfg(test)]
+mod tests;
