@@ -8,7 +8,7 @@ use Rattle.fca_command.specs.Experts.{experts_said, count_said}
 use Rattle.fca_command.specs.declared.command.Form.{Form}
 use Rattle.fca_command.specs.declared.command.Form.TheVariants.{Cxt, Csv}
 use Rattle.fca_command.specs.declared.command.Command.{Command}
-use Rattle.fca_command.specs.declared.command.Command.TheVariants.{Concepts, Lattice, Basis, Follows, Convert, Replay, Explore, Serve}
+use Rattle.fca_command.specs.declared.command.Command.TheVariants.{Concepts, Lattice, Basis, Direct, Follows, Convert, Reduce, Arrows, Replay, Explore, Serve}
 
 -- ---- the words behind a command's file
 
@@ -31,6 +31,11 @@ lattice_command file _ = None
 abbrev pub basis_command : Text → List Text → Option Command
 basis_command file later = option_map (λ json. Basis file json) (json_said later)
 
+-- `direct F`
+abbrev pub direct_command : Text → List Text → Option Command
+direct_command file [] = Some (Direct file)
+direct_command file _ = None
+
 -- `follows F A B`
 abbrev pub follows_command : Text → List Text → Option Command
 follows_command file (premise ∷ conclusion ∷ []) = Some (Follows file premise conclusion)
@@ -44,6 +49,16 @@ form_named word = cond (bytes_eq word (codes "cxt")) (Some Cxt) (cond (bytes_eq 
 abbrev pub convert_command : Text → List Text → Option Command
 convert_command file (word ∷ []) = option_map (λ to. Convert file to) (form_named word)
 convert_command file _ = None
+
+-- `reduce F`
+abbrev pub reduce_command : Text → List Text → Option Command
+reduce_command file [] = Some (Reduce file)
+reduce_command file _ = None
+
+-- `arrows F`
+abbrev pub arrows_command : Text → List Text → Option Command
+arrows_command file [] = Some (Arrows file)
+arrows_command file _ = None
 
 -- `replay F`
 abbrev pub replay_command : Text → List Text → Option Command
@@ -70,11 +85,14 @@ file_command name file later =
     (cond (bytes_eq name (codes "concepts")) (concepts_command file later)
     (cond (bytes_eq name (codes "lattice")) (lattice_command file later)
     (cond (bytes_eq name (codes "basis")) (basis_command file later)
+    (cond (bytes_eq name (codes "direct")) (direct_command file later)
     (cond (bytes_eq name (codes "follows")) (follows_command file later)
     (cond (bytes_eq name (codes "convert")) (convert_command file later)
+    (cond (bytes_eq name (codes "reduce")) (reduce_command file later)
+    (cond (bytes_eq name (codes "arrows")) (arrows_command file later)
     (cond (bytes_eq name (codes "replay")) (replay_command file later)
     (cond (bytes_eq name (codes "explore")) (explore_command file later)
-    (cond (bytes_eq name (codes "serve")) (serve_command file later) None))))))))
+    (cond (bytes_eq name (codes "serve")) (serve_command file later) None)))))))))))
 
 -- the command of this name over the file that the next word names
 abbrev pub over_file : Text → List Text → Option Command
@@ -100,8 +118,11 @@ abbrev pub reported : Command → Option Text
 reported (Concepts file json) = Some file
 reported (Lattice file) = Some file
 reported (Basis file json) = Some file
+reported (Direct file) = Some file
 reported (Follows file premise conclusion) = Some file
 reported (Convert file to) = Some file
+reported (Reduce file) = Some file
+reported (Arrows file) = Some file
 reported _ = None
 
 -- the files that a command reads, in their order, where it reports on this one or on none

@@ -3,7 +3,7 @@
 ghost use Rattle.std.specs.Prelude.{◌≡◌, IfOk, IfSome, option_copied};
 ghost use Rattle.std.specs.List.{list_all};
 ghost use Rattle.std.specs.Str.{is_utf8};
-ghost use Rattle.fca_command.specs.Commands.{command_form, text_command, named_command, over_file, file_command, concepts_command, lattice_command, basis_command, json_said, follows_command, convert_command, form_named, replay_command, explore_command, serve_command, reported, files_of, first_of, IsWithinLimits};
+ghost use Rattle.fca_command.specs.Commands.{command_form, text_command, named_command, over_file, file_command, concepts_command, lattice_command, basis_command, json_said, direct_command, follows_command, convert_command, form_named, reduce_command, arrows_command, replay_command, explore_command, serve_command, reported, files_of, first_of, IsWithinLimits};
 
 use crate::experts::{count_said, experts_said};
 use crate::words::Words;
@@ -31,6 +31,9 @@ pub enum Command {
         file: Word,
         json: bool,
     },
+    Direct {
+        file: Word,
+    },
     Follows {
         file: Word,
         premise: Word,
@@ -39,6 +42,12 @@ pub enum Command {
     Convert {
         file: Word,
         to: Form,
+    },
+    Reduce {
+        file: Word,
+    },
+    Arrows {
+        file: Word,
     },
     Replay {
         file: Word,
@@ -63,8 +72,11 @@ impl Command {
             Command::Concepts { file, .. }
             | Command::Lattice { file }
             | Command::Basis { file, .. }
+            | Command::Direct { file }
             | Command::Follows { file, .. }
-            | Command::Convert { file, .. } => Some(file),
+            | Command::Convert { file, .. }
+            | Command::Reduce { file }
+            | Command::Arrows { file } => Some(file),
             _ => None,
         }
     }
@@ -77,8 +89,11 @@ impl Command {
             Command::Concepts { file, .. }
             | Command::Lattice { file }
             | Command::Basis { file, .. }
+            | Command::Direct { file }
             | Command::Follows { file, .. }
             | Command::Convert { file, .. }
+            | Command::Reduce { file }
+            | Command::Arrows { file }
             | Command::Replay { file }
             | Command::Explore { file, .. }
             | Command::Serve { file, .. } => file.bytes(),
@@ -159,10 +174,16 @@ fn file_command(
         Ok(lattice_command(file, later))
     } else if name == b"basis".as_slice() {
         Ok(basis_command(file, later))
+    } else if name == b"direct".as_slice() {
+        Ok(direct_command(file, later))
     } else if name == b"follows".as_slice() {
         follows_command(alloc, file, later)
     } else if name == b"convert".as_slice() {
         Ok(convert_command(file, later))
+    } else if name == b"reduce".as_slice() {
+        Ok(reduce_command(file, later))
+    } else if name == b"arrows".as_slice() {
+        Ok(arrows_command(file, later))
     } else if name == b"replay".as_slice() {
         Ok(replay_command(file, later))
     } else if name == b"explore".as_slice() {
@@ -211,6 +232,16 @@ fn json_said(words: &[Word]) -> Option<bool>
     }
 }
 
+fn direct_command(file: Word, later: &[Word]) -> Option<Command>
+    ensures command { result ≡ direct_command file later.now }
+    ensures limits { IfSome result IsWithinLimits }
+{
+    match later {
+        [] => Some(Command::Direct { file }),
+        _ => None,
+    }
+}
+
 fn follows_command(alloc: Global, file: Word, later: &[Word]) -> Result<Option<Command>, Memory>
     ensures command { IfOk result (λ command. command ≡ follows_command file later.now) }
     ensures limits { IfOk result (λ command. IfSome command IsWithinLimits) }
@@ -248,6 +279,26 @@ fn form_named(word: &[u8]) -> Option<Form>
         Some(Form::Csv)
     } else {
         None
+    }
+}
+
+fn reduce_command(file: Word, later: &[Word]) -> Option<Command>
+    ensures command { result ≡ reduce_command file later.now }
+    ensures limits { IfSome result IsWithinLimits }
+{
+    match later {
+        [] => Some(Command::Reduce { file }),
+        _ => None,
+    }
+}
+
+fn arrows_command(file: Word, later: &[Word]) -> Option<Command>
+    ensures command { result ≡ arrows_command file later.now }
+    ensures limits { IfSome result IsWithinLimits }
+{
+    match later {
+        [] => Some(Command::Arrows { file }),
+        _ => None,
     }
 }
 
