@@ -5,14 +5,18 @@ use Rattle.fca_model.specs.Tables.{Text, NamedContext}
 use Rattle.fca_model.specs.Pseudo.{basis, covers}
 use Rattle.fca_io.specs.Shelves.{Told}
 use Rattle.lectic_concepts.specs.Concepts.{concepts}
+use Rattle.direct_basis.specs.Direct.{direct}
+use Rattle.context_reduce.specs.Reduce.{irreducible_objects, irreducible_attributes, table_part}
+use Rattle.context_reduce.specs.Arrows.{arrow_table}
+use Rattle.context_reduce.specs.Texts.{arrows_text}
 use Rattle.cxt_format.specs.Written.{cxt_text}
 use Rattle.csv_context.specs.Written.{csv_text}
 use Rattle.basis_report.specs.Json.{concepts_json, basis_json}
-use Rattle.basis_report.specs.Reports.{concepts_text, lattice_text, basis_text}
+use Rattle.basis_report.specs.Reports.{concepts_text, lattice_text, basis_text, direct_text}
 use Rattle.basis_report.specs.Verdicts.{follows_text}
 use Rattle.fca_command.specs.Attributes.{attributes_said}
 use Rattle.fca_command.specs.declared.command.Command.{Command}
-use Rattle.fca_command.specs.declared.command.Command.TheVariants.{Concepts, Lattice, Basis, Follows, Convert}
+use Rattle.fca_command.specs.declared.command.Command.TheVariants.{Concepts, Lattice, Basis, Direct, Follows, Convert, Reduce, Arrows}
 use Rattle.fca_command.specs.declared.command.Form.{Form}
 use Rattle.fca_command.specs.declared.command.Form.TheVariants.{Cxt, Csv}
 use Rattle.command_io.specs.Readings.{Reading, then, known}
@@ -30,6 +34,10 @@ table_lattice table = lattice_text table (concepts table.context) (covers table.
 -- the basis, as JSON or as a list
 abbrev pub table_basis : Bool → NamedContext → Text
 table_basis json table = cond json (basis_json table.attributes (basis table.context)) (basis_text table.attributes (basis table.context))
+
+-- the direct basis
+abbrev pub table_direct : NamedContext → Text
+table_direct table = direct_text table.attributes (direct table.context)
 
 -- whether the implication from P to C holds
 abbrev pub table_verdict : Set → Set → NamedContext → Text
@@ -50,13 +58,24 @@ abbrev pub table_written : Form → NamedContext → Text
 table_written Cxt table = cxt_text table
 table_written Csv table = csv_text table
 
+-- the table of the irreducible objects and attributes
+abbrev pub table_reduced : NamedContext → Text
+table_reduced table = cxt_text (table_part table (irreducible_objects table.context) (irreducible_attributes table.context))
+
+-- the arrows between its objects and attributes
+abbrev pub table_arrows : NamedContext → Text
+table_arrows table = arrows_text table (arrow_table table.context)
+
 -- what the command reports of the table, where it is one that reports on a table
 abbrev pub table_report : Command → NamedContext → Reading Text
 table_report (Concepts file json) table = Read (table_concepts json table)
 table_report (Lattice file) table = Read (table_lattice table)
 table_report (Basis file json) table = Read (table_basis json table)
+table_report (Direct file) table = Read (table_direct table)
 table_report (Follows file premise conclusion) table = verdict_read premise conclusion table
 table_report (Convert file to) table = Read (table_written to table)
+table_report (Reduce file) table = Read (table_reduced table)
+table_report (Arrows file) table = Read (table_arrows table)
 table_report _ table = Refused
 
 -- what the command reports of the table in the file

@@ -1,5 +1,5 @@
-//! What the commands report of one table: its concepts, its lattice, its basis, whether an implication holds in it, and the table
-//! itself.
+//! What the commands report of one table: its concepts, its lattice, its bases, whether an implication holds in it, its arrows, and the
+//! table itself, whole or reduced.
 
 ghost use Rattle.std.specs.Prelude.{◌≡◌, ◌⊎◌, true, false, Some, IfOk, IfErr, length, is_some};
 ghost use Rattle.fca_io.specs.Faults.{Rose};
@@ -7,18 +7,20 @@ ghost use Rattle.fca_command.specs.Commands.{reported};
 ghost use Rattle.command_io.specs.Readings.{MayRead};
 ghost use Rattle.command_io.specs.Readings.Reading.{Refused, Read};
 ghost use Rattle.command_io.specs.Endings.{stop_status, Stops};
-ghost use Rattle.fca_program.specs.Reports.{attributes_read, table_concepts, table_lattice, table_basis, table_verdict, verdict_read, table_written, table_report, report_read};
+ghost use Rattle.fca_program.specs.Reports.{attributes_read, table_concepts, table_lattice, table_basis, table_direct, table_verdict, verdict_read, table_written, table_reduced, table_arrows, table_report, report_read};
 ghost use Rattle.fca_program.specs.Endings.{IsReportStop};
 
 use attr_bits::Attrs;
 use basis_report::{
-    basis_json, basis_text, concepts_json, concepts_text, follows_text, lattice_text,
+    basis_json, basis_text, concepts_json, concepts_text, direct_text, lattice_text, verdict_text,
 };
 use canonical_basis::basis;
 use command_io::{Answer, Origin, Stop, table_under};
+use context_reduce::{arrows, arrows_text, irreducible, part};
 use context_table::Table;
 use csv_context::write_csv;
 use cxt_format::write_cxt;
+use direct_basis::proper_premises;
 use fca_command::{Command, Form, attributes_said};
 use fca_io::Shelf;
 use fca_model::{Memory, Word};
@@ -62,12 +64,15 @@ fn report_on<R: Threads + Sync>(
         Command::Concepts { json, .. } => Ok(table_concepts(alloc, *json, table)?),
         Command::Lattice { .. } => Ok(table_lattice(alloc, table)?),
         Command::Basis { json, .. } => Ok(table_basis(rt, alloc, *json, table)?),
+        Command::Direct { .. } => Ok(table_direct(alloc, table)?),
         Command::Follows {
             premise,
             conclusion,
             ..
         } => verdict(rt, alloc, table, premise, conclusion),
         Command::Convert { to, .. } => Ok(table_written(alloc, *to, table)?),
+        Command::Reduce { .. } => Ok(table_reduced(alloc, table)?),
+        Command::Arrows { .. } => Ok(table_arrows(alloc, table)?),
         _ => unreachable!(),
     }
 }
@@ -109,6 +114,14 @@ fn table_basis<R: Threads + Sync>(
     } else {
         basis_text(alloc, table, &basis)
     }
+}
+
+/// The direct basis of the table.
+fn table_direct(alloc: Global, table: &Table) -> Result<Vec<u8>, Memory>
+    ensures { IfOk result (λ text. text.items ≡ table_direct table.now) }
+{
+    let list = proper_premises(alloc, table.rows())?;
+    direct_text(alloc, table, &list)
 }
 
 /// Whether the implication between the attributes that the words name holds in the table.
@@ -153,8 +166,7 @@ fn table_verdict<R: Threads + Sync>(
     requires conclusion { length conclusion.now ≡ table.now.context.width }
     ensures { IfOk result (λ text. text.items ≡ table_verdict premise.now conclusion.now table.now) }
 {
-    let basis = basis(rt, alloc, table.rows())?;
-    follows_text(alloc, table, &basis, premise, conclusion)
+    verdict_text(rt, alloc, table, premise, conclusion)
 }
 
 /// The table in this form.
@@ -165,4 +177,21 @@ fn table_written(alloc: Global, to: Form, table: &Table) -> Result<Vec<u8>, Memo
         Form::Cxt => write_cxt(alloc, table),
         Form::Csv => write_csv(alloc, table),
     }
+}
+
+/// The table of its irreducible objects and attributes, in the Burmeister form.
+fn table_reduced(alloc: Global, table: &Table) -> Result<Vec<u8>, Memory>
+    ensures { IfOk result (λ text. text.items ≡ table_reduced table.now) }
+{
+    let kept = irreducible(alloc, table)?;
+    let reduced = part(alloc, table, &kept)?;
+    write_cxt(alloc, &reduced)
+}
+
+/// The arrows between the objects and the attributes of the table.
+fn table_arrows(alloc: Global, table: &Table) -> Result<Vec<u8>, Memory>
+    ensures { IfOk result (λ text. text.items ≡ table_arrows table.now) }
+{
+    let arrows = arrows(alloc, table)?;
+    arrows_text(alloc, table, &arrows)
 }

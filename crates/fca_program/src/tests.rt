@@ -44,7 +44,13 @@ const CONTRANOMINAL: &[u8] = b"B\n\n3\n3\n\n1\n2\n3\na\nb\nc\n.XX\nX.X\nXX.\n";
 const LIVING: &[u8] =
     b"B\n\n8\n9\n\nleech\nbream\nfrog\ndog\nspike-weed\nreed\nbean\nmaize\na\nb\nc\nd\ne\nf\ng\nh\ni\nXX....X..\nXX....XX.\nXXX...XX.\nX.X...XXX\nXX.X.X...\nXXXX.X...\nX.XXX....\nX.XX.X...\n";
 
-/// The same attributes, and no objects.
+/// Five objects of which proper premises are not all pseudo-intents.
+const PREMISES: &[u8] = b"B\n\n5\n4\n\n1\n2\n3\n4\n5\na\nb\nc\nd\n.XXX\n..XX\nXX.X\nXX..\n..X.\n";
+
+/// An object and an attribute that are reducible.
+const REDUCIBLE: &[u8] = b"B\n\n3\n3\n\ng\nh\nk\na\nb\nc\nXX.\nX.X\nX..\n";
+
+/// The attributes of the living beings, and no objects.
 const LIVING_ATTRIBUTES: &[u8] = b"B\n\n0\n9\n\na\nb\nc\nd\ne\nf\ng\nh\ni\n";
 
 /// How the exploration of these attributes by oracles of that table ends, in whatever order they answered.
@@ -149,7 +155,7 @@ const EXPLORATIONS: [Call; 11] = [
     ),
 ];
 
-const TABLES: [Call; 21] = [
+const TABLES: [Call; 24] = [
     (
         &[b"concepts", b"F"],
         NO_ATTRIBUTES,
@@ -264,6 +270,27 @@ const TABLES: [Call; 21] = [
         b"",
         0,
         b"object,a,b\ng,X,\n",
+    ),
+    (
+        &[b"direct", b"F"],
+        PREMISES,
+        b"",
+        0,
+        b"direct 3\n1 {b, c} -> {d}\n2 {a} -> {b}\n3 {a, c} -> {b, d}\n",
+    ),
+    (
+        &[b"reduce", b"F"],
+        REDUCIBLE,
+        b"",
+        0,
+        b"B\n\n2\n2\n\ng\nh\nb\nc\nX.\n.X\n",
+    ),
+    (
+        &[b"arrows", b"F"],
+        REDUCIBLE,
+        b"",
+        0,
+        b"arrows 3 3\nXXb g\nXbX h\nXuu k\n",
     ),
     (
         CONVERT_CSV,
