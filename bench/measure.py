@@ -18,13 +18,14 @@ def tables_folder():
 
 
 def table(seed, objects, attributes, density, form="cxt"):
-    """The path of the generated table, which is made where it is not there yet."""
+    """The path of the table that `make` gives of these numbers, in this form; it is made where it is not there yet."""
     path = os.path.join(tables_folder(), "%d-%d-%d-%d.%s" % (seed, objects, attributes, density, form))
     if not os.path.exists(path):
-        script = os.path.join(TOP, "bench", "table.py")
+        words = ["make"] + [str(number) for number in (seed, objects, attributes, density)]
+        if form != "cxt":
+            words = ["convert", table(seed, objects, attributes, density), form]
         with open(path + ".part", "wb") as out:
-            words = [script, str(seed), str(objects), str(attributes), str(density), form]
-            subprocess.run(["python3"] + words, stdout=out, check=True)
+            subprocess.run([FCA] + words, stdout=out, check=True)
         os.rename(path + ".part", path)
     return path
 

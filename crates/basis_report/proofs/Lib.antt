@@ -7,3 +7,6 @@ pub mod VerdictLemmas
 pub mod ConflictLemmas
 pub mod WrittenLemmas
 pub mod NameLemmas
+pub mod ConceptLemmas
+pub mod SurveyLemmas
+pub mod SurveyExamples

@@ -5,3 +5,4 @@ pub mod Conflicts
 pub mod Json
 pub mod Sessions
 pub mod Verdicts
+pub mod Surveys

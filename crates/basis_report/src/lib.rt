@@ -9,14 +9,16 @@ mod json_lines;
 pub mod laws;
 mod names;
 mod sessions;
+mod surveys;
 #[cfg(test)]
 mod tests;
 mod verdicts;
 
-pub use concepts::{concepts_text, lattice_text};
+pub use concepts::{concepts_text, lattice_text, table_concepts_text, table_lattice_text};
 pub use conflicts::conflicts_text;
 pub use explorations::explore_text;
 pub use implications::{basis_text, direct_text};
 pub use json_lines::{basis_json, concepts_json};
 pub use sessions::sessions_text;
+pub use surveys::survey_text;
 pub use verdicts::{follows_text, verdict_text};

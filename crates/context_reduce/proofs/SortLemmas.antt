@@ -1,6 +1,7 @@
 -- Rows that were seen, and rows in lectic order. A set comes before each set that strictly contains it, so the rows that strictly contain X are, of the sorted
 -- rows that come behind X, those that contain it. What they have in common does not depend on their order.
 use Rattle.std.proofs.Common.{◌≡◌, ℕ, zero, suc, ◌+◌, ◌<◌, ◌≤◌, Bool, true, false, not, ◌&&◌, ◌||◌, List, [], ◌∷◌, cond, filter, fold, take, drop, length, get_or, refl, sym, ap, ap₂, ◌∙◌, arith, eqb, eqb-true}
+use Rattle.std.proofs.Math.Bool.{and-false}
 use Rattle.std.proofs.lemmas.Bool.{false≢true, and_parts, and_from, not-false}
 use Rattle.std.proofs.lemmas.List.{take_more}
 use Rattle.std.proofs.lemmas.List.Folds.{list_any-append}
@@ -14,7 +15,7 @@ use Rattle.fca_model.specs.Sets.{Set, within, meet, full, same, strictly_within,
 use Rattle.fca_model.specs.SetLaws.{lectic_total, lectic_ties}
 use Rattle.fca_model.specs.Context.{Context}
 use Rattle.fca_model.proofs.ListLemmas.{bool_iff, list_all-filter, filter_agree_on, filter-filter, filter_all}
-use Rattle.fca_model.proofs.SetLemmas.{same_from, same-true, strictly-parts, strictly_from, lectic_first, lectic_refl}
+use Rattle.fca_model.proofs.SetLemmas.{within_trans, same_from, same-true, strictly-parts, strictly_from, lectic_first, lectic_refl}
 use Rattle.lectic_concepts.proofs.AboveLemmas.{above_from_strictly}
 use Rattle.context_reduce.specs.Reduce.{meet_of_larger, AreSorted}
 use Rattle.context_reduce.proofs.RangeLemmas.{all_by_place, all_wide}
@@ -106,3 +107,20 @@ meet_of_later K Rs X n sorted wide le point =
     ∙ sym (filter_agree_on (λ Y. eqb (length Y) K.width) (strictly_within X) (λ Y. later X Y && within X Y) (λ Y e. strictly_later X Y (wide ∙ sym (eqb-true (length Y) K.width e))) Rs
     (all_wide K.width Rs sorted.even)))
     ∙ sym (meets_permuted (full K.width) (strictly_within X) K.rows Rs sorted.rows)
+
+-- ---- groups
+
+-- what contains X is in the group of a set within X
+pub meet_in_group : (K : Context) (A X : Set) → within A X ≡ true → meet_of_larger (record K { rows = filter (within A) K.rows }) X ≡ meet_of_larger K X
+meet_in_group K A X inside =
+    ap (fold meet (full K.width))
+    (filter-filter (strictly_within X) (within A) K.rows
+    ∙ filter_agree_on (λ Y. true) (λ Y. within A Y && strictly_within X Y) (strictly_within X) (λ Y t. each Y (strictly_within X Y) refl) K.rows (all_true K.rows))
+  where
+    each : (Y : Set) (b : Bool) → strictly_within X Y ≡ b → (within A Y && strictly_within X Y) ≡ strictly_within X Y
+    each Y true e = ap₂ (λ a b. a && b) (within_trans A X Y inside (strictly-parts X Y e).0) e ∙ sym e
+    each Y false e = ap (λ b. within A Y && b) e ∙ and-false (within A Y) ∙ sym e
+
+    all_true : (Ys : List Set) → list_all (λ Y. true) Ys ≡ true
+    all_true [] = refl
+    all_true (Y ∷ Ys) = all_true Ys

@@ -1,10 +1,16 @@
--- A row that is drawn cell by cell. Before cell j the row has the cells that were drawn at the places below j and no member from j on; a cross is put in at
--- its place, and a cell without one is there already. At the end the row is the list of all its cells. The state that the next row begins with is the one
+-- A row that is drawn block by block. Before a block from cell j on the row has the cells that were drawn at the places below j and no member from j on; the
+-- bits of a block are put in at their places. At the end the row is the list of all its cells. The state that a block or the next row begins with is the one
 -- after all cells so far, since steps add up.
-use Rattle.std.proofs.Common.{◌≡◌, ℕ, zero, suc, ◌+◌, ◌*◌, ◌<◌, ◌≤◌, ◌≢◌, Bool, true, false, List, map, length, get_or, set, replicate, sym, ap, ◌∙◌, arith, get_or-set_same, get_or-set_other, length-set, add-one, below_more}
+use Rattle.std.proofs.Common.{◌≡◌, ℕ, zero, suc, ◌+◌, ◌-◌, ◌*◌, ◌^◌, ◌<◌, ◌≤◌, Bool, true, false, ◌&&◌, ◌||◌, cond, eqb, nat_le, List, map, length, get_or, replicate, refl, ap, ap₂, ◌∙◌, arith, inl, inr, min, add-one}
 use Rattle.std.specs.List.{range_with_len}
+use Rattle.std.specs.Int.{bit_at}
+use Rattle.std.proofs.Math.Bool.{or-false, and-false}
+use Rattle.std.proofs.lemmas.Bool.{cases_lt, le-leb, lt-leb}
 use Rattle.std.proofs.lemmas.List.{get_or-replicate, length-replicate}
 use Rattle.std.proofs.lemmas.List.FromFn.{fill_by_all}
+use Rattle.std.proofs.lemmas.Nat.Bits.{bit_at_above}
+use Rattle.attr_bits.specs.Words.{number_of}
+use Rattle.attr_bits.specs.WordLaws.{number_of_small, bit_at-number_of}
 use Rattle.context_table.specs.Generated.{next_state, state_after}
 
 -- of the n cells those below j are drawn, and the others are empty
@@ -16,18 +22,31 @@ pub record HasCells (cell : ℕ → Bool) (n j : ℕ) (row : List Bool) : Type 0
 pub HasCells-none : (cell : ℕ → Bool) (n : ℕ) → HasCells cell n 0 (replicate n false)
 HasCells-none cell n = record { wide = length-replicate n false; drawn = λ k lt. absurd (omega arith); empty = λ k le lt. get_or-replicate n k false false lt }
 
-pub HasCells-cross : (cell : ℕ → Bool) (n j : ℕ) (row : List Bool) → HasCells cell n j row → j < n → cell j ≡ true → HasCells cell n (j + 1) (set row j true)
-HasCells-cross cell n j row h lt cross =
-    let in_row : j < length row = omega (arith, h.wide) in
-    record {
-      wide = length-set row j true ∙ h.wide;
-      drawn = below_more _ _ (λ k below. let other : k ≢ j = omega arith in rw get_or-set_other (h.drawn k below)) (rw get_or-set_same (sym cross));
-      empty = λ k le lt2. let other : k ≢ j = omega arith in rw get_or-set_other (h.empty k (omega arith) lt2);
-    }
+pub HasCells-block : (cell drawn : ℕ → Bool) (n j count bits : ℕ) (row new : List Bool) → HasCells cell n j row → j < n → count ≡ min (n - j) 64
+    → bits ≡ number_of drawn count → ((i : ℕ) → i < count → drawn i ≡ cell (j + i)) → length new ≡ length row
+    → ((i : ℕ) → i < length row → get_or new i false ≡ (get_or row i false || (nat_le j i && eqb (bit_at bits (i - j)) 1))) → HasCells cell n (j + count) new
+HasCells-block cell drawn n j count bits row new h lt few is same wide put = record {
+  wide = wide ∙ h.wide;
+  drawn = λ k below. put k (omega (arith, h.wide)) ∙ elim (cases_lt k j) [
+    | inl before ↦ ap₂ (λ x y. x || (y && eqb (bit_at bits (k - j)) 1)) (h.drawn k before) (lt-leb j k before) ∙ or-false (cell k)
+    | inr later ↦
+        let back : j + (k - j) ≡ k = omega arith in
+        ap₂ (λ x y. x || (y && eqb (bit_at bits (k - j)) 1)) (h.empty k later (omega arith)) (le-leb j k later)
+        ∙ ap (λ x. eqb (bit_at x (k - j)) 1) is ∙ ap (λ x. eqb x 1) (bit_at-number_of drawn count (k - j) (omega arith)) ∙ one (drawn (k - j))
+        ∙ same (k - j) (omega arith) ∙ ap cell back
+  ];
+  empty = λ k le inside. put k (omega (arith, h.wide))
+      ∙ ap₂ (λ x y. x || (nat_le j k && eqb y 1)) (h.empty k (omega arith) inside) (ap (λ x. bit_at x (k - j)) is ∙ bit_at_above (number_of drawn count) count (k - j) (number_of_small drawn count) (omega arith))
+      ∙ and-false (nat_le j k);
+}
+  where
+    one : (b : Bool) → eqb (cond b 1 0) 1 ≡ b
+    one true = refl
+    one false = refl
 
-pub HasCells-blank : (cell : ℕ → Bool) (n j : ℕ) (row : List Bool) → HasCells cell n j row → j < n → cell j ≡ false → HasCells cell n (j + 1) row
-HasCells-blank cell n j row h lt blank =
-    record { wide = h.wide; drawn = below_more _ _ h.drawn (h.empty j (omega arith) lt ∙ sym blank); empty = λ k le lt2. h.empty k (omega arith) lt2 }
+pub number_of-more : (f : ℕ → Bool) (m : ℕ) → number_of f (m + 1) ≡ number_of f m + cond (f m) (2 ^ m) 0
+unfolding number_of
+number_of-more f m = ap (number_of f) (add-one m)
 
 pub map-cells : (cell : ℕ → Bool) (n : ℕ) (row : List Bool) → HasCells cell n n row → row ≡ map cell (range_with_len 0 n)
 map-cells cell n row h = fill_by_all cell row n false h.wide h.drawn

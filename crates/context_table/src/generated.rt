@@ -1,6 +1,7 @@
 //! What a generated table is made of: cells that are drawn one by one, and names by number.
 
-ghost use Rattle.std.specs.Prelude.{◌≡◌, ◌≤◌, IfOk, None};
+ghost use Rattle.std.specs.Prelude.{◌≡◌, ◌+◌, ◌≤◌, IfOk, None};
+ghost use Rattle.attr_bits.specs.Words.{number_of};
 ghost use Rattle.context_table.specs.Generated.{next_state, state_after, is_cross, row_from, rows_from, numbered};
 ghost use Rattle.fca_model.specs.Names.{name_fault};
 
@@ -17,6 +18,9 @@ const INCREMENT: u64 = 1_442_695_040_888_963_407;
 
 /// How many bits lie below the three highest, which decide on a cell.
 const LOWER: u32 = 61;
+
+/// How many cells are put into a row at once.
+const BLOCK: u32 = 64;
 
 /// A linear congruential generator of cells.
 #[derive(Drop)]
@@ -47,6 +51,22 @@ impl Cells {
         self.state >> LOWER < u64::from(self.density)
     }
 
+    /// The next cells as bits, from the lowest on.
+    fn bits(&mut self, count: u32) -> u64
+        requires { count ≤ 64 }
+        ensures state { self.new.state ≡ state_after count self.old.state }
+        ensures density { self.new.density ≡ self.old.density }
+        ensures cells { result ≡ number_of (λ j. is_cross self.old.density (state_after (j + 1) self.old.state)) count }
+    {
+        let mut bits = 0;
+        for j in 0..count {
+            if self.next_cell() {
+                bits += 1u64 << j;
+            }
+        }
+        bits
+    }
+
     /// The next n cells.
     fn row(&mut self, n: u32) -> Attrs
         requires { n ≤ MAX_ATTRIBUTES }
@@ -55,10 +75,9 @@ impl Cells {
         ensures row { result ≡ row_from self.old.density n self.old.state }
     {
         let mut row = Attrs::empty(n);
-        for j in 0..n {
-            if self.next_cell() {
-                row.insert(j);
-            }
+        for block in 0..n.div_ceil(BLOCK) {
+            let from = BLOCK * block;
+            row.insert_bits(from, self.bits((n - from).min(BLOCK)));
         }
         row
     }

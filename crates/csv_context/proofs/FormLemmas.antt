@@ -1,14 +1,14 @@
 -- One field, and one record, more. What is left of a record after a field is one field shorter, and the form goes on from there with what
 -- the field says.
-use Rattle.std.proofs.Common.{◌≡◌, ◌∙◌, ◌<◌, ◌+◌, ◌-◌, ◌++◌, ◌∷◌, [], ℕ, suc, Bool, true, false, List, Some, None, Result, Ok, Err, drop, length, replicate, set, slice_get, bytes_eq, inl, inr, refl, sym, ap, length-append, append_assoc, arith}
+use Rattle.std.proofs.Common.{◌≡◌, ◌∙◌, ◌<◌, ◌+◌, ◌-◌, ◌++◌, ◌∷◌, [], ℕ, suc, Bool, true, false, List, Some, None, Result, Ok, Err, drop, length, replicate, set, slice_get, bytes_eq, inl, inr, refl, sym, ap, subst, length-append, append_assoc, arith}
 use Rattle.std.specs.Prelude.{◌⊎◌, IsErr, IsErrAnd}
 use Rattle.fca_model.specs.Sets.{Set}
 use Rattle.fca_model.specs.Tables.{Text}
 use Rattle.std.proofs.lemmas.Bool.{cases_Bool}
 use Rattle.std.proofs.lemmas.List.{append-nil}
+use Rattle.std.proofs.Math.Seq.{set-append_seam}
 use Rattle.std.specs.List.{list_any}
 use Rattle.context_table.specs.Table.{first_repeat, repeat_from}
-use Rattle.cxt_format.proofs.RowLemmas.{set-front}
 use Rattle.cxt_format.proofs.TextLemmas.{drop-item}
 use Rattle.csv_context.specs.Records.{Record}
 use Rattle.csv_context.specs.Form.{TellsBy, then, attribute_form, attributes_form, cell_form, row_form}
@@ -52,6 +52,13 @@ repeat_from-append before (x ∷ names) i name none new = elim (cases_Bool (list
 -- a name that was not seen is no repeat
 pub first_repeat-append : (names : List Text) (name : Text) → first_repeat names ≡ None → list_any (bytes_eq name) names ≡ false → first_repeat (names ++ name ∷ []) ≡ None
 first_repeat-append names name none new = repeat_from-append [] names 0 name none new
+
+-- ---- one mark more at the front of a row
+
+pub set-front : (front : Set) (i k : ℕ) → length front ≡ i → set (front ++ replicate (suc k) false) i true ≡ front ++ true ∷ [] ++ replicate k false
+set-front front i k placed =
+    let P : ℕ → Type 0 = λ j. set (front ++ replicate (suc k) false) j true ≡ front ++ true ∷ [] ++ replicate k false in
+    subst P placed (set-append_seam front false (replicate k false) true ∙ sym (append_assoc front (true ∷ []) (replicate k false)))
 
 -- ---- the cells of an object
 

@@ -25,16 +25,23 @@ pub fn field_at(fields: &ByteRecord, place: usize) -> &[u8]
     }
 }
 
+/// The field as text.
+pub fn text_of(field: &[u8]) -> &str
+    requires { IsUtf8 field.now }
+    ensures { result.now ≡ field.now }
+{
+    match str::from_utf8(field) {
+        Ok(text) => text,
+        Err(_) => unreachable!(),
+    }
+}
+
 /// The name in field `j` of record `i`.
 pub fn name_of(alloc: Global, i: usize, j: usize, field: &[u8]) -> Result<Name, CsvFault>
     requires { IsUtf8 field.now }
     ensures { Tells result (form.name_form i j field.now) }
 {
-    let text = match str::from_utf8(field) {
-        Ok(text) => text,
-        Err(_) => unreachable!(),
-    };
-    match Name::new(alloc, text) {
+    match Name::new(alloc, text_of(field)) {
         Ok(name) => Ok(name),
         Err(NameFault::Empty) => Err(CsvFault::EmptyName(i, j)),
         Err(NameFault::Long) => Err(CsvFault::LongName(i, j)),

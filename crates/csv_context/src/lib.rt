@@ -1,4 +1,4 @@
-//! The CSV form of tables: the reader and the writer of `.csv` files.
+//! The CSV form of tables: the reader and the writer of `.csv` files, and what reads records for other forms.
 #![tactic(auto)]
 
 ghost use Rattle.std.specs.Prelude.{◌≡◌};
@@ -9,7 +9,9 @@ mod records;
 mod write;
 
 use fca_model::Memory;
+pub use fields::{field_at, text_of};
 pub use read::read_csv;
+pub use records::{next_record, open};
 use std::alloc::{AllocError, AllocFailed};
 use thiserror::Error;
 pub use write::write_csv;

@@ -1,11 +1,11 @@
 //! The records of a text, one after the other.
 
-ghost use Rattle.std.specs.Prelude.{◌≡◌, IfOk, IfErr};
+ghost use Rattle.std.specs.Prelude.{◌≡◌, IfOk};
 ghost use Rattle.csv.specs.Records.{fields_of};
 ghost use Rattle.csv_context.specs.Records.{IsOpen, Reads, csv_records, records_left};
 
-use crate::CsvFault;
 use csv::{ByteRecord, Reader, ReaderBuilder};
+use fca_model::Memory;
 use std::alloc::Global;
 
 /// A reader of the records of the text, which may have any length.
@@ -20,12 +20,9 @@ pub fn open<'a>(alloc: Global, text: &'a str) -> Reader<&'a [u8]>
 }
 
 /// Reads the next record, and says whether there was one.
-pub fn next_record(reader: &mut Reader<&[u8]>, fields: &mut ByteRecord) -> Result<bool, CsvFault>
+pub fn next_record(reader: &mut Reader<&[u8]>, fields: &mut ByteRecord) -> Result<bool, Memory>
     requires { IsOpen reader.old }
-    ensures read { IfOk result (λ found. Reads reader.old reader.new found (fields_of fields.new)) }
-    ensures memory { IfErr result (λ e. e ≡ CsvFault.Memory) }
+    ensures { IfOk result (λ found. Reads reader.old reader.new found (fields_of fields.new)) }
 {
-    reader
-        .read_byte_record(fields)
-        .map_err(|_| CsvFault::Memory)
+    reader.read_byte_record(fields).map_err(|_| Memory)
 }

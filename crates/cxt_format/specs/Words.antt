@@ -1,6 +1,7 @@
 -- What one line of a Burmeister file says, by the line's place. Blanks are spaces and tabs.
-use Rattle.std.specs.Prelude.{ℕ, ◌+◌, ◌-◌, ◌*◌, ◌==◌, ◌||◌, ◌&&◌, nat_lt, zero, suc, Bool, true, false, not, cond, List, [], ◌∷◌, Option, Some, None, Result, Ok, Err, length, fold, codes, bytes_eq}
+use Rattle.std.specs.Prelude.{◌≡◌, ◌<◌, slice_index, ℕ, ◌+◌, ◌-◌, ◌*◌, ◌==◌, ◌||◌, ◌&&◌, nat_lt, zero, suc, Bool, true, false, not, cond, List, [], ◌∷◌, Option, Some, None, Result, Ok, Err, length, fold, codes, bytes_eq}
 use Rattle.std.specs.Char.{is_ascii_digit}
+use Rattle.std.specs.Int.{bit_at}
 use Rattle.std.specs.List.{list_all, list_any}
 use Rattle.fca_model.specs.Sets.{Set}
 use Rattle.fca_model.specs.Tables.{Text}
@@ -90,9 +91,21 @@ count_form most k line =
     (cond (nat_lt most (value_of (trimmed line))) (Err (fault.TooMany k)) (Ok (value_of (trimmed line))))
     (Err (fault.BadCount k))
 
+-- the character X, large or small
+abbrev pub is_cross : ℕ → Bool
+is_cross b = (b == 88) || (b == 120)
+
 -- a cross, or none
 abbrev pub mark_of : ℕ → Option Bool
-mark_of b = cond ((b == 88) || (b == 120)) (Some true) (cond (b == 46) (Some false) None)
+mark_of b = cond (is_cross b) (Some true) (cond (b == 46) (Some false) None)
+
+-- each character is a cross or none, and the bit at its place is 1 for a cross
+abbrev pub AreMarks : Line → ℕ → Type 0
+AreMarks cells bits = (j : ℕ) → j < length cells → mark_of (slice_index cells j) ≡ Some (bit_at bits j == 1)
+
+-- one of the characters is neither
+abbrev pub HasOther : Line → Type 0
+HasOther cells = (j : ℕ) × (j < length cells) × (mark_of (slice_index cells j) ≡ None)
 
 abbrev pub row_after : Option Bool → Option Set → Option Set
 row_after (Some mark) (Some row) = Some (mark ∷ row)

@@ -1,6 +1,6 @@
 //! What one line of a file says.
 
-ghost use Rattle.std.specs.Prelude.{◌≡◌, ◌<◌, ◌≤◌, ◌-◌, ◌^◌, length, min};
+ghost use Rattle.std.specs.Prelude.{◌≡◌, ◌<◌, ◌≤◌, ◌-◌, ◌^◌, MatchOption, length, min};
 ghost use Rattle.std.specs.Char.{is_ascii_digit};
 ghost use Rattle.std.specs.List.{list_all};
 ghost use Rattle.cxt_format.specs.Words as form;
@@ -10,6 +10,9 @@ use crate::CxtFault;
 use attr_bits::Attrs;
 use fca_model::{MAX_ATTRIBUTES, Name, NameFault};
 use std::alloc::Global;
+
+/// How many characters of a row are taken at once.
+const BLOCK: u32 = 64;
 
 /// Whether the byte is a space or a tab.
 fn is_blank(byte: u8) -> bool
@@ -133,15 +136,29 @@ pub fn name_of(alloc: Global, number: usize, line: &str) -> Result<Name, CxtFaul
     }
 }
 
-/// Whether the character is a cross, or none where it is no character of a row.
-fn mark_of(byte: u8) -> Option<bool>
-    ensures { result ≡ form.mark_of byte }
+/// Whether the character is a cross.
+fn is_cross(byte: u8) -> bool
+    ensures { result ≡ form.is_cross byte }
 {
-    match byte {
-        b'X' | b'x' => Some(true),
-        b'.' => Some(false),
-        _ => None,
+    byte == b'X' || byte == b'x'
+}
+
+/// The crosses among at most 64 characters as bits, from the lowest on, or none where one is no character of a row.
+fn crosses_of(cells: &[u8]) -> Option<u64>
+    requires { length cells.now ≤ 64 }
+    ensures { MatchOption result (form.HasOther cells.now) (form.AreMarks cells.now) }
+{
+    let mut crosses = 0;
+    for j in 0..cells.len() {
+        let cross = is_cross(cells[j]);
+        if !cross & (cells[j] != b'.') {
+            return None;
+        }
+        if cross {
+            crosses += 1u64 << j;
+        }
     }
+    Some(crosses)
 }
 
 /// The row of `width` attributes on line `number`.
@@ -153,13 +170,12 @@ pub fn row_of(width: u32, number: usize, line: &[u8]) -> Result<Attrs, CxtFault>
         return Err(CxtFault::BadRow(number));
     }
     let mut row = Attrs::empty(width);
-    for i in 0..width {
-        let cross = match mark_of(line[i as usize]) {
-            Some(cross) => cross,
+    for block in 0..width.div_ceil(BLOCK) {
+        let from = BLOCK * block;
+        let end = width.min(from + BLOCK);
+        match crosses_of(&line[from as usize..end as usize]) {
+            Some(crosses) => row.insert_bits(from, crosses),
             None => return Err(CxtFault::BadRow(number)),
-        };
-        if cross {
-            row.insert(i);
         }
     }
     Ok(row)

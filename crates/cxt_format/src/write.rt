@@ -1,6 +1,6 @@
 //! The writer.
 
-ghost use Rattle.std.specs.Prelude.{◌≡◌, ◌++◌, ◌∷◌, [], IfOk, OnOk, Ok, map};
+ghost use Rattle.std.specs.Prelude.{◌≡◌, ◌≤◌, ◌+◌, ◌-◌, ◌++◌, ◌∷◌, [], IfOk, OnOk, Ok, map, length, take, drop};
 ghost use Rattle.std.specs.Option.{ForSome};
 ghost use Rattle.std.specs.Fmt.{decimal};
 ghost use Rattle.fca_model.specs.Names.{IsName};
@@ -16,6 +16,9 @@ use std::alloc::Global;
 
 /// The characters of a place without a cross and with one.
 const MARKS: [u8; 2] = [b'.', b'X'];
+
+/// How many characters of a row are put at once.
+const BLOCK: u32 = 64;
 
 /// The written form of the table.
 pub fn write_cxt(alloc: Global, table: &Table) -> Result<Vec<u8>, Memory>
@@ -91,11 +94,28 @@ fn write_rows(text: &mut Vec<u8>, rows: &Rows) -> Result<(), Memory>
 fn write_row(text: &mut Vec<u8>, row: &Attrs) -> Result<(), Memory>
     ensures { OnOk result (text.new.items ≡ text.old.items ++ row_line row.now ++ 10 ∷ []) }
 {
-    for i in 0..row.width() {
-        text.push(MARKS[usize::from(row.has(i))])?;
+    for block in 0..row.width().div_ceil(BLOCK) {
+        let from = BLOCK * block;
+        let end = row.width().min(from + BLOCK);
+        let marks = marks_of(row, from, end);
+        text.extend_from_slice(&marks[..(end - from) as usize])?;
     }
     text.push(b'\n')?;
     Ok(())
+}
+
+/// The characters of the places from `from` to `end`, with nothing meant from there on.
+fn marks_of(row: &Attrs, from: u32, end: u32) -> [u8; 64]
+    requires order { from ≤ end }
+    requires few { end ≤ from + BLOCK }
+    requires inside { end ≤ length row.now }
+    ensures { take (end - from) result ≡ row_line (take (end - from) (drop from row.now)) }
+{
+    let mut marks = [0; 64];
+    for j in 0..end - from {
+        marks[j as usize] = MARKS[usize::from(row.has(from + j))];
+    }
+    marks
 }
 
 fn write_line(text: &mut Vec<u8>, line: &[u8]) -> Result<(), Memory>

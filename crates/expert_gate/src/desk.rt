@@ -8,7 +8,16 @@ use explore_state::Reply;
 use fca_model::Name;
 use turn_lock::TurnFault;
 
-pub trait Desk {
+/// What has a number of attributes. To tell it, nothing waits, whoever else it belongs to.
+pub trait Wide {
+    /// The number of attributes.
+    ghost attributes: { Self → ℕ };
+
+    fn width(&self) -> u32
+        ensures { result ≡ attributes self.now };
+}
+
+pub trait Desk: Wide {
     ghost use Rattle.fca_model.specs.declared.Event.TheVariants.{Draw, Confirm, Row, Leave};
     ghost use Rattle.fca_model.specs.Exploration.{SetEntry};
     ghost use Rattle.fca_model.specs.Widths.{HasWideReply};
@@ -32,42 +41,36 @@ pub trait Desk {
     /// The borrow that the desk works through, so that what it did there is known once the desk is gone.
     ghost place: { Self → GName };
 
-    /// The number of attributes.
-    ghost attributes: { Self → ℕ };
-
     fn draw(&mut self) -> Result<Reply, TurnFault>
-        ensures same { (number self.new ≡ number self.old) × (lock self.new ≡ lock self.old) × (place self.new ≡ place self.old) × (attributes self.new ≡ attributes self.old) }
+        ensures same { (number self.new ≡ number self.old) × (lock self.new ≡ lock self.old) × (place self.new ≡ place self.old) × (Self.attributes self.new ≡ Self.attributes self.old) }
         ensures entry { IfOk result (λ reply. entries self.new ≡ entries self.old ++ record { event = Draw (number self.old); reply = reply } ∷ []) }
-        ensures wide { IfOk result (HasWideReply (attributes self.old)) }
+        ensures wide { IfOk result (HasWideReply (Self.attributes self.old)) }
         ensures err { OnErr result (entries self.new ≡ entries self.old) }
         ensures spent { IsErrOf result fault.Spent ↔ (left self.old ≡ Some 0) }
         ensures left { left self.new ≡ one_less (left self.old) };
 
     fn confirm(&mut self) -> Result<Reply, TurnFault>
-        ensures same { (number self.new ≡ number self.old) × (lock self.new ≡ lock self.old) × (place self.new ≡ place self.old) × (attributes self.new ≡ attributes self.old) }
+        ensures same { (number self.new ≡ number self.old) × (lock self.new ≡ lock self.old) × (place self.new ≡ place self.old) × (Self.attributes self.new ≡ Self.attributes self.old) }
         ensures entry { IfOk result (λ reply. entries self.new ≡ entries self.old ++ record { event = Confirm (number self.old); reply = reply } ∷ []) }
-        ensures wide { IfOk result (HasWideReply (attributes self.old)) }
+        ensures wide { IfOk result (HasWideReply (Self.attributes self.old)) }
         ensures err { OnErr result (entries self.new ≡ entries self.old) }
         ensures spent { IsErrOf result fault.Spent ↔ (left self.old ≡ Some 0) }
         ensures left { left self.new ≡ one_less (left self.old) };
 
     fn row(&mut self, name: Name, row: Attrs) -> Result<Reply, TurnFault>
-        requires { length row ≡ attributes self.old }
-        ensures same { (number self.new ≡ number self.old) × (lock self.new ≡ lock self.old) × (place self.new ≡ place self.old) × (attributes self.new ≡ attributes self.old) }
+        requires { length row ≡ Self.attributes self.old }
+        ensures same { (number self.new ≡ number self.old) × (lock self.new ≡ lock self.old) × (place self.new ≡ place self.old) × (Self.attributes self.new ≡ Self.attributes self.old) }
         ensures entry { IfOk result (λ reply. entries self.new ≡ entries self.old ++ record { event = Row (number self.old) name row; reply = reply } ∷ []) }
-        ensures wide { IfOk result (HasWideReply (attributes self.old)) }
+        ensures wide { IfOk result (HasWideReply (Self.attributes self.old)) }
         ensures err { OnErr result (entries self.new ≡ entries self.old) }
         ensures spent { IsErrOf result fault.Spent ↔ (left self.old ≡ Some 0) }
         ensures left { left self.new ≡ one_less (left self.old) };
 
     fn leave(&mut self) -> Result<Reply, TurnFault>
-        ensures same { (number self.new ≡ number self.old) × (lock self.new ≡ lock self.old) × (place self.new ≡ place self.old) × (attributes self.new ≡ attributes self.old) }
+        ensures same { (number self.new ≡ number self.old) × (lock self.new ≡ lock self.old) × (place self.new ≡ place self.old) × (Self.attributes self.new ≡ Self.attributes self.old) }
         ensures entry { IfOk result (λ reply. entries self.new ≡ entries self.old ++ record { event = Leave (number self.old); reply = reply } ∷ []) }
-        ensures wide { IfOk result (HasWideReply (attributes self.old)) }
+        ensures wide { IfOk result (HasWideReply (Self.attributes self.old)) }
         ensures err { OnErr result (entries self.new ≡ entries self.old) }
         ensures spent { IsErrOf result fault.Spent ↔ (left self.old ≡ Some 0) }
         ensures left { left self.new ≡ one_less (left self.old) };
-
-    fn width(&self) -> u32
-        ensures { result ≡ attributes self.now };
 }

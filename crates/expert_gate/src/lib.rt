@@ -9,7 +9,7 @@ mod solo;
 #[cfg(test)]
 mod tests;
 
-pub use desk::Desk;
+pub use desk::{Desk, Wide};
 pub use gate::{ExpertPass, Gate};
 pub use seated::Seated;
 pub use shared::{Opened, Seen, SharedExplore};

@@ -2,7 +2,7 @@
 
 ghost use Rattle.turn_lock.specs.Passes.{Belongs};
 
-use crate::desk::Desk;
+use crate::desk::{Desk, Wide};
 use crate::gate::{ExpertPass, Gate};
 use attr_bits::Attrs;
 use explore_state::Reply;
@@ -18,9 +18,23 @@ pub struct Seated<'a, R> {
     pub ghost belongs: { Belongs gate.now pass.now },
 }
 
+impl<'a, R> Wide for Seated<'a, R> {
+    ghost attributes = { λ s. s.gate.now.base.table.context.width };
+
+    fn width(&self) -> u32 {
+        self.gate.width()
+    }
+}
+
+/// Each call tells of the pass what the gate's call does: what it has seen, its entries and its turns.
 impl<'a, R: Wait> Desk for Seated<'a, R> {
-    ghost use Rattle.std.specs.Prelude.{◌-◌, Some};
+    ghost use Rattle.std.specs.Prelude.{◌≡◌, ◌-◌, ◌↔◌, ◌++◌, ◌∷◌, [], Some, IfOk, OnErr, IsErrOf, length};
+    ghost use Rattle.fca_model.specs.declared.Event.TheVariants.{Draw, Confirm, Row, Leave};
+    ghost use Rattle.fca_model.specs.Widths.{HasWideReply};
     ghost use Rattle.turn_lock.specs.Passes.{badge};
+    ghost use Rattle.turn_lock.specs.declared.fault.TurnFault.TheVariants as fault;
+    ghost use Rattle.expert_gate.specs.Desks.{one_less};
+    ghost use Rattle.expert_gate.specs.Turns.{Answers, Looks};
 
     ghost number = { λ s. s.pass.now.number };
 
@@ -32,25 +46,60 @@ impl<'a, R: Wait> Desk for Seated<'a, R> {
 
     ghost place = { λ s. s.pass.ghost_name };
 
-    ghost attributes = { λ s. s.gate.now.base.table.context.width };
-
-    fn draw(&mut self) -> Result<Reply, TurnFault> {
+    fn draw(&mut self) -> Result<Reply, TurnFault>
+        ensures same { (self.new.pass.now.number ≡ self.old.pass.now.number) × (Some (badge self.new.pass.now) ≡ Some (badge self.old.pass.now)) × (self.new.pass.ghost_name ≡ self.old.pass.ghost_name) × (self.new.gate.now.base.table.context.width ≡ self.old.gate.now.base.table.context.width) }
+        ensures entry { IfOk result (λ reply. self.new.pass.now.own ≡ self.old.pass.now.own ++ record { event = Draw self.old.pass.now.number; reply = reply } ∷ []) }
+        ensures wide { IfOk result (HasWideReply self.old.gate.now.base.table.context.width) }
+        ensures err { OnErr result (self.new.pass.now.own ≡ self.old.pass.now.own) }
+        ensures spent { IsErrOf result fault.Spent ↔ (Some (self.old.pass.now.turns - self.old.pass.now.made) ≡ Some 0) }
+        ensures left { Some (self.new.pass.now.turns - self.new.pass.now.made) ≡ one_less (Some (self.old.pass.now.turns - self.old.pass.now.made)) }
+        ensures turn { IfOk result (λ reply. Answers self.old.gate.now.base self.old.pass.now (Draw self.old.pass.now.number) reply self.new.pass.now) }
+        ensures looked { IsErrOf result fault.Memory → Looks self.old.gate.now.base self.old.pass.now self.new.pass.now }
+        ensures unchanged { IsErrOf result fault.Spent → self.new.pass.now ≡ self.old.pass.now }
+    {
         self.gate.draw(self.rt, self.pass)
     }
 
-    fn confirm(&mut self) -> Result<Reply, TurnFault> {
+    fn confirm(&mut self) -> Result<Reply, TurnFault>
+        ensures same { (self.new.pass.now.number ≡ self.old.pass.now.number) × (Some (badge self.new.pass.now) ≡ Some (badge self.old.pass.now)) × (self.new.pass.ghost_name ≡ self.old.pass.ghost_name) × (self.new.gate.now.base.table.context.width ≡ self.old.gate.now.base.table.context.width) }
+        ensures entry { IfOk result (λ reply. self.new.pass.now.own ≡ self.old.pass.now.own ++ record { event = Confirm self.old.pass.now.number; reply = reply } ∷ []) }
+        ensures wide { IfOk result (HasWideReply self.old.gate.now.base.table.context.width) }
+        ensures err { OnErr result (self.new.pass.now.own ≡ self.old.pass.now.own) }
+        ensures spent { IsErrOf result fault.Spent ↔ (Some (self.old.pass.now.turns - self.old.pass.now.made) ≡ Some 0) }
+        ensures left { Some (self.new.pass.now.turns - self.new.pass.now.made) ≡ one_less (Some (self.old.pass.now.turns - self.old.pass.now.made)) }
+        ensures turn { IfOk result (λ reply. Answers self.old.gate.now.base self.old.pass.now (Confirm self.old.pass.now.number) reply self.new.pass.now) }
+        ensures looked { IsErrOf result fault.Memory → Looks self.old.gate.now.base self.old.pass.now self.new.pass.now }
+        ensures unchanged { IsErrOf result fault.Spent → self.new.pass.now ≡ self.old.pass.now }
+    {
         self.gate.confirm(self.rt, self.pass)
     }
 
-    fn row(&mut self, name: Name, row: Attrs) -> Result<Reply, TurnFault> {
+    fn row(&mut self, name: Name, row: Attrs) -> Result<Reply, TurnFault>
+        requires { length row ≡ self.old.gate.now.base.table.context.width }
+        ensures same { (self.new.pass.now.number ≡ self.old.pass.now.number) × (Some (badge self.new.pass.now) ≡ Some (badge self.old.pass.now)) × (self.new.pass.ghost_name ≡ self.old.pass.ghost_name) × (self.new.gate.now.base.table.context.width ≡ self.old.gate.now.base.table.context.width) }
+        ensures entry { IfOk result (λ reply. self.new.pass.now.own ≡ self.old.pass.now.own ++ record { event = Row self.old.pass.now.number name row; reply = reply } ∷ []) }
+        ensures wide { IfOk result (HasWideReply self.old.gate.now.base.table.context.width) }
+        ensures err { OnErr result (self.new.pass.now.own ≡ self.old.pass.now.own) }
+        ensures spent { IsErrOf result fault.Spent ↔ (Some (self.old.pass.now.turns - self.old.pass.now.made) ≡ Some 0) }
+        ensures left { Some (self.new.pass.now.turns - self.new.pass.now.made) ≡ one_less (Some (self.old.pass.now.turns - self.old.pass.now.made)) }
+        ensures turn { IfOk result (λ reply. Answers self.old.gate.now.base self.old.pass.now (Row self.old.pass.now.number name row) reply self.new.pass.now) }
+        ensures looked { IsErrOf result fault.Memory → Looks self.old.gate.now.base self.old.pass.now self.new.pass.now }
+        ensures unchanged { IsErrOf result fault.Spent → self.new.pass.now ≡ self.old.pass.now }
+    {
         self.gate.row(self.rt, self.pass, name, row)
     }
 
-    fn leave(&mut self) -> Result<Reply, TurnFault> {
+    fn leave(&mut self) -> Result<Reply, TurnFault>
+        ensures same { (self.new.pass.now.number ≡ self.old.pass.now.number) × (Some (badge self.new.pass.now) ≡ Some (badge self.old.pass.now)) × (self.new.pass.ghost_name ≡ self.old.pass.ghost_name) × (self.new.gate.now.base.table.context.width ≡ self.old.gate.now.base.table.context.width) }
+        ensures entry { IfOk result (λ reply. self.new.pass.now.own ≡ self.old.pass.now.own ++ record { event = Leave self.old.pass.now.number; reply = reply } ∷ []) }
+        ensures wide { IfOk result (HasWideReply self.old.gate.now.base.table.context.width) }
+        ensures err { OnErr result (self.new.pass.now.own ≡ self.old.pass.now.own) }
+        ensures spent { IsErrOf result fault.Spent ↔ (Some (self.old.pass.now.turns - self.old.pass.now.made) ≡ Some 0) }
+        ensures left { Some (self.new.pass.now.turns - self.new.pass.now.made) ≡ one_less (Some (self.old.pass.now.turns - self.old.pass.now.made)) }
+        ensures turn { IfOk result (λ reply. Answers self.old.gate.now.base self.old.pass.now (Leave self.old.pass.now.number) reply self.new.pass.now) }
+        ensures looked { IsErrOf result fault.Memory → Looks self.old.gate.now.base self.old.pass.now self.new.pass.now }
+        ensures unchanged { IsErrOf result fault.Spent → self.new.pass.now ≡ self.old.pass.now }
+    {
         self.gate.leave(self.rt, self.pass)
-    }
-
-    fn width(&self) -> u32 {
-        self.gate.width()
     }
 }

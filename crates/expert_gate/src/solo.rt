@@ -2,7 +2,7 @@
 
 ghost use Rattle.std.specs.Prelude.{◌≤◌};
 
-use crate::desk::Desk;
+use crate::desk::{Desk, Wide};
 use attr_bits::Attrs;
 use explore_state::{Explore, Reply};
 use fca_model::Name;
@@ -14,6 +14,14 @@ pub struct Solo<'a> {
     pub expert: u8,
     pub ghost first: { 1 ≤ expert },
     pub ghost last: { expert ≤ explore.now.opening.experts },
+}
+
+impl<'a> Wide for Solo<'a> {
+    ghost attributes = { λ s. s.explore.now.opening.table.context.width };
+
+    fn width(&self) -> u32 {
+        self.explore.table().rows().width()
+    }
 }
 
 impl<'a> Desk for Solo<'a> {
@@ -29,8 +37,6 @@ impl<'a> Desk for Solo<'a> {
     ghost left = { λ _. None };
 
     ghost place = { λ s. s.explore.ghost_name };
-
-    ghost attributes = { λ s. s.explore.now.opening.table.context.width };
 
     fn draw(&mut self) -> Result<Reply, TurnFault> {
         let reply = self.explore.draw(self.expert)?;
@@ -54,9 +60,5 @@ impl<'a> Desk for Solo<'a> {
         let reply = self.explore.leave(self.expert)?;
         let _journal = self.explore.journal();
         Ok(reply)
-    }
-
-    fn width(&self) -> u32 {
-        self.explore.table().rows().width()
     }
 }

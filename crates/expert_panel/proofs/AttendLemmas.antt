@@ -9,9 +9,8 @@ use Rattle.fca_model.specs.Widths.{IsWide, HasWideReply}
 use Rattle.explore_state.specs.History.{Opening}
 use Rattle.turn_lock.specs.Passes.{Known, Badge, badge}
 use Rattle.turn_lock.specs.declared.fault.TurnFault.TheVariants as fault
-use Rattle.expert_gate.specs.Turns.{Looks}
 use Rattle.oracle_expert.specs.declared.expert.Answer.{Answer}
-use Rattle.oracle_expert.specs.Runs.{RunsFrom, IsTurn, Stops, StopsAtDone, due_after, is_done, ends_done}
+use Rattle.oracle_expert.specs.Runs.{RunsFrom, RunsTo, IsTurn, Stops, IsUnanswered, StopsAtDone, due_after, is_done, ends_done}
 use Rattle.expert_panel.specs.declared.end.SeatEnd.TheVariants as end
 use Rattle.expert_panel.specs.Passes.{HasMade, TookTurns}
 use Rattle.expert_panel.specs.Turns.{IsPlayed, IsStopped}
@@ -43,11 +42,19 @@ length-push entries entry = length-append entries (entry ∷ [])
 
 -- ---- a run
 
+spent_is_no_memory : fault.Spent ≡ fault.Memory → ⊥
+spent_is_no_memory h = cc
+
 module _ {X M : Type 0} (width_of : X → ℕ) (memory_of : X → M) (Answering : M → Rule → Answer → M → Type 0) (Learning : M → SetReply → M → Type 0) (o : Opening) (p : Known Opening SetEntry) (old : X) where
+  -- the run that stops at a question to which the expert gave no answer
+  abbrev Silent : Option Rule → M → List SetEntry → M → Type 0
+  Silent = RunsTo Answering Learning p.number (IsUnanswered Answering Learning p.number)
+
   -- what is known between two turns
   pub record IsAttending (due : Option Rule) (q : Known Opening SetEntry) (expert : X) : Type 0 where
     pub entries : List SetEntry
     pub going : (rest : List SetEntry) (m : M) → RunsFrom Answering Learning p.number due (memory_of expert) rest m → RunsFrom Answering Learning p.number None (memory_of old) (entries ++ rest) m
+    pub falling_silent : (rest : List SetEntry) (m : M) → Silent due (memory_of expert) rest m → Silent None (memory_of old) (entries ++ rest) m
     pub pass : HasMade o p entries q
     pub made : TookTurns p entries q
     pub unfinished : ends_done entries ≡ false
@@ -58,6 +65,7 @@ module _ {X M : Type 0} (width_of : X → ℕ) (memory_of : X → M) (Answering 
   begins = record {
     entries = [];
     going = λ rest m h. h;
+    falling_silent = λ rest m h. h;
     pass = HasMade-none o p;
     made = omega arith;
     unfinished = refl;
@@ -90,6 +98,9 @@ module _ {X M : Type 0} (width_of : X → ℕ) (memory_of : X → M) (Answering 
         going = λ rest m h.
             subst (λ xs. RunsFrom Answering Learning p.number None (memory_of old) xs m) (sym (append_assoc a.entries (entry ∷ []) rest))
             (a.going (entry ∷ rest) m (memory_of next, its_turn, stops_unfinished reply rest unfinished, h));
+        falling_silent = λ rest m h.
+            subst (λ xs. Silent None (memory_of old) xs m) (sym (append_assoc a.entries (entry ∷ []) rest))
+            (a.falling_silent (entry ∷ rest) m (memory_of next, its_turn, stops_unfinished reply rest unfinished, h));
         pass = HasMade-entry o p a.entries q r played.event reply a.pass played.turn same;
         made = one_more;
         unfinished = ends_done-push a.entries entry ∙ unfinished;
@@ -103,6 +114,7 @@ module _ {X M : Type 0} (width_of : X → ℕ) (memory_of : X → M) (Answering 
         run = a.going (entry ∷ []) (memory_of next) (memory_of next, its_turn, stops_last reply, stops_here p.number (due_after due reply) (memory_of next));
         pass = HasMade-entry o p a.entries q r played.event reply a.pass played.turn same;
         end = (ends_done-push a.entries entry ∙ done, one_more);
+        silent = λ h _. cc;
         width = kept ∙ a.width;
       }
 
@@ -114,24 +126,43 @@ module _ {X M : Type 0} (width_of : X → ℕ) (memory_of : X → M) (Answering 
     unchanged e = (subst (HasMade o p a.entries) (sym e) a.pass, ap (λ (k : Known Opening SetEntry). k.made) e ∙ a.made)
 
     pub is_spent : IsStopped Answering Learning o due q (memory_of expert) fault.Spent r (memory_of next) → HasAttended width_of memory_of Answering Learning o p old end.Spent r next
-    is_spent stopped =
-        let at_rest = unchanged stopped.refused.0 in
-        record {
-          entries = a.entries;
-          run = its_run stopped.stops;
-          pass = at_rest.0;
-          end = (a.unfinished, at_rest.1, ap (λ (k : Known Opening SetEntry). k.made) stopped.refused.0 ∙ stopped.refused.1 ∙ sym (ap (λ (k : Known Opening SetEntry). k.turns) stopped.refused.0));
-          width = kept ∙ a.width;
-        }
-
-    out_of_memory : Stops Answering Learning p.number due (memory_of expert) (memory_of next) → (r ≡ q) ⊎ Looks o q r → HasAttended width_of memory_of Answering Learning o p old end.Memory r next
-    out_of_memory stops (inl e) =
-        let at_rest = unchanged e in
-        record { entries = a.entries; run = its_run stops; pass = at_rest.0; end = (a.unfinished, inl at_rest.1); width = kept ∙ a.width }
-    out_of_memory stops (inr look) =
-        let before = a.made in
-        let now = look.made in
-        record { entries = a.entries; run = its_run stops; pass = HasMade-look o p a.entries q r a.pass look same; end = (a.unfinished, inr (omega arith)); width = kept ∙ a.width }
+    is_spent stopped = elim stopped.refused [
+      | inl refused ↦
+          let at_rest = unchanged refused.0 in
+          record {
+            entries = a.entries;
+            run = its_run stopped.stops;
+            pass = at_rest.0;
+            end = (a.unfinished, at_rest.1, ap (λ (k : Known Opening SetEntry). k.made) refused.0 ∙ refused.1 ∙ sym (ap (λ (k : Known Opening SetEntry). k.turns) refused.0));
+            silent = λ h _. cc;
+            width = kept ∙ a.width;
+          }
+      | inr other ↦ absurd (spent_is_no_memory other.0)
+    ]
 
     pub is_refused_memory : IsStopped Answering Learning o due q (memory_of expert) fault.Memory r (memory_of next) → HasAttended width_of memory_of Answering Learning o p old end.Memory r next
-    is_refused_memory stopped = out_of_memory stopped.stops stopped.refused
+    is_refused_memory stopped = elim stopped.refused [
+      | inl look ↦
+          let before = a.made in
+          let now = look.made in
+          record {
+            entries = a.entries;
+            run = its_run stopped.stops;
+            pass = HasMade-look o p a.entries q r a.pass look same;
+            end = (a.unfinished, inr (omega arith));
+            silent = λ _ took. absurd (omega (arith, took, before, now));
+            width = kept ∙ a.width;
+          }
+      | inr none ↦
+          let at_rest = unchanged none.1 in
+          let number = ap (λ (b : Badge Opening). b.number) a.pass.same in
+          let unanswered = subst (λ (n : ℕ). IsUnanswered Answering Learning n due (memory_of expert) (memory_of next)) number none.2 in
+          record {
+            entries = a.entries;
+            run = its_run stopped.stops;
+            pass = at_rest.0;
+            end = (a.unfinished, inl at_rest.1);
+            silent = λ _ _. subst (λ xs. Silent None (memory_of old) xs (memory_of next)) (append-nil a.entries) (a.falling_silent [] (memory_of next) unanswered);
+            width = kept ∙ a.width;
+          }
+    ]

@@ -1,9 +1,10 @@
 -- What the laws of oracles say of an exploration at a gate. Each oracle's share in the history is its own entries, so they are few; and with few attributes they
 -- are fewer than its turns. Where all tables have one context, a number of no expert has no entry, and stands for an expert of any such table.
-use Rattle.std.proofs.Common.{◌≡◌, ℕ, zero, suc, ◌+◌, ◌*◌, ◌^◌, ◌<◌, ◌≤◌, ◌⊎◌, ◌↔◌, Bool, true, false, Option, Some, None, List, [], length, get_or, slice_get, All, inl, inr, refl, sym, ap, ◌∙◌, subst, arith, le-leb, leb}
+use Rattle.std.proofs.Common.{◌≡◌, ℕ, zero, suc, ◌+◌, ◌-◌, ◌*◌, ◌^◌, ◌<◌, ◌≤◌, ◌⊎◌, ◌↔◌, Bool, true, false, Option, Some, None, List, [], ◌∷◌, ◌++◌, length, get_or, slice_get, All, inl, inr, refl, sym, ap, ◌∙◌, subst, arith, le-leb, leb}
 use Rattle.std.proofs.lemmas.Bool.{cases_Bool, cases_lt, and_from, false≢true}
 use Rattle.std.proofs.lemmas.List.{get_or_past}
 use Rattle.std.proofs.lemmas.Option.{get_or_from_slice_get, slice_get_within, slice_get-get_or}
+use Rattle.fca_model.specs.declared.Event.TheVariants.{Draw}
 use Rattle.fca_model.specs.declared.TheConstants.{MAX_EXPERTS}
 use Rattle.fca_model.specs.Context.{Context}
 use Rattle.fca_model.specs.Tables.{NamedContext}
@@ -16,7 +17,8 @@ use Rattle.explore_state.specs.History.{Opening, History, opening_state, state_o
 use Rattle.oracle_expert.specs.Counts.{recorded_in, dropped}
 use Rattle.oracle_expert.specs.Oracles.{Recall, no_conflict}
 use Rattle.oracle_expert.specs.Runs.{IsOracleFront, ends_done, conflicts_of}
-use Rattle.oracle_expert.proofs.CountLemmas.{oracle_turns, oracle_few}
+use Rattle.oracle_expert.proofs.CountLemmas.{oracle_turns, call_turns, oracle_few}
+use Rattle.oracle_expert.proofs.DrawLemmas.{draws_apart}
 use Rattle.oracle_expert.proofs.SameLemmas.{nothing_dropped, one_basis, one_accepted}
 use Rattle.oracle_expert.proofs.RunLemmas.{IsOracles, oracle_runs}
 use Rattle.turn_lock.specs.Passes.{Badge}
@@ -24,7 +26,7 @@ use Rattle.expert_panel.specs.declared.seat.Seat.{Seat}
 use Rattle.expert_panel.specs.declared.end.SeatEnd.{SeatEnd}
 use Rattle.expert_panel.specs.declared.end.SeatEnd.TheVariants.{Done, Spent, Memory}
 use Rattle.expert_panel.specs.Seats.{IsEnd}
-use Rattle.expert_panel.specs.Explorations.{IsOraclesShare, EachNumbered, HasFewRows, most_turns, IsWithinTurns, SeatsTurns, HasAgreed, is_part}
+use Rattle.expert_panel.specs.Explorations.{IsOraclesShare, EachNumbered, HasFewRows, most_turns, most_turns_between, IsWithinTurns, HasMadeAtMost, SeatsTurns, HasAgreed, is_part}
 use Rattle.expert_panel.proofs.ShareLemmas.{Run}
 
 module _ (o : Opening) (H : List SetEntry) (turns : ℕ) (oracles : List Recall) (plainly : o.settings ≡ plain) (legal : IsLegal (opening_state o) H) (count : length oracles ≤ MAX_EXPERTS)
@@ -134,25 +136,42 @@ module _ (o : Opening) (H : List SetEntry) (turns : ℕ) (oracles : List Recall)
 
 -- ---- one seat
 
-module _ (o : Opening) (old new : Seat Recall) (plainly : o.settings ≡ plain) (run : Run o old new) (free : old.expert.conflicts ≡ no_conflict old.expert.table) where
-  its_bound : (H : List SetEntry) → IsLegal (opening_state o) H → is_expert new.pass.number ≡ true → own H new.pass.number ≡ new.pass.own → length run.attended.entries ≤ most_turns H new.expert
-  its_bound H legal i owns =
-      let D = old.expert.table in
-      let e = old.pass.number in
-      let entries = run.attended.entries in
-      let oracles : IsOracles D e (record { due = None; conflicts = no_conflict D }) entries new.expert = oracle_runs D e None (no_conflict D) old.expert entries new.expert refl free run.attended.run in
-      let same : new.pass.number ≡ e = ap (λ (b : Badge Opening). b.number) run.attended.pass.same in
-      let legal_here : IsLegal (opening o.table.context o.table.objects plain) H = subst (λ (S : Settings). IsLegal (opening o.table.context o.table.objects S) H) plainly legal in
-      subst (λ (cs : List (Option ℕ)). length entries ≤ 2 * recorded_in H + dropped cs + 1) (sym oracles.conflicts)
-      (oracle_turns o.table.context o.table.objects H legal_here D e (subst (λ (n : ℕ). is_expert n ≡ true) same i) old.pass.own entries (ap (own H) (sym same) ∙ owns ∙ run.attended.pass.own) oracles.run)
+module _ (o : Opening) (old new : Seat Recall) (plainly : o.settings ≡ plain) (run : Run o old new) (H : List SetEntry) (legal : IsLegal (opening_state o) H) (i : is_expert new.pass.number ≡ true) (owns : own H new.pass.number ≡ new.pass.own) where
+  same_number : new.pass.number ≡ old.pass.number
+  same_number = ap (λ (b : Badge Opening). b.number) run.attended.pass.same
 
-  by_end : (H : List SetEntry) (end : SeatEnd) → new.ended ≡ Some end → IsEnd end old.pass run.attended.entries new.pass → length run.attended.entries ≤ most_turns H new.expert → SeatsTurns H old new
-  by_end H Done e end bound = inl (let took = end.1 in omega arith)
-  by_end H Spent e end bound = inl (let took = end.1 in omega arith)
-  by_end H Memory e end bound = elim end.1 [
+  legal_here : IsLegal (opening o.table.context o.table.objects plain) H
+  legal_here = subst (λ (S : Settings). IsLegal (opening o.table.context o.table.objects S) H) plainly legal
+
+  is : is_expert old.pass.number ≡ true
+  is = subst (λ (n : ℕ). is_expert n ≡ true) same_number i
+
+  own_is : own H old.pass.number ≡ old.pass.own ++ run.attended.entries
+  own_is = ap (own H) (sym same_number) ∙ owns ∙ run.attended.pass.own
+
+  by_end : (most : ℕ) (end : SeatEnd) → new.ended ≡ Some end → IsEnd end old.pass run.attended.entries new.pass → length run.attended.entries ≤ most → HasMadeAtMost most old new
+  by_end most Done e end bound = inl (let took = end.1 in omega arith)
+  by_end most Spent e end bound = inl (let took = end.1 in omega arith)
+  by_end most Memory e end bound = elim end.1 [
     | inl took ↦ inl (omega arith)
     | inr took ↦ inr (e, omega arith)
   ]
 
-  pub turns_of_seat : (H : List SetEntry) → IsLegal (opening_state o) H → is_expert new.pass.number ≡ true → own H new.pass.number ≡ new.pass.own → SeatsTurns H old new
-  turns_of_seat H legal i owns = by_end H run.end run.ended run.attended.end (its_bound H legal i owns)
+  pub turns_between : HasMadeAtMost (most_turns_between H old.expert new.expert) old new
+  turns_between =
+      by_end (most_turns_between H old.expert new.expert) run.end run.ended run.attended.end
+      (call_turns o.table.context o.table.objects H legal_here old.pass.number is old.expert new.expert old.pass.own run.attended.entries own_is run.attended.run)
+
+  -- where nothing was dropped before
+  pub turns_of_seat : old.expert.conflicts ≡ no_conflict old.expert.table → SeatsTurns H old new
+  turns_of_seat free =
+      let D = old.expert.table in
+      let entries = run.attended.entries in
+      let oracles : IsOracles D old.pass.number (record { due = None; conflicts = no_conflict D }) entries new.expert = oracle_runs D old.pass.number None (no_conflict D) old.expert entries new.expert refl free run.attended.run in
+      by_end (most_turns H new.expert) run.end run.ended run.attended.end
+      (subst (λ (cs : List (Option ℕ)). length entries ≤ 2 * recorded_in H + dropped cs + 1) (sym oracles.conflicts)
+      (oracle_turns o.table.context o.table.objects H legal_here D old.pass.number is old.pass.own entries own_is oracles.run))
+
+  pub draws_of_seat : (before between after : List SetEntry) (first second : SetEntry) → H ≡ before ++ (first ∷ between ++ second ∷ after) → length old.pass.own ≤ length (own before old.pass.number)
+      → first.event ≡ Draw old.pass.number → second.event ≡ Draw old.pass.number → 1 ≤ recorded_in between
+  draws_of_seat = draws_apart o.table.context o.table.objects H legal_here old.pass.number is old.expert new.expert old.pass.own run.attended.entries own_is run.attended.run

@@ -1,5 +1,5 @@
 -- Explorations by oracles: what each did in the one history.
-use Rattle.std.specs.Prelude.{◌≡◌, ℕ, ◌+◌, ◌*◌, ◌≤◌, ◌<◌, ◌⊎◌, ◌↔◌, Bool, true, false, Option, Some, List, [], All, map, length, slice_get}
+use Rattle.std.specs.Prelude.{◌≡◌, ℕ, ◌+◌, ◌-◌, ◌*◌, ◌≤◌, ◌<◌, ◌⊎◌, ◌↔◌, Bool, true, false, Option, Some, List, [], All, map, length, slice_get}
 use Rattle.std.specs.List.{list_all, list_any}
 use Rattle.fca_model.specs.declared.TheConstants.{MAX_OBJECTS}
 use Rattle.fca_model.specs.Sets.{same}
@@ -59,11 +59,19 @@ most_turns H oracle = 2 * recorded_in H + dropped oracle.conflicts + 1
 abbrev pub IsWithinTurns : List SetEntry → ℕ → Recall → Type 0
 IsWithinTurns H e oracle = length (own H e) ≤ most_turns H oracle
 
--- nor are the turns that the seat made; and where its last turn was refused for memory, one more
+-- the seat made at most so many turns; and where its last turn was refused for memory, one more
+abbrev pub HasMadeAtMost : ℕ → Seat Recall → Seat Recall → Type 0
+HasMadeAtMost most old new =
+    (new.pass.made ≤ old.pass.made + most)
+    ⊎ ((new.ended ≡ Some Memory) × (new.pass.made ≤ old.pass.made + most + 1))
+
+-- nor are the turns that the seat made
 abbrev pub SeatsTurns : List SetEntry → Seat Recall → Seat Recall → Type 0
-SeatsTurns H old new =
-    (new.pass.made ≤ old.pass.made + most_turns H new.expert)
-    ⊎ ((new.ended ≡ Some Memory) × (new.pass.made ≤ old.pass.made + most_turns H new.expert + 1))
+SeatsTurns H old new = HasMadeAtMost (most_turns H new.expert) old new
+
+-- two turns for each answer that was recorded in the history, one for each row that the oracle dropped from one to the other, and one more
+abbrev pub most_turns_between : List SetEntry → Recall → Recall → ℕ
+most_turns_between H old new = 2 * recorded_in H + (dropped new.conflicts - dropped old.conflicts) + 1
 
 -- each row of K is a row of C
 abbrev pub is_part : Context → Context → Bool

@@ -5,7 +5,7 @@ use Rattle.fca_model.specs.Exploration.{SetReply, SetEntry}
 use Rattle.explore_state.specs.History.{Opening}
 use Rattle.turn_lock.specs.Passes.{Known, Lock, Belongs}
 use Rattle.oracle_expert.specs.declared.expert.Answer.{Answer}
-use Rattle.oracle_expert.specs.Runs.{SeatRun, ends_done}
+use Rattle.oracle_expert.specs.Runs.{SeatRun, UnansweredRun, ends_done}
 use Rattle.expert_panel.specs.declared.seat.Seat.{Seat}
 use Rattle.expert_panel.specs.declared.end.SeatEnd.{SeatEnd}
 use Rattle.expert_panel.specs.declared.end.SeatEnd.TheVariants.{Done, Spent, Memory}
@@ -16,7 +16,7 @@ pub record IsSeatOf {X : Type 0} (width : X → ℕ) (gate : Lock Opening) (seat
   pub pass : Belongs gate seat.pass
   pub expert : width seat.expert ≡ gate.base.table.context.width
 
--- why a seat ended: Done exactly where its last reply is Done; Spent where no turn was left; Memory where a turn or an answer was refused for memory
+-- why a seat ended: Done exactly where its last reply is Done; Spent where no turn was left; Memory where a turn was refused for memory, or an answer
 abbrev pub IsEnd : SeatEnd → Known Opening SetEntry → List SetEntry → Known Opening SetEntry → Type 0
 IsEnd Done p entries q = (ends_done entries ≡ true) × TookTurns p entries q
 IsEnd Spent p entries q = (ends_done entries ≡ false) × TookTurns p entries q × (q.made ≡ q.turns)
@@ -29,6 +29,8 @@ module _ {X M : Type 0} (width_of : X → ℕ) (memory_of : X → M) (Answering 
     pub run : SeatRun Answering Learning p.number (memory_of old) entries (memory_of new)
     pub pass : HasMade o p entries q
     pub end : IsEnd ending p entries q
+    -- where the end is Memory and no turn was refused, a question is due to which the expert gave no answer
+    pub silent : ending ≡ Memory → TookTurns p entries q → UnansweredRun Answering Learning p.number (memory_of old) entries (memory_of new)
     pub width : width_of new ≡ width_of old
 
   -- the seat ran

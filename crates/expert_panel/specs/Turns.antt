@@ -8,13 +8,13 @@ use Rattle.turn_lock.specs.declared.fault.TurnFault.{TurnFault}
 use Rattle.turn_lock.specs.declared.fault.TurnFault.TheVariants.{Spent, Memory}
 use Rattle.expert_gate.specs.Turns.{Answers, Looks}
 use Rattle.oracle_expert.specs.declared.expert.Answer.{Answer}
-use Rattle.oracle_expert.specs.Runs.{IsTurn, Stops}
+use Rattle.oracle_expert.specs.Runs.{IsTurn, Stops, IsUnanswered}
 
 module _ (o : Opening) where
-  -- the pass after a fault: no turn was made, or one that was refused for memory
+  -- the pass after a turn was refused: none was left, or it was made and came to no entry for want of memory
   abbrev pub IsRefused : TurnFault → Known Opening SetEntry → Known Opening SetEntry → Type 0
   IsRefused Spent p q = (q ≡ p) × (p.made ≡ p.turns)
-  IsRefused Memory p q = (q ≡ p) ⊎ Looks o p q
+  IsRefused Memory p q = Looks o p q
 
 module _ {M : Type 0} (Answering : M → Rule → Answer → M → Type 0) (Learning : M → SetReply → M → Type 0) (o : Opening) where
   -- what was due was said, and replied to: by a turn of the pass
@@ -23,7 +23,11 @@ module _ {M : Type 0} (Answering : M → Rule → Answer → M → Type 0) (Lear
     pub turn : Answers o p event reply q
     pub entry : IsTurn Answering Learning p.number due old (record { event = event; reply = reply }) new
 
+  -- no turn was made, since the expert gave no answer for want of memory
+  abbrev pub IsSilent : Option Rule → Known Opening SetEntry → M → TurnFault → Known Opening SetEntry → M → Type 0
+  IsSilent due p old fault q new = (fault ≡ Memory) × (q ≡ p) × IsUnanswered Answering Learning p.number due old new
+
   -- nothing was said: the expert may have answered
   pub record IsStopped (due : Option Rule) (p : Known Opening SetEntry) (old : M) (fault : TurnFault) (q : Known Opening SetEntry) (new : M) : Type 0 where
-    pub refused : IsRefused o fault p q
+    pub refused : IsRefused o fault p q ⊎ IsSilent due p old fault q new
     pub stops : Stops Answering Learning p.number due old new

@@ -1,20 +1,41 @@
 //! Laws of panels, each the contract of a function that does nothing.
 
-ghost use Rattle.std.specs.Prelude.{◌≡◌, true, List};
+ghost use Rattle.std.specs.Prelude.{◌≡◌, ◌≤◌, ◌++◌, ◌∷◌, true, List, length};
+ghost use Rattle.fca_model.specs.declared.Event.TheVariants.{Draw};
 ghost use Rattle.fca_model.specs.Exploration.{SetEntry, plain, is_expert, own, IsLegal};
 ghost use Rattle.explore_state.specs.History.{Opening, opening_state};
+ghost use Rattle.oracle_expert.specs.Counts.{recorded_in};
 ghost use Rattle.oracle_expert.specs.Oracles.{Recall, Answers, Learns, no_conflict};
 ghost use Rattle.expert_panel.specs.declared.seat.Seat.{Seat};
 ghost use Rattle.expert_panel.specs.Seats.{HasRun};
-ghost use Rattle.expert_panel.specs.Explorations.{SeatsTurns};
+ghost use Rattle.expert_panel.specs.Explorations.{SeatsTurns, HasMadeAtMost, most_turns_between};
 
-/// An oracle at a seat of a panel, of which no row was dropped before: how many turns it makes there. `H` is any
-/// legal history that has just the pass's entries of its expert, as the one of the closed gate, or the one that
-/// the pass has seen.
+/// An oracle at a seat of a panel: how many turns it makes there, where no row was dropped before, and of any
+/// oracle by the rows that it drops there. `H` is any legal history that has just the pass's entries of its
+/// expert, as the one of the closed gate, or the one that the pass has seen.
 pub fn turns_of_a_seat()
-    ensures { (o : Opening) (old new : Seat Recall) → o.settings ≡ plain
+    ensures untold { (o : Opening) (old new : Seat Recall) → o.settings ≡ plain
         → HasRun (λ oracle. oracle.table.context.width) (λ oracle. oracle) Answers Learns o old new
         → old.expert.conflicts ≡ no_conflict old.expert.table
         → (H : List SetEntry) → IsLegal (opening_state o) H → is_expert new.pass.number ≡ true
         → own H new.pass.number ≡ new.pass.own → SeatsTurns H old new }
+    ensures any { (o : Opening) (old new : Seat Recall) → o.settings ≡ plain
+        → HasRun (λ oracle. oracle.table.context.width) (λ oracle. oracle) Answers Learns o old new
+        → (H : List SetEntry) → IsLegal (opening_state o) H → is_expert new.pass.number ≡ true
+        → own H new.pass.number ≡ new.pass.own
+        → HasMadeAtMost (most_turns_between H old.expert new.expert) old new }
+{}
+
+/// An oracle at a seat of a panel: between two of its draws there an answer is recorded in `H`, its own or
+/// another's. `H` is as above; of the pass's entries those that it had before come first.
+pub fn draws_of_a_seat()
+    ensures { (o : Opening) (old new : Seat Recall) → o.settings ≡ plain
+        → HasRun (λ oracle. oracle.table.context.width) (λ oracle. oracle) Answers Learns o old new
+        → (H : List SetEntry) → IsLegal (opening_state o) H → is_expert new.pass.number ≡ true
+        → own H new.pass.number ≡ new.pass.own
+        → (before between after : List SetEntry) (first second : SetEntry)
+        → H ≡ before ++ (first ∷ between ++ second ∷ after)
+        → length old.pass.own ≤ length (own before old.pass.number)
+        → first.event ≡ Draw old.pass.number → second.event ≡ Draw old.pass.number
+        → 1 ≤ recorded_in between }
 {}

@@ -112,8 +112,8 @@ fn sessions_over_ends_in_memory(rt: HostRuntime) -> Result<(), Fail> {
 fn long_lines(rt: HostRuntime) -> Result<(), Fail> {
     let alloc = rt.alloc();
     for (letters, ended, sent) in [
-        (1024, Ended::Limit, b"bad line\n".as_slice()),
-        (1025, Ended::LongLine, b"".as_slice()),
+        (4096, Ended::Limit, b"bad line\n".as_slice()),
+        (4097, Ended::LongLine, b"".as_slice()),
     ] {
         let mut line = vec![in alloc; b'z'; letters]?;
         line.push(b'\n')?;

@@ -18,5 +18,6 @@ pub use greeting::write_greeting;
 pub use parts::Part;
 pub use replies::write_reply;
 pub use requests::{Request, RequestFault, read_request};
-pub use scripts::{ScriptFault, read_script};
+pub use scripts::{ScriptFault, is_skipped, read_script, split_line};
 pub use transcript::{transcript_text, write_transcript};
+pub use words::{crossed, marks};

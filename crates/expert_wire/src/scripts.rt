@@ -62,7 +62,7 @@ pub fn read_script(alloc: Global, bytes: &[u8], n: u32) -> Result<Vec<Event>, Sc
 }
 
 /// The first line of the text, and what stands behind its line feed.
-fn split_line(text: &[u8]) -> (&[u8], &[u8])
+pub fn split_line(text: &[u8]) -> (&[u8], &[u8])
     ensures line { result.0.now ≡ strip_carriage_return (before_first is_line_feed text.now) }
     ensures behind { result.1.now ≡ after_first is_line_feed text.now }
 {
@@ -92,7 +92,7 @@ pub(crate) fn without_return(line: &[u8]) -> &[u8]
 }
 
 /// Whether the line is blank or begins with `#`.
-fn is_skipped(line: &[u8]) -> bool
+pub fn is_skipped(line: &[u8]) -> bool
     ensures { result ≡ is_skipped line.now }
 {
     is_blank(line) || line.first() == Some(&b'#')

@@ -59,7 +59,7 @@ fn expert_numbered(number: u8) -> Option<u8>
 }
 
 /// The marks of a pattern, if the word is a pattern.
-fn marks(word: &[u8]) -> Option<&[u8]>
+pub fn marks(word: &[u8]) -> Option<&[u8]>
     ensures { MatchOption result (set_marked word.now ≡ None) (λ m. set_marked word.now ≡ Some (map is_cross m.now)) }
 {
     if word == b"-".as_slice() {
@@ -90,7 +90,7 @@ fn is_mark(byte: u8) -> bool
 }
 
 /// The set of the attributes that are marked by a cross.
-fn crossed(marks: &[u8]) -> Attrs
+pub fn crossed(marks: &[u8]) -> Attrs
     requires { length marks.now ≤ MAX_ATTRIBUTES }
     ensures { result ≡ map is_cross marks.now }
 {

@@ -1,2 +1,3 @@
 pub mod PanelLemmas
 pub mod PlayLemmas
+pub mod SurveyLemmas

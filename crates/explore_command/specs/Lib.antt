@@ -1,2 +1,3 @@
 pub mod Panels
 pub mod Played
+pub mod Surveyed

@@ -1,8 +1,10 @@
-//! The command `explore`: the oracles of experts' tables explore a table through one gate.
+//! The commands `explore` and `survey`: the oracles of experts' tables explore a table through one gate.
 #![tactic(auto)]
 
 mod panel;
 mod play;
+mod surveys;
 
 pub use panel::{Panel, panel_under};
 pub use play::explore;
+pub use surveys::survey;

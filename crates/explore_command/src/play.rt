@@ -22,7 +22,7 @@ use std::sync::Wait;
 use std::thread::Threads;
 
 /// The most turns that an expert may take.
-const TURNS: u64 = 1 << 48;
+pub(crate) const TURNS: u64 = 1 << 48;
 
 /// A whole text, and whether an expert took all turns before it was done.
 #[derive(Drop)]

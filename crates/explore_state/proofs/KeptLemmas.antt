@@ -113,11 +113,11 @@ module _ (o : Opening) (J : List SetEntry) (K : Context) (acc : List Rule) (hs :
   reply_to-leave e = refl
 
   -- an event that is admitted is due its reply
-  pub kept_due : (event : SetEvent) (reply : SetReply) → Admits o event → reply ≡ reply_to now event → IsDue K acc hs event reply
+  pub kept_due : (event : SetEvent) (reply : SetReply) → Admits o event → reply ≡ reply_to now event → IsDue [] K acc hs event reply
   kept_due event reply ok is = record {
     state = now;
     shown = kept.shown;
-    settings = settings;
+    known = known;
     valid = kept_valid o J K acc hs kept p;
     expert = admitted_expert o J K acc hs kept event ok;
     wide = subst (λ n. has_width n event ≡ true) (sym (kept_width o J K acc hs kept)) ok.wide;

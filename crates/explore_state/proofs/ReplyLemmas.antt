@@ -1,8 +1,6 @@
 -- What a reply tells of the state. A confirmation is accepted only where no row refutes the question that is held and its premise is
 -- new, and a row is taken only where it respects all rules.
-use Rattle.std.proofs.Common.{◌≡◌, ℕ, ◌<◌, Bool, true, false, not, Option, Some, None, List, [], length, eqb-true, refl, sym, ap, ◌∙◌, subst}
-use Rattle.std.proofs.lemmas.Bool.{and_parts}
-use Rattle.std.proofs.lemmas.List.Folds.{list_all-append}
+use Rattle.std.proofs.Common.{◌≡◌, ℕ, ◌<◌, Bool, true, false, not, Option, Some, None, List, [], ◌++◌, length, eqb-true, refl, sym, ap, ◌∙◌, subst}
 use Rattle.std.specs.List.{list_any}
 use Rattle.fca_model.specs.declared.Event.TheVariants.{Draw, Confirm, Row}
 use Rattle.fca_model.specs.declared.Reply.TheVariants.{Accepted, Taken}
@@ -12,7 +10,7 @@ use Rattle.fca_model.specs.Context.{Context}
 use Rattle.fca_model.specs.Implications.{Rule, rule, respects, respects_all, refutes, holds}
 use Rattle.fca_model.specs.Questions.{has_premise}
 use Rattle.fca_model.specs.Invariant.{IsHeld}
-use Rattle.fca_model.specs.Exploration.{State, Settings, RowName, SetHold, SetReply, rules_of, held_by, given_back, first_with, first_missing, confirm_reply, confirm_unrefuted, confirm_unheard, row_reply, row_fitting, row_refuting, row_unbroken, reply_to}
+use Rattle.fca_model.specs.Exploration.{State, RowName, SetHold, SetReply, rules_of, held_by, given_back, first_with, first_missing, confirm_reply, confirm_unrefuted, confirm_unheard, row_reply, row_fitting, row_refuting, row_unbroken, reply_to}
 use Rattle.fca_model.proofs.ListLemmas.{list_all-from_none}
 use Rattle.fca_model.proofs.StepLemmas.{first_with_none}
 use Rattle.fca_model.proofs.ValidLemmas.{held_valid, unrefuted_holds, others_fewer}
@@ -34,8 +32,8 @@ accepts s q k e = unrefuted (first_with (λ r. refutes r q) 0 s.context.rows) re
     )
     unrefuted (Some x) found e = absurd (cc)
 
-module _ (K : Context) (acc : List Rule) (hs : List SetHold) where
-  pub accepted_timely : (e k : ℕ) (reply : SetReply) → IsDue K acc hs (Confirm e) reply → reply ≡ Accepted k → (q : Rule) → held_by e hs ≡ Some q → IsTimely K acc q
+module _ (S : List Rule) (K : Context) (acc : List Rule) (hs : List SetHold) where
+  pub accepted_timely : (e k : ℕ) (reply : SetReply) → IsDue S K acc hs (Confirm e) reply → reply ≡ Accepted k → (q : Rule) → held_by e hs ≡ Some q → IsTimely S K acc q
   unfolding reply_to
   accepted_timely e k reply due is q held =
       let s = due.state in
@@ -44,7 +42,7 @@ module _ (K : Context) (acc : List Rule) (hs : List SetHold) where
       let may = held_valid s due.valid e q mine in
       let here = unrefuted_holds s.context q may.conclusion_wide told.0 in
       record {
-        held = subst (λ S. IsHeld S K acc q) (ap (λ (t : Settings). t.known) due.settings) (subst (λ J. IsHeld s.settings.known K J q) due.shown.accepted (subst (λ L. IsHeld s.settings.known L s.accepted q) due.shown.context may));
+        held = subst (λ T. IsHeld T K acc q) due.known (subst (λ J. IsHeld s.settings.known K J q) due.shown.accepted (subst (λ L. IsHeld s.settings.known L s.accepted q) due.shown.context may));
         holds = subst (λ L. holds L q ≡ true) due.shown.context here;
         new = subst (λ J. has_premise J q.premise ≡ false) due.shown.accepted told.1;
       }
@@ -67,19 +65,19 @@ takes s (Some q) r k e = fitting (first_missing 0 q.premise r) e
     fitting None e = refuting (within q.conclusion r) e
     fitting (Some a) e = absurd (cc)
 
-module _ (K : Context) (acc : List Rule) (hs : List SetHold) where
-  pub taken_respects : (e k : ℕ) (name : RowName) (r : Set) (reply : SetReply) → IsDue K acc hs (Row e name r) reply → reply ≡ Taken k → respects_all acc r ≡ true
+module _ (S : List Rule) (K : Context) (acc : List Rule) (hs : List SetHold) where
+  pub taken_respects : (e k : ℕ) (name : RowName) (r : Set) (reply : SetReply) → IsDue S K acc hs (Row e name r) reply → reply ≡ Taken k → respects_all (S ++ acc) r ≡ true
   unfolding reply_to
   taken_respects e k name r reply due is =
       let s = due.state in
       let all = takes s (held_by e s.holds) r k (sym due.reply ∙ is) in
-      subst (λ J. respects_all J r ≡ true) due.shown.accepted (and_parts (respects_all s.settings.known r) (respects_all s.accepted r) (sym (list_all-append (respects r) s.settings.known s.accepted) ∙ all)).1
+      subst (λ T. respects_all (T ++ acc) r ≡ true) due.known (subst (λ J. respects_all (s.settings.known ++ J) r ≡ true) due.shown.accepted all)
 
-  pub row_width : (e : ℕ) (name : RowName) (r : Set) (reply : SetReply) → IsDue K acc hs (Row e name r) reply → length r ≡ K.width
+  pub row_width : (e : ℕ) (name : RowName) (r : Set) (reply : SetReply) → IsDue S K acc hs (Row e name r) reply → length r ≡ K.width
   row_width e name r reply due = eqb-true (length r) K.width due.wide
 
   -- ---- a draw
 
   -- there is room for one more hold
-  pub draw_room : (e : ℕ) (reply : SetReply) → IsDue K acc hs (Draw e) reply → length (given_back e hs) < MAX_EXPERTS
+  pub draw_room : (e : ℕ) (reply : SetReply) → IsDue S K acc hs (Draw e) reply → length (given_back e hs) < MAX_EXPERTS
   draw_room e reply due = subst (λ gs. length (given_back e gs) < MAX_EXPERTS) due.shown.holds (others_fewer e (rule [] []) due.state.holds due.expert due.valid.experts)

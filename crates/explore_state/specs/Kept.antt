@@ -4,7 +4,7 @@ use Rattle.fca_model.specs.Context.{Context}
 use Rattle.fca_model.specs.Implications.{Rule, holds}
 use Rattle.fca_model.specs.Questions.{has_premise}
 use Rattle.fca_model.specs.Invariant.{IsHeld, IsValid}
-use Rattle.fca_model.specs.Exploration.{State, SetHold, SetEvent, SetReply, SetEntry, plain, reply_to, state_after, events_of, expert_of, has_width, is_expert, IsLegal}
+use Rattle.fca_model.specs.Exploration.{State, SetHold, SetEvent, SetReply, SetEntry, reply_to, state_after, events_of, expert_of, has_width, is_expert, IsLegal}
 use Rattle.explore_state.specs.History.{Opening, opening_state}
 
 -- the state has these rows, accepted implications and holds
@@ -19,12 +19,12 @@ pub record IsKept (o : Opening) (J : List SetEntry) (K : Context) (acc : List Ru
   pub legal : IsLegal (opening_state o) J
   pub experts : is_expert o.experts ≡ true
 
--- the reply is the one to the event, in a state that has these rows, accepted implications and holds
-pub record IsDue (K : Context) (acc : List Rule) (hs : List SetHold) (event : SetEvent)
+-- the reply is the one to the event, in a state that has these known implications, rows, accepted implications and holds
+pub record IsDue (S : List Rule) (K : Context) (acc : List Rule) (hs : List SetHold) (event : SetEvent)
     (answer : SetReply) : Type 0 where
   pub state : State
   pub shown : IsShown state K acc hs
-  pub settings : state.settings ≡ plain
+  pub known : state.settings.known ≡ S
   pub valid : IsValid state
   pub expert : is_expert (expert_of event) ≡ true
   pub wide : has_width K.width event ≡ true
@@ -36,7 +36,7 @@ with_held None acc = acc
 with_held (Some q) acc = acc ++ q ∷ []
 
 -- the question may be held, it holds in the rows, and no accepted implication has its premise
-pub record IsTimely (K : Context) (acc : List Rule) (q : Rule) : Type 0 where
-  pub held : IsHeld [] K acc q
+pub record IsTimely (S : List Rule) (K : Context) (acc : List Rule) (q : Rule) : Type 0 where
+  pub held : IsHeld S K acc q
   pub holds : holds K q ≡ true
   pub new : has_premise acc q.premise ≡ false

@@ -23,11 +23,12 @@ pub(crate) fn change(
     event: &Event,
     reply: &Reply,
 ) -> Result<(), Memory>
-    requires due { IsDue queue.old.context queue.old.accepted held.old.items event.now reply.now }
+    requires due { IsDue queue.old.known queue.old.context queue.old.accepted held.old.items event.now reply.now }
     requires room { MAX_EXPERTS ≤ vec_capacity held.old }
     ensures ok { (s : State) → IsShown s queue.old.context queue.old.accepted held.old.items
         → OnOk result (IsShown (after s event.now reply.now)
         queue.new.context queue.new.accepted held.new.items) }
+    ensures known { queue.new.known ≡ queue.old.known }
     ensures err { OnErr result ((queue.new ≡ queue.old) × (held.new.items ≡ held.old.items)) }
     ensures room { vec_capacity held.new ≡ vec_capacity held.old }
     ensures succeeds { is_recorded reply.now ≡ false → IsOk result }
@@ -69,10 +70,11 @@ fn after_confirmation(
     expert: u8,
     reply: &Reply,
 ) -> Result<(), Memory>
-    requires due { IsDue queue.old.context queue.old.accepted held.old.items (Confirm expert) reply.now }
+    requires due { IsDue queue.old.known queue.old.context queue.old.accepted held.old.items (Confirm expert) reply.now }
     ensures ok { (s : State) → IsShown s queue.old.context queue.old.accepted held.old.items
         → OnOk result (IsShown (after_confirm expert s reply.now)
         queue.new.context queue.new.accepted held.new.items) }
+    ensures known { queue.new.known ≡ queue.old.known }
     ensures err { OnErr result ((queue.new ≡ queue.old) × (held.new.items ≡ held.old.items)) }
     ensures room { vec_capacity held.new ≡ vec_capacity held.old }
     ensures succeeds { is_recorded reply.now ≡ false → IsOk result }
@@ -94,9 +96,10 @@ fn after_confirmation(
 /// Accepts the question that the expert holds.
 fn accept_held(queue: &mut LevelQueue, held: &[Hold], expert: u8) -> Result<(), Memory>
     requires { (q : Rule) → held_by expert held.now ≡ Some q
-        → IsTimely queue.old.context queue.old.accepted q }
+        → IsTimely queue.old.known queue.old.context queue.old.accepted q }
     ensures ok { OnOk result (queue.new ≡ record {
       context = queue.old.context;
+      known = queue.old.known;
       accepted = with_held (held_by expert held.now) queue.old.accepted;
     }) }
     ensures err { OnErr result (queue.new ≡ queue.old) }
@@ -120,11 +123,12 @@ fn after_row(
 ) -> Result<(), Memory>
     requires wide { length row.now ≡ queue.old.context.width }
     requires respecting { (k : ℕ) → reply.now ≡ Taken k
-        → respects_all queue.old.accepted row.now ≡ true }
+        → respects_all (queue.old.known ++ queue.old.accepted) row.now ≡ true }
     ensures ok { (s : State) (name : RowName)
         → IsShown s queue.old.context queue.old.accepted held.old.items
         → OnOk result (IsShown (after_row expert name row.now s reply.now)
         queue.new.context queue.new.accepted held.new.items) }
+    ensures known { queue.new.known ≡ queue.old.known }
     ensures err { OnErr result ((queue.new ≡ queue.old) × (held.new.items ≡ held.old.items)) }
     ensures room { vec_capacity held.new ≡ vec_capacity held.old }
     ensures succeeds { is_recorded reply.now ≡ false → IsOk result }

@@ -82,7 +82,7 @@ pub struct Explore {
 }
 
 impl Model for Explore {
-    ghost use Rattle.std.specs.Prelude.{◌≤◌, ◌-◌, vec_len, vec_capacity};
+    ghost use Rattle.std.specs.Prelude.{◌≡◌, ◌≤◌, ◌-◌, [], vec_len, vec_capacity};
     ghost use Rattle.fca_model.specs.declared.TheConstants.{MAX_EXPERTS};
     ghost use Rattle.fca_model.specs.Exploration.{plain};
     ghost use Rattle.explore_state.specs.History.{History};
@@ -99,6 +99,7 @@ impl Model for Explore {
     ghost invariant = { λ a. record {
       kept : IsKept (record { table = a.table; experts = a.experts; settings = plain })
           a.journal.items a.queue.context a.queue.accepted a.held.items;
+      known : a.queue.known ≡ [];
       room : MAX_EXPERTS ≤ vec_capacity a.held;
     } };
 }

@@ -2,3 +2,4 @@ pub mod TextLemmas
 pub mod PartLemmas
 pub mod PlaceLemmas
 pub mod WordLemmas
+pub mod NumberLemmas

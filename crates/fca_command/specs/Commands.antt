@@ -1,14 +1,16 @@
 -- The commands, word by word: exactly these lists of words are commands.
-use Rattle.std.specs.Prelude.{◌≡◌, ⊤, length, Bool, true, false, not, ◌&&◌, cond, Option, Some, None, List, [], ◌∷◌, option_map, option_and_then, bytes_eq, codes}
+use Rattle.std.specs.Prelude.{◌≡◌, ℕ, ⊤, length, Bool, true, false, not, ◌&&◌, cond, Option, Some, None, List, [], ◌∷◌, option_map, option_and_then, bytes_eq, codes}
 use Rattle.std.specs.List.{list_all}
 use Rattle.std.specs.Str.{is_utf8}
 use Rattle.fca_model.specs.Tables.{Text}
 use Rattle.fca_model.specs.Exploration.{is_expert}
+use Rattle.fca_model.specs.declared.TheConstants.{MAX_ATTRIBUTES}
 use Rattle.fca_command.specs.Experts.{experts_said, count_said}
+use Rattle.fca_command.specs.Recipes.{recipe_said, HasRecipe}
 use Rattle.fca_command.specs.declared.command.Form.{Form}
 use Rattle.fca_command.specs.declared.command.Form.TheVariants.{Cxt, Csv}
 use Rattle.fca_command.specs.declared.command.Command.{Command}
-use Rattle.fca_command.specs.declared.command.Command.TheVariants.{Concepts, Lattice, Basis, Direct, Follows, Convert, Reduce, Arrows, Replay, Explore, Serve}
+use Rattle.fca_command.specs.declared.command.Command.TheVariants.{Concepts, Lattice, Basis, Direct, Follows, Convert, Reduce, Arrows, Replay, Explore, Serve, Make, Survey}
 
 -- ---- the words behind a command's file
 
@@ -99,9 +101,28 @@ abbrev pub over_file : Text → List Text → Option Command
 over_file name [] = None
 over_file name (file ∷ later) = file_command name file later
 
+-- `make S O M D`
+abbrev pub make_command : List Text → Option Command
+make_command (seed ∷ objects ∷ attributes ∷ density ∷ []) =
+    option_map (λ r. Make r.seed r.objects r.attributes r.density) (recipe_said MAX_ATTRIBUTES seed objects attributes density)
+make_command _ = None
+
+-- the most attributes of a table that is surveyed
+abbrev pub most_surveyed : ℕ
+most_surveyed = 46
+
+-- `survey S O M D E`
+abbrev pub survey_command : List Text → Option Command
+survey_command (seed ∷ objects ∷ attributes ∷ density ∷ experts ∷ []) =
+    option_and_then (λ r. option_map (λ count. Survey r.seed r.objects r.attributes r.density count) (count_said experts))
+    (recipe_said most_surveyed seed objects attributes density)
+survey_command _ = None
+
 -- the command of this name by the words behind it
 abbrev pub named_command : Text → List Text → Option Command
-named_command name later = over_file name later
+named_command name later =
+    cond (bytes_eq name (codes "make")) (make_command later)
+    (cond (bytes_eq name (codes "survey")) (survey_command later) (over_file name later))
 
 abbrev pub text_command : List Text → Option Command
 text_command [] = None
@@ -162,10 +183,14 @@ may_end_open _ = false
 abbrev pub is_plain : Command → Bool
 is_plain (Explore file experts) = false
 is_plain (Serve file experts listen) = false
+is_plain (Survey seed objects attributes density experts) = false
 is_plain _ = true
 
--- the limits of what the words of a command say: 1 to 64 experts
+-- the limits of what the words of a command say: 1 to 64 experts, and those of a table that is made
 abbrev pub IsWithinLimits : Command → Type 0
 IsWithinLimits (Explore file experts) = is_expert (length experts) ≡ true
 IsWithinLimits (Serve file experts listen) = is_expert experts ≡ true
+IsWithinLimits (Make seed objects attributes density) = HasRecipe MAX_ATTRIBUTES objects attributes density
+IsWithinLimits (Survey seed objects attributes density experts) =
+    HasRecipe most_surveyed objects attributes density × (is_expert experts ≡ true)
 IsWithinLimits _ = ⊤

@@ -1,8 +1,9 @@
 -- The experts that words name: by their files, or by how many there are.
-use Rattle.std.specs.Prelude.{ℕ, Bool, ◌&&◌, not, nat_le, cond, Option, Some, None, List, [], ◌∷◌, length, option_map, option_and_then, bytes_eq, codes}
+use Rattle.std.specs.Prelude.{ℕ, Bool, ◌&&◌, not, cond, Option, Some, None, List, [], ◌∷◌, length, option_map, option_and_then, bytes_eq, codes}
 use Rattle.fca_model.specs.Tables.{Text}
 use Rattle.fca_model.specs.Exploration.{is_expert}
-use Rattle.cxt_format.specs.Words.{is_number, value_of}
+use Rattle.fca_model.specs.declared.TheConstants.{MAX_EXPERTS}
+use Rattle.fca_command.specs.Numbers.{number_said}
 
 -- the flag of an expert, and a word that is not empty
 abbrev pub names_expert : Text → Text → Bool
@@ -19,6 +20,6 @@ expert_files (flag ∷ file ∷ rest) =
 abbrev pub experts_said : List Text → Option (List Text)
 experts_said words = option_and_then (λ files. cond (is_expert (length files)) (Some files) None) (expert_files words)
 
--- a number of 1 to 64 experts, in at most 20 digits
+-- a number of 1 to 64 experts
 abbrev pub count_said : Text → Option ℕ
-count_said word = cond (is_number word && nat_le (length word) 20) (cond (is_expert (value_of word)) (Some (value_of word)) None) None
+count_said word = option_and_then (λ count. cond (is_expert count) (Some count) None) (number_said MAX_EXPERTS word)

@@ -1,3 +1,5 @@
 pub mod Attributes
+pub mod Numbers
 pub mod Experts
+pub mod Recipes
 pub mod Commands

@@ -3,12 +3,16 @@
 ghost use Rattle.std.specs.Prelude.{◌≡◌, IfOk, IfSome, option_copied};
 ghost use Rattle.std.specs.List.{list_all};
 ghost use Rattle.std.specs.Str.{is_utf8};
-ghost use Rattle.fca_command.specs.Commands.{command_form, text_command, named_command, over_file, file_command, concepts_command, lattice_command, basis_command, json_said, direct_command, follows_command, convert_command, form_named, reduce_command, arrows_command, replay_command, explore_command, serve_command, reported, files_of, first_of, IsWithinLimits};
+ghost use Rattle.fca_command.specs.Commands.{command_form, text_command, named_command, make_command, survey_command, over_file, file_command, concepts_command, lattice_command, basis_command, json_said, direct_command, follows_command, convert_command, form_named, reduce_command, arrows_command, replay_command, explore_command, serve_command, reported, files_of, first_of, IsWithinLimits};
 
 use crate::experts::{count_said, experts_said};
+use crate::recipe::recipe_said;
 use crate::words::Words;
-use fca_model::{Memory, Word};
+use fca_model::{MAX_ATTRIBUTES, Memory, Word};
 use std::alloc::Global;
+
+/// The most attributes of a table that is surveyed: an exploration of it has fewer turns than an expert may take.
+const MAX_SURVEYED: u32 = 46;
 
 /// A form of tables.
 #[derive(Clone, Copy)]
@@ -61,6 +65,19 @@ pub enum Command {
         experts: u8,
         listen: Word,
     },
+    Make {
+        seed: u64,
+        objects: u32,
+        attributes: u32,
+        density: u8,
+    },
+    Survey {
+        seed: u64,
+        objects: u32,
+        attributes: u32,
+        density: u8,
+        experts: u8,
+    },
 }
 
 impl Command {
@@ -97,6 +114,7 @@ impl Command {
             | Command::Replay { file }
             | Command::Explore { file, .. }
             | Command::Serve { file, .. } => file.bytes(),
+            Command::Make { .. } | Command::Survey { .. } => b"",
         }
     }
 }
@@ -140,7 +158,47 @@ fn named_command(alloc: Global, name: &[u8], later: &[Word]) -> Result<Option<Co
     ensures command { IfOk result (λ command. command ≡ named_command name.now later.now) }
     ensures limits { IfOk result (λ command. IfSome command IsWithinLimits) }
 {
-    over_file(alloc, name, later)
+    if name == b"make".as_slice() {
+        Ok(make_command(later))
+    } else if name == b"survey".as_slice() {
+        Ok(survey_command(later))
+    } else {
+        over_file(alloc, name, later)
+    }
+}
+
+fn make_command(later: &[Word]) -> Option<Command>
+    ensures command { result ≡ make_command later.now }
+    ensures limits { IfSome result IsWithinLimits }
+{
+    let [seed, objects, attributes, density] = later else {
+        return None;
+    };
+    let recipe = recipe_said(MAX_ATTRIBUTES, seed, objects, attributes, density)?;
+    Some(Command::Make {
+        seed: recipe.seed,
+        objects: recipe.objects,
+        attributes: recipe.attributes,
+        density: recipe.density,
+    })
+}
+
+fn survey_command(later: &[Word]) -> Option<Command>
+    ensures command { result ≡ survey_command later.now }
+    ensures limits { IfSome result IsWithinLimits }
+{
+    let [seed, objects, attributes, density, experts] = later else {
+        return None;
+    };
+    let recipe = recipe_said(MAX_SURVEYED, seed, objects, attributes, density)?;
+    let experts = count_said(experts.bytes())?;
+    Some(Command::Survey {
+        seed: recipe.seed,
+        objects: recipe.objects,
+        attributes: recipe.attributes,
+        density: recipe.density,
+        experts,
+    })
 }
 
 /// The command of this name over the file that the next word names.

@@ -4,13 +4,10 @@ ghost use Rattle.std.specs.Prelude.{◌≡◌, true, length, IfOk, IfSome, optio
 ghost use Rattle.fca_model.specs.Exploration.{is_expert};
 ghost use Rattle.fca_command.specs.Experts.{names_expert, expert_files, experts_said, count_said};
 
+use crate::numbers::number_said;
 use crate::words::Words;
-use cxt_format::{is_number, value_of};
 use fca_model::{MAX_EXPERTS, Memory, Word};
 use std::alloc::Global;
-
-/// The most digits that a number may have.
-const MAX_DIGITS: usize = 20;
 
 /// The files of one expert or more, each behind its flag.
 pub fn experts_said(alloc: Global, words: &[Word]) -> Result<Option<Words>, Memory>
@@ -53,13 +50,8 @@ pub fn count_said(word: &[u8]) -> Option<u8>
     ensures count { result ≡ count_said word.now }
     ensures expert { IfSome result (λ count. is_expert count ≡ true) }
 {
-    if !is_number(word) || word.len() > MAX_DIGITS {
-        return None;
-    }
-    let count = value_of(word);
-    if 1 <= count && count <= MAX_EXPERTS as usize {
-        Some(count as u8)
-    } else {
-        None
+    match number_said(u64::from(MAX_EXPERTS), word) {
+        Some(count) if count >= 1 => Some(count as u8),
+        _ => None,
     }
 }

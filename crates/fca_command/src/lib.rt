@@ -4,8 +4,11 @@
 mod attributes;
 mod command;
 mod experts;
+mod numbers;
+mod recipe;
 mod words;
 
 pub use attributes::attributes_said;
 pub use command::{Command, Form, command_of};
+pub use recipe::Recipe;
 pub use words::Words;

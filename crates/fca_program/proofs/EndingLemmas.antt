@@ -14,8 +14,8 @@ use Rattle.fca_program.specs.Reports.{report_read}
 use Rattle.fca_program.specs.Outputs.{replay_output, other_output, output_by, output}
 use Rattle.fca_command.specs.Commands.{reported, files_by, files_of, first_of, reads_input, uses_link, may_end_open, is_plain}
 use Rattle.fca_command.specs.declared.command.Command.{Command}
-use Rattle.fca_command.specs.declared.command.Command.TheVariants.{Replay, Explore, Serve}
-use Rattle.fca_program.specs.Endings.{Finishes, Ends, EndsBy, FaultRose, MayReachEnd, HasCourse, IsCommandStop, IsCallStop, fault_file, HasGivenBack}
+use Rattle.fca_command.specs.declared.command.Command.TheVariants.{Replay, Explore, Serve, Make, Survey}
+use Rattle.fca_program.specs.Endings.{Finishes, Ends, EndsBy, FaultRose, MayReachEnd, HasCourse, HasExplored, HasBegunExploring, HasServedExperts, HasBegunServing, MayListen, IsCommandStop, IsCallStop, fault_file, HasGivenBack}
 use Rattle.fca_io.specs.Links.{Ends as LinkEnds}
 use Rattle.explore_command.specs.Panels.{Panel, SomeRose}
 use Rattle.explore_command.specs.Played.{Plays}
@@ -229,6 +229,8 @@ one_file file (Some place) = refl
 pub fault_file-plain : (command : Command) → is_plain command ≡ true → (stop : Stop) → fault_file (Some command) stop ≡ first_of (files_of command)
 fault_file-plain (Explore file experts) plain stop = cc
 fault_file-plain (Serve file experts listen) plain stop = cc
+fault_file-plain (Make s o m d) plain stop = refl
+fault_file-plain (Survey s o m d experts) plain stop = cc
 fault_file-plain _ plain stop = one_file _ (stop_expert stop)
 
 pub told-by : (Told : Text → Type 0) (MayCome : Stop → Type 0) (f g : Stop → Text) (n : ℕ) → ((stop : Stop) → f stop ≡ g stop) → IsTold Told MayCome f n → IsTold Told MayCome g n
@@ -243,6 +245,8 @@ memory-comes_of : (command : Command) (files : Text → Told) (input : Option Te
 memory-comes_of (Replay file) files input = inl tt
 memory-comes_of (Explore file experts) files input = inl tt
 memory-comes_of (Serve file experts listen) files input = inl tt
+memory-comes_of (Make s o m d) files input = refl
+memory-comes_of (Survey s o m d experts) files input = refl
 memory-comes_of _ files input = inl tt
 
 pub memory-comes : (found : Option Command) (files : Text → Told) (input : Option Text) → IsCallStop found files input Memory
@@ -252,3 +256,52 @@ memory-comes (Some command) files input = memory-comes_of command files input
 pub none-comes : (found : Option Command) (files : Text → Told) (input : Option Text) → found ≡ None → IsCallStop found files input NoCommand
 none-comes None files input none = inl refl
 none-comes (Some command) files input none = cc
+
+-- ---- commands that stop for want of memory alone
+
+pub memory-stops : (reading : Reading Output) (rose : Type 0) (answer : Result Output Stop) → IfErr answer (λ stop. stop ≡ Memory)
+    → IfErr answer (λ stop. Stops reading rose (stop_status stop))
+memory-stops reading rose (Ok a) cause = tt
+memory-stops reading rose (Err s) cause =
+    let five : stop_status s ≡ 5 = ap stop_status cause in
+    record { refused = λ two. absurd (omega arith); fault = λ three. absurd (omega arith); others = inr (inr five) }
+
+pub finished-not_six : (o : Output) (n : ℕ) → o.is_open ≡ false → Ends (Read o) n → n ≡ 6 → ⊥
+finished-not_six o n finished (inl whole) six = finished-status o n finished (inl whole) six
+finished-not_six o n finished (inr (inl three)) six = omega arith
+finished-not_six o n finished (inr (inr (inl four))) six = omega arith
+finished-not_six o n finished (inr (inr (inr five))) six = omega arith
+
+-- ---- commands that wait for nobody: what is said of explorations and sessions does not speak of them
+
+pub plain-EndsBy : (command : Command) (files : Text → Told) (input : Option Text) (n : ℕ) → is_plain command ≡ true → Ends (output command files input) n → EndsBy command files input n
+plain-EndsBy (Explore file experts) files input n plain ends = cc
+plain-EndsBy (Serve file experts listen) files input n plain ends = cc
+plain-EndsBy _ files input n plain ends = ends
+
+pub plain-HasExplored : (command : Command) (files : Text → Told) (Gained : Text → Type 0) (n : ℕ) → is_plain command ≡ true → HasExplored command files Gained n
+plain-HasExplored (Explore file experts) files Gained n plain = cc
+plain-HasExplored _ files Gained n plain = tt
+
+pub plain-HasBegunExploring : (command : Command) (files : Text → Told) (Gained : Text → Type 0) → is_plain command ≡ true → HasBegunExploring command files Gained
+plain-HasBegunExploring (Explore file experts) files Gained plain = cc
+plain-HasBegunExploring _ files Gained plain = tt
+
+pub plain-MayListen : (command : Command) (listens : Bool) (at : Option Text) → is_plain command ≡ true → MayListen command listens at
+plain-MayListen (Serve file experts listen) listens at plain = cc
+plain-MayListen _ listens at plain = tt
+
+module _ {E : Type 0} (left held : E → Option Text) (reads writes : E → ℕ) where
+  pub plain-HasServedExperts : (command : Command) (files : Text → Told) (Gained : Text → Type 0) (old new : Option (LinkEnds E)) (n : ℕ) → is_plain command ≡ true
+      → HasServedExperts left held reads writes command files Gained old new n
+  plain-HasServedExperts (Serve file experts listen) files Gained old new n plain = cc
+  plain-HasServedExperts _ files Gained old new n plain = tt
+
+  pub plain-HasBegunServing : (command : Command) (files : Text → Told) (Gained : Text → Type 0) (old new : Option (LinkEnds E)) → is_plain command ≡ true
+      → HasBegunServing left held reads writes command files Gained old new
+  plain-HasBegunServing (Serve file experts listen) files Gained old new plain = cc
+  plain-HasBegunServing _ files Gained old new plain = tt
+
+  pub plain-HasGivenBack : (command : Command) (old new : Option (LinkEnds E)) (n : ℕ) → is_plain command ≡ true → HasGivenBack left held reads writes command old new n
+  plain-HasGivenBack (Serve file experts listen) old new n plain = cc
+  plain-HasGivenBack _ old new n plain = tt

@@ -5,6 +5,7 @@ ghost use Rattle.std.specs.Prelude.{◌≡◌, IfErr};
 
 mod ends;
 mod link;
+mod made;
 mod replay;
 mod reports;
 mod run;

@@ -7,12 +7,13 @@ ghost use Rattle.fca_command.specs.Commands.{reported};
 ghost use Rattle.command_io.specs.Readings.{MayRead};
 ghost use Rattle.command_io.specs.Readings.Reading.{Refused, Read};
 ghost use Rattle.command_io.specs.Endings.{stop_status, Stops};
-ghost use Rattle.fca_program.specs.Reports.{attributes_read, table_concepts, table_lattice, table_basis, table_direct, table_verdict, verdict_read, table_written, table_reduced, table_arrows, table_report, report_read};
+ghost use Rattle.fca_program.specs.Reports.{attributes_read, table_concepts, table_basis, table_direct, table_verdict, verdict_read, table_written, table_reduced, table_arrows, table_report, report_read};
 ghost use Rattle.fca_program.specs.Endings.{IsReportStop};
 
 use attr_bits::Attrs;
 use basis_report::{
-    basis_json, basis_text, concepts_json, concepts_text, direct_text, lattice_text, verdict_text,
+    basis_json, basis_text, concepts_json, direct_text, table_concepts_text, table_lattice_text,
+    verdict_text,
 };
 use canonical_basis::basis;
 use command_io::{Answer, Origin, Stop, table_under};
@@ -24,8 +25,7 @@ use direct_basis::proper_premises;
 use fca_command::{Command, Form, attributes_said};
 use fca_io::Shelf;
 use fca_model::{Memory, Word};
-use lattice_covers::covers;
-use lectic_concepts::{all_concepts, all_intents, concepts_of};
+use lectic_concepts::all_concepts;
 use std::alloc::Global;
 use std::thread::Threads;
 
@@ -62,7 +62,7 @@ fn report_on<R: Threads + Sync>(
 {
     match command {
         Command::Concepts { json, .. } => Ok(table_concepts(alloc, *json, table)?),
-        Command::Lattice { .. } => Ok(table_lattice(alloc, table)?),
+        Command::Lattice { .. } => Ok(table_lattice_text(alloc, table)?),
         Command::Basis { json, .. } => Ok(table_basis(rt, alloc, *json, table)?),
         Command::Direct { .. } => Ok(table_direct(alloc, table)?),
         Command::Follows {
@@ -81,22 +81,12 @@ fn report_on<R: Threads + Sync>(
 fn table_concepts(alloc: Global, json: bool, table: &Table) -> Result<Vec<u8>, Memory>
     ensures { IfOk result (λ text. text.items ≡ table_concepts json table.now) }
 {
-    let concepts = all_concepts(alloc, table.rows())?;
     if json {
+        let concepts = all_concepts(alloc, table.rows())?;
         concepts_json(alloc, table, &concepts)
     } else {
-        concepts_text(alloc, table, &concepts)
+        table_concepts_text(alloc, table)
     }
-}
-
-/// The concepts of the table and their covers.
-fn table_lattice(alloc: Global, table: &Table) -> Result<Vec<u8>, Memory>
-    ensures { IfOk result (λ text. text.items ≡ table_lattice table.now) }
-{
-    let intents = all_intents(alloc, table.rows())?;
-    let covers = covers(alloc, table.rows(), &intents)?;
-    let concepts = concepts_of(alloc, table.rows(), &intents)?;
-    lattice_text(alloc, table, &concepts, &covers)
 }
 
 /// The basis of the table.

@@ -12,11 +12,12 @@ ghost use Rattle.command_io.specs.Endings.{Stops, IsWhole, IsSilent, IsUnread, s
 ghost use Rattle.command_io.specs.ErrLines.{stop_line, GainsLine, IsTold};
 ghost use Rattle.fca_program.specs.Endings.{Ends, EndsBy, FaultRose, MayReachEnd, HasCourse, HasExplored, HasBegunExploring, LinkFaultRose, IsCommandStop, IsOtherStop, IsCallStop, fault_file, MayListen, HasServedExperts, HasBegunServing, HasGivenBack};
 
+use crate::made::{made_answer, run_survey};
 use crate::replay::replay;
 use crate::reports::report_answer;
 use command_io::{Answer, Stop, conclude, report};
 use explore_command::explore;
-use fca_command::{Command, command_of};
+use fca_command::{Command, Recipe, command_of};
 use fca_io::{Listener, Shelf, Sink, Source};
 use fca_model::{Memory, Word};
 use serve_command::serve;
@@ -153,6 +154,21 @@ fn run_command<R: Threads + Wait + Sync, H: Shelf, S: Source, K: Sink, E: Sink, 
             experts,
             listen,
         } => serve(rt, alloc, shelf, file, *experts, listen, out, err, link),
+        Command::Survey {
+            seed,
+            objects,
+            attributes,
+            density,
+            experts,
+        } => {
+            let recipe = Recipe {
+                seed: *seed,
+                objects: *objects,
+                attributes: *attributes,
+                density: *density,
+            };
+            run_survey(rt, alloc, &recipe, *experts, out, err)
+        }
         _ => run_plain(rt, alloc, command, shelf, input, out, err),
     }
 }
@@ -167,7 +183,8 @@ pub fn run_plain<R: Threads + Sync, H: Shelf, S: Source, K: Sink, E: Sink>(
     out: &mut K,
     err: &mut E,
 ) -> u8
-    requires { is_plain command.now ≡ true }
+    requires plain { is_plain command.now ≡ true }
+    requires limits { IsWithinLimits command.now }
 
     // Which status comes.
     ensures status { Ends (output command.now (H.tells shelf.old) (S.left input.old)) result }
@@ -205,7 +222,8 @@ fn answer_to<R: Threads + Sync, H: Shelf, S: Source>(
     shelf: &mut H,
     input: &mut S,
 ) -> Result<Answer, Stop>
-    requires { is_plain command.now ≡ true }
+    requires plain { is_plain command.now ≡ true }
+    requires limits { IsWithinLimits command.now }
     ensures output { IfOk result (λ answer. MayRead (output command.now (H.tells shelf.old) (S.left input.old)) answer) }
     ensures stop { IfErr result (λ stop. Stops (output command.now (H.tells shelf.old) (S.left input.old))
         (FaultRose command.now (H.faults shelf.old) (H.faults shelf.new) (S.faults input.old) (S.faults input.new)) (stop_status stop)) }
@@ -229,6 +247,7 @@ fn other_answer<H: Shelf, S: Source>(
     input: &mut S,
 ) -> Result<Answer, Stop>
     requires plain { is_plain command.now ≡ true }
+    requires limits { IsWithinLimits command.now }
     requires other { reported command.now ≡ None }
     ensures output { IfOk result (λ answer. MayRead (other_output command.now (H.tells shelf.old) (S.left input.old)) answer) }
     ensures stop { IfErr result (λ stop. Stops (other_output command.now (H.tells shelf.old) (S.left input.old))
@@ -241,6 +260,20 @@ fn other_answer<H: Shelf, S: Source>(
 {
     match command {
         Command::Replay { file } => replay(alloc, shelf, input, file),
+        Command::Make {
+            seed,
+            objects,
+            attributes,
+            density,
+        } => {
+            let recipe = Recipe {
+                seed: *seed,
+                objects: *objects,
+                attributes: *attributes,
+                density: *density,
+            };
+            Ok(made_answer(alloc, &recipe)?)
+        }
         _ => unreachable!(),
     }
 }

@@ -6,7 +6,7 @@ use crate::run::run;
 use fca_io::{
     Listener, MemoryEnd, MemoryLink, MemoryShelf, MemorySink, MemorySource, Shelf, Sink, Source,
 };
-use fca_model::{FILE_BYTES, Memory, Word};
+use fca_model::{FILE_BYTES, MAX_ATTRIBUTES, Memory, Word};
 use std::alloc::Global;
 use std::sync::Wait;
 use std::test::Fail;
@@ -155,7 +155,42 @@ const EXPLORATIONS: [Call; 11] = [
     ),
 ];
 
-const TABLES: [Call; 24] = [
+const TABLES: [Call; 29] = [
+    (
+        &[b"make", b"0", b"2", b"2", b"4"],
+        b"",
+        b"",
+        0,
+        b"B\n\n2\n2\n\ng1\ng2\nm1\nm2\nXX\n.X\n",
+    ),
+    (
+        &[b"make", b"18446744073709551615", b"0", b"00", b"8"],
+        b"",
+        b"",
+        0,
+        b"B\n\n0\n0\n\n",
+    ),
+    (
+        &[b"survey", b"0", b"2", b"2", b"4", b"2"],
+        b"",
+        b"",
+        0,
+        b"objects 2\nattributes 2\ncrosses 3\nconcepts 2\nbasis 1\nexplored 1\n",
+    ),
+    (
+        &[b"survey", b"1", b"1000", b"40", b"0", b"4"],
+        b"",
+        b"",
+        0,
+        b"objects 1000\nattributes 40\ncrosses 0\nconcepts 2\nbasis 40\nexplored 40\n",
+    ),
+    (
+        &[b"survey", b"1", b"1000", b"40", b"8", b"4"],
+        b"",
+        b"",
+        0,
+        b"objects 1000\nattributes 40\ncrosses 40000\nconcepts 1\nbasis 1\nexplored 1\n",
+    ),
     (
         &[b"concepts", b"F"],
         NO_ATTRIBUTES,
@@ -308,7 +343,63 @@ const TABLES: [Call; 24] = [
     ),
 ];
 
-const REFUSALS: [Call; 33] = [
+const REFUSALS: [Call; 40] = [
+    (
+        &[b"make", b"18446744073709551616", b"2", b"2", b"4"],
+        b"",
+        b"",
+        1,
+        b"fca: no such command\n",
+    ),
+    (
+        &[b"make", b"000000000000000000000", b"2", b"2", b"4"],
+        b"",
+        b"",
+        1,
+        b"fca: no such command\n",
+    ),
+    (
+        &[b"make", b"+1", b"2", b"2", b"4"],
+        b"",
+        b"",
+        1,
+        b"fca: no such command\n",
+    ),
+    (
+        &[b"make", b"0", b"65537", b"2", b"4"],
+        b"",
+        b"",
+        1,
+        b"fca: no such command\n",
+    ),
+    (
+        &[b"make", b"0", b"2", b"1025", b"4"],
+        b"",
+        b"",
+        1,
+        b"fca: no such command\n",
+    ),
+    (
+        &[b"make", b"0", b"2", b"2", b"9"],
+        b"",
+        b"",
+        1,
+        b"fca: no such command\n",
+    ),
+    (
+        &[b"survey", b"0", b"2", b"47", b"4", b"2"],
+        b"",
+        b"",
+        1,
+        b"fca: no such command\n",
+    ),
+    (
+        &[b"survey", b"0", b"2", b"2", b"4", b"0"],
+        b"",
+        b"",
+        1,
+        b"fca: no such command\n",
+    ),
     (
         CONVERT,
         b"B\n\n2\n2\n\ng\nh\na\nb\nX.\n",
@@ -347,7 +438,7 @@ const REFUSALS: [Call; 33] = [
     (CONVERT, b"", b"", 2, b"fca: F: line 1: ended\n"),
     (
         CONVERT,
-        b"B\n\n0\n257\n",
+        b"B\n\n0\n1025\n",
         b"",
         2,
         b"fca: F: line 4: too many\n",
@@ -404,13 +495,6 @@ const REFUSALS: [Call; 33] = [
         b"fca: F.csv: record 1: field 3: duplicate attribute\n",
     ),
     (CONVERT_CSV, b"", b"", 2, b"fca: F.csv: no header\n"),
-    (
-        CONVERT_CSV,
-        b",,,,,,,,,,,,,,,,,,,,,,,,,,,,,,,,,,,,,,,,,,,,,,,,,,,,,,,,,,,,,,,,,,,,,,,,,,,,,,,,,,,,,,,,,,,,,,,,,,,,,,,,,,,,,,,,,,,,,,,,,,,,,,,,,,,,,,,,,,,,,,,,,,,,,,,,,,,,,,,,,,,,,,,,,,,,,,,,,,,,,,,,,,,,,,,,,,,,,,,,,,,,,,,,,,,,,,,,,,,,,,,,,,,,,,,,,,,,,,,,,,,,,,,,,,,,,,,,,\n",
-        b"",
-        2,
-        b"fca: F.csv: too many attributes\n",
-    ),
     (
         CONVERT_CSV,
         b",a,\n",
@@ -821,6 +905,19 @@ fn long_files_are_refused(rt: HostRuntime) -> Result<(), Fail> {
     long.resize(FILE_BYTES + 1, b'B')?;
     let called = outcome(&rt, rt.alloc(), CONVERT, &long, b"", 0, &[], &[])?;
     assert_eq!(rt; called.ends.err.written(), b"fca: F: too long\n".as_slice());
+    Ok(())
+}
+
+#[test]
+fn wide_headers_are_refused(rt: HostRuntime) -> Result<(), Fail> {
+    let mut wide = Vec::new(rt.alloc());
+    wide.resize(MAX_ATTRIBUTES + 1, b',')?;
+    let called = outcome(&rt, rt.alloc(), CONVERT_CSV, &wide, b"", 0, &[], &[])?;
+    assert_eq!(rt; called.status, 2);
+    assert_eq!(rt;
+        called.ends.err.written(),
+        b"fca: F.csv: too many attributes\n".as_slice()
+    );
     Ok(())
 }
 

@@ -16,11 +16,11 @@ pub record AreImplied (K : Context) (A : Set) (ws : List ℕ) : Type 0 where
   pub member : (i : ℕ) → i < K.width → slice_index_or (closure K (slice_set A i true)) (slice_index_or ws i 0) false ≡ true
 
 -- the link has the rows that contain its intent, and members of closures above it
-pub record IsLink (K : Context) (link : Link) : Type 0 where
+pub record IsLink (K : Context) {W : ℕ} (link : Link W) : Type 0 where
   pub above : link.above ≡ rows_above K link.intent
   pub implied : AreImplied K link.intent link.implied.items
 
-abbrev pub AreLinks : Context → List Link → Type 0
+abbrev pub AreLinks : Context → {W : ℕ} → List (Link W) → Type 0
 AreLinks K links = All (IsLink K) links
 
 -- how many sets of a list in lectic order come before X: the place of X, if it is in the list

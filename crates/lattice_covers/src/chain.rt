@@ -5,27 +5,27 @@ ghost use Rattle.fca_model.specs.Sets.{within};
 ghost use Rattle.fca_model.specs.Context.{closure};
 ghost use Rattle.lattice_covers.specs.Neighbours.{IsLink, AreLinks};
 
-use attr_bits::Attrs;
-use derivation::Rows;
+use attr_bits::Bits;
+use derivation::RowsOf;
 use fca_model::Memory;
 use std::alloc::Global;
 
 /// An intent, the rows that contain it, and for each attribute a member of the closure of the intent with it.
 #[derive(Drop)]
-pub(crate) struct Link {
-    pub(crate) intent: Attrs,
-    pub(crate) above: Rows,
+pub(crate) struct Link<const W: usize> {
+    pub(crate) intent: Bits<W>,
+    pub(crate) above: RowsOf<W>,
     pub(crate) implied: Vec<u32>,
 }
 
 /// The link of a. Links whose intents a does not contain are dropped from the end; the rows of the last one that is left are looked through, and what
 /// its closures have, those of a have too.
-pub(crate) fn link_of(
+pub(crate) fn link_of<const W: usize>(
     alloc: Global,
-    rows: &Rows,
-    chain: &mut Vec<Link>,
-    a: &Attrs,
-) -> Result<Link, Memory>
+    rows: &RowsOf<W>,
+    chain: &mut Vec<Link<W>>,
+    a: &Bits<W>,
+) -> Result<Link<W>, Memory>
     requires wide { length a.now ≡ rows.now.width }
     requires links { AreLinks rows.now chain.old.items }
     ensures link { IfOk result (λ link. (link.intent ≡ a.now) × IsLink rows.now link) }
@@ -41,7 +41,12 @@ pub(crate) fn link_of(
 }
 
 /// The link of a, whose part the intent of the given one is.
-fn next_link(alloc: Global, rows: &Rows, link: &Link, a: &Attrs) -> Result<Link, Memory>
+fn next_link<const W: usize>(
+    alloc: Global,
+    rows: &RowsOf<W>,
+    link: &Link<W>,
+    a: &Bits<W>,
+) -> Result<Link<W>, Memory>
     requires wide { length a.now ≡ rows.now.width }
     requires link { IsLink rows.now link.now }
     requires larger { within link.now.intent a.now ≡ true }
@@ -55,7 +60,11 @@ fn next_link(alloc: Global, rows: &Rows, link: &Link, a: &Attrs) -> Result<Link,
 }
 
 /// The link of a, of which nothing was seen yet.
-fn first_link(alloc: Global, rows: &Rows, a: &Attrs) -> Result<Link, Memory>
+fn first_link<const W: usize>(
+    alloc: Global,
+    rows: &RowsOf<W>,
+    a: &Bits<W>,
+) -> Result<Link<W>, Memory>
     requires { length a.now ≡ rows.now.width }
     ensures { IfOk result (λ link. (link.intent ≡ a.now) × IsLink rows.now link) }
 {
@@ -71,12 +80,12 @@ fn first_link(alloc: Global, rows: &Rows, a: &Attrs) -> Result<Link, Memory>
 }
 
 /// The closure of the intent with attribute i, if all its members are allowed. Where that was seen to fail for a smaller intent, it is not computed.
-pub(crate) fn closure_if_allowed(
-    rows: &Rows,
-    link: &mut Link,
+pub(crate) fn closure_if_allowed<const W: usize>(
+    rows: &RowsOf<W>,
+    link: &mut Link<W>,
     i: u32,
-    allowed: &Attrs,
-) -> Option<Attrs>
+    allowed: &Bits<W>,
+) -> Option<Bits<W>>
     requires wide { length link.old.intent ≡ rows.now.width }
     requires allowed { length allowed.now ≡ rows.now.width }
     requires link { IsLink rows.now link.old }

@@ -9,15 +9,38 @@ ghost use Rattle.fca_model.specs.Sets.{increasing};
 ghost use Rattle.fca_model.specs.Pseudo.{intents as closed_sets, covers, is_cover};
 ghost use Rattle.lattice_covers.specs.Neighbours.{IsLink, pairs_with};
 
-use attr_bits::Attrs;
+use attr_bits::{Attrs, Bits, WORDS};
 use chain::{Link, closure_if_allowed, link_of};
-use derivation::Rows;
+use derivation::{Rows, RowsOf};
 use fca_model::Memory;
+use lectic_concepts::{FOUR_WORDS, ONE_WORD, in_words};
 use places::place_in;
 use std::alloc::Global;
 
-/// The pairs of places of intents of which the second is an upper neighbour of the first, ordered by the first and then the second.
+/// The pairs of places of intents of which the second is an upper neighbour of the first, ordered by the first and then the second. They are found in sets
+/// as narrow as the table.
 pub fn covers(alloc: Global, rows: &Rows, intents: &[Attrs]) -> Result<Vec<(usize, usize)>, Memory>
+    requires { intents.now ≡ closed_sets rows.now }
+    ensures { IfOk result (λ pairs. pairs.items ≡ covers rows.now) }
+{
+    let width = rows.width();
+    if width <= ONE_WORD {
+        let narrow = in_words::<WORDS, 1>(alloc, width, intents)?;
+        return covers_of(alloc, &rows.resized::<1>(alloc)?, &narrow);
+    }
+    if width <= FOUR_WORDS {
+        let narrow = in_words::<WORDS, 4>(alloc, width, intents)?;
+        return covers_of(alloc, &rows.resized::<4>(alloc)?, &narrow);
+    }
+    covers_of(alloc, rows, intents)
+}
+
+/// The covers, of sets of the words that the rows have.
+pub fn covers_of<const W: usize>(
+    alloc: Global,
+    rows: &RowsOf<W>,
+    intents: &[Bits<W>],
+) -> Result<Vec<(usize, usize)>, Memory>
     requires { intents.now ≡ closed_sets rows.now }
     ensures { IfOk result (λ pairs. pairs.items ≡ covers rows.now) }
 {
@@ -37,7 +60,11 @@ pub fn covers(alloc: Global, rows: &Rows, intents: &[Attrs]) -> Result<Vec<(usiz
 /// Puts the upper neighbours of the intent into the list, in the place of what it had.
 /// The closure of the intent with one attribute more is one of them, unless it has a further new attribute that is still to be tried, or that has led to
 /// one (Lindig, "Fast concept analysis", 2000).
-fn find_neighbours(neighbours: &mut Vec<Attrs>, rows: &Rows, link: &mut Link) -> Result<(), Memory>
+fn find_neighbours<const W: usize>(
+    neighbours: &mut Vec<Bits<W>>,
+    rows: &RowsOf<W>,
+    link: &mut Link<W>,
+) -> Result<(), Memory>
     requires wide { length link.old.intent ≡ rows.now.width }
     requires link { IsLink rows.now link.old }
     ensures found { OnOk result (neighbours.new.items
@@ -63,13 +90,13 @@ fn find_neighbours(neighbours: &mut Vec<Attrs>, rows: &Rows, link: &mut Link) ->
 }
 
 /// Puts the pairs of i with the places of the sets, which are larger than a, last.
-fn add_pairs(
+fn add_pairs<const W: usize>(
     pairs: &mut Vec<(usize, usize)>,
-    intents: &[Attrs],
+    intents: &[Bits<W>],
     latest: &mut [usize],
     i: usize,
-    a: &Attrs,
-    sets: &[Attrs],
+    a: &Bits<W>,
+    sets: &[Bits<W>],
 ) -> Result<(), Memory>
     requires { increasing intents.now ≡ true }
     ensures { OnOk result (pairs.new.items ≡ pairs.old.items ++ pairs_with intents.now i sets.now) }

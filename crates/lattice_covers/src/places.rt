@@ -1,17 +1,23 @@
 //! Where a set stands in a list in lectic order.
 
 ghost use Rattle.std.specs.Prelude.{◌≡◌, true};
-ghost use Rattle.fca_model.specs.Sets.{increasing};
+ghost use Rattle.std.specs.Ordering.{is_lt};
+ghost use Rattle.fca_model.specs.Sets.{increasing, lectic_cmp};
 ghost use Rattle.lattice_covers.specs.Neighbours.{place_in};
 
-use attr_bits::Attrs;
+use attr_bits::Bits;
 
 /// How many places behind the one of the set before are looked at.
 const WINDOW: usize = 64;
 
 /// How many of the sets, which are in lectic order, come before x. `latest` says for each attribute where the last set stood whose least new attribute
 /// it was: upper neighbours of intents that follow each other mostly follow each other too. A place that is found so is looked at before it is told.
-pub(crate) fn place_in(sets: &[Attrs], latest: &mut [usize], attribute: u32, x: &Attrs) -> usize
+pub(crate) fn place_in<const W: usize>(
+    sets: &[Bits<W>],
+    latest: &mut [usize],
+    attribute: u32,
+    x: &Bits<W>,
+) -> usize
     requires { increasing sets.now ≡ true }
     ensures { result ≡ place_in sets.now x.now }
 {
@@ -27,7 +33,7 @@ fn latest_of(latest: &[usize], attribute: u32) -> usize {
 }
 
 /// The place, which is looked for behind the place given first.
-fn place_from(sets: &[Attrs], before: usize, x: &Attrs) -> usize
+fn place_from<const W: usize>(sets: &[Bits<W>], before: usize, x: &Bits<W>) -> usize
     requires { increasing sets.now ≡ true }
     ensures { result ≡ place_in sets.now x.now }
 {
@@ -39,7 +45,7 @@ fn place_from(sets: &[Attrs], before: usize, x: &Attrs) -> usize
 }
 
 /// A place from the given one on where the set may stand.
-fn place_near(sets: &[Attrs], from: usize, x: &Attrs) -> usize {
+fn place_near<const W: usize>(sets: &[Bits<W>], from: usize, x: &Bits<W>) -> usize {
     let end = sets.len().min(from.saturating_add(WINDOW));
     if end <= from || sets[from] == *x {
         return from;
@@ -48,8 +54,12 @@ fn place_near(sets: &[Attrs], from: usize, x: &Attrs) -> usize {
 }
 
 /// How many of the sets come before x, by halves of the list.
-fn count_before(sets: &[Attrs], x: &Attrs) -> usize
+fn count_before<const W: usize>(sets: &[Bits<W>], x: &Bits<W>) -> usize
     ensures { increasing sets.now ≡ true → result ≡ place_in sets.now x.now }
 {
-    sets.partition_point(|set| set.lectic_cmp(x).is_lt())
+    sets.partition_point(
+        |set: &Bits<W>| -> bool
+            ensures { result ≡ is_lt (lectic_cmp set.now x.entry.now) }
+        { set.lectic_cmp(x).is_lt() },
+    )
 }

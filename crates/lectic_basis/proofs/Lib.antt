@@ -7,3 +7,5 @@ pub mod EntryLemmas
 pub mod WatchLemmas
 pub mod WaitLemmas
 pub mod WalkLemmas
+pub mod NextLevelLemmas
+pub mod LevelWalkLemmas

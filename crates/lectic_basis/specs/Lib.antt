@@ -2,3 +2,5 @@ pub mod Entries
 pub mod Trees
 pub mod Walks
 pub mod Watches
+pub mod NextLevel
+pub mod LevelWalks

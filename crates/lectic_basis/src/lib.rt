@@ -3,6 +3,7 @@
 #![tactic(auto)]
 
 mod closing;
+mod levels;
 #[cfg(test)]
 mod tests;
 mod tree;
@@ -17,6 +18,7 @@ use attr_bits::Attrs;
 use derivation::Rows;
 use fca_model::Memory;
 use implication_closure::ImplicationList;
+pub use levels::{Level, next_level};
 use std::alloc::Global;
 use tree::visit;
 use watched_list::WatchedList;

@@ -1,10 +1,10 @@
-//! A worked example.
+//! Worked examples.
 
-use crate::basis_watched;
+use crate::{basis_watched, next_level};
 use attr_bits::Attrs;
 use derivation::Rows;
 use fca_model::Memory;
-use implication_closure::ImplicationList;
+use implication_closure::{Implication, ImplicationList};
 use std::rt::HostRuntime;
 
 // Three attributes, and one object that has the last alone.
@@ -21,5 +21,24 @@ fn one_object_with_the_last_attribute(rt: HostRuntime) -> Result<(), Memory> {
     assert!(&rt; members[1].premise == none.with(1).with(2));
     assert!(&rt; members[2].premise == none.with(0).with(2));
     assert!(&rt; members[2].conclusion == Attrs::full(3));
+    Ok(())
+}
+
+// The same table: the level of size 0, and when its member is accepted that of size 2.
+#[test]
+fn two_levels(rt: HostRuntime) -> Result<(), Memory> {
+    let none = Attrs::empty(3);
+    let mut rows = Rows::new(rt.alloc(), 3)?;
+    rows.push(none.with(2))?;
+    let mut rules = ImplicationList::new(rt.alloc(), 3)?;
+    let first = next_level(rt.alloc(), &rows, &rules)?;
+    assert!(&rt; first.size == 0 && first.members.len() == 1);
+    rules.push(Implication {
+        premise: none,
+        conclusion: none.with(2),
+    })?;
+    let second = next_level(rt.alloc(), &rows, &rules)?;
+    assert!(&rt; second.size == 2 && second.members.len() == 2);
+    assert!(&rt; second.members[1].premise == none.with(0).with(2));
     Ok(())
 }

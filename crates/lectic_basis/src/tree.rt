@@ -94,7 +94,7 @@ fn spread(
 }
 
 /// Whether it pays to set apart the rows that contain a. What is found is the same either way, so no contract speaks of it.
-fn pays(above: &Rows, a: &Attrs, from: u32) -> bool {
+pub(crate) fn pays(above: &Rows, a: &Attrs, from: u32) -> bool {
     above.len() > FEW_ROWS && lacking(a, from) > FEW_ATTRIBUTES
 }
 

@@ -1,32 +1,38 @@
--- An accepted question keeps the queue: what contains its premise and respects it contains its closure, which has grown.
-use Rattle.std.proofs.Common.{◌≡◌, ℕ, suc, ◌<◌, ◌≤◌, Bool, true, false, not, ◌&&◌, ◌||◌, cond, Some, List, [], ◌∷◌, ◌++◌, length, filter, get_or, refl, sym, ap, ◌∙◌, subst, arith, inl, inr, eqb, eqb-true, eq-eqb, leb, le-leb}
-use Rattle.std.proofs.lemmas.Bool.{false≢true, and_parts, and_from, cases_Bool, or_cases, or_left, or_right, not-true}
+-- An accepted question keeps the queue.
+use Rattle.std.proofs.Common.{◌≡◌, ℕ, zero, suc, ◌<◌, Bool, true, false, not, ◌&&◌, ◌||◌, cond, Some, List, [], ◌∷◌, ◌++◌, length, filter, get_or, remove, refl, sym, ap, ◌∙◌, subst, arith, eqb, eqb-true, eq-eqb, leb, le-leb}
+use Rattle.std.proofs.lemmas.Bool.{false≢true, and_parts, and_from, not-true, false_from_ne_true}
 use Rattle.std.proofs.lemmas.List.Folds.{list_all-append, list_any-append}
 use Rattle.std.proofs.lemmas.List.Sums.{AllPass-from_list_all}
 use Rattle.std.proofs.lemmas.Option.{slice_get-get_or}
-use Rattle.std.specs.List.{list_all, list_any, slice_get}
-use Rattle.fca_model.specs.Sets.{Set, size, within, same}
-use Rattle.fca_model.specs.Context.{Context, closure, is_closed}
-use Rattle.fca_model.specs.Implications.{Rule, respects, respects_all}
+use Rattle.std.specs.List.{list_all, slice_get}
+use Rattle.std.specs.Ordering.{is_lt}
+use Rattle.fca_model.specs.Sets.{Set, size, same, increasing, lectic_cmp}
+use Rattle.fca_model.specs.Context.{Context, closure}
+use Rattle.fca_model.specs.Implications.{Rule, premises}
 use Rattle.fca_model.specs.Pseudo.{basis_known}
 use Rattle.fca_model.specs.Questions.{has_premise}
 use Rattle.fca_model.specs.Levels.{level_of}
-use Rattle.fca_model.specs.Invariant.{Among, distinct_premises}
-use Rattle.fca_model.proofs.ListLemmas.{list_all_from, list_all-filter_kept, filter-filter, filter_passes, filter_agree_on}
-use Rattle.fca_model.proofs.SetLemmas.{same-true, same_from, size_mono}
-use Rattle.fca_model.proofs.ClosureLemmas.{respects_at, length-closure, closure_extensive, closure_idempotent}
-use Rattle.fca_model.proofs.InvariantLemmas.{distinct_premises-push}
-use Rattle.implication_closure.specs.Closing.{RuleList}
-use Rattle.pseudo_levels.specs.Search.{Grows, HasLarger, leads, LeadsOn}
-use Rattle.pseudo_levels.proofs.ReachLemmas.{larger_leads}
-use Rattle.pseudo_levels.proofs.LevelLemmas.{level_all}
-use Rattle.level_queue.specs.Queue.{Base, FitsContext, HasPart, IsQueue, others}
+use Rattle.fca_model.specs.Invariant.{Among}
+use Rattle.fca_model.proofs.ListLemmas.{list_all_from, list_all-filter_kept, filter-filter, filter_passes, filter_agree_on, filter_all}
+use Rattle.fca_model.proofs.SetLemmas.{same_refl, same-true, same_from, lectic_refl}
+use Rattle.fca_model.proofs.ClosureLemmas.{length-closure}
+use Rattle.lectic_basis.proofs.NextLevelLemmas.{level_all}
+use Rattle.level_queue.specs.Queue.{Base, HasPart, IsQueue}
+use Rattle.level_queue.specs.Rules.{RuleParts}
 use Rattle.level_queue.proofs.RowLemmas.{questions_all}
 
-module _ (S : List Rule) (K : Context) (k : ℕ) (acc questions : List Rule) (old : List Set) (q : IsQueue S K k acc questions old) (i : Rule) (among : Among questions i) where
+-- the questions with another premise
+abbrev others : Set → List Rule → List Rule
+others P questions = filter (λ j. not (same P j.premise)) questions
+
+-- a set that comes before another is not the same
+before_other : (A B : Set) → is_lt (lectic_cmp A B) ≡ true → same A B ≡ false
+before_other A B h = false_from_ne_true (same A B) (λ t. false≢true (sym (ap is_lt (ap (lectic_cmp A) (sym (same-true A B t)) ∙ lectic_refl A)) ∙ h))
+
+module _ (S : List Rule) (K : Context) (k : ℕ) (acc questions : List Rule) (q : IsQueue S K k acc questions) (i : Rule) (among : Among questions i) where
   -- what all members of the level pass, the question passes
   of_level : (p : Rule → Bool) → list_all p (level_of S K k) ≡ true → p i ≡ true
-  of_level p a = among p (questions_all S K k acc questions old p q a)
+  of_level p a = among p (questions_all S K k acc questions p q a)
 
   pub question_size : size i.premise ≡ k
   question_size = eqb-true (size i.premise) k (of_level (λ j. eqb (size j.premise) k) (level_all S K k (λ j. eqb (size j.premise) k) (λ P e t s. eq-eqb (size P) k s)))
@@ -44,14 +50,6 @@ module _ (S : List Rule) (K : Context) (k : ℕ) (acc questions : List Rule) (ol
 
   pub conclusion_wide : length i.conclusion ≡ K.width
   conclusion_wide = ap length question_closure ∙ length-closure K i.premise
-
-  conclusion_closed : is_closed K i.conclusion ≡ true
-  conclusion_closed = same_from i.conclusion (closure K i.conclusion) (question_closure ∙ sym (closure_idempotent K i.premise question_wide) ∙ ap (closure K) (sym question_closure))
-
-  conclusion_size : k ≤ size i.conclusion
-  conclusion_size =
-      let up : within i.premise i.conclusion ≡ true = subst (λ X. within i.premise X ≡ true) (sym question_closure) (closure_extensive K i.premise question_wide) in
-      omega (arith, size_mono i.premise i.conclusion up, question_size)
 
   -- no accepted implication has its premise
   pub question_new : has_premise acc i.premise ≡ false
@@ -76,34 +74,9 @@ module _ (S : List Rule) (K : Context) (k : ℕ) (acc questions : List Rule) (ol
       not_or false true = refl
       not_or false false = refl
 
-  onward_less : (new : List Set) → Grows K.width old new → HasLarger i.conclusion K.width new → LeadsOn S K k (acc ++ i ∷ []) (others i.premise questions) new
-  onward_less new more grown P e s a f lt =
-      let parts = and_parts (respects_all acc P) (respects P i && true) (sym (list_all-append (respects P) acc (i ∷ [])) ∙ a) in
-      let mine : respects P i ≡ true = (and_parts (respects P i) true parts.1).0 in
-      let rest = list_any (λ j. within j.premise P) (others i.premise questions) in
-      elim (or_cases (list_any (λ j. within j.premise P) questions) (leads (suc k) old P) (q.onward P e s parts.0 f lt)) [
-        | inl some ↦ elim (cases_Bool (within i.premise P)) [
-          | inl inside ↦ or_right rest (leads (suc k) new P) (larger_leads S K i.conclusion P k new conclusion_wide e conclusion_closed f (respects_at P i mine inside) conclusion_size grown)
-          | inr outside ↦ or_left rest (leads (suc k) new P) (another P outside questions some)
-        ]
-        | inr there ↦ or_right rest (leads (suc k) new P) (more.kept (λ X. leb (suc k) (size X) && within X P) there)
-      ]
-    where
-      another : (P : Set) → within i.premise P ≡ false → (is : List Rule) → list_any (λ j. within j.premise P) is ≡ true → list_any (λ j. within j.premise P) (others i.premise is) ≡ true
-      another P out [] h = absurd (false≢true h)
-      another P out (j ∷ is) h =
-          let tail = list_any (λ j. within j.premise P) is in
-          let kept = list_any (λ j. within j.premise P) (others i.premise is) in
-          elim (cases_Bool (same i.premise j.premise)) [
-            | inl t ↦ subst (λ b. list_any (λ j. within j.premise P) (cond (not b) (j ∷ others i.premise is) (others i.premise is)) ≡ true) (sym t)
-                (another P out is (elim (or_cases (within j.premise P) tail h) [ inl here ↦ absurd (false≢true (sym out ∙ ap (λ X. within X P) (same-true i.premise j.premise t) ∙ here)) | inr there ↦ there ]))
-            | inr n ↦ subst (λ b. list_any (λ j. within j.premise P) (cond (not b) (j ∷ others i.premise is) (others i.premise is)) ≡ true) (sym n)
-                (elim (or_cases (within j.premise P) tail h) [ inl here ↦ or_left (within j.premise P) kept here | inr there ↦ or_right (within j.premise P) kept (another P out is there) ])
-          ]
-
   -- an accepted question keeps the queue
-  pub accept_keeps_queue : (rest : List Rule) (new : List Set) → rest ≡ others i.premise questions → Grows K.width old new → HasLarger i.conclusion K.width new → IsQueue S K k (acc ++ i ∷ []) rest new
-  accept_keeps_queue rest new is more grown = subst (λ qs. IsQueue S K k (acc ++ i ∷ []) qs new) (sym is) (record { part = part_more; questions_are = questions_less; onward = onward_less new more grown; wide = more.wide q.wide })
+  pub accept_keeps_queue : (rest : List Rule) → rest ≡ others i.premise questions → IsQueue S K k (acc ++ i ∷ []) rest
+  accept_keeps_queue rest is = record { part = part_more; questions_are = is ∙ questions_less }
 
 -- ---- as the code has it
 
@@ -111,20 +84,42 @@ module _ (S : List Rule) (K : Context) (k : ℕ) (acc questions : List Rule) (ol
 pub among_at : (questions : List Rule) (n : ℕ) (q : Rule) → n < length questions → q ≡ get_or questions n q → Among questions q
 among_at questions n q l is p h = ap p is ∙ AllPass-from_list_all p questions h n q l
 
-pub accepted_fits : (K : Context) (acc acc₁ : RuleList) (q : Rule) → FitsContext K acc → has_premise acc.members q.premise ≡ false → acc₁ ≡ record acc { members = acc.members ++ q ∷ [] } → FitsContext K acc₁
-accepted_fits K acc acc₁ q h new e = record {
-  even = ap (λ (a : RuleList). a.width) e ∙ h.even;
-  distinct = subst (λ ms. distinct_premises ms ≡ true) (sym (ap (λ (a : RuleList). a.members) e)) (distinct_premises-push acc.members q h.distinct new);
-}
+-- where the premises are in lectic order, the questions with another premise are those at the other places
+pub others_remove : (questions : List Rule) (n : ℕ) (q : Rule) → increasing (premises questions) ≡ true → n < length questions → q ≡ get_or questions n q → others q.premise questions ≡ remove questions n
+others_remove [] n q up l is = absurd (omega (arith, l))
+others_remove (i ∷ is) zero q up l e =
+    subst (λ (x : Rule). filter (λ j. not (same x.premise j.premise)) (i ∷ is) ≡ is) (sym e)
+    (ap (λ b. cond (not b) (i ∷ others i.premise is) (others i.premise is)) (same_refl i.premise)
+    ∙ filter_all (λ j. not (same i.premise j.premise)) is (behind i.premise is (and_parts (list_all (λ B. is_lt (lectic_cmp i.premise B)) (premises is)) (increasing (premises is)) up).0))
+  where
+    behind : (P : Set) (js : List Rule) → list_all (λ B. is_lt (lectic_cmp P B)) (premises js) ≡ true → list_all (λ j. not (same P j.premise)) js ≡ true
+    behind P [] h = refl
+    behind P (j ∷ js) h =
+        let parts = and_parts (is_lt (lectic_cmp P j.premise)) (list_all (λ B. is_lt (lectic_cmp P B)) (premises js)) h in
+        and_from (not (same P j.premise)) (list_all (λ x. not (same P x.premise)) js) (ap not (before_other P j.premise parts.0)) (behind P js parts.1)
+others_remove (i ∷ is) (suc n) q up l e =
+    let parts = and_parts (list_all (λ B. is_lt (lectic_cmp i.premise B)) (premises is)) (increasing (premises is)) up in
+    let here : is_lt (lectic_cmp i.premise q.premise) ≡ true = among_at is n q (omega (arith, l)) e (λ j. is_lt (lectic_cmp i.premise j.premise)) (list_all-map (λ B. is_lt (lectic_cmp i.premise B)) is ∙ parts.0) in
+    let other : same q.premise i.premise ≡ false = false_from_ne_true (same q.premise i.premise) (λ t. false≢true (sym (before_other i.premise q.premise here) ∙ same_from i.premise q.premise (sym (same-true q.premise i.premise t)))) in
+    ap (λ b. cond (not b) (i ∷ others q.premise is) (others q.premise is)) other
+    ∙ ap (λ js. i ∷ js) (others_remove is n q parts.1 (omega (arith, l)) e)
+  where
+    list_all-map : (p : Set → Bool) (js : List Rule) → list_all (λ j. p j.premise) js ≡ list_all p (premises js)
+    list_all-map p [] = refl
+    list_all-map p (j ∷ js) = ap (λ b. p j.premise && b) (list_all-map p js)
 
-abbrev pub base : Context → List Rule → Base
-base K acc = record { context = K; accepted = acc }
+-- one accepted implication more
+abbrev more : Base → Rule → Base
+more b x = record { context = b.context; known = b.known; accepted = b.accepted ++ x ∷ [] }
 
-pub accepted_base : (K : Context) (acc ms questions : List Rule) (now : Base) (n : ℕ) (q question : Rule) → base K acc ≡ now → ms ≡ acc ++ q ∷ [] → n < length questions → q ≡ get_or questions n q → slice_get questions n ≡ Some question
-    → base K ms ≡ base now.context (now.accepted ++ question ∷ [])
-accepted_base K acc ms questions now n q question v m l is s =
-    let same_question : q ≡ question = inside (is_some_of (sym (slice_get-get_or questions n q l) ∙ s) is) in
-    ap (base K) m ∙ ap (λ (b : Base). base b.context (b.accepted ++ q ∷ [])) v ∙ ap (λ x. base now.context (now.accepted ++ x ∷ [])) same_question
+abbrev pub base : Context → RuleParts → Base
+base K p = record { context = K; known = p.known; accepted = p.accepted }
+
+pub accepted_base : (K : Context) (rules p : RuleParts) (questions : List Rule) (now : Base) (n : ℕ) (q question : Rule) → base K rules ≡ now → p ≡ record { width = rules.width; known = rules.known; accepted = rules.accepted ++ q ∷ [] }
+    → n < length questions → q ≡ get_or questions n q → slice_get questions n ≡ Some question → base K p ≡ record { context = now.context; known = now.known; accepted = now.accepted ++ question ∷ [] }
+accepted_base K rules p questions now n q question v is l at s =
+    let same_question : q ≡ question = inside (is_some_of (sym (slice_get-get_or questions n q l) ∙ s) at) in
+    ap (base K) is ∙ ap (λ (b : Base). more b q) v ∙ ap (more now) same_question
   where
     inside : {a b : Rule} → Some a ≡ Some b → a ≡ b
     inside e = cc

@@ -1,4 +1,6 @@
 pub mod RowLemmas
+pub mod NarrowLemmas
 pub mod AcceptLemmas
 pub mod OpenLemmas
-mod NarrowLemmas
+pub mod PlaceLemmas
+pub mod RuleLemmas

@@ -1,32 +1,33 @@
 -- The questions of the queue are the open ones: none that waits is smaller than the level, since each smaller member is accepted,
 -- so those of the level that were not accepted are the smallest, if there are any. Where there are none, each member up to the
 -- level is accepted, and the next level can be opened.
-use Rattle.std.proofs.Common.{◌≡◌, ◌≢◌, ℕ, suc, ◌+◌, ◌<◌, ◌≤◌, Bool, true, false, not, ◌&&◌, ◌||◌, Option, Some, None, List, [], ◌∷◌, map, length, filter, get_or, position, refl, sym, ap, ap₂, ◌∙◌, subst, arith, inl, inr, eqb, eqb-true, eq-eqb, leb, le-leb, leb-true, ltb, lt-ltb}
+use Rattle.std.proofs.Common.{◌≡◌, ◌≢◌, ℕ, suc, ◌+◌, ◌<◌, ◌≤◌, Bool, true, false, not, ◌||◌, cond, List, [], ◌∷◌, ◌++◌, map, length, filter, get_or, refl, sym, ap, ◌∙◌, subst, arith, inl, inr, eqb, eqb-true, eq-eqb, leb, le-leb, leb-true, ltb, lt-ltb}
 use Rattle.std.proofs.lemmas.Bool.{false≢true, and_parts, and_from, cases_Bool, cases_lt, or_cases, or_left, or_right, lt-leb, ltb-true, eqb-false}
-use Rattle.std.proofs.lemmas.List.Quantifiers.{position-Some}
-use Rattle.std.proofs.lemmas.Option.{slice_get-get_or}
-use Rattle.std.specs.List.{list_all, slice_get}
-use Rattle.std.specs.Option.{is_some, IfSome}
-use Rattle.fca_model.specs.Sets.{Set, size, same}
-use Rattle.fca_model.specs.Context.{Context, closure}
-use Rattle.fca_model.specs.Implications.{Rule, rule}
+use Rattle.std.proofs.lemmas.List.{get_or_default}
+use Rattle.std.proofs.lemmas.List.Edits.{length-remove}
+use Rattle.std.proofs.lemmas.List.Folds.{list_all-append}
+use Rattle.std.specs.List.{list_all, remove}
+use Rattle.fca_model.specs.Sets.{Set, size, same, within, meet, increasing}
+use Rattle.fca_model.specs.Context.{Context, closure, with_row}
+use Rattle.fca_model.specs.Implications.{Rule, rule, premises, holds, respects, respects_all}
 use Rattle.fca_model.specs.Pseudo.{basis_known}
 use Rattle.fca_model.specs.Questions.{has_premise, waiting, smallest, open_questions}
 use Rattle.fca_model.specs.Invariant.{is_member, Among, SmallerAccepted, IsAccepted, distinct_premises}
 use Rattle.fca_model.specs.Levels.{level_of, HasBelow}
-use Rattle.fca_model.proofs.ListLemmas.{implies_at, list_all-mono, list_all-filter, filter_all, filter_none_all}
-use Rattle.fca_model.proofs.SetLemmas.{same_refl, same-true, size_le}
+use Rattle.fca_model.proofs.ListLemmas.{implies_at, list_all-mono, list_all-filter, filter_all, filter_none_all, filter-map}
+use Rattle.fca_model.proofs.SetLemmas.{same_refl, same-true, size_le, within-meet}
 use Rattle.fca_model.proofs.PseudoLemmas.{basis_all, basis_at}
-use Rattle.fca_model.proofs.InvariantLemmas.{member_from, member_parts}
+use Rattle.fca_model.proofs.InvariantLemmas.{member_from, member_parts, distinct_premises-push}
+use Rattle.fca_model.proofs.SortedLemmas.{increasing-filter}
+use Rattle.fca_model.proofs.DoneLemmas.{basis_increasing}
 use Rattle.fca_model.proofs.QuestionLemmas.{open_none}
 use Rattle.fca_model.proofs.LevelLemmas.{level_waiting, none_waits, smallest_is}
-use Rattle.implication_closure.proofs.ClosingLemmas.{position_none}
-use Rattle.implication_closure.specs.Closing.{RuleList}
-use Rattle.pseudo_levels.specs.Search.{judged, AreWide, Grows, LeadsAll, IsOpened}
-use Rattle.pseudo_levels.proofs.LevelLemmas.{level_all}
-use Rattle.level_queue.specs.Queue.{FitsContext, HasPart, IsQueue}
-use Rattle.level_queue.proofs.RowLemmas.{questions_all}
-use Rattle.level_queue.proofs.AcceptLemmas.{question_member, question_size, question_new}
+use Rattle.lectic_basis.specs.NextLevel.{IsNextLevel}
+use Rattle.lectic_basis.proofs.NextLevelLemmas.{level_all}
+use Rattle.level_queue.specs.Queue.{HasPart, IsQueue, IsKept, narrowed, still_open}
+use Rattle.level_queue.proofs.RowLemmas.{questions_all, row_keeps_queue}
+use Rattle.level_queue.proofs.NarrowLemmas.{closure-with_row, narrowed_in}
+use Rattle.level_queue.proofs.AcceptLemmas.{question_member, question_size, question_new, question_wide, conclusion_wide, accept_keeps_queue, among_at, others_remove}
 
 -- each member of a list has its premise in the list
 pub each_heard : (acc is : List Rule) → ((P : Set) → has_premise is P ≡ true → has_premise acc P ≡ true) → list_all (λ i. has_premise acc i.premise) is ≡ true
@@ -73,9 +74,9 @@ module _ (S : List Rule) (K : Context) (k : ℕ) (acc : List Rule) where
   past_open h lt = ap smallest (none_waits S K acc (list_all-mono (λ i. leb k (size i.premise)) (λ i. leb (suc K.width) (size i.premise)) (λ i t. le-leb (suc K.width) (size i.premise) (omega (arith, leb-true k (size i.premise) t))) (waiting S K acc) (none_below h)))
 
   -- the questions of the queue are the open ones, where there are any
-  pub queue_open : (questions : List Rule) (Xs : List Set) → IsQueue S K k acc questions Xs → questions ≢ [] → questions ≡ open_questions S K acc
+  pub queue_open : (questions : List Rule) → IsQueue S K k acc questions → questions ≢ [] → questions ≡ open_questions S K acc
   unfolding open_questions
-  queue_open questions Xs q ne =
+  queue_open questions q ne =
       let e = q.questions_are ∙ level_waiting S K acc k in
       e ∙ sym (smallest_is k (waiting S K acc) (none_below q.part) (λ z. ne (e ∙ z)))
 
@@ -85,28 +86,15 @@ module _ (S : List Rule) (K : Context) (k : ℕ) (acc : List Rule) where
   unheard : HasBelow S K k acc → filter (λ i. not (has_premise acc i.premise)) (level_of S K k) ≡ level_of S K k
   unheard h = filter_all (λ i. not (has_premise acc i.premise)) (level_of S K k) (level_all S K k (λ i. not (has_premise acc i.premise)) (λ P e t s. ap not (none_heard k acc P h.small s)))
 
-  pub opened_queue : (questions : List Rule) (Xs : List Set) → HasBelow S K k acc → IsOpened S K k acc questions Xs → AreWide K.width Xs → IsQueue S K k acc questions Xs
-  opened_queue questions Xs h o w = record { part = part_from h; questions_are = o.members_are ∙ sym (unheard h); onward = o.onward; wide = w }
-
-  -- past the width there is no level
-  pub past_queue : (Xs : List Set) → K.width < k → HasBelow S K k acc → AreWide K.width Xs → IsQueue S K k acc [] Xs
-  past_queue Xs lt h w = record {
-    part = part_from h;
-    questions_are = sym (unheard h ∙ nothing (level_of S K k) (level_all S K k (λ i. false) (λ P e t s. absurd (omega (arith, size_le P)))));
-    onward = λ P e _ _ _ le. absurd (omega (arith, size_le P));
-    wide = w;
-  }
-    where
-      nothing : (is : List Rule) → list_all (λ i. false) is ≡ true → is ≡ []
-      nothing [] h = refl
-      nothing (i ∷ is) h = absurd (false≢true h)
+  pub opened_queue : (questions : List Rule) → HasBelow S K k acc → questions ≡ level_of S K k → IsQueue S K k acc questions
+  opened_queue questions h is = record { part = part_from h; questions_are = is ∙ sym (unheard h) }
 
   -- ---- a level is done
 
   -- where nothing of the level is left, each member up to it is accepted
-  pub done_below : (questions : List Rule) (Xs : List Set) → IsQueue S K k acc questions Xs → questions ≡ [] → HasBelow S K (k + 1) acc
+  pub done_below : (questions : List Rule) → IsQueue S K k acc questions → questions ≡ [] → HasBelow S K (k + 1) acc
   unfolding level_of
-  done_below questions Xs q none = subst (λ m. HasBelow S K m acc) next (record {
+  done_below questions q none = subst (λ m. HasBelow S K m acc) next (record {
     sound = q.part.sound;
     small = list_all-mono (λ i. leb (size i.premise) k) (λ i. ltb (size i.premise) (suc k)) (λ i t. lt-ltb (size i.premise) (suc k) (omega (arith, leb-true (size i.premise) k t))) acc q.part.small;
     complete = λ p a.
@@ -147,13 +135,6 @@ module _ (S : List Rule) (K : Context) (k : ℕ) (acc : List Rule) where
                 | inr there ↦ found is pa.1 there pm.1
               ]
 
-  -- and the candidates lead to all that is larger
-  pub done_leads : (questions : List Rule) (Xs : List Set) → IsQueue S K k acc questions Xs → questions ≡ [] → LeadsAll S K (k + 1) acc Xs
-  done_leads questions Xs q none =
-      let next : suc k ≡ k + 1 = omega arith in
-      let p = subst (λ qs. IsQueue S K k acc qs Xs) none q in
-      subst (λ m. LeadsAll S K m acc Xs) next (λ P e s a f le. p.onward P e s a f le)
-
   -- ---- what is accepted
 
   -- the accepted implications are members, each with all smaller ones
@@ -170,16 +151,16 @@ module _ (S : List Rule) (K : Context) (k : ℕ) (acc : List Rule) where
   }
 
 -- the premises of the questions have the size of the level
-pub questions_size : (S : List Rule) (K : Context) (k : ℕ) (acc questions : List Rule) (Xs : List Set) → IsQueue S K k acc questions Xs → list_all (λ i. eqb (size i.premise) k) questions ≡ true
-questions_size S K k acc questions Xs q = questions_all S K k acc questions Xs (λ i. eqb (size i.premise) k) q (level_all S K k (λ i. eqb (size i.premise) k) (λ P e t s. eq-eqb (size P) k s))
+pub questions_size : (S : List Rule) (K : Context) (k : ℕ) (acc questions : List Rule) → IsQueue S K k acc questions → list_all (λ i. eqb (size i.premise) k) questions ≡ true
+questions_size S K k acc questions q = questions_all S K k acc questions (λ i. eqb (size i.premise) k) q (level_all S K k (λ i. eqb (size i.premise) k) (λ P e t s. eq-eqb (size P) k s))
 
 -- and the width of the rows
-pub questions_wide : (S : List Rule) (K : Context) (k : ℕ) (acc questions : List Rule) (Xs : List Set) → IsQueue S K k acc questions Xs → list_all (λ i. eqb (length i.premise) K.width) questions ≡ true
-questions_wide S K k acc questions Xs q = questions_all S K k acc questions Xs (λ i. eqb (length i.premise) K.width) q (level_all S K k (λ i. eqb (length i.premise) K.width) (λ P e t s. eq-eqb (length P) K.width e))
+pub questions_wide : (S : List Rule) (K : Context) (k : ℕ) (acc questions : List Rule) → IsQueue S K k acc questions → list_all (λ i. eqb (length i.premise) K.width) questions ≡ true
+questions_wide S K k acc questions q = questions_all S K k acc questions (λ i. eqb (length i.premise) K.width) q (level_all S K k (λ i. eqb (length i.premise) K.width) (λ P e t s. eq-eqb (length P) K.width e))
 
 -- ---- a held question that is a member, and whose premise was not accepted, is open
 
-module _ (S : List Rule) (K : Context) (k : ℕ) (acc questions : List Rule) (Xs : List Set) (queue : IsQueue S K k acc questions Xs) (all_open : questions ≡ open_questions S K acc)
+module _ (S : List Rule) (K : Context) (k : ℕ) (acc questions : List Rule) (queue : IsQueue S K k acc questions) (all_open : questions ≡ open_questions S K acc)
     (q : Rule) (member : is_member S K q ≡ true) (smaller : SmallerAccepted S K acc q.premise) (new : has_premise acc q.premise ≡ false) where
   at_basis : (p : Rule → Bool) → list_all p (basis_known S K) ≡ true → p q ≡ true
   at_basis p h = let m = member_parts S K q member in subst (λ i. p i ≡ true) (sym m.2) (basis_at S K p q.premise m.0 m.1 h)
@@ -189,9 +170,9 @@ module _ (S : List Rule) (K : Context) (k : ℕ) (acc questions : List Rule) (Xs
   none_larger lt [] e = refl
   none_larger lt (i ∷ is) e =
       let among : (p : Rule → Bool) → list_all p questions ≡ true → p i ≡ true = λ p h. (and_parts (p i) (list_all p is) (ap (list_all p) e ∙ h)).0 in
-      let m = member_parts S K i (question_member S K k acc questions Xs queue i among (is_member S K) (basis_all S K (is_member S K) (λ P e p. member_from S K P (closure K P) e p refl))) in
-      let heard = smaller i.premise m.0 m.1 (omega (arith, question_size S K k acc questions Xs queue i among)) in
-      absurd (false≢true (sym (question_new S K k acc questions Xs queue i among) ∙ heard))
+      let m = member_parts S K i (question_member S K k acc questions queue i among (is_member S K) (basis_all S K (is_member S K) (λ P e p. member_from S K P (closure K P) e p refl))) in
+      let heard = smaller i.premise m.0 m.1 (omega (arith, question_size S K k acc questions queue i among)) in
+      absurd (false≢true (sym (question_new S K k acc questions queue i among) ∙ heard))
 
   held_size : size q.premise ≡ k
   held_size = elim (cases_lt k (size q.premise)) [
@@ -224,38 +205,122 @@ is_nil (x ∷ xs) n e b is t = let z : n ≡ 0 = eqb-true n 0 (sym is ∙ t) in 
 pub not_nil : {X : Type 0} (xs : List X) (n : ℕ) → n ≡ length xs → (b : Bool) → b ≡ eqb n 0 → b ≡ false → xs ≡ [] → ⊥
 not_nil xs n e b is f z = eqb-false n 0 (sym is ∙ f) (e ∙ ap length z)
 
--- i is the implication q
-abbrev is_rule : Rule → Rule → Bool
-is_rule q i = same i.premise q.premise && same i.conclusion q.conclusion
+-- ---- between two calls
 
-is_rule-true : (q i : Rule) → is_rule q i ≡ true → i ≡ q
-is_rule-true q i h =
-    let both = and_parts (same i.premise q.premise) (same i.conclusion q.conclusion) h in
-    ap₂ (λ P C. rule P C) (same-true i.premise q.premise both.0) (same-true i.conclusion q.conclusion both.1)
+module _ {S : List Rule} {K : Context} {k : ℕ} {acc questions : List Rule} (kept : IsKept S K k acc questions) where
+  -- the questions are the open ones
+  pub kept_open : questions ≡ open_questions S K acc
+  kept_open = at questions refl
+    where
+      cons_not_nil : {i : Rule} {is : List Rule} → i ∷ is ≡ [] → ⊥
+      cons_not_nil e = cc
 
--- at the place that was found stands the question
-pub place_found : (xs : List Rule) (q : Rule) (r : Option ℕ) → r ≡ position (is_rule q) xs → IfSome r (λ i. slice_get xs i ≡ Some q)
-place_found xs q None e = tt
-place_found xs q (Some i) e =
-    let there = position-Some (is_rule q) xs i q (sym e) in
-    slice_get-get_or xs i q there.0 ∙ ap (λ x. Some x) (is_rule-true q (get_or xs i q) there.1)
+      at : (qs : List Rule) → qs ≡ questions → questions ≡ open_questions S K acc
+      at [] e = sym e ∙ sym (past_open S K k acc kept.queue.part (let past = kept.done (sym e) in omega (arith, past)))
+      at (i ∷ is) e = queue_open S K k acc questions kept.queue (λ z. cons_not_nil (e ∙ z))
 
--- a question that is among them is found
-pub place_is : (xs : List Rule) (q : Rule) (r : Option ℕ) → r ≡ position (is_rule q) xs → Among xs q → is_some r ≡ true
-place_is xs q (Some i) e among = refl
-place_is xs q None e among =
-    let none : not (is_rule q q) ≡ true = among (λ i. not (is_rule q i)) (position_none (is_rule q) xs (sym e)) in
-    absurd (false≢true (sym (ap not (and_from (same q.premise q.premise) (same q.conclusion q.conclusion) (same_refl q.premise) (same_refl q.conclusion))) ∙ none))
+  pub kept_accepted : IsAccepted S K acc
+  kept_accepted = accepted_from_part S K k acc kept.queue.part kept.distinct
 
--- ---- levels that are judged and opened by an index of the accepted implications
+  -- where there is a question, the level is no larger than the width
+  pub kept_bounded : (i : Rule) → Among questions i → k ≤ K.width
+  kept_bounded i among =
+      let s = question_size S K k acc questions kept.queue i among in
+      let w = question_wide S K k acc questions kept.queue i among in
+      let le = size_le i.premise in
+      omega (arith, s, w, le)
 
-pub opened_by_index : (K : Context) (k : ℕ) (acc found : RuleList) (old new Xs : List Set) (answers : List (Option Rule)) (members : List Rule) → found ≡ acc → FitsContext K acc → HasBelow [] K k acc.members → LeadsAll [] K k acc.members old
-    → answers ≡ map (judged [] K found.members) Xs
-    → ((C : Context) → C.width ≡ found.width → HasBelow [] C k found.members → LeadsAll [] C k found.members old → answers ≡ map (judged [] C found.members) Xs → IsOpened [] C k found.members members new)
-    → IsOpened [] K k acc.members members new
-opened_by_index K k acc found old new Xs answers members e fits below leads answered opened =
-    subst (λ (J : RuleList). IsOpened [] K k J.members members new) e
-    (opened K (sym (ap (λ (J : RuleList). J.width) e ∙ fits.even)) (subst (λ (J : RuleList). HasBelow [] K k J.members) (sym e) below) (subst (λ (J : RuleList). LeadsAll [] K k J.members old) (sym e) leads) answered)
+  pub kept_increasing : increasing (premises questions) ≡ true
+  unfolding level_of
+  kept_increasing =
+      ap (λ qs. increasing (premises qs)) kept.queue.questions_are
+      ∙ ap increasing (filtered (λ P. not (has_premise acc P)) (filter (λ i. eqb (size i.premise) k) (basis_known S K)))
+      ∙ increasing-filter (λ P. not (has_premise acc P)) (premises (filter (λ i. eqb (size i.premise) k) (basis_known S K)))
+      (ap increasing (filtered (λ P. eqb (size P) k) (basis_known S K)) ∙ increasing-filter (λ P. eqb (size P) k) (premises (basis_known S K)) (basis_increasing S K))
+    where
+      filtered : (q : Set → Bool) (is : List Rule) → premises (filter (λ i. q i.premise) is) ≡ filter q (premises is)
+      filtered q is = sym (filter-map q (λ (i : Rule). i.premise) is)
 
-pub grows_by_index : (K : Context) (acc found : RuleList) (old new : List Set) → found ≡ acc → FitsContext K acc → Grows found.width old new → Grows K.width old new
-grows_by_index K acc found old new e fits g = subst (λ n. Grows n old new) (ap (λ (J : RuleList). J.width) e ∙ fits.even) g
+-- a level that was found
+pub opened_kept : {S : List Rule} {K : Context} {k : ℕ} {acc questions : List Rule} → list_all (holds K) S ≡ true → distinct_premises acc ≡ true → IsNextLevel S K acc k questions → IsKept S K k acc questions
+opened_kept {S = S} {K = K} {k = k} {acc = acc} {questions = questions} hold distinct next = record {
+  hold = hold;
+  distinct = distinct;
+  queue = opened_queue S K k acc questions next.below next.members;
+  done = next.none;
+}
+
+-- where one question is left, and it is accepted
+module _ {S : List Rule} {K : Context} {k : ℕ} {acc questions : List Rule} (kept : IsKept S K k acc questions) (n : ℕ) (q : Rule) (inside : n < length questions) (at : q ≡ get_or questions n q) where
+  among : Among questions q
+  among = among_at questions n q inside at
+
+  pub accepted_premise : length q.premise ≡ K.width
+  accepted_premise = question_wide S K k acc questions kept.queue q among
+
+  pub accepted_conclusion : length q.conclusion ≡ K.width
+  accepted_conclusion = conclusion_wide S K k acc questions kept.queue q among
+
+  pub accepted_distinct : distinct_premises (acc ++ q ∷ []) ≡ true
+  accepted_distinct = distinct_premises-push acc q kept.distinct (question_new S K k acc questions kept.queue q among)
+
+  rest_queue : IsQueue S K k (acc ++ q ∷ []) (remove questions n)
+  rest_queue = accept_keeps_queue S K k acc questions kept.queue q among (remove questions n) (sym (others_remove questions n q (kept_increasing kept) inside at))
+
+  -- others are left
+  pub accepted_kept : 1 < length questions → IsKept S K k (acc ++ q ∷ []) (remove questions n)
+  accepted_kept more = record {
+    hold = kept.hold;
+    distinct = accepted_distinct;
+    queue = rest_queue;
+    done = λ none. absurd (let less = length-remove questions n inside in let zero_left = ap length none in omega (arith, more, less, zero_left));
+  }
+
+  -- none is left
+  pub accepted_below : length questions ≤ 1 → HasBelow S K (k + 1) (acc ++ q ∷ [])
+  accepted_below last = done_below S K k (acc ++ q ∷ []) (remove questions n) rest_queue (nil_of (remove questions n) (let less = length-remove questions n inside in omega (arith, last, less, inside)))
+    where
+      nil_of : (xs : List Rule) → length xs ≤ 0 → xs ≡ []
+      nil_of [] l = refl
+      nil_of (x ∷ xs) l = absurd (omega (arith, l))
+
+  pub accepted_bounded : k + 1 ≤ K.width + 1
+  accepted_bounded = let le = kept_bounded kept q among in omega (arith, le)
+
+-- a row was recorded
+module _ {S : List Rule} {K : Context} {k : ℕ} {acc questions : List Rule} (kept : IsKept S K k acc questions) (r : Set) (respecting : respects_all (S ++ acc) r ≡ true) where
+  both : (respects_all S r ≡ true) × (respects_all acc r ≡ true)
+  both = and_parts (respects_all S r) (respects_all acc r) (sym (list_all-append (respects r) S acc) ∙ respecting)
+
+  pub row_hold : list_all (holds (with_row K r)) S ≡ true
+  row_hold = with_both S kept.hold both.0
+    where
+      -- a conclusion that lies within the closure lies within the new one where the row respects it
+      holds_more : (i : Rule) → holds K i ≡ true → respects r i ≡ true → holds (with_row K r) i ≡ true
+      holds_more i h g = subst (λ C. within i.conclusion C ≡ true) (sym (closure-with_row K r i.premise)) (go (within i.premise r) g)
+        where
+          go : (b : Bool) → (not b || within i.conclusion r) ≡ true → within i.conclusion (cond b (meet (closure K i.premise) r) (closure K i.premise)) ≡ true
+          go true g = within-meet i.conclusion (closure K i.premise) r ∙ and_from (within i.conclusion (closure K i.premise)) (within i.conclusion r) h g
+          go false g = h
+
+      with_both : (J : List Rule) → list_all (holds K) J ≡ true → respects_all J r ≡ true → list_all (holds (with_row K r)) J ≡ true
+      with_both [] h g = refl
+      with_both (i ∷ J) h g =
+          let hs = and_parts (holds K i) (list_all (holds K) J) h in
+          let gs = and_parts (respects r i) (respects_all J r) g in
+          and_from (holds (with_row K r) i) (list_all (holds (with_row K r)) J) (holds_more i hs.0 gs.0) (with_both J hs.1 gs.1)
+
+  module _ (rest : List Rule) (is : rest ≡ still_open (map (narrowed r) questions)) where
+    row_queue : IsQueue S (with_row K r) k acc rest
+    row_queue = row_keeps_queue S K r k acc kept.queue.part both.1 questions rest kept.queue (is ∙ ap still_open (narrowed_in S K r k acc questions kept.queue))
+
+    -- there was no question, or some are left
+    pub row_kept : (rest ≡ [] → questions ≡ []) → IsKept S (with_row K r) k acc rest
+    row_kept left = record { hold = row_hold; distinct = kept.distinct; queue = row_queue; done = λ none. kept.done (left none) }
+
+    -- none is left
+    pub row_below : rest ≡ [] → HasBelow S (with_row K r) (k + 1) acc
+    row_below none = done_below S (with_row K r) k acc rest row_queue none
+
+  pub row_bounded : 0 < length questions → k + 1 ≤ (with_row K r).width + 1
+  row_bounded some = let le = kept_bounded kept (get_or questions 0 (rule [] [])) (among_at questions 0 (get_or questions 0 (rule [] [])) some (get_or_default questions 0 (rule [] []) (get_or questions 0 (rule [] [])) some)) in omega (arith, le)

@@ -1,24 +1,20 @@
 -- A row that respects what was accepted keeps the queue. Below the level the pseudo-intents and their closures stay, since each is
--- accepted; so of the level's pseudo-intents those stay that are not closed now, and no set of its size becomes one. What led on
--- leads on: a question that is closed now has grown.
-use Rattle.std.proofs.Common.{◌≡◌, ℕ, suc, ◌<◌, ◌≤◌, Bool, true, false, not, ◌&&◌, ◌||◌, cond, List, [], ◌∷◌, map, length, filter, refl, sym, ap, ap₂, ◌∙◌, subst, arith, inl, inr, eqb, eqb-true, eq-eqb, ne_eqb, leb, le-leb, leb-true}
+-- accepted; so of the level's pseudo-intents those stay that are not closed now, and no set of its size becomes one.
+use Rattle.std.proofs.Common.{◌≡◌, ℕ, suc, ◌<◌, ◌≤◌, Bool, true, false, not, ◌&&◌, ◌||◌, List, [], ◌∷◌, map, length, filter, refl, sym, ap, ap₂, ◌∙◌, subst, arith, inl, inr, eqb, eqb-true, eq-eqb, ne_eqb, leb, le-leb, leb-true}
 use Rattle.std.proofs.lemmas.Bool.{false≢true, and_parts, and_from, cases_Bool, cases_lt, cases_eq, or_cases, or_left, or_right, not-true, lt-leb}
-use Rattle.std.specs.List.{list_all, list_any}
+use Rattle.std.specs.List.{list_all}
 use Rattle.fca_model.specs.Sets.{Set, size, within, same, all_sets}
 use Rattle.fca_model.specs.Context.{Context, closure, is_closed}
 use Rattle.fca_model.specs.Implications.{Rule, rule, respects, respects_all}
 use Rattle.fca_model.specs.Pseudo.{pseudo_known}
 use Rattle.fca_model.specs.Questions.{has_premise}
 use Rattle.fca_model.specs.Levels.{level_of}
-use Rattle.fca_model.proofs.ListLemmas.{implies_from, implies_at, bool_iff, list_all-mono, list_all-mono₂, list_all-and, list_all_from, list_all-filter_kept, list_any_at, filter-filter, filter-map, filter_agree_on}
-use Rattle.fca_model.proofs.SetLemmas.{size_strict, same_refl, all_sets_widths}
+use Rattle.fca_model.proofs.ListLemmas.{implies_from, implies_at, bool_iff, list_all-mono₂, list_all-and, list_all_from, list_all-filter_kept, filter-filter, filter-map, filter_agree_on}
+use Rattle.fca_model.proofs.SetLemmas.{size_strict, all_sets_widths}
 use Rattle.fca_model.proofs.PseudoLemmas.{pseudo_parts, pseudo_from, basis_all, basis_at}
 use Rattle.fca_model.proofs.SurvivalLemmas.{with_row, same_pseudo, survives, closure_stays, closed_stays}
 use Rattle.fca_model.proofs.LevelLemmas.{level_is}
-use Rattle.pseudo_levels.specs.Search.{AreWide, Grows, HasLarger, HaveLarger, leads, LeadsOn}
-use Rattle.pseudo_levels.proofs.ReachLemmas.{larger_leads}
-use Rattle.pseudo_levels.proofs.LevelLemmas.{level_all}
-use Rattle.level_queue.specs.Queue.{HasPart, IsQueue, Renewable, renewed, settled_premises, still_open}
+use Rattle.level_queue.specs.Queue.{HasPart, IsQueue, renewed, still_open}
 
 and_swap : (a b : Bool) → (a && b) ≡ (b && a)
 and_swap true true = refl
@@ -27,8 +23,8 @@ and_swap false true = refl
 and_swap false false = refl
 
 -- what all members of the level pass, the questions pass
-pub questions_all : (S : List Rule) (K : Context) (k : ℕ) (acc questions : List Rule) (Xs : List Set) (p : Rule → Bool) → IsQueue S K k acc questions Xs → list_all p (level_of S K k) ≡ true → list_all p questions ≡ true
-questions_all S K k acc questions Xs p q h = subst (λ is. list_all p is ≡ true) (sym q.questions_are) (list_all-filter_kept p (λ i. not (has_premise acc i.premise)) (level_of S K k) h)
+pub questions_all : (S : List Rule) (K : Context) (k : ℕ) (acc questions : List Rule) (p : Rule → Bool) → IsQueue S K k acc questions → list_all p (level_of S K k) ≡ true → list_all p questions ≡ true
+questions_all S K k acc questions p q h = subst (λ is. list_all p is ≡ true) (sym q.questions_are) (list_all-filter_kept p (λ i. not (has_premise acc i.premise)) (level_of S K k) h)
 
 -- the questions that are not closed, with their closures in the rows
 pub renew : Context → List Rule → List Rule
@@ -37,22 +33,6 @@ renew K questions = map (renewed K) (filter (λ i. not (is_closed K i.premise)) 
 pub renew_is : (K : Context) (questions : List Rule) → still_open (map (renewed K) questions) ≡ renew K questions
 unfolding renew
 renew_is K questions = filter-map (λ i. not (same i.premise i.conclusion)) (renewed K) questions
-
--- the premise of each question that is closed is among those that are settled
-settled_in : (K : Context) (qs : List Rule) → list_all (λ i. not (is_closed K i.premise) || list_any (same i.premise) (settled_premises (map (renewed K) qs))) qs ≡ true
-settled_in K [] = refl
-settled_in K (i ∷ qs) = go (is_closed K i.premise) (settled_in K qs)
-  where
-    go : (b : Bool) → list_all (λ j. not (is_closed K j.premise) || list_any (same j.premise) (settled_premises (map (renewed K) qs))) qs ≡ true
-        → ((not b || list_any (same i.premise) (map (λ (x : Rule). x.premise) (cond b (renewed K i ∷ filter (λ x. same x.premise x.conclusion) (map (renewed K) qs)) (filter (λ x. same x.premise x.conclusion) (map (renewed K) qs)))))
-        && list_all (λ j. not (is_closed K j.premise) || list_any (same j.premise) (map (λ (x : Rule). x.premise) (cond b (renewed K i ∷ filter (λ x. same x.premise x.conclusion) (map (renewed K) qs)) (filter (λ x. same x.premise x.conclusion) (map (renewed K) qs))))) qs) ≡ true
-    go false rest = rest
-    go true rest =
-        let old : Rule → Bool = λ j. list_any (same j.premise) (settled_premises (map (renewed K) qs)) in
-        let new : Rule → Bool = λ j. same j.premise i.premise || old j in
-        and_from (new i) (list_all (λ j. not (is_closed K j.premise) || new j) qs) (or_left (same i.premise i.premise) (old i) (same_refl i.premise))
-        (list_all-mono (λ j. not (is_closed K j.premise) || old j) (λ j. not (is_closed K j.premise) || new j)
-        (λ j h. implies_from (is_closed K j.premise) (new j) (λ c. or_right (same j.premise i.premise) (old j) (implies_at (is_closed K j.premise) (old j) h c))) qs rest)
 
 module _ (S : List Rule) (K : Context) (r : Set) (k : ℕ) (acc : List Rule) (h : HasPart S K k acc) (good : respects_all acc r ≡ true) where
   -- the row respects each pseudo-intent's implication below the level
@@ -155,9 +135,9 @@ module _ (S : List Rule) (K : Context) (r : Set) (k : ℕ) (acc : List Rule) (h 
       map-map f g (x ∷ xs) = ap (λ ys. g (f x) ∷ ys) (map-map f g xs)
 
   -- so are the questions
-  questions_row : (questions : List Rule) (Xs : List Set) → IsQueue S K k acc questions Xs → renew (with_row K r) questions ≡ filter (λ i. not (has_premise acc i.premise)) (level_of S (with_row K r) k)
+  questions_row : (questions : List Rule) → IsQueue S K k acc questions → renew (with_row K r) questions ≡ filter (λ i. not (has_premise acc i.premise)) (level_of S (with_row K r) k)
   unfolding renew
-  questions_row questions Xs q =
+  questions_row questions q =
       let K₁ = with_row K r in
       let c : Rule → Bool = λ i. not (is_closed K₁ i.premise) in
       let u : Rule → Bool = λ i. not (has_premise acc i.premise) in
@@ -166,79 +146,6 @@ module _ (S : List Rule) (K : Context) (r : Set) (k : ℕ) (acc : List Rule) (h 
       ∙ sym (filter-map u (renewed K₁) (filter c (level_of S K k)))
       ∙ ap (filter u) (sym level_row)
 
-  -- what leads on still does
-  onward_row : (questions : List Rule) (old new : List Set) → IsQueue S K k acc questions old → Grows K.width old new → HaveLarger (settled_premises (map (renewed (with_row K r)) questions)) new
-      → LeadsOn S (with_row K r) k acc (renew (with_row K r) questions) new
-  unfolding renew
-  onward_row questions old new q more grown P e s a f le =
-      let K₁ = with_row K r in
-      let C : Rule → Bool = λ i. is_closed K₁ i.premise in
-      let shape : Rule → Bool = λ i. eqb (length i.premise) K.width && leb k (size i.premise) in
-      let settled : Rule → Bool = λ i. not (C i) || list_any (same i.premise) (settled_premises (map (renewed K₁) questions)) in
-      let shapes : list_all shape questions ≡ true = questions_all S K k acc questions old shape q (level_all S K k shape (λ Q w _ z. and_from (eqb (length Q) K.width) (leb k (size Q)) (eq-eqb (length Q) K.width w) (le-leb k (size Q) (omega arith)))) in
-      let was_open : is_closed K P ≡ false = elim (cases_Bool (is_closed K P)) [ inl c ↦ absurd (false≢true (sym f ∙ closed_stays K r P e c)) | inr f ↦ f ] in
-      let rest = list_any (λ i. within i.premise P) (map (renewed K₁) (filter (λ i. not (C i)) questions)) in
-      elim (or_cases (list_any (λ i. within i.premise P) questions) (leads (suc k) old P) (q.onward P e s a was_open le)) [
-        | inl some ↦ elim (or_cases (list_any (λ i. C i && within i.premise P) questions) rest (split C K₁ P questions some)) [
-          | inl closed ↦
-              let i = list_any_at (λ i. C i && within i.premise P) (λ i. shape i && settled i) questions closed (list_all-and shape settled questions shapes (settled_in K₁ questions)) in
-              let both = and_parts (C i.0) (within i.0.premise P) i.1 in
-              let facts = and_parts (shape i.0) (settled i.0) i.2 in
-              let widths = and_parts (eqb (length i.0.premise) K.width) (leb k (size i.0.premise)) facts.0 in
-              let w : length i.0.premise ≡ K.width = eqb-true (length i.0.premise) K.width widths.0 in
-              or_right rest (leads (suc k) new P) (larger_leads S K₁ i.0.premise P k new w e both.0 f both.1 (leb-true k (size i.0.premise) widths.1)
-              (subst (λ n. HasLarger i.0.premise n new) w (grown i.0.premise (implies_at (C i.0) (list_any (same i.0.premise) (settled_premises (map (renewed K₁) questions))) facts.1 both.0))))
-          | inr still ↦ or_left rest (leads (suc k) new P) still
-        ]
-        | inr c ↦ or_right rest (leads (suc k) new P) (more.kept (λ X. leb (suc k) (size X) && within X P) c)
-      ]
-    where
-      split : (C : Rule → Bool) (K₁ : Context) (P : Set) (is : List Rule) → list_any (λ i. within i.premise P) is ≡ true → (list_any (λ i. C i && within i.premise P) is || list_any (λ i. within i.premise P) (map (renewed K₁) (filter (λ i. not (C i)) is))) ≡ true
-      split C K₁ P [] h = absurd (false≢true h)
-      split C K₁ P (i ∷ is) h = go (C i) (within i.premise P) refl (list_any (λ i. within i.premise P) is) h (split C K₁ P is)
-        where
-          go : (c w : Bool) → w ≡ within i.premise P → (l : Bool) → (w || l) ≡ true → (l ≡ true → (list_any (λ i. C i && within i.premise P) is || list_any (λ i. within i.premise P) (map (renewed K₁) (filter (λ i. not (C i)) is))) ≡ true)
-              → (((c && w) || list_any (λ i. C i && within i.premise P) is) || list_any (λ i. within i.premise P) (map (renewed K₁) (cond (not c) (i ∷ filter (λ i. not (C i)) is) (filter (λ i. not (C i)) is)))) ≡ true
-          go true true e l h rest = refl
-          go true false e l h rest = rest h
-          go false w e l h rest =
-              let A = list_any (λ i. C i && within i.premise P) is in
-              let X = list_any (λ i. within i.premise P) (map (renewed K₁) (filter (λ i. not (C i)) is)) in
-              elim (or_cases w l h) [
-                | inl here ↦ or_right A (within i.premise P || X) (or_left (within i.premise P) X (sym e ∙ here))
-                | inr there ↦ elim (or_cases A X (rest there)) [
-                  | inl a ↦ or_left A (within i.premise P || X) a
-                  | inr x ↦ or_right A (within i.premise P || X) (or_right (within i.premise P) X x)
-                ]
-              ]
-
   -- a recorded row that respects what was accepted keeps the queue
-  pub row_keeps_queue : (questions rest : List Rule) (old new : List Set) → IsQueue S K k acc questions old → rest ≡ still_open (map (renewed (with_row K r)) questions) → Grows K.width old new
-      → HaveLarger (settled_premises (map (renewed (with_row K r)) questions)) new → IsQueue S (with_row K r) k acc rest new
-  row_keeps_queue questions rest old new q is more grown = subst (λ qs. IsQueue S (with_row K r) k acc qs new) (sym (is ∙ renew_is (with_row K r) questions)) (record {
-    part = part_row;
-    questions_are = questions_row questions old q;
-    onward = onward_row questions old new q more grown;
-    wide = more.wide q.wide;
-  })
-
--- ---- as the code has it
-
--- where the premises have the width of the rows, so have those that are settled, and the candidates stay as wide
-pub settled_grows : (K : Context) (questions renewed₁ : List Rule) (Cs : List Set) (old new : List Set) → list_all (λ i. eqb (length i.premise) K.width) questions ≡ true → renewed₁ ≡ map (renewed K) questions → Cs ≡ settled_premises renewed₁
-    → ((n : ℕ) → AreWide n Cs → Grows n old new) → Grows K.width old new
-settled_grows K questions renewed₁ Cs old new w r e more = more K.width (subst (λ Zs. AreWide K.width Zs) (sym (e ∙ ap settled_premises r)) (widths questions w))
-  where
-    widths : (qs : List Rule) → list_all (λ i. eqb (length i.premise) K.width) qs ≡ true → AreWide K.width (settled_premises (map (renewed K) qs))
-    widths [] h = refl
-    widths (i ∷ qs) h =
-        let parts = and_parts (eqb (length i.premise) K.width) (list_all (λ i. eqb (length i.premise) K.width) qs) h in
-        elim (is_closed K i.premise) as (λ b. AreWide K.width (map (λ (x : Rule). x.premise) (cond b (renewed K i ∷ filter (λ x. same x.premise x.conclusion) (map (renewed K) qs)) (filter (λ x. same x.premise x.conclusion) (map (renewed K) qs))))) [
-          | true ↦ and_from (eqb (length i.premise) K.width) (list_all (λ X. eqb (length X) K.width) (settled_premises (map (renewed K) qs))) parts.0 (widths qs parts.1)
-          | false ↦ widths qs parts.1
-        ]
-
-pub renewable : (K K₁ : Context) (r : Set) (k : ℕ) (acc questions questions₁ : List Rule) (old : List Set) → IsQueue [] K k acc questions old → K₁ ≡ with_row K r → questions₁ ≡ questions → respects_all acc r ≡ true → Renewable K₁ k acc questions₁ old
-renewable K K₁ r k acc questions questions₁ old queue e o good =
-    subst (λ L. Renewable L k acc questions₁ old) (sym e) (subst (λ qs. Renewable (with_row K r) k acc qs old) (sym o)
-    (λ rest new is more grown. row_keeps_queue [] K r k acc queue.part good questions rest old new queue is more grown))
+  pub row_keeps_queue : (questions rest : List Rule) → IsQueue S K k acc questions → rest ≡ still_open (map (renewed (with_row K r)) questions) → IsQueue S (with_row K r) k acc rest
+  row_keeps_queue questions rest q is = record { part = part_row; questions_are = is ∙ renew_is (with_row K r) questions ∙ questions_row questions q }

@@ -2,7 +2,7 @@
 -- the oracle or, where its question was stale when it answered, by another. So twice what was recorded, and one turn more for each row that was dropped,
 -- is an upper bound of the turns that were taken when a draw is due. While a question is due the bound has one turn less, and two more where the question is
 -- still fresh, for then what is recorded for it is yet to come. The last draw, which is answered Done, is one turn more.
-use Rattle.std.proofs.Common.{◌≡◌, append-nil, append_assoc, ℕ, suc, ◌+◌, ◌*◌, ◌^◌, ◌<◌, ◌≤◌, ◌⊎◌, Bool, true, false, not, ◌&&◌, ◌||◌, cond, eqb, eq-eqb, option_map, find, get_or, zero, Option, Some, None, List, [], ◌∷◌, ◌++◌, length, map, filter, slice_get, slice_set, refl, inl, inr, sym, ap, ◌∙◌, subst, arith, length-append}
+use Rattle.std.proofs.Common.{◌≡◌, append-nil, append_assoc, ℕ, suc, ◌+◌, ◌*◌, ◌-◌, ◌^◌, ◌<◌, ◌≤◌, ◌⊎◌, Bool, true, false, not, ◌&&◌, ◌||◌, cond, eqb, eq-eqb, option_map, find, get_or, zero, Option, Some, None, List, [], ◌∷◌, ◌++◌, length, map, filter, slice_get, slice_set, refl, inl, inr, sym, ap, ◌∙◌, subst, arith, length-append}
 use Rattle.std.proofs.Math.Pow.{pow_mono}
 use Rattle.std.proofs.lemmas.List.{length-map, length-set}
 use Rattle.std.proofs.lemmas.Bool.{and_parts, or_from, false≢true, not-true, eqb-true}
@@ -31,11 +31,12 @@ use Rattle.fca_model.proofs.RunLemmas.{legal_events}
 use Rattle.explore_state.specs.History.{is_recorded}
 use Rattle.explore_state.proofs.CourseLemmas.{draw_not_recorded}
 use Rattle.oracle_expert.specs.Answers.{event_of}
-use Rattle.oracle_expert.specs.Oracles.{Conflicts, no_conflict, conflicts_told, counterexample, answer_with, drop_given, drop_at}
-use Rattle.oracle_expert.specs.Runs.{Moment, IsOracleFront, conflicts_of, row_due, OracleRunsFrom, StopsAtDone, event_due, moment_after, moment_at, is_done}
+use Rattle.oracle_expert.specs.Oracles.{Conflicts, Recall, Answers, Learns, no_conflict, conflicts_told, counterexample, answer_with, drop_given, drop_at}
+use Rattle.oracle_expert.specs.Runs.{Moment, SeatRun, IsOracleFront, conflicts_of, row_due, OracleRunsFrom, StopsAtDone, event_due, moment_after, moment_at, is_done}
 use Rattle.oracle_expert.proofs.AnswerLemmas.{counterexample_is}
 use Rattle.oracle_expert.specs.Counts.{recorded_in, dropped}
 use Rattle.oracle_expert.proofs.TurnLemmas.{is_stale, moment, draws, confirms, gives}
+use Rattle.oracle_expert.proofs.RunLemmas.{oracle_runs}
 
 -- ---- holds
 
@@ -209,7 +210,7 @@ module _ (D : NamedContext) (e : ℕ) (i : is_expert e ≡ true) (c : ℕ) where
           stale
           (λ _ k other. inr (let one = one_dropped D cs q j k found in omega arith, held))
 
-  stops : (reply : SetReply) (rest : List SetEntry) → is_done reply ≡ true → StopsAtDone reply rest → rest ≡ []
+  pub stops : (reply : SetReply) (rest : List SetEntry) → is_done reply ≡ true → StopsAtDone reply rest → rest ≡ []
   stops Done rest d h = h
   stops _ rest d h = cc
 
@@ -301,7 +302,7 @@ few_dropped D entries =
 -- ---- what is recorded
 
 -- what an entry with this reply adds to the rows and the accepted implications
-abbrev adds : SetReply → ℕ
+abbrev pub adds : SetReply → ℕ
 adds reply = cond (is_recorded reply) 1 0
 
 module _ (s : State) where
@@ -360,7 +361,7 @@ module _ (s : State) where
       go None = omega arith
       go (Some q) = fitting q (first_missing 0 q.premise r)
 
-  next_adds : (x : SetEvent) → Adds (next s x) (reply_to s x)
+  pub next_adds : (x : SetEvent) → Adds (next s x) (reply_to s x)
   unfolding after reply_to
   next_adds (Draw e) = draw_adds e
   next_adds (Confirm e) = confirm_adds e
@@ -393,19 +394,18 @@ recorded_rows s (x ∷ es) =
 
 -- ---- the entries behind some that an expert has already
 
-module _ (D : NamedContext) (e : ℕ) (i : is_expert e ≡ true) (entries : List SetEntry) (front : IsOracleFront D e entries) where
-  -- the bound of what was recorded from the state on
+module _ (D : NamedContext) (e : ℕ) (i : is_expert e ≡ true) (cs : Conflicts) (entries : List SetEntry) (runs : OracleRunsFrom D e (moment None cs) entries) where
+  -- the bound of what was recorded from the state on, where these rows were dropped before
   abbrev Later : State → List SetEvent → Type 0
-  Later s es = length entries + 2 * rows_and_rules s ≤ 2 * rows_and_rules (state_after s es) + dropped (conflicts_of D entries) + 1
+  Later s es = length entries + dropped cs + 2 * rows_and_rules s ≤ 2 * rows_and_rules (state_after s es) + dropped (moment_at D (moment None cs) entries).conflicts + 1
 
   later_bound : (es : List SetEvent) (s : State) (before : List SetEntry) → IsValid s → s.settings.holders ≡ MAX_EXPERTS → list_all (λ event. is_expert (expert_of event)) es ≡ true
       → own (journal_of s es) e ≡ before ++ entries → Later s es
   unfolding state_after journal_of
   later_bound es s [] v holders is own_is =
-      let none : dropped (no_conflict D) ≡ 0 = none_dropped D.context.rows in
-      let bound : Bound D e i (rows_and_rules s) entries 0 None (no_conflict D) (state_after s es) =
-      subst (λ xs. OracleRunsFrom D e (moment None (no_conflict D)) xs → Bound D e i (rows_and_rules s) xs 0 None (no_conflict D) (state_after s es)) own_is
-      (run_bound D e i (rows_and_rules s) es 0 s (no_conflict D) None v holders is (omega arith) tt) front in
+      let bound : Bound D e i (rows_and_rules s) entries (dropped cs) None cs (state_after s es) =
+      subst (λ xs. OracleRunsFrom D e (moment None cs) xs → Bound D e i (rows_and_rules s) xs (dropped cs) None cs (state_after s es)) own_is
+      (run_bound D e i (rows_and_rules s) es (dropped cs) s cs None v holders is (omega arith) tt) runs in
       omega arith
   later_bound [] s (b ∷ before) v holders is own_is = cc
   later_bound (x ∷ es) s (b ∷ before) v holders is own_is =
@@ -425,18 +425,34 @@ module _ (K : Context) (names : List RowName) (H : List SetEntry) (legal : IsLeg
   abbrev first : State
   first = opening K names plain
 
-  valid : IsValid first
+  pub valid : IsValid first
   valid = opening_valid K names plain (list_all_from (respects_all []) (λ row. refl) K.rows)
 
   counted : rows_and_rules (state_after first (events_of H)) ≡ rows_and_rules first + recorded_in H
   counted = run_adds first (events_of H) ∙ ap (λ J. rows_and_rules first + recorded_in J) legal.replayed
 
+  -- of an oracle that has dropped these rows before
+  any_turns : (D : NamedContext) (e : ℕ) → is_expert e ≡ true → (cs : Conflicts) (before entries : List SetEntry) → own H e ≡ before ++ entries → OracleRunsFrom D e (moment None cs) entries
+      → length entries + dropped cs ≤ 2 * recorded_in H + dropped (moment_at D (moment None cs) entries).conflicts + 1
+  any_turns D e i cs before entries own_is runs =
+      let events = legal_events first H legal in
+      let bound = later_bound D e i cs entries runs (events_of H) first before valid refl events.0 (ap (λ J. own J e) legal.replayed ∙ own_is) in
+      let all = counted in
+      omega arith
+
   pub oracle_turns : (D : NamedContext) (e : ℕ) → is_expert e ≡ true → (before entries : List SetEntry) → own H e ≡ before ++ entries → IsOracleFront D e entries
       → length entries ≤ 2 * recorded_in H + dropped (conflicts_of D entries) + 1
   oracle_turns D e i before entries own_is front =
-      let events = legal_events first H legal in
-      let bound = later_bound D e i entries front (events_of H) first before valid refl events.0 (ap (λ J. own J e) legal.replayed ∙ own_is) in
-      let all = counted in
+      let none : dropped (no_conflict D) ≡ 0 = none_dropped D.context.rows in
+      let turns = any_turns D e i (no_conflict D) before entries own_is front in
+      omega arith
+
+  pub call_turns : (e : ℕ) → is_expert e ≡ true → (old new : Recall) (before entries : List SetEntry) → own H e ≡ before ++ entries → SeatRun Answers Learns e old entries new
+      → length entries ≤ 2 * recorded_in H + (dropped new.conflicts - dropped old.conflicts) + 1
+  call_turns e i old new before entries own_is run =
+      let its = oracle_runs old.table e None old.conflicts old entries new refl refl run in
+      let turns = any_turns old.table e i old.conflicts before entries own_is its.run in
+      let after : dropped new.conflicts ≡ dropped (moment_at old.table (moment None old.conflicts) entries).conflicts = ap dropped its.conflicts in
       omega arith
 
   pub recorded_few : recorded_in H ≤ 2 ^ K.width

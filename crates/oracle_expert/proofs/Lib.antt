@@ -3,3 +3,4 @@ pub mod RunLemmas
 pub mod TurnLemmas
 pub mod CountLemmas
 pub mod SameLemmas
+pub mod DrawLemmas

@@ -54,14 +54,26 @@ module _ {M : Type 0} (Answering : M → Rule → Answer → M → Type 0) (Lear
   Stops None old new = new ≡ old
   Stops (Some q) old new = (new ≡ old) ⊎ ((answer : Answer) × Answering old q answer new)
 
-  -- the run from a moment at which this question is due
+  -- no entry more: a question is due, and the expert gave no answer to it
+  abbrev pub IsUnanswered : Option Rule → M → M → Type 0
+  IsUnanswered None old new = ⊥
+  IsUnanswered (Some q) old new = new ≡ old
+
+  -- the run from a moment at which this question is due, which stops in this way
+  abbrev pub RunsTo : (Option Rule → M → M → Type 0) → Option Rule → M → List SetEntry → M → Type 0
+  RunsTo Stopping due old [] new = Stopping due old new
+  RunsTo Stopping due old (entry ∷ rest) new = (next : M) × IsTurn due old entry next × StopsAtDone entry.reply rest × RunsTo Stopping (due_after due entry.reply) next rest new
+
   abbrev pub RunsFrom : Option Rule → M → List SetEntry → M → Type 0
-  RunsFrom due old [] new = Stops due old new
-  RunsFrom due old (entry ∷ rest) new = (next : M) × IsTurn due old entry next × StopsAtDone entry.reply rest × RunsFrom (due_after due entry.reply) next rest new
+  RunsFrom due old entries new = RunsTo Stops due old entries new
 
   -- the entries are a run of expert e, who remembers `old` before it and `new` after it; it may stop at any moment
   abbrev pub SeatRun : M → List SetEntry → M → Type 0
   SeatRun old entries new = RunsFrom None old entries new
+
+  -- the same, where it stops at a question to which the expert gave no answer
+  abbrev pub UnansweredRun : M → List SetEntry → M → Type 0
+  UnansweredRun old entries new = RunsTo IsUnanswered None old entries new
 
 -- ---- an oracle
 

@@ -1,7 +1,8 @@
 //! Laws of the runs, each the contract of a function that does nothing.
 
-ghost use Rattle.std.specs.Prelude.{◌≡◌, ◌++◌, ◌+◌, ◌*◌, ◌^◌, ◌≤◌, ◌<◌, ℕ, true, [], List, length};
+ghost use Rattle.std.specs.Prelude.{◌≡◌, ◌++◌, ◌∷◌, ◌+◌, ◌-◌, ◌*◌, ◌^◌, ◌≤◌, ◌<◌, ℕ, true, [], List, length};
 ghost use Rattle.std.specs.List.{list_all, list_any};
+ghost use Rattle.fca_model.specs.declared.Event.TheVariants.{Draw};
 ghost use Rattle.fca_model.specs.declared.TheConstants.{MAX_OBJECTS};
 ghost use Rattle.fca_model.specs.Sets.{Set, same};
 ghost use Rattle.fca_model.specs.Context.{Context};
@@ -33,7 +34,8 @@ pub fn oracle_at_a_seat()
 /// Of a history `H` over a context, with nothing known beforehand: an oracle makes at most two turns for each
 /// answer that was recorded in `H`, its own or another's, one for each row that it drops, and one more. So it
 /// makes fewer than 2 ^ 48 where there are at most 46 attributes and its table has no more rows than a table
-/// may have. The oracle's entries are the last of its expert's; others may stand before them.
+/// may have. The oracle's entries are the last of its expert's; others may stand before them. Of an oracle that
+/// dropped rows before, the rows that it drops in these entries count.
 pub fn turns_of_an_oracle()
     ensures bound { (K : Context) (names : List RowName) (H : List SetEntry) → IsLegal (opening K names plain) H
         → (D : NamedContext) (e : ℕ) → is_expert e ≡ true → (before entries : List SetEntry)
@@ -45,6 +47,22 @@ pub fn turns_of_an_oracle()
         → (D : NamedContext) (e : ℕ) → is_expert e ≡ true → (before entries : List SetEntry)
         → own H e ≡ before ++ entries → IsOracleFront D e entries
         → K.width ≤ 46 → length D.context.rows ≤ MAX_OBJECTS → length entries < 2 ^ 48 }
+    ensures any { (K : Context) (names : List RowName) (H : List SetEntry) → IsLegal (opening K names plain) H
+        → (e : ℕ) → is_expert e ≡ true → (old new : Recall) (before entries : List SetEntry)
+        → own H e ≡ before ++ entries → SeatRun Answers Learns e old entries new
+        → length entries ≤ 2 * recorded_in H + (dropped new.conflicts - dropped old.conflicts) + 1 }
+{}
+
+/// Of a history `H` over a context, with nothing known beforehand: between two draws of an oracle an answer is
+/// recorded, its own or another's. Both draws are among its entries, which are the last of its expert's: those
+/// behind the `earlier` ones.
+pub fn draws_of_an_oracle()
+    ensures { (K : Context) (names : List RowName) (H : List SetEntry) → IsLegal (opening K names plain) H
+        → (e : ℕ) → is_expert e ≡ true → (old new : Recall) (earlier entries : List SetEntry)
+        → own H e ≡ earlier ++ entries → SeatRun Answers Learns e old entries new
+        → (before between after : List SetEntry) (first second : SetEntry)
+        → H ≡ before ++ (first ∷ between ++ second ∷ after) → length earlier ≤ length (own before e)
+        → first.event ≡ Draw e → second.event ≡ Draw e → 1 ≤ recorded_in between }
 {}
 
 /// Where all experts are oracles of tables with one context `C`, and the rows of the opening are rows of it, no

@@ -1,16 +1,14 @@
 -- Candidates by their size. A set that joins the sets of its size joins all; and of all sets those of one size are the sets of that
 -- list, since in each other list all have another size.
-use Rattle.std.proofs.Common.{◌≡◌, ◌≢◌, ℕ, zero, suc, ◌+◌, ◌<◌, ◌≤◌, Bool, true, false, not, ◌&&◌, ◌||◌, cond, List, [], ◌∷◌, ◌++◌, map, length, filter, get_or, set, replicate, refl, sym, ap, ap₂, ◌∙◌, subst, arith, inl, inr, eqb, eqb-true, eq-eqb, ne_eqb, get_or-set_same, get_or-set_other, length-set}
+use Rattle.std.proofs.Common.{◌≡◌, ◌≢◌, ℕ, zero, suc, ◌+◌, ◌<◌, ◌≤◌, Bool, true, false, ◌&&◌, cond, List, [], ◌∷◌, ◌++◌, map, length, filter, get_or, set, replicate, refl, sym, ap, ap₂, ◌∙◌, subst, arith, inl, inr, eqb, eqb-true, eq-eqb, ne_eqb, get_or-set_same, get_or-set_other}
 use Rattle.std.proofs.lemmas.Bool.{false≢true, and_parts, and_from, or_cases, or_left, or_right, cases_eq}
-use Rattle.std.proofs.lemmas.List.{append-nil, map-set, length-map, get_or-map}
-use Rattle.std.proofs.lemmas.Simd.{length-replicate}
+use Rattle.std.proofs.lemmas.List.{append-nil, map-append, map-set, length-map, get_or-map}
 use Rattle.std.proofs.lemmas.List.Folds.{list_all-append, list_any-append}
 use Rattle.std.specs.List.{list_all, list_any}
 use Rattle.std.specs.BTreeSet.{insert_key}
-use Rattle.fca_model.specs.declared.TheConstants.{MAX_ATTRIBUTES}
-use Rattle.fca_model.specs.Sets.{Set, size, same, lectic_cmp, increasing}
+use Rattle.fca_model.specs.Sets.{Set, size, same, lectic_cmp}
 use Rattle.fca_model.proofs.ListLemmas.{filter_all}
-use Rattle.pseudo_levels.specs.Search.{AreWide, Has, Grows}
+use Rattle.pseudo_levels.specs.Search.{Has, Grows}
 use Rattle.pseudo_levels.specs.BySize.{together, AreBySize}
 use Rattle.pseudo_levels.proofs.CandidateLemmas.{has_by_key, grows_by_key, list_all-insert_key}
 
@@ -56,7 +54,6 @@ has_at A k Bs Ys lt h = list_any-at (same A) (set Bs k Ys) k (subst (λ Zs. Has 
 
 pub by_size_more : (Bs : List (List Set)) (A : Set) (k : ℕ) (Ys : List Set) → AreBySize Bs → k < length Bs → k ≡ size A → Ys ≡ insert_key lectic_cmp (get_or Bs k []) A → AreBySize (set Bs k Ys)
 by_size_more Bs A k Ys by lt e is = record {
-  count = length-set Bs k Ys ∙ by.count;
   sized = λ j. elim (cases_eq j k) [
     | inl here ↦ subst (λ i. list_all (λ X. eqb (size X) i) (get_or (set Bs k Ys) i []) ≡ true) (sym here)
         (ap (list_all (λ (X : Set). eqb (size X) k)) (get_or-set_same Bs k Ys [] lt ∙ is)
@@ -71,12 +68,12 @@ set_back [] k = refl
 set_back (Xs ∷ Bs) zero = refl
 set_back (Xs ∷ Bs) (suc k) = ap (λ Cs. Xs ∷ Cs) (set_back Bs k)
 
-module _ {V : Type 0} (f : V → List Set) (ts : List V) (k : ℕ) (t u : V) (by : AreBySize (map f ts)) (small : k ≤ MAX_ATTRIBUTES) (at : t ≡ get_or ts k t) where
+module _ {V : Type 0} (f : V → List Set) (ts : List V) (k : ℕ) (t u : V) (by : AreBySize (map f ts)) (there : k < length ts) (at : t ≡ get_or ts k t) where
   inside : k < length (map f ts)
-  inside = omega (arith, small, by.count)
+  inside = omega (arith, there, length-map ts f)
 
   list_at : get_or (map f ts) k [] ≡ f t
-  list_at = get_or-map f ts k t [] (omega (arith, inside, length-map ts f)) ∙ ap f (sym at)
+  list_at = get_or-map f ts k t [] there ∙ ap f (sym at)
 
   pub added_at : (A : Set) → k ≡ size A → f u ≡ insert_key lectic_cmp (f t) A → (AreBySize (map f (set ts k u))) × (Has A (together (map f (set ts k u)))) × (Grows (length A) (together (map f ts)) (together (map f (set ts k u))))
   added_at A e is =
@@ -90,25 +87,36 @@ module _ {V : Type 0} (f : V → List Set) (ts : List V) (k : ℕ) (t u : V) (by
   pub kept_at : f u ≡ f t → map f ts ≡ map f (set ts k u)
   kept_at is = sym (map-set f ts k u ∙ ap (set (map f ts) k) (is ∙ sym list_at) ∙ set_back (map f ts) k)
 
--- ---- no sets
+-- ---- an empty list more
 
-none_at : (m k : ℕ) → get_or {A = List Set} (replicate m []) k [] ≡ []
-none_at zero k = refl
-none_at (suc m) zero = refl
-none_at (suc m) (suc k) = none_at m k
+more_at : (Bs : List (List Set)) (k : ℕ) → get_or (Bs ++ [] ∷ []) k [] ≡ get_or Bs k []
+more_at [] zero = refl
+more_at [] (suc k) = refl
+more_at (Xs ∷ Bs) zero = refl
+more_at (Xs ∷ Bs) (suc k) = more_at Bs k
 
-none_together : (m : ℕ) → together (replicate m []) ≡ []
-none_together zero = refl
-none_together (suc m) = none_together m
+more_together : (Bs : List (List Set)) → together (Bs ++ [] ∷ []) ≡ together Bs
+more_together [] = refl
+more_together (Xs ∷ Bs) = ap (λ Ys. Xs ++ Ys) (more_together Bs)
 
-pub one_together : (m : ℕ) (Bs : List (List Set)) (A : Set) (Ys : List Set) → Bs ≡ replicate (suc m) [] → Ys ≡ A ∷ [] → together (set Bs 0 Ys) ≡ A ∷ []
-one_together m Bs A Ys e is = ap₂ (λ Cs Zs. together (set Cs 0 Zs)) e is ∙ ap (λ Zs. A ∷ Zs) (none_together m)
+pub more_lists : {V : Type 0} (f : V → List Set) (ts us : List V) (t : V) → us ≡ ts ++ t ∷ [] → f t ≡ [] → map f us ≡ map f ts ++ [] ∷ []
+more_lists f ts us t e none = ap (map f) e ∙ map-append f ts (t ∷ []) ∙ ap (λ Xs. map f ts ++ Xs ∷ []) none
 
-pub none_by_size : (Bs : List (List Set)) → Bs ≡ replicate (suc MAX_ATTRIBUTES) [] → AreBySize Bs
-none_by_size Bs e = record {
-  count = ap length e ∙ length-replicate {A = List Set} (suc MAX_ATTRIBUTES) [];
-  sized = λ k. ap (λ Cs. list_all (λ X. eqb (size X) k) (get_or Cs k [])) e ∙ ap (list_all (λ (X : Set). eqb (size X) k)) (none_at (suc MAX_ATTRIBUTES) k);
-}
+-- the lists are those before, with an empty one put last
+pub more_by_size : (Bs Cs : List (List Set)) → Cs ≡ Bs ++ [] ∷ [] → AreBySize Bs → AreBySize Cs
+more_by_size Bs Cs e by = record { sized = λ k. ap (list_all (λ (X : Set). eqb (size X) k)) (ap (λ Ds. get_or Ds k []) e ∙ more_at Bs k) ∙ by.sized k }
+
+pub more_same : (Bs Cs : List (List Set)) → Cs ≡ Bs ++ [] ∷ [] → together Cs ≡ together Bs
+more_same Bs Cs e = ap together e ∙ more_together Bs
+
+-- ---- the empty set alone
+
+pub first_by_size : (Bs : List (List Set)) (A : Set) → Bs ≡ (A ∷ []) ∷ [] → size A ≡ 0 → AreBySize Bs
+first_by_size Bs A e none = record { sized = λ k. ap (λ Cs. list_all (λ X. eqb (size X) k) (get_or Cs k [])) e ∙ each k }
+  where
+    each : (k : ℕ) → list_all (λ X. eqb (size X) k) (get_or ((A ∷ []) ∷ []) k []) ≡ true
+    each zero = ap (λ b. b && true) (eq-eqb (size A) 0 none)
+    each (suc k) = refl
 
 -- ---- the sets of one size
 

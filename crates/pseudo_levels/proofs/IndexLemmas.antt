@@ -1,11 +1,12 @@
 -- Why an index misses no member that a set breaks. The premise of a member has both attributes of its bucket, so a set that takes the
 -- premise in has them too, and looks into the bucket. In a bucket whose attributes the set has not, no premise lies within the set.
 use Rattle.std.proofs.Common.{◌≡◌, ℕ, zero, suc, ◌+◌, ◌*◌, ◌/◌, ◌%◌, ◌<◌, ◌≤◌, Bool, true, false, not, ◌&&◌, ◌||◌, cond, Option, Some, None, Result, Ok, Err, OnErr, MatchOption, List, [], ◌∷◌, ◌++◌, length, map, get_or, set, find, refl, get_or-set_same, get_or-set_other, sym, ap, ◌∙◌, subst, arith, inl, inr, eqb, eqb-true, leb, leb-true}
-use Rattle.std.proofs.lemmas.Bool.{false≢true, and_parts, and_from, cases_Bool, cases_lt, cases_eq}
+use Rattle.std.proofs.Math.Nat.{mul-add-mod_self_right, mod-eq_of_lt}
+use Rattle.std.proofs.lemmas.Nat.{div-mul-add, div-add-mod'}
+use Rattle.std.proofs.lemmas.Bool.{le-leb, false≢true, and_parts, and_from, cases_Bool, cases_lt, cases_eq}
 use Rattle.std.proofs.lemmas.List.{map-set, length-map, get_or-map}
 use Rattle.std.proofs.lemmas.List.Folds.{list_all-append}
 use Rattle.std.specs.List.{list_all}
-use Rattle.fca_model.specs.declared.TheConstants.{MAX_ATTRIBUTES}
 use Rattle.fca_model.specs.Sets.{Set, within, strictly_within, same, IsNextMember}
 use Rattle.fca_model.specs.Implications.{Rule}
 use Rattle.fca_model.specs.Levels.{absorbs_all}
@@ -64,43 +65,50 @@ broken_in_bucket Bs s X i e =
 
 -- ---- the buckets of a set
 
-meets_within : (s : ℕ) (P X : Set) → within P X ≡ true → meets s P ≡ true → meets s X ≡ true
-meets_within zero P X inside h = refl
-meets_within (suc s) P X inside h =
-    let a = s / MAX_ATTRIBUTES in
-    let b = s % MAX_ATTRIBUTES in
+meets_within : (n s : ℕ) (P X : Set) → within P X ≡ true → meets n s P ≡ true → meets n s X ≡ true
+meets_within n zero P X inside h = refl
+meets_within n (suc s) P X inside h =
+    let a = s / n in
+    let b = s % n in
     let parts = and_parts (leb a b) (get_or P a false && get_or P b false) h in
     let both = and_parts (get_or P a false) (get_or P b false) parts.1 in
     and_from (leb a b) (get_or X a false && get_or X b false) parts.0
     (and_from (get_or X a false) (get_or X b false) (within_at_place P X inside a both.0) (within_at_place P X inside b both.1))
 
--- where the set has not the attributes of the bucket, it breaks nothing in it
-absorbs_unmet : (s : ℕ) (X : Set) (is : List Rule) → list_all (λ i. meets s i.premise) is ≡ true → meets s X ≡ false → absorbs_all is X ≡ true
-absorbs_unmet s X is all f =
-    list_all-mono (λ i. meets s i.premise) (λ i. not (strictly_within i.premise X) || within i.conclusion X)
-    (λ i m. implies_from (strictly_within i.premise X) (within i.conclusion X)
-    (λ inside. absurd (false≢true (sym f ∙ meets_within s i.premise X (and_parts (within i.premise X) (not (same i.premise X)) inside).0 m)))) is all
+-- a set with two attributes has those of their bucket
+pub meets_pair : (n a b s : ℕ) (P : Set) → s ≡ suc (a * n + b) → a ≤ b → b < n → get_or P a false ≡ true → get_or P b false ≡ true → meets n s P ≡ true
+meets_pair n a b s P e le lt first second =
+    let quotient : (a * n + b) / n ≡ a = div-mul-add a n b lt in
+    let rest : (a * n + b) % n ≡ b = mul-add-mod_self_right a n b ∙ mod-eq_of_lt lt in
+    rw (e, quotient, rest, le-leb a b le, first, second) refl
 
-absorbs_all_filed : (J : List Rule) (Bs : List (List Rule)) (X : Set) → IsFiled J Bs → find (breaks_below X) (bucket 0 Bs) ≡ None
-    → ((a b : ℕ) → a ≤ b → get_or X a false ≡ true → get_or X b false ≡ true → absorbs_all (bucket (suc (MAX_ATTRIBUTES * a + b)) Bs) X ≡ true) → absorbs_all J X ≡ true
-absorbs_all_filed J Bs X filed first pairs =
-    filed.complete (λ i. not (strictly_within i.premise X) || within i.conclusion X) (λ s. elim (cases_Bool (meets s X)) [
+-- where the set has not the attributes of the bucket, it breaks nothing in it
+absorbs_unmet : (n s : ℕ) (X : Set) (is : List Rule) → list_all (λ i. meets n s i.premise) is ≡ true → meets n s X ≡ false → absorbs_all is X ≡ true
+absorbs_unmet n s X is all f =
+    list_all-mono (λ i. meets n s i.premise) (λ i. not (strictly_within i.premise X) || within i.conclusion X)
+    (λ i m. implies_from (strictly_within i.premise X) (within i.conclusion X)
+    (λ inside. absurd (false≢true (sym f ∙ meets_within n s i.premise X (and_parts (within i.premise X) (not (same i.premise X)) inside).0 m)))) is all
+
+absorbs_all_filed : (n : ℕ) (J : List Rule) (Bs : List (List Rule)) (X : Set) → IsFiled n J Bs → find (breaks_below X) (bucket 0 Bs) ≡ None
+    → ((a b : ℕ) → a ≤ b → get_or X a false ≡ true → get_or X b false ≡ true → absorbs_all (bucket (suc (a * n + b)) Bs) X ≡ true) → absorbs_all J X ≡ true
+absorbs_all_filed n J Bs X filed first pairs =
+    filed.complete (λ i. not (strictly_within i.premise X) || within i.conclusion X) (λ s. elim (cases_Bool (meets n s X)) [
       | inl met ↦ each s met
-      | inr unmet ↦ absorbs_unmet s X (bucket s Bs) (filed.sorted s) unmet
+      | inr unmet ↦ absorbs_unmet n s X (bucket s Bs) (filed.sorted s) unmet
     ])
   where
-    each : (s : ℕ) → meets s X ≡ true → absorbs_all (bucket s Bs) X ≡ true
+    each : (s : ℕ) → meets n s X ≡ true → absorbs_all (bucket s Bs) X ≡ true
     each zero met = absorbs_unbroken X (bucket 0 Bs) first
     each (suc s) met =
-        let a = s / MAX_ATTRIBUTES in
-        let b = s % MAX_ATTRIBUTES in
+        let a = s / n in
+        let b = s % n in
         let parts = and_parts (leb a b) (get_or X a false && get_or X b false) met in
         let both = and_parts (get_or X a false) (get_or X b false) parts.1 in
-        let e : suc (MAX_ATTRIBUTES * a + b) ≡ suc s = omega arith in
+        let e : suc (a * n + b) ≡ suc s = ap suc (div-add-mod' s n) in
         subst (λ t. absorbs_all (bucket t Bs) X ≡ true) e (pairs a b (leb-true a b parts.0) both.0 both.1)
 
-broken_filed : (J : List Rule) (Bs : List (List Rule)) (X : Set) (i : Rule) → IsFiled J Bs → IsBrokenIn Bs X i → IsBroken J X i
-broken_filed J Bs X i filed b = record { broken = b.broken; member = λ p h. b.filed p (filed.sound p h) }
+broken_filed : (n : ℕ) (J : List Rule) (Bs : List (List Rule)) (X : Set) (i : Rule) → IsFiled n J Bs → IsBrokenIn Bs X i → IsBroken J X i
+broken_filed n J Bs X i filed b = record { broken = b.broken; member = λ p h. b.filed p (filed.sound p h) }
 
 -- ---- from one member of a set to the next
 
@@ -131,18 +139,18 @@ all_reached Q X lo from none before b le t = elim (cases_lt b from) [
 
 -- ---- one member more
 
-pub filed_none : IsFiled [] []
-filed_none = record { complete = λ p h. refl; sound = λ p h s. refl; sorted = λ s. refl }
+pub filed_none : (n : ℕ) → IsFiled n [] []
+filed_none n = record { complete = λ p h. refl; sound = λ p h s. refl; sorted = λ s. refl }
 
-pub filed_same : (J : List Rule) (old new : List (List Rule)) → IsFiled J old → ((s : ℕ) → bucket s new ≡ bucket s old) → IsFiled J new
-filed_same J old new filed e = record {
+pub filed_same : (n : ℕ) (J : List Rule) (old new : List (List Rule)) → IsFiled n J old → ((s : ℕ) → bucket s new ≡ bucket s old) → IsFiled n J new
+filed_same n J old new filed e = record {
   complete = λ p h. filed.complete p (λ s. ap (list_all p) (sym (e s)) ∙ h s);
   sound = λ p h s. ap (list_all p) (e s) ∙ filed.sound p h s;
-  sorted = λ s. ap (list_all (λ (i : Rule). meets s i.premise)) (e s) ∙ filed.sorted s;
+  sorted = λ s. ap (list_all (λ (i : Rule). meets n s i.premise)) (e s) ∙ filed.sorted s;
 }
 
-pub filed_more : (J : List Rule) (old new : List (List Rule)) (i : Rule) → IsFiled J old → IsPut old new i → IsFiled (J ++ i ∷ []) new
-filed_more J old new i filed put = record {
+pub filed_more : (n : ℕ) (J : List Rule) (old new : List (List Rule)) (i : Rule) → IsFiled n J old → IsPut n old new i → IsFiled n (J ++ i ∷ []) new
+filed_more n J old new i filed put = record {
   complete = λ p h. list_all-append p J (i ∷ []) ∙ and_from (list_all p J) (p i && true)
       (filed.complete p (λ s. elim (cases_eq s put.place) [
         | inl e ↦ subst (λ t. list_all p (bucket t old) ≡ true) (sym e) (of_new p h).0
@@ -150,8 +158,8 @@ filed_more J old new i filed put = record {
       ])) (of_new p h).1;
   sound = λ p h. each p (λ s. filed.sound p (and_parts (list_all p J) (p i && true) (sym (list_all-append p J (i ∷ [])) ∙ h)).0 s) (and_parts (list_all p J) (p i && true) (sym (list_all-append p J (i ∷ [])) ∙ h)).1;
   sorted = λ s. elim (cases_eq s put.place) [
-    | inl e ↦ subst (λ t. list_all (λ (i : Rule). meets t i.premise) (bucket t new) ≡ true) (sym e) (at_place (λ (i : Rule). meets put.place i.premise) (filed.sorted put.place) (and_from (meets put.place i.premise) true put.met refl))
-    | inr other ↦ ap (list_all (λ (i : Rule). meets s i.premise)) (put.elsewhere s other) ∙ filed.sorted s
+    | inl e ↦ subst (λ t. list_all (λ (i : Rule). meets n t i.premise) (bucket t new) ≡ true) (sym e) (at_place (λ (i : Rule). meets n put.place i.premise) (filed.sorted put.place) (and_from (meets n put.place i.premise) true put.met refl))
+    | inr other ↦ ap (list_all (λ (i : Rule). meets n s i.premise)) (put.elsewhere s other) ∙ filed.sorted s
   ];
 }
   where
@@ -171,9 +179,9 @@ filed_more J old new i filed put = record {
     ]
 
 -- a bucket that grew by one
-pub put_is : {V : Type 0} (f : V → List Rule) (mid : List V) (old : List (List Rule)) (place : ℕ) (v w : V) (i : Rule) → place < length mid → meets place i.premise ≡ true
-    → ((s : ℕ) → bucket s (map f mid) ≡ bucket s old) → v ≡ get_or mid place v → f w ≡ f v ++ i ∷ [] → IsPut old (map f (set mid place w)) i
-put_is f mid old place v w i lt met e at more =
+pub put_is : (n : ℕ) {V : Type 0} (f : V → List Rule) (mid : List V) (old : List (List Rule)) (place : ℕ) (v w : V) (i : Rule) → place < length mid → meets n place i.premise ≡ true
+    → ((s : ℕ) → bucket s (map f mid) ≡ bucket s old) → v ≡ get_or mid place v → f w ≡ f v ++ i ∷ [] → IsPut n old (map f (set mid place w)) i
+put_is n f mid old place v w i lt met e at more =
     let sets : map f (set mid place w) ≡ set (map f mid) place (f w) = map-set f mid place w in
     record {
       place = place;
@@ -196,16 +204,16 @@ put_back f mid old place v w lt e at more s =
 
 -- ---- what a search through the buckets gives
 
-pub found_filed : {V : Type 0} (f : V → List Rule) (J : List Rule) (vs ws : List V) (X : Set) (i : Rule) → IsFiled J (map f vs) → ws ≡ vs → find (breaks_below X) (bucket 0 (map f ws)) ≡ Some i → IsBroken J X i
-found_filed f J vs ws X i filed e h = broken_filed J (map f vs) X i filed (subst (λ zs. IsBrokenIn (map f zs) X i) e (broken_in_bucket (map f ws) 0 X i h))
+pub found_filed : (n : ℕ) {V : Type 0} (f : V → List Rule) (J : List Rule) (vs ws : List V) (X : Set) (i : Rule) → IsFiled n J (map f vs) → ws ≡ vs → find (breaks_below X) (bucket 0 (map f ws)) ≡ Some i → IsBroken J X i
+found_filed n f J vs ws X i filed e h = broken_filed n J (map f vs) X i filed (subst (λ zs. IsBrokenIn (map f zs) X i) e (broken_in_bucket (map f ws) 0 X i h))
 
-pub searched_filed : {V : Type 0} (f : V → List Rule) (J : List Rule) (vs us ws : List V) (X : Set) (found : Option Rule) → IsFiled J (map f vs) → us ≡ vs → ws ≡ vs → find (breaks_below X) (bucket 0 (map f us)) ≡ None
-    → MatchOption found ((a b : ℕ) → a ≤ b → get_or X a false ≡ true → get_or X b false ≡ true → absorbs_all (bucket (suc (MAX_ATTRIBUTES * a + b)) (map f ws)) X ≡ true) (λ i. IsBrokenIn (map f ws) X i)
+pub searched_filed : (n : ℕ) {V : Type 0} (f : V → List Rule) (J : List Rule) (vs us ws : List V) (X : Set) (found : Option Rule) → IsFiled n J (map f vs) → us ≡ vs → ws ≡ vs → find (breaks_below X) (bucket 0 (map f us)) ≡ None
+    → MatchOption found ((a b : ℕ) → a ≤ b → get_or X a false ≡ true → get_or X b false ≡ true → absorbs_all (bucket (suc (a * n + b)) (map f ws)) X ≡ true) (λ i. IsBrokenIn (map f ws) X i)
     → MatchOption found (absorbs_all J X ≡ true) (λ i. IsBroken J X i)
-searched_filed f J vs us ws X (Some i) filed d e none h = broken_filed J (map f vs) X i filed (subst (λ zs. IsBrokenIn (map f zs) X i) e h)
-searched_filed f J vs us ws X None filed d e none h =
-    absorbs_all_filed J (map f vs) X filed (ap (λ zs. find (breaks_below X) (bucket 0 (map f zs))) (sym d) ∙ none)
-    (subst (λ zs. (a b : ℕ) → a ≤ b → get_or X a false ≡ true → get_or X b false ≡ true → absorbs_all (bucket (suc (MAX_ATTRIBUTES * a + b)) (map f zs)) X ≡ true) e h)
+searched_filed n f J vs us ws X (Some i) filed d e none h = broken_filed n J (map f vs) X i filed (subst (λ zs. IsBrokenIn (map f zs) X i) e h)
+searched_filed n f J vs us ws X None filed d e none h =
+    absorbs_all_filed n J (map f vs) X filed (ap (λ zs. find (breaks_below X) (bucket 0 (map f zs))) (sym d) ∙ none)
+    (subst (λ zs. (a b : ℕ) → a ≤ b → get_or X a false ≡ true → get_or X b false ≡ true → absorbs_all (bucket (suc (a * n + b)) (map f zs)) X ≡ true) e h)
 
 -- a member that is broken has the width of all
 pub wide_broken : (n : ℕ) (J : List Rule) (X : Set) (i : Rule) → HaveWidth n J → IsBroken J X i → length i.conclusion ≡ n

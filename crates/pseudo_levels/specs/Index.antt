@@ -2,7 +2,6 @@
 -- bucket stands for two of its own attributes.
 use Rattle.std.specs.Prelude.{◌≡◌, ℕ, zero, suc, ◌/◌, ◌%◌, ◌≢◌, Bool, true, false, not, ◌&&◌, List, [], slice_index_or, nat_le, ◌++◌, ◌∷◌}
 use Rattle.std.specs.List.{list_all}
-use Rattle.fca_model.specs.declared.TheConstants.{MAX_ATTRIBUTES}
 use Rattle.fca_model.specs.Sets.{Set, within, strictly_within}
 use Rattle.fca_model.specs.Implications.{Rule}
 
@@ -21,16 +20,16 @@ pub record IsBroken (J : List Rule) (X : Set) (i : Rule) : Type 0 where
 abbrev pub bucket : ℕ → List (List Rule) → List Rule
 bucket s Bs = slice_index_or Bs s []
 
--- the set has the two attributes that bucket s stands for, of which the first may be the second; bucket 0 stands for none
-abbrev pub meets : ℕ → Set → Bool
-meets zero P = true
-meets (suc s) P = nat_le (s / MAX_ATTRIBUTES) (s % MAX_ATTRIBUTES) && (slice_index_or P (s / MAX_ATTRIBUTES) false && slice_index_or P (s % MAX_ATTRIBUTES) false)
+-- the set has the two attributes that bucket s stands for among n, of which the first may be the second; bucket 0 stands for none
+abbrev pub meets : ℕ → ℕ → Set → Bool
+meets n zero P = true
+meets n (suc s) P = nat_le (s / n) (s % n) && (slice_index_or P (s / n) false && slice_index_or P (s % n) false)
 
--- the buckets have the members of J, each in a bucket whose attributes its premise has
-pub record IsFiled (J : List Rule) (Bs : List (List Rule)) : Type 0 where
+-- the buckets, of n attributes, have the members of J, each in a bucket whose attributes its premise has
+pub record IsFiled (n : ℕ) (J : List Rule) (Bs : List (List Rule)) : Type 0 where
   pub complete : (p : Rule → Bool) → ((s : ℕ) → list_all p (bucket s Bs) ≡ true) → list_all p J ≡ true
   pub sound : (p : Rule → Bool) → list_all p J ≡ true → (s : ℕ) → list_all p (bucket s Bs) ≡ true
-  pub sorted : (s : ℕ) → list_all (λ i. meets s i.premise) (bucket s Bs) ≡ true
+  pub sorted : (s : ℕ) → list_all (λ i. meets n s i.premise) (bucket s Bs) ≡ true
 
 -- i, which X breaks, is in one of the buckets
 pub record IsBrokenIn (Bs : List (List Rule)) (X : Set) (i : Rule) : Type 0 where
@@ -38,8 +37,8 @@ pub record IsBrokenIn (Bs : List (List Rule)) (X : Set) (i : Rule) : Type 0 wher
   pub filed : (p : Rule → Bool) → ((s : ℕ) → list_all p (bucket s Bs) ≡ true) → p i ≡ true
 
 -- i was put last into a bucket whose attributes its premise has
-pub record IsPut (old new : List (List Rule)) (i : Rule) : Type 0 where
+pub record IsPut (n : ℕ) (old new : List (List Rule)) (i : Rule) : Type 0 where
   pub place : ℕ
-  pub met : meets place i.premise ≡ true
+  pub met : meets n place i.premise ≡ true
   pub here : bucket place new ≡ bucket place old ++ i ∷ []
   pub elsewhere : (s : ℕ) → s ≢ place → bucket s new ≡ bucket s old

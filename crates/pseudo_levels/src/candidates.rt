@@ -1,7 +1,8 @@
 //! The sets among which the members of the basis are found.
 
-ghost use Rattle.std.specs.Prelude.{◌≡◌, ℕ, suc, ◌∷◌, [], OnOk, IfOk, length, map, filter, replicate, false, true, ◌≤◌, ◌==◌};
+ghost use Rattle.std.specs.Prelude.{◌≡◌, ℕ, ◌∷◌, [], OnOk, IfOk, length, map, filter, replicate, false, true, ◌<◌, ◌≤◌, ◌^◌, ◌==◌};
 ghost use Rattle.fca_model.specs.Sets.{size, increasing};
+ghost use Rattle.pseudo_levels.specs.BySize.{together, AreBySize};
 ghost use Rattle.pseudo_levels.specs.Search.{AreWide, Has, HasLarger, HaveLarger, Grows};
 
 use attr_bits::Attrs;
@@ -13,6 +14,7 @@ use std::marker::Model;
 /// A growing collection of sets, each once, those of one size together.
 #[derive(Drop)]
 pub struct Candidates {
+    alloc: Global,
     by_size: Vec<BTreeSet<Attrs>>,
 }
 
@@ -34,9 +36,11 @@ impl Candidates {
         requires { n ≤ MAX_ATTRIBUTES }
         ensures { IfOk result (λ candidates. candidates ≡ replicate n false ∷ []) }
     {
-        let mut by_size = no_sets(alloc)?;
-        by_size[0].insert(Attrs::empty(n))?;
-        Ok(Candidates { by_size })
+        let mut none = BTreeSet::new(alloc);
+        none.insert(Attrs::empty(n))?;
+        let mut by_size = Vec::new(alloc);
+        by_size.push(none)?;
+        Ok(Candidates { alloc, by_size })
     }
 
     /// Puts the set among them.
@@ -44,8 +48,9 @@ impl Candidates {
         ensures added { OnOk result (Has set self.new) }
         ensures grows { Grows (length set) self.old self.new }
     {
-        let _width = set.width();
-        self.by_size[set.size() as usize].insert(set)?;
+        let size = set.size() as usize;
+        make_room(self.alloc, &mut self.by_size, size)?;
+        self.by_size[size].insert(set)?;
         Ok(())
     }
 
@@ -87,15 +92,17 @@ impl Candidates {
     }
 }
 
-/// No sets of any size.
-fn no_sets(alloc: Global) -> Result<Vec<BTreeSet<Attrs>>, Memory>
-    ensures { IfOk result (λ by_size. map (λ sets. sets.keys) by_size.items ≡ replicate (suc MAX_ATTRIBUTES) []) }
+/// Puts trees of no sets last until there is one for the size.
+fn make_room(alloc: Global, by_size: &mut Vec<BTreeSet<Attrs>>, size: usize) -> Result<(), Memory>
+    requires { size < 2 ^ 32 }
+    ensures room { OnOk result (size < length by_size.new.items) }
+    ensures by_size { AreBySize (map (λ sets. sets.keys) by_size.old.items) → AreBySize (map (λ sets. sets.keys) by_size.new.items) }
+    ensures same { together (map (λ sets. sets.keys) by_size.new.items) ≡ together (map (λ sets. sets.keys) by_size.old.items) }
 {
-    let mut by_size = Vec::new(alloc);
-    for _ in 0..MAX_ATTRIBUTES + 1 {
+    for _ in by_size.len()..size + 1 {
         by_size.push(BTreeSet::new(alloc))?;
     }
-    Ok(by_size)
+    Ok(())
 }
 
 /// The sets in lectic order.

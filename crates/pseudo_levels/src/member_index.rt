@@ -30,7 +30,7 @@ impl Model for MemberIndex {
 
     ghost view = { λ a. a.list };
 
-    ghost invariant = { λ a. IsFiled a.list.members (map (λ v. v.items) a.buckets.items) };
+    ghost invariant = { λ a. IsFiled a.list.width a.list.members (map (λ v. v.items) a.buckets.items) };
 }
 
 impl MemberIndex {
@@ -96,17 +96,17 @@ impl MemberIndex {
         ensures broken { MatchOption result (absorbs_all self.now.members set.now ≡ true) (λ i. IsBroken self.now.members set.now i) }
         ensures wide { IfSome result (λ i. length i.conclusion ≡ self.now.width) }
     {
-        let _width = self.list.width();
+        let width = self.list.width();
         if let Some(i) = broken_in(&self.buckets, 0, set) {
             return Some(i);
         }
-        broken_by_pairs(&self.buckets, set)
+        broken_by_pairs(&self.buckets, width, set)
     }
 }
 
 /// Puts the implication into a bucket whose attributes its premise has.
 fn file(alloc: Global, buckets: &mut Vec<Vec<Implication>>, i: &Implication) -> Result<(), Memory>
-    ensures ok { OnOk result (IsPut (map (λ v. v.items) buckets.old.items) (map (λ v. v.items) buckets.new.items) i.now) }
+    ensures ok { OnOk result (IsPut (length i.now.premise) (map (λ v. v.items) buckets.old.items) (map (λ v. v.items) buckets.new.items) i.now) }
     ensures err { OnErr result ((s : ℕ) → bucket s (map (λ v. v.items) buckets.new.items) ≡ bucket s (map (λ v. v.items) buckets.old.items)) }
 {
     let place = bucket_of(&i.premise);
@@ -129,36 +129,36 @@ fn make_room(alloc: Global, buckets: &mut Vec<Vec<Implication>>, place: usize) -
 
 /// The bucket of the first two attributes of a premise, of which the second is the first where there is one alone.
 fn bucket_of(premise: &Attrs) -> usize
-    ensures met { meets result premise.now ≡ true }
+    ensures met { meets (length premise.now) result premise.now ≡ true }
     ensures in_range { result ≤ MAX_ATTRIBUTES * MAX_ATTRIBUTES }
 {
-    let _width = premise.width();
+    let width = premise.width();
     let Some(first) = premise.next_member(0) else {
         return 0;
     };
     match premise.next_member(first + 1) {
-        Some(second) => bucket_of_pair(first, second),
-        None => bucket_of_pair(first, first),
+        Some(second) => bucket_of_pair(width, first, second),
+        None => bucket_of_pair(width, first, first),
     }
 }
 
-/// The bucket of two attributes.
-fn bucket_of_pair(first: u32, second: u32) -> usize
-    ensures { result ≡ suc (MAX_ATTRIBUTES * first + second) }
+/// The bucket of two attributes of this many.
+fn bucket_of_pair(width: u32, first: u32, second: u32) -> usize
+    ensures { result ≡ suc (first * width + second) }
 {
-    MAX_ATTRIBUTES as usize * first as usize + second as usize + 1
+    first as usize * width as usize + second as usize + 1
 }
 
 /// An implication that the set breaks, of a bucket of two of its attributes.
-fn broken_by_pairs(buckets: &[Vec<Implication>], set: &Attrs) -> Option<Implication>
+fn broken_by_pairs(buckets: &[Vec<Implication>], width: u32, set: &Attrs) -> Option<Implication>
     ensures { MatchOption result
-        ((a b : ℕ) → a ≤ b → slice_index_or set.now a false ≡ true → slice_index_or set.now b false ≡ true → absorbs_all (bucket (suc (MAX_ATTRIBUTES * a + b)) (map (λ v. v.items) buckets.now)) set.now ≡ true)
+        ((a b : ℕ) → a ≤ b → slice_index_or set.now a false ≡ true → slice_index_or set.now b false ≡ true → absorbs_all (bucket (suc (a * width + b)) (map (λ v. v.items) buckets.now)) set.now ≡ true)
         (λ i. IsBrokenIn (map (λ v. v.items) buckets.now) set.now i) }
 {
     let _width = set.width();
     let mut from = 0;
     while let Some(first) = set.next_member(from) {
-        if let Some(i) = broken_by_first(buckets, first, set) {
+        if let Some(i) = broken_by_first(buckets, width, first, set) {
             return Some(i);
         }
         from = first + 1;
@@ -167,16 +167,21 @@ fn broken_by_pairs(buckets: &[Vec<Implication>], set: &Attrs) -> Option<Implicat
 }
 
 /// An implication that the set breaks, of a bucket of this attribute and a later one.
-fn broken_by_first(buckets: &[Vec<Implication>], first: u32, set: &Attrs) -> Option<Implication>
+fn broken_by_first(
+    buckets: &[Vec<Implication>],
+    width: u32,
+    first: u32,
+    set: &Attrs,
+) -> Option<Implication>
     requires { first < length set.now }
     ensures { MatchOption result
-        ((b : ℕ) → first ≤ b → slice_index_or set.now b false ≡ true → absorbs_all (bucket (suc (MAX_ATTRIBUTES * first + b)) (map (λ v. v.items) buckets.now)) set.now ≡ true)
+        ((b : ℕ) → first ≤ b → slice_index_or set.now b false ≡ true → absorbs_all (bucket (suc (first * width + b)) (map (λ v. v.items) buckets.now)) set.now ≡ true)
         (λ i. IsBrokenIn (map (λ v. v.items) buckets.now) set.now i) }
 {
     let _width = set.width();
     let mut from = first;
     while let Some(second) = set.next_member(from) {
-        if let Some(i) = broken_in(buckets, bucket_of_pair(first, second), set) {
+        if let Some(i) = broken_in(buckets, bucket_of_pair(width, first, second), set) {
             return Some(i);
         }
         from = second + 1;

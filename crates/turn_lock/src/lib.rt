@@ -9,6 +9,7 @@ mod fault;
 mod lock;
 mod logged;
 mod pass;
+mod queue;
 mod rule;
 #[cfg(test)]
 mod tests;

@@ -7,6 +7,7 @@ ghost use Rattle.turn_lock.specs.Seats.{Fits, Stays, Making, all_gathered};
 use crate::fault::TurnFault;
 use crate::logged::Logged;
 use crate::pass::Pass;
+use crate::queue::Queue;
 use crate::rule::{Another, Gathering, Key, TurnRule};
 use crate::turn;
 use crate::view::View;
@@ -21,6 +22,7 @@ use std::sync::Wait;
 #[derive(Drop)]
 pub struct TurnLock<V: Logged> {
     passes: u8,
+    queue: Queue,
     table: Table<Option<V>, View<V::Base, V::Entry>, Key<V>, TurnRule<V>, Global>,
 }
 
@@ -87,7 +89,15 @@ impl<V: Logged> TurnLock<V> {
             seat,
         };
         all.insert(0, first)?;
-        Ok((TurnLock { passes, table }, all))
+        let queue = Queue::new();
+        Ok((
+            TurnLock {
+                passes,
+                queue,
+                table,
+            },
+            all,
+        ))
     }
 
     /// One turn that applies the event.
@@ -110,7 +120,7 @@ impl<V: Logged> TurnLock<V> {
         if pass.made == pass.turns {
             return Err(TurnFault::Spent);
         }
-        let reply = turn::play(&self.table.shared, rt, &mut pass.seat, event);
+        let reply = turn::play(&self.table.shared, &self.queue, rt, &mut pass.seat, event);
         pass.made += 1;
         match reply {
             Ok(reply) => Ok(reply),
@@ -131,7 +141,7 @@ impl<V: Logged> TurnLock<V> {
         if pass.made == pass.turns {
             return Err(TurnFault::Spent);
         }
-        let seen = turn::look(&self.table.shared, rt, &mut pass.seat);
+        let seen = turn::look(&self.table.shared, &self.queue, rt, &mut pass.seat);
         pass.made += 1;
         Ok(seen)
     }
@@ -142,7 +152,11 @@ impl<V: Logged> TurnLock<V> {
         ensures base { V.base result ≡ self.base }
         ensures told { Told V.legal V.by self.base (V.history result) passes.items }
     {
-        let TurnLock { passes: _, table } = self;
+        let TurnLock {
+            passes: _,
+            queue: _,
+            table,
+        } = self;
         let first = passes.remove(0);
         let Pass {
             number: _,

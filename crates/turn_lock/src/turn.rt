@@ -9,15 +9,12 @@ ghost use Rattle.turn_lock.specs.Seats.{known, IsIdle, Waits, Fits, Stays};
 ghost use Rattle.turn_lock.specs.Steps.{Drew, Came, HasTurn, Holds, Grew, ended_view};
 
 use crate::logged::Logged;
+use crate::queue::Queue;
 use crate::rule::{Coming, Drawing, Ending, Key, TurnRule};
 use crate::view::View;
 use atomic_table::{Seat, Shared};
 use fca_model::Memory;
 use std::sync::Wait;
-use std::{hint, thread};
-
-/// How often a waiting pass looks before it leaves the processor to other threads between two looks.
-const SPINS: u32 = 64;
 
 fn draw<V: Logged>(
     shared: &Shared<Option<V>, View<V::Base, V::Entry>, Key<V>, TurnRule<V>>,
@@ -60,6 +57,7 @@ fn has_come<V: Logged>(
 /// Waits for the ticket's turn, and takes the value out.
 fn wait<V: Logged, R: Wait>(
     shared: &Shared<Option<V>, View<V::Base, V::Entry>, Key<V>, TurnRule<V>>,
+    queue: &Queue,
     rt: &R,
     seat: &mut Seat<Option<V>, View<V::Base, V::Entry>>,
     ticket: u64,
@@ -77,12 +75,9 @@ fn wait<V: Logged, R: Wait>(
             };
             return value;
         }
-        if looks < SPINS {
-            looks += 1;
-            hint::spin_loop();
-        } else {
-            thread::yield_now();
-        }
+        let turns = ticket.abs_diff(shared.peek(1));
+        queue.pause(rt, ticket, turns, looks);
+        looks = looks.saturating_add(1);
     }
     unreachable!()
 }
@@ -90,6 +85,7 @@ fn wait<V: Logged, R: Wait>(
 /// Gives the value back, and ends the turn.
 fn end<V: Logged>(
     shared: &Shared<Option<V>, View<V::Base, V::Entry>, Key<V>, TurnRule<V>>,
+    queue: &Queue,
     seat: &mut Seat<Option<V>, View<V::Base, V::Entry>>,
     value: V,
 )
@@ -101,12 +97,17 @@ fn end<V: Logged>(
     ensures view { seat.new.me.0 ≡ ended_view V.by (V.history value) seat.old.me.0 }
 {
     let _none = shared.exchange(seat, 0, Some(value));
-    shared.fetch_add::<Ending<V>>(seat, 1, 1);
+    let ended = shared.fetch_add::<Ending<V>>(seat, 1, 1);
+    let next = ended.wrapping_add(1);
+    if shared.peek(0) > next {
+        queue.call(next);
+    }
 }
 
 /// One turn with this event, by a pass that has a turn left.
 pub fn play<V: Logged, R: Wait>(
     shared: &Shared<Option<V>, View<V::Base, V::Entry>, Key<V>, TurnRule<V>>,
+    queue: &Queue,
     rt: &R,
     seat: &mut Seat<Option<V>, View<V::Base, V::Entry>>,
     event: V::Event,
@@ -124,15 +125,16 @@ pub fn play<V: Logged, R: Wait>(
     ensures memory { OnErr result ((b : V.Base) → seat.old.me.0.base ≡ Some b → Looked V.legal V.by b (known seat.old) (known seat.new)) }
 {
     let ticket = draw(shared, seat);
-    let mut value = wait(shared, rt, seat, ticket);
+    let mut value = wait(shared, queue, rt, seat, ticket);
     let reply = value.apply(event);
-    end(shared, seat, value);
+    end(shared, queue, seat, value);
     reply
 }
 
 /// One turn that only looks.
 pub fn look<V: Logged, R: Wait>(
     shared: &Shared<Option<V>, View<V::Base, V::Entry>, Key<V>, TurnRule<V>>,
+    queue: &Queue,
     rt: &R,
     seat: &mut Seat<Option<V>, View<V::Base, V::Entry>>,
 ) -> V::Seen
@@ -147,8 +149,8 @@ pub fn look<V: Logged, R: Wait>(
     ensures shown { (b : V.Base) → seat.old.me.0.base ≡ Some b → V.shows b seat.new.me.0.seen result }
 {
     let ticket = draw(shared, seat);
-    let value = wait(shared, rt, seat, ticket);
+    let value = wait(shared, queue, rt, seat, ticket);
     let seen = value.seen();
-    end(shared, seat, value);
+    end(shared, queue, seat, value);
     seen
 }

@@ -6,7 +6,7 @@ use Rattle.lattice_covers.proofs.CoverLemmas.{they_are_covers}
 use Rattle.lattice_covers.proofs.find_neighbours.Goals as goal
 
 pub loop-i-preserved-in-Some : goal.loop-i-preserved-in-Some
-loop-i-preserved-in-Some c =
+loop-i-preserved-in-Some g c =
     let K : Context = c.args.rows.now in
     let A : Set = c.args.link.now.intent in
     let L : Set = c.loop-i.settled in
@@ -27,7 +27,7 @@ loop-i-preserved-in-Some c =
     }
 
 pub loop-i-preserved-in_default : goal.loop-i-preserved-in_default
-loop-i-preserved-in_default c =
+loop-i-preserved-in_default g c =
     let K : Context = c.args.rows.now in
     let A : Set = c.args.link.now.intent in
     let L : Set = c.loop-i.settled in
@@ -48,7 +48,7 @@ loop-i-preserved-in_default c =
     }
 
 pub loop-i-preserved : goal.loop-i-preserved
-loop-i-preserved c =
+loop-i-preserved g c =
     let K : Context = c.args.rows.now in
     let A : Set = c.args.link.now.intent in
     let i : ℕ = c.loop-i.i - 1 in
@@ -63,7 +63,7 @@ loop-i-preserved c =
     }
 
 pub returns-clause-found : goal.returns-clause-found
-returns-clause-found c =
+returns-clause-found g c =
     let K : Context = c.args.rows.now in
     let A : Set = c.args.link.now.intent in
     let Cs : List Set = c.loop-i.neighbours.items in

@@ -1,8 +1,7 @@
 use Rattle.std.proofs.Common.{w64, get_or, arith}
 use Rattle.std.proofs.lemmas.Nat.Bits.{bit_at-trailing_zeros}
-use Rattle.attr_bits.proofs.PlaceLemmas.{shown, width_is}
+use Rattle.attr_bits.proofs.PlaceLemmas.{shown, width_is, word_below}
 use Rattle.attr_bits.proofs.MemberLemmas.{next_in_first, next_in_word, none_before}
-use Rattle.attr_bits.proofs.FirstWordLemmas.{word_below}
 use Rattle.attr_bits.proofs.Bits.next_member.Goals.{then-first-reached+else-rest-ne0, else-first-reached}
 use Rattle.attr_bits.proofs.Bits.next_member.Goals as goal
 

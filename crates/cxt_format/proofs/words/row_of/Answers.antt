@@ -1,10 +1,9 @@
-use Rattle.std.proofs.Common.{◌≡◌, ◌∙◌, ◌<◌, ◌≤◌, ◌+◌, ◌-◌, ap, sym, subst, refl, length, length-drop, drop, get_or, Some, true, false, arith}
+use Rattle.std.proofs.Common.{rules, ◌≡◌, ◌∙◌, ◌<◌, ◌≤◌, ◌+◌, ◌-◌, ◌*◌, ◌^◌, ℕ, List, min, ap, sym, subst, refl, length, length-drop, drop, arith}
 use Rattle.std.proofs.lemmas.List.{take_all}
-use Rattle.fca_model.specs.Sets.{Set}
-use Rattle.cxt_format.specs.Words.{is_blank_line, mark_of}
-use Rattle.cxt_format.proofs.RowLemmas.{ReadTo, ReadTo-cross, ReadTo-none, row_of-unmarked, row_of-short, row_of-long}
+use Rattle.cxt_format.specs.Words.{is_blank_line}
+use Rattle.cxt_format.proofs.RowLemmas.{ReadTo, ReadTo-block, row_of-other, row_of-read, row_of-short, row_of-long}
 use Rattle.cxt_format.proofs.words.row_of.Goals as goal
-use Rattle.cxt_format.proofs.words.row_of.Goals.{then-line-width-via-then-line-width, then-line-width-via-else-line-width+then-not-is_blank_line, then-cross, else-cross}
+use Rattle.cxt_format.proofs.words.row_of.Goals.{then-line-width-via-then-line-width, then-line-width-via-else-line-width+then-not-is_blank_line}
 
 pub returns-then-line-width : goal.returns-then-line-width
 returns-then-line-width c =
@@ -18,18 +17,28 @@ returns-then-line-width c =
 
 pub returns-in-None : goal.returns-in-None
 returns-in-None c =
-    let in_line : c.loop-i.i < length c.args.line.now = omega arith in
-    rw (row_of-unmarked c.args.width c.loop-i.i c.args.line.now c.loop-i.row c.loop-i.invariant c.loop-i-test.true in_line (sym c.mark_of.ensures ∙ c.in-None.is)) refl
+    rw (row_of-other c.args.width (64 * c.loop-block.block) c.min-end.result c.args.line.now (omega (arith, c.min-end.ensures)) (omega (arith, c.min-end.ensures)) (omega arith) c.in-None.ensures) refl
 
-pub loop-i-preserved : goal.loop-i-preserved
-loop-i-preserved c =
-    let in_line : c.loop-i.i < length c.args.line.now = omega arith in
-    let P : Set → Type 0 = λ row. ReadTo c.args.width c.args.line.now row (c.loop-i.i + 1) in
-    elim c.if-cross.branch [
-      | then-cross w ↦
-          let mark : mark_of (get_or c.args.line.now c.loop-i.i 0) ≡ Some true = sym c.mark_of.ensures ∙ c.in-Some.is ∙ ap Some w.if-cross.true in
-          subst P (sym w.insert.ensures ∙ sym w.row-is) (ReadTo-cross c.args.width c.loop-i.i c.args.line.now c.loop-i.row c.loop-i.invariant c.loop-i-test.true in_line mark)
-      | else-cross w ↦
-          let mark : mark_of (get_or c.args.line.now c.loop-i.i 0) ≡ Some false = sym c.mark_of.ensures ∙ c.in-Some.is ∙ ap Some w.if-cross.false in
-          subst P (sym w.row-is) (ReadTo-none c.args.width c.loop-i.i c.args.line.now c.loop-i.row c.loop-i.invariant c.loop-i-test.true in_line mark)
-    ]
+pub loop-block-preserved : goal.loop-block-preserved
+loop-block-preserved c =
+    let width : ℕ = c.args.width in
+    let line : List ℕ = c.args.line.now in
+    let from : ℕ = 64 * c.loop-block.block in
+    let end : ℕ = c.min-end.result in
+    let start : min width from ≡ from = omega arith in
+    let small : c.in-Some.crosses < 2 ^ 64 = search rules in
+    let last : end ≡ min width (from + 64) = omega (arith, c.min-end.ensures) in
+    let next : end ≡ min width (64 * (c.loop-block.block + 1)) = omega arith in
+    subst (ReadTo width line c.insert_bits.new.self) next
+    (ReadTo-block width from end c.in-Some.crosses line c.loop-block.row c.insert_bits.new.self (subst (ReadTo width line c.loop-block.row) start c.loop-block.invariant) (omega arith) last (omega arith)
+    c.in-Some.ensures small c.insert_bits.ensures.width c.insert_bits.ensures.members)
+
+pub returns : goal.returns
+returns c =
+    let width : ℕ = c.args.width in
+    let line : List ℕ = c.args.line.now in
+    let all : min width (64 * c.loop-block.block) ≡ width = omega arith in
+    let whole : ReadTo width line c.loop-block.row width = subst (ReadTo width line c.loop-block.row) all c.loop-block.invariant in
+    let rest : length (drop width line) ≤ length line - width = rw (length-drop width line) (omega arith) in
+    let blank = sym (ap is_blank_line (take_all _ (drop width line) rest)) ∙ sym c.is_blank_line.ensures ∙ c.if-not-is_blank_line.false in
+    rw (row_of-read width line c.loop-block.row whole.wide (omega arith) whole.read blank) refl

@@ -1,5 +1,6 @@
+use Rattle.std.proofs.Common.{◌*◌, min}
 use Rattle.cxt_format.proofs.RowLemmas.{ReadTo}
 use Rattle.cxt_format.proofs.words.row_of.Given as goal
 
-abbrev pub invariant-loop-i : goal.invariant-loop-i
-invariant-loop-i l = ReadTo l.width l.line l.row l.i
+abbrev pub invariant-loop-block : goal.invariant-loop-block
+invariant-loop-block l = ReadTo l.width l.line l.row (min l.width (64 * l.block))

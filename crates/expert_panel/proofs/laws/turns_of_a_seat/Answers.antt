@@ -1,5 +1,8 @@
-use Rattle.expert_panel.proofs.CourseLemmas.{turns_of_seat}
+use Rattle.expert_panel.proofs.CourseLemmas.{turns_of_seat, turns_between}
 use Rattle.expert_panel.proofs.laws.turns_of_a_seat.Goals as goal
 
 pub returns : goal.returns
-returns c = λ o old new plainly run free H legal i owns. turns_of_seat o old new plainly run free H legal i owns
+returns c = record {
+  untold = λ o old new plainly run free H legal i owns. turns_of_seat o old new plainly run H legal i owns free;
+  any = λ o old new plainly run H legal i owns. turns_between o old new plainly run H legal i owns;
+}

@@ -14,5 +14,5 @@ invariant-loop-count g l = record {
   number : g.D.Desk.number l.desk ≡ g.D.Desk.number l.fn.desk;
   lock : g.D.Desk.lock l.desk ≡ g.D.Desk.lock l.fn.desk;
   place : g.D.Desk.place l.desk ≡ g.D.Desk.place l.fn.desk;
-  attributes : g.D.Desk.attributes l.desk ≡ g.D.Desk.attributes l.fn.desk;
+  attributes : g.D.Wide.attributes l.desk ≡ g.D.Wide.attributes l.fn.desk;
 }

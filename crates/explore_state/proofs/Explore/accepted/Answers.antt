@@ -1,12 +1,22 @@
 use Rattle.std.proofs.Common.{◌≡◌, ◌∙◌, true, ap, sym, subst, refl, []}
 use Rattle.std.specs.List.{list_all}
 use Rattle.fca_model.specs.Implications.{holds}
+use Rattle.fca_model.specs.Invariant.{IsAccepted}
 use Rattle.fca_model.specs.Exploration.{plain, state_after, events_of}
 use Rattle.implication_closure.specs.Closing.{RuleList}
 use Rattle.explore_state.specs.History.{Opening, opening_state, state_of, open_of}
 use Rattle.explore_state.specs.Basis.{IsBasis}
-use Rattle.explore_state.proofs.CourseLemmas.{accepted_hold, basis_is}
+use Rattle.explore_state.proofs.CourseLemmas.{accepted_is, accepted_hold, basis_is}
 use Rattle.explore_state.proofs.Explore.accepted.Goals as goal
+
+pub returns-clause-members : goal.returns-clause-members
+returns-clause-members c =
+    let i = c.self.inside in
+    let o : Opening = record { table = i.table; experts = i.experts; settings = plain } in
+    let K = (state_after (opening_state o) (events_of i.journal.items)).context in
+    subst (λ h. IsAccepted [] (state_of h).context c.as_slice.result.now) c.self.view_is
+    (subst (λ J. IsAccepted [] K J) (c.self.invariant.kept.shown.accepted ∙ sym (c.as_slice.ensures.members ∙ ap (λ (J : RuleList). J.members) c.accepted.ensures.list))
+    (accepted_is o i.journal.items i.queue.context i.queue.accepted i.held.items c.self.invariant.kept refl))
 
 pub returns-clause-hold : goal.returns-clause-hold
 returns-clause-hold c =

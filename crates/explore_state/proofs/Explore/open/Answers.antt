@@ -15,5 +15,6 @@ invariant_of-result c =
       kept = kept_opening (record { table = c.args.table; experts = c.args.experts; settings = plain }) c.new.result.items c.in_ok-queue.queue.context c.in_ok-queue.queue.accepted c.in_ok-held.held.items
           (and_from (leb 1 c.args.experts) (leb c.args.experts MAX_EXPERTS) (le-leb 1 c.args.experts (omega arith)) (le-leb c.args.experts MAX_EXPERTS (omega arith)))
           c.new.ensures.items (ap (λ (q : Base). q.context) c.in_ok-queue.ensures ∙ c.rows.ensures.rows) (ap (λ (q : Base). q.accepted) c.in_ok-queue.ensures) c.in_ok-held.ensures.items;
+      known = ap (λ (q : Base). q.known) c.in_ok-queue.ensures;
       room = omega arith;
     }

@@ -1,6 +1,7 @@
 use Rattle.std.proofs.Common.{◌≡◌, ◌∙◌, ap, ap₂, sym, subst, refl}
 use Rattle.fca_model.specs.declared.Reply.TheVariants.{NotHeld, Left}
 use Rattle.fca_model.specs.declared.TheConstants.{MAX_EXPERTS}
+use Rattle.fca_model.specs.Questions.{open_questions}
 use Rattle.fca_model.specs.Exploration.{plain, given_back, held_by, draw_reply, reply_to}
 use Rattle.implication_closure.specs.Closing.{RuleList}
 use Rattle.explore_state.specs.History.{Opening, state_of}
@@ -12,7 +13,7 @@ returns-in-Draw c =
     let i = c.self.inside in
     let o : Opening = record { table = i.table; experts = i.experts; settings = plain } in
     subst (λ h. c.reply_to_draw.result ≡ reply_to (state_of h) c.args.event.now) c.self.view_is
-    (c.reply_to_draw.ensures ∙ ap₂ (λ hs J. draw_reply MAX_EXPERTS (given_back c.in-Draw.expert hs) J) c.deref.ensures.value c.open_questions.ensures
+    (c.reply_to_draw.ensures ∙ ap₂ (λ hs J. draw_reply MAX_EXPERTS (given_back c.in-Draw.expert hs) J) c.deref.ensures.value (c.open_questions.ensures ∙ ap (λ S. open_questions S i.queue.context i.queue.accepted) c.self.invariant.known)
     ∙ sym (reply_to-draw o i.journal.items i.queue.context i.queue.accepted i.held.items c.self.invariant.kept refl c.in-Draw.expert)
     ∙ ap (reply_to (state_of (record { opening = o; journal = i.journal.items; spare = 0 }))) (sym c.in-Draw.is))
 

@@ -7,14 +7,14 @@ use Rattle.explore_state.proofs.changes.change.Goals as goal
 
 pub after_draw-requires : goal.after_draw-requires
 after_draw-requires c =
-    let few = draw_room c.args.queue.now.context c.args.queue.now.accepted c.args.held.now.items c.in-Draw.expert c.args.reply.now
-    (subst (λ event. IsDue c.args.queue.now.context c.args.queue.now.accepted c.args.held.now.items event c.args.reply.now) c.in-Draw.is c.requires.due) in
+    let few = draw_room c.args.queue.now.known c.args.queue.now.context c.args.queue.now.accepted c.args.held.now.items c.in-Draw.expert c.args.reply.now
+    (subst (λ event. IsDue c.args.queue.now.known c.args.queue.now.context c.args.queue.now.accepted c.args.held.now.items event c.args.reply.now) c.in-Draw.is c.requires.due) in
     let room = c.requires.room in
     record { room = omega arith }
 
 pub after_row-requires-clause-respecting : goal.after_row-requires-clause-respecting
-after_row-requires-clause-respecting c = λ k is. taken_respects c.args.queue.now.context c.args.queue.now.accepted c.args.held.now.items c.in-Row.expert k c.in-Row.name c.in-Row.row c.args.reply.now
-    (subst (λ event. IsDue c.args.queue.now.context c.args.queue.now.accepted c.args.held.now.items event c.args.reply.now) c.in-Row.is c.requires.due) is
+after_row-requires-clause-respecting c = λ k is. taken_respects c.args.queue.now.known c.args.queue.now.context c.args.queue.now.accepted c.args.held.now.items c.in-Row.expert k c.in-Row.name c.in-Row.row c.args.reply.now
+    (subst (λ event. IsDue c.args.queue.now.known c.args.queue.now.context c.args.queue.now.accepted c.args.held.now.items event c.args.reply.now) c.in-Row.is c.requires.due) is
 
 pub returns-in-Draw-clause-ok : goal.returns-in-Draw-clause-ok
 unfolding after

@@ -28,7 +28,7 @@ returns-clause-told g c =
     let end = c.conclude.ensures in
     let Told : Text → Type 0 = GainsLine (g.E.Sink.held c.args.err.now) (g.E.Sink.held c.conclude.new.err) (g.E.Sink.faults c.args.err.now) (g.E.Sink.faults c.conclude.new.err) in
     let MayCome : Stop → Type 0 = IsCommandStop c.args.command.now (g.H.Shelf.tells c.args.shelf.now) (g.S.Source.left c.args.input.now) in
-    told-by Told MayCome (λ _. c.first_file.result.now) (fault_file (Some c.args.command.now)) c.conclude.result (λ stop. c.first_file.ensures ∙ sym (fault_file-plain c.args.command.now c.requires stop))
+    told-by Told MayCome (λ _. c.first_file.result.now) (fault_file (Some c.args.command.now)) c.conclude.result (λ stop. c.first_file.ensures ∙ sym (fault_file-plain c.args.command.now c.requires.plain stop))
     (conclude-told Told MayCome (λ _. c.first_file.result.now) answer c.conclude.result end.answered end.stopped c.answer_to-answer.ensures.cause end.told end.told_fault)
 
 pub returns-clause-open : goal.returns-clause-open

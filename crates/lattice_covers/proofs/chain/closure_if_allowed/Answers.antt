@@ -16,28 +16,28 @@ seen : (K : Context) (A : Set) (ws : List ℕ) (i w : ℕ) → AreImplied K A ws
 seen K A ws i w m inside is = subst (λ v. get_or (closure K (set A i true)) v false ≡ true) (sym (is ∙ get_or_default ws i w 0 (omega (arith, m.wide)))) (m.member i inside)
 
 pub has-requires : goal.has-requires
-has-requires c =
+has-requires g c =
     let K : Context = c.args.rows.now in
     let A : Set = c.args.link.now.intent in
     let member = seen K A c.args.link.now.implied.items c.args.i c.index.result.now c.requires.link.implied c.requires.inside c.index.ensures in
     omega (arith, member_below (closure K (set A c.args.i true)) c.index.result.now member, length-closure K (set A c.args.i true), c.requires.allowed)
 
 pub returns-then-not-has-clause-closed : goal.returns-then-not-has-clause-closed
-returns-then-not-has-clause-closed c =
+returns-then-not-has-clause-closed g c =
     let K : Context = c.args.rows.now in
     let A : Set = c.args.link.now.intent in
     not_within_at (closure K (set A c.args.i true)) c.args.allowed.now c.index.result.now
     (seen K A c.args.link.now.implied.items c.args.i c.index.result.now c.requires.link.implied c.requires.inside c.index.ensures) (sym c.has.ensures ∙ c.if-not-has.true)
 
 pub returns-in-None-clause-closed : goal.returns-in-None-clause-closed
-returns-in-None-clause-closed c =
+returns-in-None-clause-closed g c =
     let K : Context = c.args.rows.now in
     let A : Set = c.args.link.now.intent in
     let closed : c.closure-closed.result ≡ closure K (set A c.args.i true) = c.closure-closed.ensures ∙ closure_above K A c.args.i (omega (arith, c.requires.wide, c.requires.inside)) c.insert.new.self c.insert.ensures c.args.link.now.above c.requires.link.above in
     (closed, first_missing_none 0 c.closure-closed.result c.args.allowed.now (sym c.first_missing.ensures ∙ c.in-None.is))
 
 pub returns-in-Some-clause-closed : goal.returns-in-Some-clause-closed
-returns-in-Some-clause-closed c =
+returns-in-Some-clause-closed g c =
     let K : Context = c.args.rows.now in
     let A : Set = c.args.link.now.intent in
     let closed : c.closure-closed.result ≡ closure K (set A c.args.i true) = c.closure-closed.ensures ∙ closure_above K A c.args.i (omega (arith, c.requires.wide, c.requires.inside)) c.insert.new.self c.insert.ensures c.args.link.now.above c.requires.link.above in
@@ -45,7 +45,7 @@ returns-in-Some-clause-closed c =
     not_within_at (closure K (set A c.args.i true)) c.args.allowed.now c.in-Some.further (subst (λ (D : Set). get_or D c.in-Some.further false ≡ true) closed further.0) further.1
 
 pub returns-in-Some-clause-link : goal.returns-in-Some-clause-link
-returns-in-Some-clause-link c =
+returns-in-Some-clause-link g c =
     let K : Context = c.args.rows.now in
     let A : Set = c.args.link.now.intent in
     let closed : c.closure-closed.result ≡ closure K (set A c.args.i true) = c.closure-closed.ensures ∙ closure_above K A c.args.i (omega (arith, c.requires.wide, c.requires.inside)) c.insert.new.self c.insert.ensures c.args.link.now.above c.requires.link.above in

@@ -3,7 +3,7 @@ use Rattle.lattice_covers.proofs.ChainLemmas.{implied_first}
 use Rattle.lattice_covers.proofs.chain.first_link.Goals as goal
 
 pub returns : goal.returns
-returns c = (
+returns g c = (
   refl,
   record {
     above = c.in_ok-containing.ensures;

@@ -6,7 +6,7 @@ use Rattle.lattice_covers.proofs.ChainLemmas.{rows_above-rows_above, implied_lar
 use Rattle.lattice_covers.proofs.chain.next_link.Goals as goal
 
 pub returns : goal.returns
-returns c =
+returns g c =
     let K : Context = c.args.rows.now in
     let L : Set = c.args.link.now.intent in
     let A : Set = c.args.a.now in (

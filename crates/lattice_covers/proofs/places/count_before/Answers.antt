@@ -6,7 +6,7 @@ use Rattle.lattice_covers.proofs.PlaceLemmas.{partitioned, place_from_point}
 use Rattle.lattice_covers.proofs.places.count_before.Goals as goal
 
 pub returns : goal.returns
-returns c ordered =
+returns g c ordered =
     let Xs = c.args.sets.now in
     let X = c.args.x.now in
     place_from_point Xs X c.partition_point.result c.partition_point.ensures.bound

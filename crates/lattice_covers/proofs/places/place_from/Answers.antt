@@ -6,7 +6,7 @@ use Rattle.lattice_covers.proofs.PlaceLemmas.{place_in-at}
 use Rattle.lattice_covers.proofs.places.place_from.Goals as goal
 
 pub returns-then-eq : goal.returns-then-eq
-returns-then-eq c =
+returns-then-eq g c =
     let Xs = c.args.sets.now in
     let X : Set = c.args.x.now in
     let there : get_or Xs c.place_near-near.result X ≡ X = subst (λ (Y : Set). get_or Xs c.place_near-near.result Y ≡ Y)

@@ -1,53 +1,72 @@
-use Rattle.std.proofs.Common.{◌∙◌, ◌<◌, [], ap, sym, subst, arith, length, slice_get}
+use Rattle.std.proofs.Common.{◌∙◌, ◌≡◌, ◌+◌, ◌<◌, ◌≤◌, true, length, ap, sym, subst, arith, slice_get}
+use Rattle.fca_model.specs.Implications.{holds}
+use Rattle.fca_model.specs.Invariant.{distinct_premises}
+use Rattle.fca_model.specs.Levels.{HasBelow}
 use Rattle.fca_model.specs.Questions.{open_questions}
 use Rattle.implication_closure.specs.Closing.{RuleList}
-use Rattle.level_queue.specs.Queue.{Base, IsQueue, others}
-use Rattle.level_queue.proofs.AcceptLemmas.{among_at, question_wide, question_new, conclusion_wide, accept_keeps_queue, accepted_fits, accepted_base}
+use Rattle.std.specs.List.{list_all, remove}
+use Rattle.level_queue.specs.Queue.{Base, IsKept}
+use Rattle.level_queue.specs.Rules.{RuleParts}
+use Rattle.level_queue.proofs.AcceptLemmas.{accepted_base}
+use Rattle.level_queue.proofs.OpenLemmas.{kept_open, accepted_premise, accepted_conclusion, accepted_kept, accepted_distinct, accepted_below, accepted_bounded, opened_kept}
 use Rattle.level_queue.proofs.LevelQueue.accept.Goals as goal
+
+pub get-question-requires : goal.get-question-requires
+get-question-requires c = omega (arith, c.requires, ap length (kept_open c.self.invariant.kept), ap (λ (b : Base). length (open_questions b.known b.context b.accepted)) c.self.view_is)
 
 pub push-requires-clause-premise : goal.push-requires-clause-premise
 push-requires-clause-premise c =
-    let a = c.self.inside in
-    let l : c.args.i < length a.questions.items = omega (arith, c.requires, ap length c.self.invariant.questions_open, ap (λ (s : Base). length (open_questions [] s.context s.accepted)) c.self.view_is) in
-    let q = c.index.result.now in
-    question_wide [] a.rows a.level a.accepted.members a.questions.items a.candidates c.self.invariant.queue q (among_at a.questions.items c.args.i q l c.index.ensures) ∙ sym c.self.invariant.accepted.even
+    let l : c.args.i < length c.self.inside.questions = omega (arith, c.requires, ap length (kept_open c.self.invariant.kept), ap (λ (b : Base). length (open_questions b.known b.context b.accepted)) c.self.view_is) in
+    accepted_premise c.self.invariant.kept c.args.i c.get-question.result l c.get-question.ensures ∙ sym c.self.invariant.wide
 
 pub push-requires-clause-conclusion : goal.push-requires-clause-conclusion
 push-requires-clause-conclusion c =
-    let a = c.self.inside in
-    let l : c.args.i < length a.questions.items = omega (arith, c.requires, ap length c.self.invariant.questions_open, ap (λ (s : Base). length (open_questions [] s.context s.accepted)) c.self.view_is) in
-    let q = c.index.result.now in
-    conclusion_wide [] a.rows a.level a.accepted.members a.questions.items a.candidates c.self.invariant.queue q (among_at a.questions.items c.args.i q l c.index.ensures) ∙ sym c.self.invariant.accepted.even
+    let l : c.args.i < length c.self.inside.questions = omega (arith, c.requires, ap length (kept_open c.self.invariant.kept), ap (λ (b : Base). length (open_questions b.known b.context b.accepted)) c.self.view_is) in
+    accepted_conclusion c.self.invariant.kept c.args.i c.get-question.result l c.get-question.ensures ∙ sym c.self.invariant.wide
 
-pub reopen_without-requires-clause-accepted : goal.reopen_without-requires-clause-accepted
-reopen_without-requires-clause-accepted c =
-    let a = c.self.inside in
-    let l : c.args.i < length a.questions.items = omega (arith, c.requires, ap length c.self.invariant.questions_open, ap (λ (s : Base). length (open_questions [] s.context s.accepted)) c.self.view_is) in
-    let q = c.index.result.now in
-    accepted_fits a.rows a.accepted c.push.new.self q c.self.invariant.accepted
-    (question_new [] a.rows a.level a.accepted.members a.questions.items a.candidates c.self.invariant.queue q (among_at a.questions.items c.args.i q l c.index.ensures)) c.in_ok-push.ensures.ok
+pub take_out-requires : goal.take_out-requires
+take_out-requires c = omega (arith, c.requires, ap length (kept_open c.self.invariant.kept), ap (λ (b : Base). length (open_questions b.known b.context b.accepted)) c.self.view_is)
 
-pub reopen_without-requires-clause-wide : goal.reopen_without-requires-clause-wide
-reopen_without-requires-clause-wide c =
+pub invariant_of-self-then-as_slice-gt1 : goal.invariant_of-self-then-as_slice-gt1
+invariant_of-self-then-as_slice-gt1 c =
     let a = c.self.inside in
-    let l : c.args.i < length a.questions.items = omega (arith, c.requires, ap length c.self.invariant.questions_open, ap (λ (s : Base). length (open_questions [] s.context s.accepted)) c.self.view_is) in
-    let q = c.index.result.now in
-    conclusion_wide [] a.rows a.level a.accepted.members a.questions.items a.candidates c.self.invariant.queue q (among_at a.questions.items c.args.i q l c.index.ensures)
+    let q = c.get-question.result in
+    let l : c.args.i < length c.self.inside.questions = omega (arith, c.requires, ap length (kept_open c.self.invariant.kept), ap (λ (b : Base). length (open_questions b.known b.context b.accepted)) c.self.view_is) in
+    let ok = c.in_ok-push.ensures.ok in
+    record {
+      wide = ap (λ (p : RuleParts). p.width) ok ∙ c.self.invariant.wide;
+      kept = subst (λ qs. IsKept c.push.new.self.known a.rows a.level c.push.new.self.accepted qs) (sym c.take_out.ensures)
+          (subst (λ (p : RuleParts). IsKept p.known a.rows a.level p.accepted (remove a.questions c.args.i)) (sym ok)
+          (accepted_kept c.self.invariant.kept c.args.i q l c.get-question.ensures (omega (arith, c.if-as_slice-gt1.true, ap length c.as_slice.ensures))));
+    }
 
-pub reopen_without-requires-clause-acceptable : goal.reopen_without-requires-clause-acceptable
-reopen_without-requires-clause-acceptable c =
+pub returns-then-as_slice-gt1-clause-ok : goal.returns-then-as_slice-gt1-clause-ok
+returns-then-as_slice-gt1-clause-ok c question at =
     let a = c.self.inside in
-    let l : c.args.i < length a.questions.items = omega (arith, c.requires, ap length c.self.invariant.questions_open, ap (λ (s : Base). length (open_questions [] s.context s.accepted)) c.self.view_is) in
-    let q = c.index.result.now in
-    λ rest new is more grown. subst (λ ms. IsQueue [] a.rows a.level ms rest new) (sym (ap (λ (j : RuleList). j.members) c.in_ok-push.ensures.ok))
-    (accept_keeps_queue [] a.rows a.level a.accepted.members a.questions.items a.candidates c.self.invariant.queue q (among_at a.questions.items c.args.i q l c.index.ensures)
-    rest new (is ∙ ap (others q.premise) c.deref.ensures.value) more grown)
+    let l : c.args.i < length c.self.inside.questions = omega (arith, c.requires, ap length (kept_open c.self.invariant.kept), ap (λ (b : Base). length (open_questions b.known b.context b.accepted)) c.self.view_is) in
+    accepted_base a.rows a.rules c.push.new.self a.questions c.args.self.now c.args.i c.get-question.result question c.self.view_is c.in_ok-push.ensures.ok l c.get-question.ensures
+    (ap (λ qs. slice_get qs c.args.i) (kept_open c.self.invariant.kept ∙ ap (λ (b : Base). open_questions b.known b.context b.accepted) c.self.view_is) ∙ at)
+
+pub invariant_of-self-in-Ok : goal.invariant_of-self-in-Ok
+invariant_of-self-in-Ok c =
+    let a = c.self.inside in
+    let q = c.get-question.result in
+    let l : c.args.i < length c.self.inside.questions = omega (arith, c.requires, ap length (kept_open c.self.invariant.kept), ap (λ (b : Base). length (open_questions b.known b.context b.accepted)) c.self.view_is) in
+    let ok = c.in_ok-push.ensures.ok in
+    let last : length a.questions ≤ 1 = omega (arith, c.if-as_slice-gt1.false, ap length c.as_slice.ensures) in
+    record {
+      wide = ap (λ (p : RuleParts). p.width) ok ∙ c.self.invariant.wide;
+      kept = subst (λ qs. IsKept c.push.new.self.known a.rows c.in-Ok.next.size c.push.new.self.accepted qs) (sym c.new.ensures) (opened_kept
+          (subst (λ (p : RuleParts). list_all (holds a.rows) p.known ≡ true) (sym ok) c.self.invariant.kept.hold)
+          (subst (λ (p : RuleParts). distinct_premises p.accepted ≡ true) (sym ok) (accepted_distinct c.self.invariant.kept c.args.i q l c.get-question.ensures))
+          (c.in-Ok.ensures c.push.new.self.known c.push.new.self.accepted (a.level + 1) (ap (λ (J : RuleList). J.members) c.all.ensures)
+          (subst (λ (p : RuleParts). HasBelow p.known a.rows (a.level + 1) p.accepted) (sym ok) (accepted_below c.self.invariant.kept c.args.i q l c.get-question.ensures last))
+          (accepted_bounded c.self.invariant.kept c.args.i q l c.get-question.ensures)));
+    }
 
 pub returns-in-Ok-clause-ok : goal.returns-in-Ok-clause-ok
-returns-in-Ok-clause-ok c =
+returns-in-Ok-clause-ok c question at =
     let a = c.self.inside in
-    let l : c.args.i < length a.questions.items = omega (arith, c.requires, ap length c.self.invariant.questions_open, ap (λ (s : Base). length (open_questions [] s.context s.accepted)) c.self.view_is) in
-    let q = c.index.result.now in
-    λ question at. accepted_base a.rows a.accepted.members c.push.new.self.members a.questions.items c.args.self.now c.args.i q question c.self.view_is
-    (ap (λ (j : RuleList). j.members) c.in_ok-push.ensures.ok) l c.index.ensures
-    (ap (λ qs. slice_get qs c.args.i) (c.self.invariant.questions_open ∙ ap (λ (s : Base). open_questions [] s.context s.accepted) c.self.view_is) ∙ at)
+    let l : c.args.i < length c.self.inside.questions = omega (arith, c.requires, ap length (kept_open c.self.invariant.kept), ap (λ (b : Base). length (open_questions b.known b.context b.accepted)) c.self.view_is) in
+    accepted_base a.rows a.rules c.push.new.self a.questions c.args.self.now c.args.i c.get-question.result question c.self.view_is c.in_ok-push.ensures.ok l c.get-question.ensures
+    (ap (λ qs. slice_get qs c.args.i) (kept_open c.self.invariant.kept ∙ ap (λ (b : Base). open_questions b.known b.context b.accepted) c.self.view_is) ∙ at)

@@ -1,5 +1,4 @@
 use Rattle.std.proofs.Common.{◌≡◌, ◌∙◌, ◌+◌, ◌*◌, suc, true, List, map, sym, subst, arith}
-use Rattle.fca_model.specs.declared.TheConstants.{MAX_ATTRIBUTES}
 use Rattle.fca_model.specs.Implications.{Rule}
 use Rattle.fca_model.specs.Levels.{absorbs_all}
 use Rattle.pseudo_levels.specs.Index.{bucket}
@@ -15,6 +14,6 @@ loop-second-preserved c =
     let X = c.args.set.now in
     record {
       in_range = omega (arith, c.in-Some.ensures.in_range);
-      reached = next_reached (λ b. absorbs_all (bucket (suc (MAX_ATTRIBUTES * c.args.first + b)) Bs) X ≡ true) X c.args.first c.loop-second.from c.in-Some.second c.in-Some.ensures c.loop-second.invariant.reached
+      reached = next_reached (λ b. absorbs_all (bucket (suc (c.args.first * c.args.width + b)) Bs) X ≡ true) X c.args.first c.loop-second.from c.in-Some.second c.in-Some.ensures c.loop-second.invariant.reached
           (subst (λ s. absorbs_all (bucket s Bs) X ≡ true) c.bucket_of_pair.ensures (absorbs_unbroken X (bucket c.bucket_of_pair.result Bs) (sym c.broken_in.ensures ∙ c.in_default-broken_in.is)));
     }

@@ -1,4 +1,4 @@
-use Rattle.std.proofs.Common.{map}
+use Rattle.std.proofs.Common.{length, map}
 use Rattle.pseudo_levels.proofs.IndexLemmas.{put_is, put_back, on_err_from}
 use Rattle.pseudo_levels.proofs.member_index.file.Goals as goal
 
@@ -10,5 +10,5 @@ returns-in_err-push-clause-err c =
 
 pub returns-clause-ok : goal.returns-clause-ok
 returns-clause-ok c =
-    put_is (λ v. v.items) c.make_room.new.buckets.items (map (λ v. v.items) c.args.buckets.now.items) c.bucket_of-place.result c.index_mut.result.now c.push.new.self c.args.i.now
+    put_is (length c.args.i.now.premise) (λ v. v.items) c.make_room.new.buckets.items (map (λ v. v.items) c.args.buckets.now.items) c.bucket_of-place.result c.index_mut.result.now c.push.new.self c.args.i.now
     c.in_ok-make_room.ensures.room c.bucket_of-place.ensures.met c.make_room.ensures.same c.index_mut.ensures.value c.in_ok-push.ensures.items

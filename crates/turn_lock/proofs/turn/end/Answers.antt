@@ -3,8 +3,8 @@ use Rattle.atomic_table.specs.Table.{rest}
 use Rattle.turn_lock.proofs.StepLemmas.{ends}
 use Rattle.turn_lock.proofs.turn.end.Goals as goal
 
-pub fetch_add-requires : goal.fetch_add-requires
-fetch_add-requires g c =
+pub fetch_add-ended-requires : goal.fetch_add-ended-requires
+fetch_add-ended-requires g c =
     let fits = c.requires.lock in
     let key = c.args.shared.now.key in
     let e = c.exchange-none.ensures in

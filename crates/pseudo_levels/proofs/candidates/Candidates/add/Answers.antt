@@ -1,30 +1,35 @@
-use Rattle.std.proofs.Common.{length, map, set, ◌∙◌, sym, ap, subst, arith}
+use Rattle.std.proofs.Common.{length, map, set, ◌∙◌, sym, ap, subst}
 use Rattle.pseudo_levels.specs.Search.{Grows}
 use Rattle.pseudo_levels.specs.BySize.{together, AreBySize}
 use Rattle.pseudo_levels.proofs.CandidateLemmas.{grows_refl}
 use Rattle.pseudo_levels.proofs.BySizeLemmas.{added_at, kept_at}
 use Rattle.pseudo_levels.proofs.candidates.Candidates.add.Goals as goal
 
-pub invariant_of-self : goal.invariant_of-self
-invariant_of-self c = subst AreBySize (kept_at (λ sets. sets.keys) c.self.inside.by_size.items c.size.result c.index_mut.result.now c.insert.new.self c.self.invariant (omega arith) c.index_mut.ensures.value c.in_err-insert.ensures.err) c.self.invariant
+pub invariant_of-self-in_err-insert : goal.invariant_of-self-in_err-insert
+invariant_of-self-in_err-insert c =
+    let by = c.make_room.ensures.by_size c.self.invariant in
+    subst AreBySize (kept_at (λ sets. sets.keys) c.make_room.new.by_size.items c.size-size.result c.index_mut.result.now c.insert.new.self by c.in_ok-make_room.ensures.room c.index_mut.ensures.value c.in_err-insert.ensures.err) by
 
 pub returns-in_err-insert-clause-grows : goal.returns-in_err-insert-clause-grows
 returns-in_err-insert-clause-grows c =
-    subst (λ Xs. Grows (length c.args.set) c.args.self.now Xs) (sym c.self.view_is ∙ ap together (kept_at (λ sets. sets.keys) c.self.inside.by_size.items c.size.result c.index_mut.result.now c.insert.new.self c.self.invariant (omega arith) c.index_mut.ensures.value c.in_err-insert.ensures.err))
+    let by = c.make_room.ensures.by_size c.self.invariant in
+    subst (λ Xs. Grows (length c.args.set) c.args.self.now Xs)
+    (sym c.self.view_is ∙ sym c.make_room.ensures.same
+    ∙ ap together (kept_at (λ sets. sets.keys) c.make_room.new.by_size.items c.size-size.result c.index_mut.result.now c.insert.new.self by c.in_ok-make_room.ensures.room c.index_mut.ensures.value c.in_err-insert.ensures.err))
     (grows_refl (length c.args.set) c.args.self.now)
 
 pub invariant_of-self-2 : goal.invariant_of-self-2
 invariant_of-self-2 c =
-    (added_at (λ sets. sets.keys) c.self.inside.by_size.items c.size.result c.index_mut.result.now c.insert.new.self c.self.invariant (omega arith) c.index_mut.ensures.value
-    c.args.set c.size.ensures.size c.in_ok-insert.ensures.keys).0
+    (added_at (λ sets. sets.keys) c.make_room.new.by_size.items c.size-size.result c.index_mut.result.now c.insert.new.self (c.make_room.ensures.by_size c.self.invariant) c.in_ok-make_room.ensures.room
+    c.index_mut.ensures.value c.args.set c.size-size.ensures.size c.in_ok-insert.ensures.keys).0
 
 pub returns-clause-added : goal.returns-clause-added
 returns-clause-added c =
-    (added_at (λ sets. sets.keys) c.self.inside.by_size.items c.size.result c.index_mut.result.now c.insert.new.self c.self.invariant (omega arith) c.index_mut.ensures.value
-    c.args.set c.size.ensures.size c.in_ok-insert.ensures.keys).1
+    (added_at (λ sets. sets.keys) c.make_room.new.by_size.items c.size-size.result c.index_mut.result.now c.insert.new.self (c.make_room.ensures.by_size c.self.invariant) c.in_ok-make_room.ensures.room
+    c.index_mut.ensures.value c.args.set c.size-size.ensures.size c.in_ok-insert.ensures.keys).1
 
 pub returns-clause-grows : goal.returns-clause-grows
 returns-clause-grows c =
-    subst (λ Xs. Grows (length c.args.set) Xs (together (map (λ sets. sets.keys) (set c.self.inside.by_size.items c.size.result c.insert.new.self)))) c.self.view_is
-    (added_at (λ sets. sets.keys) c.self.inside.by_size.items c.size.result c.index_mut.result.now c.insert.new.self c.self.invariant (omega arith) c.index_mut.ensures.value
-    c.args.set c.size.ensures.size c.in_ok-insert.ensures.keys).2
+    subst (λ Xs. Grows (length c.args.set) Xs (together (map (λ sets. sets.keys) (set c.make_room.new.by_size.items c.size-size.result c.insert.new.self)))) (c.make_room.ensures.same ∙ c.self.view_is)
+    (added_at (λ sets. sets.keys) c.make_room.new.by_size.items c.size-size.result c.index_mut.result.now c.insert.new.self (c.make_room.ensures.by_size c.self.invariant) c.in_ok-make_room.ensures.room
+    c.index_mut.ensures.value c.args.set c.size-size.ensures.size c.in_ok-insert.ensures.keys).2

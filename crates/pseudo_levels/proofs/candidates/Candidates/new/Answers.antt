@@ -1,10 +1,13 @@
-use Rattle.std.proofs.Common.{◌∙◌, ap, sym, arith}
-use Rattle.fca_model.specs.Sets.{Set, size}
-use Rattle.pseudo_levels.proofs.BySizeLemmas.{added_at, none_by_size, size_none}
+use Rattle.std.proofs.Common.{◌++◌, ◌∷◌, [], List, map, ◌∙◌, ap, sym}
+use Rattle.std.specs.BTreeSet.{insert_key}
+use Rattle.fca_model.specs.Sets.{Set, size, lectic_cmp}
+use Rattle.pseudo_levels.proofs.BySizeLemmas.{first_by_size, size_none}
 use Rattle.pseudo_levels.proofs.candidates.Candidates.new.Goals as goal
 
 pub invariant_of-result : goal.invariant_of-result
 invariant_of-result c =
     let none : Set = c.empty.result in
-    (added_at (λ sets. sets.keys) c.in_ok-by_size.by_size.items 0 c.index_mut.result.now c.insert.new.self (none_by_size _ c.in_ok-by_size.ensures) (omega arith) c.index_mut.ensures.value
-    none (size_none c.args.n ∙ ap size (sym c.empty.ensures)) c.in_ok-insert.ensures.keys).0
+    first_by_size (map (λ sets. sets.keys) c.push.new.self.items) none
+    (ap (map (λ sets. sets.keys)) (c.in_ok-push.ensures.items ∙ ap (λ ts. ts ++ c.insert.new.self ∷ []) c.new-by_size.ensures.items)
+    ∙ ap (λ (Xs : List Set). Xs ∷ []) (c.in_ok-insert.ensures.keys ∙ ap (λ Xs. insert_key lectic_cmp Xs none) c.new-none.ensures.empty))
+    (ap size c.empty.ensures ∙ sym (size_none c.args.n))

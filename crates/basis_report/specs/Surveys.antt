@@ -1,0 +1,27 @@
+-- What is counted of a table and of an exploration of it, one line each.
+--
+-- The table of the objects XX and .X has two objects, two attributes and three crosses.
+use Rattle.std.specs.Prelude.{ℕ, ◌++◌, length, codes, sum_by}
+use Rattle.fca_model.specs.Sets.{size}
+use Rattle.fca_model.specs.Context.{Context}
+use Rattle.fca_model.specs.Tables.{Text, NamedContext}
+use Rattle.basis_report.specs.Reports.{counted}
+
+-- the number of crosses: of pairs of an object and an attribute that it has (Ganter and Wille, the incidence of a context)
+abbrev pub crosses : Context → ℕ
+crosses K = sum_by size K.rows
+
+-- six numbers, each behind what it counts
+abbrev pub survey_lines : ℕ → ℕ → ℕ → ℕ → ℕ → ℕ → Text
+survey_lines objects attributes crosses concepts basis explored =
+    counted (codes "objects ") objects
+    ++ (counted (codes "attributes ") attributes
+    ++ (counted (codes "crosses ") crosses
+    ++ (counted (codes "concepts ") concepts
+    ++ (counted (codes "basis ") basis
+    ++ counted (codes "explored ") explored))))
+
+-- what is counted of the table, and the numbers of its concepts, of its basis and of what was accepted in an exploration of it
+abbrev pub survey_text : NamedContext → ℕ → ℕ → ℕ → Text
+survey_text t concepts basis explored =
+    survey_lines (length t.context.rows) t.context.width (crosses t.context) concepts basis explored

@@ -1,0 +1,47 @@
+//! What was counted of a table and of an exploration of it.
+
+ghost use Rattle.std.specs.Prelude.{◌≡◌, IfOk};
+ghost use Rattle.basis_report.specs.Surveys.{crosses, survey_text};
+
+use crate::concepts::write_counted;
+use context_table::Table;
+use expert_wire::Draft;
+use fca_model::Memory;
+use std::alloc::Global;
+
+/// How many objects, attributes and crosses the table has, how many concepts and how many implications in its basis; and how many
+/// implications were accepted where it was explored.
+pub fn survey_text(
+    alloc: Global,
+    table: &Table,
+    concepts: usize,
+    basis: usize,
+    explored: usize,
+) -> Result<Vec<u8>, Memory>
+    ensures { IfOk result (λ v. v.items ≡ survey_text table.now concepts basis explored) }
+{
+    let mut draft = Draft::new(alloc);
+    write_counted(&mut draft, table, b"objects ", table.rows().len())?;
+    write_counted(
+        &mut draft,
+        table,
+        b"attributes ",
+        table.rows().width() as usize,
+    )?;
+    write_counted(&mut draft, table, b"crosses ", crosses(table))?;
+    write_counted(&mut draft, table, b"concepts ", concepts)?;
+    write_counted(&mut draft, table, b"basis ", basis)?;
+    write_counted(&mut draft, table, b"explored ", explored)?;
+    Ok(draft.into_bytes())
+}
+
+/// How many crosses the table has.
+fn crosses(table: &Table) -> usize
+    ensures { result ≡ crosses table.now.context }
+{
+    let mut crosses = 0;
+    for row in table.rows().as_slice() {
+        crosses += row.size() as usize;
+    }
+    crosses
+}

@@ -1,0 +1,110 @@
+-- What the row of an object says of its value.
+--
+-- Of the interordinal scale of 21 and 30 the marks XXX. of 21 say that the number is at least 21 and at most 21, and ..XX that it is at least 30.
+use Rattle.std.specs.Prelude.{◌≡◌, ◌↔◌, ℕ, ◌+◌, Bool, false, cond, List, [], ◌∷◌, Option, Some, None, IfSome, ℤ, ◌<ℤ◌, ◌≤ℤ◌, int_le, fold, length, take, drop, slice_get, slice_index_or, ⊤}
+use Rattle.fca_model.specs.Sets.{Set}
+use Rattle.fca_model.specs.Tables.{Text}
+use Rattle.value_tables.specs.Numbers.{number_of}
+use Rattle.context_scaling.specs.Scaling.{Scaling, names_of, made_names}
+use Rattle.context_scaling.specs.declared.scales.Kind.{Kind}
+use Rattle.context_scaling.specs.declared.scales.Kind.TheVariants as kind
+use Rattle.context_scaling.specs.declared.scales.Relation.{Relation}
+use Rattle.context_scaling.specs.declared.scales.Relation.TheVariants as relation
+use Rattle.context_scaling.specs.declared.scales.ScaleValue.{ScaleValue}
+use Rattle.context_scaling.specs.declared.scales.ScaleValue.TheVariants as value
+use Rattle.context_scaling.specs.declared.back.Back.{Back}
+use Rattle.context_scaling.specs.declared.back.Back.TheVariants as back
+
+-- ---- nominal scales
+
+-- the places of the members, from place i on
+abbrev pub places_from : ℕ → Set → List ℕ
+places_from i [] = []
+places_from i (mark ∷ marks) = cond mark (i ∷ places_from (i + 1) marks) (places_from (i + 1) marks)
+
+-- no place, one alone, or several
+abbrev pub alone : List ℕ → Back
+alone [] = back.Nothing
+alone (p ∷ []) = back.Value p
+alone (p ∷ q ∷ places) = back.Several
+
+-- ---- scales of numbers
+
+-- a bound by this relation is better the narrower it is: of two that a number is at most, the lesser
+abbrev pub narrower : Relation → ℤ → ℤ → Bool
+narrower relation.Equal a b = false
+narrower relation.AtMost a b = int_le a b
+narrower relation.AtLeast a b = int_le b a
+
+abbrev pub pick : Relation → Option ℤ → ℤ → Option ℤ
+pick r None v = Some v
+pick r (Some n) v = Some (cond (narrower r n v) n v)
+
+-- a scale value that is a number is one more bound
+abbrev pub picked : Relation → Option ℤ → ScaleValue → Option ℤ
+picked r best (value.Text v) = best
+picked r best (value.Number v) = pick r best v
+
+-- the scale values whose place is a member
+abbrev pub marked : Set → List ScaleValue → List ScaleValue
+marked marks [] = []
+marked [] (v ∷ values) = []
+marked (mark ∷ marks) (v ∷ values) = cond mark (v ∷ marked marks values) (marked marks values)
+
+-- the narrowest of the bounds that are marked
+abbrev pub narrowest : Relation → Set → List ScaleValue → Option ℤ
+narrowest r marks values = fold (picked r) None (marked marks values)
+
+abbrev pub between : Option ℤ → Option ℤ → Back
+between None None = back.Nothing
+between None (Some high) = back.Between None (Some high)
+between (Some low) high = back.Between (Some low) high
+
+-- ---- records of a plan
+
+-- what the marks of a scale say, which stand first in the marks
+abbrev pub back_by : Kind → List ScaleValue → Set → Back
+back_by kind.Nominal values marks = alone (places_from 0 (take (length values) marks))
+back_by kind.Ordinal values marks = between None (narrowest relation.AtMost marks values)
+back_by kind.Interordinal values marks = between (narrowest relation.AtLeast (drop (length values) marks) values) (narrowest relation.AtMost marks values)
+
+-- a record of a plan that makes nothing, where there is none
+abbrev pub no_scaling : Scaling
+no_scaling = record { kind = kind.Nominal; attribute = []; place = 0; values = [] }
+
+-- record k
+abbrev pub scaling_at : List Scaling → ℕ → Scaling
+scaling_at plan k = slice_index_or plan k no_scaling
+
+-- where the attributes of record k begin
+abbrev pub begin_of : List Scaling → ℕ → ℕ
+begin_of plan k = length (made_names (take k plan))
+
+-- what the row says by record k of the plan
+abbrev pub back_at : List Scaling → ℕ → Set → Back
+back_at plan k row = back_by (scaling_at plan k).kind (scaling_at plan k).values (drop (begin_of plan k) row)
+
+-- ---- the value comes back
+
+-- no number of the scale lies strictly between a and b
+abbrev pub NoneBetween : List ScaleValue → ℤ → ℤ → Type 0
+NoneBetween values a b = (i : ℕ) (v : ℤ) → slice_get values i ≡ Some (value.Number v) → a <ℤ v → v <ℤ b → ⊥
+
+-- the bounds that are there hold of the number, and none of the scale is narrower
+pub record AreBounds (values : List ScaleValue) (n : ℤ) (low high : Option ℤ) : Type 0 where
+  pub above_low : IfSome low (λ v. (v ≤ℤ n) × NoneBetween values v n)
+  pub below_high : IfSome high (λ v. (n ≤ℤ v) × NoneBetween values n v)
+
+-- the bounds where a number lies between bounds, and nothing where it is not told
+abbrev pub TellsBounds : List ScaleValue → ℤ → Back → Type 0
+TellsBounds values n back.Nothing = ⊤
+TellsBounds values n back.Several = ⊥
+TellsBounds values n (back.Value p) = ⊥
+TellsBounds values n (back.Between low high) = AreBounds values n low high
+
+-- what was told of a value: of a nominal scale the scale value that it is, of the others the narrowest bounds around it; and nothing where there is no value
+abbrev pub GivesBack : Kind → List ScaleValue → Text → Back → Type 0
+GivesBack kind values [] told = told ≡ back.Nothing
+GivesBack kind.Nominal values (byte ∷ text) told = (p : ℕ) → (told ≡ back.Value p) ↔ (slice_get values p ≡ Some (value.Text (byte ∷ text)))
+GivesBack kind.Ordinal values (byte ∷ text) told = (n : ℤ) → number_of (byte ∷ text) ≡ Some n → TellsBounds values n told
+GivesBack kind.Interordinal values (byte ∷ text) told = (n : ℤ) → number_of (byte ∷ text) ≡ Some n → TellsBounds values n told

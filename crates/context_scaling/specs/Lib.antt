@@ -1,0 +1,4 @@
+pub mod Scaling
+pub mod PlanForm
+pub mod Marks
+pub mod Back

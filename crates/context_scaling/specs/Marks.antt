@@ -1,0 +1,12 @@
+-- A row of a known width that is filled from its first place on.
+use Rattle.std.specs.Prelude.{◌≡◌, ℕ, ◌-◌, false, ◌++◌, length, replicate, take}
+use Rattle.fca_model.specs.Sets.{Set}
+
+-- the width, and the marks so far
+pub record Filling : Type 0 where
+  pub width : ℕ
+  pub marks : Set
+
+-- behind the first places the row is empty
+abbrev pub IsFilled : Set → ℕ → Type 0
+IsFilled row at = row ≡ take at row ++ replicate (length row - at) false

@@ -1,0 +1,158 @@
+//! What a row says of the value that it was made from.
+
+ghost use Rattle.std.specs.Prelude.{◌≡◌, ◌<◌, ◌≤◌, ◌+◌, ℕ, Some, drop, length, take};
+ghost use Rattle.value_tables.specs.Values.{ValueTable, object_at, value_of};
+ghost use Rattle.context_scaling.specs.Scaling.{Fits, made_names, names_of, scaled_row};
+ghost use Rattle.context_scaling.specs.Back.{GivesBack, alone, back_at, begin_of, between, narrower, narrowest, pick, picked, places_from, scaling_at};
+
+use crate::plan::{Plan, PlanRecord};
+use crate::scales::{Kind, Relation, ScaleValue};
+use attr_bits::Attrs;
+
+/// What a row says of the value of one attribute. Scale values are counted from 0.
+#[derive(Clone, Copy, Debug, PartialEq, Eq)]
+pub enum Back {
+    /// It has no attribute of the scale.
+    Nothing,
+    /// It has several attributes of a nominal scale, and so is the row of no value.
+    Several,
+    /// The value is this scale value.
+    Value(usize),
+    /// The greatest scale value that the number is at least, and the least that it is at most.
+    Between(Option<i64>, Option<i64>),
+}
+
+/// What the row says by record k of the plan, counted from 0.
+pub fn read_back(plan: &Plan, k: usize, row: &Attrs) -> Back
+    requires record { k < length plan.now }
+    requires width { length row.now ≡ length (made_names plan.now) }
+    ensures back { result ≡ back_at plan.now k row.now }
+    ensures value { (t : ValueTable) (g : ℕ) → Fits plan.now t → row.now ≡ scaled_row plan.now (object_at t g)
+        → GivesBack (scaling_at plan.now k).kind (scaling_at plan.now k).values (value_of (scaling_at plan.now k).place (object_at t g)) result }
+{
+    back_at(plan, k, row)
+}
+
+/// The same, by the kind of the scale.
+fn back_at(plan: &Plan, k: usize, row: &Attrs) -> Back
+    requires record { k < length plan.now }
+    requires width { length row.now ≡ length (made_names plan.now) }
+    ensures { result ≡ back_at plan.now k row.now }
+{
+    let planned = plan.record(k);
+    let first = begin_of(plan, k, row.width());
+    match planned.kind {
+        Kind::Nominal => alone(row, first, planned.values.len()),
+        Kind::Ordinal => between(
+            None,
+            narrowest(Relation::AtMost, row, first, &planned.values),
+        ),
+        Kind::Interordinal => {
+            let second = first + planned.values.len() as u32;
+            let low = narrowest(Relation::AtLeast, row, second, &planned.values);
+            let high = narrowest(Relation::AtMost, row, first, &planned.values);
+            between(low, high)
+        }
+    }
+}
+
+/// Where the attributes of record k begin.
+fn begin_of(plan: &Plan, k: usize, width: u32) -> u32
+    requires record { k < length plan.now }
+    requires width { length (made_names plan.now) ≡ width }
+    ensures begin { result ≡ begin_of plan.now k }
+    ensures room { result + length (names_of (scaling_at plan.now k)) ≤ width }
+{
+    let mut begin = 0;
+    for planned in &plan.records()[..k] {
+        begin += width_of(planned);
+    }
+    begin as u32
+}
+
+/// How many attributes the record makes.
+fn width_of(planned: &PlanRecord) -> usize
+    requires { length planned.now.values < 4294967296 }
+    ensures { result ≡ length (names_of planned.now) }
+{
+    match planned.kind {
+        Kind::Nominal | Kind::Ordinal => planned.values.len(),
+        Kind::Interordinal => 2 * planned.values.len(),
+    }
+}
+
+/// The one place of these many that is in the row.
+fn alone(row: &Attrs, first: u32, count: usize) -> Back
+    requires { first + count ≤ length row.now }
+    ensures { result ≡ alone (places_from 0 (take count (drop first row.now))) }
+{
+    let _width = row.width();
+    let mut found = None;
+    for p in 0..count {
+        if row.has(first + p as u32) {
+            if found.is_some() {
+                return Back::Several;
+            }
+            found = Some(p);
+        }
+    }
+    match found {
+        Some(p) => Back::Value(p),
+        None => Back::Nothing,
+    }
+}
+
+/// The narrowest of the bounds whose place is in the row.
+fn narrowest(relation: Relation, row: &Attrs, first: u32, values: &[ScaleValue]) -> Option<i64>
+    requires { first + length values.now ≤ length row.now }
+    ensures { result ≡ narrowest relation (drop first row.now) values.now }
+{
+    let _width = row.width();
+    let mut best = None;
+    for (p, value) in values.iter().enumerate() {
+        if row.has(first + p as u32) {
+            best = picked(relation, best, value);
+        }
+    }
+    best
+}
+
+/// The narrower of the best bound so far and this one.
+fn picked(relation: Relation, best: Option<i64>, value: &ScaleValue) -> Option<i64>
+    ensures { result ≡ picked relation best value.now }
+{
+    match value {
+        ScaleValue::Text(_) => best,
+        ScaleValue::Number(bound) => pick(relation, best, *bound),
+    }
+}
+
+fn pick(relation: Relation, best: Option<i64>, bound: i64) -> Option<i64>
+    ensures { result ≡ pick relation best bound }
+{
+    match best {
+        Some(other) if is_narrower(relation, other, bound) => best,
+        _ => Some(bound),
+    }
+}
+
+/// Whether the first bound is as narrow as the second.
+fn is_narrower(relation: Relation, first: i64, second: i64) -> bool
+    ensures { result ≡ narrower relation first second }
+{
+    match relation {
+        Relation::Equal => false,
+        Relation::AtMost => first <= second,
+        Relation::AtLeast => second <= first,
+    }
+}
+
+fn between(low: Option<i64>, high: Option<i64>) -> Back
+    ensures { result ≡ between low high }
+{
+    if low.is_none() && high.is_none() {
+        Back::Nothing
+    } else {
+        Back::Between(low, high)
+    }
+}

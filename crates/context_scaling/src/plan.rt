@@ -1,0 +1,83 @@
+//! Plans of scalings.
+
+ghost use Rattle.std.specs.Prelude.{◌≡◌, ◌<◌, Some, length, slice_get};
+ghost use Rattle.context_scaling.specs.Scaling.{made_names};
+
+use crate::scales::{Kind, ScaleValue};
+use fca_model::Name;
+use indexmap::IndexSet;
+use std::marker::Model;
+
+/// An attribute of a table of values, with a scale for it.
+#[derive(Drop)]
+pub struct PlanRecord {
+    pub(crate) kind: Kind,
+    pub(crate) attribute: Name,
+    pub(crate) place: usize,
+    pub(crate) values: Vec<ScaleValue>,
+}
+
+impl Model for PlanRecord {
+    ghost use Rattle.context_scaling.specs.Scaling.{Scaling};
+
+    ghost Value = { Scaling };
+
+    ghost view = { λ r. record { kind = r.kind; attribute = r.attribute; place = r.place; values = r.values.items } };
+}
+
+/// Attributes with their scales: contracts see the list of them.
+#[derive(Drop)]
+pub struct Plan {
+    records: Vec<PlanRecord>,
+    names: IndexSet<Name>,
+}
+
+impl Model for Plan {
+    ghost use Rattle.std.specs.Prelude.{List, ◌≡◌};
+    ghost use Rattle.context_scaling.specs.Scaling.{Scaling, made_names};
+
+    ghost Value = { List Scaling };
+
+    ghost view = { λ p. p.records.items };
+
+    ghost invariant = { λ p. p.names.keys ≡ made_names p.records.items };
+}
+
+impl Plan {
+    /// The plan of these records, which make these names.
+    pub(crate) fn of(records: Vec<PlanRecord>, names: IndexSet<Name>) -> Plan
+        requires { names.keys ≡ made_names records.items }
+        ensures { result ≡ records.items }
+    {
+        Plan { records, names }
+    }
+
+    /// The number of records.
+    pub fn len(&self) -> usize
+        ensures { result ≡ length self.now }
+    {
+        self.records.len()
+    }
+
+    /// The records in their order.
+    pub(crate) fn records(&self) -> &[PlanRecord]
+        ensures { result.now ≡ self.now }
+    {
+        self.records.as_slice()
+    }
+
+    /// Record k.
+    pub(crate) fn record(&self, k: usize) -> &PlanRecord
+        requires { k < length self.now }
+        ensures { Some result.now ≡ slice_get self.now k }
+    {
+        &self.records[k]
+    }
+
+    /// The names of the attributes that the plan makes.
+    pub(crate) fn names(&self) -> &[Name]
+        ensures { result.now ≡ made_names self.now }
+    {
+        self.names.as_slice()
+    }
+}

@@ -1,0 +1,35 @@
+-- Oracles of one table that explore its attributes accept as many implications as its basis has.
+use Rattle.std.proofs.Common.{◌≡◌, ◌∙◌, ℕ, List, [], Bool, true, false, length, refl, ap}
+use Rattle.fca_model.specs.Context.{Context}
+use Rattle.fca_model.specs.Implications.{Rule}
+use Rattle.fca_model.specs.Tables.{NamedContext}
+use Rattle.fca_model.specs.Pseudo.{intents, basis}
+use Rattle.context_table.specs.Generated.{made_table}
+use Rattle.explore_state.specs.History.{History, state_of, open_of}
+use Rattle.explore_state.specs.Basis.{IsBasis}
+use Rattle.oracle_expert.specs.Oracles.{Recall}
+use Rattle.expert_panel.specs.Explorations.{HasAgreed, is_part}
+use Rattle.basis_report.specs.Surveys.{survey_text}
+use Rattle.fca_command.specs.declared.recipe.Recipe.{Recipe}
+use Rattle.explore_command.specs.Surveyed.{made, surveyed_text}
+
+pub made_width : (r : Recipe) → (made r).context.width ≡ r.attributes
+unfolding made_table
+made_width r = refl
+
+-- a table without objects has no row that another lacks
+pub is_part-none : (s m d : ℕ) (C : Context) → is_part (made (record { seed = s; objects = 0; attributes = m; density = d })).context C ≡ true
+unfolding made_table
+is_part-none s m d C = refl
+
+pub length-agreed : (C : Context) (explore : History) (accepted : List Rule) (oracles : List Recall) (spent : Bool)
+    → (open_of explore ≡ [] → IsBasis (state_of explore).context accepted) → (spent ≡ false → open_of explore ≡ [])
+    → HasAgreed C explore oracles spent → spent ≡ false → length accepted ≡ length (basis C)
+length-agreed C explore accepted oracles spent is finished agreed unspent =
+    (is (finished unspent)).once ∙ ap length (agreed.basis unspent)
+
+pub survey_text-counts : (t u : NamedContext) (n m k : ℕ) → t ≡ u → n ≡ length (intents t.context) → m ≡ length (basis t.context) → k ≡ length (basis t.context)
+    → survey_text t n m k ≡ surveyed_text u
+survey_text-counts t u n m k same concepts members explored =
+    ap (λ a. survey_text t a m k) concepts ∙ ap (λ a. survey_text t (length (intents t.context)) a k) members
+    ∙ ap (λ a. survey_text t (length (intents t.context)) (length (basis t.context)) a) explored ∙ ap surveyed_text same

@@ -1,0 +1,107 @@
+//! The command `survey`: a table that is made, its concepts, its basis, and an exploration by oracles of it.
+
+ghost use Rattle.std.specs.Prelude.{◌≡◌, ◌≤◌, true, [], All, IfOk, length, replicate, vec_len};
+ghost use Rattle.fca_model.specs.Exploration.{is_expert};
+ghost use Rattle.fca_model.specs.Pseudo.{intents, basis};
+ghost use Rattle.fca_model.specs.declared.TheConstants.{MAX_ATTRIBUTES};
+ghost use Rattle.fca_command.specs.Recipes.{HasRecipe};
+ghost use Rattle.explore_command.specs.Surveyed.{made, surveyed_text};
+
+use crate::play::TURNS;
+use basis_report::survey_text;
+use canonical_basis::basis;
+use context_table::Table;
+use expert_panel::explore_with_oracles;
+use fca_command::Recipe;
+use fca_model::Memory;
+use lectic_concepts::all_intents;
+use std::alloc::Global;
+use std::sync::Wait;
+use std::thread::Threads;
+
+/// Makes the table, and counts its concepts, the implications of its basis, and those that so many oracles of it accept where they
+/// explore its attributes.
+pub fn survey<R: Threads + Wait + Sync>(
+    rt: &R,
+    alloc: Global,
+    recipe: &Recipe,
+    experts: u8,
+) -> Result<Vec<u8>, Memory>
+    requires recipe { HasRecipe 46 recipe.now.objects recipe.now.attributes recipe.now.density }
+    requires experts { is_expert experts ≡ true }
+    ensures { IfOk result (λ text. text.items ≡ surveyed_text (made recipe.now)) }
+{
+    let table = made(alloc, recipe)?;
+    let concepts = concepts_of(alloc, &table)?;
+    let members = members_of(rt, alloc, &table)?;
+    let explored = explored(rt, alloc, recipe, &table, experts)?;
+    survey_text(alloc, &table, concepts, members, explored)
+}
+
+/// How many concepts the table has.
+fn concepts_of(alloc: Global, table: &Table) -> Result<usize, Memory>
+    ensures { IfOk result (λ count. count ≡ length (intents table.now.context)) }
+{
+    let intents = all_intents(alloc, table.rows())?;
+    Ok(intents.len())
+}
+
+/// How many implications the basis of the table has.
+fn members_of<R: Threads + Sync>(rt: &R, alloc: Global, table: &Table) -> Result<usize, Memory>
+    ensures { IfOk result (λ count. count ≡ length (basis table.now.context)) }
+{
+    let list = basis(rt, alloc, table.rows())?;
+    Ok(list.as_slice().len())
+}
+
+/// The table of the recipe.
+fn made(alloc: Global, recipe: &Recipe) -> Result<Table, Memory>
+    requires { HasRecipe MAX_ATTRIBUTES recipe.now.objects recipe.now.attributes recipe.now.density }
+    ensures { IfOk result (λ table. table ≡ made recipe.now) }
+{
+    Table::make(
+        alloc,
+        recipe.seed,
+        recipe.objects,
+        recipe.attributes,
+        recipe.density,
+    )
+}
+
+/// How many implications so many oracles of the table accept, where they explore its attributes from no object on.
+fn explored<R: Threads + Wait + Sync>(
+    rt: &R,
+    alloc: Global,
+    recipe: &Recipe,
+    table: &Table,
+    experts: u8,
+) -> Result<usize, Memory>
+    requires recipe { HasRecipe 46 recipe.now.objects recipe.now.attributes recipe.now.density }
+    requires experts { is_expert experts ≡ true }
+    requires table { table.now ≡ made recipe.now }
+    ensures { IfOk result (λ count. count ≡ length (basis table.now.context)) }
+{
+    let bare = made(
+        alloc,
+        &Recipe {
+            objects: 0,
+            ..*recipe
+        },
+    )?;
+    let oracles = copies(alloc, table, experts)?;
+    let explored = explore_with_oracles(rt, alloc, bare, oracles, TURNS)?;
+    Ok(explored.explore.accepted().len())
+}
+
+/// The table so many times.
+fn copies(alloc: Global, table: &Table, count: u8) -> Result<Vec<Table>, Memory>
+    ensures count { IfOk result (λ tables. vec_len tables ≡ count) }
+    ensures same { IfOk result (λ tables. All (λ copy. copy ≡ table.now) tables.items) }
+{
+    let mut tables = Vec::with_capacity(alloc, count as usize)?;
+    for _ in 0..count {
+        let copy = table.copy()?;
+        tables.push(copy)?;
+    }
+    Ok(tables)
+}

@@ -1,0 +1,15 @@
+use Rattle.std.proofs.Common.{◌≡◌, ◌≤◌, ◌+◌, length}
+use Rattle.expert_wire.specs.Scripts.{lines}
+use Rattle.known_rules.specs.Known.{known_from, known_form}
+use Rattle.known_rules.proofs.KnownLemmas.{after}
+use Rattle.known_rules.proofs.read.read_known.Given as goal
+
+abbrev pub invariant-loop-rest : goal.invariant-loop-rest
+invariant-loop-rest l = record {
+  counted : l.number + length l.rest ≤ length l.bytes;
+  width : l.list.width ≡ l.n;
+  known : after l.list.members (known_from l.n (l.number + 1) (lines l.rest)) ≡ known_form l.bytes l.n;
+}
+
+abbrev pub decreases-loop-rest : goal.decreases-loop-rest
+decreases-loop-rest l = length l.rest

@@ -1,0 +1,11 @@
+//! Known files: the implications that are known before an exploration begins.
+#![tactic(auto)]
+
+mod fault;
+pub mod laws;
+mod read;
+#[cfg(test)]
+mod tests;
+
+pub use fault::KnownFault;
+pub use read::read_known;

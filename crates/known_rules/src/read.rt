@@ -1,0 +1,72 @@
+//! Reading a known file.
+
+ghost use Rattle.std.specs.Prelude.{◌≡◌, ◌≤◌, ◌⊎◌, Ok, Err, IfOk, IfErr, position, length};
+ghost use Rattle.fca_model.specs.declared.TheConstants.{MAX_ATTRIBUTES};
+ghost use Rattle.expert_wire.specs.Words.{first_word, later_words, is_space};
+ghost use Rattle.known_rules.specs.Known.{known_form, known_rule};
+
+use crate::fault::KnownFault;
+use expert_wire::{crossed, is_skipped, marks, split_line};
+use implication_closure::{Implication, ImplicationList};
+use std::alloc::Global;
+
+/// The implications of a known file, between sets of width n, in their order.
+pub fn read_known(alloc: Global, bytes: &[u8], n: u32) -> Result<ImplicationList, KnownFault>
+    requires { n ≤ MAX_ATTRIBUTES }
+    ensures ok { IfOk result (λ list. known_form bytes.now n ≡ Ok list.members) }
+    ensures width { IfOk result (λ list. list.width ≡ n) }
+    ensures refused { IfErr result (λ e. (e ≡ KnownFault.Memory) ⊎ (known_form bytes.now n ≡ Err e)) }
+{
+    let mut list = ImplicationList::new(alloc, n)?;
+    let mut rest = bytes;
+    let mut number = 0;
+    while !rest.is_empty() {
+        let (line, behind) = split_line(rest);
+        rest = behind;
+        number += 1;
+        if is_skipped(line) {
+            continue;
+        }
+        list.push(read_rule(line, n, number)?)?;
+    }
+    Ok(list)
+}
+
+/// The implication of a line that is not skipped.
+fn read_rule(line: &[u8], n: u32, number: usize) -> Result<Implication, KnownFault>
+    requires { n ≤ MAX_ATTRIBUTES }
+    ensures ok { IfOk result (λ i. known_rule n number line.now ≡ Ok i) }
+    ensures refused { IfErr result (λ e. known_rule n number line.now ≡ Err e) }
+    ensures premise { IfOk result (λ i. length i.premise ≡ n) }
+    ensures conclusion { IfOk result (λ i. length i.conclusion ≡ n) }
+{
+    let (first, later) = split_word(line);
+    let (second, _) = split_word(later);
+    let (Some(premise), Some(conclusion)) = (marks(first), marks(second)) else {
+        return Err(KnownFault::BadLine(number));
+    };
+    if premise.len() != n as usize || conclusion.len() != n as usize {
+        return Err(KnownFault::BadWidth(number));
+    }
+    Ok(Implication {
+        premise: crossed(premise),
+        conclusion: crossed(conclusion),
+    })
+}
+
+/// The bytes before the first space, and those behind it.
+fn split_word(text: &[u8]) -> (&[u8], &[u8])
+    ensures first { result.0.now ≡ first_word text.now }
+    ensures later { result.1.now ≡ later_words text.now }
+{
+    match first_space(text) {
+        Some(end) => (&text[..end], &text[end + 1..]),
+        None => (text, &[]),
+    }
+}
+
+fn first_space(text: &[u8]) -> Option<usize>
+    ensures { result ≡ position is_space text.now }
+{
+    text.iter().position(|byte| *byte == b' ')
+}

@@ -1,0 +1,196 @@
+-- The steps of the walk for the next level. A set that is larger than the bound, or closed and as large, has nothing below it that is looked for; one that is
+-- not closed joins the level, or becomes its first member; below another intent each attribute that it lacks is tried, the last first.
+use Rattle.std.proofs.Common.{◌≡◌, ℕ, suc, ◌+◌, ◌-◌, ◌<◌, ◌≤◌, true, false, List, [], ◌∷◌, ◌++◌, length, get_or, set, replicate, length-set, refl, sym, ap, ◌∙◌, subst, arith}
+use Rattle.std.proofs.lemmas.Bool.{false≢true, false_from_ne_true}
+use Rattle.std.proofs.lemmas.Simd.{length-replicate}
+use Rattle.fca_model.specs.Sets.{Set, same, size, within}
+use Rattle.fca_model.specs.Context.{Context, closure, is_closed}
+use Rattle.fca_model.specs.Implications.{Rule, rule, respects_all}
+use Rattle.fca_model.proofs.SetLemmas.{same-true, same_from, within_refl, within_trans}
+use Rattle.implication_closure.specs.Closing.{RuleList, IsClosure}
+use Rattle.lectic_concepts.specs.Branches.{agree_before}
+use Rattle.lectic_concepts.proofs.BranchLemmas.{among, closure_among}
+use Rattle.lectic_basis.specs.Trees.{before, up_to}
+use Rattle.lectic_basis.specs.NextLevel.{IsLeastUnder, IsLeastLevel}
+use Rattle.lectic_basis.specs.LevelWalks.{IsEntered, IsLeft, HasLevel}
+use Rattle.lectic_basis.specs.Watches.{Watched, IsFiled, IsGood, CanClose, HasMoved, IsClosedBefore, Differs}
+use Rattle.lectic_basis.proofs.PlaceLemmas.{within_set, agree_with}
+use Rattle.lectic_basis.proofs.TreeLemmas.{root_least}
+use Rattle.lectic_basis.proofs.NextLevelLemmas as bound
+use Rattle.lectic_basis.proofs.WaitLemmas.{kept_good, good_covers}
+
+-- ---- the start
+
+pub root_entered : (K : Context) (A : Set) (F : Watched) (Ls : List Rule) (b : ℕ) → F.list.width ≡ K.width → IsClosure F.list.members (replicate K.width false) A
+    → IsFiled F.list.width F.list.members F.buckets → IsGood F.list.members F.buckets A → Ls ≡ [] → b ≡ suc K.width → IsEntered K K A 0 F b Ls
+root_entered K A F Ls b width a filed good none past = record {
+  at = record {
+    width = width;
+    wide = a.wide ∙ length-replicate K.width false;
+    respecting = a.respecting;
+    least = λ X e r h. root_least F.list.members K A a X r;
+    inside = omega arith;
+    near = λ X h. refl;
+    filed = filed;
+    good = good;
+  };
+  level = bound.nothing_seen F.list.members K A Ls b none past;
+}
+
+-- the rows that contain A are enough
+pub near_left : {K L M : Context} {A : Set} {from : ℕ} {F : Watched} {b : ℕ} {Ls : List Rule} → IsLeft K L A from F b Ls → M ≡ among L A → IsLeft K M A from F b Ls
+near_left {L = L} {A = A} l m = record {
+  at = record {
+    width = l.at.width;
+    wide = l.at.wide;
+    respecting = l.at.respecting;
+    least = l.at.least;
+    inside = l.at.inside;
+    near = λ X h. ap (λ N. closure N X) m ∙ closure_among L A X h ∙ l.at.near X h;
+    filed = l.at.filed;
+    good = l.at.good;
+  };
+  level = l.level;
+}
+
+-- ---- a visit
+
+module _ {K L : Context} {A : Set} {from : ℕ} {F : Watched} {b : ℕ} {Ls : List Rule} (e : IsEntered K L A from F b Ls) where
+  ends : {c : ℕ} {Ms : List Rule} → IsLeastLevel F.list.members K c (up_to from A) Ms → HasLevel K A from F F c Ms
+  ends l = record { list = refl; level = l; filed = e.at.filed; kept = λ X h good. good }
+
+  pub enter_larger : b < size A → HasLevel K A from F F b Ls
+  enter_larger lt = ends (bound.cut_larger F.list.members K A e.at.wide from e.at.inside e.at.least b Ls e.level lt)
+
+  module _ {B : Set} (closes : B ≡ closure L A) where
+    closure_is : B ≡ closure K A
+    closure_is = closes ∙ e.at.near A (within_refl A)
+
+    -- an intent
+    module _ (one : same B A ≡ true) where
+      closed : is_closed K A ≡ true
+      closed = same_from A (closure K A) (sym (same-true B A one) ∙ closure_is)
+
+      pub enter_as_large : size A ≡ b → HasLevel K A from F F b Ls
+      enter_as_large as_large = ends (bound.cut_closed F.list.members K A e.at.wide from e.at.inside e.at.least b Ls e.level as_large closed)
+
+      pub enter_left : IsLeft K L A from F b Ls
+      enter_left = record { at = e.at; level = bound.start_closed F.list.members K A e.at.wide from e.at.inside e.at.least b Ls e.level closed }
+
+    -- a set that is not closed
+    module _ (differs : same B A ≡ false) where
+      open_set : is_closed K A ≡ false
+      open_set = false_from_ne_true (is_closed K A) (λ t. false≢true (sym differs ∙ same_from B A (closure_is ∙ sym (same-true A (closure K A) t))))
+
+      pub enter_joins : size A ≡ b → {Ms : List Rule} → Ms ≡ Ls ++ rule A B ∷ [] → HasLevel K A from F F b Ms
+      enter_joins as_large is = ends (subst (λ Zs. IsLeastLevel F.list.members K b (up_to from A) Zs) (sym (is ∙ ap (λ X. Ls ++ rule A X ∷ []) closure_is))
+          (bound.push_least F.list.members K A e.at.wide from e.at.inside e.at.least b Ls e.level e.at.respecting open_set as_large))
+
+      pub enter_lowers : size A < b → {c : ℕ} {Ms : List Rule} → c ≡ size A → Ms ≡ rule A B ∷ [] → HasLevel K A from F F c Ms
+      enter_lowers lt {c = c} {Ms = Ms} size_is is = ends (subst (λ n. IsLeastLevel F.list.members K n (up_to from A) Ms) (sym size_is)
+          (subst (λ Zs. IsLeastLevel F.list.members K (size A) (up_to from A) Zs) (sym (is ∙ ap (λ X. rule A X ∷ []) closure_is))
+          (bound.lower_least F.list.members K A e.at.wide from e.at.inside e.at.least b Ls e.level e.at.respecting open_set lt)))
+
+-- ---- below an intent
+
+-- attribute i is tried, and all behind it were
+pub record IsTrying (K : Context) (A : Set) (from i : ℕ) (F G : Watched) (b : ℕ) (Ls : List Rule) : Type 0 where
+  pub on : from ≤ i
+  pub inside : i < K.width
+  pub found : HasLevel K A (suc i) F G b Ls
+
+pub trying : {K : Context} {A : Set} {from j : ℕ} {F G : Watched} {b : ℕ} {Ls : List Rule} → j ≤ K.width → HasLevel K A j F G b Ls → from < j → IsTrying K A from (j - 1) F G b Ls
+trying {K = K} {A = A} {j = j} {F = F} {G = G} {b = b} {Ls = Ls} le found lt =
+    let e : j ≡ suc (j - 1) = omega (arith, lt) in
+    record { on = omega (arith, lt); inside = omega (arith, le, lt); found = subst (λ k. HasLevel K A k F G b Ls) e found }
+
+module _ {K L : Context} {A : Set} {from : ℕ} {F : Watched} {b₀ : ℕ} {Ls₀ : List Rule} (l : IsLeft K L A from F b₀ Ls₀) where
+  pub left_start : HasLevel K A K.width F F b₀ Ls₀
+  left_start = record { list = refl; level = l.level; filed = l.at.filed; kept = λ X h good. good }
+
+  module _ {i : ℕ} {G : Watched} {b : ℕ} {Ls : List Rule} (t : IsTrying K A from i F G b Ls) where
+    abbrev on : from ≤ i
+    on = t.on
+
+    abbrev inside : i < K.width
+    inside = t.inside
+
+    abbrev g : HasLevel K A (suc i) F G b Ls
+    g = t.found
+
+    next : suc i ≡ i + 1
+    next = omega arith
+
+    width_g : G.list.width ≡ K.width
+    width_g = ap (λ (M : RuleList). M.width) g.list ∙ l.at.width
+
+    least_g : IsLeastUnder G.list.members K.width A from
+    least_g = subst (λ (M : RuleList). IsLeastUnder M.members K.width A from) (sym g.list) l.at.least
+
+    -- an attribute that A has
+    pub left_member : get_or A i false ≡ true → HasLevel K A i F G b Ls
+    left_member has = record { list = g.list; level = bound.member_least G.list.members K i b A Ls has g.level; filed = g.filed; kept = g.kept }
+
+    -- one that A lacks
+    module _ (lacks : get_or A i false ≡ false) {X : Set} (x : X ≡ set A i true) where
+      up : within A X ≡ true
+      up = subst (λ Y. within A Y ≡ true) (sym x) (within_set A i)
+
+      pub left_can_close : CanClose G i A X
+      left_can_close = record {
+        done_wide = l.at.wide ∙ sym width_g;
+        wide = ap length x ∙ length-set A i true ∙ l.at.wide ∙ sym width_g;
+        above = up;
+        agree = subst (λ Y. agree_before i A Y ≡ true) (sym x) (agree_with i A);
+        filed = g.filed;
+        covers = good_covers G.list.members G.buckets A X up (g.kept A (within_refl A) l.at.good);
+      }
+
+      module _ {H : Watched} (m : HasMoved A G H) where
+        good_moved : (Y : Set) → within Y A ≡ true → IsGood F.list.members F.buckets Y → IsGood H.list.members H.buckets Y
+        good_moved Y h good = subst (λ (M : RuleList). IsGood M.members H.buckets Y) (sym m.list) (kept_good G.list.members G.buckets H.buckets Y (m.kept Y h) (g.kept Y h good))
+
+        pub left_none : Differs G.list.members i A X → HasLevel K A i F H b Ls
+        left_none differs = record {
+          list = m.list ∙ g.list;
+          level = subst (λ (M : RuleList). IsLeastLevel M.members K b (up_to i A) Ls) (sym m.list)
+              (bound.none_least G.list.members K A from i on least_g lacks b Ls (λ T h r. differs T (subst (λ Y. within Y T ≡ true) (sym x) h) r) g.level);
+          filed = m.filed;
+          kept = good_moved;
+        }
+
+        module _ {C : Set} (c : IsClosedBefore G.list.members H.buckets i A X C) where
+          closure_c : IsClosure G.list.members (set A i true) C
+          closure_c = subst (λ Y. IsClosure G.list.members Y C) x c.closure
+
+          has_c : get_or C i false ≡ true
+          has_c = bound.closure_has G.list.members K.width A l.at.wide i inside C closure_c
+
+          up_c : within A C ≡ true
+          up_c = within_trans A (set A i true) C (within_set A i) closure_c.above
+
+          pub left_entered : IsEntered K L C (i + 1) H b Ls
+          left_entered = subst (λ k. IsEntered K L C k H b Ls) next (record {
+            at = record {
+              width = ap (λ (M : RuleList). M.width) m.list ∙ width_g;
+              wide = bound.closure_wide G.list.members K.width A l.at.wide i inside C closure_c;
+              respecting = subst (λ (M : RuleList). respects_all M.members C ≡ true) (sym m.list) closure_c.respecting;
+              least = subst (λ (M : RuleList). IsLeastUnder M.members K.width C (suc i)) (sym m.list) (bound.closure_least G.list.members K.width A l.at.wide from i on inside least_g C closure_c c.agree);
+              inside = omega (arith, inside);
+              near = λ Y h. l.at.near Y (within_trans A C Y up_c h);
+              filed = m.filed;
+              good = subst (λ (M : RuleList). IsGood M.members H.buckets C) (sym m.list) c.good;
+            };
+            level = subst (λ (M : RuleList). IsLeastLevel M.members K b (before (suc i) C) Ls) (sym m.list) (bound.child_least_level G.list.members K A from i on least_g lacks C has_c c.agree b Ls g.level);
+          })
+
+          pub left_done : {I : Watched} {d : ℕ} {Ms : List Rule} → HasLevel K C (i + 1) H I d Ms → HasLevel K A i F I d Ms
+          left_done {I = I} {d = d} {Ms = Ms} done =
+              let same_list : I.list ≡ G.list = done.list ∙ m.list in
+              record {
+                list = same_list ∙ g.list;
+                level = bound.child_least_done I.list.members K A from i on (subst (λ (M : RuleList). IsLeastUnder M.members K.width A from) (sym same_list) least_g) lacks C has_c c.agree d Ms
+                    (subst (λ k. IsLeastLevel I.list.members K d (up_to k C) Ms) (sym next) done.level);
+                filed = done.filed;
+                kept = λ Y h good. done.kept Y (within_trans Y A C h up_c) (good_moved Y h good);
+              }

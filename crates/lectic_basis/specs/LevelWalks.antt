@@ -1,0 +1,39 @@
+-- The states of the walk for the next level.
+--
+-- The walk looks at the sets that respect the list and agree with A before an attribute. It keeps the least size of those seen so far that are not closed, and
+-- the sets of that size: a branch whose sets are larger is not entered.
+use Rattle.std.specs.Prelude.{◌≡◌, ℕ, ◌≤◌, true, length, List}
+use Rattle.fca_model.specs.Sets.{Set, within}
+use Rattle.fca_model.specs.Context.{Context}
+use Rattle.fca_model.specs.Implications.{Rule, respects_all}
+use Rattle.lectic_basis.specs.Trees.{ClosesAlike, before, up_to}
+use Rattle.lectic_basis.specs.Watches.{Watched, IsFiled, IsGood}
+use Rattle.lectic_basis.specs.NextLevel.{IsLeastUnder, IsLeastLevel}
+
+-- A respects the list, all that are looked at contain it, the rows of L are enough for their closures, and what does not concern A waits
+pub record IsInside (K L : Context) (A : Set) (from : ℕ) (F : Watched) : Type 0 where
+  pub width : F.list.width ≡ K.width
+  pub wide : length A ≡ K.width
+  pub respecting : respects_all F.list.members A ≡ true
+  pub least : IsLeastUnder F.list.members K.width A from
+  pub inside : from ≤ K.width
+  pub near : ClosesAlike K L A
+  pub filed : IsFiled F.list.width F.list.members F.buckets
+  pub good : IsGood F.list.members F.buckets A
+
+-- A is to be visited, and then all that agree with it before attribute `from`
+pub record IsEntered (K L : Context) (A : Set) (from : ℕ) (F : Watched) (b : ℕ) (Ls : List Rule) : Type 0 where
+  pub at : IsInside K L A from F
+  pub level : IsLeastLevel F.list.members K b (before from A) Ls
+
+-- the intent A was visited, and what agrees with it before attribute `from` and comes behind it is left
+pub record IsLeft (K L : Context) (A : Set) (from : ℕ) (F : Watched) (b : ℕ) (Ls : List Rule) : Type 0 where
+  pub at : IsInside K L A from F
+  pub level : IsLeastLevel F.list.members K b (up_to K.width A) Ls
+
+-- all that agree with A before attribute i were visited, and each good set within A is good as it was
+pub record HasLevel (K : Context) (A : Set) (i : ℕ) (old new : Watched) (b : ℕ) (Ls : List Rule) : Type 0 where
+  pub list : new.list ≡ old.list
+  pub level : IsLeastLevel new.list.members K b (up_to i A) Ls
+  pub filed : IsFiled new.list.width new.list.members new.buckets
+  pub kept : (X : Set) → within X A ≡ true → IsGood old.list.members old.buckets X → IsGood new.list.members new.buckets X

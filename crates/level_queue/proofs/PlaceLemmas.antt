@@ -1,0 +1,182 @@
+-- Places in the list of open questions: the one that a search finds, what is left where one is taken out, and what stands in front while the list is met with
+-- a row.
+use Rattle.std.proofs.Common.{◌≡◌, ℕ, zero, suc, ◌+◌, ◌<◌, ◌≤◌, ◌-◌, Bool, true, false, not, ◌&&◌, cond, Some, List, [], ◌∷◌, ◌++◌, map, length, get_or, set, take, drop, refl, sym, ap, ap₂, ◌∙◌, subst, arith, inl, inr, ltb, lt-ltb, ltb-true, Ordering, Less, Equal, Greater}
+use Rattle.std.proofs.lemmas.Bool.{false≢true, and_parts, and_from, cases_Bool, cases_lt, cases_eq, not-true, false_from_ne_true}
+use Rattle.std.proofs.lemmas.List.{take_more, take_more_set, drop_more, drop-drop, drop_at, drop-append-le, drop-set-lt, drop-take, length-take-le, length-set, length-drop, append-nil, append_assoc, get_or_default, map-append, take_all}
+use Rattle.std.proofs.lemmas.List.Elements.{filter-append}
+use Rattle.std.proofs.lemmas.List.Sums.{AllPass-from_list_all, list_all-from_AllPass}
+use Rattle.std.proofs.lemmas.Option.{slice_get-get_or}
+use Rattle.std.specs.List.{list_all, list_any, slice_get, remove, copy_within, AllWithin}
+use Rattle.std.specs.List.Sorted.{IsPartitionedBy}
+use Rattle.std.specs.Ordering.{is_lt}
+use Rattle.fca_model.specs.SetLaws.{lectic_total}
+use Rattle.fca_model.specs.Sets.{Set, same, increasing, lectic_cmp}
+use Rattle.fca_model.specs.Implications.{Rule, rule, premises}
+use Rattle.fca_model.specs.Invariant.{Among}
+use Rattle.fca_model.proofs.SetLemmas.{same_refl, same-true, lectic_refl}
+use Rattle.level_queue.specs.Queue.{narrowed, still_open, is_left, is_rule}
+use Rattle.level_queue.proofs.NarrowLemmas.{left_some, left_none}
+
+-- ---- a search
+
+is_less : (o : Ordering) → is_lt o ≡ true → o ≡ Less
+is_less Less h = refl
+is_less Equal h = absurd (false≢true h)
+is_less Greater h = absurd (false≢true h)
+
+before_trans : (A B C : Set) → is_lt (lectic_cmp A B) ≡ true → is_lt (lectic_cmp B C) ≡ true → is_lt (lectic_cmp A C) ≡ true
+before_trans A B C h k = ap is_lt (lectic_total.trans A B C (is_less (lectic_cmp A B) h) (is_less (lectic_cmp B C) k))
+
+-- the premise comes before P
+abbrev pub comes_before : Set → Rule → Bool
+comes_before P i = is_lt (lectic_cmp i.premise P)
+
+increasing_at : (qs : List Rule) (i j : ℕ) (d : Rule) → increasing (premises qs) ≡ true → i < j → j < length qs → comes_before (get_or qs j d).premise (get_or qs i d) ≡ true
+increasing_at [] i j d up lt l = absurd (omega (arith, l))
+increasing_at (x ∷ xs) i zero d up lt l = absurd (omega (arith, lt))
+increasing_at (x ∷ xs) zero (suc j) d up lt l =
+    let parts = and_parts (list_all (λ B. is_lt (lectic_cmp x.premise B)) (premises xs)) (increasing (premises xs)) up in
+    AllPass-from_list_all (λ (y : Rule). is_lt (lectic_cmp x.premise y.premise)) xs (over xs parts.0) j d (omega (arith, l))
+  where
+    over : (ys : List Rule) → list_all (λ B. is_lt (lectic_cmp x.premise B)) (premises ys) ≡ true → list_all (λ (y : Rule). is_lt (lectic_cmp x.premise y.premise)) ys ≡ true
+    over [] h = refl
+    over (y ∷ ys) h =
+        let hs = and_parts (is_lt (lectic_cmp x.premise y.premise)) (list_all (λ B. is_lt (lectic_cmp x.premise B)) (premises ys)) h in
+        and_from (is_lt (lectic_cmp x.premise y.premise)) (list_all (λ (z : Rule). is_lt (lectic_cmp x.premise z.premise)) ys) hs.0 (over ys hs.1)
+increasing_at (x ∷ xs) (suc i) (suc j) d up lt l =
+    increasing_at xs i j d (and_parts (list_all (λ B. is_lt (lectic_cmp x.premise B)) (premises xs)) (increasing (premises xs)) up).1 (omega (arith, lt)) (omega (arith, l))
+
+pub partitioned : (P : Set) (qs : List Rule) → increasing (premises qs) ≡ true → IsPartitionedBy (comes_before P) qs
+partitioned P qs up i j d le l h = elim (cases_eq i j) [
+  | inl e ↦ subst (λ k. comes_before P (get_or qs k d) ≡ true) (sym e) h
+  | inr other ↦ before_trans (get_or qs i d).premise (get_or qs j d).premise P (increasing_at qs i j d up (omega (arith, le, other)) l) h
+]
+
+-- a set does not come before itself
+not_before_itself : (A : Set) → is_lt (lectic_cmp A A) ≡ true → ⊥
+not_before_itself A h = false≢true (ap is_lt (sym (lectic_refl A)) ∙ h)
+
+is_rule-true : (q i : Rule) → is_rule q i ≡ true → i ≡ q
+is_rule-true q i h =
+    let both = and_parts (same i.premise q.premise) (same i.conclusion q.conclusion) h in
+    ap₂ (λ P C. rule P C) (same-true i.premise q.premise both.0) (same-true i.conclusion q.conclusion both.1)
+
+-- what stands at the place
+pub rule_at : (qs : List Rule) (n : ℕ) (q : Rule) → (ltb n (length qs) && is_rule q (get_or qs n q)) ≡ true → slice_get qs n ≡ Some q
+rule_at qs n q h =
+    let parts = and_parts (ltb n (length qs)) (is_rule q (get_or qs n q)) h in
+    slice_get-get_or qs n q (ltb-true n (length qs) parts.0) ∙ ap (λ x. Some x) (is_rule-true q (get_or qs n q) parts.1)
+
+-- a question that is among them stands at the place before which all come before it, and behind which none does
+pub rule_there : (qs : List Rule) (n : ℕ) (q : Rule) → increasing (premises qs) ≡ true → AllWithin (λ i. comes_before q.premise i ≡ true) qs 0 n → AllWithin (λ i. comes_before q.premise i ≡ false) qs n (length qs)
+    → Among qs q → (ltb n (length qs) && is_rule q (get_or qs n q)) ≡ false → ⊥
+rule_there qs n q up before behind among missing =
+    false≢true (sym (ap not (and_from (same q.premise q.premise) (same q.conclusion q.conclusion) (same_refl q.premise) (same_refl q.conclusion)))
+    ∙ among (λ i. not (is_rule q i)) (list_all-from_AllPass (λ i. not (is_rule q i)) qs (λ k d l. ap not (false_from_ne_true (is_rule q (get_or qs k d)) (λ t.
+    let one : get_or qs k d ≡ q = is_rule-true q (get_or qs k d) t in
+    let at : get_or qs k q ≡ q = get_or_default qs k q d l ∙ one in
+    elim (cases_lt k n) [
+      | inl lt ↦ not_before_itself q.premise (subst (λ (i : Rule). comes_before q.premise i ≡ true) at (before k q (omega arith) lt))
+      | inr ge ↦ elim (cases_eq n k) [
+        | inl here ↦
+            let there : is_rule q (get_or qs n q) ≡ true = subst (λ m. is_rule q (get_or qs m q) ≡ true) (sym here) (subst (λ i. is_rule q i ≡ true) (sym at) (subst (λ i. is_rule q i ≡ true) one t)) in
+            false≢true (sym missing ∙ and_from (ltb n (length qs)) (is_rule q (get_or qs n q)) (lt-ltb n (length qs) (omega (arith, l, here))) there)
+        | inr other ↦
+            let first : comes_before q.premise (get_or qs n q) ≡ true = subst (λ (i : Rule). comes_before i.premise (get_or qs n q) ≡ true) at (increasing_at qs n k q up (omega (arith, ge, other)) l) in
+            false≢true (sym (behind n q (omega arith) (omega (arith, l, ge))) ∙ first)
+      ]
+    ])))))
+
+-- ---- one question is taken out
+
+-- those before it have moved by one place
+pub taken_out : {X : Type 0} (xs : List X) (first i : ℕ) → first ≤ length xs → i < length (drop first xs) → drop (first + 1) (copy_within xs first (first + i) (first + 1)) ≡ remove (drop first xs) i
+taken_out xs first i le l =
+    let n = length-drop₁ in
+    ap (drop (first + 1)) (append_assoc (take (first + 1) xs) (take (first + i - first) (drop first xs)) (drop (first + 1 + (first + i - first)) xs))
+    ∙ drop_at (take (first + 1) xs) (take (first + i - first) (drop first xs) ++ drop (first + 1 + (first + i - first)) xs) (first + 1) (length-take-le (first + 1) xs (omega (arith, n, l)))
+    ∙ ap₂ (λ a b. take a (drop first xs) ++ drop b xs) (omega arith) (omega arith)
+    ∙ ap (λ ys. take i (drop first xs) ++ ys) (sym (drop-drop (suc i) first xs))
+  where
+    length-drop₁ : length (drop first xs) ≡ length xs - first
+    length-drop₁ = length-drop first xs
+
+-- ---- the list is met with a row
+
+pub not_false : (b : Bool) → not b ≡ false → b ≡ true
+not_false true h = refl
+not_false false h = absurd (false≢true (sym h))
+
+-- ys began as xs. Of those from `first` on that stood before place i, what is left stands in the first k places of ys, and from i on ys is as it was
+pub record IsNarrowing (r : Set) (first : ℕ) (xs ys : List Rule) (k i : ℕ) : Type 0 where
+  pub front : take k ys ≡ still_open (map (narrowed r) (drop first (take i xs)))
+  pub rest : drop i ys ≡ drop i xs
+  pub behind : k ≤ i
+  pub from : first ≤ i
+  pub long : length ys ≡ length xs
+
+pub narrowing_start : (r : Set) (first : ℕ) (xs : List Rule) → IsNarrowing r first xs xs 0 first
+narrowing_start r first xs = record {
+  front = sym (ap (λ ys. still_open (map (narrowed r) ys)) (ap (λ n. drop first (take n xs)) (omega arith) ∙ drop-take first 0 xs));
+  rest = refl;
+  behind = omega arith;
+  from = omega arith;
+  long = refl;
+}
+
+pub narrowing_end : {r : Set} {first : ℕ} {xs ys : List Rule} {k i : ℕ} → IsNarrowing r first xs ys k i → length xs ≤ i → take k ys ≡ still_open (map (narrowed r) (drop first xs))
+narrowing_end {r = r} {first = first} {xs = xs} {i = i} n all = n.front ∙ ap (λ zs. still_open (map (narrowed r) (drop first zs))) (take_all i xs all)
+
+module _ {r : Set} {first : ℕ} {xs ys : List Rule} {k i : ℕ} (n : IsNarrowing r first xs ys k i) (l : i < length ys) (q : Rule) (at : q ≡ get_or ys i q) where
+  -- what stood there in the beginning
+  was : q ≡ get_or xs i q
+  was = at ∙ heads (get_or ys i q) (get_or xs i q) (drop (i + 1) ys) (drop (i + 1) xs) (sym (drop_more ys i q l) ∙ n.rest ∙ drop_more xs i q (let e = n.long in omega (arith, l, e)))
+    where
+      heads : (x y : Rule) (vs ws : List Rule) → x ∷ vs ≡ y ∷ ws → x ≡ y
+      heads x y vs ws e = cc
+
+  rest_more : drop (i + 1) ys ≡ drop (i + 1) xs
+  rest_more = ap (λ m. drop m ys) (omega arith) ∙ sym (drop-drop 1 i ys) ∙ ap (drop 1) n.rest ∙ drop-drop 1 i xs ∙ ap (λ m. drop m xs) (omega arith)
+
+  reached : drop first (take (i + 1) xs) ≡ drop first (take i xs) ++ q ∷ []
+  reached =
+      let e = n.long in
+      ap (drop first) (take_more xs i q (omega (arith, l, e)) ∙ ap (λ x. take i xs ++ x ∷ []) (sym was))
+      ∙ drop-append-le first (take i xs) (q ∷ []) (let w = length-take-le i xs (omega (arith, l, e)) in let f = n.from in omega (arith, w, f))
+
+  more : still_open (map (narrowed r) (drop first (take (i + 1) xs))) ≡ still_open (map (narrowed r) (drop first (take i xs))) ++ still_open (narrowed r q ∷ [])
+  more = ap (λ zs. still_open (map (narrowed r) zs)) reached ∙ ap still_open (map-append (narrowed r) (drop first (take i xs)) (q ∷ [])) ∙ filter-append (λ j. not (same j.premise j.conclusion)) (map (narrowed r) (drop first (take i xs))) (narrowed r q ∷ [])
+
+  pub narrowing_drops : same (narrowed r q).premise (narrowed r q).conclusion ≡ true → IsNarrowing r first xs ys k (i + 1)
+  narrowing_drops t = record {
+    front = n.front ∙ sym (append-nil (still_open (map (narrowed r) (drop first (take i xs))))) ∙ ap (λ zs. still_open (map (narrowed r) (drop first (take i xs))) ++ zs) (sym (ap (λ b. cond (not b) (narrowed r q ∷ []) []) t)) ∙ sym more;
+    rest = rest_more;
+    behind = let b = n.behind in omega (arith, b);
+    from = let f = n.from in omega (arith, f);
+    long = n.long;
+  }
+
+  pub narrowing_keeps : same (narrowed r q).premise (narrowed r q).conclusion ≡ false → IsNarrowing r first xs (set ys k (narrowed r q)) (k + 1) (i + 1)
+  narrowing_keeps f = record {
+    front = take_more_set ys k (narrowed r q) (let b = n.behind in omega (arith, b, l)) ∙ ap (λ zs. zs ++ narrowed r q ∷ []) n.front ∙ ap (λ zs. still_open (map (narrowed r) (drop first (take i xs))) ++ zs) (sym (ap (λ b. cond (not b) (narrowed r q ∷ []) []) f)) ∙ sym more;
+    rest = drop-set-lt (i + 1) ys k (narrowed r q) (let b = n.behind in omega (arith, b)) ∙ rest_more;
+    behind = let b = n.behind in omega (arith, b);
+    from = let f₁ = n.from in omega (arith, f₁);
+    long = length-set ys k (narrowed r q) ∙ n.long;
+  }
+
+-- ---- what a row leaves
+
+-- there are questions, and none is left
+abbrev pub settles : Set → List Rule → Bool
+settles r qs = ltb 0 (length qs) && not (list_any (is_left r) qs)
+
+pub settled : (r : Set) (qs : List Rule) → (ltb 0 (length qs) && not (list_any (is_left r) qs)) ≡ true → (0 < length qs) × (still_open (map (narrowed r) qs) ≡ [])
+settled r qs h = let parts = and_parts (ltb 0 (length qs)) (not (list_any (is_left r) qs)) h in (ltb-true 0 (length qs) parts.0, left_none r qs (not-true (list_any (is_left r) qs) parts.1))
+
+pub not_settled : (r : Set) (qs : List Rule) → (ltb 0 (length qs) && not (list_any (is_left r) qs)) ≡ false → still_open (map (narrowed r) qs) ≡ [] → qs ≡ []
+not_settled r [] h e = refl
+not_settled r (i ∷ is) h e = elim (cases_Bool (list_any (is_left r) (i ∷ is))) [
+  | inl t ↦ absurd (left_some r (i ∷ is) t e)
+  | inr f ↦ absurd (false≢true (sym h ∙ and_from (ltb 0 (length (i ∷ is))) (not (list_any (is_left r) (i ∷ is))) (lt-ltb 0 (length (i ∷ is)) (omega arith)) (ap not f)))
+]

@@ -1,0 +1,169 @@
+//! The open questions in lectic order, which change where they stand: one is taken out, or all are met with a row.
+
+ghost use Rattle.std.specs.Prelude.{◌≡◌, ◌<◌, ◌≤◌, length, map, drop, take, true, false, slice_get, slice_index_or, nat_lt, not, ◌&&◌, Some, IfSome, IsSome};
+ghost use Rattle.std.specs.List.{list_any, remove, AllWithin};
+ghost use Rattle.std.specs.Ordering.{is_lt};
+ghost use Rattle.fca_model.specs.Sets.{increasing, lectic_cmp};
+ghost use Rattle.fca_model.specs.Implications.{premises};
+ghost use Rattle.fca_model.specs.Invariant.{Among};
+ghost use Rattle.level_queue.specs.Queue.{narrowed, still_open, is_left, is_rule};
+
+use attr_bits::Attrs;
+use implication_closure::{Implication, Question};
+use std::marker::Model;
+
+/// The questions from place `first` on. Those before it were taken out.
+#[derive(Drop)]
+pub(crate) struct OpenQuestions {
+    questions: Vec<Question>,
+    first: usize,
+}
+
+impl Model for OpenQuestions {
+    ghost use Rattle.std.specs.Prelude.{List, ◌≤◌, length, drop};
+    ghost use Rattle.fca_model.specs.Implications.{Rule};
+
+    ghost Value = { List Rule };
+
+    ghost view = { λ a. drop a.first a.questions.items };
+
+    ghost invariant = { λ a. a.first ≤ length a.questions.items };
+}
+
+impl OpenQuestions {
+    /// These questions.
+    pub(crate) fn new(questions: Vec<Question>) -> OpenQuestions
+        ensures { result ≡ questions.items }
+    {
+        OpenQuestions {
+            questions,
+            first: 0,
+        }
+    }
+
+    /// The questions.
+    pub(crate) fn as_slice(&self) -> &[Question]
+        ensures { result.now ≡ self.now }
+    {
+        &self.questions[self.first..]
+    }
+
+    /// The question at place i.
+    pub(crate) fn get(&self, i: usize) -> Question
+        requires { i < length self.now }
+        ensures { result ≡ slice_index_or self.now i result }
+    {
+        self.questions[self.first + i]
+    }
+
+    /// Takes out the question at place i. Those before it move, which are few where experts are asked the first questions.
+    pub(crate) fn take_out(&mut self, i: usize)
+        requires { i < length self.old }
+        ensures { self.new ≡ remove self.old i }
+    {
+        let first = self.first;
+        self.questions.copy_within(first..first + i, first + 1);
+        self.first = first + 1;
+    }
+
+    /// Meets the questions with a row. Those that are closed then are dropped.
+    pub(crate) fn narrow(&mut self, row: &Attrs)
+        ensures { self.new ≡ still_open (map (narrowed row.now) self.old) }
+    {
+        let kept = narrow_from(&mut self.questions, self.first, row);
+        self.questions.truncate(kept);
+        self.first = 0;
+    }
+}
+
+/// Meets the questions from a place on with a row, and moves those that are not closed then to the front. How many these are.
+fn narrow_from(questions: &mut [Question], first: usize, row: &Attrs) -> usize
+    requires { first ≤ length questions.old }
+    ensures inside { result ≤ length questions.new }
+    ensures narrowed { take result questions.new ≡ still_open (map (narrowed row.now) (drop first questions.old)) }
+{
+    let mut kept = 0;
+    for place in first..questions.len() {
+        let question = narrowed(row, &questions[place]);
+        if question.premise != question.conclusion {
+            questions[kept] = question;
+            kept += 1;
+        }
+    }
+    kept
+}
+
+/// The question once there is this row too: where the row has the premise, the conclusion loses what the row lacks.
+fn narrowed(row: &Attrs, question: &Question) -> Question
+    ensures { result ≡ narrowed row.now question.now }
+{
+    if question.premise.within(row) {
+        Implication {
+            premise: question.premise,
+            conclusion: question.conclusion.meet(row),
+        }
+    } else {
+        *question
+    }
+}
+
+/// Whether there are questions and each is closed once there is this row too.
+pub(crate) fn are_settled(questions: &[Question], row: &Attrs) -> bool
+    ensures { result ≡ (nat_lt 0 (length questions.now) && not (list_any (is_left row.now) questions.now)) }
+{
+    !questions.is_empty() && !is_any_left(questions, row)
+}
+
+/// Whether one of the questions is not closed once there is this row too.
+fn is_any_left(questions: &[Question], row: &Attrs) -> bool
+    ensures { result ≡ list_any (is_left row.now) questions.now }
+{
+    questions.iter().any(|i| is_left(i, row))
+}
+
+/// Whether the question is not closed once there is this row too.
+fn is_left(question: &Question, row: &Attrs) -> bool
+    ensures { result ≡ is_left row.now question.now }
+{
+    let question = narrowed(row, question);
+    question.premise != question.conclusion
+}
+
+/// The place of the question, found by its premise.
+pub(crate) fn place_of(questions: &[Question], question: &Question) -> Option<usize>
+    requires { increasing (premises questions.now) ≡ true }
+    ensures inside { IfSome result (λ i. i < length questions.now) }
+    ensures found { IfSome result (λ i. slice_get questions.now i ≡ Some question.now) }
+    ensures there { Among questions.now question.now → IsSome result }
+{
+    let place = first_from(questions, &question.premise);
+    if stands_at(questions, place, question) {
+        Some(place)
+    } else {
+        None
+    }
+}
+
+/// Whether the question stands at the place.
+fn stands_at(questions: &[Question], place: usize, question: &Question) -> bool
+    ensures { result ≡ (nat_lt place (length questions.now) && is_rule question.now (slice_index_or questions.now place question.now)) }
+{
+    place < questions.len() && is_same(&questions[place], question)
+}
+
+/// Whether both are one question.
+fn is_same(one: &Question, other: &Question) -> bool
+    ensures { result ≡ is_rule other.now one.now }
+{
+    one.premise == other.premise && one.conclusion == other.conclusion
+}
+
+/// The place of the first question whose premise does not come before this one.
+fn first_from(questions: &[Question], premise: &Attrs) -> usize
+    requires { increasing (premises questions.now) ≡ true }
+    ensures inside { result ≤ length questions.now }
+    ensures before { AllWithin (λ i. is_lt (lectic_cmp i.premise premise.now) ≡ true) questions.now 0 result }
+    ensures behind { AllWithin (λ i. is_lt (lectic_cmp i.premise premise.now) ≡ false) questions.now result (length questions.now) }
+{
+    questions.partition_point(|i| i.premise < *premise)
+}

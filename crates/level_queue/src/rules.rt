@@ -1,0 +1,89 @@
+//! The implications that a row has to respect.
+
+ghost use Rattle.std.specs.Prelude.{◌≡◌, ◌++◌, ◌∷◌, [], OnOk, OnErr, IfOk, length};
+ghost use Rattle.fca_model.specs.Implications.{Rule};
+ghost use Rattle.level_queue.specs.Rules.{RuleParts};
+
+use fca_model::Memory;
+use implication_closure::{Implication, ImplicationList};
+use std::alloc::Global;
+use std::marker::Model;
+
+/// The known implications, the accepted ones, and all of them, the known ones first.
+#[derive(Drop)]
+pub(crate) struct Rules {
+    known: ImplicationList,
+    accepted: ImplicationList,
+    all: ImplicationList,
+}
+
+impl Model for Rules {
+    ghost use Rattle.level_queue.specs.Rules.{RuleParts, AreTogether};
+
+    ghost Value = { RuleParts };
+
+    ghost view = { λ a. record { width = a.all.width; known = a.known.members; accepted = a.accepted.members } };
+
+    ghost invariant = { λ a. AreTogether a.known a.accepted a.all };
+}
+
+impl Rules {
+    /// What is known, with nothing accepted.
+    pub(crate) fn new(alloc: Global, known: &ImplicationList) -> Result<Rules, Memory>
+        ensures { IfOk result (λ rules. rules ≡ record { width = known.now.width; known = known.now.members; accepted = [] }) }
+    {
+        Ok(Rules {
+            known: copied(alloc, known)?,
+            accepted: ImplicationList::new(alloc, known.width())?,
+            all: copied(alloc, known)?,
+        })
+    }
+
+    /// The accepted implications.
+    pub(crate) fn accepted(&self) -> &ImplicationList
+        ensures { result.now ≡ record { width = self.now.width; members = self.now.accepted } }
+    {
+        &self.accepted
+    }
+
+    /// The known implications and then the accepted ones.
+    pub(crate) fn all(&self) -> &ImplicationList
+        ensures { result.now ≡ record { width = self.now.width; members = self.now.known ++ self.now.accepted } }
+    {
+        &self.all
+    }
+
+    /// Puts the implication last among the accepted ones.
+    pub(crate) fn push(&mut self, i: &Implication) -> Result<(), Memory>
+        requires premise { length i.now.premise ≡ self.old.width }
+        requires conclusion { length i.now.conclusion ≡ self.old.width }
+        ensures ok { OnOk result (self.new ≡ record { width = self.old.width; known = self.old.known; accepted = self.old.accepted ++ i.now ∷ [] }) }
+        ensures err { OnErr result (self.new ≡ self.old) }
+    {
+        self.all.push(*i)?;
+        if let Err(error) = self.accepted.push(*i) {
+            self.all.pop();
+            return Err(error);
+        }
+        Ok(())
+    }
+
+    /// Takes the last accepted implication away, if there is one.
+    pub(crate) fn pop(&mut self)
+        ensures { (parts : RuleParts) (i : Rule) → self.old ≡ record { width = parts.width; known = parts.known; accepted = parts.accepted ++ i ∷ [] } → self.new ≡ parts }
+    {
+        if !self.accepted.as_slice().is_empty() {
+            self.accepted.pop();
+            self.all.pop();
+        }
+    }
+}
+
+/// The same list once more.
+fn copied(alloc: Global, list: &ImplicationList) -> Result<ImplicationList, Memory>
+    ensures { IfOk result (λ copy. copy ≡ list.now) }
+{
+    let mut copy = ImplicationList::new(alloc, list.width())?;
+    copy.extend_from_slice(list.as_slice())?;
+    Ok(copy)
+}

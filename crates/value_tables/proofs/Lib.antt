@@ -1,0 +1,4 @@
+pub mod CellLemmas
+pub mod FieldLemmas
+pub mod NumberLemmas
+pub mod Examples

@@ -1,0 +1,5 @@
+pub mod Telling
+pub mod Numbers
+pub mod Values
+pub mod Cells
+pub mod Form

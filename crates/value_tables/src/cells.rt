@@ -1,0 +1,80 @@
+//! The values of a table, in one text.
+
+ghost use Rattle.std.specs.Prelude.{◌≡◌, ◌<◌, ◌≤◌, ◌++◌, ◌∷◌, [], OnOk, length, sum, slice_index_or, take, vec_len};
+ghost use Rattle.value_tables.specs.Cells.{AreCells, texts};
+
+use fca_model::Memory;
+use std::alloc::Global;
+
+/// How many values lie between two whose start is kept.
+const BLOCK: usize = 16;
+
+/// Values, one after the other.
+#[derive(Drop)]
+pub struct Cells {
+    text: Vec<u8>,
+    lengths: Vec<u8>,
+    starts: Vec<usize>,
+}
+
+impl Cells {
+    /// No value; it takes no memory yet.
+    pub fn new(alloc: Global) -> Cells
+        ensures cells { AreCells result }
+        ensures texts { texts result ≡ [] }
+    {
+        Cells {
+            text: Vec::new(alloc),
+            lengths: Vec::new(alloc),
+            starts: Vec::new(alloc),
+        }
+    }
+
+    /// Puts the value last. Where memory is refused, nothing is known of the cells.
+    pub fn push(&mut self, value: &[u8]) -> Result<(), Memory>
+        requires cells { AreCells self.old }
+        requires short { length value.now ≤ 255 }
+        ensures cells { OnOk result (AreCells self.new) }
+        ensures texts { OnOk result (texts self.new ≡ texts self.old ++ value.now ∷ []) }
+    {
+        if self.lengths.len() == BLOCK * self.starts.len() {
+            self.starts.push(self.text.len())?;
+        }
+        self.text.extend_from_slice(value)?;
+        self.lengths.push(value.len() as u8)?;
+        Ok(())
+    }
+
+    /// Value k.
+    pub fn get(&self, k: usize) -> &[u8]
+        requires cells { AreCells self.now }
+        requires place { k < vec_len self.now.lengths }
+        ensures { result.now ≡ slice_index_or (texts self.now) k [] }
+    {
+        let start = self.start_of(k);
+        let end = start + self.lengths[k] as usize;
+        &self.text[start..end]
+    }
+
+    /// Where value k begins.
+    fn start_of(&self, k: usize) -> usize
+        requires cells { AreCells self.now }
+        requires place { k < vec_len self.now.lengths }
+        ensures { result ≡ sum (take k self.now.lengths.items) }
+    {
+        let block = k / BLOCK;
+        self.starts[block] + total(&self.lengths[BLOCK * block..k])
+    }
+}
+
+/// The sum of the lengths.
+fn total(lengths: &[u8]) -> usize
+    requires { length lengths.now ≤ 16 }
+    ensures { result ≡ sum lengths.now }
+{
+    let mut total = 0;
+    for n in lengths {
+        total += *n as usize;
+    }
+    total
+}

@@ -1,0 +1,72 @@
+//! Tables of values: the reader of `.csv` files whose cells are values and not crosses, and what its
+//! fields say.
+#![tactic(auto)]
+
+ghost use Rattle.std.specs.Prelude.{◌≡◌};
+
+mod cells;
+mod fields;
+mod numbers;
+mod read;
+mod values;
+
+use fca_model::Memory;
+pub use fields::{FieldKind, first_bad, name_at};
+pub use numbers::number_of;
+pub use read::read_values;
+use std::alloc::{AllocError, AllocFailed};
+use thiserror::Error;
+pub use values::Values;
+
+/// Why bytes are no table of values. Records and fields are numbered from 1.
+#[derive(Debug, Drop, Error)]
+pub enum ValuesFault {
+    /// The number of bytes before the first that begins no whole character.
+    #[error("byte {0}: not UTF-8")]
+    NotUtf8(usize),
+    #[error("no header")]
+    NoHeader,
+    #[error("record {0}: too many")]
+    TooMany(usize),
+    #[error("record {0}: ragged")]
+    RaggedRecord(usize),
+    #[error("record {0}: field {1}: bad field")]
+    BadField(usize, usize),
+    #[error("record 1: field {0}: duplicate attribute")]
+    DuplicateAttribute(usize),
+    #[error("no memory")]
+    Memory,
+}
+
+impl From<AllocError> for ValuesFault {
+    ghost use Rattle.value_tables.specs.declared.ValuesFault.TheVariants as fault;
+
+    ghost from_gives = { λ _ e. e ≡ fault.Memory };
+
+    fn from(_error: AllocError) -> ValuesFault {
+        ValuesFault::Memory
+    }
+}
+
+impl<T: Drop> From<AllocFailed<T>> for ValuesFault {
+    ghost use Rattle.value_tables.specs.declared.ValuesFault.TheVariants as fault;
+
+    ghost from_gives = { λ _ e. e ≡ fault.Memory };
+
+    fn from(_error: AllocFailed<T>) -> ValuesFault {
+        ValuesFault::Memory
+    }
+}
+
+impl From<Memory> for ValuesFault {
+    ghost use Rattle.value_tables.specs.declared.ValuesFault.TheVariants as fault;
+
+    ghost from_gives = { λ _ e. e ≡ fault.Memory };
+
+    fn from(_error: Memory) -> ValuesFault {
+        ValuesFault::Memory
+    }
+}
+
+#[cfg(test)]
+mod tests;
