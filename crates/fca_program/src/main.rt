@@ -5,16 +5,12 @@ ghost use Rattle.std.specs.Prelude.{◌≡◌, IfErr};
 
 mod ends;
 mod link;
-mod made;
-mod replay;
-mod reports;
-mod run;
 
 use crate::ends::{FileShelf, StdFault, StdInput, StdOutput};
 use crate::link::TcpLink;
-use crate::run::{run, stopped};
 use command_io::Stop;
 use fca_model::Word;
+use fca_run::{run, stopped};
 use std::alloc::Global;
 use std::env::{self, Args};
 use std::io::{Error, ErrorKind};
@@ -66,6 +62,4 @@ fn words_of(alloc: Global, arguments: Args) -> Result<Vec<Word>, Stop>
 }
 
 #[cfg(test)]
-mod serving_tests;
-#[cfg(test)]
-mod tests;
+mod socket_tests;

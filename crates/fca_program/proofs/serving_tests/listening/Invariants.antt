@@ -1,6 +1,0 @@
--- The link does not listen yet.
-use Rattle.std.proofs.Common.{◌≡◌, false}
-use Rattle.fca_program.proofs.serving_tests.listening.Given as goal
-
-abbrev pub invariant-loop-port : goal.invariant-loop-port
-invariant-loop-port g l = g.L.Listener.listens l.link ≡ false

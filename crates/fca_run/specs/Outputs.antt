@@ -1,0 +1,68 @@
+-- What each command writes.
+use Rattle.std.specs.Prelude.{Option, Some, None, List, length, nat_lt}
+use Rattle.fca_model.specs.Tables.{Text, NamedContext}
+use Rattle.fca_model.specs.declared.TheConstants.{MAX_EXPERTS}
+use Rattle.fca_model.specs.Exploration.{SetEvent, journal_of}
+use Rattle.fca_io.specs.Shelves.{Told}
+use Rattle.explore_state.specs.History.{opening_state}
+use Rattle.basis_report.specs.Explorations.{explore_text}
+use Rattle.fca_command.specs.Commands.{reported}
+use Rattle.fca_command.specs.declared.recipe.Recipe.{Recipe}
+use Rattle.fca_command.specs.declared.command.Command.{Command}
+use Rattle.fca_command.specs.declared.command.Command.TheVariants.{Replay, Make, Survey}
+use Rattle.command_io.specs.Readings.{Reading, then}
+use Rattle.command_io.specs.Readings.Reading.{Untold, Read}
+use Rattle.command_io.specs.Forms.{table_read, script_read}
+use Rattle.command_io.specs.Endings.{Output, finished}
+use Rattle.command_io.specs.Explorations.{Recorded, opening_of, open_at}
+use Rattle.cxt_format.specs.Written.{cxt_text}
+use Rattle.explore_command.specs.Surveyed.{made, surveyed_text}
+use Rattle.fca_run.specs.Reports.{report_read}
+
+-- ---- replays
+
+-- the exploration of the table by the events
+abbrev pub explored : NamedContext → List SetEvent → Recorded
+explored table events = record { opening = opening_of table MAX_EXPERTS; journal = journal_of (opening_state (opening_of table MAX_EXPERTS)) events }
+
+-- the exploration that `replay` records
+abbrev pub replayed : Text → (Text → Told) → Option Text → Reading Recorded
+replayed file files input =
+    then (table_read file (files file)) (λ table. then (script_read table.context.width input) (λ events. Read (explored table events)))
+
+-- the text of an exploration
+abbrev pub exploration_output : Recorded → Output
+exploration_output r = record { text = explore_text r.opening.table r.opening.settings r.journal; is_open = nat_lt 0 (length (open_at r)) }
+
+-- what `replay` writes
+abbrev pub replay_output : Text → (Text → Told) → Option Text → Reading Output
+replay_output file files input = then (replayed file files input) (λ r. Read (exploration_output r))
+
+-- ---- tables that are made
+
+-- the table of a recipe, in the Burmeister form
+abbrev pub made_output : Recipe → Output
+made_output recipe = finished (cxt_text (made recipe))
+
+-- what is counted of it and of an exploration by its oracles
+abbrev pub survey_output : Recipe → Output
+survey_output recipe = finished (surveyed_text (made recipe))
+
+-- ---- all commands
+
+-- What a command that reports on no table writes. `explore` and `serve` write what experts did together, of which the files alone
+-- tell nothing
+abbrev pub other_output : Command → (Text → Told) → Option Text → Reading Output
+other_output (Replay file) files input = replay_output file files input
+other_output (Make s o m d) files input = Read (made_output (record { seed = s; objects = o; attributes = m; density = d }))
+other_output (Survey s o m d experts) files input = Read (survey_output (record { seed = s; objects = o; attributes = m; density = d }))
+other_output _ files input = Untold
+
+-- what the command writes, where it reports on the table in this file or on none
+abbrev pub output_by : Option Text → Command → (Text → Told) → Option Text → Reading Output
+output_by (Some file) command files input = report_read command file files
+output_by None command files input = other_output command files input
+
+-- what the command writes, where the files and the input hold this
+abbrev pub output : Command → (Text → Told) → Option Text → Reading Output
+output command files input = output_by (reported command) command files input

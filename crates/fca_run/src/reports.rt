@@ -1,0 +1,187 @@
+//! What the commands report of one table: its concepts, its lattice, its bases, whether an implication holds in it, its arrows, and the
+//! table itself, whole or reduced.
+
+ghost use Rattle.std.specs.Prelude.{◌≡◌, ◌⊎◌, true, false, Some, IfOk, IfErr, length, is_some};
+ghost use Rattle.fca_io.specs.Faults.{Rose};
+ghost use Rattle.fca_command.specs.Commands.{reported};
+ghost use Rattle.command_io.specs.Readings.{MayRead};
+ghost use Rattle.command_io.specs.Readings.Reading.{Refused, Read};
+ghost use Rattle.command_io.specs.Endings.{stop_status, Stops};
+ghost use Rattle.fca_run.specs.Reports.{attributes_read, table_concepts, table_basis, table_direct, table_verdict, verdict_read, table_written, table_reduced, table_arrows, table_report, report_read};
+ghost use Rattle.fca_run.specs.Endings.{IsReportStop};
+
+use attr_bits::Attrs;
+use basis_report::{
+    basis_json, basis_text, concepts_json, direct_text, table_concepts_text, table_lattice_text,
+    verdict_text,
+};
+use canonical_basis::basis;
+use command_io::{Answer, Origin, Stop, table_under};
+use context_reduce::{arrows, arrows_text, irreducible, part};
+use context_table::Table;
+use csv_context::write_csv;
+use cxt_format::write_cxt;
+use direct_basis::proper_premises;
+use fca_command::{Command, Form, attributes_said};
+use fca_io::Shelf;
+use fca_model::{Memory, Word};
+use lectic_concepts::all_concepts;
+use std::alloc::Global;
+use std::thread::Threads;
+
+/// What the command reports of the table in the file.
+pub fn report_answer<R: Threads + Sync, H: Shelf>(
+    rt: &R,
+    alloc: Global,
+    command: &Command,
+    shelf: &mut H,
+    file: &Word,
+) -> Result<Answer, Stop>
+    requires { reported command.now ≡ Some file.now }
+    ensures output { IfOk result (λ answer. MayRead (report_read command.now file.now (H.tells shelf.old)) answer) }
+    ensures stop { IfErr result (λ stop. Stops (report_read command.now file.now (H.tells shelf.old))
+        (Rose (H.faults shelf.old file.now) (H.faults shelf.new file.now)) (stop_status stop)) }
+    ensures finished { IfOk result (λ answer. answer.is_open ≡ false) }
+    ensures cause { IfErr result (IsReportStop command.now file.now (H.tells shelf.old file.now)) }
+{
+    let table = table_under(alloc, shelf, file, Origin::File)?;
+    Ok(Answer::finished(report_on(rt, alloc, command, &table)?))
+}
+
+/// What the command reports of the table.
+fn report_on<R: Threads + Sync>(
+    rt: &R,
+    alloc: Global,
+    command: &Command,
+    table: &Table,
+) -> Result<Vec<u8>, Stop>
+    requires { is_some (reported command.now) ≡ true }
+    ensures text { IfOk result (λ text. MayRead (table_report command.now table.now) text.items) }
+    ensures stop { IfErr result (λ stop. Stops (table_report command.now table.now) ⊥ (stop_status stop)) }
+    ensures cause { IfErr result (λ stop. (stop ≡ Stop.Memory) ⊎ ((stop ≡ Stop.UnknownAttribute) × (table_report command.now table.now ≡ Refused))) }
+{
+    match command {
+        Command::Concepts { json, .. } => Ok(table_concepts(alloc, *json, table)?),
+        Command::Lattice { .. } => Ok(table_lattice_text(alloc, table)?),
+        Command::Basis { json, .. } => Ok(table_basis(rt, alloc, *json, table)?),
+        Command::Direct { .. } => Ok(table_direct(alloc, table)?),
+        Command::Follows {
+            premise,
+            conclusion,
+            ..
+        } => verdict(rt, alloc, table, premise, conclusion),
+        Command::Convert { to, .. } => Ok(table_written(alloc, *to, table)?),
+        Command::Reduce { .. } => Ok(table_reduced(alloc, table)?),
+        Command::Arrows { .. } => Ok(table_arrows(alloc, table)?),
+        _ => unreachable!(),
+    }
+}
+
+/// The concepts of the table, in lectic order of their intents.
+fn table_concepts(alloc: Global, json: bool, table: &Table) -> Result<Vec<u8>, Memory>
+    ensures { IfOk result (λ text. text.items ≡ table_concepts json table.now) }
+{
+    if json {
+        let concepts = all_concepts(alloc, table.rows())?;
+        concepts_json(alloc, table, &concepts)
+    } else {
+        table_concepts_text(alloc, table)
+    }
+}
+
+/// The basis of the table.
+fn table_basis<R: Threads + Sync>(
+    rt: &R,
+    alloc: Global,
+    json: bool,
+    table: &Table,
+) -> Result<Vec<u8>, Memory>
+    ensures { IfOk result (λ text. text.items ≡ table_basis json table.now) }
+{
+    let basis = basis(rt, alloc, table.rows())?;
+    if json {
+        basis_json(alloc, table, &basis)
+    } else {
+        basis_text(alloc, table, &basis)
+    }
+}
+
+/// The direct basis of the table.
+fn table_direct(alloc: Global, table: &Table) -> Result<Vec<u8>, Memory>
+    ensures { IfOk result (λ text. text.items ≡ table_direct table.now) }
+{
+    let list = proper_premises(alloc, table.rows())?;
+    direct_text(alloc, table, &list)
+}
+
+/// Whether the implication between the attributes that the words name holds in the table.
+fn verdict<R: Threads + Sync>(
+    rt: &R,
+    alloc: Global,
+    table: &Table,
+    premise: &Word,
+    conclusion: &Word,
+) -> Result<Vec<u8>, Stop>
+    ensures output { IfOk result (λ text. MayRead (verdict_read premise.now conclusion.now table.now) text.items) }
+    ensures stop { IfErr result (λ stop. Stops (verdict_read premise.now conclusion.now table.now) ⊥ (stop_status stop)) }
+    ensures cause { IfErr result (λ stop. (stop ≡ Stop.Memory) ⊎ ((stop ≡ Stop.UnknownAttribute) × (verdict_read premise.now conclusion.now table.now ≡ Refused))) }
+{
+    let premise = attributes_in(table, premise)?;
+    let conclusion = attributes_in(table, conclusion)?;
+    Ok(table_verdict(rt, alloc, &premise, &conclusion, table)?)
+}
+
+/// The attributes of the table that the word names.
+fn attributes_in(table: &Table, word: &Word) -> Result<Attrs, Stop>
+    ensures attributes { IfOk result (λ set. attributes_read table.now word.now ≡ Read set) }
+    ensures wide { IfOk result (λ set. length set ≡ table.now.context.width) }
+    ensures refused { IfErr result (λ stop. attributes_read table.now word.now ≡ Refused) }
+    ensures cause { IfErr result (λ stop. stop ≡ Stop.UnknownAttribute) }
+{
+    match attributes_said(table, word.bytes()) {
+        Some(set) => Ok(set),
+        None => Err(Stop::UnknownAttribute),
+    }
+}
+
+/// Whether the implication holds in the table.
+fn table_verdict<R: Threads + Sync>(
+    rt: &R,
+    alloc: Global,
+    premise: &Attrs,
+    conclusion: &Attrs,
+    table: &Table,
+) -> Result<Vec<u8>, Memory>
+    requires premise { length premise.now ≡ table.now.context.width }
+    requires conclusion { length conclusion.now ≡ table.now.context.width }
+    ensures { IfOk result (λ text. text.items ≡ table_verdict premise.now conclusion.now table.now) }
+{
+    verdict_text(rt, alloc, table, premise, conclusion)
+}
+
+/// The table in this form.
+fn table_written(alloc: Global, to: Form, table: &Table) -> Result<Vec<u8>, Memory>
+    ensures { IfOk result (λ text. text.items ≡ table_written to table.now) }
+{
+    match to {
+        Form::Cxt => write_cxt(alloc, table),
+        Form::Csv => write_csv(alloc, table),
+    }
+}
+
+/// The table of its irreducible objects and attributes, in the Burmeister form.
+fn table_reduced(alloc: Global, table: &Table) -> Result<Vec<u8>, Memory>
+    ensures { IfOk result (λ text. text.items ≡ table_reduced table.now) }
+{
+    let kept = irreducible(alloc, table)?;
+    let reduced = part(alloc, table, &kept)?;
+    write_cxt(alloc, &reduced)
+}
+
+/// The arrows between the objects and the attributes of the table.
+fn table_arrows(alloc: Global, table: &Table) -> Result<Vec<u8>, Memory>
+    ensures { IfOk result (λ text. text.items ≡ table_arrows table.now) }
+{
+    let arrows = arrows(alloc, table)?;
+    arrows_text(alloc, table, &arrows)
+}
