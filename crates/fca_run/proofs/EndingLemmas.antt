@@ -1,10 +1,11 @@
 -- How a call ends follows from what its command was to write: it has this to write, or it stopped and nothing is written.
 use Rattle.std.proofs.Common.{◌≡◌, ◌∙◌, ◌⊎◌, ℕ, Bool, true, false, cond, Option, Some, None, List, [], ◌∷◌, Result, Ok, Err, inl, inr, refl, sym, ap, subst, arith}
 use Rattle.std.specs.Prelude.{IfOk, IfErr, IsOk, OnOk, IfSome, MatchOption}
-use Rattle.fca_model.specs.Tables.{Text}
+use Rattle.fca_model.specs.Tables.{Text, NamedContext}
 use Rattle.command_io.specs.Readings.{Reading, MayRead, MayRefuse, IfRead}
 use Rattle.command_io.specs.Readings.Reading.{Untold, Missing, Refused, Read}
 use Rattle.command_io.specs.Endings.{Output, whole_status, IsWhole, IsCutOff, IsUnread, EndsAnswer, Stops, stop_status}
+use Rattle.command_io.specs.Forms.{table_read}
 use Rattle.command_io.specs.ErrLines.{stop_line, stop_expert, expert_file, IsTold}
 use Rattle.command_io.specs.declared.stop.Stop.{Stop}
 use Rattle.command_io.specs.declared.stop.Stop.TheVariants.{NoCommand, Memory}
@@ -15,11 +16,11 @@ use Rattle.fca_run.specs.Outputs.{replay_output, other_output, output_by, output
 use Rattle.fca_command.specs.Commands.{reported, files_by, files_of, first_of, reads_input, uses_link, may_end_open, is_plain}
 use Rattle.fca_command.specs.declared.command.Command.{Command}
 use Rattle.fca_command.specs.declared.command.Command.TheVariants.{Replay, Explore, Serve, Make, Survey}
-use Rattle.fca_run.specs.Endings.{Finishes, Ends, EndsBy, FaultRose, MayReachEnd, HasCourse, HasExplored, HasBegunExploring, HasServedExperts, HasBegunServing, MayListen, IsCommandStop, IsCallStop, fault_file, HasGivenBack}
+use Rattle.fca_run.specs.Endings.{Finishes, Ends, EndsBy, IsGiven, IsReadable, IsComplete, FaultRose, MayReachEnd, HasCourse, HasExplored, HasBegunExploring, HasServedExperts, HasBegunServing, MayListen, IsCommandStop, IsCallStop, fault_file, HasGivenBack}
 use Rattle.fca_io.specs.Links.{Ends as LinkEnds}
-use Rattle.explore_command.specs.Panels.{Panel, SomeRose}
+use Rattle.explore_command.specs.Panels.{Panel, SomeRose, panel_read}
 use Rattle.explore_command.specs.Played.{Plays}
-use Rattle.serve_command.specs.Served.{GaveAllBack}
+use Rattle.serve_command.specs.Served.{GaveAllBack, Serves}
 use Rattle.command_io.proofs.ErrLemmas.{silent-apart, stop-silent}
 use Rattle.serve_command.proofs.AcceptedLemmas.{TookAndGave-none}
 
@@ -79,6 +80,46 @@ pub call-ends : (reading : Reading Output) (rose : Type 0) (answer : Result Outp
 call-ends reading rose (Ok a) status may ends stopped stop = answer-ends reading a status may ends
 call-ends reading rose (Err s) status may ends stopped stop =
     subst (Ends reading) (sym stopped) (stop-ends reading (stop_status s) stop.refused stop.others)
+
+-- ---- a call whose files have their forms comes to its end, or a count of faults rose
+
+-- over what it is for a fault of the shelf or the input, of out, and of the link to rise
+module _ (n : ℕ) (rose out_rose link_rose : Type 0) (read : n ≡ 3 → rose) (write : n ≡ 4 → out_rose) (listen : n ≡ 7 → link_rose) where
+  Completes : Type 0
+  Completes = IsComplete n ⊎ (rose ⊎ (out_rose ⊎ link_rose))
+
+  cut_off-completes : IsCutOff n → Completes
+  cut_off-completes (inl three) = inr (inl (read three))
+  cut_off-completes (inr (inl four)) = inr (inr (inl (write four)))
+  cut_off-completes (inr (inr five)) = inl (inl five)
+
+  output-completes : (reading : Reading Output) → Ends reading n → IsGiven reading → Completes
+  output-completes Untold ends given = absurd given
+  output-completes Missing ends given = absurd given
+  output-completes Refused ends given = absurd given
+  output-completes (Read o) (inl whole) given = inl (inr (inr (either o.is_open n whole)))
+  output-completes (Read o) (inr cut) given = cut_off-completes cut
+
+  panel-completes : (reading : Reading Panel) → Plays reading n ⊎ IsCutOff n → IsGiven reading → Completes
+  panel-completes Untold ends given = absurd given
+  panel-completes Missing ends given = absurd given
+  panel-completes Refused ends given = absurd given
+  panel-completes (Read p) (inl (inl zero)) given = inl (inr (inr (inl zero)))
+  panel-completes (Read p) (inl (inr eight)) given = inl (inr (inl eight))
+  panel-completes (Read p) (inr cut) given = cut_off-completes cut
+
+  serving-completes : (reading : Reading NamedContext) → Serves reading n ⊎ IsCutOff n → IsGiven reading → Completes
+  serving-completes Untold ends given = absurd given
+  serving-completes Missing ends given = absurd given
+  serving-completes Refused ends given = absurd given
+  serving-completes (Read table) (inl (inl seven)) given = inr (inr (inr (listen seven)))
+  serving-completes (Read table) (inl (inr whole)) given = inl (inr (inr whole))
+  serving-completes (Read table) (inr cut) given = cut_off-completes cut
+
+  pub command-completes : (command : Command) (files : Text → Told) (input : Option Text) → EndsBy command files input n → IsReadable command files input → Completes
+  command-completes (Explore file experts) files input ends given = panel-completes (panel_read file experts files) ends given
+  command-completes (Serve file experts listen) files input ends given = serving-completes (table_read file (files file)) ends given
+  command-completes command files input ends given = output-completes (output command files input) ends given
 
 -- ---- want of memory for the words
 
@@ -305,3 +346,10 @@ module _ {E : Type 0} (left held : E → Option Text) (reads writes : E → ℕ)
   pub plain-HasGivenBack : (command : Command) (old new : Option (LinkEnds E)) (n : ℕ) → is_plain command ≡ true → HasGivenBack left held reads writes command old new n
   plain-HasGivenBack (Serve file experts listen) old new n plain = cc
   plain-HasGivenBack _ old new n plain = tt
+
+-- ---- want of memory for the words, and calls that complete
+
+pub memory-completes : (found : Option Command) (Given : Command → Type 0) (Rises : Command → Type 0) (n : ℕ) → n ≡ 5
+    → IfSome found (λ command. Given command → IsComplete n ⊎ Rises command)
+memory-completes None Given Rises n five = tt
+memory-completes (Some command) Given Rises n five = λ given. inl (inl five)

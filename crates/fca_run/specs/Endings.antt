@@ -41,6 +41,23 @@ EndsBy (Explore file experts) files input status = Plays (panel_read file expert
 EndsBy (Serve file experts listen) files input status = Serves (table_read file (files file)) status ⊎ IsCutOff status
 EndsBy command files input status = Ends (output command files input) status
 
+-- the outside tells what is to be read, and it has its form
+abbrev pub IsGiven : {X : Type 0} → Reading X → Type 0
+IsGiven Untold = ⊥
+IsGiven Missing = ⊥
+IsGiven Refused = ⊥
+IsGiven (Read x) = ⊤
+
+-- each file that the command reads, and the input where it reads that, is told and has its form
+abbrev pub IsReadable : Command → (Text → Told) → Option Text → Type 0
+IsReadable (Explore file experts) files input = IsGiven (panel_read file experts files)
+IsReadable (Serve file experts listen) files input = IsGiven (table_read file (files file))
+IsReadable command files input = IsGiven (output command files input)
+
+-- the call came to its whole text, where 8 says that an expert had no turns left, or memory was wanting
+abbrev pub IsComplete : ℕ → Type 0
+IsComplete status = (status ≡ 5) ⊎ ((status ≡ 8) ⊎ IsWhole status)
+
 -- a count of faults rose for a file of the command, or for the input where the command reads it
 abbrev pub FaultRose : Command → (Text → ℕ) → (Text → ℕ) → ℕ → ℕ → Type 0
 FaultRose command files files' input input' = SomeRose files files' (files_of command) ⊎ ((reads_input command ≡ true) × Rose input input')

@@ -10,7 +10,7 @@ ghost use Rattle.command_io.specs.Readings.{IfRead, MayRead};
 ghost use Rattle.fca_run.specs.Outputs.{output, other_output};
 ghost use Rattle.command_io.specs.Endings.{Stops, IsWhole, IsSilent, IsUnread, stop_status};
 ghost use Rattle.command_io.specs.ErrLines.{stop_line, GainsLine, IsTold};
-ghost use Rattle.fca_run.specs.Endings.{Ends, EndsBy, FaultRose, MayReachEnd, HasCourse, HasExplored, HasBegunExploring, LinkFaultRose, IsCommandStop, IsOtherStop, IsCallStop, fault_file, MayListen, HasServedExperts, HasBegunServing, HasGivenBack};
+ghost use Rattle.fca_run.specs.Endings.{Ends, EndsBy, IsReadable, IsComplete, FaultRose, MayReachEnd, HasCourse, HasExplored, HasBegunExploring, LinkFaultRose, IsCommandStop, IsOtherStop, IsCallStop, fault_file, MayListen, HasServedExperts, HasBegunServing, HasGivenBack};
 
 use crate::made::{made_answer, run_survey};
 use crate::replay::replay;
@@ -47,6 +47,13 @@ pub fn run<R: Threads + Wait + Sync, H: Shelf, S: Source, K: Sink, E: Sink, L: L
     ensures listener_fault { result ≡ 7 → IfSome (command_form words.now)
         (λ command. LinkFaultRose command (L.open_faults link.old) (L.open_faults link.new) (L.accept_faults link.old) (L.accept_faults link.new)) }
     ensures open { result ≡ 6 → IfSome (command_form words.now) (λ command. may_end_open command ≡ true) }
+
+    // A command whose files and input have their forms comes to its whole text, or a count of faults rose, or memory is wanting.
+    ensures complete { IfSome (command_form words.now) (λ command. IsReadable command (H.tells shelf.old) (S.left input.old)
+        → IsComplete result
+            ⊎ (FaultRose command (H.faults shelf.old) (H.faults shelf.new) (S.faults input.old) (S.faults input.new)
+                ⊎ (Rose (K.faults out.old) (K.faults out.new)
+                    ⊎ LinkFaultRose command (L.open_faults link.old) (L.open_faults link.new) (L.accept_faults link.old) (L.accept_faults link.new)))) }
 
     // What out gained.
     ensures plain_output { IsWhole result → IfSome (command_form words.now) (λ command.

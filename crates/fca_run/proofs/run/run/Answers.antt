@@ -1,12 +1,14 @@
-use Rattle.std.proofs.Common.{◌≡◌, ◌∙◌, Option, None, sym, subst}
+use Rattle.std.proofs.Common.{◌≡◌, ◌∙◌, ◌⊎◌, ℕ, Option, None, sym, subst}
+use Rattle.std.specs.Prelude.{IfSome}
 use Rattle.fca_model.specs.Tables.{Text}
+use Rattle.fca_io.specs.Faults.{Rose}
 use Rattle.command_io.specs.ErrLines.{GainsLine, IsTold}
 use Rattle.fca_command.specs.declared.command.Command.{Command}
 use Rattle.command_io.specs.declared.stop.Stop.TheVariants.{NoCommand, Memory}
 use Rattle.command_io.proofs.ErrLemmas.{stop-told}
 use Rattle.fca_command.specs.Commands.{command_form}
-use Rattle.fca_run.specs.Endings.{IsCallStop, fault_file}
-use Rattle.fca_run.proofs.EndingLemmas.{memory-status, kept-same, link-same, memory-given, memory-comes, none-comes}
+use Rattle.fca_run.specs.Endings.{IsReadable, IsComplete, FaultRose, LinkFaultRose, IsCallStop, fault_file}
+use Rattle.fca_run.proofs.EndingLemmas.{memory-status, kept-same, link-same, memory-given, memory-completes, command-completes, memory-comes, none-comes}
 use Rattle.fca_run.proofs.run.run.Goals as goal
 
 pub returns-in-Err-clause-status : goal.returns-in-Err-clause-status
@@ -44,3 +46,20 @@ returns-in-Ok-Some-clause-told g c =
     IsTold Told (IsCallStop found (g.H.Shelf.tells c.args.shelf.now) (g.S.Source.left c.args.input.now)) (fault_file found) c.run_command.result in
     let same = sym c.in-Ok-Some.field-0-is ∙ c.in-Ok-Some.ensures.command in
     subst ToldOf same c.run_command.ensures.told
+
+pub returns-in-Err-clause-complete : goal.returns-in-Err-clause-complete
+returns-in-Err-clause-complete g c = memory-completes (command_form c.args.words.now) _ _ c.stopped-in-Err.result c.stopped-in-Err.ensures.status
+
+pub returns-in-Ok-Some-clause-complete : goal.returns-in-Ok-Some-clause-complete
+returns-in-Ok-Some-clause-complete g c =
+    let files = g.H.Shelf.tells c.args.shelf.now in
+    let input = g.S.Source.left c.args.input.now in
+    let ends = c.run_command.ensures in
+    let n : ℕ = c.run_command.result in
+    let Completes : Option Command → Type 0 = λ found. IfSome found (λ command. IsReadable command files input
+    → IsComplete n
+    ⊎ (FaultRose command (g.H.Shelf.faults c.args.shelf.now) (g.H.Shelf.faults c.run_command.new.shelf) (g.S.Source.faults c.args.input.now) (g.S.Source.faults c.run_command.new.input)
+    ⊎ (Rose (g.K.Sink.faults c.args.out.now) (g.K.Sink.faults c.run_command.new.out)
+    ⊎ LinkFaultRose command (g.L.Listener.open_faults c.args.link.now) (g.L.Listener.open_faults c.run_command.new.link) (g.L.Listener.accept_faults c.args.link.now) (g.L.Listener.accept_faults c.run_command.new.link)))) in
+    let same = sym c.in-Ok-Some.field-0-is ∙ c.in-Ok-Some.ensures.command in
+    subst Completes same (λ given. command-completes n _ _ _ ends.read_fault ends.write_fault ends.listener_fault _ files input ends.status given)
