@@ -85,7 +85,7 @@ call-ends reading rose (Err s) status may ends stopped stop =
 
 -- over what it is for a fault of the shelf or the input, of out, and of the link to rise
 module _ (n : ℕ) (rose out_rose link_rose : Type 0) (read : n ≡ 3 → rose) (write : n ≡ 4 → out_rose) (listen : n ≡ 7 → link_rose) where
-  Completes : Type 0
+  abbrev pub Completes : Type 0
   Completes = IsComplete n ⊎ (rose ⊎ (out_rose ⊎ link_rose))
 
   cut_off-completes : IsCutOff n → Completes

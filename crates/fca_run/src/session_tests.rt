@@ -2,7 +2,7 @@
 
 ghost use Rattle.std.specs.Prelude.{◌≡◌, ◌≤◌, false, IfOk};
 
-use crate::run::run;
+use crate::call::run;
 use fca_io::{
     Duplex, Failed, Listener, MemoryEnd, MemoryShelf, MemorySink, MemorySource, Sink, Source,
 };

@@ -9,7 +9,7 @@ use Rattle.command_io.proofs.ErrLemmas.{stop-told}
 use Rattle.fca_command.specs.Commands.{command_form}
 use Rattle.fca_run.specs.Endings.{IsReadable, IsComplete, FaultRose, LinkFaultRose, IsCallStop, fault_file}
 use Rattle.fca_run.proofs.EndingLemmas.{memory-status, kept-same, link-same, memory-given, memory-completes, command-completes, memory-comes, none-comes}
-use Rattle.fca_run.proofs.run.run.Goals as goal
+use Rattle.fca_run.proofs.call.run.Goals as goal
 
 pub returns-in-Err-clause-status : goal.returns-in-Err-clause-status
 returns-in-Err-clause-status g c =

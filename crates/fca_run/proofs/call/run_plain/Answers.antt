@@ -8,7 +8,7 @@ use Rattle.command_io.specs.declared.stop.Stop.{Stop}
 use Rattle.fca_run.specs.Endings.{IsCommandStop, fault_file}
 use Rattle.fca_run.specs.Outputs.{output}
 use Rattle.fca_run.proofs.EndingLemmas.{whole-gained, front-gained, call-ends, fault_file-plain, told-by, call-open}
-use Rattle.fca_run.proofs.run.run_plain.Goals as goal
+use Rattle.fca_run.proofs.call.run_plain.Goals as goal
 
 pub returns-clause-status : goal.returns-clause-status
 returns-clause-status g c = call-ends _ _ c.answer_to-answer.result c.conclude.result c.answer_to-answer.ensures.output c.conclude.ensures.answered c.conclude.ensures.stopped c.answer_to-answer.ensures.stop

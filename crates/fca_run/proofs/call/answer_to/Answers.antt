@@ -7,7 +7,7 @@ use Rattle.command_io.specs.Endings.{Stops, stop_status}
 use Rattle.fca_run.specs.Outputs.{output_by}
 use Rattle.fca_run.specs.Endings.{FaultRose, IsStopBy}
 use Rattle.fca_run.proofs.EndingLemmas.{course-reported, end-reported, on-any, report-stops}
-use Rattle.fca_run.proofs.run.answer_to.Goals as goal
+use Rattle.fca_run.proofs.call.answer_to.Goals as goal
 
 pub returns-in-Some-clause-output : goal.returns-in-Some-clause-output
 returns-in-Some-clause-output g c =

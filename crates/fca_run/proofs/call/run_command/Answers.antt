@@ -10,7 +10,7 @@ use Rattle.fca_command.specs.Commands.{is_plain}
 use Rattle.fca_run.specs.Outputs.{survey_output}
 use Rattle.fca_run.specs.Endings.{IsCommandStop, fault_file, HasServedExperts}
 use Rattle.fca_run.proofs.EndingLemmas.{plain-EndsBy, plain-HasExplored, plain-HasBegunExploring, plain-MayListen, plain-HasServedExperts, plain-HasBegunServing, plain-HasGivenBack, not_seven, played-not_six, finished-not_six, one_file, told-by}
-use Rattle.fca_run.proofs.run.run_command.Goals as goal
+use Rattle.fca_run.proofs.call.run_command.Goals as goal
 
 pub returns-in-Serve-clause-serve_output : goal.returns-in-Serve-clause-serve_output
 returns-in-Serve-clause-serve_output g c = λ whole.
