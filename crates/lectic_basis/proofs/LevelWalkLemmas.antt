@@ -12,9 +12,9 @@ use Rattle.lectic_concepts.specs.Branches.{agree_before}
 use Rattle.lectic_concepts.proofs.BranchLemmas.{among, closure_among}
 use Rattle.lectic_basis.specs.Trees.{before, up_to}
 use Rattle.lectic_basis.specs.NextLevel.{IsLeastUnder, IsLeastLevel}
-use Rattle.lectic_basis.specs.LevelWalks.{IsEntered, IsLeft, HasLevel}
+use Rattle.lectic_basis.specs.LevelWalks.{IsEntered, IsLeft, IsTrying, HasLevel}
 use Rattle.lectic_basis.specs.Watches.{Watched, IsFiled, IsGood, CanClose, HasMoved, IsClosedBefore, Differs}
-use Rattle.lectic_basis.proofs.PlaceLemmas.{within_set, agree_with}
+use Rattle.lectic_basis.proofs.PlaceLemmas.{within_set, agree_with, agree_less}
 use Rattle.lectic_basis.proofs.TreeLemmas.{root_least}
 use Rattle.lectic_basis.proofs.NextLevelLemmas as bound
 use Rattle.lectic_basis.proofs.WaitLemmas.{kept_good, good_covers}
@@ -93,104 +93,105 @@ module _ {K L : Context} {A : Set} {from : ℕ} {F : Watched} {b : ℕ} {Ls : Li
 
 -- ---- below an intent
 
--- attribute i is tried, and all behind it were
-pub record IsTrying (K : Context) (A : Set) (from i : ℕ) (F G : Watched) (b : ℕ) (Ls : List Rule) : Type 0 where
-  pub on : from ≤ i
-  pub inside : i < K.width
-  pub found : HasLevel K A (suc i) F G b Ls
-
-pub trying : {K : Context} {A : Set} {from j : ℕ} {F G : Watched} {b : ℕ} {Ls : List Rule} → j ≤ K.width → HasLevel K A j F G b Ls → from < j → IsTrying K A from (j - 1) F G b Ls
-trying {K = K} {A = A} {j = j} {F = F} {G = G} {b = b} {Ls = Ls} le found lt =
-    let e : j ≡ suc (j - 1) = omega (arith, lt) in
-    record { on = omega (arith, lt); inside = omega (arith, le, lt); found = subst (λ k. HasLevel K A k F G b Ls) e found }
-
-module _ {K L : Context} {A : Set} {from : ℕ} {F : Watched} {b₀ : ℕ} {Ls₀ : List Rule} (l : IsLeft K L A from F b₀ Ls₀) where
-  pub left_start : HasLevel K A K.width F F b₀ Ls₀
-  left_start = record { list = refl; level = l.level; filed = l.at.filed; kept = λ X h good. good }
-
-  module _ {i : ℕ} {G : Watched} {b : ℕ} {Ls : List Rule} (t : IsTrying K A from i F G b Ls) where
-    abbrev on : from ≤ i
-    on = t.on
-
-    abbrev inside : i < K.width
-    inside = t.inside
-
-    abbrev g : HasLevel K A (suc i) F G b Ls
-    g = t.found
-
-    next : suc i ≡ i + 1
-    next = omega arith
-
-    width_g : G.list.width ≡ K.width
-    width_g = ap (λ (M : RuleList). M.width) g.list ∙ l.at.width
-
-    least_g : IsLeastUnder G.list.members K.width A from
-    least_g = subst (λ (M : RuleList). IsLeastUnder M.members K.width A from) (sym g.list) l.at.least
-
-    -- an attribute that A has
-    pub left_member : get_or A i false ≡ true → HasLevel K A i F G b Ls
-    left_member has = record { list = g.list; level = bound.member_least G.list.members K i b A Ls has g.level; filed = g.filed; kept = g.kept }
-
-    -- one that A lacks
-    module _ (lacks : get_or A i false ≡ false) {X : Set} (x : X ≡ set A i true) where
-      up : within A X ≡ true
-      up = subst (λ Y. within A Y ≡ true) (sym x) (within_set A i)
-
-      pub left_can_close : CanClose G i A X
-      left_can_close = record {
-        done_wide = l.at.wide ∙ sym width_g;
-        wide = ap length x ∙ length-set A i true ∙ l.at.wide ∙ sym width_g;
-        above = up;
-        agree = subst (λ Y. agree_before i A Y ≡ true) (sym x) (agree_with i A);
+-- all behind attribute j - 1 were visited
+pub trying : {K L : Context} {A : Set} {from j i : ℕ} {F G : Watched} {b₀ b : ℕ} {Ls₀ Ls : List Rule} → IsLeft K L A from F b₀ Ls₀ → j ≤ K.width → HasLevel K A j F G b Ls → j ≡ suc i → from ≤ i → IsTrying K L A i G b Ls
+trying {K = K} {A = A} {from = from} {i = i} {F = F} {G = G} {b = b} {Ls = Ls} l le g e on =
+    record {
+      at = record {
+        width = ap (λ (M : RuleList). M.width) g.list ∙ l.at.width;
+        wide = l.at.wide;
+        respecting = subst (λ (M : RuleList). respects_all M.members A ≡ true) (sym g.list) l.at.respecting;
+        least = λ X w r agree. l.at.least X w (subst (λ (M : RuleList). respects_all M.members X ≡ true) g.list r) (agree_less from i A X on agree);
+        inside = omega (arith, le, e);
+        near = l.at.near;
         filed = g.filed;
-        covers = good_covers G.list.members G.buckets A X up (g.kept A (within_refl A) l.at.good);
+        good = g.kept A (within_refl A) l.at.good;
+      };
+      level = subst (λ k. IsLeastLevel G.list.members K b (up_to k A) Ls) e g.level;
+      inside = omega (arith, le, e);
+    }
+
+pub left_start : {K L : Context} {A : Set} {from : ℕ} {F : Watched} {b : ℕ} {Ls : List Rule} → IsLeft K L A from F b Ls → HasLevel K A K.width F F b Ls
+left_start l = record { list = refl; level = l.level; filed = l.at.filed; kept = λ X h good. good }
+
+-- one attribute after the other
+pub level_then : {K : Context} {A : Set} {j i : ℕ} {F G H : Watched} {b₀ b : ℕ} {Ls₀ Ls : List Rule} → HasLevel K A j F G b₀ Ls₀ → HasLevel K A i G H b Ls → HasLevel K A i F H b Ls
+level_then x y = record { list = y.list ∙ x.list; level = y.level; filed = y.filed; kept = λ X h good. y.kept X h (x.kept X h good) }
+
+module _ {K L : Context} {A : Set} {i : ℕ} {G : Watched} {b : ℕ} {Ls : List Rule} (t : IsTrying K L A i G b Ls) where
+  abbrev inside : i < K.width
+  inside = t.inside
+
+  on : i ≤ i
+  on = omega arith
+
+  next : suc i ≡ i + 1
+  next = omega arith
+
+  -- an attribute that A has
+  pub left_member : get_or A i false ≡ true → HasLevel K A i G G b Ls
+  left_member has = record { list = refl; level = bound.member_least G.list.members K i b A Ls has t.level; filed = t.at.filed; kept = λ X h good. good }
+
+  -- one that A lacks
+  module _ (lacks : get_or A i false ≡ false) {X : Set} (x : X ≡ set A i true) where
+    up : within A X ≡ true
+    up = subst (λ Y. within A Y ≡ true) (sym x) (within_set A i)
+
+    pub left_can_close : CanClose G i A X
+    left_can_close = record {
+      done_wide = t.at.wide ∙ sym t.at.width;
+      wide = ap length x ∙ length-set A i true ∙ t.at.wide ∙ sym t.at.width;
+      above = up;
+      agree = subst (λ Y. agree_before i A Y ≡ true) (sym x) (agree_with i A);
+      filed = t.at.filed;
+      covers = good_covers G.list.members G.buckets A X up t.at.good;
+    }
+
+    module _ {H : Watched} (m : HasMoved A G H) where
+      good_moved : (Y : Set) → within Y A ≡ true → IsGood G.list.members G.buckets Y → IsGood H.list.members H.buckets Y
+      good_moved Y h good = subst (λ (M : RuleList). IsGood M.members H.buckets Y) (sym m.list) (kept_good G.list.members G.buckets H.buckets Y (m.kept Y h) good)
+
+      pub left_none : Differs G.list.members i A X → HasLevel K A i G H b Ls
+      left_none differs = record {
+        list = m.list;
+        level = subst (λ (M : RuleList). IsLeastLevel M.members K b (up_to i A) Ls) (sym m.list)
+            (bound.none_least G.list.members K A i i on t.at.least lacks b Ls (λ T h r. differs T (subst (λ Y. within Y T ≡ true) (sym x) h) r) t.level);
+        filed = m.filed;
+        kept = good_moved;
       }
 
-      module _ {H : Watched} (m : HasMoved A G H) where
-        good_moved : (Y : Set) → within Y A ≡ true → IsGood F.list.members F.buckets Y → IsGood H.list.members H.buckets Y
-        good_moved Y h good = subst (λ (M : RuleList). IsGood M.members H.buckets Y) (sym m.list) (kept_good G.list.members G.buckets H.buckets Y (m.kept Y h) (g.kept Y h good))
+      module _ {C : Set} (c : IsClosedBefore G.list.members H.buckets i A X C) where
+        closure_c : IsClosure G.list.members (set A i true) C
+        closure_c = subst (λ Y. IsClosure G.list.members Y C) x c.closure
 
-        pub left_none : Differs G.list.members i A X → HasLevel K A i F H b Ls
-        left_none differs = record {
-          list = m.list ∙ g.list;
-          level = subst (λ (M : RuleList). IsLeastLevel M.members K b (up_to i A) Ls) (sym m.list)
-              (bound.none_least G.list.members K A from i on least_g lacks b Ls (λ T h r. differs T (subst (λ Y. within Y T ≡ true) (sym x) h) r) g.level);
-          filed = m.filed;
-          kept = good_moved;
-        }
+        has_c : get_or C i false ≡ true
+        has_c = bound.closure_has G.list.members K.width A t.at.wide i inside C closure_c
 
-        module _ {C : Set} (c : IsClosedBefore G.list.members H.buckets i A X C) where
-          closure_c : IsClosure G.list.members (set A i true) C
-          closure_c = subst (λ Y. IsClosure G.list.members Y C) x c.closure
+        up_c : within A C ≡ true
+        up_c = within_trans A (set A i true) C (within_set A i) closure_c.above
 
-          has_c : get_or C i false ≡ true
-          has_c = bound.closure_has G.list.members K.width A l.at.wide i inside C closure_c
+        pub left_entered : IsEntered K L C (i + 1) H b Ls
+        left_entered = subst (λ k. IsEntered K L C k H b Ls) next (record {
+          at = record {
+            width = ap (λ (M : RuleList). M.width) m.list ∙ t.at.width;
+            wide = bound.closure_wide G.list.members K.width A t.at.wide i inside C closure_c;
+            respecting = subst (λ (M : RuleList). respects_all M.members C ≡ true) (sym m.list) closure_c.respecting;
+            least = subst (λ (M : RuleList). IsLeastUnder M.members K.width C (suc i)) (sym m.list) (bound.closure_least G.list.members K.width A t.at.wide i i on inside t.at.least C closure_c c.agree);
+            inside = omega (arith, inside);
+            near = λ Y h. t.at.near Y (within_trans A C Y up_c h);
+            filed = m.filed;
+            good = subst (λ (M : RuleList). IsGood M.members H.buckets C) (sym m.list) c.good;
+          };
+          level = subst (λ (M : RuleList). IsLeastLevel M.members K b (before (suc i) C) Ls) (sym m.list) (bound.child_least_level G.list.members K A i i on t.at.least lacks C has_c c.agree b Ls t.level);
+        })
 
-          up_c : within A C ≡ true
-          up_c = within_trans A (set A i true) C (within_set A i) closure_c.above
-
-          pub left_entered : IsEntered K L C (i + 1) H b Ls
-          left_entered = subst (λ k. IsEntered K L C k H b Ls) next (record {
-            at = record {
-              width = ap (λ (M : RuleList). M.width) m.list ∙ width_g;
-              wide = bound.closure_wide G.list.members K.width A l.at.wide i inside C closure_c;
-              respecting = subst (λ (M : RuleList). respects_all M.members C ≡ true) (sym m.list) closure_c.respecting;
-              least = subst (λ (M : RuleList). IsLeastUnder M.members K.width C (suc i)) (sym m.list) (bound.closure_least G.list.members K.width A l.at.wide from i on inside least_g C closure_c c.agree);
-              inside = omega (arith, inside);
-              near = λ Y h. l.at.near Y (within_trans A C Y up_c h);
-              filed = m.filed;
-              good = subst (λ (M : RuleList). IsGood M.members H.buckets C) (sym m.list) c.good;
-            };
-            level = subst (λ (M : RuleList). IsLeastLevel M.members K b (before (suc i) C) Ls) (sym m.list) (bound.child_least_level G.list.members K A from i on least_g lacks C has_c c.agree b Ls g.level);
-          })
-
-          pub left_done : {I : Watched} {d : ℕ} {Ms : List Rule} → HasLevel K C (i + 1) H I d Ms → HasLevel K A i F I d Ms
-          left_done {I = I} {d = d} {Ms = Ms} done =
-              let same_list : I.list ≡ G.list = done.list ∙ m.list in
-              record {
-                list = same_list ∙ g.list;
-                level = bound.child_least_done I.list.members K A from i on (subst (λ (M : RuleList). IsLeastUnder M.members K.width A from) (sym same_list) least_g) lacks C has_c c.agree d Ms
-                    (subst (λ k. IsLeastLevel I.list.members K d (up_to k C) Ms) (sym next) done.level);
-                filed = done.filed;
-                kept = λ Y h good. done.kept Y (within_trans Y A C h up_c) (good_moved Y h good);
-              }
+        pub left_done : {I : Watched} {d : ℕ} {Ms : List Rule} → HasLevel K C (i + 1) H I d Ms → HasLevel K A i G I d Ms
+        left_done {I = I} {d = d} {Ms = Ms} done =
+            let same_list : I.list ≡ G.list = done.list ∙ m.list in
+            record {
+              list = same_list;
+              level = bound.child_least_done I.list.members K A i i on (subst (λ (M : RuleList). IsLeastUnder M.members K.width A i) (sym same_list) t.at.least) lacks C has_c c.agree d Ms
+                  (subst (λ k. IsLeastLevel I.list.members K d (up_to k C) Ms) (sym next) done.level);
+              filed = done.filed;
+              kept = λ Y h good. done.kept Y (within_trans Y A C h up_c) (good_moved Y h good);
+            }

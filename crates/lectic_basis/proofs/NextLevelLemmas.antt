@@ -2,7 +2,7 @@
 -- the members of the next level.
 use Rattle.std.proofs.Common.{◌≡◌, ℕ, suc, ◌<◌, ◌≤◌, ◌+◌, Bool, true, false, not, ◌&&◌, ◌||◌, List, [], ◌∷◌, ◌++◌, length, get_or, set, map, filter, refl, sym, ap, ◌∙◌, subst, arith, inl, inr, ◌⊎◌, eqb, eqb-true, eq-eqb, leb, le-leb, ltb, get_or-set_same, length-set}
 use Rattle.std.proofs.lemmas.Bool.{false≢true, and_parts, and_from, cases_Bool, cases_lt, or_cases, or_left, or_right, not-true, lt-leb, ltb-true, lt-ltb}
-use Rattle.std.proofs.lemmas.List.Folds.{list_all-append}
+use Rattle.std.proofs.lemmas.List.Folds.{list_all-append, list_all-map}
 use Rattle.std.specs.List.{list_all, list_any}
 use Rattle.fca_model.specs.Sets.{Set, within, same, size, all_sets}
 use Rattle.fca_model.specs.Context.{Context, closure, is_closed}
@@ -10,7 +10,7 @@ use Rattle.fca_model.specs.Implications.{Rule, rule, respects, respects_all}
 use Rattle.fca_model.specs.Pseudo.{pseudo_known, basis_known}
 use Rattle.fca_model.specs.Levels.{level_of, HasBelow}
 use Rattle.fca_model.proofs.SetLemmas.{within_refl, set_within, within_at_place, same-true, same_from, size_mono, same_by_size, size_le, size_strict, strictly-parts, within_antisymm, all_sets_widths}
-use Rattle.fca_model.proofs.ListLemmas.{bool_iff, list_all-mono, filter_agree_on, list_all-filter, implies_from}
+use Rattle.fca_model.proofs.ListLemmas.{bool_iff, list_all-mono, filter_agree_on, list_all-filter, list_all-filter_kept, implies_from}
 use Rattle.fca_model.proofs.ClosureLemmas.{respects_at, length-closure, closure_extensive}
 use Rattle.fca_model.proofs.PseudoLemmas.{pseudo_parts, pseudo_from, basis_all, basis_at}
 use Rattle.fca_model.proofs.LevelLemmas.{respects_found, level_is}
@@ -324,3 +324,22 @@ nothing_seen J K A L b e past = record {
   listed = e ∙ sym (ap (map (λ P. rule P (closure K P))) (none_pass (filter (is_open J K b) (all_sets K.width))));
   witness = inl past;
 }
+
+-- all that are listed have the width of the context
+pub level_wide : {J : List Rule} {K : Context} {b : ℕ} {p : Set → Bool} {L : List Rule} → IsLeastLevel J K b p L → HaveWidth K.width L
+unfolding open_where
+level_wide {J = J} {K = K} {b = b} {p = p} l =
+    let n : ℕ = K.width in
+    let Xs : List Set = filter (is_open J K b) (all_sets n) in
+    let wide : Set → Bool = λ X. eqb (length X) n in
+    subst (λ Zs. HaveWidth n Zs) (sym l.listed)
+    (list_all-map (has_width n) (λ P. rule P (closure K P)) (filter p Xs)
+    ∙ list_all-mono wide (λ P. has_width n (rule P (closure K P))) (λ P t. and_from (eqb (length P) n) (eqb (length (closure K P)) n) t (eq-eqb (length (closure K P)) n (length-closure K P))) (filter p Xs)
+    (list_all-filter_kept wide p Xs (list_all-filter_kept wide (is_open J K b) (all_sets n) (all_sets_widths n))))
+
+-- the same level of the same context
+pub next_told : {S : List Rule} {K M : Context} {acc : List Rule} {reached b c : ℕ} {L N : List Rule} → M ≡ K → (HasBelow S M reached acc → reached ≤ M.width + 1 → IsNextLevel S M acc b L)
+    → HasBelow S K reached acc → reached ≤ K.width + 1 → c ≡ b → N ≡ L → IsNextLevel S K acc c N
+next_told {S = S} {K = K} {acc = acc} {reached = reached} {b = b} {L = L} {N = N} same_context is below bounded same_size same_members =
+    let level : IsNextLevel S K acc b L = subst (λ (X : Context). HasBelow S X reached acc → reached ≤ X.width + 1 → IsNextLevel S X acc b L) same_context is below bounded in
+    subst (λ k. IsNextLevel S K acc k N) (sym same_size) (subst (λ Zs. IsNextLevel S K acc b Zs) (sym same_members) level)

@@ -1,8 +1,9 @@
 -- The steps of the walk. At a set that is no intent a member is pushed, and the walk goes on with its closure, or ends where that differs before the
 -- attribute by which the set was entered. Below an intent each attribute that it lacks is tried, the last first; what was found at attribute i is what stands up
 -- to place i of the intent.
-use Rattle.std.proofs.Common.{◌≡◌, ℕ, suc, ◌+◌, ◌-◌, ◌<◌, ◌≤◌, true, false, Option, MatchOption, List, [], ◌∷◌, ◌++◌, length, get_or, set, replicate, length-set, refl, sym, ap, ◌∙◌, subst, arith}
+use Rattle.std.proofs.Common.{◌≡◌, ℕ, suc, ◌+◌, ◌-◌, ◌<◌, ◌≤◌, true, false, Option, Some, None, MatchOption, Result, IfOk, List, [], ◌∷◌, ◌++◌, length, get_or, set, replicate, length-set, refl, sym, ap, ◌∙◌, subst, arith}
 use Rattle.std.proofs.lemmas.Bool.{false≢true, false_from_ne_true}
+use Rattle.std.proofs.lemmas.Result.{IfOk-weaker}
 use Rattle.std.specs.List.{list_all}
 use Rattle.fca_model.specs.Sets.{Set, same, within}
 use Rattle.fca_model.specs.Context.{Context, closure, is_closed}
@@ -13,9 +14,9 @@ use Rattle.implication_closure.specs.Closing.{RuleList, IsClosure}
 use Rattle.lectic_concepts.specs.Branches.{agree_before}
 use Rattle.lectic_concepts.proofs.BranchLemmas.{among, closure_among}
 use Rattle.lectic_basis.specs.Trees.{InFamily, IsLeastBehind, up_to, members_where, found_where}
-use Rattle.lectic_basis.specs.Walks.{IsVisit, IsBelow, HasFound, IsPart, IsPartBefore}
+use Rattle.lectic_basis.specs.Walks.{IsVisit, IsBelow, IsTrying, HasFound, IsPart, IsPartBefore}
 use Rattle.lectic_basis.specs.Watches.{Watched, IsFiled, IsGood, CanClose, HasMoved, IsClosedBefore, Differs, IsPutBefore, Covers}
-use Rattle.lectic_basis.proofs.PlaceLemmas.{up_to_member, within_set, agree_with}
+use Rattle.lectic_basis.proofs.PlaceLemmas.{up_to_member, within_set, agree_with, agree_less}
 use Rattle.lectic_basis.proofs.FamilyLemmas.{family_of_closed, closed_closure, same_where, closed_respects_where}
 use Rattle.lectic_basis.proofs.TreeLemmas as tree
 use Rattle.lectic_basis.proofs.WaitLemmas.{push_filed, push_good, push_covers, kept_good, good_covers, closed_good}
@@ -60,6 +61,12 @@ module _ {S : List Rule} {K L : Context} {A : Set} {from : ℕ} {F : Watched} (v
 
   width : F.list.width ≡ K.width
   width = ap (λ (M : RuleList). M.width) v.found
+
+  pub visit_wide : length A ≡ F.list.width
+  visit_wide = wide ∙ sym width
+
+  pub visit_inside : from ≤ length F.buckets
+  visit_inside = omega (arith, v.at.inside, width, v.at.filed.room)
 
   module _ {B : Set} (b : B ≡ closure L A) where
     closure_is : B ≡ closure K A
@@ -150,104 +157,125 @@ module _ {S : List Rule} {K L : Context} {A : Set} {from : ℕ} {F : Watched} (v
                 (subst (λ (M : RuleList). IsGood M.members H.buckets X) (sym m.list) (kept_good G.list.members G.buckets H.buckets X (m.kept X h.part) (good_pushed X h good)));
           }
 
+-- ---- what is told
+
+match_weaker : {T A A' : Type 0} {B B' : T → Type 0} (o : Option T) → (A → A') → ((x : T) → B x → B' x) → MatchOption o A B → MatchOption o A' B'
+match_weaker None f h m = f m
+match_weaker (Some x) f h m = h x m
+
+told_weaker : {T E A A' : Type 0} {B B' : T → Type 0} (r : Result (Option T) E) → (A → A') → ((x : T) → B x → B' x) → IfOk r (λ o. MatchOption o A B) → IfOk r (λ o. MatchOption o A' B')
+told_weaker {A = A} {A' = A'} {B = B} {B' = B'} r f h m = IfOk-weaker r (λ o. MatchOption o A B) (λ o. MatchOption o A' B') (λ o. match_weaker o f h) m
+
 -- ---- below an intent
 
--- attribute i is tried, and all behind it were
-pub record IsTrying (S : List Rule) (K : Context) (A : Set) (from i : ℕ) (F G : Watched) : Type 0 where
-  pub on : from ≤ i
-  pub inside : i < K.width
-  pub found : HasFound S K A (suc i) (IsPart A) F G
-
-pub trying : {S : List Rule} {K : Context} {A : Set} {from j : ℕ} {F G : Watched} → j ≤ K.width → HasFound S K A j (IsPart A) F G → from < j → IsTrying S K A from (j - 1) F G
-trying {S = S} {K = K} {A = A} {j = j} {F = F} {G = G} le found lt =
-    let e : j ≡ suc (j - 1) = omega (arith, lt) in
-    record { on = omega (arith, lt); inside = omega (arith, le, lt); found = subst (λ k. HasFound S K A k (IsPart A) F G) e found }
-
-module _ {S : List Rule} {K L : Context} {A : Set} {from : ℕ} {F : Watched} (b : IsBelow S K L A from F) where
-  pub below_start : HasFound S K A K.width (IsPart A) F F
-  below_start = record { found = b.found; filed = b.at.filed; kept = λ X h good. good }
-
-  module _ {i : ℕ} {G : Watched} (t : IsTrying S K A from i F G) where
-    abbrev on : from ≤ i
-    on = t.on
-
-    abbrev inside : i < K.width
-    inside = t.inside
-
-    abbrev g : HasFound S K A (suc i) (IsPart A) F G
-    g = t.found
-
-    next : suc i ≡ i + 1
-    next = omega arith
-
-    -- an attribute that A has
-    pub below_member : get_or A i false ≡ true → HasFound S K A i (IsPart A) F G
-    below_member has = record {
-      found = g.found ∙ same_where S K (up_to (suc i) A) (up_to i A) (λ P w t. up_to_member i A P has);
-      filed = g.filed;
-      kept = g.kept;
+-- all behind attribute j - 1 were visited
+pub trying : {S : List Rule} {K L : Context} {A : Set} {from j i : ℕ} {F G : Watched} → IsBelow S K L A from F → j ≤ K.width → HasFound S K A j (IsPart A) F G → j ≡ suc i → from ≤ i → IsTrying S K L A i G
+trying {S = S} {K = K} {A = A} {from = from} {i = i} {F = F} {G = G} b le g e on =
+    record {
+      at = record {
+        holds = b.at.holds;
+        family = b.at.family;
+        inside = omega (arith, le, e);
+        near = b.at.near;
+        filed = g.filed;
+        good = g.kept A (within_refl A) b.at.good;
+      };
+      least = λ X x agree. b.least X x (agree_less from i A X on agree);
+      inside = omega (arith, le, e);
+      found = subst (λ k. G.list ≡ found_where S K (up_to k A)) e g.found;
     }
 
-    -- one that A lacks
-    module _ (lacks : get_or A i false ≡ false) {X : Set} (x : X ≡ set A i true) where
-      up : within A X ≡ true
-      up = subst (λ Y. within A Y ≡ true) (sym x) (within_set A i)
+pub below_start : {S : List Rule} {K L : Context} {A : Set} {from : ℕ} {F : Watched} → IsBelow S K L A from F → HasFound S K A K.width (IsPart A) F F
+below_start b = record { found = b.found; filed = b.at.filed; kept = λ X h good. good }
 
-      width_g : G.list.width ≡ K.width
-      width_g = ap (λ (M : RuleList). M.width) g.found
+-- one attribute after the other
+pub found_then : {S : List Rule} {K : Context} {A : Set} {j i : ℕ} {F G H : Watched} → HasFound S K A j (IsPart A) F G → HasFound S K A i (IsPart A) G H → HasFound S K A i (IsPart A) F H
+found_then x y = record { found = y.found; filed = y.filed; kept = λ X h good. y.kept X h (x.kept X h good) }
 
-      pub below_can_close : CanClose G i A X
-      below_can_close = record {
-        done_wide = b.at.family.wide ∙ sym width_g;
-        wide = ap length x ∙ length-set A i true ∙ b.at.family.wide ∙ sym width_g;
-        above = up;
-        agree = subst (λ Y. agree_before i A Y ≡ true) (sym x) (agree_with i A);
-        filed = g.filed;
-        covers = good_covers G.list.members G.buckets A X up (g.kept A (within_refl A) b.at.good);
+module _ {S : List Rule} {K L : Context} {A : Set} {i : ℕ} {G : Watched} (t : IsTrying S K L A i G) where
+  abbrev inside : i < K.width
+  inside = t.inside
+
+  on : i ≤ i
+  on = omega arith
+
+  next : suc i ≡ i + 1
+  next = omega arith
+
+  -- an attribute that A has
+  pub below_member : get_or A i false ≡ true → HasFound S K A i (IsPart A) G G
+  below_member has = record {
+    found = t.found ∙ same_where S K (up_to (suc i) A) (up_to i A) (λ P w e. up_to_member i A P has);
+    filed = t.at.filed;
+    kept = λ X h good. good;
+  }
+
+  -- one that A lacks
+  module _ (lacks : get_or A i false ≡ false) {X : Set} (x : X ≡ set A i true) where
+    up : within A X ≡ true
+    up = subst (λ Y. within A Y ≡ true) (sym x) (within_set A i)
+
+    width_g : G.list.width ≡ K.width
+    width_g = ap (λ (M : RuleList). M.width) t.found
+
+    pub below_can_close : CanClose G i A X
+    below_can_close = record {
+      done_wide = t.at.family.wide ∙ sym width_g;
+      wide = ap length x ∙ length-set A i true ∙ t.at.family.wide ∙ sym width_g;
+      above = up;
+      agree = subst (λ Y. agree_before i A Y ≡ true) (sym x) (agree_with i A);
+      filed = t.at.filed;
+      covers = good_covers G.list.members G.buckets A X up t.at.good;
+    }
+
+    module _ {H : Watched} (m : HasMoved A G H) where
+      good_moved : (Y : Set) → within Y A ≡ true → IsGood G.list.members G.buckets Y → IsGood H.list.members H.buckets Y
+      good_moved Y h good = subst (λ (M : RuleList). IsGood M.members H.buckets Y) (sym m.list) (kept_good G.list.members G.buckets H.buckets Y (m.kept Y h) good)
+
+      pub below_none : Differs G.list.members i A X → HasFound S K A i (IsPart A) G H
+      below_none differs = record {
+        found = m.list ∙ t.found ∙ tree.none_below S K A t.at.family.wide i i on inside t.least lacks
+            (λ T h r. differs T (subst (λ Y. within Y T ≡ true) (sym x) h) (subst (λ (M : RuleList). respects_all M.members T ≡ true) (sym t.found) r));
+        filed = m.filed;
+        kept = good_moved;
       }
 
-      module _ {H : Watched} (m : HasMoved A G H) where
-        good_moved : (Y : Set) → within Y A ≡ true → IsGood F.list.members F.buckets Y → IsGood H.list.members H.buckets Y
-        good_moved Y h good = subst (λ (M : RuleList). IsGood M.members H.buckets Y) (sym m.list) (kept_good G.list.members G.buckets H.buckets Y (m.kept Y h) (g.kept Y h good))
+      module _ {C : Set} (c : IsClosedBefore G.list.members H.buckets i A X C) where
+        closed : IsClosure (members_where S K (up_to (suc i) A)) (set A i true) C
+        closed = subst (λ (M : RuleList). IsClosure M.members (set A i true) C) t.found (subst (λ Y. IsClosure G.list.members Y C) x c.closure)
 
-        pub below_none : Differs G.list.members i A X → HasFound S K A i (IsPart A) F H
-        below_none differs = record {
-          found = m.list ∙ g.found ∙ tree.none_below S K A b.at.family.wide from i on inside b.least lacks
-              (λ T h r. differs T (subst (λ Y. within Y T ≡ true) (sym x) h) (subst (λ (M : RuleList). respects_all M.members T ≡ true) (sym g.found) r));
-          filed = m.filed;
-          kept = good_moved;
+        up_c : within A C ≡ true
+        up_c = tree.child_up S K A t.at.family.wide i i on inside t.least lacks C closed
+
+        pub below_visit : IsVisit S K L C (i + 1) H
+        below_visit = subst (λ k. IsVisit S K L C k H) next (record {
+          at = record {
+            holds = t.at.holds;
+            family = tree.child_family S K A t.at.family.wide i i on inside t.least lacks C closed c.agree;
+            inside = omega (arith, inside);
+            near = λ Y h. t.at.near Y (within_trans A C Y up_c h);
+            filed = m.filed;
+            good = subst (λ (M : RuleList). IsGood M.members H.buckets C) (sym m.list) c.good;
+          };
+          least = tree.child_least S K A t.at.family.wide i i on inside t.least lacks C closed c.agree;
+          found = m.list ∙ t.found ∙ tree.child_found S K A t.at.family.wide i i on inside t.least lacks C closed c.agree;
+          entered = λ k e. let one : i ≡ k = omega (arith, e) in subst (λ j. get_or C j false ≡ true) one (tree.child_has S K A t.at.family.wide i i on inside t.least lacks C closed);
+        })
+
+        pub below_visited : {I : Watched} → HasFound S K C (i + 1) (IsPartBefore C (i + 1)) H I → HasFound S K A i (IsPart A) G I
+        below_visited done = record {
+          found = done.found ∙ ap (λ k. found_where S K (up_to k C)) (sym next) ∙ tree.child_done S K A t.at.family.wide i i on inside t.least lacks C closed c.agree;
+          filed = done.filed;
+          kept = λ Y h good. done.kept Y (record {
+            part = within_trans Y A C h up_c;
+            attribute = i;
+            entered = sym next;
+            lacks = false_from_ne_true (get_or Y i false) (λ t. false≢true (sym lacks ∙ within_at_place Y A h i t));
+          }) (good_moved Y h good);
         }
 
-        module _ {C : Set} (c : IsClosedBefore G.list.members H.buckets i A X C) where
-          closed : IsClosure (members_where S K (up_to (suc i) A)) (set A i true) C
-          closed = subst (λ (M : RuleList). IsClosure M.members (set A i true) C) g.found (subst (λ Y. IsClosure G.list.members Y C) x c.closure)
-
-          up_c : within A C ≡ true
-          up_c = tree.child_up S K A b.at.family.wide from i on inside b.least lacks C closed
-
-          pub below_visit : IsVisit S K L C (i + 1) H
-          below_visit = subst (λ k. IsVisit S K L C k H) next (record {
-            at = record {
-              holds = b.at.holds;
-              family = tree.child_family S K A b.at.family.wide from i on inside b.least lacks C closed c.agree;
-              inside = omega (arith, inside);
-              near = λ Y h. b.at.near Y (within_trans A C Y up_c h);
-              filed = m.filed;
-              good = subst (λ (M : RuleList). IsGood M.members H.buckets C) (sym m.list) c.good;
-            };
-            least = tree.child_least S K A b.at.family.wide from i on inside b.least lacks C closed c.agree;
-            found = m.list ∙ g.found ∙ tree.child_found S K A b.at.family.wide from i on inside b.least lacks C closed c.agree;
-            entered = λ k e. let one : i ≡ k = omega (arith, e) in subst (λ j. get_or C j false ≡ true) one (tree.child_has S K A b.at.family.wide from i on inside b.least lacks C closed);
-          })
-
-          pub below_visited : {I : Watched} → HasFound S K C (i + 1) (IsPartBefore C (i + 1)) H I → HasFound S K A i (IsPart A) F I
-          below_visited done = record {
-            found = done.found ∙ ap (λ k. found_where S K (up_to k C)) (sym next) ∙ tree.child_done S K A b.at.family.wide from i on inside b.least lacks C closed c.agree;
-            filed = done.filed;
-            kept = λ Y h good. done.kept Y (record {
-              part = within_trans Y A C h up_c;
-              attribute = i;
-              entered = sym next;
-              lacks = false_from_ne_true (get_or Y i false) (λ t. false≢true (sym lacks ∙ within_at_place Y A h i t));
-            }) (good_moved Y h good);
-          }
+        -- the same of what is left behind an intent
+        pub below_told : {E : Type 0} (I : Watched) (r : Result (Option Set) E)
+            → IfOk r (λ o. MatchOption o (HasFound S K C (i + 1) (IsPartBefore C (i + 1)) H I) (λ b. (J : Watched) → HasFound S K b (i + 1) (IsPart b) I J → HasFound S K C (i + 1) (IsPartBefore C (i + 1)) H J))
+            → IfOk r (λ o. MatchOption o (HasFound S K A i (IsPart A) G I) (λ b. (J : Watched) → HasFound S K b (i + 1) (IsPart b) I J → HasFound S K A i (IsPart A) G J))
+        below_told I r told = told_weaker r below_visited (λ b done J h. below_visited (done J h)) told

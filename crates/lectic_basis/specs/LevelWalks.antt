@@ -2,7 +2,7 @@
 --
 -- The walk looks at the sets that respect the list and agree with A before an attribute. It keeps the least size of those seen so far that are not closed, and
 -- the sets of that size: a branch whose sets are larger is not entered.
-use Rattle.std.specs.Prelude.{◌≡◌, ℕ, ◌≤◌, true, length, List}
+use Rattle.std.specs.Prelude.{◌≡◌, ℕ, suc, ◌<◌, ◌≤◌, true, length, List}
 use Rattle.fca_model.specs.Sets.{Set, within}
 use Rattle.fca_model.specs.Context.{Context}
 use Rattle.fca_model.specs.Implications.{Rule, respects_all}
@@ -30,6 +30,12 @@ pub record IsEntered (K L : Context) (A : Set) (from : ℕ) (F : Watched) (b : �
 pub record IsLeft (K L : Context) (A : Set) (from : ℕ) (F : Watched) (b : ℕ) (Ls : List Rule) : Type 0 where
   pub at : IsInside K L A from F
   pub level : IsLeastLevel F.list.members K b (up_to K.width A) Ls
+
+-- attribute i is to be tried below the intent A, and all behind it were
+pub record IsTrying (K L : Context) (A : Set) (i : ℕ) (F : Watched) (b : ℕ) (Ls : List Rule) : Type 0 where
+  pub at : IsInside K L A i F
+  pub level : IsLeastLevel F.list.members K b (up_to (suc i) A) Ls
+  pub inside : i < K.width
 
 -- all that agree with A before attribute i were visited, and each good set within A is good as it was
 pub record HasLevel (K : Context) (A : Set) (i : ℕ) (old new : Watched) (b : ℕ) (Ls : List Rule) : Type 0 where

@@ -2,7 +2,7 @@
 --
 -- A walk below a set A looks at the sets of the family that agree with A before an attribute, and the members found so far are those whose premise comes
 -- before them. So what a set asks for is one fact, that all sets below it contain it, and the members that wait.
-use Rattle.std.specs.Prelude.{◌≡◌, ◌≤◌, ℕ, suc, true, false, List, slice_index_or}
+use Rattle.std.specs.Prelude.{◌≡◌, ◌<◌, ◌≤◌, ℕ, suc, true, false, List, slice_index_or}
 use Rattle.std.specs.List.{list_all}
 use Rattle.fca_model.specs.Sets.{Set, within}
 use Rattle.fca_model.specs.Context.{Context}
@@ -31,6 +31,13 @@ pub record IsBelow (S : List Rule) (K L : Context) (A : Set) (from : ℕ) (F : W
   pub at : IsAt S K L A from F
   pub least : IsLeastBehind S K A from
   pub found : F.list ≡ found_where S K (up_to K.width A)
+
+-- attribute i is to be tried below the intent A, and all behind it were
+pub record IsTrying (S : List Rule) (K L : Context) (A : Set) (i : ℕ) (F : Watched) : Type 0 where
+  pub at : IsAt S K L A i F
+  pub least : IsLeastBehind S K A i
+  pub inside : i < K.width
+  pub found : F.list ≡ found_where S K (up_to (suc i) A)
 
 -- all that agree with A before attribute i were visited, and each good set of the test is good as it was
 pub record HasFound (S : List Rule) (K : Context) (A : Set) (i : ℕ) (keeps : Set → Type 0) (old new : Watched) : Type 0 where

@@ -8,17 +8,17 @@ ghost use Rattle.lectic_concepts.specs.Branches.{agree_before};
 ghost use Rattle.lectic_basis.specs.Watches.{bucket, CanClose, Differs, HasMoved, IsClosedBefore, IsSettling, IsSorted};
 
 use crate::watched_list::WatchedList;
-use attr_bits::Attrs;
+use attr_bits::Bits;
 use fca_model::Memory;
 
 /// The closure of x, which contains `done`, under the members; or nothing where it differs from `done` before the limit. Members that wait for an attribute
 /// of the closure wait for another from then on.
-pub(crate) fn close(
-    found: &mut WatchedList,
-    done: &Attrs,
-    x: &Attrs,
+pub(crate) fn close<const W: usize>(
+    found: &mut WatchedList<W>,
+    done: &Bits<W>,
+    x: &Bits<W>,
     limit: u32,
-) -> Result<Option<Attrs>, Memory>
+) -> Result<Option<Bits<W>>, Memory>
     requires { CanClose found.old limit done.now x.now }
     ensures moved { OnOk result (HasMoved done.now found.old found.new) }
     ensures closure { IfOk result (λ closed. MatchOption closed (Differs found.old.list.members limit done.now x.now)
@@ -38,12 +38,12 @@ pub(crate) fn close(
 
 /// Looks through the bucket of attribute z of the set, which takes in conclusions. Whether it still agrees with `done` before the limit; if not, the rest of
 /// the bucket is not looked at.
-fn settle(
-    found: &mut WatchedList,
+fn settle<const W: usize>(
+    found: &mut WatchedList<W>,
     z: u32,
-    done: &Attrs,
+    done: &Bits<W>,
     limit: u32,
-    closed: &mut Attrs,
+    closed: &mut Bits<W>,
 ) -> Result<bool, Memory>
     requires room { length found.old.buckets ≡ length closed.old }
     requires member { slice_index_or closed.old z false ≡ true }
@@ -56,6 +56,7 @@ fn settle(
     ensures finished { IfOk result (λ finished. finished ≡ true → list_all (λ i. within i.conclusion closed.new) (bucket z found.new.buckets) ≡ true) }
     ensures agree { IfOk result (λ finished. finished ≡ agree_before limit done.now closed.new) }
 {
+    let _width = found.width();
     let mut k = 0;
     while k < found.count(z) {
         match found.premise(z, k).first_missing(closed) {
@@ -73,7 +74,7 @@ fn settle(
 }
 
 /// Whether the larger set agrees with a before attribute `from`.
-pub(crate) fn agrees(a: &Attrs, larger: &Attrs, from: u32) -> bool
+pub(crate) fn agrees<const W: usize>(a: &Bits<W>, larger: &Bits<W>, from: u32) -> bool
     requires { within a.now larger.now ≡ true }
     ensures { result ≡ agree_before from a.now larger.now }
 {

@@ -1,69 +1,190 @@
 //! The next level of the basis that has a member, by a walk that keeps nothing but its path. The sets that respect a list are visited in lectic order, and none
 //! that is larger than the least open one seen so far.
 
-ghost use Rattle.std.specs.Prelude.{◌≡◌, ◌≤◌, ◌+◌, ◌++◌, ℕ, List, OnOk, IfOk};
+ghost use Rattle.std.specs.Prelude.{◌≡◌, ◌≤◌, ◌+◌, ◌++◌, ℕ, List, OnOk, IfOk, IfSome, MatchOption, true, false};
 ghost use Rattle.fca_model.specs.Implications.{Rule};
 ghost use Rattle.fca_model.specs.Levels.{HasBelow};
+ghost use Rattle.implication_closure.specs.Closing.{HaveWidth};
+ghost use Rattle.lectic_basis.specs.Watches.{Watched};
 ghost use Rattle.lectic_basis.specs.NextLevel.{IsNextLevel};
-ghost use Rattle.lectic_basis.specs.LevelWalks.{IsEntered, IsLeft, HasLevel};
+ghost use Rattle.lectic_basis.specs.LevelWalks.{IsEntered, IsLeft, IsTrying, HasLevel};
 
 use crate::closing::close;
+use crate::narrow_list::rules_in_words;
 use crate::tree::pays;
 use crate::watched_list::WatchedList;
-use attr_bits::Attrs;
-use derivation::Rows;
-use fca_model::Memory;
-use implication_closure::{Implication, ImplicationList};
+use attr_bits::{Attrs, Bits, WORDS};
+use derivation::{Rows, RowsOf};
+use fca_model::{Implication, Memory};
+use implication_closure::ImplicationList;
+use lectic_concepts::{FOUR_WORDS, ONE_WORD};
 use std::alloc::Global;
 
-/// A level of the basis: the size of its premises, and its members in lectic order.
+/// A level of the basis: the size of its premises, and its members in lectic order, with sets of W words.
 #[derive(Drop)]
-pub struct Level {
+pub struct LevelOf<const W: usize> {
     pub size: u32,
-    pub members: Vec<Implication>,
+    pub members: Vec<Implication<Bits<W>>>,
 }
 
+/// A level of the basis of any table.
+pub type Level = LevelOf<WORDS>;
+
 /// The next level that has a member, past the width where there is none. The rules are the known implications and, behind them, the members of the basis below a
-/// size. (Kuznetsov, "A fast algorithm for computing all intersections of objects in a finite semi-lattice", 1993, for the tree.)
+/// size. It is found in sets as narrow as the table. (Kuznetsov, "A fast algorithm for computing all intersections of objects in a finite semi-lattice", 1993,
+/// for the tree.)
 pub fn next_level(alloc: Global, rows: &Rows, rules: &ImplicationList) -> Result<Level, Memory>
     requires wide { rules.now.width ≡ rows.now.width }
     ensures { (known found : List Rule) (reached : ℕ) → rules.now.members ≡ known ++ found → HasBelow known rows.now reached found → reached ≤ rows.now.width + 1
         → IfOk result (λ level. IsNextLevel known rows.now found level.size level.members.items) }
 {
-    let least = rules.naive_closure(&Attrs::empty(rows.width()));
+    let width = rows.width();
+    if width <= ONE_WORD {
+        let found = level_of(alloc, &rows.resized::<1>(alloc)?, rules)?;
+        return in_all_words(alloc, width, &found);
+    }
+    if width <= FOUR_WORDS {
+        let found = level_of(alloc, &rows.resized::<4>(alloc)?, rules)?;
+        return in_all_words(alloc, width, &found);
+    }
+    level_of(alloc, rows, rules)
+}
+
+/// The same level in all words.
+fn in_all_words<const W: usize>(
+    alloc: Global,
+    width: u32,
+    level: &LevelOf<W>,
+) -> Result<Level, Memory>
+    requires words { W ≤ 1024 }
+    requires fits { width ≤ 1024 }
+    requires even { HaveWidth width level.now.members.items }
+    ensures { IfOk result (λ wide. (wide.size ≡ level.now.size) × (wide.members.items ≡ level.now.members.items)) }
+{
+    Ok(LevelOf {
+        size: level.size,
+        members: rules_in_words(alloc, width, &level.members)?,
+    })
+}
+
+/// The next level, with sets of the words that the rows have.
+fn level_of<const W: usize>(
+    alloc: Global,
+    rows: &RowsOf<W>,
+    rules: &ImplicationList,
+) -> Result<LevelOf<W>, Memory>
+    requires wide { rules.now.width ≡ rows.now.width }
+    ensures next { (known found : List Rule) (reached : ℕ) → rules.now.members ≡ known ++ found → HasBelow known rows.now reached found → reached ≤ rows.now.width + 1
+        → IfOk result (λ level. IsNextLevel known rows.now found level.size level.members.items) }
+    ensures even { IfOk result (λ level. HaveWidth rows.now.width level.members.items) }
+{
+    let width = rows.width();
+    let least = rules.naive_closure(&Attrs::empty(rules.width()));
     let mut found = WatchedList::of(alloc, rules, &least)?;
-    let mut level = Level {
-        size: rows.width() + 1,
+    let mut level = LevelOf {
+        size: width + 1,
         members: Vec::new(alloc),
     };
-    enter(alloc, rows, rows, &mut found, &mut level, &least, 0)?;
+    enter_all(alloc, rows, &mut found, &mut level, &least.resized(), 0)?;
     Ok(level)
 }
 
-/// Visits a, and then all that agree with it before attribute `from`. The rows above are enough for closures of sets that contain a.
-#[cycle(levels)]
-fn enter(
+/// Visits a, and then all that agree with it before attribute `from`.
+fn enter_all<const W: usize>(
     alloc: Global,
-    rows: &Rows,
-    above: &Rows,
-    found: &mut WatchedList,
-    level: &mut Level,
-    a: &Attrs,
+    rows: &RowsOf<W>,
+    found: &mut WatchedList<W>,
+    level: &mut LevelOf<W>,
+    a: &Bits<W>,
     from: u32,
 ) -> Result<(), Memory>
-    requires { IsEntered rows.now above.now a.now from found.old level.old.size level.old.members.items }
+    requires { IsEntered rows.now rows.now a.now from found.old level.old.size level.old.members.items }
     ensures { OnOk result (HasLevel rows.now a.now from found.old found.new level.new.size level.new.members.items) }
 {
+    let _width = rows.width();
+    if enter(rows, rows, found, level, a, from)? {
+        return try_each(alloc, rows, rows, found, level, a, from);
+    }
+    Ok(())
+}
+
+/// Visits all that agree with the intent a before attribute `from` and come behind it. The rows above are enough for closures of sets that contain a; those
+/// that contain a child are set apart first, where that pays.
+fn try_each<const W: usize>(
+    alloc: Global,
+    rows: &RowsOf<W>,
+    above: &RowsOf<W>,
+    found: &mut WatchedList<W>,
+    level: &mut LevelOf<W>,
+    a: &Bits<W>,
+    from: u32,
+) -> Result<(), Memory>
+    requires { IsLeft rows.now above.now a.now from found.old level.old.size level.old.members.items }
+    ensures { OnOk result (HasLevel rows.now a.now from found.old found.new level.new.size level.new.members.items) }
+{
+    for i in (from..rows.width()).rev() {
+        if let Some(child) = child_at(rows, above, found, level, a, i)? {
+            if pays(above, &child, i + 1) {
+                let near = rows_near(alloc, rows, above, found, level, &child, i + 1)?;
+                try_each(alloc, rows, &near, found, level, &child, i + 1)?;
+            } else {
+                try_each(alloc, rows, above, found, level, &child, i + 1)?;
+            }
+        }
+    }
+    Ok(())
+}
+
+/// Enters the least set that contains a and attribute i and respects the list, if a lacks i and the set agrees with a before it. Where more is left there, it
+/// is behind the intent that is told.
+fn child_at<const W: usize>(
+    rows: &RowsOf<W>,
+    above: &RowsOf<W>,
+    found: &mut WatchedList<W>,
+    level: &mut LevelOf<W>,
+    a: &Bits<W>,
+    i: u32,
+) -> Result<Option<Bits<W>>, Memory>
+    requires { IsTrying rows.now above.now a.now i found.old level.old.size level.old.members.items }
+    ensures left { IfOk result (λ child. IfSome child (λ b. IsLeft rows.now above.now b (i + 1) found.new level.new.size level.new.members.items)) }
+    ensures done { IfOk result (λ child. MatchOption child
+        (HasLevel rows.now a.now i found.old found.new level.new.size level.new.members.items)
+        (λ b. (new : Watched) (size : ℕ) (members : List Rule) → HasLevel rows.now b (i + 1) found.new new size members → HasLevel rows.now a.now i found.old new size members)) }
+{
+    let _width = rows.width();
+    if a.has(i) {
+        return Ok(None);
+    }
+    let Some(closed) = close(found, a, &a.with(i), i)? else {
+        return Ok(None);
+    };
+    if enter(rows, above, found, level, &closed, i + 1)? {
+        return Ok(Some(closed));
+    }
+    Ok(None)
+}
+
+/// Visits a alone. Whether it is an intent, and what agrees with it before attribute `from` may have what is looked for.
+fn enter<const W: usize>(
+    rows: &RowsOf<W>,
+    above: &RowsOf<W>,
+    found: &WatchedList<W>,
+    level: &mut LevelOf<W>,
+    a: &Bits<W>,
+    from: u32,
+) -> Result<bool, Memory>
+    requires { IsEntered rows.now above.now a.now from found.now level.old.size level.old.members.items }
+    ensures left { IfOk result (λ left. left ≡ true → IsLeft rows.now above.now a.now from found.now level.new.size level.new.members.items) }
+    ensures done { IfOk result (λ left. left ≡ false → HasLevel rows.now a.now from found.now found.now level.new.size level.new.members.items) }
+{
+    let _width = rows.width();
     let count = a.size();
     if count > level.size {
-        return Ok(());
+        return Ok(false);
     }
     let closed = above.closure(a);
     if closed == *a {
-        if count == level.size {
-            return Ok(());
-        }
-        return leave(alloc, rows, above, found, level, a, from);
+        return Ok(count < level.size);
     }
     let member = Implication {
         premise: *a,
@@ -71,55 +192,26 @@ fn enter(
     };
     if count == level.size {
         level.members.push(member)?;
-        return Ok(());
+        return Ok(false);
     }
     level.size = count;
     level.members.clear();
     level.members.push(member)?;
-    Ok(())
+    Ok(false)
 }
 
-/// Visits all that agree with the intent a before attribute `from` and come behind it, with the rows that contain a set apart where that pays.
-#[cycle(levels)]
-fn leave(
+/// The rows that contain the intent a, which are enough for what is behind it.
+fn rows_near<const W: usize>(
     alloc: Global,
-    rows: &Rows,
-    above: &Rows,
-    found: &mut WatchedList,
-    level: &mut Level,
-    a: &Attrs,
+    rows: &RowsOf<W>,
+    above: &RowsOf<W>,
+    found: &WatchedList<W>,
+    level: &LevelOf<W>,
+    a: &Bits<W>,
     from: u32,
-) -> Result<(), Memory>
-    requires { IsLeft rows.now above.now a.now from found.old level.old.size level.old.members.items }
-    ensures { OnOk result (HasLevel rows.now a.now from found.old found.new level.new.size level.new.members.items) }
+) -> Result<RowsOf<W>, Memory>
+    requires { IsLeft rows.now above.now a.now from found.now level.now.size level.now.members.items }
+    ensures { IfOk result (λ near. IsLeft rows.now near a.now from found.now level.now.size level.now.members.items) }
 {
-    if !pays(above, a, from) {
-        return try_each(alloc, rows, above, found, level, a, from);
-    }
-    let near = above.containing(alloc, a)?;
-    try_each(alloc, rows, &near, found, level, a, from)
-}
-
-/// The same, by these rows.
-#[cycle(levels)]
-fn try_each(
-    alloc: Global,
-    rows: &Rows,
-    above: &Rows,
-    found: &mut WatchedList,
-    level: &mut Level,
-    a: &Attrs,
-    from: u32,
-) -> Result<(), Memory>
-    requires { IsLeft rows.now above.now a.now from found.old level.old.size level.old.members.items }
-    ensures { OnOk result (HasLevel rows.now a.now from found.old found.new level.new.size level.new.members.items) }
-{
-    for i in (from..rows.width()).rev() {
-        if !a.has(i) {
-            if let Some(closed) = close(found, a, &a.with(i), i)? {
-                enter(alloc, rows, above, found, level, &closed, i + 1)?;
-            }
-        }
-    }
-    Ok(())
+    above.containing(alloc, a)
 }

@@ -4,6 +4,7 @@
 
 mod closing;
 mod levels;
+mod narrow_list;
 #[cfg(test)]
 mod tests;
 mod tree;
@@ -15,16 +16,18 @@ ghost use Rattle.fca_model.specs.Implications.{holds};
 ghost use Rattle.fca_model.specs.Pseudo.{basis_known};
 
 use attr_bits::Attrs;
-use derivation::Rows;
+use derivation::{Rows, RowsOf};
 use fca_model::Memory;
 use implication_closure::ImplicationList;
-pub use levels::{Level, next_level};
+use lectic_concepts::{FOUR_WORDS, ONE_WORD};
+pub use levels::{Level, LevelOf, next_level};
 use std::alloc::Global;
-use tree::visit;
+use tree::visit_all;
 use watched_list::WatchedList;
 
-/// The known implications, and behind them the basis relative to them, in lectic order of the premises. (Ganter, "Two basic algorithms in concept analysis",
-/// 1984, for the order; Janostik, Konecny and Krajca, "LinCbO", 2021, for the tree; Moskewicz and others, "Chaff", 2001, for what waits.)
+/// The known implications, and behind them the basis relative to them, in lectic order of the premises. It is found in sets as narrow as the table. (Ganter, "Two
+/// basic algorithms in concept analysis", 1984, for the order; Janostik, Konecny and Krajca, "LinCbO", 2021, for the tree; Moskewicz and others, "Chaff", 2001,
+/// for what waits.)
 pub fn basis_watched(
     alloc: Global,
     rows: &Rows,
@@ -34,8 +37,29 @@ pub fn basis_watched(
     requires holds { list_all (holds rows.now) known.now.members ≡ true }
     ensures { IfOk result (λ list. list ≡ record { width = rows.now.width; members = known.now.members ++ basis_known known.now.members rows.now }) }
 {
-    let least = known.naive_closure(&Attrs::empty(rows.width()));
+    let width = rows.width();
+    if width <= ONE_WORD {
+        return basis_of(alloc, &rows.resized::<1>(alloc)?, known);
+    }
+    if width <= FOUR_WORDS {
+        return basis_of(alloc, &rows.resized::<4>(alloc)?, known);
+    }
+    basis_of(alloc, rows, known)
+}
+
+/// The same, with sets of the words that the rows have.
+fn basis_of<const W: usize>(
+    alloc: Global,
+    rows: &RowsOf<W>,
+    known: &ImplicationList,
+) -> Result<ImplicationList, Memory>
+    requires wide { known.now.width ≡ rows.now.width }
+    requires holds { list_all (holds rows.now) known.now.members ≡ true }
+    ensures { IfOk result (λ list. list ≡ record { width = rows.now.width; members = known.now.members ++ basis_known known.now.members rows.now }) }
+{
+    let _width = rows.width();
+    let least = known.naive_closure(&Attrs::empty(known.width()));
     let mut found = WatchedList::of(alloc, known, &least)?;
-    visit(alloc, rows, rows, known, &mut found, &least, 0)?;
-    Ok(found.into_list())
+    visit_all(alloc, rows, known, &mut found, &least.resized(), 0)?;
+    found.into_list(alloc)
 }

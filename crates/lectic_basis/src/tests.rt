@@ -42,3 +42,20 @@ fn two_levels(rt: HostRuntime) -> Result<(), Memory> {
     assert!(&rt; second.members[1].premise == none.with(0).with(2));
     Ok(())
 }
+
+// Seventy attributes, which take more than one word, and one object that has the last alone.
+#[test]
+fn more_than_one_word(rt: HostRuntime) -> Result<(), Memory> {
+    let none = Attrs::empty(70);
+    let mut rows = Rows::new(rt.alloc(), 70)?;
+    rows.push(none.with(69))?;
+    let known = ImplicationList::new(rt.alloc(), 70)?;
+    let found = basis_watched(rt.alloc(), &rows, &known)?;
+    let members = found.as_slice();
+    assert!(&rt; members.len() == 70);
+    assert!(&rt; members[69].premise == none.with(0).with(69));
+    assert!(&rt; members[69].conclusion == Attrs::full(70));
+    let level = next_level(rt.alloc(), &rows, &known)?;
+    assert!(&rt; level.size == 0 && level.members.len() == 1);
+    Ok(())
+}

@@ -1,32 +1,33 @@
 //! A list of implications, each of which may wait for an attribute of its premise.
 
-ghost use Rattle.std.specs.Prelude.{◌≡◌, ◌≢◌, ◌<◌, ◌≤◌, ◌++◌, ◌∷◌, [], ℕ, true, length, map, OnOk, IfOk};
+ghost use Rattle.std.specs.Prelude.{◌≡◌, ◌≢◌, ◌<◌, ◌≤◌, ◌*◌, ◌++◌, ◌∷◌, [], ℕ, true, length, map, OnOk, IfOk};
 ghost use Rattle.fca_model.specs.Implications.{respects_all};
 ghost use Rattle.implication_closure.specs.Closing.{HaveWidth};
 ghost use Rattle.lectic_basis.specs.Watches.{bucket, member_at, waiting_at, IsFiled, IsGood, IsMoved, IsPut, IsPutBefore};
 
-use attr_bits::Attrs;
-use fca_model::Memory;
-use implication_closure::{Implication, ImplicationList};
+use crate::narrow_list::NarrowList;
+use attr_bits::{Attrs, Bits};
+use fca_model::{Implication, Memory};
+use implication_closure::ImplicationList;
 use std::alloc::Global;
 use std::marker::Model;
 
 /// A member that waits: its premise, and its place in the list.
 #[derive(Clone, Copy)]
-struct Entry {
-    premise: Attrs,
+struct Entry<const W: usize> {
+    premise: Bits<W>,
     place: usize,
 }
 
 /// The list, and for each attribute the members that wait for it.
 #[derive(Drop)]
-pub(crate) struct WatchedList {
-    list: ImplicationList,
-    buckets: Vec<Vec<Entry>>,
+pub(crate) struct WatchedList<const W: usize> {
+    list: NarrowList<W>,
+    buckets: Vec<Vec<Entry<W>>>,
 }
 
-impl Model for WatchedList {
-    ghost use Rattle.std.specs.Prelude.{map};
+impl<const W: usize> Model for WatchedList<W> {
+    ghost use Rattle.std.specs.Prelude.{◌≤◌, map};
     ghost use Rattle.lectic_basis.specs.Watches.{Watched, member_at};
     ghost use Rattle.lectic_basis.specs.Entries.{HaveEntries};
 
@@ -34,16 +35,18 @@ impl Model for WatchedList {
 
     ghost view = { λ a. record { list = a.list; buckets = map (map (λ e. member_at a.list.members e.place)) (map (λ v. v.items) a.buckets.items) } };
 
-    ghost invariant = { λ a. HaveEntries (λ e. e.premise) (λ e. e.place) a.list.members (map (λ v. v.items) a.buckets.items) };
+    ghost invariant = { λ a. record { words : W ≤ 1024; entries : HaveEntries (λ e. e.premise) (λ e. e.place) a.list.members (map (λ v. v.items) a.buckets.items) } };
 }
 
-impl WatchedList {
+impl<const W: usize> WatchedList<W> {
     /// The same implications. Each waits for an attribute outside x, or has its conclusion within x.
     pub(crate) fn of(
         alloc: Global,
         list: &ImplicationList,
         x: &Attrs,
-    ) -> Result<WatchedList, Memory>
+    ) -> Result<WatchedList<W>, Memory>
+        requires words { W ≤ 1024 }
+        requires fits { list.now.width ≤ 64 * W }
         requires wide { length x.now ≡ list.now.width }
         requires respecting { respects_all list.now.members x.now ≡ true }
         ensures list { IfOk result (λ watched. watched.list ≡ list.now) }
@@ -60,16 +63,16 @@ impl WatchedList {
     }
 
     /// The same implications, of which none waits.
-    fn new(alloc: Global, list: &ImplicationList) -> Result<WatchedList, Memory>
+    fn new(alloc: Global, list: &ImplicationList) -> Result<WatchedList<W>, Memory>
+        requires words { W ≤ 1024 }
+        requires fits { list.now.width ≤ 64 * W }
         ensures list { IfOk result (λ watched. watched.list ≡ list.now) }
         ensures room { IfOk result (λ watched. length watched.buckets ≡ list.now.width) }
         ensures empty { IfOk result (λ watched. (w : ℕ) → bucket w watched.buckets ≡ []) }
     {
-        let mut copy = ImplicationList::new(alloc, list.width())?;
-        copy.extend_from_slice(list.as_slice())?;
         let buckets = empty_buckets(alloc, list.width())?;
         Ok(WatchedList {
-            list: copy,
+            list: NarrowList::of(alloc, list)?,
             buckets,
         })
     }
@@ -78,15 +81,16 @@ impl WatchedList {
     pub(crate) fn width(&self) -> u32
         ensures width { result ≡ self.now.list.width }
         ensures even { HaveWidth self.now.list.width self.now.list.members }
+        ensures words { W ≤ 1024 }
     {
         self.list.width()
     }
 
     /// The list, with nothing that waits.
-    pub(crate) fn into_list(self) -> ImplicationList
-        ensures { result ≡ self.list }
+    pub(crate) fn into_list(self, alloc: Global) -> Result<ImplicationList, Memory>
+        ensures { IfOk result (λ list. list ≡ self.entry.list) }
     {
-        self.list
+        self.list.widened(alloc)
     }
 
     /// How many members wait for attribute w.
@@ -98,7 +102,7 @@ impl WatchedList {
     }
 
     /// The entry at place k of the bucket of attribute w.
-    fn entry(&self, w: u32, k: usize) -> Entry
+    fn entry(&self, w: u32, k: usize) -> Entry<W>
         requires inside { w < length self.now.buckets }
         requires there { k < length (bucket w self.now.buckets) }
         ensures place { result.place < length self.now.list.members }
@@ -109,20 +113,22 @@ impl WatchedList {
     }
 
     /// The premise at place k of the bucket of attribute w.
-    pub(crate) fn premise(&self, w: u32, k: usize) -> Attrs
+    pub(crate) fn premise(&self, w: u32, k: usize) -> Bits<W>
         requires inside { w < length self.now.buckets }
         requires there { k < length (bucket w self.now.buckets) }
         ensures { result ≡ (waiting_at w k self.now.buckets).premise }
     {
+        let _width = self.width();
         self.entry(w, k).premise
     }
 
     /// The conclusion at place k of the bucket of attribute w.
-    pub(crate) fn conclusion(&self, w: u32, k: usize) -> Attrs
+    pub(crate) fn conclusion(&self, w: u32, k: usize) -> Bits<W>
         requires inside { w < length self.now.buckets }
         requires there { k < length (bucket w self.now.buckets) }
         ensures { result ≡ (waiting_at w k self.now.buckets).conclusion }
     {
+        let _width = self.width();
         let place = self.entry(w, k).place;
         self.list.as_slice()[place].conclusion
     }
@@ -143,12 +149,16 @@ impl WatchedList {
     }
 
     /// Puts the implication last; it waits for the attribute before `from`, if there is one.
-    pub(crate) fn push_before(&mut self, member: Implication, from: u32) -> Result<(), Memory>
+    pub(crate) fn push_before(
+        &mut self,
+        member: Implication<Bits<W>>,
+        from: u32,
+    ) -> Result<(), Memory>
         requires premise { length member.premise ≡ self.old.list.width }
         requires conclusion { length member.conclusion ≡ self.old.list.width }
         requires inside { from ≤ length self.old.buckets }
-        ensures list { OnOk result (self.new.list ≡ record { width = self.old.list.width; members = self.old.list.members ++ member ∷ [] }) }
-        ensures put { OnOk result (IsPutBefore from self.old.buckets self.new.buckets member) }
+        ensures list { OnOk result (self.new.list ≡ record { width = self.old.list.width; members = self.old.list.members ++ member.entry ∷ [] }) }
+        ensures put { OnOk result (IsPutBefore from self.old.buckets self.new.buckets member.entry) }
     {
         let place = self.list.as_slice().len();
         self.push(member)?;
@@ -159,10 +169,10 @@ impl WatchedList {
     }
 
     /// Puts the implication last. It does not wait.
-    fn push(&mut self, member: Implication) -> Result<(), Memory>
+    fn push(&mut self, member: Implication<Bits<W>>) -> Result<(), Memory>
         requires premise { length member.premise ≡ self.old.list.width }
         requires conclusion { length member.conclusion ≡ self.old.list.width }
-        ensures list { OnOk result (self.new.list ≡ record { width = self.old.list.width; members = self.old.list.members ++ member ∷ [] }) }
+        ensures list { OnOk result (self.new.list ≡ record { width = self.old.list.width; members = self.old.list.members ++ member.entry ∷ [] }) }
         ensures buckets { OnOk result (self.new.buckets ≡ self.old.buckets) }
     {
         self.list.push(member)?;
@@ -183,7 +193,8 @@ impl WatchedList {
 }
 
 /// As many empty buckets.
-fn empty_buckets(alloc: Global, n: u32) -> Result<Vec<Vec<Entry>>, Memory>
+fn empty_buckets<const W: usize>(alloc: Global, n: u32) -> Result<Vec<Vec<Entry<W>>>, Memory>
+    requires words { W ≤ 1024 }
     ensures room { IfOk result (λ buckets. length buckets.items ≡ n) }
     ensures empty { IfOk result (λ buckets. (w : ℕ) → bucket w (map (λ v. v.items) buckets.items) ≡ []) }
 {

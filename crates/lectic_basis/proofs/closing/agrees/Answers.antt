@@ -6,10 +6,10 @@ use Rattle.lectic_basis.proofs.TreeLemmas.{agrees_none, agrees_some, differs_som
 use Rattle.lectic_basis.proofs.closing.agrees.Goals as goal
 
 pub returns-in-None : goal.returns-in-None
-returns-in-None c = sym (agrees_none c.args.from c.args.a.now c.args.larger.now c.requires (sym c.first_missing.ensures ∙ c.in-None.is))
+returns-in-None g c = sym (agrees_none c.args.from c.args.a.now c.args.larger.now c.requires (sym c.first_missing.ensures ∙ c.in-None.is))
 
 pub returns-in-Some : goal.returns-in-Some
-returns-in-Some c =
+returns-in-Some g c =
     let A : Set = c.args.a.now in
     let C : Set = c.args.larger.now in
     let new : ℕ = c.in-Some.new in

@@ -4,10 +4,10 @@ use Rattle.lectic_basis.proofs.WatchLemmas.{IsClosing}
 use Rattle.lectic_basis.proofs.closing.close.Given as goal
 
 abbrev pub invariant-loop-z : goal.invariant-loop-z
-invariant-loop-z l = record {
+invariant-loop-z g l = record {
   list : l.found.list ≡ l.fn.found.list;
   closing : IsClosing l.fn.found.list.width l.fn.found.list.members l.limit l.done l.x l.seen l.closed l.fn.found.buckets l.found.buckets;
 }
 
 abbrev pub decreases-loop-z : goal.decreases-loop-z
-decreases-loop-z l = l.fn.found.list.width - size l.seen
+decreases-loop-z g l = l.fn.found.list.width - size l.seen

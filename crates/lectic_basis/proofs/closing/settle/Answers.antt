@@ -1,4 +1,4 @@
-use Rattle.std.proofs.Common.{◌≡◌, ◌<◌, ◌≤◌, true, false, length, get_or, refl, sym, ap, ◌∙◌, subst, arith}
+use Rattle.std.proofs.Common.{◌≡◌, ◌≢◌, ◌<◌, ◌≤◌, true, false, length, get_or, refl, sym, ap, ◌∙◌, subst, arith}
 use Rattle.std.proofs.lemmas.Bool.{false≢true}
 use Rattle.fca_model.specs.Sets.{Set, within, join}
 use Rattle.fca_model.specs.Implications.{Rule}
@@ -12,23 +12,20 @@ use Rattle.lectic_basis.proofs.WatchLemmas as watch
 use Rattle.lectic_basis.proofs.closing.settle.Goals as goal
 
 pub loop-k-init : goal.loop-k-init
-loop-k-init c = record { list = refl; settling = watch.settle_start c.requires.sorted; agree = c.requires.agree }
+loop-k-init g c = record { list = refl; settling = watch.settle_start c.requires.sorted; agree = c.requires.agree }
 
-pub move_to-requires-clause-other_inside : goal.move_to-requires-clause-other_inside
-move_to-requires-clause-other_inside c =
+pub move_to-requires : goal.move_to-requires
+move_to-requires g c =
     let there : c.loop-k.k < length (bucket c.args.z c.loop-k.found.buckets) = omega (arith, c.loop-k-test.true, c.count.ensures) in
     let i : Rule = waiting_at c.args.z c.loop-k.k c.loop-k.found.buckets in
     let parts = first_missing-parts i.premise c.loop-k.closed c.in-Some.other (ap (λ P. first_missing 0 P c.loop-k.closed) (sym c.premise.ensures) ∙ sym c.first_missing.ensures ∙ c.in-Some.is) in
-    omega (arith, member_below i.premise c.in-Some.other parts.0, watch.premise_wide c.loop-k.invariant.settling there c.requires.wide, c.requires.room, c.loop-k.invariant.settling.room)
-
-pub move_to-requires-clause-elsewhere : goal.move_to-requires-clause-elsewhere
-move_to-requires-clause-elsewhere c =
-    let i : Rule = waiting_at c.args.z c.loop-k.k c.loop-k.found.buckets in
-    let parts = first_missing-parts i.premise c.loop-k.closed c.in-Some.other (ap (λ P. first_missing 0 P c.loop-k.closed) (sym c.premise.ensures) ∙ sym c.first_missing.ensures ∙ c.in-Some.is) in
-    λ e. false≢true (sym parts.1 ∙ ap (λ m. get_or c.loop-k.closed m false) e ∙ within_at_place c.args.closed.now c.loop-k.closed c.loop-k.invariant.settling.up c.args.z c.requires.member)
+    let inside : c.args.z < length c.loop-k.found.buckets = omega (arith, member_below c.args.closed.now c.args.z c.requires.member, c.requires.room, c.loop-k.invariant.settling.room) in
+    let other_inside : c.in-Some.other < length c.loop-k.found.buckets = omega (arith, member_below i.premise c.in-Some.other parts.0, watch.premise_wide c.loop-k.invariant.settling there c.requires.wide, c.requires.room, c.loop-k.invariant.settling.room) in
+    let elsewhere : c.in-Some.other ≢ c.args.z = λ e. false≢true (sym parts.1 ∙ ap (λ m. get_or c.loop-k.closed m false) e ∙ within_at_place c.args.closed.now c.loop-k.closed c.loop-k.invariant.settling.up c.args.z c.requires.member) in
+    (omega arith, (inside, (other_inside, (there, elsewhere))))
 
 pub loop-k-preserved-in-Continue-1 : goal.loop-k-preserved-in-Continue-1
-loop-k-preserved-in-Continue-1 c =
+loop-k-preserved-in-Continue-1 g c =
     let there : c.loop-k.k < length (bucket c.args.z c.loop-k.found.buckets) = omega (arith, c.loop-k-test.true, c.count.ensures) in
     let i : Rule = waiting_at c.args.z c.loop-k.k c.loop-k.found.buckets in
     let parts = first_missing-parts i.premise c.loop-k.closed c.in-Some.other (ap (λ P. first_missing 0 P c.loop-k.closed) (sym c.premise.ensures) ∙ sym c.first_missing.ensures ∙ c.in-Some.is) in
@@ -39,18 +36,20 @@ loop-k-preserved-in-Continue-1 c =
     }
 
 pub join-requires : goal.join-requires
-join-requires c =
+join-requires g c =
     let there : c.loop-k.k < length (bucket c.args.z c.loop-k.found.buckets) = omega (arith, c.loop-k-test.true, c.count.ensures) in
     (omega arith, subst (λ X. length X ≤ length c.loop-k.closed) (sym c.conclusion.ensures) (watch.join_fits c.loop-k.invariant.settling there c.requires.wide))
 
 pub agrees-requires : goal.agrees-requires
-agrees-requires c =
-    let D : Set = c.loop-k.closed in
-    within_trans c.args.done.now D c.join.result (within_trans c.args.done.now c.args.closed.now D c.requires.above c.loop-k.invariant.settling.up)
-    (subst (λ X. within D X ≡ true) (sym c.join.ensures) (within-join D c.conclusion.result))
+agrees-requires g c =
+    let D : Set = c.loop-k.closed in (
+      omega (arith, c.width-width.ensures.words),
+      within_trans c.args.done.now D c.join.result (within_trans c.args.done.now c.args.closed.now D c.requires.above c.loop-k.invariant.settling.up)
+          (subst (λ X. within D X ≡ true) (sym c.join.ensures) (within-join D c.conclusion.result)),
+    )
 
 pub returns-then-not-agrees-clause-settling : goal.returns-then-not-agrees-clause-settling
-returns-then-not-agrees-clause-settling c =
+returns-then-not-agrees-clause-settling g c =
     let there : c.loop-k.k < length (bucket c.args.z c.loop-k.found.buckets) = omega (arith, c.loop-k-test.true, c.count.ensures) in
     let i : Rule = waiting_at c.args.z c.loop-k.k c.loop-k.found.buckets in
     let inside : within i.premise c.loop-k.closed ≡ true = first_missing_none 0 i.premise c.loop-k.closed (ap (λ P. first_missing 0 P c.loop-k.closed) (sym c.premise.ensures) ∙ sym c.first_missing.ensures ∙ c.in-None.is) in
@@ -58,7 +57,7 @@ returns-then-not-agrees-clause-settling c =
     watch.settle_any joined
 
 pub loop-k-preserved : goal.loop-k-preserved
-loop-k-preserved c =
+loop-k-preserved g c =
     let there : c.loop-k.k < length (bucket c.args.z c.loop-k.found.buckets) = omega (arith, c.loop-k-test.true, c.count.ensures) in
     let i : Rule = waiting_at c.args.z c.loop-k.k c.loop-k.found.buckets in
     let inside : within i.premise c.loop-k.closed ≡ true = first_missing_none 0 i.premise c.loop-k.closed (ap (λ P. first_missing 0 P c.loop-k.closed) (sym c.premise.ensures) ∙ sym c.first_missing.ensures ∙ c.in-None.is) in

@@ -4,11 +4,11 @@ use Rattle.lectic_basis.specs.Watches.{bucket, IsSettling}
 use Rattle.lectic_basis.proofs.closing.settle.Given as goal
 
 abbrev pub invariant-loop-k : goal.invariant-loop-k
-invariant-loop-k l = record {
+invariant-loop-k g l = record {
   list : l.found.list ≡ l.fn.found.list;
   settling : IsSettling l.z l.k l.fn.closed l.closed l.fn.found.buckets l.found.buckets;
   agree : agree_before l.limit l.done l.closed ≡ true;
 }
 
 abbrev pub decreases-loop-k : goal.decreases-loop-k
-decreases-loop-k l = length (bucket l.z l.found.buckets) - l.k
+decreases-loop-k g l = length (bucket l.z l.found.buckets) - l.k

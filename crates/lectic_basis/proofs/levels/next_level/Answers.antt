@@ -1,31 +1,17 @@
-use Rattle.std.proofs.Common.{◌+◌, false, replicate, sym, ap, ◌∙◌, subst, arith}
-use Rattle.implication_closure.specs.Closing.{RuleList, IsClosure}
-use Rattle.lectic_basis.specs.NextLevel.{IsLeastLevel}
-use Rattle.lectic_basis.specs.Trees.{up_to}
-use Rattle.lectic_basis.specs.Watches.{IsFiled, IsGood}
-use Rattle.lectic_basis.proofs.LevelWalkLemmas.{root_entered}
-use Rattle.lectic_basis.proofs.NextLevelLemmas.{next_is}
+use Rattle.std.proofs.Common.{◌≡◌}
+use Rattle.std.proofs.lemmas.Result.{IfOk-weaker}
+use Rattle.lectic_basis.specs.NextLevel.{IsNextLevel}
+use Rattle.lectic_basis.proofs.NextLevelLemmas.{next_told}
 use Rattle.lectic_basis.proofs.levels.next_level.Goals as goal
 
-pub enter-requires : goal.enter-requires
-enter-requires c =
-    let K = c.args.rows.now in
-    let J : RuleList = c.args.rules.now in
-    let A = c.naive_closure-least.result in
-    let F = c.in_ok-found.found in
-    root_entered K A F c.new.result.items (c.width-2.result + 1)
-    (ap (λ (L : RuleList). L.width) c.in_ok-found.ensures.list ∙ c.requires.wide)
-    (subst (λ (M : RuleList). IsClosure M.members (replicate K.width false) A) (sym c.in_ok-found.ensures.list) (subst (λ X. IsClosure J.members X A) (c.empty.ensures ∙ ap (λ n. replicate n false) c.width.ensures.width) c.naive_closure-least.ensures))
-    (subst (λ (M : RuleList). IsFiled M.width M.members F.buckets) (sym c.in_ok-found.ensures.list) c.in_ok-found.ensures.filed)
-    (subst (λ (M : RuleList). IsGood M.members F.buckets A) (sym c.in_ok-found.ensures.list) c.in_ok-found.ensures.good)
-    c.new.ensures.items
-    (let w = c.width-2.ensures.width in omega (arith, w))
+pub returns-then-width-le-ONE_WORD : goal.returns-then-width-le-ONE_WORD
+returns-then-width-le-ONE_WORD c known found reached is below bounded =
+    let L = c.in_ok-found.found in
+    IfOk-weaker c.in_all_words.result (λ w. (w.size ≡ L.size) × (w.members.items ≡ L.members.items)) (λ w. IsNextLevel known c.args.rows.now found w.size w.members.items)
+    (λ w e. next_told c.in_ok-resized.ensures (c.in_ok-found.ensures.next known found reached is) below bounded e.0 e.1) c.in_all_words.ensures
 
-pub returns : goal.returns
-returns c known members reached is below bounded =
-    let K = c.args.rows.now in
-    let A = c.naive_closure-least.result in
-    let size = c.enter.new.level.size in
-    let Ls = c.enter.new.level.members.items in
-    next_is known K reached members c.args.rules.now.members is below bounded A size Ls
-    (subst (λ (M : RuleList). IsLeastLevel M.members K size (up_to 0 A) Ls) (c.in_ok-enter.ensures.list ∙ c.in_ok-found.ensures.list) c.in_ok-enter.ensures.level)
+pub returns-then-width-le-FOUR_WORDS : goal.returns-then-width-le-FOUR_WORDS
+returns-then-width-le-FOUR_WORDS c known found reached is below bounded =
+    let L = c.in_ok-found-2.found in
+    IfOk-weaker c.in_all_words-then-width-le-FOUR_WORDS.result (λ w. (w.size ≡ L.size) × (w.members.items ≡ L.members.items)) (λ w. IsNextLevel known c.args.rows.now found w.size w.members.items)
+    (λ w e. next_told c.in_ok-resized-2.ensures (c.in_ok-found-2.ensures.next known found reached is) below bounded e.0 e.1) c.in_all_words-then-width-le-FOUR_WORDS.ensures

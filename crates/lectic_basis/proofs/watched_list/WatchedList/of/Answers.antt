@@ -10,17 +10,18 @@ use Rattle.lectic_basis.proofs.WaitLemmas.{IsWaiting, waiting_more, waiting_same
 use Rattle.lectic_basis.proofs.watched_list.WatchedList.of.Goals as goal
 use Rattle.lectic_basis.proofs.watched_list.WatchedList.of.Goals.{in-Some+in_ok-wait_for, in_default}
 
-pub wait_for-requires-clause-inside : goal.wait_for-requires-clause-inside
-wait_for-requires-clause-inside c =
+pub wait_for-requires : goal.wait_for-requires
+wait_for-requires g c =
     let n : ℕ = c.args.list.now.width in
     let i : Rule = c.member-item.result in
     let wide : has_width n i ≡ true = ap (has_width n) c.member-item.is ∙ AllPass-from_list_all (has_width n) c.as_slice-member-items.result.now c.as_slice-member-items.ensures.even c.loop-place.place i c.loop-place-test.true in
     let premise : length i.premise ≡ n = eqb-true (length i.premise) n (and_parts (eqb (length i.premise) n) (eqb (length i.conclusion) n) wide).0 in
     let below : c.in-Some.w < length i.premise = member_below i.premise c.in-Some.w (first_missing-parts i.premise c.args.x.now c.in-Some.w (sym c.first_missing.ensures ∙ c.in-Some.is)).0 in
-    omega (arith, below, premise, c.loop-place.invariant.waiting.filed.room)
+    let there : c.loop-place.place < length c.loop-place.watched.list.members = subst (λ (L : RuleList). c.loop-place.place < length L.members) (sym c.loop-place.invariant.list) (subst (λ Zs. c.loop-place.place < length Zs) c.as_slice-member-items.ensures.members c.loop-place-test.true) in
+    (omega arith, (there, omega (arith, below, premise, c.loop-place.invariant.waiting.filed.room)))
 
 pub loop-place-preserved : goal.loop-place-preserved
-loop-place-preserved c =
+loop-place-preserved g c =
     let J : List Rule = c.args.list.now.members in
     let k : ℕ = c.loop-place.place in
     let i : Rule = c.member-item.result in

@@ -1,0 +1,21 @@
+use Rattle.std.proofs.Common.{sym, ◌∙◌, arith}
+use Rattle.lectic_basis.proofs.LevelWalkLemmas.{left_member, left_can_close, left_none, left_entered, left_done}
+use Rattle.lectic_basis.proofs.levels.child_at.Goals as goal
+
+pub returns-then-has-clause-done : goal.returns-then-has-clause-done
+returns-then-has-clause-done g c = left_member c.requires (sym c.has.ensures ∙ c.if-has.true)
+
+pub close-requires : goal.close-requires
+close-requires g c = (omega arith, (omega (arith, c.width-width.ensures.words), left_can_close c.requires (sym c.has.ensures ∙ c.if-has.false) c.with.ensures))
+
+pub returns-in_default-clause-done : goal.returns-in_default-clause-done
+returns-in_default-clause-done g c = left_none c.requires (sym c.has.ensures ∙ c.if-has.false) c.with.ensures c.in_ok-closed.ensures.moved (rw c.in_default.is at c.in_ok-closed.ensures.closure)
+
+pub enter-requires : goal.enter-requires
+enter-requires g c = (omega arith, (omega arith, (omega arith, (omega (arith, c.width-width.ensures.words), left_entered c.requires (sym c.has.ensures ∙ c.if-has.false) c.with.ensures c.in_ok-closed.ensures.moved (rw c.in-Some.is at c.in_ok-closed.ensures.closure)))))
+
+pub returns-then-branch-clause-done : goal.returns-then-branch-clause-done
+returns-then-branch-clause-done g c = λ new size members h. left_done c.requires (sym c.has.ensures ∙ c.if-has.false) c.with.ensures c.in_ok-closed.ensures.moved (rw c.in-Some.is at c.in_ok-closed.ensures.closure) h
+
+pub returns-clause-done : goal.returns-clause-done
+returns-clause-done g c = left_done c.requires (sym c.has.ensures ∙ c.if-has.false) c.with.ensures c.in_ok-closed.ensures.moved (rw c.in-Some.is at c.in_ok-closed.ensures.closure) (c.in_ok-enter.ensures.done c.if-branch.false)

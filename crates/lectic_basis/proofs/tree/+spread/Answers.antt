@@ -1,0 +1,20 @@
+use Rattle.std.proofs.Common.{arith}
+use Rattle.lectic_basis.proofs.WalkLemmas.{trying, found_then}
+use Rattle.lectic_basis.proofs.tree.+spread.Goals as goal
+
+pub child_at-requires : goal.child_at-requires
+child_at-requires g t c = (omega arith, (omega arith, (omega (arith, c.width-i.ensures.words), trying c.requires c.loop-i.invariant.inside c.loop-i.invariant.found (omega (arith, c.loop-i-test.true)) (omega (arith, c.loop-i-test.true)))))
+
+pub loop-i-preserved-then-pays : goal.loop-i-preserved-then-pays
+loop-i-preserved-then-pays g t c = record {
+  from_on = omega (arith, c.loop-i-test.true);
+  inside = omega (arith, c.loop-i.invariant.inside);
+  found = found_then c.loop-i.invariant.found ((rw c.in-Some.is at c.in_ok-child.ensures.done) _ c.in_ok-spread.ensures);
+}
+
+pub loop-i-preserved-in-Continue-branch-5 : goal.loop-i-preserved-in-Continue-branch-5
+loop-i-preserved-in-Continue-branch-5 g t c = record {
+  from_on = omega (arith, c.loop-i-test.true);
+  inside = omega (arith, c.loop-i.invariant.inside);
+  found = found_then c.loop-i.invariant.found ((rw c.in-Some.is at c.in_ok-child.ensures.done) _ c.in_ok-spread-2.ensures);
+}

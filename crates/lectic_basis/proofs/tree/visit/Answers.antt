@@ -1,0 +1,31 @@
+use Rattle.std.proofs.Common.{sym, ◌∙◌, arith}
+use Rattle.lectic_basis.proofs.WalkLemmas.{visit_wide, visit_inside, closure_wide, closure_up, visit_closed, visit_ends, visit_can_close, visit_below, visit_done, part_before}
+use Rattle.lectic_basis.proofs.tree.visit.Goals as goal
+
+-- an intent
+
+pub returns-then-eq-clause-below : goal.returns-then-eq-clause-below
+returns-then-eq-clause-below g c = visit_closed c.requires c.closure-closed.ensures (sym c.eq.ensures ∙ c.if-eq.true)
+
+pub returns-then-eq-clause-done : goal.returns-then-eq-clause-done
+returns-then-eq-clause-done g c = λ new h. part_before h
+
+-- the premise of a member
+
+pub push_before-requires : goal.push_before-requires
+push_before-requires g c = (omega arith, (omega (arith, c.width-width.ensures.words), (visit_wide c.requires, (closure_wide c.requires c.closure-closed.ensures, visit_inside c.requires))))
+
+pub agrees-requires : goal.agrees-requires
+agrees-requires g c = (omega (arith, c.width-width.ensures.words), closure_up c.requires c.closure-closed.ensures)
+
+pub returns-then-not-agrees-clause-done : goal.returns-then-not-agrees-clause-done
+returns-then-not-agrees-clause-done g c = visit_ends c.requires c.closure-closed.ensures (sym c.eq.ensures ∙ c.if-eq.false) _ c.in_ok-push_before.ensures.list c.in_ok-push_before.ensures.put (sym c.agrees.ensures ∙ c.if-not-agrees.true)
+
+pub close-requires : goal.close-requires
+close-requires g c = (omega arith, (omega (arith, c.width-width.ensures.words), visit_can_close c.requires c.closure-closed.ensures (sym c.eq.ensures ∙ c.if-eq.false) _ c.in_ok-push_before.ensures.list c.in_ok-push_before.ensures.put (sym c.agrees.ensures ∙ c.if-not-agrees.false)))
+
+pub returns-clause-below : goal.returns-clause-below
+returns-clause-below g c = visit_below c.requires c.closure-closed.ensures (sym c.eq.ensures ∙ c.if-eq.false) _ c.in_ok-push_before.ensures.list c.in_ok-push_before.ensures.put (sym c.agrees.ensures ∙ c.if-not-agrees.false) c.in_ok-close.ensures.moved _ c.in_ok-close.ensures.closure
+
+pub returns-clause-done : goal.returns-clause-done
+returns-clause-done g c = λ new h. visit_done c.requires c.closure-closed.ensures (sym c.eq.ensures ∙ c.if-eq.false) _ c.in_ok-push_before.ensures.list c.in_ok-push_before.ensures.put (sym c.agrees.ensures ∙ c.if-not-agrees.false) c.in_ok-close.ensures.moved h
