@@ -4,7 +4,7 @@ use Rattle.std.specs.List.{range_with_len, list_any}
 use Rattle.fca_model.specs.Sets.{Set, same}
 use Rattle.context_reduce.specs.Reduce.{row_at, is_first, distinct_objects}
 use Rattle.context_reduce.proofs.RangeLemmas.{kept_more, kept_skips}
-use Rattle.context_reduce.proofs.SortLemmas.{seen_more}
+use Rattle.context_reduce.proofs.SeenLemmas.{seen_more}
 use Rattle.context_reduce.proofs.rows.distinct_rows.Goals as goal
 use Rattle.context_reduce.proofs.rows.distinct_rows.Goals.{then-branch+in_ok-push, else-branch}
 
