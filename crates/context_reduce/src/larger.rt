@@ -36,11 +36,7 @@ pub(crate) fn blocks_of<const W: usize>(
 }
 
 /// The columns of block k.
-fn columns_of<const W: usize>(
-    alloc: Global,
-    rows: &RowsOf<W>,
-    k: usize,
-) -> Result<Columns, Memory>
+fn columns_of<const W: usize>(alloc: Global, rows: &RowsOf<W>, k: usize) -> Result<Columns, Memory>
     requires { k * BLOCK ≤ length rows.now.rows }
     ensures { IfOk result (λ columns. columns ≡ transposed (block rows.now k)) }
 {

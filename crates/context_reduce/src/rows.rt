@@ -18,7 +18,8 @@ pub(crate) fn distinct_rows(alloc: Global, rows: &Rows) -> Result<Places, Memory
     let mut seen = BTreeSet::new(alloc);
     let mut places = Places::new(alloc);
     for g in 0..rows.len() {
-        if seen.insert(rows.get(g))? {
+        let row = rows.get(g);
+        if seen.insert(row)? {
             places.push(g)?;
         }
     }

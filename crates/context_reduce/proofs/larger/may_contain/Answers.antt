@@ -1,8 +1,8 @@
-use Rattle.std.proofs.Common.{◌≡◌, ◌∙◌, ◌<◌, List, true, false, length, map, replicate, subst, sym, ap, arith}
+use Rattle.std.proofs.Common.{◌≡◌, ◌∙◌, ◌<◌, true, false, length, map, replicate, subst, sym, ap, arith}
 use Rattle.fca_model.specs.Sets.{Set, within, meet, full}
 use Rattle.fca_model.specs.Context.{Context}
 use Rattle.fca_model.proofs.SetLemmas.{within_trans}
-use Rattle.context_reduce.specs.Reduce.{transposed, column}
+use Rattle.context_reduce.specs.Reduce.{column}
 use Rattle.context_reduce.proofs.BlockLemmas.{column_read, found_in_all, found_in_column, found_in_none}
 use Rattle.context_reduce.proofs.larger.may_contain.Goals as goal
 
