@@ -3,7 +3,8 @@ pub mod DenseLemmas
 pub mod PartLemmas
 pub mod ReduceLemmas
 pub mod ColumnLemmas
-pub mod SortLemmas
+pub mod SeenLemmas
+pub mod BlockLemmas
 pub mod TableLemmas
 pub mod ArrowLemmas
 pub mod Examples

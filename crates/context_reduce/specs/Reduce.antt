@@ -7,10 +7,9 @@
 --
 -- Of the rows {a, b}, {a, c}, {a} over a, b, c the row {a} is the intersection of the other two, so the third object is reducible; the column of a, all
 -- objects, is the intersection of no columns, so a is reducible. What is left are the first two objects with b and c.
-use Rattle.std.specs.Prelude.{◌≡◌, ℕ, Bool, true, false, not, ◌&&◌, ◌||◌, List, [], All, length, map, filter, fold, slice_index_or, take, ◌∷◌, ◌+◌, nat_le, nat_lt}
+use Rattle.std.specs.Prelude.{◌≡◌, ℕ, Bool, true, false, not, ◌&&◌, ◌||◌, List, [], length, map, filter, fold, slice_index_or, take, ◌∷◌, ◌+◌, nat_le, nat_lt}
 use Rattle.std.specs.List.{list_all, list_any, range_with_len}
-use Rattle.std.specs.List.Sorted.{IsPermutation, IsSorted}
-use Rattle.fca_model.specs.Sets.{Set, within, meet, full, same, strictly_within, lectic_cmp}
+use Rattle.fca_model.specs.Sets.{Set, within, meet, full, same, strictly_within}
 use Rattle.fca_model.specs.Context.{Context, is_closed}
 use Rattle.fca_model.specs.Tables.{Text, NamedContext}
 
@@ -54,12 +53,6 @@ distinct_attributes K = distinct_objects (transposed K)
 
 abbrev pub irreducible_attributes : Context → List ℕ
 irreducible_attributes K = irreducible_objects (transposed K)
-
--- the rows of K in lectic order
-pub record AreSorted (K : Context) (Rs : List Set) : Type 0 where
-  pub rows : IsPermutation K.rows Rs
-  pub ascending : IsSorted lectic_cmp Rs
-  pub even : All (λ row. length row ≡ K.width) Rs
 
 -- ---- parts
 

@@ -2,12 +2,13 @@
 
 ghost use Rattle.std.specs.Prelude.{◌≡◌, ◌<◌, IfOk, All, length, map};
 ghost use Rattle.std.specs.List.{range_with_len};
-ghost use Rattle.context_reduce.specs.Reduce.{above, AreSorted};
+ghost use Rattle.context_reduce.specs.Reduce.{above};
+ghost use Rattle.context_reduce.specs.Blocks.{AreBlocks};
 ghost use Rattle.context_reduce.specs.Arrows.{arrow_of, arrow_at, arrow_table, TellIrreducibles};
 
 use crate::columns::{above, column_order};
+use crate::larger::{Columns, blocks_of, meet_of_larger};
 use crate::marks::{Arrow, Arrows};
-use crate::rows::{meet_of_larger, sorted_rows};
 use attr_bits::Attrs;
 use context_table::Table;
 use derivation::Rows;
@@ -22,10 +23,10 @@ pub fn arrows(alloc: Global, table: &Table) -> Result<Arrows, Memory>
 {
     let rows = table.rows();
     let larger = all_above(alloc, rows)?;
-    let sorted = sorted_rows(alloc, rows)?;
+    let blocks = blocks_of(alloc, rows)?;
     let mut lists = Vec::new(alloc);
     for g in 0..rows.len() {
-        lists.push(arrows_of_object(alloc, rows, &sorted, &larger, g)?)?;
+        lists.push(arrows_of_object(alloc, rows, &blocks, &larger, g)?)?;
     }
     Ok(Arrows::of(lists))
 }
@@ -46,17 +47,17 @@ fn all_above(alloc: Global, rows: &Rows) -> Result<Vec<Attrs>, Memory>
 fn arrows_of_object(
     alloc: Global,
     rows: &Rows,
-    sorted: &[Attrs],
+    blocks: &[Columns],
     larger: &[Attrs],
     g: usize,
 ) -> Result<Vec<Arrow>, Memory>
     requires object { g < length rows.now.rows }
-    requires sorted { AreSorted rows.now sorted.now }
+    requires blocks { AreBlocks rows.now blocks.now }
     requires larger { larger.now ≡ map (above rows.now) (range_with_len 0 rows.now.width) }
     ensures { IfOk result (λ list. list.items ≡ map (arrow_at rows.now g) (range_with_len 0 rows.now.width)) }
 {
     let row = rows.get(g);
-    let shared = meet_of_larger(rows, sorted, &row);
+    let shared = meet_of_larger(rows, blocks, &row);
     let mut list = Vec::new(alloc);
     for m in 0..rows.width() {
         let down = shared.has(m);

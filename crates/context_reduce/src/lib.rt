@@ -4,6 +4,7 @@
 
 mod columns;
 mod finding;
+mod larger;
 pub mod laws;
 mod marks;
 mod parts;
