@@ -66,6 +66,10 @@ fn words_of(alloc: Global, arguments: Args) -> Result<Vec<Word>, Stop>
 }
 
 #[cfg(test)]
+mod made_tests;
+#[cfg(test)]
 mod serving_tests;
 #[cfg(test)]
 mod tests;
+#[cfg(test)]
+mod wide_tests;

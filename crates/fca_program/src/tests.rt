@@ -581,17 +581,17 @@ const REFUSALS: [Call; 40] = [
 /// The ends of a call but its link.
 #[derive(Drop)]
 pub struct Ends {
-    shelf: MemoryShelf,
-    input: MemorySource,
+    pub shelf: MemoryShelf,
+    pub input: MemorySource,
     pub out: MemorySink,
     pub err: MemorySink,
 }
 
 /// What a call left: its status, and its ends.
 #[derive(Drop)]
-struct Called {
-    status: u8,
-    ends: Ends,
+pub struct Called {
+    pub status: u8,
+    pub ends: Ends,
 }
 
 /// The words as they come from the command line.
@@ -675,7 +675,7 @@ fn call<R: Threads + Wait + Sync>(rt: &R, alloc: Global, row: &Call) -> Result<C
 }
 
 /// Runs the call of these words, with room for so many bytes on out. These calls of the input and of out fail.
-fn outcome<R: Threads + Wait + Sync>(
+pub fn outcome<R: Threads + Wait + Sync>(
     rt: &R,
     alloc: Global,
     words: &[&[u8]],
@@ -711,118 +711,6 @@ fn serve_two<R: Threads + Wait + Sync>(
     let mut link = link_of_two(alloc, link_fails)?;
     let status = status_over(rt, alloc, SERVE, &mut ends, &mut link)?;
     Ok((Called { status, ends }, link))
-}
-
-/// Puts so many of the byte behind the text.
-fn repeat(text: &mut Vec<u8>, byte: u8, count: usize) -> Result<(), Memory> {
-    for _ in 0..count {
-        text.push(byte)?;
-    }
-    Ok(())
-}
-
-/// Puts the names of the attributes from m1 to m256 behind the text, from one to another of them.
-fn list_names(alloc: Global, text: &mut Vec<u8>, first: u32, last: u32) -> Result<(), Memory> {
-    for i in first..last {
-        let name = format!(in alloc; "m{i}, ")?;
-        text.extend_from_slice(name.as_bytes())?;
-    }
-    let name = format!(in alloc; "m{last}")?;
-    text.extend_from_slice(name.as_bytes())?;
-    Ok(())
-}
-
-/// A table of 256 attributes whose one object has the last alone.
-fn wide_table(alloc: Global) -> Result<Vec<u8>, Memory> {
-    let mut text = Vec::new(alloc);
-    text.extend_from_slice(b"B\n\n1\n256\n\ng\n")?;
-    for i in 1..257u32 {
-        let line = format!(in alloc; "m{i}\n")?;
-        text.extend_from_slice(line.as_bytes())?;
-    }
-    repeat(&mut text, b'.', 255)?;
-    text.extend_from_slice(b"X\n")?;
-    Ok(text)
-}
-
-/// The question from the empty set in that table.
-fn first_question(text: &mut Vec<u8>) -> Result<(), Memory> {
-    repeat(text, b'.', 256)?;
-    text.push(b' ')?;
-    repeat(text, b'.', 255)?;
-    text.extend_from_slice(b"X {} -> {m256}\n")?;
-    Ok(())
-}
-
-/// What is written of that table up to the open questions, where the first question was confirmed and the second asked.
-fn wide_text(alloc: Global) -> Result<Vec<u8>, Memory> {
-    let mut text = Vec::new(alloc);
-    text.extend_from_slice(b"exploration 1\ndraw 1\n# ask ")?;
-    first_question(&mut text)?;
-    text.extend_from_slice(b"confirm 1\n# accepted 1\ndraw 1\n# ask ")?;
-    repeat(&mut text, b'.', 254)?;
-    text.extend_from_slice(b"XX ")?;
-    repeat(&mut text, b'X', 256)?;
-    text.extend_from_slice(b" {m255, m256} -> {")?;
-    list_names(alloc, &mut text, 1, 254)?;
-    text.extend_from_slice(b"}\n# recorded 0\n# accepted 1\n# 1 ")?;
-    first_question(&mut text)?;
-    text.extend_from_slice(b"# open 255\n")?;
-    Ok(text)
-}
-
-/// The concepts of that table.
-fn wide_concepts(alloc: Global) -> Result<Vec<u8>, Memory> {
-    let mut text = Vec::new(alloc);
-    text.extend_from_slice(b"concepts 2\n1 {m256} | {g}\n2 {")?;
-    list_names(alloc, &mut text, 1, 256)?;
-    text.extend_from_slice(b"} | {}\n")?;
-    Ok(text)
-}
-
-/// Its basis: how it begins, and its last member.
-fn wide_basis(alloc: Global) -> Result<(Vec<u8>, Vec<u8>), Memory> {
-    let mut first = Vec::new(alloc);
-    first.extend_from_slice(b"basis 256\n1 {} -> {m256}\n2 {m255, m256} -> {")?;
-    list_names(alloc, &mut first, 1, 254)?;
-    first.extend_from_slice(b"}\n")?;
-    let mut last = Vec::new(alloc);
-    last.extend_from_slice(b"\n256 {m1, m256} -> {")?;
-    list_names(alloc, &mut last, 2, 255)?;
-    last.extend_from_slice(b"}\n")?;
-    Ok((first, last))
-}
-
-#[test]
-fn explores_256_attributes(rt: HostRuntime) -> Result<(), Fail> {
-    let file = wide_table(rt.alloc())?;
-    let script = b"draw 1\nconfirm 1\ndraw 1\n".as_slice();
-    let called = outcome(&rt, rt.alloc(), REPLAY, &file, script, 1_000_000, &[], &[])?;
-    assert_eq!(rt; called.status, 6);
-    let text = wide_text(rt.alloc())?;
-    assert!(&rt; called.ends.out.written().starts_with(&text));
-    Ok(())
-}
-
-#[test]
-fn lists_concepts_of_256_attributes(rt: HostRuntime) -> Result<(), Fail> {
-    let file = wide_table(rt.alloc())?;
-    let words: &[&[u8]] = &[b"concepts", b"F"];
-    let called = outcome(&rt, rt.alloc(), words, &file, b"", 10_000, &[], &[])?;
-    let text = wide_concepts(rt.alloc())?;
-    assert_eq!(rt; called.ends.out.written(), text.as_slice());
-    Ok(())
-}
-
-#[test]
-fn lists_the_basis_of_256_attributes(rt: HostRuntime) -> Result<(), Fail> {
-    let file = wide_table(rt.alloc())?;
-    let words: &[&[u8]] = &[b"basis", b"F"];
-    let called = outcome(&rt, rt.alloc(), words, &file, b"", 1_000_000, &[], &[])?;
-    let (first, last) = wide_basis(rt.alloc())?;
-    assert!(&rt; called.ends.out.written().starts_with(&first));
-    assert!(&rt; called.ends.out.written().ends_with(&last));
-    Ok(())
 }
 
 #[test]
@@ -911,7 +799,7 @@ fn long_files_are_refused(rt: HostRuntime) -> Result<(), Fail> {
 #[test]
 fn wide_headers_are_refused(rt: HostRuntime) -> Result<(), Fail> {
     let mut wide = Vec::new(rt.alloc());
-    wide.resize(MAX_ATTRIBUTES + 1, b',')?;
+    wide.resize(MAX_ATTRIBUTES as usize + 1, b',')?;
     let called = outcome(&rt, rt.alloc(), CONVERT_CSV, &wide, b"", 0, &[], &[])?;
     assert_eq!(rt; called.status, 2);
     assert_eq!(rt;
