@@ -1,7 +1,5 @@
 //! Calls over a table of as many attributes as one may have, whose one object has the last of them alone.
 
-ghost use Rattle.std.specs.Prelude.{◌≡◌, false, IfOk};
-
 use crate::tests::{Called, ends_of, outcome, status_over};
 use fca_io::{MemoryEnd, MemoryLink, Sink};
 use fca_model::Memory;
@@ -162,6 +160,7 @@ fn a_session_over_1024_attributes(rt: HostRuntime) -> Result<(), Fail> {
     assert_eq!(rt; lines.len(), 5 + 1285);
     let (called, link) = served(&rt, alloc, &lines)?;
     assert_eq!(rt; called.status, 6);
+    assert_eq!(rt; link.given().len(), 1);
     assert!(&rt;
         link.given()[0]
             .written()
