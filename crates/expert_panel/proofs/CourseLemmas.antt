@@ -127,7 +127,8 @@ module _ (o : Opening) (H : List SetEntry) (turns : ℕ) (oracles : List Recall)
         let is : state_of explore ≡ final = ap (λ (p : Opening). state_after (opening_state p) (events_of explore.journal)) opened ∙ ap (λ (J : List SetEntry). state_after (opening_state o) (events_of J)) journal
         ∙ ap (λ (S : Settings). state_after (opening K o.table.objects S) (events_of H)) plainly in
         let done : spent ≡ false → open_in final ≡ [] = λ h.
-        ap (λ (S : Settings). open_questions S.known final.context final.accepted) (run_settings first (events_of H)) ∙ ap (λ (t : State). open_questions [] t.context t.accepted) (sym is) ∙ finished h in
+        ap (λ (S : Settings). open_questions S.known final.context final.accepted) (run_settings first (events_of H) ∙ sym plainly ∙ sym (ap (λ (p : Opening). p.settings) opened))
+        ∙ ap (λ (t : State). open_questions explore.opening.settings.known t.context t.accepted) (sym is) ∙ finished h in
         record {
           kept = none_dropped;
           accepted = λ h. subst (λ (t : State). SameMembers t.accepted (basis C)) (sym is) (one_accepted C table_of one_context K o.table.objects H plain_legal wide part fronts (done h));
