@@ -339,6 +339,7 @@ impl Explore {
         ensures wide { All (λ entry. HasWideReply self.now.opening.table.context.width entry.reply) self.now.journal }
     {
         let _rows = self.table.rows();
+        let _known = self.settings.known.as_slice();
         &self.journal
     }
 

@@ -1,4 +1,4 @@
-use Rattle.std.proofs.Common.{◌≡◌, ◌∙◌, true, ap, sym, subst, refl, []}
+use Rattle.std.proofs.Common.{◌≡◌, ◌∙◌, true, ap, sym, subst, []}
 use Rattle.std.specs.List.{list_all}
 use Rattle.fca_model.specs.Implications.{holds}
 use Rattle.fca_model.specs.Invariant.{IsAccepted}
@@ -34,7 +34,7 @@ returns-clause-basis c =
     let o : Opening = record { table = i.table; experts = i.experts; settings = settings_of i.settings } in
     let S = o.settings.known in
     let K = (state_after (opening_state o) (events_of i.journal.items)).context in
-    let known : list_all (holds K) S ≡ true = subst (λ T. list_all (holds K) T ≡ true) c.self.invariant.known (subst (λ L. list_all (holds L) i.queue.known ≡ true) (sym c.self.invariant.kept.shown.context) c.rules.ensures.known) in
+    let known : list_all (holds K) S ≡ true = subst (λ T. list_all (holds K) T ≡ true) c.self.invariant.known (subst (λ L. list_all (holds L) i.queue.known ≡ true) (sym c.self.invariant.kept.shown.context) c.rules-rules.ensures.known) in
     subst (λ (h : History). open_of h ≡ [] → IsBasisBeside h.opening.settings.known (state_of h).context c.as_slice.result.now) c.self.view_is
     (λ none. subst (IsBasisBeside S K) (c.self.invariant.kept.shown.accepted ∙ sym (c.as_slice.ensures.members ∙ ap (λ (J : RuleList). J.members) c.accepted.ensures.list))
     (basis_is o i.journal.items i.queue.context i.queue.accepted i.held.items c.self.invariant.kept known none))

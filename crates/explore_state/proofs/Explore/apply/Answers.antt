@@ -1,4 +1,4 @@
-use Rattle.std.proofs.Common.{◌∙◌, ap, sym, subst, refl, arith, [], ◌∷◌, ◌++◌}
+use Rattle.std.proofs.Common.{◌∙◌, ap, sym, subst, arith, [], ◌∷◌, ◌++◌}
 use Rattle.fca_model.specs.Exploration.{SetReply, reply_to, next, state_after, events_of}
 use Rattle.explore_state.specs.History.{Opening, History, Admits, opening_state, state_of}
 use Rattle.explore_state.specs.Kept.{IsDue}

@@ -1,4 +1,4 @@
-use Rattle.std.proofs.Common.{◌≡◌, ◌≢◌, ◌∙◌, ◌↔◌, ap, sym, subst, refl, []}
+use Rattle.std.proofs.Common.{◌≡◌, ◌≢◌, ◌∙◌, ◌↔◌, ap, sym, subst, []}
 use Rattle.std.proofs.lemmas.Result.{IfOk-weaker}
 use Rattle.fca_model.specs.declared.Event.TheVariants.{Draw}
 use Rattle.fca_model.specs.declared.Reply.TheVariants.{Ask, Done, AllHeld}

@@ -1,4 +1,4 @@
-use Rattle.std.proofs.Common.{◌∙◌, sym, subst, refl}
+use Rattle.std.proofs.Common.{◌∙◌, sym, subst}
 use Rattle.fca_model.specs.Context.{Context}
 use Rattle.fca_model.specs.Exploration.{state_after, events_of}
 use Rattle.explore_state.specs.History.{Opening, History, opening_state, state_of}
