@@ -1,17 +1,29 @@
 -- The text of an exploration by its parts. With plain settings the rules are the accepted implications alone, and so are the numbers.
-use Rattle.std.proofs.Common.{◌≡◌, ◌++◌, [], ℕ, List, ap, sym, ◌∙◌, length, append_assoc}
+use Rattle.std.proofs.Common.{◌≡◌, ◌++◌, ◌+◌, [], ℕ, List, arith, codes, ap, sym, ◌∙◌, length, append_assoc}
 use Rattle.fca_model.specs.Tables.{Text, NamedContext}
 use Rattle.fca_model.specs.Implications.{Rule}
 use Rattle.fca_model.specs.Questions.{open_questions}
 use Rattle.fca_model.specs.Exploration.{State, SetEntry, Settings, plain, opening, events_of}
 use Rattle.fca_model.proofs.CourseLemmas.{run_settings}
-use Rattle.expert_wire.specs.Replies.{transcript}
+use Rattle.expert_wire.specs.Replies.{transcript, numbered_rule}
+use Rattle.expert_wire.specs.Texts.{line_end}
+use Rattle.basis_report.specs.Reports.{counted}
+use Rattle.std.specs.List.{flat_map, enumerate_from}
 use Rattle.basis_report.specs.Explorations.{recorded_section, accepted_section, open_section, basis_section, sections, state_of_text, explore_text}
 
 pub sections-plain : (attributes : List Text) (H : List SetEntry) (s : State) → s.settings ≡ plain
     → sections attributes H s
     ≡ recorded_section H ++ (accepted_section attributes 0 s.accepted ++ (open_section attributes (open_questions [] s.context s.accepted) ++ basis_section attributes s.accepted (open_questions [] s.context s.accepted)))
 sections-plain attributes H s e = ap (λ (settings : Settings). recorded_section H ++ (accepted_section attributes (length settings.known) s.accepted ++ (open_section attributes (open_questions settings.known s.context s.accepted) ++ basis_section attributes s.accepted (open_questions settings.known s.context s.accepted)))) e
+
+-- the head of the accepted implications, before any of them
+pub accepted_section-begun : (attributes : List Text) (k : ℕ) (acc : List Rule) (before after : Text) → after ≡ before ++ counted (codes "# accepted ") (length acc)
+    → after ++ flat_map (λ x. (codes "# " ++ numbered_rule attributes x.0 x.1) ++ line_end) (enumerate_from (k + 0) acc) ≡ before ++ accepted_section attributes k acc
+accepted_section-begun attributes k acc before after e =
+    let lines : ℕ → Text = λ n. flat_map (λ x. (codes "# " ++ numbered_rule attributes x.0 x.1) ++ line_end) (enumerate_from n acc) in
+    let head = counted (codes "# accepted ") (length acc) in
+    let same : k + 0 ≡ k = omega arith in
+    ap (λ z. z ++ lines (k + 0)) e ∙ append_assoc before head (lines (k + 0)) ∙ ap (λ n. before ++ (head ++ lines n)) same
 
 -- five texts that were appended one by one
 pub five_parts : (d0 d1 d2 d3 d4 d5 a b c d e : Text) → d0 ≡ [] → d1 ≡ d0 ++ a → d2 ≡ d1 ++ b → d3 ≡ d2 ++ c → d4 ≡ d3 ++ d → d5 ≡ d4 ++ e → d5 ≡ a ++ (b ++ (c ++ (d ++ e)))
