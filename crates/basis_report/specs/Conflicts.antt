@@ -1,4 +1,4 @@
--- Conflicts: the rows that oracles dropped, since each of them broke an accepted implication.
+-- Conflicts: the rows that oracles dropped, since each of them broke a rule: an accepted implication, or one that was known.
 --
 -- Where the oracle of expert 2 dropped its first row {a}, of the object g, against the first implication {} -> {a, b}, the lines behind `# conflicts 1` are
 -- `# 2 1 X. g 1 .. XX {} -> {a, b}` alone.

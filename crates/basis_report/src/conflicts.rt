@@ -4,6 +4,7 @@ ghost use Rattle.std.specs.Prelude.{◌≡◌, ◌≤◌, ◌<◌, ◌++◌, ℕ
 ghost use Rattle.std.specs.List.{flat_map};
 ghost use Rattle.fca_model.specs.declared.TheConstants.{MAX_OBJECTS};
 ghost use Rattle.fca_model.specs.Implications.{rule};
+ghost use Rattle.fca_model.specs.Exploration.{rules_of};
 ghost use Rattle.explore_state.specs.History.{state_of};
 ghost use Rattle.basis_report.specs.Comments.{AreComments};
 ghost use Rattle.basis_report.specs.Conflicts.{dropped_at, dropped_of, dropped_from, conflict_line, conflicts_text};
@@ -18,25 +19,25 @@ use fca_model::Memory;
 use oracle_expert::Oracle;
 use std::alloc::Global;
 
-/// The rows that the oracles of the experts dropped, each with the accepted implication that it broke.
+/// The rows that the oracles of the experts dropped, each with the rule that it broke.
 pub fn conflicts_text(
     alloc: Global,
     explore: &Explore,
     oracles: &[Oracle],
 ) -> Result<Vec<u8>, Memory>
     requires { length oracles.now ≤ explore.now.opening.experts }
-    ensures text { IfOk result (λ v. v.items ≡ conflicts_text explore.now.opening.table.attributes (state_of explore.now).accepted (map (λ o. (o.table, o.conflicts)) oracles.now)) }
+    ensures text { IfOk result (λ v. v.items ≡ conflicts_text explore.now.opening.table.attributes (rules_of (state_of explore.now)) (map (λ o. (o.table, o.conflicts)) oracles.now)) }
     ensures skipped { IfOk result (λ v. AreComments v.items) }
 {
     let table = explore.table();
     look_at_attributes(table);
     look_at_oracles(oracles);
-    let accepted = explore.accepted();
+    let rules = explore.rules();
     let _experts = explore.experts();
     let mut draft = Draft::new(alloc);
     write_counted(&mut draft, table, b"# conflicts ", count_all(oracles))?;
     for (expert, oracle) in oracles.iter().enumerate() {
-        write_dropped(&mut draft, table, accepted, expert, oracle)?;
+        write_dropped(&mut draft, table, rules, expert, oracle)?;
     }
     Ok(draft.into_bytes())
 }
@@ -71,33 +72,33 @@ fn count_dropped(oracle: &Oracle) -> usize
 fn write_dropped(
     draft: &mut Draft,
     table: &Table,
-    accepted: &[Implication],
+    rules: &[Implication],
     expert: usize,
     oracle: &Oracle,
 ) -> Result<(), Memory>
-    ensures { OnOk result (draft.new ≡ draft.old ++ flat_map (conflict_line table.now.attributes accepted.now) (dropped_of expert oracle.now.table oracle.now.conflicts)) }
+    ensures { OnOk result (draft.new ≡ draft.old ++ flat_map (conflict_line table.now.attributes rules.now) (dropped_of expert oracle.now.table oracle.now.conflicts)) }
 {
     let known = oracle.table();
     for place in 0..known.rows().len() {
         if let Some(broken) = oracle.conflict(place) {
-            write_conflict(draft, table, accepted, expert, known, place, broken)?;
+            write_conflict(draft, table, rules, expert, known, place, broken)?;
         }
     }
     Ok(())
 }
 
-/// The line of the row at the place of what the expert knows, which broke an accepted implication.
+/// The line of the row at the place of what the expert knows, which broke a rule.
 fn write_conflict(
     draft: &mut Draft,
     table: &Table,
-    accepted: &[Implication],
+    rules: &[Implication],
     expert: usize,
     known: &Table,
     place: usize,
     broken: usize,
 ) -> Result<(), Memory>
     requires { place < length known.now.context.rows }
-    ensures { OnOk result (draft.new ≡ draft.old ++ flat_map (conflict_line table.now.attributes accepted.now) (dropped_at expert known.now place (Some broken))) }
+    ensures { OnOk result (draft.new ≡ draft.old ++ flat_map (conflict_line table.now.attributes rules.now) (dropped_at expert known.now place (Some broken))) }
 {
     draft.parts(
         table,
@@ -112,14 +113,14 @@ fn write_conflict(
             Part::Bytes(object_text(known, place).as_bytes()),
         ],
     )?;
-    draft.rule(table, b" ", broken, &implication_at(accepted, broken))
+    draft.rule(table, b" ", broken, &implication_at(rules, broken))
 }
 
 /// The implication at the place, and one between sets of no attribute where there is none.
-fn implication_at(accepted: &[Implication], place: usize) -> Implication
-    ensures { result ≡ slice_index_or accepted.now place (rule [] []) }
+fn implication_at(rules: &[Implication], place: usize) -> Implication
+    ensures { result ≡ slice_index_or rules.now place (rule [] []) }
 {
-    match accepted.get(place) {
+    match rules.get(place) {
         Some(implication) => *implication,
         None => Implication {
             premise: Attrs::empty(0),

@@ -29,7 +29,7 @@ pub fn explore_text(alloc: Global, explore: &Explore) -> Result<Vec<u8>, Memory>
     let mut draft = Draft::new(alloc);
     write_transcript(&mut draft, table, explore.journal())?;
     write_recorded(&mut draft, table, explore.journal())?;
-    write_accepted(&mut draft, table, explore.accepted())?;
+    write_accepted(&mut draft, table, explore.known(), explore.accepted())?;
     write_open(&mut draft, table, explore.open_questions())?;
     write_basis(
         alloc,
@@ -87,12 +87,18 @@ fn write_row(draft: &mut Draft, table: &Table, entry: &Entry) -> Result<(), Memo
     }
 }
 
-fn write_accepted(draft: &mut Draft, table: &Table, accepted: &[Implication]) -> Result<(), Memory>
-    ensures { OnOk result (draft.new ≡ draft.old ++ accepted_section table.now.attributes 0 accepted.now) }
+/// The accepted implications, with their numbers among all rules: what is known comes first.
+fn write_accepted(
+    draft: &mut Draft,
+    table: &Table,
+    known: &[Implication],
+    accepted: &[Implication],
+) -> Result<(), Memory>
+    ensures { OnOk result (draft.new ≡ draft.old ++ accepted_section table.now.attributes (length known.now) accepted.now) }
 {
     write_counted(draft, table, b"# accepted ", accepted.len())?;
     for (place, implication) in accepted.iter().enumerate() {
-        draft.rule(table, b"# ", place, implication)?;
+        draft.rule(table, b"# ", known.len() + place, implication)?;
     }
     Ok(())
 }

@@ -5,6 +5,8 @@ use Rattle.fca_model.specs.Tables.{NamedContext}
 use Rattle.fca_model.specs.Exploration.{State, SetReply, SetEntry, is_expert, reply_to, open_in, state_after, events_of, IsLegal}
 use Rattle.fca_model.specs.declared.Event.TheVariants.{Draw}
 use Rattle.fca_model.specs.declared.Reply.TheVariants.{Done}
+use Rattle.fca_model.specs.Implications.{respects_all}
+use Rattle.fca_model.proofs.ListLemmas.{list_all_from}
 use Rattle.fca_model.proofs.RunLemmas.{legal_front, legal_reply}
 use Rattle.fca_model.proofs.CourseLemmas.{draw_done}
 use Rattle.explore_state.specs.History.{Opening, opening_state}
@@ -31,6 +33,7 @@ legal-course table experts H expert legal =
       shown = record { context = refl; accepted = refl; holds = refl };
       legal = legal;
       experts = expert;
+      known = list_all_from (respects_all []) (λ row. refl) table.context.rows;
     } in
     record {
       legal = legal;

@@ -7,7 +7,7 @@ use Rattle.fca_model.specs.Exploration.{SetEntry, SetReply, State, plain, open_i
 use Rattle.fca_model.specs.declared.Event.TheVariants.{Draw}
 use Rattle.fca_model.specs.declared.Reply.TheVariants.{Done}
 use Rattle.explore_state.specs.History.{Opening, History, opening_state}
-use Rattle.explore_state.specs.Basis.{IsBasis}
+use Rattle.explore_state.specs.Basis.{IsBasisBeside}
 
 -- the table as the opening of an exploration by so many experts
 abbrev pub opening_of : NamedContext → ℕ → Opening
@@ -30,15 +30,15 @@ state_at r before = state_after (opening_state r.opening) (events_of before)
 abbrev pub last_state : Recorded → State
 last_state r = state_at r r.journal
 
--- the questions open after it
+-- the questions open after it, beside what was known at the opening
 abbrev pub open_at : Recorded → List Rule
-open_at r = open_questions [] (last_state r).context (last_state r).accepted
+open_at r = open_questions r.opening.settings.known (last_state r).context (last_state r).accepted
 
 -- Its journal is one legal history. A draw was answered Done exactly where no question was open at that moment. Where none is
--- open at the end, the accepted implications are the basis of the recorded context: they hold, all that holds follows, and
--- no equivalent list has fewer
+-- open at the end, the accepted implications are the basis of the recorded context beside what is known: they hold, all that
+-- holds follows, and no equivalent list has fewer
 pub record IsExplored (r : Recorded) : Type 0 where
   pub legal : IsLegal (opening_state r.opening) r.journal
   pub done : (before after : List SetEntry) (e : ℕ) (reply : SetReply) → r.journal ≡ before ++ record { event = Draw e; reply = reply } ∷ after
       → (reply ≡ Done) ↔ (open_in (state_at r before) ≡ [])
-  pub basis : open_at r ≡ [] → IsBasis (last_state r).context (last_state r).accepted
+  pub basis : open_at r ≡ [] → IsBasisBeside r.opening.settings.known (last_state r).context (last_state r).accepted

@@ -9,10 +9,13 @@ use Rattle.fca_model.specs.declared.TheConstants.{MAX_EXPERTS}
 use Rattle.fca_model.specs.Context.{Context}
 use Rattle.fca_model.specs.Tables.{NamedContext}
 use Rattle.fca_model.specs.Pseudo.{basis}
-use Rattle.fca_model.specs.Invariant.{SameMembers}
+use Rattle.fca_model.specs.Invariant.{SameMembers, rows_respect}
+use Rattle.fca_model.specs.Implications.{respects_all}
 use Rattle.fca_model.specs.Questions.{open_questions}
+use Rattle.std.specs.List.{list_all}
 use Rattle.fca_model.specs.Exploration.{State, Settings, SetEntry, plain, opening, open_in, state_after, events_of, is_expert, own, IsLegal}
 use Rattle.fca_model.proofs.CourseLemmas.{run_settings}
+use Rattle.fca_model.proofs.ListLemmas.{list_all_from}
 use Rattle.explore_state.specs.History.{Opening, History, opening_state, state_of, open_of}
 use Rattle.oracle_expert.specs.Counts.{recorded_in, dropped}
 use Rattle.oracle_expert.specs.Oracles.{Recall, no_conflict}
@@ -40,6 +43,10 @@ module _ (o : Opening) (H : List SetEntry) (turns : ℕ) (oracles : List Recall)
   plain_legal : IsLegal first H
   plain_legal = subst (λ (S : Settings). IsLegal (opening K o.table.objects S) H) plainly legal
 
+  -- with nothing known, each row respects it
+  respecting : list_all (respects_all []) K.rows ≡ true
+  respecting = list_all_from (respects_all []) (λ row. refl) K.rows
+
   is_number : (k : ℕ) (oracle : Recall) → slice_get oracles k ≡ Some oracle → is_expert (k + 1) ≡ true
   is_number k oracle at =
       let within = slice_get_within oracles k oracle at in
@@ -49,7 +56,7 @@ module _ (o : Opening) (H : List SetEntry) (turns : ℕ) (oracles : List Recall)
   within_turns = λ k oracle at.
       let share = shares k oracle at in
       subst (λ (cs : List (Option ℕ)). length (own H (k + 1)) ≤ 2 * recorded_in H + dropped cs + 1) (sym share.conflicts)
-      (oracle_turns K o.table.objects H plain_legal oracle.table (k + 1) (is_number k oracle at) [] (own H (k + 1)) refl share.front)
+      (oracle_turns K o.table.objects plain H respecting refl plain_legal oracle.table (k + 1) (is_number k oracle at) [] (own H (k + 1)) refl share.front)
 
   -- with few attributes each has its last reply Done
   done_by_few : (k : ℕ) (oracle : Recall) → slice_get oracles k ≡ Some oracle → HasFewRows oracle → turns ≡ 2 ^ 48 → K.width ≤ 46 → ends_done (own H (k + 1)) ≡ true
@@ -58,7 +65,7 @@ module _ (o : Opening) (H : List SetEntry) (turns : ℕ) (oracles : List Recall)
       by_end : (ends_done (own H (k + 1)) ≡ true) ⊎ ((ends_done (own H (k + 1)) ≡ false) × (length (own H (k + 1)) ≡ turns)) → ends_done (own H (k + 1)) ≡ true
       by_end (inl done) = done
       by_end (inr all) =
-          let few : length (own H (k + 1)) < 2 ^ 48 = oracle_few K o.table.objects H plain_legal oracle.table (k + 1) (is_number k oracle at) [] (own H (k + 1)) refl (shares k oracle at).front narrow small in
+          let few : length (own H (k + 1)) < 2 ^ 48 = oracle_few K o.table.objects plain H respecting refl plain_legal oracle.table (k + 1) (is_number k oracle at) [] (own H (k + 1)) refl (shares k oracle at).front narrow small in
           let taken = all.1 in
           absurd (omega arith)
 
@@ -119,7 +126,7 @@ module _ (o : Opening) (H : List SetEntry) (turns : ℕ) (oracles : List Recall)
         let next : k + 1 ≡ suc k = omega arith in
         let mine : get_or oracles k bare ≡ oracle = get_or_from_slice_get oracles k oracle bare at in
         (shares k oracle at).conflicts ∙ ap (λ (n : ℕ). conflicts_of oracle.table (own H n)) next ∙ ap (λ (r : Recall). conflicts_of r.table (own H (suc k))) (sym mine)
-        ∙ nothing_dropped C table_of one_context K o.table.objects H plain_legal wide part fronts (suc k) ∙ ap (λ (r : Recall). no_conflict r.table) mine
+        ∙ nothing_dropped C table_of one_context K o.table.objects plain H respecting refl refl plain_legal wide part fronts (suc k) ∙ ap (λ (r : Recall). no_conflict r.table) mine
 
     pub agreed : (explore : History) (spent : Bool) → explore.opening ≡ o → explore.journal ≡ H → (spent ≡ false → open_of explore ≡ []) → HasAgreed C explore oracles spent
     agreed explore spent opened journal finished =
@@ -127,21 +134,19 @@ module _ (o : Opening) (H : List SetEntry) (turns : ℕ) (oracles : List Recall)
         let is : state_of explore ≡ final = ap (λ (p : Opening). state_after (opening_state p) (events_of explore.journal)) opened ∙ ap (λ (J : List SetEntry). state_after (opening_state o) (events_of J)) journal
         ∙ ap (λ (S : Settings). state_after (opening K o.table.objects S) (events_of H)) plainly in
         let done : spent ≡ false → open_in final ≡ [] = λ h.
-        ap (λ (S : Settings). open_questions S.known final.context final.accepted) (run_settings first (events_of H)) ∙ ap (λ (t : State). open_questions [] t.context t.accepted) (sym is) ∙ finished h in
+        ap (λ (S : Settings). open_questions S.known final.context final.accepted) (run_settings first (events_of H) ∙ sym plainly ∙ sym (ap (λ (p : Opening). p.settings) opened))
+        ∙ ap (λ (t : State). open_questions explore.opening.settings.known t.context t.accepted) (sym is) ∙ finished h in
         record {
           kept = none_dropped;
-          accepted = λ h. subst (λ (t : State). SameMembers t.accepted (basis C)) (sym is) (one_accepted C table_of one_context K o.table.objects H plain_legal wide part fronts (done h));
-          basis = λ h. ap (λ (t : State). basis t.context) is ∙ one_basis C table_of one_context K o.table.objects H plain_legal wide part fronts (done h);
+          accepted = λ h. subst (λ (t : State). SameMembers t.accepted (basis C)) (sym is) (one_accepted C table_of one_context K o.table.objects plain H respecting refl refl plain_legal wide part fronts (done h));
+          basis = λ h. ap (λ (t : State). basis t.context) is ∙ one_basis C table_of one_context K o.table.objects plain H respecting refl refl plain_legal wide part fronts (done h);
         }
 
 -- ---- one seat
 
-module _ (o : Opening) (old new : Seat Recall) (plainly : o.settings ≡ plain) (run : Run o old new) (H : List SetEntry) (legal : IsLegal (opening_state o) H) (i : is_expert new.pass.number ≡ true) (owns : own H new.pass.number ≡ new.pass.own) where
+module _ (o : Opening) (old new : Seat Recall) (respecting : rows_respect o.settings.known o.table.context ≡ true) (most : o.settings.holders ≡ MAX_EXPERTS) (run : Run o old new) (H : List SetEntry) (legal : IsLegal (opening_state o) H) (i : is_expert new.pass.number ≡ true) (owns : own H new.pass.number ≡ new.pass.own) where
   same_number : new.pass.number ≡ old.pass.number
   same_number = ap (λ (b : Badge Opening). b.number) run.attended.pass.same
-
-  legal_here : IsLegal (opening o.table.context o.table.objects plain) H
-  legal_here = subst (λ (S : Settings). IsLegal (opening o.table.context o.table.objects S) H) plainly legal
 
   is : is_expert old.pass.number ≡ true
   is = subst (λ (n : ℕ). is_expert n ≡ true) same_number i
@@ -149,10 +154,10 @@ module _ (o : Opening) (old new : Seat Recall) (plainly : o.settings ≡ plain) 
   own_is : own H old.pass.number ≡ old.pass.own ++ run.attended.entries
   own_is = ap (own H) (sym same_number) ∙ owns ∙ run.attended.pass.own
 
-  by_end : (most : ℕ) (end : SeatEnd) → new.ended ≡ Some end → IsEnd end old.pass run.attended.entries new.pass → length run.attended.entries ≤ most → HasMadeAtMost most old new
-  by_end most Done e end bound = inl (let took = end.1 in omega arith)
-  by_end most Spent e end bound = inl (let took = end.1 in omega arith)
-  by_end most Memory e end bound = elim end.1 [
+  by_end : (bound : ℕ) (end : SeatEnd) → new.ended ≡ Some end → IsEnd end old.pass run.attended.entries new.pass → length run.attended.entries ≤ bound → HasMadeAtMost bound old new
+  by_end n Done e end few = inl (let took = end.1 in omega arith)
+  by_end n Spent e end few = inl (let took = end.1 in omega arith)
+  by_end n Memory e end few = elim end.1 [
     | inl took ↦ inl (omega arith)
     | inr took ↦ inr (e, omega arith)
   ]
@@ -160,7 +165,7 @@ module _ (o : Opening) (old new : Seat Recall) (plainly : o.settings ≡ plain) 
   pub turns_between : HasMadeAtMost (most_turns_between H old.expert new.expert) old new
   turns_between =
       by_end (most_turns_between H old.expert new.expert) run.end run.ended run.attended.end
-      (call_turns o.table.context o.table.objects H legal_here old.pass.number is old.expert new.expert old.pass.own run.attended.entries own_is run.attended.run)
+      (call_turns o.table.context o.table.objects o.settings H respecting most legal old.pass.number is old.expert new.expert old.pass.own run.attended.entries own_is run.attended.run)
 
   -- where nothing was dropped before
   pub turns_of_seat : old.expert.conflicts ≡ no_conflict old.expert.table → SeatsTurns H old new
@@ -170,8 +175,8 @@ module _ (o : Opening) (old new : Seat Recall) (plainly : o.settings ≡ plain) 
       let oracles : IsOracles D old.pass.number (record { due = None; conflicts = no_conflict D }) entries new.expert = oracle_runs D old.pass.number None (no_conflict D) old.expert entries new.expert refl free run.attended.run in
       by_end (most_turns H new.expert) run.end run.ended run.attended.end
       (subst (λ (cs : List (Option ℕ)). length entries ≤ 2 * recorded_in H + dropped cs + 1) (sym oracles.conflicts)
-      (oracle_turns o.table.context o.table.objects H legal_here D old.pass.number is old.pass.own entries own_is oracles.run))
+      (oracle_turns o.table.context o.table.objects o.settings H respecting most legal D old.pass.number is old.pass.own entries own_is oracles.run))
 
   pub draws_of_seat : (before between after : List SetEntry) (first second : SetEntry) → H ≡ before ++ (first ∷ between ++ second ∷ after) → length old.pass.own ≤ length (own before old.pass.number)
       → first.event ≡ Draw old.pass.number → second.event ≡ Draw old.pass.number → 1 ≤ recorded_in between
-  draws_of_seat = draws_apart o.table.context o.table.objects H legal_here old.pass.number is old.expert new.expert old.pass.own run.attended.entries own_is run.attended.run
+  draws_of_seat = draws_apart o.table.context o.table.objects o.settings H respecting most legal old.pass.number is old.expert new.expert old.pass.own run.attended.entries own_is run.attended.run

@@ -101,10 +101,9 @@ module _ (gate : Lock Opening) (ps : List (Known Opening SetEntry)) (before : Li
     done_at_last : ends_done (own H 1) ≡ true → open_of explore ≡ []
     done_at_last done =
         let s : State = opening_state gate.base in
-        let settings = run_settings s (events_of H) ∙ plainly in
         let none = done_leaves_none s H 1 (opened_valid gate.base plainly) closed.is_legal.legal done in
-        subst (λ o. open_questions [] (state_after (opening_state o) (events_of H)).context (state_after (opening_state o) (events_of H)).accepted ≡ []) (sym opened)
-        (ap (λ (S : Settings). open_questions S.known (state_after s (events_of H)).context (state_after s (events_of H)).accepted) (sym settings) ∙ none)
+        subst (λ (o : Opening). open_questions o.settings.known (state_after (opening_state o) (events_of H)).context (state_after (opening_state o) (events_of H)).accepted ≡ []) (sym opened)
+        (ap (λ (S : Settings). open_questions S.known (state_after s (events_of H)).context (state_after s (events_of H)).accepted) (sym (run_settings s (events_of H))) ∙ none)
 
     none_spent : list_any (λ seat. is_spent seat.ended) news ≡ false → open_of explore ≡ []
     none_spent h = elim (cases_Bool (ends_done (own H 1))) [

@@ -2,7 +2,9 @@
 
 ghost use Rattle.std.specs.Prelude.{◌≡◌, ◌≤◌, ◌++◌, ◌∷◌, true, List, length};
 ghost use Rattle.fca_model.specs.declared.Event.TheVariants.{Draw};
-ghost use Rattle.fca_model.specs.Exploration.{SetEntry, plain, is_expert, own, IsLegal};
+ghost use Rattle.fca_model.specs.Exploration.{SetEntry, is_expert, own, IsLegal};
+ghost use Rattle.fca_model.specs.Invariant.{rows_respect};
+ghost use Rattle.fca_model.specs.declared.TheConstants.{MAX_EXPERTS};
 ghost use Rattle.explore_state.specs.History.{Opening, opening_state};
 ghost use Rattle.oracle_expert.specs.Counts.{recorded_in};
 ghost use Rattle.oracle_expert.specs.Oracles.{Recall, Answers, Learns, no_conflict};
@@ -10,26 +12,29 @@ ghost use Rattle.expert_panel.specs.declared.seat.Seat.{Seat};
 ghost use Rattle.expert_panel.specs.Seats.{HasRun};
 ghost use Rattle.expert_panel.specs.Explorations.{SeatsTurns, HasMadeAtMost, most_turns_between};
 
-/// An oracle at a seat of a panel: how many turns it makes there, where no row was dropped before, and of any
+/// An oracle at a seat of a panel where all experts may hold one question: how many turns it makes there, where no row was dropped before, and of any
 /// oracle by the rows that it drops there. `H` is any legal history that has just the pass's entries of its
 /// expert, as the one of the closed gate, or the one that the pass has seen.
 pub fn turns_of_a_seat()
-    ensures untold { (o : Opening) (old new : Seat Recall) → o.settings ≡ plain
+    ensures untold { (o : Opening) (old new : Seat Recall) → rows_respect o.settings.known o.table.context ≡ true
+        → o.settings.holders ≡ MAX_EXPERTS
         → HasRun (λ oracle. oracle.table.context.width) (λ oracle. oracle) Answers Learns o old new
         → old.expert.conflicts ≡ no_conflict old.expert.table
         → (H : List SetEntry) → IsLegal (opening_state o) H → is_expert new.pass.number ≡ true
         → own H new.pass.number ≡ new.pass.own → SeatsTurns H old new }
-    ensures any { (o : Opening) (old new : Seat Recall) → o.settings ≡ plain
+    ensures any { (o : Opening) (old new : Seat Recall) → rows_respect o.settings.known o.table.context ≡ true
+        → o.settings.holders ≡ MAX_EXPERTS
         → HasRun (λ oracle. oracle.table.context.width) (λ oracle. oracle) Answers Learns o old new
         → (H : List SetEntry) → IsLegal (opening_state o) H → is_expert new.pass.number ≡ true
         → own H new.pass.number ≡ new.pass.own
         → HasMadeAtMost (most_turns_between H old.expert new.expert) old new }
 {}
 
-/// An oracle at a seat of a panel: between two of its draws there an answer is recorded in `H`, its own or
+/// An oracle at a seat of such a panel: between two of its draws there an answer is recorded in `H`, its own or
 /// another's. `H` is as above; of the pass's entries those that it had before come first.
 pub fn draws_of_a_seat()
-    ensures { (o : Opening) (old new : Seat Recall) → o.settings ≡ plain
+    ensures { (o : Opening) (old new : Seat Recall) → rows_respect o.settings.known o.table.context ≡ true
+        → o.settings.holders ≡ MAX_EXPERTS
         → HasRun (λ oracle. oracle.table.context.width) (λ oracle. oracle) Answers Learns o old new
         → (H : List SetEntry) → IsLegal (opening_state o) H → is_expert new.pass.number ≡ true
         → own H new.pass.number ≡ new.pass.own

@@ -11,7 +11,7 @@ use Rattle.fca_model.specs.Tables.{Text, NamedContext}
 use Rattle.fca_model.specs.Implications.{Rule}
 use Rattle.fca_model.specs.Questions.{open_questions}
 use Rattle.fca_model.specs.Pseudo.{basis}
-use Rattle.fca_model.specs.Exploration.{Settings, SetEntry, own, plain, opening, open_in, state_after, events_of, is_expert, IsLegal}
+use Rattle.fca_model.specs.Exploration.{Settings, SetEntry, own, plain, rules_of, opening, open_in, state_after, events_of, is_expert, IsLegal}
 use Rattle.fca_model.proofs.CourseLemmas.{run_settings}
 use Rattle.oracle_expert.specs.Oracles.{Recall, Conflicts, no_conflict}
 use Rattle.oracle_expert.specs.Runs.{ends_done, conflicts_of}
@@ -114,19 +114,19 @@ agreed_text T H C conflicts legal done same =
     (counted (codes "# basis ") (length (basis C)) ++ arrow_lines (codes "# ") T.attributes (basis C)) conflicts
 
 pub panel_text-play : (p : Panel) (explore : History) (oracles : List Recall) (spent : Bool) → IsPlay p explore oracles spent
-    → explore_text explore.opening.table explore.opening.settings explore.journal ++ conflicts_text explore.opening.table.attributes (state_of explore).accepted (map with_conflicts oracles)
+    → explore_text explore.opening.table explore.opening.settings explore.journal ++ conflicts_text explore.opening.table.attributes (rules_of (state_of explore)) (map with_conflicts oracles)
     ≡ panel_text p explore.journal
 panel_text-play p explore oracles spent play =
     let H = explore.journal in
     let text : Opening → List (NamedContext × Conflicts) → Text = λ o dropped.
-    explore_text o.table o.settings H ++ conflicts_text o.table.attributes (state_after (opening_state o) (events_of H)).accepted dropped in
+    explore_text o.table o.settings H ++ conflicts_text o.table.attributes (rules_of (state_after (opening_state o) (events_of H))) dropped in
     let dropped = dropped-oracles H 1 oracles (λ k oracle at. (play.shares k oracle at).conflicts) in
     ap (λ o. text o (map with_conflicts oracles)) play.opening
     ∙ ap (text (opening_of p.table (length p.experts))) (dropped ∙ ap (dropped_in H 1) play.tables)
 
 agreed-play : (p : Panel) (explore : History) (oracles : List Recall) (spent : Bool) (first conflicts text : Text) → IsPlay p explore oracles spent
     → first ≡ explore_text explore.opening.table explore.opening.settings explore.journal
-    → conflicts ≡ conflicts_text explore.opening.table.attributes (state_of explore).accepted (map with_conflicts oracles) → text ≡ first ++ conflicts
+    → conflicts ≡ conflicts_text explore.opening.table.attributes (rules_of (state_of explore)) (map with_conflicts oracles) → text ≡ first ++ conflicts
     → (C : Context) → All (λ (D : NamedContext). D.context ≡ C) p.experts → is_part p.table.context C ≡ true → spent ≡ false
     → text ≡ recorded_text p explore.journal ++ basis_alone p.table.attributes (basis C)
 agreed-play p explore oracles spent first conflicts text play first_is conflicts_is joined C same part unspent =
@@ -137,14 +137,14 @@ agreed-play p explore oracles spent first conflicts text play first_is conflicts
     let done : open_at (played p H) ≡ [] = subst (λ (x : Opening). open_of (record { opening = x; journal = H; spare = 0 }) ≡ []) play.opening (play.finished unspent) in
     let same_basis : basis (state_of_text p.table plain H).context ≡ basis C = subst (λ (x : Opening). basis (state_after (opening_state x) (events_of H)).context ≡ basis C) play.opening (agreed.basis unspent) in
     let none : conflicts ≡ conflicts_section p.table.attributes (basis C) [] =
-    conflicts_is ∙ ap (λ (x : Opening). conflicts_text x.table.attributes (state_of explore).accepted (map with_conflicts oracles)) play.opening
-    ∙ no_conflicts p.table.attributes (state_of explore).accepted (basis C) oracles agreed.kept in
+    conflicts_is ∙ ap (λ (x : Opening). conflicts_text x.table.attributes (rules_of (state_of explore)) (map with_conflicts oracles)) play.opening
+    ∙ no_conflicts p.table.attributes (rules_of (state_of explore)) (basis C) oracles agreed.kept in
     joined ∙ ap (λ l. l ++ conflicts) (first_is ∙ ap (λ (x : Opening). explore_text x.table x.settings H) play.opening) ∙ ap (λ l. explore_text p.table plain H ++ l) none
     ∙ agreed_text p.table H C (conflicts_section p.table.attributes (basis C) []) legal done same_basis
 
 pub IsPanelText-play : (p : Panel) (explore : History) (oracles : List Recall) (spent : Bool) (first conflicts text : Text) → is_expert (length p.experts) ≡ true
     → IsPlay p explore oracles spent → first ≡ explore_text explore.opening.table explore.opening.settings explore.journal
-    → conflicts ≡ conflicts_text explore.opening.table.attributes (state_of explore).accepted (map with_conflicts oracles) → AreComments conflicts
+    → conflicts ≡ conflicts_text explore.opening.table.attributes (rules_of (state_of explore)) (map with_conflicts oracles) → AreComments conflicts
     → text ≡ first ++ conflicts → IsPanelText p text spent
 IsPanelText-play p explore oracles spent first conflicts text expert play first_is conflicts_is comments joined =
     let H = explore.journal in

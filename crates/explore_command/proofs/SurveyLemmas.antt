@@ -3,10 +3,11 @@ use Rattle.std.proofs.Common.{◌≡◌, ◌∙◌, ℕ, List, [], Bool, true, f
 use Rattle.fca_model.specs.Context.{Context}
 use Rattle.fca_model.specs.Implications.{Rule}
 use Rattle.fca_model.specs.Tables.{NamedContext}
-use Rattle.fca_model.specs.Pseudo.{intents, basis}
+use Rattle.fca_model.specs.Pseudo.{intents, basis, basis_known}
+use Rattle.fca_model.specs.Exploration.{Settings, plain}
 use Rattle.context_table.specs.Generated.{made_table}
 use Rattle.explore_state.specs.History.{History, state_of, open_of}
-use Rattle.explore_state.specs.Basis.{IsBasis}
+use Rattle.explore_state.specs.Basis.{IsBasisBeside}
 use Rattle.oracle_expert.specs.Oracles.{Recall}
 use Rattle.expert_panel.specs.Explorations.{HasAgreed, is_part}
 use Rattle.basis_report.specs.Surveys.{survey_text}
@@ -22,11 +23,11 @@ pub is_part-none : (s m d : ℕ) (C : Context) → is_part (made (record { seed 
 unfolding made_table
 is_part-none s m d C = refl
 
-pub length-agreed : (C : Context) (explore : History) (accepted : List Rule) (oracles : List Recall) (spent : Bool)
-    → (open_of explore ≡ [] → IsBasis (state_of explore).context accepted) → (spent ≡ false → open_of explore ≡ [])
+pub length-agreed : (C : Context) (explore : History) (accepted : List Rule) (oracles : List Recall) (spent : Bool) → explore.opening.settings ≡ plain
+    → (open_of explore ≡ [] → IsBasisBeside explore.opening.settings.known (state_of explore).context accepted) → (spent ≡ false → open_of explore ≡ [])
     → HasAgreed C explore oracles spent → spent ≡ false → length accepted ≡ length (basis C)
-length-agreed C explore accepted oracles spent is finished agreed unspent =
-    (is (finished unspent)).once ∙ ap length (agreed.basis unspent)
+length-agreed C explore accepted oracles spent plainly is finished agreed unspent =
+    (is (finished unspent)).once ∙ ap (λ (t : Settings). length (basis_known t.known (state_of explore).context)) plainly ∙ ap length (agreed.basis unspent)
 
 pub survey_text-counts : (t u : NamedContext) (n m k : ℕ) → t ≡ u → n ≡ length (intents t.context) → m ≡ length (basis t.context) → k ≡ length (basis t.context)
     → survey_text t n m k ≡ surveyed_text u

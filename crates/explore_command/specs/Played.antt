@@ -4,7 +4,7 @@ use Rattle.fca_model.specs.Context.{Context}
 use Rattle.fca_model.specs.Tables.{Text, NamedContext}
 use Rattle.fca_model.specs.Implications.{Rule}
 use Rattle.fca_model.specs.Pseudo.{basis}
-use Rattle.fca_model.specs.Exploration.{SetEntry, plain, own}
+use Rattle.fca_model.specs.Exploration.{SetEntry, plain, rules_of, own}
 use Rattle.oracle_expert.specs.Oracles.{Conflicts}
 use Rattle.oracle_expert.specs.Runs.{IsOracleFront, ends_done, conflicts_of}
 use Rattle.expert_panel.specs.Explorations.{EachNumbered, is_part}
@@ -37,7 +37,7 @@ played p H = record { opening = opening_of p.table (length p.experts); journal =
 
 -- its text, and the conflicts
 abbrev pub panel_text : Panel → List SetEntry → Text
-panel_text p H = explore_text p.table plain H ++ conflicts_text p.table.attributes (last_state (played p H)).accepted (dropped_in H 1 p.experts)
+panel_text p H = explore_text p.table plain H ++ conflicts_text p.table.attributes (rules_of (last_state (played p H))) (dropped_in H 1 p.experts)
 
 -- what its text says before the open questions
 abbrev pub recorded_text : Panel → List SetEntry → Text

@@ -1,28 +1,29 @@
 -- What the course of an exploration shows a caller: the rows of the table stay in front, a draw records nothing, and where no question
--- is open the accepted implications are the basis.
+-- is open the accepted implications are the basis beside what is known.
 use Rattle.std.proofs.Common.{◌≡◌, ◌≢◌, ℕ, Bool, true, false, cond, Option, Some, None, List, [], ◌∷◌, ◌++◌, refl, sym, ap, ◌∙◌, subst, append-nil, ◌↔◌}
 use Rattle.std.proofs.lemmas.List.{append_assoc}
 use Rattle.std.specs.List.{list_all}
 use Rattle.fca_model.specs.declared.Event.TheVariants.{Draw, Leave}
 use Rattle.fca_model.specs.declared.Reply.TheVariants.{Ask, Done, AllHeld}
+use Rattle.fca_model.specs.declared.TheConstants.{MAX_EXPERTS}
 use Rattle.fca_model.specs.Sets.{Set, within}
 use Rattle.fca_model.specs.Context.{Context, closure}
 use Rattle.fca_model.specs.Implications.{Rule, holds}
 use Rattle.fca_model.specs.Questions.{open_questions}
 use Rattle.fca_model.specs.Invariant.{is_member, Among, IsAccepted}
-use Rattle.fca_model.specs.Exploration.{State, Settings, SetHold, SetEvent, SetEntry, plain, open_in, given_back, draw_reply, all_held, least_held, asked, reply_to, next, state_after, events_of}
+use Rattle.fca_model.specs.Exploration.{State, Settings, SetHold, SetEvent, SetEntry, open_in, given_back, draw_reply, all_held, least_held, asked, reply_to, next, state_after, events_of}
 use Rattle.fca_model.proofs.ListLemmas.{list_all-mono}
 use Rattle.fca_model.proofs.SetLemmas.{within_refl}
 use Rattle.fca_model.proofs.InvariantLemmas.{member_parts}
 use Rattle.fca_model.proofs.StepLemmas.{by_change, draw_asks}
 use Rattle.fca_model.proofs.ValidLemmas.{never_all_held}
 use Rattle.fca_model.proofs.RunLemmas.{legal_events}
-use Rattle.fca_model.proofs.CourseLemmas.{exploration_count, draw_done}
+use Rattle.fca_model.proofs.CourseLemmas.{exploration_count, draw_done, run_width}
 use Rattle.fca_model.proofs.DoneLemmas.{accepted_members, accepted_length, accepted_sorted, accepted_complete, accepted_least}
 use Rattle.explore_state.specs.History.{Opening, opening_state, Admits, is_recorded}
 use Rattle.explore_state.specs.Kept.{IsKept}
-use Rattle.explore_state.specs.Basis.{IsBasis, IsRecorded}
-use Rattle.explore_state.proofs.KeptLemmas.{opened_valid, kept_width, kept_settings, kept_valid, admitted_expert}
+use Rattle.explore_state.specs.Basis.{IsBasisBeside, IsRecorded}
+use Rattle.explore_state.proofs.KeptLemmas.{kept_settings, kept_known, kept_opened, kept_valid, admitted_expert}
 
 -- ---- the rows
 
@@ -60,41 +61,41 @@ leave_not_recorded s e = refl
 
 -- ---- what callers see
 
-module _ (o : Opening) (J : List SetEntry) (K : Context) (acc : List Rule) (hs : List SetHold) (kept : IsKept o J K acc hs) (p : o.settings ≡ plain) where
+module _ (o : Opening) (J : List SetEntry) (K : Context) (acc : List Rule) (hs : List SetHold) (kept : IsKept o J K acc hs) where
   abbrev now : State
   now = state_after (opening_state o) (events_of J)
 
-  nothing_known : now.settings.known ≡ []
-  nothing_known = ap (λ (t : Settings). t.known) (kept_settings o J K acc hs kept p)
+  abbrev S : List Rule
+  S = o.settings.known
 
-  opened : open_in now ≡ open_questions [] now.context now.accepted
-  opened = ap (λ S. open_questions S now.context now.accepted) nothing_known
+  opened : open_in now ≡ open_questions S now.context now.accepted
+  opened = ap (λ T. open_questions T now.context now.accepted) (kept_known o J K acc hs kept)
 
-  pub draw_is_done : (e : ℕ) → (reply_to now (Draw e) ≡ Done) ↔ (open_questions [] now.context now.accepted ≡ [])
+  pub draw_is_done : (e : ℕ) → (reply_to now (Draw e) ≡ Done) ↔ (open_questions S now.context now.accepted ≡ [])
   draw_is_done e = (λ h. sym opened ∙ (draw_done now e).0 h, λ none. (draw_done now e).1 (opened ∙ none))
 
-  pub draw_is_open : (e : ℕ) (q : Rule) → reply_to now (Draw e) ≡ Ask q → Among (open_questions [] now.context now.accepted) q
+  pub draw_is_open : (e : ℕ) (q : Rule) → reply_to now (Draw e) ≡ Ask q → Among (open_questions S now.context now.accepted) q
   unfolding reply_to
   draw_is_open e q h = subst (λ L. Among L q) opened (draw_asks now.settings.holders (given_back e now.holds) (open_in now) q h)
 
-  pub draw_is_free : (e : ℕ) → Admits o (Draw e) → reply_to now (Draw e) ≢ AllHeld
-  draw_is_free e ok = never_all_held now (kept_valid o J K acc hs kept p) (ap (λ (t : Settings). t.holders) (kept_settings o J K acc hs kept p)) e (admitted_expert o J K acc hs kept (Draw e) ok)
+  pub draw_is_free : o.settings.holders ≡ MAX_EXPERTS → (e : ℕ) → Admits o (Draw e) → reply_to now (Draw e) ≢ AllHeld
+  draw_is_free most e ok = never_all_held now (kept_valid o J K acc hs kept) (ap (λ (t : Settings). t.holders) (kept_settings o J K acc hs kept) ∙ most) e (admitted_expert o J K acc hs kept (Draw e) ok)
 
-  pub accepted_is : IsAccepted [] now.context now.accepted
-  accepted_is = subst (λ S. IsAccepted S now.context now.accepted) nothing_known (kept_valid o J K acc hs kept p).accepted
+  pub accepted_is : IsAccepted S now.context now.accepted
+  accepted_is = subst (λ T. IsAccepted T now.context now.accepted) (kept_known o J K acc hs kept) (kept_valid o J K acc hs kept).accepted
 
   pub accepted_hold : list_all (holds now.context) now.accepted ≡ true
-  accepted_hold = list_all-mono (is_member [] now.context) (holds now.context) (λ i m.
-      subst (λ C. within C (closure now.context i.premise) ≡ true) (sym (ap (λ (j : Rule). j.conclusion) (member_parts [] now.context i m).2)) (within_refl (closure now.context i.premise)))
+  accepted_hold = list_all-mono (is_member S now.context) (holds now.context) (λ i m.
+      subst (λ C. within C (closure now.context i.premise) ≡ true) (sym (ap (λ (j : Rule). j.conclusion) (member_parts S now.context i m).2)) (within_refl (closure now.context i.premise)))
       now.accepted accepted_is.members
 
-  pub basis_is : open_questions [] now.context now.accepted ≡ [] → IsBasis now.context now.accepted
-  basis_is done = record {
-    members = accepted_members [] now.context now.accepted accepted_is done;
-    once = accepted_length [] now.context now.accepted accepted_is done;
-    sorted = accepted_sorted [] now.context now.accepted accepted_is done;
-    complete = accepted_complete [] now.context now.accepted accepted_is done refl;
-    least = accepted_least [] now.context now.accepted accepted_is done refl;
+  pub basis_is : list_all (holds now.context) S ≡ true → open_questions S now.context now.accepted ≡ [] → IsBasisBeside S now.context now.accepted
+  basis_is known done = record {
+    members = accepted_members S now.context now.accepted accepted_is done;
+    once = accepted_length S now.context now.accepted accepted_is done;
+    sorted = accepted_sorted S now.context now.accepted accepted_is done;
+    complete = accepted_complete S now.context now.accepted accepted_is done known;
+    least = accepted_least S now.context now.accepted accepted_is done known;
   }
 
   pub recorded_is : IsRecorded o.table.context now.context now.accepted
@@ -103,6 +104,6 @@ module _ (o : Opening) (J : List SetEntry) (K : Context) (acc : List Rule) (hs :
       record {
         recorded = rows.0;
         rows = rows.1;
-        width = ap (λ (L : Context). L.width) kept.shown.context ∙ kept_width o J K acc hs kept;
-        count = exploration_count (opening_state o) (opened_valid o p) (events_of J) (legal_events (opening_state o) J kept.legal).0 rows.0 rows.1;
+        width = run_width (opening_state o) (events_of J);
+        count = exploration_count (opening_state o) (kept_opened o J K acc hs kept) (events_of J) (legal_events (opening_state o) J kept.legal).0 rows.0 rows.1;
       }

@@ -1,5 +1,5 @@
--- What the parts of an exploration show of its state, and how one event keeps it. The journal is legal, so the state after it is valid; with nothing known
--- and as many holders as experts, the reply is read off the rows, the accepted implications and the holds.
+-- What the parts of an exploration show of its state, and how one event keeps it. The journal is legal, so the state after it is valid; the reply is read
+-- off the settings, the rows, the accepted implications and the holds.
 use Rattle.std.proofs.Common.{◌≡◌, ℕ, true, Some, None, List, [], ◌∷◌, ◌++◌, leb, le-leb, leb-true, refl, sym, ap, ap₂, ◌∙◌, subst, arith}
 use Rattle.std.proofs.lemmas.Bool.{and_parts, and_from}
 use Rattle.fca_model.specs.declared.Event.TheVariants.{Draw, Confirm, Row, Leave}
@@ -10,7 +10,7 @@ use Rattle.fca_model.specs.Context.{Context}
 use Rattle.fca_model.specs.Implications.{Rule, respects_all}
 use Rattle.fca_model.specs.Questions.{open_questions}
 use Rattle.fca_model.specs.Invariant.{IsValid, rows_respect}
-use Rattle.fca_model.specs.Exploration.{State, Settings, RowName, held_by, confirm_reply, row_reply, SetHold, SetEvent, SetEntry, SetReply, plain, open_in, given_back, draw_reply, reply_to, after, next, state_after, events_of, expert_of, has_width, is_expert, IsLegal}
+use Rattle.fca_model.specs.Exploration.{State, Settings, RowName, rules_of, held_by, confirm_reply, row_reply, SetHold, SetEvent, SetEntry, SetReply, plain, open_in, given_back, draw_reply, reply_to, after, next, state_after, events_of, expert_of, has_width, is_expert, IsLegal}
 use Rattle.fca_model.proofs.ListLemmas.{list_all_from}
 use Rattle.fca_model.proofs.ValidLemmas.{opening_valid}
 use Rattle.fca_model.proofs.RunLemmas.{state_after-push, events_of-push, legal_none, legal_push, legal_valid}
@@ -23,12 +23,14 @@ pub opened_valid : (o : Opening) → o.settings ≡ plain → IsValid (opening_s
 opened_valid o p = opening_valid o.table.context o.table.objects o.settings
     (subst (λ (t : Settings). rows_respect t.known o.table.context ≡ true) (sym p) (list_all_from (respects_all []) (λ row. refl) o.table.context.rows))
 
-pub kept_opening : (o : Opening) (J : List SetEntry) (K : Context) (acc : List Rule) (hs : List SetHold) → is_expert o.experts ≡ true → J ≡ [] → K ≡ o.table.context → acc ≡ [] → hs ≡ [] → IsKept o J K acc hs
+pub kept_opening : (o : Opening) (J : List SetEntry) (K : Context) (acc : List Rule) (hs : List SetHold) → is_expert o.experts ≡ true → rows_respect o.settings.known o.table.context ≡ true
+    → J ≡ [] → K ≡ o.table.context → acc ≡ [] → hs ≡ [] → IsKept o J K acc hs
 unfolding state_after
-kept_opening o J K acc hs e no_entry rows nothing none = subst (λ H. IsKept o H K acc hs) (sym no_entry) (record {
+kept_opening o J K acc hs e respecting no_entry rows nothing none = subst (λ H. IsKept o H K acc hs) (sym no_entry) (record {
   shown = record { context = sym rows; accepted = sym nothing; holds = sym none };
   legal = legal_none (opening_state o);
   experts = e;
+  known = respecting;
 })
 
 module _ (o : Opening) (J : List SetEntry) (K : Context) (acc : List Rule) (hs : List SetHold) (kept : IsKept o J K acc hs) where
@@ -46,11 +48,20 @@ module _ (o : Opening) (J : List SetEntry) (K : Context) (acc : List Rule) (hs :
   pub kept_width : K.width ≡ o.table.context.width
   kept_width = ap (λ (L : Context). L.width) (sym kept.shown.context) ∙ run_width (opening_state o) (events_of J)
 
-  pub kept_settings : o.settings ≡ plain → s.settings ≡ plain
-  kept_settings p = run_settings (opening_state o) (events_of J) ∙ p
+  pub kept_settings : s.settings ≡ o.settings
+  kept_settings = run_settings (opening_state o) (events_of J)
 
-  pub kept_valid : o.settings ≡ plain → IsValid s
-  kept_valid p = legal_valid (opening_state o) J (opened_valid o p) kept.legal
+  pub kept_known : s.settings.known ≡ o.settings.known
+  kept_known = ap (λ (t : Settings). t.known) kept_settings
+
+  pub kept_rules : rules_of s ≡ o.settings.known ++ acc
+  kept_rules = ap₂ (λ S A. S ++ A) kept_known kept.shown.accepted
+
+  pub kept_opened : IsValid (opening_state o)
+  kept_opened = opening_valid o.table.context o.table.objects o.settings kept.known
+
+  pub kept_valid : IsValid s
+  kept_valid = legal_valid (opening_state o) J kept_opened kept.legal
 
   -- one entry more
   pub kept_push : (event : SetEvent) (reply : SetReply) (J' : List SetEntry) (K' : Context) (acc' : List Rule) (hs' : List SetHold) → Admits o event → reply ≡ reply_to s event
@@ -64,6 +75,7 @@ module _ (o : Opening) (J : List SetEntry) (K : Context) (acc : List Rule) (hs :
         shown = subst (λ t. IsShown t K' acc' hs') (sym moved) shown;
         legal = subst (IsLegal (opening_state o)) (sym (more ∙ ap (λ r. J ++ record { event = event; reply = r } ∷ []) is)) (legal_push (opening_state o) J event kept.legal (admitted_expert event ok) ok.wide);
         experts = kept.experts;
+        known = kept.known;
       }
 
 -- the state moves by one step
@@ -74,25 +86,23 @@ state_moves s J J' event reply more =
 
 -- ---- the reply, read off what the state shows
 
-module _ (o : Opening) (J : List SetEntry) (K : Context) (acc : List Rule) (hs : List SetHold) (kept : IsKept o J K acc hs) (p : o.settings ≡ plain) where
+module _ (o : Opening) (J : List SetEntry) (K : Context) (acc : List Rule) (hs : List SetHold) (kept : IsKept o J K acc hs) where
   abbrev now : State
   now = state_after (opening_state o) (events_of J)
 
-  settings : now.settings ≡ plain
-  settings = kept_settings o J K acc hs kept p
+  known : now.settings.known ≡ o.settings.known
+  known = kept_known o J K acc hs kept
 
-  known : now.settings.known ≡ []
-  known = ap (λ (t : Settings). t.known) settings
-
-  pub reply_to-draw : (e : ℕ) → reply_to now (Draw e) ≡ draw_reply MAX_EXPERTS (given_back e hs) (open_questions [] K acc)
+  pub reply_to-draw : (e : ℕ) → reply_to now (Draw e) ≡ draw_reply o.settings.holders (given_back e hs) (open_questions o.settings.known K acc)
   unfolding reply_to
   reply_to-draw e =
-      ap (λ n. draw_reply n (given_back e now.holds) (open_in now)) (ap (λ (t : Settings). t.holders) settings)
-      ∙ ap (λ gs. draw_reply MAX_EXPERTS (given_back e gs) (open_in now)) kept.shown.holds
-      ∙ ap (λ S. draw_reply MAX_EXPERTS (given_back e hs) (open_questions S now.context now.accepted)) known
-      ∙ ap₂ (λ L A. draw_reply MAX_EXPERTS (given_back e hs) (open_questions [] L A)) kept.shown.context kept.shown.accepted
+      ap (λ n. draw_reply n (given_back e now.holds) (open_in now)) (ap (λ (t : Settings). t.holders) (kept_settings o J K acc hs kept))
+      ∙ ap (λ gs. draw_reply o.settings.holders (given_back e gs) (open_in now)) kept.shown.holds
+      ∙ ap (λ S. draw_reply o.settings.holders (given_back e hs) (open_questions S now.context now.accepted)) known
+      ∙ ap₂ (λ L A. draw_reply o.settings.holders (given_back e hs) (open_questions o.settings.known L A)) kept.shown.context kept.shown.accepted
 
-  pub reply_to-confirm : (e : ℕ) (q : Rule) (r : SetReply) → held_by e hs ≡ Some q → ((t : State) → t.context ≡ K → t.accepted ≡ acc → t.settings.known ≡ [] → r ≡ confirm_reply t (Some q)) → r ≡ reply_to now (Confirm e)
+  pub reply_to-confirm : (e : ℕ) (q : Rule) (r : SetReply) → held_by e hs ≡ Some q
+      → ((t : State) → t.context ≡ K → t.accepted ≡ acc → t.settings.known ≡ o.settings.known → r ≡ confirm_reply t (Some q)) → r ≡ reply_to now (Confirm e)
   unfolding reply_to
   reply_to-confirm e q r held is = is now kept.shown.context kept.shown.accepted known ∙ sym (ap (confirm_reply now) (ap (held_by e) kept.shown.holds ∙ held))
 
@@ -100,9 +110,10 @@ module _ (o : Opening) (J : List SetEntry) (K : Context) (acc : List Rule) (hs :
   unfolding reply_to
   reply_to-confirm_none e held = sym (ap (confirm_reply now) (ap (held_by e) kept.shown.holds ∙ held))
 
-  pub reply_to-row : (e : ℕ) (name : RowName) (row : Set) (q : Rule) (r : SetReply) → held_by e hs ≡ Some q → ((t : State) → t.context ≡ K → t.accepted ≡ acc → t.settings.known ≡ [] → r ≡ row_reply t (Some q) row) → r ≡ reply_to now (Row e name row)
+  pub reply_to-row : (e : ℕ) (name : RowName) (row : Set) (q : Rule) (r : SetReply) → held_by e hs ≡ Some q
+      → ((t : State) → t.context ≡ K → rules_of t ≡ o.settings.known ++ acc → r ≡ row_reply t (Some q) row) → r ≡ reply_to now (Row e name row)
   unfolding reply_to
-  reply_to-row e name row q r held is = is now kept.shown.context kept.shown.accepted known ∙ sym (ap (λ m. row_reply now m row) (ap (held_by e) kept.shown.holds ∙ held))
+  reply_to-row e name row q r held is = is now kept.shown.context (kept_rules o J K acc hs kept) ∙ sym (ap (λ m. row_reply now m row) (ap (held_by e) kept.shown.holds ∙ held))
 
   pub reply_to-row_none : (e : ℕ) (name : RowName) (row : Set) → held_by e hs ≡ None → NotHeld ≡ reply_to now (Row e name row)
   unfolding reply_to
@@ -113,12 +124,12 @@ module _ (o : Opening) (J : List SetEntry) (K : Context) (acc : List Rule) (hs :
   reply_to-leave e = refl
 
   -- an event that is admitted is due its reply
-  pub kept_due : (event : SetEvent) (reply : SetReply) → Admits o event → reply ≡ reply_to now event → IsDue [] K acc hs event reply
+  pub kept_due : (event : SetEvent) (reply : SetReply) → Admits o event → reply ≡ reply_to now event → IsDue o.settings.known K acc hs event reply
   kept_due event reply ok is = record {
     state = now;
     shown = kept.shown;
     known = known;
-    valid = kept_valid o J K acc hs kept p;
+    valid = kept_valid o J K acc hs kept;
     expert = admitted_expert o J K acc hs kept event ok;
     wide = subst (λ n. has_width n event ≡ true) (sym (kept_width o J K acc hs kept)) ok.wide;
     reply = is;

@@ -4,3 +4,4 @@ pub mod FewestLemmas
 pub mod ReplyLemmas
 pub mod KeptLemmas
 pub mod CourseLemmas
+pub mod OpenLemmas

@@ -1,20 +1,24 @@
 -- What is recorded of a table, and what the accepted implications are when no question is open.
-use Rattle.std.specs.Prelude.{◌≡◌, ◌≤◌, ◌+◌, ◌^◌, true, List, ◌++◌, length}
+use Rattle.std.specs.Prelude.{◌≡◌, ◌≤◌, ◌+◌, ◌^◌, true, List, [], ◌++◌, length}
 use Rattle.fca_model.specs.Sets.{Set, increasing}
 use Rattle.fca_model.specs.Context.{Context}
 use Rattle.fca_model.specs.Implications.{Rule, premises, holds, follows, equivalent}
-use Rattle.fca_model.specs.Pseudo.{basis, intents}
+use Rattle.fca_model.specs.Pseudo.{basis_known, intents}
 use Rattle.fca_model.specs.Invariant.{SameMembers}
 
--- The list is the basis but for its order: it has the same members, each once, and in lectic order it is the basis. Just what
--- holds follows from it, and no equivalent list has fewer members.
-pub record IsBasis (K : Context) (J : List Rule) : Type 0 where
-  pub members : SameMembers J (basis K)
-  pub once : length J ≡ length (basis K)
-  pub sorted : (L : List Rule) → SameMembers L J → increasing (premises L) ≡ true → L ≡ basis K
+-- Where S is known, the list is the basis beside S but for its order: it has the same members, each once, and in lectic order it is
+-- that basis. Just what holds follows from S and the list, and no list that is equivalent beside S has fewer members.
+pub record IsBasisBeside (S : List Rule) (K : Context) (J : List Rule) : Type 0 where
+  pub members : SameMembers J (basis_known S K)
+  pub once : length J ≡ length (basis_known S K)
+  pub sorted : (L : List Rule) → SameMembers L J → increasing (premises L) ≡ true → L ≡ basis_known S K
   pub complete : (i : Rule) → length i.premise ≡ K.width → length i.conclusion ≡ K.width
-      → holds K i ≡ follows K.width J i
-  pub least : (L : List Rule) → equivalent K.width L J ≡ true → length J ≤ length L
+      → holds K i ≡ follows K.width (S ++ J) i
+  pub least : (L : List Rule) → equivalent K.width (S ++ L) (S ++ J) ≡ true → length J ≤ length L
+
+-- where nothing is known
+abbrev pub IsBasis : Context → List Rule → Type 0
+IsBasis K J = IsBasisBeside [] K J
 
 -- The rows of K are those of the table and then the recorded ones. The concepts of the table, the recorded rows and the accepted
 -- implications are together no more than there are sets.

@@ -26,9 +26,9 @@ pub record History : Type 0 where
 abbrev pub state_of : History → State
 state_of h = state_after (opening_state h.opening) (events_of h.journal)
 
--- the questions that are open after them
+-- the questions that are open after them, beside what was known at the opening
 abbrev pub open_of : History → List Rule
-open_of h = open_questions [] (state_of h).context (state_of h).accepted
+open_of h = open_questions h.opening.settings.known (state_of h).context (state_of h).accepted
 
 -- the event is of one of the experts, and a row has the width of the table
 pub record Admits (o : Opening) (event : SetEvent) : Type 0 where

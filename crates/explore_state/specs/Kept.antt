@@ -3,7 +3,7 @@ use Rattle.std.specs.Prelude.{◌≡◌, true, false, Option, Some, None, List, 
 use Rattle.fca_model.specs.Context.{Context}
 use Rattle.fca_model.specs.Implications.{Rule, holds}
 use Rattle.fca_model.specs.Questions.{has_premise}
-use Rattle.fca_model.specs.Invariant.{IsHeld, IsValid}
+use Rattle.fca_model.specs.Invariant.{IsHeld, IsValid, rows_respect}
 use Rattle.fca_model.specs.Exploration.{State, SetHold, SetEvent, SetReply, SetEntry, reply_to, state_after, events_of, expert_of, has_width, is_expert, IsLegal}
 use Rattle.explore_state.specs.History.{Opening, opening_state}
 
@@ -13,11 +13,12 @@ pub record IsShown (s : State) (K : Context) (acc : List Rule) (hs : List SetHol
   pub accepted : s.accepted ≡ acc
   pub holds : s.holds ≡ hs
 
--- they are those after the journal, which is legal
+-- they are those after the journal, which is legal; the rows of the opening respect what is known
 pub record IsKept (o : Opening) (J : List SetEntry) (K : Context) (acc : List Rule) (hs : List SetHold) : Type 0 where
   pub shown : IsShown (state_after (opening_state o) (events_of J)) K acc hs
   pub legal : IsLegal (opening_state o) J
   pub experts : is_expert o.experts ≡ true
+  pub known : rows_respect o.settings.known o.table.context ≡ true
 
 -- the reply is the one to the event, in a state that has these known implications, rows, accepted implications and holds
 pub record IsDue (S : List Rule) (K : Context) (acc : List Rule) (hs : List SetHold) (event : SetEvent)

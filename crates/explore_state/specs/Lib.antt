@@ -2,3 +2,5 @@ pub mod History
 pub mod Basis
 pub mod Fewest
 pub mod Kept
+pub mod Settings
+pub mod Faults

@@ -1,34 +1,46 @@
 //! Explorations: the questions open in a table, what experts draw and answer, and the journal of it.
 #![tactic(auto)]
 
-ghost use Rattle.std.specs.Prelude.{◌≡◌, ◌≢◌, ◌≤◌, ◌<◌, ◌+◌, ◌↔◌, ◌==◌, ℕ, [], IsOk, IfOk, OnOk, OnErr, IsErrOf, IsNone, IfSome, true, false, vec_len, vec_capacity, All};
+ghost use Rattle.std.specs.Prelude.{◌≡◌, ◌≢◌, ◌≤◌, ◌<◌, ◌+◌, ◌↔◌, ◌⊎◌, ◌==◌, ℕ, [], Some, IsOk, IfOk, OnOk, OnErr, IfErr, IsErrOf, IsNone, IfSome, true, false, vec_len, vec_capacity, All};
 ghost use Rattle.std.specs.List.{list_all};
 ghost use Rattle.fca_model.specs.Sets.{size};
 ghost use Rattle.fca_model.specs.Implications.{Rule, holds};
 ghost use Rattle.fca_model.specs.Invariant.{Among, IsAccepted, IsValid};
+ghost use Rattle.fca_model.specs.declared.TheConstants.{MAX_EXPERTS};
 ghost use Rattle.fca_model.specs.declared.Event.TheVariants.{Draw, Confirm, Row, Leave};
 ghost use Rattle.fca_model.specs.declared.Reply.TheVariants.{Ask, Done, AllHeld};
-ghost use Rattle.fca_model.specs.Exploration.{plain, reply_to, held_by, is_expert, IsLegal};
+ghost use Rattle.fca_model.specs.Exploration.{plain, rules_of, reply_to, held_by, is_expert, IsLegal};
 ghost use Rattle.fca_model.specs.Widths.{HasWideReply};
 ghost use Rattle.explore_state.specs.History.{opening_state, state_of, open_of, Admits, IsStep, IsSame, is_recorded};
-ghost use Rattle.explore_state.specs.Basis.{IsBasis, IsRecorded};
+ghost use Rattle.explore_state.specs.Basis.{IsBasisBeside, IsRecorded};
+ghost use Rattle.explore_state.specs.Settings.{settings_of};
+ghost use Rattle.explore_state.specs.Faults.{open_fault};
 
 mod changes;
+mod fault;
 mod holds;
+mod names;
 mod replies;
+mod settings;
+#[cfg(test)]
+mod tests;
 
 use crate::changes::change;
+pub use crate::fault::OpenFault;
+use crate::fault::{is_expert, open_fault};
 use crate::holds::held_in;
+pub use crate::names::ExpertNames;
 use crate::replies::{reply_to_confirmation, reply_to_draw, reply_to_row};
+pub use crate::settings::Settings;
 use attr_bits::Attrs;
 use context_table::Table;
 use derivation::Rows;
 use fca_model::{MAX_EXPERTS, Memory, Name};
+use implication_closure::ImplicationList;
 pub use implication_closure::{Implication, Question};
 use level_queue::LevelQueue;
 use std::alloc::{AllocError, Global};
 use std::marker::Model;
-use thiserror::Error;
 
 /// What an expert does.
 pub type Event = fca_model::Event<Name, Attrs>;
@@ -42,70 +54,45 @@ pub type Entry = fca_model::Entry<Name, Attrs>;
 /// A question that an expert holds.
 pub type Hold = fca_model::Hold<Attrs>;
 
-/// Why no exploration was opened.
-#[derive(Debug, Drop, Error)]
-pub enum OpenFault {
-    #[error("{0} experts, where there may be 1 to 64")]
-    BadExperts(u8),
-    #[error("no memory")]
-    Memory,
-}
-
-impl From<Memory> for OpenFault {
-    ghost use Rattle.explore_state.specs.declared.OpenFault.TheVariants as fault;
-
-    ghost from_gives = { λ _ e. e ≡ fault.Memory };
-
-    fn from(_memory: Memory) -> OpenFault {
-        OpenFault::Memory
-    }
-}
-
-impl From<AllocError> for OpenFault {
-    ghost use Rattle.explore_state.specs.declared.OpenFault.TheVariants as fault;
-
-    ghost from_gives = { λ _ e. e ≡ fault.Memory };
-
-    fn from(_error: AllocError) -> OpenFault {
-        OpenFault::Memory
-    }
-}
-
 /// A table that is explored by experts.
 #[derive(Drop)]
 pub struct Explore {
     table: Table,
     experts: u8,
+    settings: Settings,
     queue: LevelQueue,
     held: Vec<Hold>,
     journal: Vec<Entry>,
 }
 
 impl Model for Explore {
-    ghost use Rattle.std.specs.Prelude.{◌≡◌, ◌≤◌, ◌-◌, [], vec_len, vec_capacity};
+    ghost use Rattle.std.specs.Prelude.{◌≡◌, ◌≤◌, ◌-◌, true, vec_len, vec_capacity};
     ghost use Rattle.fca_model.specs.declared.TheConstants.{MAX_EXPERTS};
-    ghost use Rattle.fca_model.specs.Exploration.{plain};
+    ghost use Rattle.fca_model.specs.Exploration.{is_expert};
     ghost use Rattle.explore_state.specs.History.{History};
     ghost use Rattle.explore_state.specs.Kept.{IsKept};
+    ghost use Rattle.explore_state.specs.Settings.{settings_of};
 
     ghost Value = { History };
 
     ghost view = { λ a. record {
-      opening = record { table = a.table; experts = a.experts; settings = plain };
+      opening = record { table = a.table; experts = a.experts; settings = settings_of a.settings };
       journal = a.journal.items;
       spare = vec_capacity a.journal - vec_len a.journal;
     } };
 
     ghost invariant = { λ a. record {
-      kept : IsKept (record { table = a.table; experts = a.experts; settings = plain })
+      kept : IsKept (record { table = a.table; experts = a.experts; settings = settings_of a.settings })
           a.journal.items a.queue.context a.queue.accepted a.held.items;
-      known : a.queue.known ≡ [];
+      known : a.queue.known ≡ a.settings.known.members;
+      wide : a.settings.known.width ≡ a.table.context.width;
+      holders : is_expert a.settings.holders ≡ true;
       room : MAX_EXPERTS ≤ vec_capacity a.held;
     } };
 }
 
 impl Explore {
-    /// The table, explored by experts numbered from 1: nothing is accepted, nothing is held, and the
+    /// The table, explored by experts numbered from 1 with nothing known: nothing is accepted, nothing is held, and the
     /// journal is empty.
     pub fn open(alloc: Global, table: Table, experts: u8) -> Result<Explore, OpenFault>
         ensures opening { IfOk result (λ explore. explore.opening
@@ -113,15 +100,67 @@ impl Explore {
         ensures journal { IfOk result (λ explore. explore.journal ≡ []) }
         ensures bad_experts { IsErrOf result (OpenFault.BadExperts experts) ↔ (is_expert experts ≡ false) }
         ensures count { (n : ℕ) → IsErrOf result (OpenFault.BadExperts n) → n ≡ experts }
+        ensures no_other { IfErr result (λ fault. (fault ≡ OpenFault.BadExperts experts) ⊎ (fault ≡ OpenFault.Memory)) }
     {
-        if experts == 0 || experts > MAX_EXPERTS {
+        if !is_expert(experts) {
             return Err(OpenFault::BadExperts(experts));
         }
-        let queue = LevelQueue::open(alloc, table.rows())?;
+        let settings = Settings::plain(alloc, table.rows().width())?;
+        Explore::open_with(alloc, table, experts, settings)
+    }
+
+    /// The table, explored by experts who ask only about sets that respect what is known.
+    pub fn open_known(
+        alloc: Global,
+        table: Table,
+        experts: u8,
+        known: ImplicationList,
+    ) -> Result<Explore, OpenFault>
+        requires { known.width ≡ table.context.width }
+        ensures opening { IfOk result (λ explore. explore.opening ≡ record {
+          table = table;
+          experts = experts;
+          settings = record { known = known.members; holders = MAX_EXPERTS; expert_names = [] };
+        }) }
+        ensures journal { IfOk result (λ explore. explore.journal ≡ []) }
+        ensures refused { IfSome (open_fault table.context experts
+            (record { known = known.members; holders = MAX_EXPERTS; expert_names = [] })) (IsErrOf result) }
+        ensures no_other { IfErr result (λ fault. (fault ≡ OpenFault.Memory) ⊎ (open_fault table.context experts
+            (record { known = known.members; holders = MAX_EXPERTS; expert_names = [] }) ≡ Some fault)) }
+    {
+        let settings = Settings {
+            known,
+            holders: MAX_EXPERTS,
+            names: ExpertNames::new(alloc),
+        };
+        Explore::open_with(alloc, table, experts, settings)
+    }
+
+    /// The table, explored by experts under the settings.
+    pub fn open_with(
+        alloc: Global,
+        table: Table,
+        experts: u8,
+        settings: Settings,
+    ) -> Result<Explore, OpenFault>
+        requires { settings.known.width ≡ table.context.width }
+        ensures opening { IfOk result (λ explore. explore.opening
+            ≡ record { table = table; experts = experts; settings = settings_of settings }) }
+        ensures journal { IfOk result (λ explore. explore.journal ≡ []) }
+        ensures refused { IfSome (open_fault table.context experts (settings_of settings)) (IsErrOf result) }
+        ensures no_other { IfErr result (λ fault. (fault ≡ OpenFault.Memory)
+            ⊎ (open_fault table.context experts (settings_of settings) ≡ Some fault)) }
+    {
+        if let Some(fault) = open_fault(&table, experts, &settings) {
+            return Err(fault);
+        }
+        let _known = settings.known.as_slice();
+        let queue = LevelQueue::open_known(alloc, table.rows(), &settings.known)?;
         let held = Vec::with_capacity(alloc, MAX_EXPERTS as usize)?;
         Ok(Explore {
             table,
             experts,
+            settings,
             queue,
             held,
             journal: Vec::new(alloc),
@@ -154,7 +193,7 @@ impl Explore {
         ensures done { IfOk result (λ reply. (reply ≡ Done) ↔ (open_of self.old ≡ [])) }
         ensures asked { IfOk result (λ reply. (q : Rule) → reply ≡ Ask q
             → Among (open_of self.old) q) }
-        ensures free { IfOk result (λ reply. reply ≢ AllHeld) }
+        ensures free { self.old.opening.settings.holders ≡ MAX_EXPERTS → IfOk result (λ reply. reply ≢ AllHeld) }
         ensures err { OnErr result (IsSame self.old self.new) }
         ensures spare { 1 ≤ self.old.spare
             → IsOk result × (self.new.spare + 1 ≡ self.old.spare) }
@@ -225,6 +264,22 @@ impl Explore {
         self.experts
     }
 
+    /// What the exploration was opened with besides its table.
+    pub fn settings(&self) -> &Settings
+        ensures settings { settings_of result.now ≡ self.now.opening.settings }
+        ensures width { result.now.known.width ≡ self.now.opening.table.context.width }
+        ensures holders { is_expert result.now.holders ≡ true }
+    {
+        &self.settings
+    }
+
+    /// What was known beforehand.
+    pub fn known(&self) -> &[Implication]
+        ensures { result.now ≡ self.now.opening.settings.known }
+    {
+        self.settings.known.as_slice()
+    }
+
     /// The rows of the table and then the recorded ones.
     pub fn rows(&self) -> &Rows
         ensures rows { result.now ≡ (state_of self.now).context }
@@ -237,11 +292,20 @@ impl Explore {
     /// The accepted implications, in the order in which they were accepted.
     pub fn accepted(&self) -> &[Implication]
         ensures accepted { result.now ≡ (state_of self.now).accepted }
-        ensures members { IsAccepted [] (state_of self.now).context result.now }
+        ensures members { IsAccepted self.now.opening.settings.known (state_of self.now).context result.now }
         ensures hold { list_all (holds (state_of self.now).context) result.now ≡ true }
-        ensures basis { open_of self.now ≡ [] → IsBasis (state_of self.now).context result.now }
+        ensures basis { open_of self.now ≡ []
+            → IsBasisBeside self.now.opening.settings.known (state_of self.now).context result.now }
     {
+        let _rules = self.queue.rules();
         self.queue.accepted().as_slice()
+    }
+
+    /// What was known and then what was accepted, as answers count it.
+    pub fn rules(&self) -> &[Implication]
+        ensures { result.now ≡ rules_of (state_of self.now) }
+    {
+        self.queue.rules().as_slice()
     }
 
     /// The open questions, in lectic order of their premises.
@@ -270,12 +334,12 @@ impl Explore {
     /// Each event with its reply, the oldest first.
     pub fn journal(&self) -> &[Entry]
         ensures entries { result.now ≡ self.now.journal }
-        ensures plain { self.now.opening.settings ≡ plain }
         ensures legal { IsLegal (opening_state self.now.opening) result.now }
         ensures valid { IsValid (state_of self.now) }
         ensures wide { All (λ entry. HasWideReply self.now.opening.table.context.width entry.reply) self.now.journal }
     {
         let _rows = self.table.rows();
+        let _known = self.settings.known.as_slice();
         &self.journal
     }
 
@@ -288,17 +352,20 @@ impl Explore {
                 self.queue.open_questions(),
                 &self.held,
                 *expert,
-                MAX_EXPERTS as usize,
+                self.settings.holders as usize,
             ),
             Event::Confirm { expert } => match held_in(&self.held, *expert) {
-                Some(question) => {
-                    reply_to_confirmation(self.queue.rows(), self.queue.accepted(), &question)
-                }
+                Some(question) => reply_to_confirmation(
+                    self.queue.rows(),
+                    self.settings.known.as_slice(),
+                    self.queue.accepted(),
+                    &question,
+                ),
                 None => Reply::NotHeld,
             },
             Event::Row { expert, row, .. } => match held_in(&self.held, *expert) {
                 Some(question) => {
-                    reply_to_row(self.queue.rows(), self.queue.accepted(), &question, row)
+                    reply_to_row(self.queue.rows(), self.queue.rules(), &question, row)
                 }
                 None => Reply::NotHeld,
             },
@@ -326,85 +393,4 @@ fn again(reply: &Reply) -> Reply
     ensures { result ≡ reply.now }
 {
     *reply
-}
-
-#[cfg(test)]
-mod tests {
-    use super::{Explore, OpenFault, Reply};
-    use attr_bits::Attrs;
-    use context_table::Table;
-    use derivation::Rows;
-    use fca_model::{Memory, Name};
-    use std::alloc::Global;
-    use std::rt::HostRuntime;
-
-    fn name(alloc: Global, text: &str) -> Result<Name, Memory> {
-        Name::new(alloc, text).map_err(|_| Memory)
-    }
-
-    /// The table over the attributes a, b and c whose one object o has none of them.
-    fn bare_table(alloc: Global) -> Result<Table, Memory>
-        ensures { IfOk result (λ table. table.context.width ≡ 3) }
-    {
-        let mut objects = Vec::new(alloc);
-        objects.push(name(alloc, "o")?)?;
-        let mut attributes = Vec::new(alloc);
-        attributes.push(name(alloc, "a")?)?;
-        attributes.push(name(alloc, "b")?)?;
-        attributes.push(name(alloc, "c")?)?;
-        let mut rows = Rows::new(alloc, 3)?;
-        rows.push(Attrs::empty(3))?;
-        Table::new(alloc, None, objects, attributes, rows).map_err(|_| Memory)
-    }
-
-    /// Its exploration by one expert, which was asked.
-    fn asked(alloc: Global) -> Result<Explore, OpenFault>
-        ensures experts { IfOk result (λ explore. explore.opening.experts ≡ 1) }
-        ensures width { IfOk result (λ explore. explore.opening.table.context.width ≡ 3) }
-    {
-        let mut explore = Explore::open(alloc, bare_table(alloc)?, 1)?;
-        explore.draw(1)?;
-        Ok(explore)
-    }
-
-    #[test]
-    fn an_expert_confirms(rt: HostRuntime) -> Result<(), OpenFault> {
-        let mut explore = asked(rt.alloc())?;
-        assert!(&rt; explore.open_questions().len() == 3);
-        assert!(&rt; explore.level() == Some(1));
-        let reply = explore.confirm(1)?;
-        assert!(&rt; matches!(reply, Reply::Accepted(0)));
-        assert!(&rt; explore.accepted().len() == 1);
-        Ok(())
-    }
-
-    #[test]
-    fn an_expert_gives_a_row(rt: HostRuntime) -> Result<(), OpenFault> {
-        let alloc = rt.alloc();
-        let mut explore = asked(alloc)?;
-        let reply = explore.row(1, name(alloc, "u")?, Attrs::full(3))?;
-        assert!(&rt; matches!(reply, Reply::Keeps));
-        assert!(&rt; explore.held(1).is_some());
-        assert!(&rt; explore.rows().len() == explore.table().rows().len());
-        Ok(())
-    }
-
-    #[test]
-    fn an_expert_leaves(rt: HostRuntime) -> Result<(), OpenFault> {
-        let mut explore = asked(rt.alloc())?;
-        explore.reserve(1)?;
-        let reply = explore.leave(1)?;
-        assert!(&rt; matches!(reply, Reply::Left));
-        assert!(&rt; explore.journal().len() == 2);
-        assert!(&rt; explore.experts() == 1);
-        Ok(())
-    }
-
-    #[test]
-    fn too_many_experts(rt: HostRuntime) -> Result<(), Memory> {
-        let alloc = rt.alloc();
-        let opened = Explore::open(alloc, bare_table(alloc)?, 65);
-        assert!(&rt; matches!(opened, Err(OpenFault::BadExperts(65))));
-        Ok(())
-    }
 }

@@ -1,11 +1,11 @@
 //! The reply to each event, which changes nothing.
 
-ghost use Rattle.std.specs.Prelude.{◌≡◌, ◌<◌, [], Some, length};
-ghost use Rattle.fca_model.specs.Exploration.{State, given_back, draw_reply, confirm_reply, row_reply};
+ghost use Rattle.std.specs.Prelude.{◌≡◌, ◌<◌, Some, length};
+ghost use Rattle.fca_model.specs.Exploration.{State, rules_of, given_back, draw_reply, confirm_reply, row_reply};
 ghost use Rattle.explore_state.specs.Fewest.{IsFewest};
 
 use crate::holds::holders;
-use crate::{Hold, Question, Reply};
+use crate::{Hold, Implication, Question, Reply};
 use answer_check::{Verdict, check_confirm, check_row};
 use attr_bits::Attrs;
 use derivation::Rows;
@@ -49,16 +49,20 @@ fn fewest_held(questions: &[Question], held: &[Hold], expert: u8) -> usize
 /// The reply to a confirmation of the question.
 pub(crate) fn reply_to_confirmation(
     rows: &Rows,
+    known: &[Implication],
     accepted: &ImplicationList,
     question: &Question,
 ) -> Reply
     ensures { (s : State) → s.context ≡ rows.now → s.accepted ≡ accepted.now.members
-        → s.settings.known ≡ [] → result ≡ confirm_reply s (Some question.now) }
+        → s.settings.known ≡ known.now → result ≡ confirm_reply s (Some question.now) }
 {
+    let accepted_members = accepted.as_slice();
     match check_confirm(rows, accepted, question) {
-        Verdict::Take => Reply::Accepted(accepted.as_slice().len()),
+        Verdict::Take => Reply::Accepted(known.len() + accepted_members.len()),
         Verdict::Refuted(place) => Reply::Refuted(place, rows.get(place)),
-        Verdict::SupersededBy(place) => Reply::SupersededBy(place, accepted.as_slice()[place]),
+        Verdict::SupersededBy(place) => {
+            Reply::SupersededBy(known.len() + place, accepted_members[place])
+        }
         _ => unreachable!(),
     }
 }
@@ -70,8 +74,8 @@ pub(crate) fn reply_to_row(
     question: &Question,
     row: &Attrs,
 ) -> Reply
-    ensures { (s : State) → s.context ≡ rows.now → s.accepted ≡ rules.now.members
-        → s.settings.known ≡ [] → result ≡ row_reply s (Some question.now) row.now }
+    ensures { (s : State) → s.context ≡ rows.now → rules_of s ≡ rules.now.members
+        → result ≡ row_reply s (Some question.now) row.now }
 {
     match check_row(rows, rules, question, row) {
         Verdict::Take => Reply::Taken(rows.len()),

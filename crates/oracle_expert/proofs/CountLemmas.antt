@@ -15,12 +15,12 @@ use Rattle.fca_model.specs.declared.TheConstants.{MAX_EXPERTS, MAX_OBJECTS}
 use Rattle.fca_model.specs.Sets.{Set, within, same, size}
 use Rattle.fca_model.specs.Tables.{NamedContext}
 use Rattle.fca_model.specs.Context.{Context}
-use Rattle.fca_model.specs.Implications.{Rule, holds, respects, respects_all, refutes}
+use Rattle.fca_model.specs.Implications.{Rule, holds, respects, refutes}
 use Rattle.fca_model.specs.Questions.{has_premise, waiting, open_questions, least_size}
 use Rattle.fca_model.specs.Pseudo.{basis_known}
-use Rattle.fca_model.specs.Invariant.{Among, IsValid}
-use Rattle.fca_model.specs.Exploration.{State, Settings, RowName, plain, opening, SetHold, SetEvent, SetReply, SetEntry, rules_of, open_in, held_by, given_back, first_with, first_missing, draw_reply, confirm_unheard, confirm_unrefuted, confirm_reply, row_new, row_unbroken, row_refuting, row_fitting, row_reply, release, accept, after, after_draw, after_confirm, after_row, reply_to, next, state_after, journal_of, events_of, expert_of, is_expert, IsLegal, own}
-use Rattle.fca_model.proofs.ListLemmas.{list_all_from, list_all-filter_kept, filter_passes}
+use Rattle.fca_model.specs.Invariant.{Among, IsValid, rows_respect}
+use Rattle.fca_model.specs.Exploration.{State, Settings, RowName, opening, SetHold, SetEvent, SetReply, SetEntry, rules_of, open_in, held_by, given_back, first_with, first_missing, draw_reply, confirm_unheard, confirm_unrefuted, confirm_reply, row_new, row_unbroken, row_refuting, row_fitting, row_reply, release, accept, after, after_draw, after_confirm, after_row, reply_to, next, state_after, journal_of, events_of, expert_of, is_expert, IsLegal, own}
+use Rattle.fca_model.proofs.ListLemmas.{list_all-filter_kept, filter_passes}
 use Rattle.fca_model.proofs.ClosureLemmas.{holds_by_rows}
 use Rattle.fca_model.proofs.PseudoLemmas.{basis_holds}
 use Rattle.fca_model.proofs.InvariantLemmas.{draw_gives_held}
@@ -421,12 +421,12 @@ module _ (D : NamedContext) (e : ℕ) (i : is_expert e ≡ true) (cs : Conflicts
       go true on h = on before (cc)
       go false on h = on (b ∷ before) h
 
-module _ (K : Context) (names : List RowName) (H : List SetEntry) (legal : IsLegal (opening K names plain) H) where
+module _ (K : Context) (names : List RowName) (settings : Settings) (H : List SetEntry) (respecting : rows_respect settings.known K ≡ true) (most : settings.holders ≡ MAX_EXPERTS) (legal : IsLegal (opening K names settings) H) where
   abbrev first : State
-  first = opening K names plain
+  first = opening K names settings
 
   pub valid : IsValid first
-  valid = opening_valid K names plain (list_all_from (respects_all []) (λ row. refl) K.rows)
+  valid = opening_valid K names settings respecting
 
   counted : rows_and_rules (state_after first (events_of H)) ≡ rows_and_rules first + recorded_in H
   counted = run_adds first (events_of H) ∙ ap (λ J. rows_and_rules first + recorded_in J) legal.replayed
@@ -436,7 +436,7 @@ module _ (K : Context) (names : List RowName) (H : List SetEntry) (legal : IsLeg
       → length entries + dropped cs ≤ 2 * recorded_in H + dropped (moment_at D (moment None cs) entries).conflicts + 1
   any_turns D e i cs before entries own_is runs =
       let events = legal_events first H legal in
-      let bound = later_bound D e i cs entries runs (events_of H) first before valid refl events.0 (ap (λ J. own J e) legal.replayed ∙ own_is) in
+      let bound = later_bound D e i cs entries runs (events_of H) first before valid most events.0 (ap (λ J. own J e) legal.replayed ∙ own_is) in
       let all = counted in
       omega arith
 

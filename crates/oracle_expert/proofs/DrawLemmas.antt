@@ -10,8 +10,8 @@ use Rattle.fca_model.specs.Sets.{within}
 use Rattle.fca_model.specs.Tables.{NamedContext}
 use Rattle.fca_model.specs.Context.{Context}
 use Rattle.fca_model.specs.Implications.{Rule}
-use Rattle.fca_model.specs.Invariant.{IsValid}
-use Rattle.fca_model.specs.Exploration.{State, Settings, RowName, SetEvent, SetReply, SetEntry, held_by, reply_to, next, journal_of, events_of, expert_of, is_expert, opening, plain, IsLegal, own}
+use Rattle.fca_model.specs.Invariant.{IsValid, rows_respect}
+use Rattle.fca_model.specs.Exploration.{State, Settings, RowName, SetEvent, SetReply, SetEntry, held_by, reply_to, next, journal_of, events_of, expert_of, is_expert, opening, IsLegal, own}
 use Rattle.fca_model.proofs.StepLemmas.{by_change}
 use Rattle.fca_model.proofs.ValidLemmas.{next_valid}
 use Rattle.fca_model.proofs.CourseLemmas.{next_settings}
@@ -205,7 +205,7 @@ cut_later [] ys zs ws h le = (zs, h)
 cut_later (x ∷ xs) ys [] ws h le = absurd (omega arith)
 cut_later (x ∷ xs) ys (z ∷ zs) ws h le = cut_later xs ys zs ws (cc) (omega arith)
 
-module _ (K : Context) (names : List RowName) (H : List SetEntry) (legal : IsLegal (opening K names plain) H) where
+module _ (K : Context) (names : List RowName) (settings : Settings) (H : List SetEntry) (respecting : rows_respect settings.known K ≡ true) (most : settings.holders ≡ MAX_EXPERTS) (legal : IsLegal (opening K names settings) H) where
   pub draws_apart : (e : ℕ) → is_expert e ≡ true → (old new : Recall) (earlier entries : List SetEntry) → own H e ≡ earlier ++ entries → SeatRun Answers Learns e old entries new
       → (before between after : List SetEntry) (first second : SetEntry) → H ≡ before ++ (first ∷ between ++ second ∷ after) → length earlier ≤ length (own before e)
       → first.event ≡ Draw e → second.event ≡ Draw e → 1 ≤ recorded_in between
@@ -216,6 +216,6 @@ module _ (K : Context) (names : List RowName) (H : List SetEntry) (legal : IsLeg
       let begun = cut_later earlier entries (own before e) (own from e) same late in
       let its = (oracle_runs D e None old.conflicts old entries new refl refl run).run in
       let on = runs_on D e (moment None old.conflicts) begun.0 (own from e) (subst (OracleRunsFrom D e (moment None old.conflicts)) begun.1 its) in
-      let events = legal_events (opening K names plain) H legal in
-      recorded_between D e i (events_of H) (opening K names plain) (valid K names H legal) refl events.0 (moment_at D (moment None old.conflicts) begun.0) before between after first second
+      let events = legal_events (opening K names settings) H legal in
+      recorded_between D e i (events_of H) (opening K names settings) (valid K names settings H respecting most legal) most events.0 (moment_at D (moment None old.conflicts) begun.0) before between after first second
       (legal.replayed ∙ cut) draw again on

@@ -6,14 +6,15 @@ use Rattle.std.proofs.lemmas.Bool.{and_parts, and_from, or_left, or_right, false
 use Rattle.std.proofs.lemmas.List.Folds.{list_all-append}
 use Rattle.std.proofs.lemmas.Iterator.Adapters.{position_from-zero}
 use Rattle.std.specs.List.{list_all, list_any, position_from, zip}
+use Rattle.fca_model.specs.declared.TheConstants.{MAX_EXPERTS}
 use Rattle.fca_model.specs.Sets.{Set, within, same}
 use Rattle.fca_model.specs.Context.{Context, closure}
 use Rattle.fca_model.specs.Tables.{NamedContext}
 use Rattle.fca_model.specs.Implications.{Rule, rule, holds, respects, respects_all, refutes}
-use Rattle.fca_model.specs.Pseudo.{basis, basis_known}
-use Rattle.fca_model.specs.Invariant.{IsValid, SameMembers}
-use Rattle.fca_model.specs.Exploration.{State, Settings, RowName, SetEvent, SetReply, SetEntry, plain, rules_of, open_in, reply_to, next, opening, state_after, journal_of, events_of, expert_of, is_expert, IsLegal, own}
-use Rattle.fca_model.proofs.ListLemmas.{and_true, list_all_from, list_all-mono}
+use Rattle.fca_model.specs.Pseudo.{basis_known}
+use Rattle.fca_model.specs.Invariant.{IsValid, SameMembers, rows_respect}
+use Rattle.fca_model.specs.Exploration.{State, Settings, RowName, SetEvent, SetReply, SetEntry, rules_of, open_in, reply_to, next, opening, state_after, journal_of, events_of, expert_of, is_expert, IsLegal, own}
+use Rattle.fca_model.proofs.ListLemmas.{and_true, list_all-mono}
 use Rattle.fca_model.proofs.SetLemmas.{within_trans, same_refl}
 use Rattle.fca_model.proofs.ClosureLemmas.{closure_in_rows, respects_at, respects_from}
 use Rattle.fca_model.proofs.ValidLemmas.{held_valid, unrefuted_holds, next_valid, opening_valid, run_valid}
@@ -73,6 +74,11 @@ pub record IsWithin (D : Context) (s : State) : Type 0 where
   pub rows : list_all (λ row. list_any (same row) D.rows) s.context.rows ≡ true
   pub rules : list_all (holds D) s.accepted ≡ true
 
+-- all that is known holds in the table, and all experts may hold one question
+pub record IsOpenTo (D : Context) (s : State) : Type 0 where
+  pub known : list_all (holds D) s.settings.known ≡ true
+  pub all : s.settings.holders ≡ MAX_EXPERTS
+
 module _ (T : NamedContext) (e : ℕ) (i : is_expert e ≡ true) where
   abbrev Step : State → Moment → SetReply → Type 0
   Step t m reply = IsWithin T.context t × (m.conflicts ≡ no_conflict T) × Holding e t m.due
@@ -81,12 +87,12 @@ module _ (T : NamedContext) (e : ℕ) (i : is_expert e ≡ true) where
   Turned s cs due x = Step (next s x) (moment_after T (moment due cs) (reply_to s x)) (reply_to s x)
 
   -- a turn of one of the oracles
-  within_turn : (s : State) (due : Option Rule) → IsValid s → s.settings ≡ plain → T.context.width ≡ s.context.width → IsWithin T.context s → Holding e s due
+  within_turn : (s : State) (due : Option Rule) → IsValid s → IsOpenTo T.context s → T.context.width ≡ s.context.width → IsWithin T.context s → Holding e s due
       → Turned s (no_conflict T) due (event_due T e (no_conflict T) due)
-  within_turn s None v plainly wide inside held =
-      draws s T e (no_conflict T) Step v (ap (λ (t : Settings). t.holders) plainly) i (λ q _. (record { rows = inside.rows; rules = inside.rules }, refl, held_new e q s.holds))
+  within_turn s None v open_to wide inside held =
+      draws s T e (no_conflict T) Step v open_to.all i (λ q _. (record { rows = inside.rows; rules = inside.rules }, refl, held_new e q s.holds))
       (record { rows = inside.rows; rules = inside.rules }, refl, tt)
-  within_turn s (Some q) v plainly wide inside held = go (counterexample T (no_conflict T) q) refl
+  within_turn s (Some q) v open_to wide inside held = go (counterexample T (no_conflict T) q) refl
     where
       in_rows : (r : Set) → list_any (same r) T.context.rows ≡ true → list_all (λ row. list_any (same row) T.context.rows) (s.context.rows ++ r ∷ []) ≡ true
       in_rows r h =
@@ -109,7 +115,8 @@ module _ (T : NamedContext) (e : ℕ) (i : is_expert e ≡ true) where
           let parts = and_parts (within q.premise r) (not (within q.conclusion r)) (c.refutes []) in
           let there : list_any (same r) T.context.rows ≡ true = any_at (same r) T.context.rows j [] c.in_table (same_refl r) in
           let kept : respects_all s.accepted r ≡ true = list_all-mono (holds T.context) (respects r) (λ k h. row_respects T.context j [] k c.in_table h) s.accepted inside.rules in
-          let kept_all : respects_all (rules_of s) r ≡ true = ap (λ (t : Settings). respects_all (t.known ++ s.accepted) r) plainly ∙ kept in
+          let known : respects_all s.settings.known r ≡ true = list_all-mono (holds T.context) (respects r) (λ k h. row_respects T.context j [] k c.in_table h) s.settings.known open_to.known in
+          let kept_all : respects_all (rules_of s) r ≡ true = list_all-append (respects r) s.settings.known s.accepted ∙ and_from (respects_all s.settings.known r) (respects_all s.accepted r) known kept in
           gives s T e (no_conflict T) Step q held (get_or T.objects j []) r parts.0 (not-true (within q.conclusion r) parts.1)
           (λ _ _ k. (record { rows = in_rows r there; rules = inside.rules }, refl, tt))
           (λ _ reply. (record { rows = inside.rows; rules = inside.rules }, refl, tt))
@@ -128,7 +135,7 @@ module _ (D : Context) (tables : ℕ → NamedContext) (same_context : (e : ℕ)
   abbrev moved : State → (ℕ → Moment) → SetEvent → ℕ → Moment
   moved s at x e = cond (eqb (expert_of x) e) (moment_after (tables e) (at e) (reply_to s x)) (at e)
 
-  module _ (s : State) (at : ℕ → Moment) (x : SetEvent) (es : List SetEvent) (v : IsValid s) (plainly : s.settings ≡ plain) (wide : D.width ≡ s.context.width) (inside : IsWithin D s) (i : is_expert (expert_of x) ≡ true)
+  module _ (s : State) (at : ℕ → Moment) (x : SetEvent) (es : List SetEvent) (v : IsValid s) (open_to : IsOpenTo D s) (wide : D.width ≡ s.context.width) (inside : IsWithin D s) (i : is_expert (expert_of x) ≡ true)
       (stand : AllStand s at (x ∷ es)) where
     abbrev entry : SetEntry
     entry = record { event = x; reply = reply_to s x }
@@ -148,7 +155,7 @@ module _ (D : Context) (tables : ℕ → NamedContext) (same_context : (e : ℕ)
         let is_due : x ≡ event_due T e (no_conflict T) due = (runs_here e true t).0 ∙ ap (λ (cs : Conflicts). event_due T e cs due) (stand.free e) in
         let expert : is_expert e ≡ true = subst (λ (k : ℕ). is_expert k ≡ true) (eqb-true (expert_of x) e t) i in
         let turned : Turned T e expert s (no_conflict T) due x = subst (Turned T e expert s (no_conflict T) due) (sym is_due)
-        (within_turn T e expert s due v plainly (ap (λ (C : Context). C.width) (same_context e) ∙ wide) (subst (λ (C : Context). IsWithin C s) (sym (same_context e)) inside) (stand.held e)) in
+        (within_turn T e expert s due v (subst (λ (C : Context). IsOpenTo C s) (sym (same_context e)) open_to) (ap (λ (C : Context). C.width) (same_context e) ∙ wide) (subst (λ (C : Context). IsWithin C s) (sym (same_context e)) inside) (stand.held e)) in
         let back = ap (λ (cs : Conflicts). (moment_after T (moment due cs) (reply_to s x)).conflicts) (stand.free e) in
         (subst (λ (C : Context). IsWithin C (next s x)) (same_context e) turned.0, back ∙ turned.1, turned.2)
 
@@ -179,31 +186,38 @@ module _ (D : Context) (tables : ℕ → NamedContext) (same_context : (e : ℕ)
     ends_alike e true = refl
     ends_alike e false = refl
 
-  course : (es : List SetEvent) (s : State) (at : ℕ → Moment) → IsValid s → s.settings ≡ plain → D.width ≡ s.context.width → list_all (λ event. is_expert (expert_of event)) es ≡ true → IsWithin D s → AllStand s at es
+  open_on : (s : State) (x : SetEvent) → IsOpenTo D s → IsOpenTo D (next s x)
+  open_on s x open_to = record {
+    known = subst (λ (t : Settings). list_all (holds D) t.known ≡ true) (sym (next_settings s x)) open_to.known;
+    all = ap (λ (t : Settings). t.holders) (next_settings s x) ∙ open_to.all;
+  }
+
+  course : (es : List SetEvent) (s : State) (at : ℕ → Moment) → IsValid s → IsOpenTo D s → D.width ≡ s.context.width → list_all (λ event. is_expert (expert_of event)) es ≡ true → IsWithin D s → AllStand s at es
       → IsWithin D (state_after s es) × ((e : ℕ) → (moment_at (tables e) (at e) (own (journal_of s es) e)).conflicts ≡ no_conflict (tables e))
   unfolding state_after journal_of
-  course [] s at v plainly wide is inside stand = (inside, stand.free)
-  course (x ∷ es) s at v plainly wide is inside stand =
+  course [] s at v open_to wide is inside stand = (inside, stand.free)
+  course (x ∷ es) s at v open_to wide is inside stand =
       let parts = and_parts (is_expert (expert_of x)) (list_all (λ event. is_expert (expert_of event)) es) is in
-      let more = course es (next s x) (moved s at x) (next_valid s v x parts.0) (next_settings s x ∙ plainly) (wide ∙ sym (next_width s x)) parts.1
-      (stays_within s at x es v plainly wide inside parts.0 stand) (stand_on s at x es v plainly wide inside parts.0 stand) in
-      (more.0, λ e. sym (ends_alike s at x es v plainly wide inside parts.0 stand e (eqb (expert_of x) e)) ∙ more.1 e)
+      let more = course es (next s x) (moved s at x) (next_valid s v x parts.0) (open_on s x open_to) (wide ∙ sym (next_width s x)) parts.1
+      (stays_within s at x es v open_to wide inside parts.0 stand) (stand_on s at x es v open_to wide inside parts.0 stand) in
+      (more.0, λ e. sym (ends_alike s at x es v open_to wide inside parts.0 stand e (eqb (expert_of x) e)) ∙ more.1 e)
 
-  module _ (K : Context) (names : List RowName) (H : List SetEntry) (legal : IsLegal (opening K names plain) H) (wide : D.width ≡ K.width) (part : list_all (λ row. list_any (same row) D.rows) K.rows ≡ true)
+  module _ (K : Context) (names : List RowName) (settings : Settings) (H : List SetEntry) (respecting : rows_respect settings.known K ≡ true) (most : settings.holders ≡ MAX_EXPERTS)
+      (known : list_all (holds D) settings.known ≡ true) (legal : IsLegal (opening K names settings) H) (wide : D.width ≡ K.width) (part : list_all (λ row. list_any (same row) D.rows) K.rows ≡ true)
       (runs : (e : ℕ) → IsOracleFront (tables e) e (own H e)) where
     abbrev first : State
-    first = opening K names plain
+    first = opening K names settings
 
     abbrev final : State
     final = state_after first (events_of H)
 
     valid : IsValid first
-    valid = opening_valid K names plain (list_all_from (respects_all []) (λ row. refl) K.rows)
+    valid = opening_valid K names settings respecting
 
     whole : IsWithin D final × ((e : ℕ) → conflicts_of (tables e) (own H e) ≡ no_conflict (tables e))
     whole =
         let events = legal_events first H legal in
-        let all = course (events_of H) first (λ e. moment None (no_conflict (tables e))) valid refl wide events.0 (record { rows = part; rules = refl })
+        let all = course (events_of H) first (λ e. moment None (no_conflict (tables e))) valid (record { known = known; all = most }) wide events.0 (record { rows = part; rules = refl })
         (record { free = λ e. refl; held = λ e. tt; runs = λ e. subst (λ J. OracleRunsFrom (tables e) e (moment None (no_conflict (tables e))) (own J e)) (sym legal.replayed) (runs e) }) in
         (all.0, λ e. subst (λ J. (moment_at (tables e) (moment None (no_conflict (tables e))) (own J e)).conflicts ≡ no_conflict (tables e)) legal.replayed (all.1 e))
 
@@ -213,16 +227,16 @@ module _ (D : Context) (tables : ℕ → NamedContext) (same_context : (e : ℕ)
 
     -- and once no question is open, the basis is the table's
     module _ (done : open_in final ≡ []) where
-      settled : final.settings ≡ plain
+      settled : final.settings ≡ settings
       settled = run_settings first (events_of H)
 
-      accepted_all : SameMembers final.accepted (basis final.context)
+      accepted_all : SameMembers final.accepted (basis_known settings.known final.context)
       accepted_all =
           let v = run_valid first (events_of H) (legal_events first H legal).0 valid in
           subst (λ (S : Settings). SameMembers final.accepted (basis_known S.known final.context)) settled (accepted_members final.settings.known final.context final.accepted v.accepted done)
 
-      pub one_basis : basis final.context ≡ basis D
-      one_basis = agreeing_basis [] final.context D (wide ∙ sym (run_width first (events_of H))) whole.0.rows refl (sym (accepted_all (holds D)) ∙ whole.0.rules)
+      pub one_basis : basis_known settings.known final.context ≡ basis_known settings.known D
+      one_basis = agreeing_basis settings.known final.context D (wide ∙ sym (run_width first (events_of H))) whole.0.rows known (sym (accepted_all (holds D)) ∙ whole.0.rules)
 
-      pub one_accepted : SameMembers final.accepted (basis D)
+      pub one_accepted : SameMembers final.accepted (basis_known settings.known D)
       one_accepted = λ p. accepted_all p ∙ ap (list_all p) one_basis

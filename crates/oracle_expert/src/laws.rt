@@ -3,13 +3,14 @@
 ghost use Rattle.std.specs.Prelude.{◌≡◌, ◌++◌, ◌∷◌, ◌+◌, ◌-◌, ◌*◌, ◌^◌, ◌≤◌, ◌<◌, ℕ, true, [], List, length};
 ghost use Rattle.std.specs.List.{list_all, list_any};
 ghost use Rattle.fca_model.specs.declared.Event.TheVariants.{Draw};
-ghost use Rattle.fca_model.specs.declared.TheConstants.{MAX_OBJECTS};
+ghost use Rattle.fca_model.specs.declared.TheConstants.{MAX_EXPERTS, MAX_OBJECTS};
 ghost use Rattle.fca_model.specs.Sets.{Set, same};
 ghost use Rattle.fca_model.specs.Context.{Context};
-ghost use Rattle.fca_model.specs.Pseudo.{basis};
-ghost use Rattle.fca_model.specs.Invariant.{SameMembers};
+ghost use Rattle.fca_model.specs.Implications.{holds};
+ghost use Rattle.fca_model.specs.Pseudo.{basis_known};
+ghost use Rattle.fca_model.specs.Invariant.{SameMembers, rows_respect};
 ghost use Rattle.fca_model.specs.Tables.{NamedContext};
-ghost use Rattle.fca_model.specs.Exploration.{RowName, SetEntry, plain, opening, open_in, state_after, events_of, is_expert, own, IsLegal};
+ghost use Rattle.fca_model.specs.Exploration.{RowName, SetEntry, Settings, opening, open_in, state_after, events_of, is_expert, own, IsLegal};
 ghost use Rattle.oracle_expert.specs.Counts.{recorded_in, dropped};
 ghost use Rattle.oracle_expert.specs.Oracles.{Recall, Answers, Learns, no_conflict};
 ghost use Rattle.oracle_expert.specs.Runs.{SeatRun, IsOracleFront, IsOracleRun, ends_done, conflicts_of};
@@ -31,33 +32,37 @@ pub fn oracle_at_a_seat()
         → new.conflicts ≡ conflicts_of old.table entries }
 {}
 
-/// Of a history `H` over a context, with nothing known beforehand: an oracle makes at most two turns for each
-/// answer that was recorded in `H`, its own or another's, one for each row that it drops, and one more. So it
+/// Of a history `H` over a context whose rows respect what is known, where all experts may hold one question:
+/// an oracle makes at most two turns for each answer that was recorded in `H`, its own or another's, one for each row that it drops, and one more. So it
 /// makes fewer than 2 ^ 48 where there are at most 46 attributes and its table has no more rows than a table
 /// may have. The oracle's entries are the last of its expert's; others may stand before them. Of an oracle that
 /// dropped rows before, the rows that it drops in these entries count.
 pub fn turns_of_an_oracle()
-    ensures bound { (K : Context) (names : List RowName) (H : List SetEntry) → IsLegal (opening K names plain) H
+    ensures bound { (K : Context) (names : List RowName) (settings : Settings) (H : List SetEntry)
+        → rows_respect settings.known K ≡ true → settings.holders ≡ MAX_EXPERTS → IsLegal (opening K names settings) H
         → (D : NamedContext) (e : ℕ) → is_expert e ≡ true → (before entries : List SetEntry)
         → own H e ≡ before ++ entries → IsOracleFront D e entries
         → length entries ≤ 2 * recorded_in H + dropped (conflicts_of D entries) + 1 }
     ensures drops { (D : NamedContext) (entries : List SetEntry)
         → dropped (conflicts_of D entries) ≤ length D.context.rows }
-    ensures few { (K : Context) (names : List RowName) (H : List SetEntry) → IsLegal (opening K names plain) H
+    ensures few { (K : Context) (names : List RowName) (settings : Settings) (H : List SetEntry)
+        → rows_respect settings.known K ≡ true → settings.holders ≡ MAX_EXPERTS → IsLegal (opening K names settings) H
         → (D : NamedContext) (e : ℕ) → is_expert e ≡ true → (before entries : List SetEntry)
         → own H e ≡ before ++ entries → IsOracleFront D e entries
         → K.width ≤ 46 → length D.context.rows ≤ MAX_OBJECTS → length entries < 2 ^ 48 }
-    ensures any { (K : Context) (names : List RowName) (H : List SetEntry) → IsLegal (opening K names plain) H
+    ensures any { (K : Context) (names : List RowName) (settings : Settings) (H : List SetEntry)
+        → rows_respect settings.known K ≡ true → settings.holders ≡ MAX_EXPERTS → IsLegal (opening K names settings) H
         → (e : ℕ) → is_expert e ≡ true → (old new : Recall) (before entries : List SetEntry)
         → own H e ≡ before ++ entries → SeatRun Answers Learns e old entries new
         → length entries ≤ 2 * recorded_in H + (dropped new.conflicts - dropped old.conflicts) + 1 }
 {}
 
-/// Of a history `H` over a context, with nothing known beforehand: between two draws of an oracle an answer is
-/// recorded, its own or another's. Both draws are among its entries, which are the last of its expert's: those
+/// Of a history `H` over a context whose rows respect what is known, where all experts may hold one question:
+/// between two draws of an oracle an answer is recorded, its own or another's. Both draws are among its entries, which are the last of its expert's: those
 /// behind the `earlier` ones.
 pub fn draws_of_an_oracle()
-    ensures { (K : Context) (names : List RowName) (H : List SetEntry) → IsLegal (opening K names plain) H
+    ensures { (K : Context) (names : List RowName) (settings : Settings) (H : List SetEntry)
+        → rows_respect settings.known K ≡ true → settings.holders ≡ MAX_EXPERTS → IsLegal (opening K names settings) H
         → (e : ℕ) → is_expert e ≡ true → (old new : Recall) (earlier entries : List SetEntry)
         → own H e ≡ earlier ++ entries → SeatRun Answers Learns e old entries new
         → (before between after : List SetEntry) (first second : SetEntry)
@@ -65,25 +70,29 @@ pub fn draws_of_an_oracle()
         → first.event ≡ Draw e → second.event ≡ Draw e → 1 ≤ recorded_in between }
 {}
 
-/// Where all experts are oracles of tables with one context `C`, and the rows of the opening are rows of it, no
-/// row is ever dropped; and once no question is open the basis of the recorded rows is that of `C`, whose
-/// members are what was accepted.
+/// Where all experts are oracles of tables with one context `C` in which all holds that is known, the rows of
+/// the opening are rows of it, and all may hold one question, no row is ever dropped; and once no question is
+/// open the basis of the recorded rows beside what is known is that of `C`, whose members are what was accepted.
 pub fn same_table_same_basis()
-    ensures dropped { (C K : Context) (names : List RowName) (H : List SetEntry) (tables : ℕ → NamedContext)
-        → IsLegal (opening K names plain) H → C.width ≡ K.width
+    ensures dropped { (C K : Context) (names : List RowName) (settings : Settings) (H : List SetEntry) (tables : ℕ → NamedContext)
+        → rows_respect settings.known K ≡ true → settings.holders ≡ MAX_EXPERTS → list_all (holds C) settings.known ≡ true
+        → IsLegal (opening K names settings) H → C.width ≡ K.width
         → list_all (λ row. list_any (same row) C.rows) K.rows ≡ true
         → ((e : ℕ) → (tables e).context ≡ C) → ((e : ℕ) → IsOracleFront (tables e) e (own H e))
         → (e : ℕ) → conflicts_of (tables e) (own H e) ≡ no_conflict (tables e) }
-    ensures basis { (C K : Context) (names : List RowName) (H : List SetEntry) (tables : ℕ → NamedContext)
-        → IsLegal (opening K names plain) H → C.width ≡ K.width
+    ensures basis { (C K : Context) (names : List RowName) (settings : Settings) (H : List SetEntry) (tables : ℕ → NamedContext)
+        → rows_respect settings.known K ≡ true → settings.holders ≡ MAX_EXPERTS → list_all (holds C) settings.known ≡ true
+        → IsLegal (opening K names settings) H → C.width ≡ K.width
         → list_all (λ row. list_any (same row) C.rows) K.rows ≡ true
         → ((e : ℕ) → (tables e).context ≡ C) → ((e : ℕ) → IsOracleFront (tables e) e (own H e))
-        → open_in (state_after (opening K names plain) (events_of H)) ≡ []
-        → basis (state_after (opening K names plain) (events_of H)).context ≡ basis C }
-    ensures accepted { (C K : Context) (names : List RowName) (H : List SetEntry) (tables : ℕ → NamedContext)
-        → IsLegal (opening K names plain) H → C.width ≡ K.width
+        → open_in (state_after (opening K names settings) (events_of H)) ≡ []
+        → basis_known settings.known (state_after (opening K names settings) (events_of H)).context
+        ≡ basis_known settings.known C }
+    ensures accepted { (C K : Context) (names : List RowName) (settings : Settings) (H : List SetEntry) (tables : ℕ → NamedContext)
+        → rows_respect settings.known K ≡ true → settings.holders ≡ MAX_EXPERTS → list_all (holds C) settings.known ≡ true
+        → IsLegal (opening K names settings) H → C.width ≡ K.width
         → list_all (λ row. list_any (same row) C.rows) K.rows ≡ true
         → ((e : ℕ) → (tables e).context ≡ C) → ((e : ℕ) → IsOracleFront (tables e) e (own H e))
-        → open_in (state_after (opening K names plain) (events_of H)) ≡ []
-        → SameMembers (state_after (opening K names plain) (events_of H)).accepted (basis C) }
+        → open_in (state_after (opening K names settings) (events_of H)) ≡ []
+        → SameMembers (state_after (opening K names settings) (events_of H)).accepted (basis_known settings.known C) }
 {}

@@ -14,24 +14,24 @@ pub returns-clause-text : goal.returns-clause-text
 unfolding conflicts_text
 returns-clause-text c =
     let attributes = c.table-table.result.now.attributes in
-    let accepted = c.accepted-accepted.result.now in
+    let rules = c.rules-rules.result.now in
     let oracles = c.args.oracles.now in
     let k = c.loop-expert.expert in
     let ds = dropped_from 0 (map (λ o. (o.table, o.conflicts)) oracles) in
     let over : length oracles ≤ k = omega arith in
     c.into_bytes.ensures
-    ∙ written_end (conflict_line attributes accepted) c.loop-expert.draft (conflicts_section attributes accepted ds) (dropped_later k oracles) (oracle_end k oracles over) c.loop-expert.invariant
-    ∙ ap₂ (λ t acc. conflicts_section t.attributes acc ds) c.table-table.ensures c.accepted-accepted.ensures.accepted
+    ∙ written_end (conflict_line attributes rules) c.loop-expert.draft (conflicts_section attributes rules ds) (dropped_later k oracles) (oracle_end k oracles over) c.loop-expert.invariant
+    ∙ ap₂ (λ t acc. conflicts_section t.attributes acc ds) c.table-table.ensures c.rules-rules.ensures
 
 pub returns-clause-skipped : goal.returns-clause-skipped
 unfolding conflicts_text
 returns-clause-skipped c =
     let attributes = c.table-table.result.now.attributes in
-    let accepted = c.accepted-accepted.result.now in
+    let rules = c.rules-rules.result.now in
     let oracles = c.args.oracles.now in
     let k = c.loop-expert.expert in
     let ds = dropped_from 0 (map (λ o. (o.table, o.conflicts)) oracles) in
     let over : length oracles ≤ k = omega arith in
     let text = c.into_bytes.ensures
-    ∙ written_end (conflict_line attributes accepted) c.loop-expert.draft (conflicts_section attributes accepted ds) (dropped_later k oracles) (oracle_end k oracles over) c.loop-expert.invariant in
-    subst AreComments (sym text) (conflicts-comments attributes accepted (map (λ o. (o.table, o.conflicts)) oracles) c.look_at_attributes.ensures (list_all-map (λ (x : NamedContext × Conflicts). list_all is_name x.0.objects) (λ (o : Recall). (o.table, o.conflicts)) oracles ∙ c.look_at_oracles.ensures))
+    ∙ written_end (conflict_line attributes rules) c.loop-expert.draft (conflicts_section attributes rules ds) (dropped_later k oracles) (oracle_end k oracles over) c.loop-expert.invariant in
+    subst AreComments (sym text) (conflicts-comments attributes rules (map (λ o. (o.table, o.conflicts)) oracles) c.look_at_attributes.ensures (list_all-map (λ (x : NamedContext × Conflicts). list_all is_name x.0.objects) (λ (o : Recall). (o.table, o.conflicts)) oracles ∙ c.look_at_oracles.ensures))

@@ -6,5 +6,5 @@ use Rattle.basis_report.proofs.conflicts.conflicts_text.Given as goal
 
 abbrev pub invariant-loop-expert : goal.invariant-loop-expert
 invariant-loop-expert l =
-    l.draft ++ flat_map (conflict_line l.table.attributes l.accepted) (dropped_later l.expert l.oracles)
-    ≡ conflicts_section l.table.attributes l.accepted (dropped_from 0 (map (λ o. (o.table, o.conflicts)) l.oracles))
+    l.draft ++ flat_map (conflict_line l.table.attributes l.rules) (dropped_later l.expert l.oracles)
+    ≡ conflicts_section l.table.attributes l.rules (dropped_from 0 (map (λ o. (o.table, o.conflicts)) l.oracles))

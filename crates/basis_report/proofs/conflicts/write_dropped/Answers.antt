@@ -11,7 +11,7 @@ loop-place-preserved c =
     let D = c.args.oracle.now.table in
     let conflicts = c.args.oracle.now.conflicts in
     let place = c.loop-place.place in
-    let line = conflict_line c.args.table.now.attributes c.args.accepted.now in
+    let line = conflict_line c.args.table.now.attributes c.args.rules.now in
     let all = c.args.draft.now ++ flat_map line (dropped_of e D conflicts) in
     elim c.match-conflict.branch [
       | in-Some+in_ok-write_conflict w ↦

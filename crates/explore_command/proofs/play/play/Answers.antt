@@ -1,6 +1,6 @@
 use Rattle.std.proofs.Common.{◌≡◌, ◌↔◌, ◌⊎◌, ◌∙◌, ◌≤◌, ◌<◌, ◌++◌, [], ℕ, map, true, false, length, refl, sym, ap, subst}
 use Rattle.std.specs.Prelude.{vec_len}
-use Rattle.fca_model.specs.Exploration.{own, is_expert}
+use Rattle.fca_model.specs.Exploration.{own, rules_of, is_expert}
 use Rattle.oracle_expert.specs.Runs.{ends_done}
 use Rattle.explore_state.specs.History.{state_of}
 use Rattle.basis_report.specs.Conflicts.{conflicts_text}
@@ -37,6 +37,6 @@ returns g c =
     subst Gives (sym is)
     (IsPanelText-play p explored.explore explored.oracles.items explored.spent c.in_ok-text.text.items c.in_ok-conflicts.conflicts.items c.extend_from_slice.new.self.items
     (subst IsFew is c.requires.count) play c.in_ok-text.ensures.text
-    (c.in_ok-conflicts.ensures.text ∙ ap (λ l. conflicts_text explored.explore.opening.table.attributes (state_of explored.explore).accepted (map with_conflicts l)) c.deref.ensures.value)
+    (c.in_ok-conflicts.ensures.text ∙ ap (λ l. conflicts_text explored.explore.opening.table.attributes (rules_of (state_of explored.explore)) (map with_conflicts l)) c.deref.ensures.value)
     c.in_ok-conflicts.ensures.skipped
     (c.in_ok-extend_from_slice.ensures.items ∙ ap (λ l. c.in_ok-text.text.items ++ l) c.deref-2.ensures.value))

@@ -3,6 +3,7 @@ use Rattle.std.specs.Prelude.{All}
 use Rattle.std.proofs.lemmas.List.Elements.{All-weaker}
 use Rattle.fca_model.specs.Context.{Context}
 use Rattle.fca_model.specs.Tables.{NamedContext}
+use Rattle.explore_state.specs.History.{Opening}
 use Rattle.expert_panel.specs.Explorations.{is_part}
 use Rattle.fca_command.specs.declared.recipe.Recipe.{Recipe}
 use Rattle.explore_command.proofs.SurveyLemmas.{made_width, is_part-none, length-agreed}
@@ -29,4 +30,4 @@ returns g c =
     let part : is_part c.in_ok-bare.bare.context C ≡ true =
     ap (λ (t : NamedContext). is_part t.context C) c.in_ok-bare.ensures ∙ is_part-none _ _ _ C in
     length-agreed C c.in_ok-explored.explored.explore c.accepted.result.now c.in_ok-explored.explored.oracles.items c.in_ok-explored.explored.spent
-    c.accepted.ensures.basis end.finished (end.agreed C same part) (end.unspent refl small)
+    (ap (λ (o : Opening). o.settings) end.opening) c.accepted.ensures.basis end.finished (end.agreed C same part) (end.unspent refl small)

@@ -1,23 +1,24 @@
-use Rattle.std.proofs.Common.{◌∙◌, ap, sym, subst, refl, arith, [], ◌∷◌, ◌++◌}
-use Rattle.fca_model.specs.Exploration.{SetReply, plain, reply_to, next, state_after, events_of}
+use Rattle.std.proofs.Common.{◌∙◌, ap, sym, subst, arith, [], ◌∷◌, ◌++◌}
+use Rattle.fca_model.specs.Exploration.{SetReply, reply_to, next, state_after, events_of}
 use Rattle.explore_state.specs.History.{Opening, History, Admits, opening_state, state_of}
 use Rattle.explore_state.specs.Kept.{IsDue}
+use Rattle.explore_state.specs.Settings.{settings_of}
 use Rattle.explore_state.proofs.KeptLemmas.{kept_due, kept_push, state_moves}
 use Rattle.explore_state.proofs.Explore.apply.Goals as goal
 
 pub change-requires-clause-due : goal.change-requires-clause-due
 change-requires-clause-due c =
     let i = c.self.inside in
-    let o : Opening = record { table = i.table; experts = i.experts; settings = plain } in
+    let o : Opening = record { table = i.table; experts = i.experts; settings = settings_of i.settings } in
     subst (λ S. IsDue S i.queue.context i.queue.accepted i.held.items c.args.event c.reply_to-reply.result) (sym c.self.invariant.known)
-    (kept_due o i.journal.items i.queue.context i.queue.accepted i.held.items c.self.invariant.kept refl c.args.event c.reply_to-reply.result
+    (kept_due o i.journal.items i.queue.context i.queue.accepted i.held.items c.self.invariant.kept c.args.event c.reply_to-reply.result
     (subst (λ (h : History). Admits h.opening c.args.event) (sym c.self.view_is) c.requires)
     (c.reply_to-reply.ensures ∙ ap (λ h. reply_to (state_of h) c.args.event) (sym c.self.view_is)))
 
 pub invariant_of-self-2 : goal.invariant_of-self-2
 invariant_of-self-2 c =
     let i = c.self.inside in
-    let o : Opening = record { table = i.table; experts = i.experts; settings = plain } in
+    let o : Opening = record { table = i.table; experts = i.experts; settings = settings_of i.settings } in
     let room = c.self.invariant.room in
     let same_room = c.in_ok-change.ensures.room in
     record {
@@ -29,13 +30,15 @@ invariant_of-self-2 c =
           ∙ ap (λ (r : SetReply). i.journal.items ++ record { event = c.args.event; reply = r } ∷ []) c.again.ensures)
           (c.in_ok-change.ensures.ok (state_after (opening_state o) (events_of i.journal.items)) c.self.invariant.kept.shown);
       known = c.change.ensures.known ∙ c.self.invariant.known;
+      wide = c.self.invariant.wide;
+      holders = c.self.invariant.holders;
       room = omega arith;
     }
 
 pub returns-clause-ok : goal.returns-clause-ok
 returns-clause-ok c =
     let i = c.self.inside in
-    let o : Opening = record { table = i.table; experts = i.experts; settings = plain } in
+    let o : Opening = record { table = i.table; experts = i.experts; settings = settings_of i.settings } in
     let more = c.push_reserved.ensures.items ∙ ap (λ J. J ++ record { event = c.args.event; reply = c.again.result } ∷ []) c.in_ok-make_room.ensures.entries
     ∙ ap (λ (r : SetReply). i.journal.items ++ record { event = c.args.event; reply = r } ∷ []) c.again.ensures in
     record {

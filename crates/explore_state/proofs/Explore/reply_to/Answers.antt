@@ -1,64 +1,66 @@
-use Rattle.std.proofs.Common.{◌≡◌, ◌∙◌, ap, ap₂, sym, subst, refl}
+use Rattle.std.proofs.Common.{◌≡◌, ◌∙◌, ◌++◌, ap, ap₂, sym, subst}
 use Rattle.fca_model.specs.declared.Reply.TheVariants.{NotHeld, Left}
-use Rattle.fca_model.specs.declared.TheConstants.{MAX_EXPERTS}
 use Rattle.fca_model.specs.Questions.{open_questions}
-use Rattle.fca_model.specs.Exploration.{plain, given_back, held_by, draw_reply, reply_to}
+use Rattle.fca_model.specs.Exploration.{given_back, held_by, draw_reply, reply_to}
 use Rattle.implication_closure.specs.Closing.{RuleList}
 use Rattle.explore_state.specs.History.{Opening, state_of}
+use Rattle.explore_state.specs.Settings.{settings_of}
 use Rattle.explore_state.proofs.KeptLemmas.{reply_to-draw, reply_to-confirm, reply_to-confirm_none, reply_to-row, reply_to-row_none, reply_to-leave}
 use Rattle.explore_state.proofs.Explore.reply_to.Goals as goal
 
 pub returns-in-Draw : goal.returns-in-Draw
 returns-in-Draw c =
     let i = c.self.inside in
-    let o : Opening = record { table = i.table; experts = i.experts; settings = plain } in
+    let o : Opening = record { table = i.table; experts = i.experts; settings = settings_of i.settings } in
     subst (λ h. c.reply_to_draw.result ≡ reply_to (state_of h) c.args.event.now) c.self.view_is
-    (c.reply_to_draw.ensures ∙ ap₂ (λ hs J. draw_reply MAX_EXPERTS (given_back c.in-Draw.expert hs) J) c.deref.ensures.value (c.open_questions.ensures ∙ ap (λ S. open_questions S i.queue.context i.queue.accepted) c.self.invariant.known)
-    ∙ sym (reply_to-draw o i.journal.items i.queue.context i.queue.accepted i.held.items c.self.invariant.kept refl c.in-Draw.expert)
+    (c.reply_to_draw.ensures
+    ∙ ap₂ (λ hs J. draw_reply i.settings.holders (given_back c.in-Draw.expert hs) J) c.deref.ensures.value (c.open_questions.ensures ∙ ap (λ S. open_questions S i.queue.context i.queue.accepted) c.self.invariant.known)
+    ∙ sym (reply_to-draw o i.journal.items i.queue.context i.queue.accepted i.held.items c.self.invariant.kept c.in-Draw.expert)
     ∙ ap (reply_to (state_of (record { opening = o; journal = i.journal.items; spare = 0 }))) (sym c.in-Draw.is))
 
 pub returns-in-Some : goal.returns-in-Some
 returns-in-Some c =
     let i = c.self.inside in
-    let o : Opening = record { table = i.table; experts = i.experts; settings = plain } in
+    let o : Opening = record { table = i.table; experts = i.experts; settings = settings_of i.settings } in
     subst (λ h. c.reply_to_confirmation.result ≡ reply_to (state_of h) c.args.event.now) c.self.view_is
-    (reply_to-confirm o i.journal.items i.queue.context i.queue.accepted i.held.items c.self.invariant.kept refl c.in-Confirm.expert c.in-Some.question c.reply_to_confirmation.result
+    (reply_to-confirm o i.journal.items i.queue.context i.queue.accepted i.held.items c.self.invariant.kept c.in-Confirm.expert c.in-Some.question c.reply_to_confirmation.result
     (ap (held_by c.in-Confirm.expert) (sym c.deref-in-Confirm.ensures.value) ∙ sym c.held_in.ensures ∙ c.in-Some.is)
-    (λ t rows accepted known. c.reply_to_confirmation.ensures t (rows ∙ sym c.rows.ensures) (accepted ∙ sym (ap (λ (J : RuleList). J.members) c.accepted.ensures.list)) known)
+    (λ t rows accepted known. c.reply_to_confirmation.ensures t (rows ∙ sym c.rows.ensures) (accepted ∙ sym (ap (λ (J : RuleList). J.members) c.accepted.ensures.list)) (known ∙ sym c.as_slice.ensures.members))
     ∙ ap (reply_to (state_of (record { opening = o; journal = i.journal.items; spare = 0 }))) (sym c.in-Confirm.is))
 
 pub returns-in-None : goal.returns-in-None
 returns-in-None c =
     let i = c.self.inside in
-    let o : Opening = record { table = i.table; experts = i.experts; settings = plain } in
+    let o : Opening = record { table = i.table; experts = i.experts; settings = settings_of i.settings } in
     subst (λ h. NotHeld ≡ reply_to (state_of h) c.args.event.now) c.self.view_is
-    (reply_to-confirm_none o i.journal.items i.queue.context i.queue.accepted i.held.items c.self.invariant.kept refl c.in-Confirm.expert
+    (reply_to-confirm_none o i.journal.items i.queue.context i.queue.accepted i.held.items c.self.invariant.kept c.in-Confirm.expert
     (ap (held_by c.in-Confirm.expert) (sym c.deref-in-Confirm.ensures.value) ∙ sym c.held_in.ensures ∙ c.in-None.is)
     ∙ ap (reply_to (state_of (record { opening = o; journal = i.journal.items; spare = 0 }))) (sym c.in-Confirm.is))
 
 pub returns-in-Some-held_in : goal.returns-in-Some-held_in
 returns-in-Some-held_in c =
     let i = c.self.inside in
-    let o : Opening = record { table = i.table; experts = i.experts; settings = plain } in
+    let o : Opening = record { table = i.table; experts = i.experts; settings = settings_of i.settings } in
     subst (λ h. c.reply_to_row.result ≡ reply_to (state_of h) c.args.event.now) c.self.view_is
-    (reply_to-row o i.journal.items i.queue.context i.queue.accepted i.held.items c.self.invariant.kept refl c.in-Row.expert c.in-Row.name c.in-Row.row c.in-Some-held_in.question c.reply_to_row.result
+    (reply_to-row o i.journal.items i.queue.context i.queue.accepted i.held.items c.self.invariant.kept c.in-Row.expert c.in-Row.name c.in-Row.row c.in-Some-held_in.question c.reply_to_row.result
     (ap (held_by c.in-Row.expert) (sym c.deref-in-Row.ensures.value) ∙ sym c.held_in-in-Row.ensures ∙ c.in-Some-held_in.is)
-    (λ t rows accepted known. c.reply_to_row.ensures t (rows ∙ sym c.rows-in-Some-held_in.ensures) (accepted ∙ sym (ap (λ (J : RuleList). J.members) c.accepted-in-Some-held_in.ensures.list)) known)
+    (λ t rows rules. c.reply_to_row.ensures t (rows ∙ sym c.rows-in-Some-held_in.ensures)
+    (rules ∙ ap (λ S. S ++ i.queue.accepted) (sym c.self.invariant.known) ∙ sym (ap (λ (J : RuleList). J.members) c.rules.ensures.list)))
     ∙ ap (reply_to (state_of (record { opening = o; journal = i.journal.items; spare = 0 }))) (sym c.in-Row.is))
 
 pub returns-in-None-held_in : goal.returns-in-None-held_in
 returns-in-None-held_in c =
     let i = c.self.inside in
-    let o : Opening = record { table = i.table; experts = i.experts; settings = plain } in
+    let o : Opening = record { table = i.table; experts = i.experts; settings = settings_of i.settings } in
     subst (λ h. NotHeld ≡ reply_to (state_of h) c.args.event.now) c.self.view_is
-    (reply_to-row_none o i.journal.items i.queue.context i.queue.accepted i.held.items c.self.invariant.kept refl c.in-Row.expert c.in-Row.name c.in-Row.row
+    (reply_to-row_none o i.journal.items i.queue.context i.queue.accepted i.held.items c.self.invariant.kept c.in-Row.expert c.in-Row.name c.in-Row.row
     (ap (held_by c.in-Row.expert) (sym c.deref-in-Row.ensures.value) ∙ sym c.held_in-in-Row.ensures ∙ c.in-None-held_in.is)
     ∙ ap (reply_to (state_of (record { opening = o; journal = i.journal.items; spare = 0 }))) (sym c.in-Row.is))
 
 pub returns-in-Leave : goal.returns-in-Leave
 returns-in-Leave c =
     let i = c.self.inside in
-    let o : Opening = record { table = i.table; experts = i.experts; settings = plain } in
+    let o : Opening = record { table = i.table; experts = i.experts; settings = settings_of i.settings } in
     subst (λ h. Left ≡ reply_to (state_of h) c.args.event.now) c.self.view_is
-    (reply_to-leave o i.journal.items i.queue.context i.queue.accepted i.held.items c.self.invariant.kept refl c.in-Leave.expert
+    (reply_to-leave o i.journal.items i.queue.context i.queue.accepted i.held.items c.self.invariant.kept c.in-Leave.expert
     ∙ ap (reply_to (state_of (record { opening = o; journal = i.journal.items; spare = 0 }))) (sym c.in-Leave.is))
