@@ -18,7 +18,7 @@ use std::alloc::Global;
 /// How many rows a block has: as many as four words hold.
 const BLOCK: usize = 256;
 
-/// The columns of the rows of a block, or of all rows of a small table.
+/// The columns of a block, each a set of its rows.
 pub(crate) type Columns = RowsOf<4>;
 
 /// The columns of each block.
