@@ -155,9 +155,10 @@ fn child_at<const W: usize>(
     if a.has(i) {
         return Ok(None);
     }
-    let Some(closed) = close(found, a, &a.with(i), i)? else {
+    let mut closed = a.with(i);
+    if !close(found, a, &mut closed, i)? {
         return Ok(None);
-    };
+    }
     if enter(rows, above, found, level, &closed, i + 1)? {
         return Ok(Some(closed));
     }
