@@ -62,7 +62,7 @@ fn spread<const W: usize>(
 {
     for i in (from..rows.width()).rev() {
         if let Some(child) = child_at(rows, above, known, found, a, i, forced)? {
-            if pays(above, &child, i + 1) {
+            if pays(above, tried(&child, i + 1, forced)) {
                 let near = rows_near(alloc, rows, above, known, found, &child, i + 1)?;
                 let mut passed = passed_on(alloc, found, &child, forced)?;
                 spread(alloc, rows, &near, known, found, &child, i + 1, &mut passed)?;
@@ -163,13 +163,26 @@ fn rows_near<const W: usize>(
     above.containing(alloc, a)
 }
 
-/// Whether it pays to set apart the rows that contain a. What is found is the same either way, so no contract speaks of it.
-pub(crate) fn pays<const W: usize>(above: &RowsOf<W>, a: &Bits<W>, from: u32) -> bool {
-    above.len() > FEW_ROWS && lacking(a, from) > FEW_ATTRIBUTES
+/// Whether it pays to set apart the rows that contain a set below which so many attributes are tried. What is found is the same either way, so no contract speaks
+/// of it.
+pub(crate) fn pays<const W: usize>(above: &RowsOf<W>, tried: u32) -> bool {
+    above.len() > FEW_ROWS && tried > FEW_ATTRIBUTES
+}
+
+/// How many attributes from this one on the set lacks, without those that force another one before them that it lacks.
+fn tried<const W: usize>(a: &Bits<W>, from: u32, forced: &[u32]) -> u32 {
+    let mut tried = 0u32;
+    for i in from..a.width() {
+        let member = forced.get(i as usize).copied().unwrap_or(i);
+        if !a.has(i) && (member >= i || a.has(member)) {
+            tried = tried.saturating_add(1);
+        }
+    }
+    tried
 }
 
 /// How many attributes from this one on the set lacks.
-fn lacking<const W: usize>(a: &Bits<W>, from: u32) -> u32 {
+pub(crate) fn lacking<const W: usize>(a: &Bits<W>, from: u32) -> u32 {
     let mut lacking = 0u32;
     for i in from..a.width() {
         if !a.has(i) {
