@@ -9,3 +9,4 @@ pub mod WaitLemmas
 pub mod WalkLemmas
 pub mod NextLevelLemmas
 pub mod LevelWalkLemmas
+pub mod ForcedLemmas

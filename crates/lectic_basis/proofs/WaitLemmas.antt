@@ -96,11 +96,12 @@ good_covers J Bs A B up good p out =
     wider false b c t h = or_right b c h
 
 -- the closure of a set that respects all members is the set
-pub closed_good : (J : List Rule) (Bs : List (List Rule)) (limit : ℕ) (A B : Set) (r : Option Set) → MatchOption r (Differs J limit A B) (λ c. IsClosedBefore J Bs limit A B c)
+pub closed_good : (J : List Rule) (Bs : List (List Rule)) (limit : ℕ) (A B C : Set) (agrees : Bool) → (agrees ≡ true → IsClosedBefore J Bs limit A B C) → (agrees ≡ false → Differs J limit A B)
     → respects_all J B ≡ true → agree_before limit A B ≡ true → IsGood J Bs B
-closed_good J Bs limit A B None h respecting agree = absurd (false≢true (sym (h B (within_refl B) respecting) ∙ agree))
-closed_good J Bs limit A B (Some c) h respecting agree =
-    subst (λ X. IsGood J Bs X) (within_antisymm c B h.closure.wide (h.closure.least B (within_refl B) respecting) h.closure.above) h.good
+closed_good J Bs limit A B C false closed differs respecting agree = absurd (false≢true (sym (differs refl B (within_refl B) respecting) ∙ agree))
+closed_good J Bs limit A B C true closed differs respecting agree =
+    let h = closed refl in
+    subst (λ X. IsGood J Bs X) (within_antisymm C B h.closure.wide (h.closure.least B (within_refl B) respecting) h.closure.above) h.good
 
 -- ---- all members at the start
 

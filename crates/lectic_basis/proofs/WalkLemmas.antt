@@ -1,13 +1,14 @@
 -- The steps of the walk. At a set that is no intent a member is pushed, and the walk goes on with its closure, or ends where that differs before the
 -- attribute by which the set was entered. Below an intent each attribute that it lacks is tried, the last first; what was found at attribute i is what stands up
 -- to place i of the intent.
-use Rattle.std.proofs.Common.{◌≡◌, ℕ, suc, ◌+◌, ◌-◌, ◌<◌, ◌≤◌, true, false, Option, Some, None, MatchOption, Result, IfOk, List, [], ◌∷◌, ◌++◌, length, get_or, set, replicate, length-set, refl, sym, ap, ◌∙◌, subst, arith}
-use Rattle.std.proofs.lemmas.Bool.{false≢true, false_from_ne_true}
+use Rattle.std.proofs.Common.{◌≡◌, ℕ, suc, ◌+◌, ◌-◌, ◌<◌, ◌≤◌, Bool, true, false, Option, Some, None, MatchOption, IfSome, Result, Ok, Err, IfOk, OnOk, List, [], ◌∷◌, ◌++◌, length, get_or, set, replicate, length-set, refl, sym, ap, ◌∙◌, subst, arith}
+use Rattle.std.proofs.lemmas.Bool.{false≢true, and_parts, false_from_ne_true}
+use Rattle.std.proofs.lemmas.List.Folds.{list_all-append}
 use Rattle.std.proofs.lemmas.Result.{IfOk-weaker}
 use Rattle.std.specs.List.{list_all}
 use Rattle.fca_model.specs.Sets.{Set, same, within}
 use Rattle.fca_model.specs.Context.{Context, closure, is_closed}
-use Rattle.fca_model.specs.Implications.{Rule, rule, respects_all, holds}
+use Rattle.fca_model.specs.Implications.{Rule, rule, respects, respects_all, holds}
 use Rattle.fca_model.proofs.SetLemmas.{same-true, same_from, within_refl, within_trans, within_at_place}
 use Rattle.fca_model.proofs.ClosureLemmas.{length-closure, closure_extensive}
 use Rattle.implication_closure.specs.Closing.{RuleList, IsClosure}
@@ -15,10 +16,12 @@ use Rattle.lectic_concepts.specs.Branches.{agree_before}
 use Rattle.lectic_concepts.proofs.BranchLemmas.{among, closure_among}
 use Rattle.lectic_basis.specs.Trees.{InFamily, IsLeastBehind, up_to, members_where, found_where}
 use Rattle.lectic_basis.specs.Walks.{IsVisit, IsBelow, IsTrying, HasFound, IsPart, IsPartBefore}
+use Rattle.lectic_basis.specs.Forced.{AreForced, IsLonger}
 use Rattle.lectic_basis.specs.Watches.{Watched, IsFiled, IsGood, CanClose, HasMoved, IsClosedBefore, Differs, IsPutBefore, Covers}
-use Rattle.lectic_basis.proofs.PlaceLemmas.{up_to_member, within_set, agree_with, agree_less}
-use Rattle.lectic_basis.proofs.FamilyLemmas.{family_of_closed, closed_closure, same_where, closed_respects_where}
+use Rattle.lectic_basis.proofs.PlaceLemmas.{up_to_member, within_set, agree_with, agree_less, up_to_less}
+use Rattle.lectic_basis.proofs.FamilyLemmas.{family_of_closed, closed_closure, same_where, where_all, where_at, where_known, closed_respects_where}
 use Rattle.lectic_basis.proofs.TreeLemmas as tree
+use Rattle.lectic_basis.proofs.ForcedLemmas.{forced_larger, forced_more, forced_differs}
 use Rattle.lectic_basis.proofs.WaitLemmas.{push_filed, push_good, push_covers, kept_good, good_covers, closed_good}
 
 -- ---- the start
@@ -135,15 +138,15 @@ module _ {S : List Rule} {K L : Context} {A : Set} {from : ℕ} {F : Watched} (v
           respecting : respects_all G.list.members B ≡ true
           respecting = subst (λ (M : RuleList). respects_all M.members B ≡ true) (sym grown ∙ m.list) (closed_respects_where S K (up_to K.width B) B family_b closed_b)
 
-          pub visit_below : (r : Option Set) → MatchOption r (Differs G.list.members from A B) (λ c. IsClosedBefore G.list.members H.buckets from A B c) → IsBelow S K L B from H
-          visit_below r closed = record {
+          pub visit_below : (C : Set) (agrees : Bool) → (agrees ≡ true → IsClosedBefore G.list.members H.buckets from A B C) → (agrees ≡ false → Differs G.list.members from A B) → IsBelow S K L B from H
+          visit_below C agrees closed differs = record {
             at = record {
               holds = v.at.holds;
               family = family_b;
               inside = v.at.inside;
               near = λ X h. v.at.near X (within_trans A B X closure_up h);
               filed = m.filed;
-              good = subst (λ (M : RuleList). IsGood M.members H.buckets B) (sym m.list) (closed_good G.list.members H.buckets from A B r closed respecting agree);
+              good = subst (λ (M : RuleList). IsGood M.members H.buckets B) (sym m.list) (closed_good G.list.members H.buckets from A B C agrees closed differs respecting agree);
             };
             least = subst (λ X. IsLeastBehind S K X from) (sym closure_is) (tree.grows_behind S K A v.at.family from v.at.inside v.least open_set agree_closure);
             found = grown;
@@ -157,6 +160,16 @@ module _ {S : List Rule} {K L : Context} {A : Set} {from : ℕ} {F : Watched} (v
                 (subst (λ (M : RuleList). IsGood M.members H.buckets X) (sym m.list) (kept_good G.list.members G.buckets H.buckets X (m.kept X h.part) (good_pushed X h good)));
           }
 
+-- what is found grows
+pub longer_push : (L M : RuleList) (i : Rule) → M ≡ record { width = L.width; members = L.members ++ i ∷ [] } → IsLonger L.members M.members
+longer_push L M i e T r = (and_parts (list_all (respects T) L.members) (list_all (respects T) (i ∷ [])) (sym (list_all-append (respects T) L.members (i ∷ [])) ∙ subst (λ (N : RuleList). respects_all N.members T ≡ true) e r)).0
+
+pub found_longer : {S : List Rule} {K : Context} {A : Set} {j i : ℕ} {F G H : Watched} → HasFound S K A j (IsPart A) F G → HasFound S K A i (IsPart A) G H → i ≤ j → IsLonger G.list.members H.list.members
+found_longer {S = S} {K = K} {A = A} {j = j} {i = i} x y le T r =
+    let r' : respects_all (members_where S K (up_to i A)) T ≡ true = subst (λ (M : RuleList). respects_all M.members T ≡ true) y.found r in
+    subst (λ (M : RuleList). respects_all M.members T ≡ true) (sym x.found)
+    (where_all S K (up_to j A) (respects T) (where_known S K (up_to i A) (respects T) r') (λ P e t first. where_at S K (up_to i A) (respects T) r' P e t (up_to_less i j A P le first)))
+
 -- ---- what is told
 
 match_weaker : {T A A' : Type 0} {B B' : T → Type 0} (o : Option T) → (A → A') → ((x : T) → B x → B' x) → MatchOption o A B → MatchOption o A' B'
@@ -165,6 +178,13 @@ match_weaker (Some x) f h m = h x m
 
 told_weaker : {T E A A' : Type 0} {B B' : T → Type 0} (r : Result (Option T) E) → (A → A') → ((x : T) → B x → B' x) → IfOk r (λ o. MatchOption o A B) → IfOk r (λ o. MatchOption o A' B')
 told_weaker {A = A} {A' = A'} {B = B} {B' = B'} r f h m = IfOk-weaker r (λ o. MatchOption o A B) (λ o. MatchOption o A' B') (λ o. match_weaker o f h) m
+
+-- what is forced below holds behind the intent that is told
+pub told_forced : {E : Type 0} (J M : List Rule) (A C : Set) (ws : List ℕ) (r : Result (Option Set) E) → AreForced J A ws → within A C ≡ true → OnOk r (IsLonger J M)
+    → IfOk r (λ o. IfSome o (λ b. within C b ≡ true)) → IfOk r (λ o. IfSome o (λ b. AreForced M b ws))
+told_forced J M A C ws (Err e) f up more larger = larger
+told_forced J M A C ws (Ok None) f up more larger = larger
+told_forced J M A C ws (Ok (Some b)) f up more larger = forced_larger M A b ws (within_trans A C b up larger) (forced_more J M A ws more f)
 
 -- ---- below an intent
 
@@ -279,3 +299,11 @@ module _ {S : List Rule} {K L : Context} {A : Set} {i : ℕ} {G : Watched} (t : 
             → IfOk r (λ o. MatchOption o (HasFound S K C (i + 1) (IsPartBefore C (i + 1)) H I) (λ b. (J : Watched) → HasFound S K b (i + 1) (IsPart b) I J → HasFound S K C (i + 1) (IsPartBefore C (i + 1)) H J))
             → IfOk r (λ o. MatchOption o (HasFound S K A i (IsPart A) G I) (λ b. (J : Watched) → HasFound S K b (i + 1) (IsPart b) I J → HasFound S K A i (IsPart A) G J))
         below_told I r told = told_weaker r below_visited (λ b done J h. below_visited (done J h)) told
+
+-- where i is seen to force an attribute before it that A lacks, no member is left out
+pub below_forced : {S : List Rule} {K L : Context} {A : Set} {i : ℕ} {G : Watched} (w : ℕ) (ws : List ℕ) → IsTrying S K L A i G → get_or A i false ≡ false → AreForced G.list.members A ws → get_or ws i i ≡ w → w < i → get_or A w false ≡ false
+    → HasFound S K A i (IsPart A) G G
+below_forced {A = A} {i = i} {G = G} w ws t lacks f is lt missing = below_none t lacks refl (record { list = refl; filed = t.at.filed; kept = λ Y h p o. o }) (forced_differs G.list.members A ws i w (omega (arith, t.inside, t.at.family.wide)) f is lt missing)
+
+pub below_up : (A X C : Set) (i : ℕ) (J : List Rule) → X ≡ set A i true → IsClosure J X C → within A C ≡ true
+below_up A X C i J x c = within_trans A (set A i true) C (within_set A i) (subst (λ Y. within Y C ≡ true) x c.above)

@@ -20,7 +20,7 @@ use Rattle.implication_closure.specs.Closing.{RuleList, has_width, HaveWidth}
 use Rattle.lectic_concepts.specs.Branches.{agree_before}
 use Rattle.lectic_concepts.proofs.BranchLemmas.{agree_at, agree_from}
 use Rattle.lectic_basis.proofs.BucketLemmas.{moved_all}
-use Rattle.lectic_basis.specs.Watches.{Watched, CanClose, HasMoved, bucket, waiting_at, Outside, Covers, IsGood, HasKept, IsSorted, IsFiled, IsMoved, IsSettling, IsClosedBefore, Differs}
+use Rattle.lectic_basis.specs.Watches.{Watched, CanClose, HasMoved, bucket, waiting_at, Outside, Covers, IsGood, HasKept, IsSorted, IsFiled, IsMoved, IsSettling, IsClosedBefore, Differs, IsBounded}
 
 -- a set between two that agree
 pub agree_between : (k : ℕ) (A D T : Set) → within A D ≡ true → within D T ≡ true → agree_before k A T ≡ true → agree_before k A D ≡ true
@@ -201,6 +201,9 @@ module _ {n : ℕ} {J : List Rule} {limit : ℕ} {A X : Set} {old : List (List R
 
       bounded_next : (T : Set) → within X T ≡ true → respects_all J T ≡ true → within E T ≡ true
       bounded_next T h r = s.bounded T (c.bounded T h r) (c.filed.sound (respects T) r)
+
+      pub closing_bounded : IsBounded J X E
+      closing_bounded = bounded_next
 
       -- what is kept where the closure differs
       pub closing_differs : agree_before limit A E ≡ false → Differs J limit A X

@@ -4,3 +4,4 @@ pub mod Walks
 pub mod Watches
 pub mod NextLevel
 pub mod LevelWalks
+pub mod Forced

@@ -105,11 +105,16 @@ pub record HasMoved (A : Set) (old new : Watched) : Type 0 where
   pub filed : IsFiled new.list.width new.list.members new.buckets
   pub kept : (X : Set) → within X A ≡ true → HasKept X old.buckets new.buckets
 
--- D is the closure of X, agrees with A before an attribute, and is good; or each set that contains X and respects J differs there
+-- D is the closure of X, agrees with A before an attribute, and is good
 pub record IsClosedBefore (J : List Rule) (Bs : List (List Rule)) (limit : ℕ) (A X D : Set) : Type 0 where
   pub closure : IsClosure J X D
   pub agree : agree_before limit A D ≡ true
   pub good : IsGood J Bs D
 
+-- each set that contains X and respects J contains D
+abbrev pub IsBounded : List Rule → Set → Set → Type 0
+IsBounded J X D = (T : Set) → within X T ≡ true → respects_all J T ≡ true → within D T ≡ true
+
+-- each set that contains X and respects J differs from A before an attribute
 abbrev pub Differs : List Rule → ℕ → Set → Set → Type 0
 Differs J limit A X = (T : Set) → within X T ≡ true → respects_all J T ≡ true → agree_before limit A T ≡ false

@@ -1,39 +1,39 @@
 //! The closure under the members of a list, each of which waits for one attribute of its premise.
 
-ghost use Rattle.std.specs.Prelude.{◌≡◌, ℕ, true, false, length, slice_index_or, OnOk, IfOk, MatchOption};
+ghost use Rattle.std.specs.Prelude.{◌≡◌, ℕ, true, false, length, slice_index_or, OnOk, IfOk};
 ghost use Rattle.std.specs.List.{list_all};
 ghost use Rattle.fca_model.specs.Sets.{within};
 ghost use Rattle.implication_closure.specs.Closing.{HaveWidth};
 ghost use Rattle.lectic_concepts.specs.Branches.{agree_before};
-ghost use Rattle.lectic_basis.specs.Watches.{bucket, CanClose, Differs, HasMoved, IsClosedBefore, IsSettling, IsSorted};
+ghost use Rattle.lectic_basis.specs.Watches.{bucket, CanClose, Differs, IsBounded, HasMoved, IsClosedBefore, IsSettling, IsSorted};
 
 use crate::watched_list::WatchedList;
 use attr_bits::Bits;
 use fca_model::Memory;
 
-/// The closure of x, which contains `done`, under the members; or nothing where it differs from `done` before the limit. Members that wait for an attribute
-/// of the closure wait for another from then on.
+/// Closes the set, which contains `done`, under the members. Whether the closure agrees with `done` before the limit; where it does not, the set is a part of it
+/// that differs there. Members that wait for an attribute of the closure wait for another from then on.
 pub(crate) fn close<const W: usize>(
     found: &mut WatchedList<W>,
     done: &Bits<W>,
-    x: &Bits<W>,
+    closed: &mut Bits<W>,
     limit: u32,
-) -> Result<Option<Bits<W>>, Memory>
-    requires { CanClose found.old limit done.now x.now }
+) -> Result<bool, Memory>
+    requires { CanClose found.old limit done.now closed.old }
     ensures moved { OnOk result (HasMoved done.now found.old found.new) }
-    ensures closure { IfOk result (λ closed. MatchOption closed (Differs found.old.list.members limit done.now x.now)
-        (λ c. IsClosedBefore found.old.list.members found.new.buckets limit done.now x.now c)) }
+    ensures bounded { OnOk result (IsBounded found.old.list.members closed.old closed.new) }
+    ensures closure { IfOk result (λ agrees. agrees ≡ true → IsClosedBefore found.old.list.members found.new.buckets limit done.now closed.old closed.new) }
+    ensures differs { IfOk result (λ agrees. agrees ≡ false → Differs found.old.list.members limit done.now closed.old) }
 {
     let _width = found.width();
     let mut seen = *done;
-    let mut closed = *x;
     while let Some(z) = closed.first_missing(&seen) {
-        if !settle(found, z, done, limit, &mut closed)? {
-            return Ok(None);
+        if !settle(found, z, done, limit, closed)? {
+            return Ok(false);
         }
         seen.insert(z);
     }
-    Ok(Some(closed))
+    Ok(true)
 }
 
 /// Looks through the bucket of attribute z of the set, which takes in conclusions. Whether it still agrees with `done` before the limit; if not, the rest of

@@ -11,7 +11,7 @@ ghost use Rattle.lectic_basis.specs.LevelWalks.{IsEntered, IsLeft, IsTrying, Has
 
 use crate::closing::close;
 use crate::narrow_list::rules_in_words;
-use crate::tree::pays;
+use crate::tree::{lacking, pays};
 use crate::watched_list::WatchedList;
 use attr_bits::{Attrs, Bits, WORDS};
 use derivation::{Rows, RowsOf};
@@ -124,7 +124,7 @@ fn try_each<const W: usize>(
 {
     for i in (from..rows.width()).rev() {
         if let Some(child) = child_at(rows, above, found, level, a, i)? {
-            if pays(above, &child, i + 1) {
+            if pays(above, lacking(&child, i + 1)) {
                 let near = rows_near(alloc, rows, above, found, level, &child, i + 1)?;
                 try_each(alloc, rows, &near, found, level, &child, i + 1)?;
             } else {
@@ -155,9 +155,10 @@ fn child_at<const W: usize>(
     if a.has(i) {
         return Ok(None);
     }
-    let Some(closed) = close(found, a, &a.with(i), i)? else {
+    let mut closed = a.with(i);
+    if !close(found, a, &mut closed, i)? {
         return Ok(None);
-    };
+    }
     if enter(rows, above, found, level, &closed, i + 1)? {
         return Ok(Some(closed));
     }

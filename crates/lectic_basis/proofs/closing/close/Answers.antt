@@ -23,10 +23,15 @@ returns-then-not-branch-clause-moved g c =
     let missing : first_missing 0 c.loop-z.closed c.loop-z.seen ≡ Some c.in-Some.z = sym c.first_missing.ensures ∙ c.in-Some.is in
     watch.closing_moved (c.settle.ensures.list ∙ c.loop-z.invariant.list) (watch.closing_filed c.loop-z.invariant.closing missing c.in_ok-settle.ensures.settling) (watch.closing_kept c.loop-z.invariant.closing missing c.in_ok-settle.ensures.settling)
 
-pub returns-then-not-branch-clause-closure : goal.returns-then-not-branch-clause-closure
-returns-then-not-branch-clause-closure g c =
+pub returns-then-not-branch-clause-differs : goal.returns-then-not-branch-clause-differs
+returns-then-not-branch-clause-differs g c e =
     let missing : first_missing 0 c.loop-z.closed c.loop-z.seen ≡ Some c.in-Some.z = sym c.first_missing.ensures ∙ c.in-Some.is in
     watch.closing_differs c.loop-z.invariant.closing missing c.in_ok-settle.ensures.settling (sym c.in_ok-settle.ensures.agree ∙ c.if-not-branch.true)
+
+pub returns-then-not-branch-clause-bounded : goal.returns-then-not-branch-clause-bounded
+returns-then-not-branch-clause-bounded g c =
+    let missing : first_missing 0 c.loop-z.closed c.loop-z.seen ≡ Some c.in-Some.z = sym c.first_missing.ensures ∙ c.in-Some.is in
+    watch.closing_bounded c.loop-z.invariant.closing missing c.in_ok-settle.ensures.settling
 
 pub insert-requires : goal.insert-requires
 insert-requires g c =
@@ -49,5 +54,8 @@ loop-z-preserved g c =
 pub returns-clause-moved : goal.returns-clause-moved
 returns-clause-moved g c = watch.closing_moved c.loop-z.invariant.list c.loop-z.invariant.closing.filed c.loop-z.invariant.closing.kept
 
+pub returns-clause-bounded : goal.returns-clause-bounded
+returns-clause-bounded g c = c.loop-z.invariant.closing.bounded
+
 pub returns-clause-closure : goal.returns-clause-closure
-returns-clause-closure g c = watch.closing_end c.loop-z.invariant.closing c.requires.wide (sym c.first_missing.ensures ∙ c.in_default.is)
+returns-clause-closure g c e = watch.closing_end c.loop-z.invariant.closing c.requires.wide (sym c.first_missing.ensures ∙ c.in_default.is)

@@ -6,16 +6,16 @@ pub returns-then-has-clause-done : goal.returns-then-has-clause-done
 returns-then-has-clause-done g c = left_member c.requires (sym c.has.ensures ∙ c.if-has.true)
 
 pub close-requires : goal.close-requires
-close-requires g c = (omega arith, (omega (arith, c.width-width.ensures.words), left_can_close c.requires (sym c.has.ensures ∙ c.if-has.false) c.with.ensures))
+close-requires g c = (omega arith, (omega (arith, c.width-width.ensures.words), left_can_close c.requires (sym c.has.ensures ∙ c.if-has.false) c.with-closed.ensures))
 
-pub returns-in_default-clause-done : goal.returns-in_default-clause-done
-returns-in_default-clause-done g c = left_none c.requires (sym c.has.ensures ∙ c.if-has.false) c.with.ensures c.in_ok-closed.ensures.moved (rw c.in_default.is at c.in_ok-closed.ensures.closure)
+pub returns-then-not-branch-clause-done : goal.returns-then-not-branch-clause-done
+returns-then-not-branch-clause-done g c = left_none c.requires (sym c.has.ensures ∙ c.if-has.false) c.with-closed.ensures c.in_ok-close.ensures.moved (c.in_ok-close.ensures.differs c.if-not-branch.true)
 
 pub enter-requires : goal.enter-requires
-enter-requires g c = (omega arith, (omega arith, (omega arith, (omega (arith, c.width-width.ensures.words), left_entered c.requires (sym c.has.ensures ∙ c.if-has.false) c.with.ensures c.in_ok-closed.ensures.moved (rw c.in-Some.is at c.in_ok-closed.ensures.closure)))))
+enter-requires g c = (omega arith, (omega arith, (omega arith, (omega (arith, c.width-width.ensures.words), left_entered c.requires (sym c.has.ensures ∙ c.if-has.false) c.with-closed.ensures c.in_ok-close.ensures.moved (c.in_ok-close.ensures.closure c.if-not-branch.false)))))
 
 pub returns-then-branch-clause-done : goal.returns-then-branch-clause-done
-returns-then-branch-clause-done g c = λ new size members h. left_done c.requires (sym c.has.ensures ∙ c.if-has.false) c.with.ensures c.in_ok-closed.ensures.moved (rw c.in-Some.is at c.in_ok-closed.ensures.closure) h
+returns-then-branch-clause-done g c = λ new size members h. left_done c.requires (sym c.has.ensures ∙ c.if-has.false) c.with-closed.ensures c.in_ok-close.ensures.moved (c.in_ok-close.ensures.closure c.if-not-branch.false) h
 
 pub returns-clause-done : goal.returns-clause-done
-returns-clause-done g c = left_done c.requires (sym c.has.ensures ∙ c.if-has.false) c.with.ensures c.in_ok-closed.ensures.moved (rw c.in-Some.is at c.in_ok-closed.ensures.closure) (c.in_ok-enter.ensures.done c.if-branch.false)
+returns-clause-done g c = left_done c.requires (sym c.has.ensures ∙ c.if-has.false) c.with-closed.ensures c.in_ok-close.ensures.moved (c.in_ok-close.ensures.closure c.if-not-branch.false) (c.in_ok-enter.ensures.done c.if-branch.false)

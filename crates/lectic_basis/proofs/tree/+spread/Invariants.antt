@@ -1,4 +1,5 @@
 use Rattle.std.proofs.Common.{◌≤◌, ◌-◌}
+use Rattle.lectic_basis.specs.Forced.{AreForced}
 use Rattle.lectic_basis.specs.Walks.{HasFound, IsPart}
 use Rattle.lectic_basis.proofs.tree.+spread.Given as goal
 
@@ -10,4 +11,5 @@ invariant-loop-i g l = record {
   from_on : l.fn.from ≤ l.i;
   inside : l.i ≤ l.rows.width;
   found : HasFound l.known.members l.rows l.a l.i (IsPart l.a) l.fn.found l.found;
+  forced : AreForced l.found.list.members l.a l.forced.items;
 }

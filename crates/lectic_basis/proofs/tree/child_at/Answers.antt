@@ -1,18 +1,41 @@
-use Rattle.std.proofs.Common.{sym, ◌∙◌, arith}
-use Rattle.lectic_basis.proofs.WalkLemmas.{below_member, below_can_close, below_none, below_visit, below_told}
+use Rattle.std.proofs.Common.{◌≡◌, false, get_or, ap, sym, ◌∙◌, subst, arith}
+use Rattle.std.specs.Prelude.{unwrap_or}
+use Rattle.std.proofs.lemmas.Result.{on_ok_weaker}
+use Rattle.implication_closure.specs.Closing.{RuleList}
+use Rattle.lectic_basis.specs.Forced.{AreForced}
+use Rattle.lectic_basis.specs.Watches.{IsBounded}
+use Rattle.lectic_basis.proofs.WalkLemmas.{below_member, below_can_close, below_none, below_visit, below_told, below_forced, below_up, told_forced}
 use Rattle.lectic_basis.proofs.tree.child_at.Goals as goal
 
 pub returns-then-has-clause-done : goal.returns-then-has-clause-done
-returns-then-has-clause-done g c = below_member c.requires (sym c.has.ensures ∙ c.if-has.true)
+returns-then-has-clause-done g c = below_member c.requires.trying (sym c.has.ensures ∙ c.if-has.true)
+
+pub returns-then-not-has-clause-done : goal.returns-then-not-has-clause-done
+returns-then-not-has-clause-done g c =
+    let i = c.args.i in
+    let member : get_or c.args.forced.now.items i i ≡ c.unwrap_or-member.result =
+    sym (c.unwrap_or-member.ensures ∙ ap (λ o. unwrap_or o i) c.copied.ensures ∙ c.get.ensures.lookup.4 (omega arith) i ∙ ap (λ xs. get_or xs i i) c.deref.ensures.value) in
+    below_forced c.unwrap_or-member.result c.args.forced.now.items c.requires.trying (sym c.has.ensures ∙ c.if-has.false) c.requires.forced member c.if-member-i.true (sym c.has-then-member-i.ensures ∙ c.if-not-has.true)
 
 pub close-requires : goal.close-requires
-close-requires g c = (omega arith, (omega (arith, c.width-width.ensures.words), below_can_close c.requires (sym c.has.ensures ∙ c.if-has.false) c.with.ensures))
+close-requires g c = (omega arith, (omega (arith, c.width-width.ensures.words), below_can_close c.requires.trying (sym c.has.ensures ∙ c.if-has.false) c.with-closed.ensures))
 
-pub returns-in_default-clause-done : goal.returns-in_default-clause-done
-returns-in_default-clause-done g c = below_none c.requires (sym c.has.ensures ∙ c.if-has.false) c.with.ensures c.in_ok-closed.ensures.moved (rw c.in_default.is at c.in_ok-closed.ensures.closure)
+pub returns-then-not-branch-clause-done : goal.returns-then-not-branch-clause-done
+returns-then-not-branch-clause-done g c = below_none c.requires.trying (sym c.has.ensures ∙ c.if-has.false) c.with-closed.ensures c.in_ok-close.ensures.moved (c.in_ok-close.ensures.differs c.if-not-branch.true)
+
+pub returns-then-not-branch-clause-kept : goal.returns-then-not-branch-clause-kept
+returns-then-not-branch-clause-kept g c = c.note.ensures c.args.found.now.list.members (subst (λ X. IsBounded c.args.found.now.list.members X c.close.new.closed) c.with-closed.ensures c.in_ok-close.ensures.bounded) c.requires.forced
 
 pub visit-requires : goal.visit-requires
-visit-requires g c = (omega arith, (omega arith, (omega (arith, c.width-width.ensures.words), below_visit c.requires (sym c.has.ensures ∙ c.if-has.false) c.with.ensures c.in_ok-closed.ensures.moved (rw c.in-Some.is at c.in_ok-closed.ensures.closure))))
+visit-requires g c = (omega arith, (omega arith, (omega (arith, c.width-width.ensures.words), below_visit c.requires.trying (sym c.has.ensures ∙ c.if-has.false) c.with-closed.ensures c.in_ok-close.ensures.moved (c.in_ok-close.ensures.closure c.if-not-branch.false))))
 
 pub returns-clause-done : goal.returns-clause-done
-returns-clause-done g c = below_told c.requires (sym c.has.ensures ∙ c.if-has.false) c.with.ensures c.in_ok-closed.ensures.moved (rw c.in-Some.is at c.in_ok-closed.ensures.closure) _ c.visit.result c.visit.ensures.done
+returns-clause-done g c = below_told c.requires.trying (sym c.has.ensures ∙ c.if-has.false) c.with-closed.ensures c.in_ok-close.ensures.moved (c.in_ok-close.ensures.closure c.if-not-branch.false) _ c.visit.result c.visit.ensures.done
+
+pub returns-clause-passed : goal.returns-clause-passed
+returns-clause-passed g c =
+    let closed = c.in_ok-close.ensures.closure c.if-not-branch.false in
+    told_forced c.close.new.found.list.members c.visit.new.found.list.members c.args.a.now c.close.new.closed c.args.forced.now.items c.visit.result (subst (λ (M : RuleList). AreForced M.members c.args.a.now c.args.forced.now.items) (sym c.in_ok-close.ensures.moved.list) c.requires.forced) (below_up c.args.a.now c.with-closed.result c.close.new.closed c.args.i c.args.found.now.list.members c.with-closed.ensures closed.closure) c.visit.ensures.more c.visit.ensures.larger
+
+pub returns-clause-kept : goal.returns-clause-kept
+returns-clause-kept g c = on_ok_weaker c.visit.result (λ more. c.requires.forced) c.visit.ensures.more

@@ -1,5 +1,6 @@
 use Rattle.std.proofs.Common.{sym, ◌∙◌, arith}
-use Rattle.lectic_basis.proofs.WalkLemmas.{visit_wide, visit_inside, closure_wide, closure_up, visit_closed, visit_ends, visit_can_close, visit_below, visit_done, part_before}
+use Rattle.fca_model.proofs.SetLemmas.{within_refl}
+use Rattle.lectic_basis.proofs.WalkLemmas.{visit_wide, visit_inside, closure_wide, closure_up, visit_closed, visit_ends, visit_can_close, visit_below, visit_done, part_before, longer_push}
 use Rattle.lectic_basis.proofs.tree.visit.Goals as goal
 
 -- an intent
@@ -25,7 +26,21 @@ pub close-requires : goal.close-requires
 close-requires g c = (omega arith, (omega (arith, c.width-width.ensures.words), visit_can_close c.requires c.closure-closed.ensures (sym c.eq.ensures ∙ c.if-eq.false) _ c.in_ok-push_before.ensures.list c.in_ok-push_before.ensures.put (sym c.agrees.ensures ∙ c.if-not-agrees.false)))
 
 pub returns-clause-below : goal.returns-clause-below
-returns-clause-below g c = visit_below c.requires c.closure-closed.ensures (sym c.eq.ensures ∙ c.if-eq.false) _ c.in_ok-push_before.ensures.list c.in_ok-push_before.ensures.put (sym c.agrees.ensures ∙ c.if-not-agrees.false) c.in_ok-close.ensures.moved _ c.in_ok-close.ensures.closure
+returns-clause-below g c = visit_below c.requires c.closure-closed.ensures (sym c.eq.ensures ∙ c.if-eq.false) _ c.in_ok-push_before.ensures.list c.in_ok-push_before.ensures.put (sym c.agrees.ensures ∙ c.if-not-agrees.false) c.in_ok-close.ensures.moved _ _ c.in_ok-close.ensures.closure c.in_ok-close.ensures.differs
 
 pub returns-clause-done : goal.returns-clause-done
 returns-clause-done g c = λ new h. visit_done c.requires c.closure-closed.ensures (sym c.eq.ensures ∙ c.if-eq.false) _ c.in_ok-push_before.ensures.list c.in_ok-push_before.ensures.put (sym c.agrees.ensures ∙ c.if-not-agrees.false) c.in_ok-close.ensures.moved h
+
+-- what is told is larger, and what was found is kept
+
+pub returns-clause-larger : goal.returns-clause-larger
+returns-clause-larger g c = closure_up c.requires c.closure-closed.ensures
+
+pub returns-then-eq-clause-larger : goal.returns-then-eq-clause-larger
+returns-then-eq-clause-larger g c = within_refl c.args.a.now
+
+pub returns-then-not-agrees-clause-more : goal.returns-then-not-agrees-clause-more
+returns-then-not-agrees-clause-more g c = longer_push _ _ _ c.in_ok-push_before.ensures.list
+
+pub returns-clause-more : goal.returns-clause-more
+returns-clause-more g c = longer_push _ _ _ (c.in_ok-close.ensures.moved.list ∙ c.in_ok-push_before.ensures.list)
