@@ -17,7 +17,7 @@ use itoa::Buffer;
 use std::alloc::Global;
 use std::marker::Model;
 
-/// A text that is written line by line; contracts see its bytes. After `Memory` it holds a front of what was to be written.
+/// A text that is written line by line; contracts see its bytes.
 #[derive(Drop)]
 pub struct Draft {
     sink: Growing,
