@@ -9,6 +9,7 @@ mod made;
 mod replay;
 mod reports;
 mod run;
+mod scaling;
 
 use crate::ends::{FileShelf, StdFault, StdInput, StdOutput};
 use crate::link::TcpLink;
