@@ -67,6 +67,8 @@ fn words_of(alloc: Global, arguments: Args) -> Result<Vec<Word>, Stop>
 }
 
 #[cfg(test)]
+mod scaling_tests;
+#[cfg(test)]
 mod serving_tests;
 #[cfg(test)]
 mod tests;

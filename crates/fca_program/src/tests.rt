@@ -581,7 +581,7 @@ const REFUSALS: [Call; 40] = [
 /// The ends of a call but its link.
 #[derive(Drop)]
 pub struct Ends {
-    shelf: MemoryShelf,
+    pub shelf: MemoryShelf,
     input: MemorySource,
     pub out: MemorySink,
     pub err: MemorySink,
@@ -911,7 +911,7 @@ fn long_files_are_refused(rt: HostRuntime) -> Result<(), Fail> {
 #[test]
 fn wide_headers_are_refused(rt: HostRuntime) -> Result<(), Fail> {
     let mut wide = Vec::new(rt.alloc());
-    wide.resize(MAX_ATTRIBUTES + 1, b',')?;
+    wide.resize(MAX_ATTRIBUTES as usize + 1, b',')?;
     let called = outcome(&rt, rt.alloc(), CONVERT_CSV, &wide, b"", 0, &[], &[])?;
     assert_eq!(rt; called.status, 2);
     assert_eq!(rt;
