@@ -36,20 +36,8 @@ type Refusal = (
 );
 
 const REFUSALS: [Refusal; 6] = [
-    (
-        SCALE,
-        PEOPLE,
-        b"ordinal,size,1\n",
-        2,
-        b"fca: P: bad plan\n",
-    ),
-    (
-        SCALE,
-        b",a,a\n",
-        b"ordinal\n",
-        2,
-        b"fca: F: bad values\n",
-    ),
+    (SCALE, PEOPLE, b"ordinal,size,1\n", 2, b"fca: P: bad plan\n"),
+    (SCALE, b",a,a\n", b"ordinal\n", 2, b"fca: F: bad values\n"),
     (
         &[b"scale", b"F", b"nofile"],
         b"",
@@ -71,7 +59,13 @@ const REFUSALS: [Refusal; 6] = [
         3,
         b"fca: nofile: read fault\n",
     ),
-    (&[b"scale", b"F", b""], PEOPLE, b"", 1, b"fca: no such command\n"),
+    (
+        &[b"scale", b"F", b""],
+        PEOPLE,
+        b"",
+        1,
+        b"fca: no such command\n",
+    ),
 ];
 
 /// The status of the call of these words over these files, with its ends.
