@@ -1,3 +1,4 @@
 pub mod ScriptLemmas
 pub mod CourseLemmas
 pub mod ErrLemmas
+pub mod ReadingLemmas

@@ -1,4 +1,4 @@
--- Why a table or a script could not be read: which stop it is.
+-- Why a table, a table of values, a plan or a script could not be read: which stop it is.
 use Rattle.std.specs.Prelude.{◌≡◌, ⊤, ℕ, true, false, Option, None, Some, Err, length, ◌<◌}
 use Rattle.fca_model.specs.Tables.{Text}
 use Rattle.fca_model.specs.declared.TheConstants.{FILE_BYTES}
@@ -7,12 +7,15 @@ use Rattle.fca_io.specs.declared.outside.Taken.{Taken}
 use Rattle.fca_io.specs.declared.outside.Taken.TheVariants as taken
 use Rattle.cxt_format.specs.Form.{cxt_form}
 use Rattle.csv_context.specs.Form.{csv_form}
+use Rattle.value_tables.specs.Values.{ValueTable}
+use Rattle.value_tables.specs.Form.{values_form}
+use Rattle.context_scaling.specs.PlanForm.{plan_form}
 use Rattle.expert_wire.specs.Scripts.{script_form}
 use Rattle.command_io.specs.Forms.{is_csv}
 use Rattle.command_io.specs.declared.stop.Origin.{Origin}
 use Rattle.command_io.specs.declared.stop.Origin.TheVariants.{Input}
 use Rattle.command_io.specs.declared.stop.Stop.{Stop}
-use Rattle.command_io.specs.declared.stop.Stop.TheVariants.{TooLong, NoTable, NoCsv, NoScript, Fault, Memory}
+use Rattle.command_io.specs.declared.stop.Stop.TheVariants.{TooLong, NoTable, NoCsv, BadValues, BadPlan, NoScript, Fault, Memory}
 
 -- the stop where bytes of this origin were not taken
 abbrev pub taken_stop : Taken → Origin → Stop
@@ -42,6 +45,22 @@ IsFileStop name told origin (NoTable at fault) = (at ≡ origin) × (is_csv name
 IsFileStop name told origin (NoCsv at fault) = (at ≡ origin) × (is_csv name ≡ true) × IfHeld told (λ bytes. csv_form bytes ≡ Err fault)
 IsFileStop name told origin Memory = ⊤
 IsFileStop name told origin _ = ⊥
+
+-- the stop of the file of values of which this is told and which comes from the origin
+abbrev pub IsValuesStop : Told → Origin → Stop → Type 0
+IsValuesStop told origin (Fault at) = at ≡ origin
+IsValuesStop told origin (TooLong at) = (at ≡ origin) × MayExceed told FILE_BYTES
+IsValuesStop told origin (BadValues at fault) = (at ≡ origin) × IfHeld told (λ bytes. values_form bytes ≡ Err fault)
+IsValuesStop told origin Memory = ⊤
+IsValuesStop told origin _ = ⊥
+
+-- the stop of the file of a plan for the table of values
+abbrev pub IsPlanStop : ValueTable → Told → Origin → Stop → Type 0
+IsPlanStop t told origin (Fault at) = at ≡ origin
+IsPlanStop t told origin (TooLong at) = (at ≡ origin) × MayExceed told FILE_BYTES
+IsPlanStop t told origin (BadPlan at fault) = (at ≡ origin) × IfHeld told (λ bytes. plan_form t bytes ≡ Err fault)
+IsPlanStop t told origin Memory = ⊤
+IsPlanStop t told origin _ = ⊥
 
 -- there may be more left than the limit
 abbrev pub MayBeLonger : Option Text → ℕ → Type 0

@@ -17,9 +17,9 @@ use Rattle.expert_wire.specs.declared.scripts.ScriptFault.{ScriptFault}
 use Rattle.expert_wire.specs.declared.scripts.ScriptFault.TheVariants as script
 use Rattle.command_io.specs.Endings.{stop_status, IsSilent}
 use Rattle.command_io.specs.declared.stop.Origin.{Origin}
-use Rattle.command_io.specs.declared.stop.Origin.TheVariants.{File, Expert, Input}
+use Rattle.command_io.specs.declared.stop.Origin.TheVariants.{File, Later, Input}
 use Rattle.command_io.specs.declared.stop.Stop.{Stop}
-use Rattle.command_io.specs.declared.stop.Stop.TheVariants.{NoCommand, TooLong, NoTable, NoCsv, NoScript, UnknownAttribute, OtherAttributes, Fault, Listener, Memory}
+use Rattle.command_io.specs.declared.stop.Stop.TheVariants.{NoCommand, TooLong, NoTable, NoCsv, BadValues, BadPlan, NoScript, UnknownAttribute, OtherAttributes, Fault, Listener, Memory}
 use Rattle.command_io.specs.declared.err_line.Place.{Place}
 use Rattle.command_io.specs.declared.err_line.Place.TheVariants.{Whole, Byte, Line, Record, Field}
 
@@ -86,7 +86,7 @@ script_told script.Memory = (Whole, codes "no memory")
 -- the name under which the line speaks of what is at fault, where a file at fault has the name `file`
 abbrev pub name_of : Text → Origin → Text
 name_of file File = file
-name_of file (Expert place) = file
+name_of file (Later place) = file
 name_of file Input = codes "input"
 
 -- the line of a stop, where a file at fault has the name `file`
@@ -95,6 +95,8 @@ stop_line file NoCommand = plain_line (codes "no such command")
 stop_line file (TooLong origin) = placed_line (name_of file origin) Whole (codes "too long")
 stop_line file (NoTable origin fault) = placed_line (name_of file origin) (cxt_told fault).0 (cxt_told fault).1
 stop_line file (NoCsv origin fault) = placed_line (name_of file origin) (csv_told fault).0 (csv_told fault).1
+stop_line file (BadValues origin fault) = placed_line (name_of file origin) Whole (codes "bad values")
+stop_line file (BadPlan origin fault) = placed_line (name_of file origin) Whole (codes "bad plan")
 stop_line file (NoScript fault) = placed_line (codes "input") (script_told fault).0 (script_told fault).1
 stop_line file UnknownAttribute = plain_line (codes "unknown attribute")
 stop_line file (OtherAttributes origin) = placed_line (name_of file origin) Whole (codes "attributes differ")
@@ -110,27 +112,29 @@ write_fault_line = plain_line (codes "write fault")
 abbrev pub turns_spent_line : Text
 turns_spent_line = plain_line (codes "turns spent")
 
--- the place of the expert whose file is at fault, if one is
-abbrev pub origin_expert : Origin → Option ℕ
-origin_expert File = None
-origin_expert (Expert place) = Some place
-origin_expert Input = None
+-- the place behind the first of the file that is at fault, if one there is
+abbrev pub origin_later : Origin → Option ℕ
+origin_later File = None
+origin_later (Later place) = Some place
+origin_later Input = None
 
-abbrev pub stop_expert : Stop → Option ℕ
-stop_expert (TooLong origin) = origin_expert origin
-stop_expert (NoTable origin fault) = origin_expert origin
-stop_expert (NoCsv origin fault) = origin_expert origin
-stop_expert (OtherAttributes origin) = origin_expert origin
-stop_expert (Fault origin) = origin_expert origin
-stop_expert _ = None
+abbrev pub stop_later : Stop → Option ℕ
+stop_later (TooLong origin) = origin_later origin
+stop_later (NoTable origin fault) = origin_later origin
+stop_later (NoCsv origin fault) = origin_later origin
+stop_later (BadValues origin fault) = origin_later origin
+stop_later (BadPlan origin fault) = origin_later origin
+stop_later (OtherAttributes origin) = origin_later origin
+stop_later (Fault origin) = origin_later origin
+stop_later _ = None
 
--- the name of the file at fault: that of an expert's file, where it is one, else that of the first file
-abbrev pub expert_file : Text → List Text → Option ℕ → Text
-expert_file file experts None = file
-expert_file file experts (Some place) = unwrap_or (slice_get experts place) file
+-- the name of the file at fault: that of a later file, where it is one, else that of the first file
+abbrev pub later_file : Text → List Text → Option ℕ → Text
+later_file file later None = file
+later_file file later (Some place) = unwrap_or (slice_get later place) file
 
 abbrev pub file_at_fault : Text → List Text → Stop → Text
-file_at_fault file experts stop = expert_file file experts (stop_expert stop)
+file_at_fault file later stop = later_file file later (stop_later stop)
 
 -- ---- what err gained
 

@@ -1,4 +1,4 @@
--- Tables in files and scripts on the input.
+-- Tables in files, tables of values with plans for them, and scripts on the input.
 use Rattle.std.specs.Prelude.{◌≡◌, ℕ, Bool, ◌&&◌, cond, Option, List, nat_eq, codes}
 use Rattle.std.specs.List.{ends_with}
 use Rattle.fca_model.specs.Tables.{Text, NamedContext}
@@ -6,6 +6,10 @@ use Rattle.fca_model.specs.Exploration.{SetEvent, is_expert, expert_of, has_widt
 use Rattle.fca_io.specs.Shelves.{Told}
 use Rattle.cxt_format.specs.Form.{cxt_form}
 use Rattle.csv_context.specs.Form.{csv_form}
+use Rattle.value_tables.specs.Values.{ValueTable}
+use Rattle.value_tables.specs.Form.{values_form}
+use Rattle.context_scaling.specs.Scaling.{Scaling}
+use Rattle.context_scaling.specs.PlanForm.{plan_form}
 use Rattle.expert_wire.specs.Scripts.{script_form}
 use Rattle.command_io.specs.Readings.{Reading, formed, file_read, input_read}
 
@@ -20,6 +24,14 @@ table_formed name bytes = cond (is_csv name) (formed (csv_form bytes)) (formed (
 -- the table in the file of the name, of which this is told
 abbrev pub table_read : Text → Told → Reading NamedContext
 table_read name told = file_read (table_formed name) told
+
+-- the table of values in a file of which this is told
+abbrev pub values_read : Told → Reading ValueTable
+values_read told = file_read (λ bytes. formed (values_form bytes)) told
+
+-- the plan for the table of values in such a file
+abbrev pub plan_read : ValueTable → Told → Reading (List Scaling)
+plan_read t told = file_read (λ bytes. formed (plan_form t bytes)) told
 
 -- the events of the script on the input, whose rows have width n
 abbrev pub script_read : ℕ → Option Text → Reading (List SetEvent)

@@ -53,6 +53,12 @@ fn write_stop<E: Sink>(err: &mut E, file: &[u8], stop: &Stop) -> Result<(), Put>
             let (place, words) = csv_fault(fault);
             write_placed(err, name_of(file, *origin), place, words)
         }
+        Stop::BadValues(origin, _) => {
+            write_placed(err, name_of(file, *origin), Place::Whole, b"bad values")
+        }
+        Stop::BadPlan(origin, _) => {
+            write_placed(err, name_of(file, *origin), Place::Whole, b"bad plan")
+        }
         Stop::NoScript(fault) => {
             let (place, words) = script_fault(fault);
             write_placed(err, b"input", place, words)
@@ -77,7 +83,7 @@ fn name_of(file: &[u8], origin: Origin) -> &[u8]
     ensures { result.now ≡ name_of file.now origin }
 {
     match origin {
-        Origin::File | Origin::Expert(_) => file,
+        Origin::File | Origin::Later(_) => file,
         Origin::Input => b"input",
     }
 }

@@ -1,12 +1,14 @@
-//! What all commands share: tables in files, scripts on the input, a whole text on out, and the line on err where there is none.
+//! What all commands share: tables, tables of values and plans in files, scripts on the input, a whole text on out, and the line on err where there is none.
 #![tactic(auto)]
 
 mod answer;
 mod err_line;
 mod readings;
+mod scalings;
 mod stop;
 
 pub use answer::{Answer, conclude};
 pub use err_line::{report, report_plain};
 pub use readings::{script_on, table_under};
+pub use scalings::{plan_under, values_under};
 pub use stop::{Origin, Stop};

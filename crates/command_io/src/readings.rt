@@ -24,7 +24,7 @@ use fca_model::{FILE_BYTES, Word};
 use std::alloc::Global;
 
 /// Why bytes of this origin were not taken.
-fn not_taken(taken: Taken, origin: Origin) -> Stop
+pub(crate) fn not_taken(taken: Taken, origin: Origin) -> Stop
     ensures stop { result ≡ taken_stop taken origin }
     ensures status { stop_status result ≡ taken_status taken }
 {

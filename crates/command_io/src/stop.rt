@@ -2,21 +2,23 @@
 
 ghost use Rattle.std.specs.Prelude.{◌≡◌};
 ghost use Rattle.command_io.specs.Endings.{stop_status};
-ghost use Rattle.command_io.specs.ErrLines.{stop_expert};
+ghost use Rattle.command_io.specs.ErrLines.{stop_later};
 
+use context_scaling::PlanFault;
 use csv_context::CsvFault;
 use cxt_format::CxtFault;
 use expert_wire::ScriptFault;
 use fca_model::Memory;
 use std::alloc::{AllocError, AllocFailed};
+use value_tables::ValuesFault;
 
 /// What a command reads.
 #[derive(Clone, Copy)]
 pub enum Origin {
     /// The file that its words name first.
     File,
-    /// The file of the expert at this place.
-    Expert(usize),
+    /// The file that they name at this place behind it.
+    Later(usize),
     Input,
 }
 
@@ -27,6 +29,8 @@ pub enum Stop {
     TooLong(Origin),
     NoTable(Origin, CxtFault),
     NoCsv(Origin, CsvFault),
+    BadValues(Origin, ValuesFault),
+    BadPlan(Origin, PlanFault),
     NoScript(ScriptFault),
     UnknownAttribute,
     /// The table of an expert has other attributes.
@@ -67,16 +71,18 @@ impl<T: Drop> From<AllocFailed<T>> for Stop {
 }
 
 impl Stop {
-    /// The place of the expert whose file is at fault, if one is.
-    pub fn expert(&self) -> Option<usize>
-        ensures { result ≡ stop_expert self.now }
+    /// The place behind the first of the file that is at fault, if one there is.
+    pub fn later(&self) -> Option<usize>
+        ensures { result ≡ stop_later self.now }
     {
         match self {
-            Stop::TooLong(Origin::Expert(place))
-            | Stop::NoTable(Origin::Expert(place), _)
-            | Stop::NoCsv(Origin::Expert(place), _)
-            | Stop::OtherAttributes(Origin::Expert(place))
-            | Stop::Fault(Origin::Expert(place)) => Some(*place),
+            Stop::TooLong(Origin::Later(place))
+            | Stop::NoTable(Origin::Later(place), _)
+            | Stop::NoCsv(Origin::Later(place), _)
+            | Stop::BadValues(Origin::Later(place), _)
+            | Stop::BadPlan(Origin::Later(place), _)
+            | Stop::OtherAttributes(Origin::Later(place))
+            | Stop::Fault(Origin::Later(place)) => Some(*place),
             _ => None,
         }
     }
@@ -90,6 +96,8 @@ impl Stop {
             Stop::TooLong(_)
             | Stop::NoTable(..)
             | Stop::NoCsv(..)
+            | Stop::BadValues(..)
+            | Stop::BadPlan(..)
             | Stop::NoScript(_)
             | Stop::UnknownAttribute
             | Stop::OtherAttributes(_) => 2,

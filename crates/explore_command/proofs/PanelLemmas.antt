@@ -12,10 +12,11 @@ use Rattle.fca_io.specs.Faults.{Rose}
 use Rattle.fca_io.specs.Shelves.{Told}
 use Rattle.command_io.specs.Readings.{Reading, then, MayRead, MayRefuse}
 use Rattle.command_io.specs.Readings.Reading.{Untold, Missing, Refused, Read}
+use Rattle.command_io.proofs.ReadingLemmas.{refused_then, refused_after, read_after}
 use Rattle.explore_command.specs.Panels.{Panel, same_names, agreeing, expert_read, experts_read, panel_read, IsExpertStop, IsExpertsStop, SomeRose, FileRose}
 use Rattle.command_io.specs.Forms.{table_read}
 use Rattle.command_io.specs.Endings.{Stops, stop_status}
-use Rattle.command_io.specs.declared.stop.Origin.TheVariants.{Expert}
+use Rattle.command_io.specs.declared.stop.Origin.TheVariants.{Later}
 use Rattle.command_io.specs.declared.stop.Stop.{Stop}
 
 -- ---- names
@@ -165,24 +166,6 @@ Stops-file table files i file tells now counts between after before n inside is 
 
 -- ---- the panel
 
-refused_then : {X Y : Type 0} (r : Reading X) (next : X → Reading Y) → MayRefuse r → MayRefuse (then r next)
-refused_then Untold next may = tt
-refused_then Missing next may = may
-refused_then Refused next may = tt
-refused_then (Read x) next may = absurd may
-
-refused_after : {X Y : Type 0} (r : Reading X) (x : X) (next : X → Reading Y) → MayRead r x → MayRefuse (next x) → MayRefuse (then r next)
-refused_after Untold x next here may = tt
-refused_after Missing x next here may = here
-refused_after Refused x next here may = tt
-refused_after {X = X} (Read y) x next here may = let P : X → Type 0 = λ z. MayRefuse (next z) in subst P here may
-
-read_after : {X Y : Type 0} (r : Reading X) (x : X) (next : X → Reading Y) (y : Y) → MayRead r x → MayRead (next x) y → MayRead (then r next) y
-read_after Untold x next y here may = tt
-read_after Missing x next y here may = here
-read_after Refused x next y here may = here
-read_after {X = X} (Read z) x next y here may = let P : X → Type 0 = λ w. MayRead (next w) y in subst P here may
-
 read_panel : (table : NamedContext) (r : Reading (List NamedContext)) (tables : List NamedContext) → MayRead r tables
     → MayRead {X = Panel} (then r (λ tables. Read (record { table = table; experts = tables }))) (record { table = table; experts = tables })
 read_panel table Untold tables may = tt
@@ -219,15 +202,15 @@ Stops-panel file files tells now counts between after table n here same later st
 
 -- of an expert's file, which tells the same now
 pub experts-stop : (files : List Text) (i : ℕ) (file : Text) (tells now : Text → Told) (s : Stop) → i < length files → file ≡ get_or files i file
-    → ((other : Text) → now other ≡ tells other) → IsExpertStop file (now file) (Expert i) s → IsExpertsStop files tells s
+    → ((other : Text) → now other ≡ tells other) → IsExpertStop file (now file) (Later i) s → IsExpertsStop files tells s
 experts-stop files i file tells now s inside is same stop =
-    let StopsOf : Told → Type 0 = λ told. IsExpertStop file told (Expert i) s in
+    let StopsOf : Told → Type 0 = λ told. IsExpertStop file told (Later i) s in
     inr (i, file, slice_get_read files (length files) i file refl inside is, subst StopsOf (same file) stop)
 
 pub told-later : (experts : List Text) (tells now : Text → Told) (s : Stop) → ((other : Text) → now other ≡ tells other) → IsExpertsStop experts now s → IsExpertsStop experts tells s
 told-later experts tells now s same (inl memory) = inl memory
 told-later experts tells now s same (inr found) =
-    let StopsOf : Told → Type 0 = λ told. IsExpertStop found.1 told (Expert found.0) s in
+    let StopsOf : Told → Type 0 = λ told. IsExpertStop found.1 told (Later found.0) s in
     inr (found.0, found.1, found.2, subst StopsOf (same found.1) found.3)
 
 -- ---- stops that are passed on

@@ -8,7 +8,7 @@ use Rattle.command_io.specs.Readings.Reading.{Refused, Read}
 use Rattle.command_io.specs.Forms.{table_read}
 use Rattle.command_io.specs.Causes.{IsFileStop}
 use Rattle.command_io.specs.declared.stop.Origin.{Origin}
-use Rattle.command_io.specs.declared.stop.Origin.TheVariants.{File, Expert}
+use Rattle.command_io.specs.declared.stop.Origin.TheVariants.{File, Later}
 use Rattle.command_io.specs.declared.stop.Stop.{Stop}
 use Rattle.command_io.specs.declared.stop.Stop.TheVariants.{OtherAttributes, Memory}
 
@@ -51,7 +51,7 @@ IsExpertStop file told origin stop = IsFileStop file told origin stop ⊎ (stop 
 -- the stop of the file of one of the experts, or of memory
 abbrev pub IsExpertsStop : List Text → (Text → Told) → Stop → Type 0
 IsExpertsStop experts files stop =
-    (stop ≡ Memory) ⊎ ((place : ℕ) × (file : Text) × (slice_get experts place ≡ Some file) × IsExpertStop file (files file) (Expert place) stop)
+    (stop ≡ Memory) ⊎ ((place : ℕ) × (file : Text) × (slice_get experts place ≡ Some file) × IsExpertStop file (files file) (Later place) stop)
 
 -- the stop of the first file, or of the file of one of the experts
 abbrev pub IsPanelStop : Text → List Text → (Text → Told) → Stop → Type 0

@@ -64,7 +64,7 @@ fn experts_under<H: Shelf>(
 {
     let mut tables = Vec::new(alloc);
     for (place, file) in files.iter().enumerate() {
-        let expert = expert_under(alloc, shelf, table, file, Origin::Expert(place))?;
+        let expert = expert_under(alloc, shelf, table, file, Origin::Later(place))?;
         tables.push(expert)?;
     }
     Ok(tables)

@@ -7,7 +7,7 @@ ghost use Rattle.fca_io.specs.Faults.{Rose};
 ghost use Rattle.fca_io.specs.Transfers.{AppendsFront};
 ghost use Rattle.command_io.specs.Readings.{IfRead};
 ghost use Rattle.command_io.specs.Endings.{IsCutOff, IsSilent, Stops, stop_status};
-ghost use Rattle.command_io.specs.ErrLines.{expert_file, file_at_fault, write_fault_line, turns_spent_line, GainsLine, IsTold};
+ghost use Rattle.command_io.specs.ErrLines.{later_file, file_at_fault, write_fault_line, turns_spent_line, GainsLine, IsTold};
 ghost use Rattle.explore_command.specs.Panels.{panel_read, IsPanelStop, FileRose};
 ghost use Rattle.explore_command.specs.Played.{IsPanelText, HasPlayed, HasBegun, IsPlayed, Plays, played_status};
 
@@ -73,7 +73,7 @@ pub fn explore<R: Threads + Wait + Sync, H: Shelf, K: Sink, E: Sink>(
 fn file_at_fault<'a>(stop: &Stop, file: &'a Word, experts: &'a [Word]) -> &'a [u8]
     ensures { result.now ≡ file_at_fault file.now experts.now stop.now }
 {
-    match stop.expert() {
+    match stop.later() {
         Some(place) => expert_file(file, experts, place),
         None => file.bytes(),
     }
@@ -81,7 +81,7 @@ fn file_at_fault<'a>(stop: &Stop, file: &'a Word, experts: &'a [Word]) -> &'a [u
 
 /// The name of the expert's file, where there is one.
 fn expert_file<'a>(file: &'a Word, experts: &'a [Word], place: usize) -> &'a [u8]
-    ensures { result.now ≡ expert_file file.now experts.now (Some place) }
+    ensures { result.now ≡ later_file file.now experts.now (Some place) }
 {
     match experts.get(place) {
         Some(expert) => expert.bytes(),

@@ -10,7 +10,7 @@ use Rattle.fca_command.specs.Recipes.{recipe_said, HasRecipe}
 use Rattle.fca_command.specs.declared.command.Form.{Form}
 use Rattle.fca_command.specs.declared.command.Form.TheVariants.{Cxt, Csv}
 use Rattle.fca_command.specs.declared.command.Command.{Command}
-use Rattle.fca_command.specs.declared.command.Command.TheVariants.{Concepts, Lattice, Basis, Direct, Follows, Convert, Reduce, Arrows, Replay, Explore, Serve, Make, Survey}
+use Rattle.fca_command.specs.declared.command.Command.TheVariants.{Concepts, Lattice, Basis, Direct, Follows, Convert, Reduce, Arrows, Scale, Replay, Explore, Serve, Make, Survey}
 
 -- ---- the words behind a command's file
 
@@ -62,6 +62,11 @@ abbrev pub arrows_command : Text → List Text → Option Command
 arrows_command file [] = Some (Arrows file)
 arrows_command file _ = None
 
+-- `scale F P`
+abbrev pub scale_command : Text → List Text → Option Command
+scale_command values (plan ∷ []) = cond (bytes_eq plan []) None (Some (Scale values plan))
+scale_command values _ = None
+
 -- `replay F`
 abbrev pub replay_command : Text → List Text → Option Command
 replay_command file [] = Some (Replay file)
@@ -92,9 +97,10 @@ file_command name file later =
     (cond (bytes_eq name (codes "convert")) (convert_command file later)
     (cond (bytes_eq name (codes "reduce")) (reduce_command file later)
     (cond (bytes_eq name (codes "arrows")) (arrows_command file later)
+    (cond (bytes_eq name (codes "scale")) (scale_command file later)
     (cond (bytes_eq name (codes "replay")) (replay_command file later)
     (cond (bytes_eq name (codes "explore")) (explore_command file later)
-    (cond (bytes_eq name (codes "serve")) (serve_command file later) None)))))))))))
+    (cond (bytes_eq name (codes "serve")) (serve_command file later) None))))))))))))
 
 -- the command of this name over the file that the next word names
 abbrev pub over_file : Text → List Text → Option Command
@@ -149,6 +155,7 @@ reported _ = None
 -- the files that a command reads, in their order, where it reports on this one or on none
 abbrev pub files_by : Option Text → Command → List Text
 files_by (Some file) command = file ∷ []
+files_by None (Scale values plan) = values ∷ plan ∷ []
 files_by None (Replay file) = file ∷ []
 files_by None (Explore file experts) = file ∷ experts
 files_by None (Serve file experts listen) = file ∷ []

@@ -3,7 +3,7 @@
 ghost use Rattle.std.specs.Prelude.{◌≡◌, IfOk, IfSome, option_copied};
 ghost use Rattle.std.specs.List.{list_all};
 ghost use Rattle.std.specs.Str.{is_utf8};
-ghost use Rattle.fca_command.specs.Commands.{command_form, text_command, named_command, make_command, survey_command, over_file, file_command, concepts_command, lattice_command, basis_command, json_said, direct_command, follows_command, convert_command, form_named, reduce_command, arrows_command, replay_command, explore_command, serve_command, reported, files_of, first_of, IsWithinLimits};
+ghost use Rattle.fca_command.specs.Commands.{command_form, text_command, named_command, make_command, survey_command, over_file, file_command, concepts_command, lattice_command, basis_command, json_said, direct_command, follows_command, convert_command, form_named, reduce_command, arrows_command, scale_command, replay_command, explore_command, serve_command, reported, files_of, first_of, IsWithinLimits};
 
 use crate::experts::{count_said, experts_said};
 use crate::recipe::recipe_said;
@@ -52,6 +52,10 @@ pub enum Command {
     },
     Arrows {
         file: Word,
+    },
+    Scale {
+        values: Word,
+        plan: Word,
     },
     Replay {
         file: Word,
@@ -114,6 +118,7 @@ impl Command {
             | Command::Replay { file }
             | Command::Explore { file, .. }
             | Command::Serve { file, .. } => file.bytes(),
+            Command::Scale { values, .. } => values.bytes(),
             Command::Make { .. } | Command::Survey { .. } => b"",
         }
     }
@@ -242,6 +247,8 @@ fn file_command(
         Ok(reduce_command(file, later))
     } else if name == b"arrows".as_slice() {
         Ok(arrows_command(file, later))
+    } else if name == b"scale".as_slice() {
+        scale_command(alloc, file, later)
     } else if name == b"replay".as_slice() {
         Ok(replay_command(file, later))
     } else if name == b"explore".as_slice() {
@@ -358,6 +365,20 @@ fn arrows_command(file: Word, later: &[Word]) -> Option<Command>
         [] => Some(Command::Arrows { file }),
         _ => None,
     }
+}
+
+fn scale_command(alloc: Global, file: Word, later: &[Word]) -> Result<Option<Command>, Memory>
+    ensures command { IfOk result (λ command. command ≡ scale_command file later.now) }
+    ensures limits { IfOk result (λ command. IfSome command IsWithinLimits) }
+{
+    let [plan] = later else {
+        return Ok(None);
+    };
+    if plan.bytes().is_empty() {
+        return Ok(None);
+    }
+    let plan = Word::new(alloc, plan.bytes())?;
+    Ok(Some(Command::Scale { values: file, plan }))
 }
 
 fn replay_command(file: Word, later: &[Word]) -> Option<Command>

@@ -6,7 +6,7 @@ use Rattle.command_io.specs.Readings.{Reading, MayRead, MayRefuse, IfRead}
 use Rattle.command_io.specs.Readings.Reading.{Untold, Missing, Refused, Read}
 use Rattle.command_io.specs.Endings.{Output, whole_status, IsWhole, IsCutOff, IsUnread, EndsAnswer, Stops, stop_status}
 use Rattle.command_io.specs.Forms.{table_read}
-use Rattle.command_io.specs.ErrLines.{stop_line, stop_expert, expert_file, IsTold}
+use Rattle.command_io.specs.ErrLines.{stop_line, stop_later, later_file, IsTold}
 use Rattle.command_io.specs.declared.stop.Stop.{Stop}
 use Rattle.command_io.specs.declared.stop.Stop.TheVariants.{NoCommand, Memory}
 use Rattle.fca_io.specs.Faults.{Rose}
@@ -15,7 +15,7 @@ use Rattle.fca_run.specs.Reports.{report_read}
 use Rattle.fca_run.specs.Outputs.{replay_output, other_output, output_by, output}
 use Rattle.fca_command.specs.Commands.{reported, files_by, files_of, first_of, reads_input, uses_link, may_end_open, is_plain}
 use Rattle.fca_command.specs.declared.command.Command.{Command}
-use Rattle.fca_command.specs.declared.command.Command.TheVariants.{Replay, Explore, Serve, Make, Survey}
+use Rattle.fca_command.specs.declared.command.Command.TheVariants.{Scale, Replay, Explore, Serve, Make, Survey}
 use Rattle.fca_run.specs.Endings.{Finishes, Ends, EndsBy, IsGiven, IsReadable, IsComplete, FaultRose, MayReachEnd, HasCourse, HasExplored, HasBegunExploring, HasServedExperts, HasBegunServing, MayListen, IsCommandStop, IsCallStop, fault_file, HasGivenBack}
 use Rattle.fca_io.specs.Links.{Ends as LinkEnds}
 use Rattle.explore_command.specs.Panels.{Panel, SomeRose, panel_read}
@@ -262,17 +262,29 @@ replay-stops file files input counts counts' a a' (Err s) h =
 
 -- ---- what is told
 
-pub one_file : (file : Text) (place : Option ℕ) → expert_file file [] place ≡ file
+pub one_file : (file : Text) (place : Option ℕ) → later_file file [] place ≡ file
 one_file file None = refl
 one_file file (Some place) = refl
 
--- the file at fault is the one of the command, where it waits for nobody
-pub fault_file-plain : (command : Command) → is_plain command ≡ true → (stop : Stop) → fault_file (Some command) stop ≡ first_of (files_of command)
-fault_file-plain (Explore file experts) plain stop = cc
-fault_file-plain (Serve file experts listen) plain stop = cc
-fault_file-plain (Make s o m d) plain stop = refl
-fault_file-plain (Survey s o m d experts) plain stop = cc
-fault_file-plain _ plain stop = one_file _ (stop_expert stop)
+-- whether the command reads a plan behind its first file
+abbrev pub reads_plan : Command → Bool
+reads_plan (Scale values plan) = true
+reads_plan _ = false
+
+-- the file at fault is the one of the command, where it waits for nobody and reads no plan
+pub fault_file-one : (command : Command) → is_plain command ≡ true → reads_plan command ≡ false → (stop : Stop) → fault_file (Some command) stop ≡ first_of (files_of command)
+fault_file-one (Scale values plan) plain one stop = cc
+fault_file-one (Explore file experts) plain one stop = cc
+fault_file-one (Serve file experts listen) plain one stop = cc
+fault_file-one (Make s o m d) plain one stop = refl
+fault_file-one (Survey s o m d experts) plain one stop = cc
+fault_file-one _ plain one stop = one_file _ (stop_later stop)
+
+-- the line of a stop names this file, which is the one at fault
+pub told-at : (Told : Text → Type 0) (file : Text) (file_at_fault : Stop → Text) (answer : Result Output Stop) → IfErr answer (λ stop. file ≡ file_at_fault stop)
+    → IfErr answer (λ stop. Told (stop_line file stop)) → IfErr answer (λ stop. Told (stop_line (file_at_fault stop) stop))
+told-at Told file file_at_fault (Ok o) same told = tt
+told-at Told file file_at_fault (Err s) same told = let ToldOf : Text → Type 0 = λ f. Told (stop_line f s) in subst ToldOf same told
 
 pub told-by : (Told : Text → Type 0) (MayCome : Stop → Type 0) (f g : Stop → Text) (n : ℕ) → ((stop : Stop) → f stop ≡ g stop) → IsTold Told MayCome f n → IsTold Told MayCome g n
 told-by Told MayCome f g n same told = record {
@@ -283,6 +295,7 @@ told-by Told MayCome f g n same told = record {
 
 -- want of memory may come of each call
 memory-comes_of : (command : Command) (files : Text → Told) (input : Option Text) → IsCommandStop command files input Memory
+memory-comes_of (Scale values plan) files input = inl tt
 memory-comes_of (Replay file) files input = inl tt
 memory-comes_of (Explore file experts) files input = inl tt
 memory-comes_of (Serve file experts listen) files input = inl tt

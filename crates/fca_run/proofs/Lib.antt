@@ -1,3 +1,4 @@
 pub mod ReplayLemmas
 pub mod CourseLemmas
 pub mod EndingLemmas
+pub mod ScalingLemmas

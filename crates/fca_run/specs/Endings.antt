@@ -7,14 +7,15 @@ use Rattle.fca_io.specs.Links.{Ends as LinkEnds, MayListenAt}
 use Rattle.fca_io.specs.Shelves.{Told}
 use Rattle.fca_command.specs.Commands.{reported, files_of, reads_input}
 use Rattle.fca_command.specs.declared.command.Command.{Command}
-use Rattle.fca_command.specs.declared.command.Command.TheVariants.{Replay, Explore, Serve}
-use Rattle.command_io.specs.Forms.{table_read}
+use Rattle.fca_command.specs.declared.command.Command.TheVariants.{Scale, Replay, Explore, Serve}
+use Rattle.value_tables.specs.Values.{ValueTable}
+use Rattle.command_io.specs.Forms.{table_read, values_read}
 use Rattle.command_io.specs.Readings.{Reading, MayRead, IfRead}
 use Rattle.command_io.specs.Readings.Reading.{Untold, Missing, Refused, Read}
 use Rattle.command_io.specs.Endings.{Output, whole_status, IsWhole, IsCutOff}
 use Rattle.command_io.specs.ErrLines.{file_at_fault}
-use Rattle.command_io.specs.Causes.{IsFileStop, IsScriptStop}
-use Rattle.command_io.specs.declared.stop.Origin.TheVariants.{File}
+use Rattle.command_io.specs.Causes.{IsFileStop, IsValuesStop, IsPlanStop, IsScriptStop}
+use Rattle.command_io.specs.declared.stop.Origin.TheVariants.{File, Later}
 use Rattle.command_io.specs.declared.stop.Stop.{Stop}
 use Rattle.command_io.specs.declared.stop.Stop.TheVariants.{NoCommand, UnknownAttribute, Memory}
 use Rattle.command_io.specs.Explorations.{IsExplored}
@@ -86,6 +87,11 @@ abbrev pub IsReplayStop : Text → (Text → Told) → Option Text → Stop → 
 IsReplayStop file files input stop = IsFileStop file (files file) File stop
     ⊎ ((table : NamedContext) × MayRead (table_read file (files file)) table × IsScriptStop table.context.width input stop)
 
+-- the stop of the file of values, or of that of the plan for the table of values that was read
+abbrev pub IsScaleStop : Text → Text → (Text → Told) → Stop → Type 0
+IsScaleStop values plan files stop = IsValuesStop (files values) File stop
+    ⊎ ((t : ValueTable) × MayRead (values_read (files values)) t × IsPlanStop t (files plan) (Later 0) stop)
+
 -- The stop of a report on the table in the file: that of the file, or that words name what is no attribute of the table, and so the
 -- command has nothing to report
 abbrev pub IsReportStop : Command → Text → Told → Stop → Type 0
@@ -94,6 +100,7 @@ IsReportStop command file told stop = IsFileStop file told File stop
 
 -- the stop of a command that reports on no table
 abbrev pub IsOtherStop : Command → (Text → Told) → Option Text → Stop → Type 0
+IsOtherStop (Scale values plan) files input stop = IsScaleStop values plan files stop
 IsOtherStop (Replay file) files input stop = IsReplayStop file files input stop
 IsOtherStop (Explore file experts) files input stop = IsPanelStop file experts files stop
 IsOtherStop (Serve file experts listen) files input stop = IsServeStop file files stop

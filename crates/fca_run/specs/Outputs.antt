@@ -4,20 +4,30 @@ use Rattle.fca_model.specs.Tables.{Text, NamedContext}
 use Rattle.fca_model.specs.declared.TheConstants.{MAX_EXPERTS}
 use Rattle.fca_model.specs.Exploration.{SetEvent, journal_of}
 use Rattle.fca_io.specs.Shelves.{Told}
+use Rattle.context_scaling.specs.Scaling.{scaled}
 use Rattle.explore_state.specs.History.{opening_state}
 use Rattle.basis_report.specs.Explorations.{explore_text}
 use Rattle.fca_command.specs.Commands.{reported}
 use Rattle.fca_command.specs.declared.recipe.Recipe.{Recipe}
 use Rattle.fca_command.specs.declared.command.Command.{Command}
-use Rattle.fca_command.specs.declared.command.Command.TheVariants.{Replay, Make, Survey}
+use Rattle.fca_command.specs.declared.command.Command.TheVariants.{Scale, Replay, Make, Survey}
 use Rattle.command_io.specs.Readings.{Reading, then}
 use Rattle.command_io.specs.Readings.Reading.{Untold, Read}
-use Rattle.command_io.specs.Forms.{table_read, script_read}
+use Rattle.command_io.specs.Forms.{table_read, values_read, plan_read, script_read}
 use Rattle.command_io.specs.Endings.{Output, finished}
 use Rattle.command_io.specs.Explorations.{Recorded, opening_of, open_at}
 use Rattle.cxt_format.specs.Written.{cxt_text}
 use Rattle.explore_command.specs.Surveyed.{made, surveyed_text}
 use Rattle.fca_run.specs.Reports.{report_read}
+
+-- ---- tables of values
+
+-- what `scale` writes: the table that the plan in one file makes of the values in the other, in the Burmeister form
+abbrev pub scale_output : Text → Text → (Text → Told) → Reading Output
+scale_output values plan files =
+    then (values_read (files values)) (λ t.
+    then (plan_read t (files plan)) (λ p.
+    Read (finished (cxt_text (scaled t p)))))
 
 -- ---- replays
 
@@ -53,6 +63,7 @@ survey_output recipe = finished (surveyed_text (made recipe))
 -- What a command that reports on no table writes. `explore` and `serve` write what experts did together, of which the files alone
 -- tell nothing
 abbrev pub other_output : Command → (Text → Told) → Option Text → Reading Output
+other_output (Scale values plan) files input = scale_output values plan files
 other_output (Replay file) files input = replay_output file files input
 other_output (Make s o m d) files input = Read (made_output (record { seed = s; objects = o; attributes = m; density = d }))
 other_output (Survey s o m d experts) files input = Read (survey_output (record { seed = s; objects = o; attributes = m; density = d }))

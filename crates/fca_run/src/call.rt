@@ -15,6 +15,7 @@ ghost use Rattle.fca_run.specs.Endings.{Ends, EndsBy, IsReadable, IsComplete, Fa
 use crate::made::{made_answer, run_survey};
 use crate::replay::replay;
 use crate::reports::report_answer;
+use crate::scaling::scale_answer;
 use command_io::{Answer, Stop, conclude, report};
 use explore_command::explore;
 use fca_command::{Command, Recipe, command_of};
@@ -218,7 +219,33 @@ pub fn run_plain<R: Threads + Sync, H: Shelf, S: Source, K: Sink, E: Sink>(
         (IsCommandStop command.now (H.tells shelf.old) (S.left input.old)) (fault_file (Some command.now)) result }
 {
     let answer = answer_to(rt, alloc, command, shelf, input);
-    conclude(answer, command.first_file(), out, err)
+    let file = file_at_fault(command, &answer);
+    conclude(answer, file, out, err)
+}
+
+/// The name of the file at fault where there is no answer, or no byte.
+fn file_at_fault<'a>(command: &'a Command, answer: &Result<Answer, Stop>) -> &'a [u8]
+    requires { is_plain command.now ≡ true }
+    ensures { IfErr answer.now (λ stop. result.now ≡ fault_file (Some command.now) stop) }
+{
+    match answer {
+        Ok(_) => b"",
+        Err(stop) => file_of(command, stop),
+    }
+}
+
+/// The name of the file of the command that is at fault, if one is.
+fn file_of<'a>(command: &'a Command, stop: &Stop) -> &'a [u8]
+    requires { is_plain command.now ≡ true }
+    ensures { result.now ≡ fault_file (Some command.now) stop.now }
+{
+    match command {
+        Command::Scale { values, plan } => match stop.later() {
+            Some(0) => plan.bytes(),
+            _ => values.bytes(),
+        },
+        _ => command.first_file(),
+    }
 }
 
 /// What the command is to write.
@@ -266,6 +293,7 @@ fn other_answer<H: Shelf, S: Source>(
     ensures kept { reads_input command.now ≡ false → input.new ≡ input.old }
 {
     match command {
+        Command::Scale { values, plan } => scale_answer(alloc, shelf, values, plan),
         Command::Replay { file } => replay(alloc, shelf, input, file),
         Command::Make {
             seed,

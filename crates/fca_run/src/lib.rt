@@ -5,6 +5,7 @@ mod call;
 mod made;
 mod replay;
 mod reports;
+mod scaling;
 
 pub use call::{run, run_plain, stopped};
 

@@ -1,6 +1,6 @@
 use Rattle.std.proofs.Common.{rules, ◌≡◌, true, List, Some, refl, sym, subst}
 use Rattle.fca_model.specs.Tables.{Text}
-use Rattle.command_io.specs.ErrLines.{GainsLine, IsTold, stop_expert, file_at_fault}
+use Rattle.command_io.specs.ErrLines.{GainsLine, IsTold, stop_later, file_at_fault}
 use Rattle.explore_command.specs.Panels.{IsPanelStop}
 use Rattle.std.specs.Io.KnownBytes.{Appends}
 use Rattle.fca_command.specs.declared.command.Command.{Command}
@@ -38,7 +38,7 @@ returns-in-Serve-clause-told g c =
     let command : Command = Serve c.in-Serve.file c.in-Serve.experts c.in-Serve.listen in
     subst ToldOf (sym c.in-Serve.is)
     (told-by Told (IsCommandStop command files (g.S.Source.left c.args.input.now)) (λ _. c.in-Serve.file) (fault_file (Some command)) c.serve.result
-    (λ stop. sym (one_file c.in-Serve.file (stop_expert stop))) c.serve.ensures.told)
+    (λ stop. sym (one_file c.in-Serve.file (stop_later stop))) c.serve.ensures.told)
 
 pub returns-in-Survey-clause-open : goal.returns-in-Survey-clause-open
 returns-in-Survey-clause-open g c = λ six.

@@ -1,0 +1,90 @@
+//! A file as a table of values, and one as a plan for it.
+
+ghost use Rattle.std.specs.Prelude.{◌≡◌, ◌≤◌, ℕ, List, IfOk, IfErr, Some};
+ghost use Rattle.fca_io.specs.Faults.{Rose};
+ghost use Rattle.value_tables.specs.Form.{values_form};
+ghost use Rattle.context_scaling.specs.PlanForm.{plan_form};
+ghost use Rattle.context_scaling.specs.Scaling.{Fits};
+ghost use Rattle.command_io.specs.Readings.{formed, MayRead};
+ghost use Rattle.command_io.specs.Forms.{values_read, plan_read};
+ghost use Rattle.command_io.specs.Causes.{IsValuesStop, IsPlanStop};
+ghost use Rattle.command_io.specs.Endings.{stop_status, Stops};
+
+use crate::readings::not_taken;
+use crate::stop::{Origin, Stop};
+use context_scaling::{Plan, PlanFault, read_plan};
+use fca_io::Shelf;
+use fca_model::{FILE_BYTES, Word};
+use std::alloc::Global;
+use value_tables::{Values, ValuesFault, read_values};
+
+/// The table of values in the file of the name, which comes from the origin.
+pub fn values_under<H: Shelf>(
+    alloc: Global,
+    shelf: &mut H,
+    file: &Word,
+    origin: Origin,
+) -> Result<Values, Stop>
+    ensures values { IfOk result (λ values. MayRead (values_read (H.tells shelf.old file.now)) values) }
+    ensures stop { IfErr result (λ stop. Stops (values_read (H.tells shelf.old file.now))
+        (Rose (H.faults shelf.old file.now) (H.faults shelf.new file.now)) (stop_status stop)) }
+    ensures cause { IfErr result (IsValuesStop (H.tells shelf.old file.now) origin) }
+    ensures kept { (other : List ℕ) → H.tells shelf.new other ≡ H.tells shelf.old other }
+    ensures later { (other : List ℕ) → H.faults shelf.old other ≤ H.faults shelf.new other }
+{
+    let bytes = match shelf.fetch(alloc, file.bytes(), FILE_BYTES) {
+        Ok(bytes) => bytes,
+        Err(taken) => return Err(not_taken(taken, origin)),
+    };
+    values_of(alloc, &bytes, origin)
+}
+
+/// The table of values whose form the bytes are.
+fn values_of(alloc: Global, bytes: &[u8], origin: Origin) -> Result<Values, Stop>
+    ensures values { IfOk result (λ values. MayRead (formed (values_form bytes.now)) values) }
+    ensures stop { IfErr result (λ stop. Stops (formed (values_form bytes.now)) ⊥ (stop_status stop)) }
+    ensures cause { IfErr result (IsValuesStop (Some (Some bytes.now)) origin) }
+{
+    match read_values(alloc, bytes) {
+        Ok(values) => Ok(values),
+        Err(ValuesFault::Memory) => Err(Stop::Memory),
+        Err(fault) => Err(Stop::BadValues(origin, fault)),
+    }
+}
+
+/// The plan for the values in the file of the name, which comes from the origin.
+pub fn plan_under<H: Shelf>(
+    alloc: Global,
+    shelf: &mut H,
+    file: &Word,
+    origin: Origin,
+    values: &Values,
+) -> Result<Plan, Stop>
+    ensures plan { IfOk result (λ plan. MayRead (plan_read values.now (H.tells shelf.old file.now)) plan) }
+    ensures fits { IfOk result (λ plan. Fits plan values.now) }
+    ensures stop { IfErr result (λ stop. Stops (plan_read values.now (H.tells shelf.old file.now))
+        (Rose (H.faults shelf.old file.now) (H.faults shelf.new file.now)) (stop_status stop)) }
+    ensures cause { IfErr result (IsPlanStop values.now (H.tells shelf.old file.now) origin) }
+    ensures kept { (other : List ℕ) → H.tells shelf.new other ≡ H.tells shelf.old other }
+    ensures later { (other : List ℕ) → H.faults shelf.old other ≤ H.faults shelf.new other }
+{
+    let bytes = match shelf.fetch(alloc, file.bytes(), FILE_BYTES) {
+        Ok(bytes) => bytes,
+        Err(taken) => return Err(not_taken(taken, origin)),
+    };
+    plan_of(alloc, &bytes, origin, values)
+}
+
+/// The plan for the values whose form the bytes are.
+fn plan_of(alloc: Global, bytes: &[u8], origin: Origin, values: &Values) -> Result<Plan, Stop>
+    ensures plan { IfOk result (λ plan. MayRead (formed (plan_form values.now bytes.now)) plan) }
+    ensures fits { IfOk result (λ plan. Fits plan values.now) }
+    ensures stop { IfErr result (λ stop. Stops (formed (plan_form values.now bytes.now)) ⊥ (stop_status stop)) }
+    ensures cause { IfErr result (IsPlanStop values.now (Some (Some bytes.now)) origin) }
+{
+    match read_plan(alloc, bytes, values) {
+        Ok(plan) => Ok(plan),
+        Err(PlanFault::Memory) => Err(Stop::Memory),
+        Err(fault) => Err(Stop::BadPlan(origin, fault)),
+    }
+}

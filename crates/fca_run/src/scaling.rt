@@ -1,0 +1,45 @@
+//! The table that a plan makes of a table of values.
+
+ghost use Rattle.std.specs.Prelude.{◌≡◌, [], ◌∷◌, false, IfOk, IfErr};
+ghost use Rattle.context_scaling.specs.Scaling.{Fits, scaled};
+ghost use Rattle.cxt_format.specs.Written.{cxt_text};
+ghost use Rattle.command_io.specs.Readings.{MayRead};
+ghost use Rattle.command_io.specs.Endings.{stop_status, Stops};
+ghost use Rattle.explore_command.specs.Panels.{SomeRose};
+ghost use Rattle.fca_run.specs.Outputs.{scale_output};
+ghost use Rattle.fca_run.specs.Endings.{IsScaleStop};
+
+use command_io::{Answer, Origin, Stop, plan_under, values_under};
+use context_scaling::{Plan, scale};
+use cxt_format::write_cxt;
+use fca_io::Shelf;
+use fca_model::{Memory, Word};
+use std::alloc::Global;
+use value_tables::Values;
+
+/// The table that the plan in one file makes of the values in the other, in the Burmeister form.
+pub fn scale_answer<H: Shelf>(
+    alloc: Global,
+    shelf: &mut H,
+    values: &Word,
+    plan: &Word,
+) -> Result<Answer, Stop>
+    ensures output { IfOk result (λ answer. MayRead (scale_output values.now plan.now (H.tells shelf.old)) answer) }
+    ensures stop { IfErr result (λ stop. Stops (scale_output values.now plan.now (H.tells shelf.old))
+        (SomeRose (H.faults shelf.old) (H.faults shelf.new) (values.now ∷ plan.now ∷ [])) (stop_status stop)) }
+    ensures finished { IfOk result (λ answer. answer.is_open ≡ false) }
+    ensures cause { IfErr result (IsScaleStop values.now plan.now (H.tells shelf.old)) }
+{
+    let values = values_under(alloc, shelf, values, Origin::File)?;
+    let plan = plan_under(alloc, shelf, plan, Origin::Later(0), &values)?;
+    Ok(Answer::finished(scaled_text(alloc, &values, &plan)?))
+}
+
+/// The table that the plan makes of the values, in the Burmeister form.
+fn scaled_text(alloc: Global, values: &Values, plan: &Plan) -> Result<Vec<u8>, Memory>
+    requires { Fits plan.now values.now }
+    ensures { IfOk result (λ text. text.items ≡ cxt_text (scaled values.now plan.now)) }
+{
+    let table = scale(alloc, values, plan)?;
+    write_cxt(alloc, &table)
+}
