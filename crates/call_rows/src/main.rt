@@ -1,6 +1,7 @@
 //! Runs calls over ends in memory, as the lines of the standard input describe them, and prints what each wrote.
 #![tactic(auto)]
 
+mod keys;
 mod row;
 mod shown;
 

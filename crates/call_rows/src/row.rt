@@ -2,11 +2,12 @@
 
 ghost use Rattle.std.specs.Prelude.{◌≡◌, false, IfOk};
 
+use crate::keys::{End, Key, Number, end_of, key_of};
 use fca_io::{MemoryEnd, MemoryLink, MemoryShelf, MemorySink, MemorySource};
 use fca_model::{Memory, Word};
 use std::alloc::Global;
 
-/// How many bytes out and err take, where no line says so.
+/// How many bytes each end takes.
 const ROOM: usize = 10_000_000;
 
 /// A file of the shelf.
@@ -24,15 +25,17 @@ struct Client {
     write_fails: Vec<usize>,
 }
 
-/// An end of a call: which of its calls fail, counted from 1, and how many bytes it moves at a time.
+/// The ends of a call but its link.
 #[derive(Drop)]
-struct Plan {
-    fails: Vec<usize>,
-    most: usize,
+pub struct Ends {
+    pub shelf: MemoryShelf,
+    pub input: MemorySource,
+    pub out: MemorySink,
+    pub err: MemorySink,
 }
 
-/// A call: its words, what its files, its input and its clients hold, which calls of its ends fail, how many bytes out
-/// takes, and how many of the first and last lines of out are shown.
+/// A call: its words, what its files, its input and its clients hold, which calls of its ends fail, how many bytes its
+/// input and out move at a time, and how many of the first and last lines of out are shown.
 #[derive(Drop)]
 pub struct Row {
     /// The line that begins it, or nothing before the first.
@@ -41,12 +44,13 @@ pub struct Row {
     files: Vec<File>,
     input: Vec<u8>,
     clients: Vec<Client>,
-    shelf_plan: Plan,
-    input_plan: Plan,
-    out_plan: Plan,
-    err_plan: Plan,
-    link_plan: Plan,
-    room: usize,
+    shelf_fails: Vec<usize>,
+    input_fails: Vec<usize>,
+    out_fails: Vec<usize>,
+    err_fails: Vec<usize>,
+    link_fails: Vec<usize>,
+    input_most: usize,
+    out_most: usize,
     pub first_lines: usize,
     pub last_lines: usize,
 }
@@ -60,12 +64,13 @@ impl Row {
             files: Vec::new(alloc),
             input: Vec::new(alloc),
             clients: Vec::new(alloc),
-            shelf_plan: unfailing(alloc, 1),
-            input_plan: unfailing(alloc, 7),
-            out_plan: unfailing(alloc, 10),
-            err_plan: unfailing(alloc, 7),
-            link_plan: unfailing(alloc, 1),
-            room: ROOM,
+            shelf_fails: Vec::new(alloc),
+            input_fails: Vec::new(alloc),
+            out_fails: Vec::new(alloc),
+            err_fails: Vec::new(alloc),
+            link_fails: Vec::new(alloc),
+            input_most: 7,
+            out_most: 10,
             first_lines: ROOM,
             last_lines: 0,
         }
@@ -78,28 +83,25 @@ impl Row {
     ///   begun), of the input, of what the last client sends; in small letters, one that does not end. `fill BYTES`: the
     ///   last file has so many bytes, letters `B`.
     /// - `fails END NUMBER`: the call with this number of `shelf`, `input`, `out`, `err` or `link`, or of the last client
-    ///   (`read` or `write`), fails. `most END BYTES`: `input` or `out` moves so many bytes at a time. `room BYTES`: so many
-    ///   go to out.
+    ///   (`read` or `write`), fails. `input BYTES` and `out BYTES`: so many are moved at a time.
     /// - `first LINES` and `last LINES`: so many of the lines of out are shown.
     pub fn read(&mut self, line: &[u8]) -> Result<(), Memory> {
-        let (key, rest) = split_word(line);
-        match key {
-            b"call" => self.begin(line, rest),
-            b"word" => self.push_word(rest),
-            b"file" => self.begin_file(rest),
-            b"F" | b"f" => push_line(self.last_file()?, key, rest),
-            b"fill" => Ok(self.last_file()?.resize(number_of(rest), b'B')?),
-            b"I" | b"i" => push_line(&mut self.input, key, rest),
-            b"client" => self.begin_client(),
-            b"C" | b"c" => match self.clients.last_mut() {
-                Some(client) => push_line(&mut client.bytes, key, rest),
-                None => Ok(()),
-            },
-            b"fails" => self.push_failing(rest),
-            _ => {
-                self.set_number(key, rest);
+        let (word, rest) = split_word(line);
+        match key_of(word) {
+            Some(Key::Call) => self.begin(line, rest),
+            Some(Key::Word) => self.push_word(rest),
+            Some(Key::File) => self.begin_file(rest),
+            Some(Key::FileLine) => self.push_to_file(word, rest),
+            Some(Key::Fill) => self.fill(number_of(rest)),
+            Some(Key::InputLine) => push_line(&mut self.input, word, rest),
+            Some(Key::Client) => self.begin_client(),
+            Some(Key::ClientLine) => self.push_to_client(word, rest),
+            Some(Key::Fails) => self.push_failing(rest),
+            Some(Key::Number(number)) => {
+                self.set_number(number, number_of(rest));
                 Ok(())
             }
+            None => Ok(()),
         }
     }
 
@@ -129,14 +131,27 @@ impl Row {
         Ok(())
     }
 
-    /// What the last file holds.
-    fn last_file(&mut self) -> Result<&mut Vec<u8>, Memory> {
+    fn push_to_file(&mut self, key: &[u8], line: &[u8]) -> Result<(), Memory> {
         if self.files.is_empty() {
             self.begin_file(b"F")?;
         }
         match self.files.last_mut() {
-            Some(file) => Ok(&mut file.bytes),
-            None => Err(Memory),
+            Some(file) => push_line(&mut file.bytes, key, line),
+            None => Ok(()),
+        }
+    }
+
+    fn fill(&mut self, count: usize) -> Result<(), Memory> {
+        match self.files.last_mut() {
+            Some(file) => Ok(file.bytes.resize(count, b'B')?),
+            None => Ok(()),
+        }
+    }
+
+    fn push_to_client(&mut self, key: &[u8], line: &[u8]) -> Result<(), Memory> {
+        match self.clients.last_mut() {
+            Some(client) => push_line(&mut client.bytes, key, line),
+            None => Ok(()),
         }
     }
 
@@ -152,57 +167,66 @@ impl Row {
 
     /// The call with this number of the end that is named fails.
     fn push_failing(&mut self, text: &[u8]) -> Result<(), Memory> {
-        let (end, digits) = split_word(text);
-        let fails = match end {
-            b"shelf" => &mut self.shelf_plan.fails,
-            b"input" => &mut self.input_plan.fails,
-            b"out" => &mut self.out_plan.fails,
-            b"err" => &mut self.err_plan.fails,
-            b"link" => &mut self.link_plan.fails,
-            _ => match self.clients.last_mut() {
-                Some(client) if end == b"read".as_slice() => &mut client.read_fails,
-                Some(client) => &mut client.write_fails,
-                None => return Ok(()),
-            },
-        };
-        fails.push(number_of(digits))?;
+        let (word, digits) = split_word(text);
+        let number = number_of(digits);
+        match end_of(word) {
+            Some(End::Shelf) => self.shelf_fails.push(number)?,
+            Some(End::Input) => self.input_fails.push(number)?,
+            Some(End::Out) => self.out_fails.push(number)?,
+            Some(End::Err) => self.err_fails.push(number)?,
+            Some(End::Link) => self.link_fails.push(number)?,
+            Some(End::Read) => self.push_failing_read(number)?,
+            Some(End::Write) => self.push_failing_write(number)?,
+            None => {}
+        }
         Ok(())
     }
 
-    /// Takes a line that sets a number.
-    fn set_number(&mut self, key: &[u8], rest: &[u8]) {
-        match key {
-            b"most" => match split_word(rest) {
-                (b"input", digits) => self.input_plan.most = number_of(digits),
-                (_, digits) => self.out_plan.most = number_of(digits),
-            },
-            b"room" => self.room = number_of(rest),
-            b"first" => self.first_lines = number_of(rest),
-            b"last" => self.last_lines = number_of(rest),
-            _ => {}
+    fn push_failing_read(&mut self, number: usize) -> Result<(), Memory> {
+        match self.clients.last_mut() {
+            Some(client) => Ok(client.read_fails.push(number)?),
+            None => Ok(()),
         }
     }
 
+    fn push_failing_write(&mut self, number: usize) -> Result<(), Memory> {
+        match self.clients.last_mut() {
+            Some(client) => Ok(client.write_fails.push(number)?),
+            None => Ok(()),
+        }
+    }
+
+    fn set_number(&mut self, key: Number, number: usize) {
+        match key {
+            Number::Input => self.input_most = number,
+            Number::Out => self.out_most = number,
+            Number::First => self.first_lines = number,
+            Number::Last => self.last_lines = number,
+        }
+    }
+
+    /// Its ends but the link.
+    pub fn ends(&self, alloc: Global) -> Result<Ends, Memory> {
+        Ok(Ends {
+            shelf: self.shelf(alloc)?,
+            input: MemorySource::new(
+                alloc,
+                &self.input,
+                &self.input_fails,
+                self.input_most.max(1),
+            )?,
+            out: MemorySink::new(alloc, ROOM, &self.out_fails, self.out_most.max(1))?,
+            err: MemorySink::new(alloc, ROOM, &self.err_fails, 7)?,
+        })
+    }
+
     /// A shelf with its files.
-    pub fn shelf(&self, alloc: Global) -> Result<MemoryShelf, Memory> {
-        let mut shelf = MemoryShelf::new(alloc, &self.shelf_plan.fails)?;
+    fn shelf(&self, alloc: Global) -> Result<MemoryShelf, Memory> {
+        let mut shelf = MemoryShelf::new(alloc, &self.shelf_fails)?;
         for file in &self.files {
             shelf.put(&file.name, &file.bytes)?;
         }
         Ok(shelf)
-    }
-
-    pub fn source(&self, alloc: Global) -> Result<MemorySource, Memory> {
-        let plan = &self.input_plan;
-        MemorySource::new(alloc, &self.input, &plan.fails, plan.most)
-    }
-
-    pub fn out(&self, alloc: Global) -> Result<MemorySink, Memory> {
-        MemorySink::new(alloc, self.room, &self.out_plan.fails, self.out_plan.most)
-    }
-
-    pub fn err(&self, alloc: Global) -> Result<MemorySink, Memory> {
-        MemorySink::new(alloc, ROOM, &self.err_plan.fails, self.err_plan.most)
     }
 
     /// A link with its clients at the address `x`.
@@ -213,7 +237,7 @@ impl Row {
         for client in &self.clients {
             ends.push(client.end(alloc)?)?;
         }
-        MemoryLink::new(alloc, b"x", ends, &self.link_plan.fails)
+        MemoryLink::new(alloc, b"x", ends, &self.link_fails)
     }
 }
 
@@ -227,14 +251,6 @@ impl Client {
             &self.write_fails,
             7,
         )
-    }
-}
-
-/// An end of which no call fails.
-fn unfailing(alloc: Global, most: usize) -> Plan {
-    Plan {
-        fails: Vec::new(alloc),
-        most,
     }
 }
 

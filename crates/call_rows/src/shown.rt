@@ -1,12 +1,22 @@
 //! What a call left, as lines.
 
-use crate::row::Row;
-use fca_io::MemoryEnd;
-use fca_model::Memory;
+ghost use Rattle.std.specs.Prelude.{◌≡◌, false};
+
+use crate::row::{Ends, Row};
+use fca_io::{Listener, MemoryEnd, MemoryLink, Shelf, Sink, Source};
+use fca_model::{Memory, Word};
 use fca_run::run;
 use std::alloc::Global;
 use std::sync::Wait;
 use std::thread::Threads;
+
+/// What a call left: its status, and its ends.
+#[derive(Drop)]
+struct Called {
+    status: u8,
+    ends: Ends,
+    link: MemoryLink,
+}
 
 /// Runs the call of the row, and puts its title, its status, and what out, err and the clients got behind the text.
 pub fn show<R: Threads + Wait + Sync>(
@@ -18,21 +28,63 @@ pub fn show<R: Threads + Wait + Sync>(
     if row.title.is_empty() {
         return Ok(());
     }
-    let mut shelf = row.shelf(alloc)?;
-    let mut input = row.source(alloc)?;
-    let mut out = row.out(alloc)?;
-    let mut err = row.err(alloc)?;
+    let called = outcome(rt, alloc, row)?;
+    show_head(alloc, text, &row.title, called.status)?;
+    let out = called.ends.out.written();
+    show_lines(text, b'o', out, row.first_lines, row.last_lines)?;
+    show_lines(text, b'e', called.ends.err.written(), usize::MAX, 0)?;
+    show_clients(text, called.link.given())
+}
+
+/// Runs the call of the row.
+fn outcome<R: Threads + Wait + Sync>(rt: &R, alloc: Global, row: &Row) -> Result<Called, Memory> {
+    let mut ends = row.ends(alloc)?;
     let mut link = row.link(alloc)?;
-    let status = run(
-        rt, alloc, &row.words, &mut shelf, &mut input, &mut out, &mut err, &mut link,
-    );
-    let head = format!(in alloc; "status {status}\n")?;
-    text.extend_from_slice(&row.title)?;
-    text.push(b'\n')?;
-    text.extend_from_slice(head.as_bytes())?;
-    show_lines(text, b'o', out.written(), row.first_lines, row.last_lines)?;
-    show_lines(text, b'e', err.written(), usize::MAX, 0)?;
-    show_clients(text, link.given())
+    let status = status_over(rt, alloc, &row.words, &mut ends, &mut link);
+    Ok(Called { status, ends, link })
+}
+
+/// The status of the call of these words over these ends.
+fn status_over<R: Threads + Wait + Sync, L: Listener>(
+    rt: &R,
+    alloc: Global,
+    words: &[Word],
+    ends: &mut Ends,
+    link: &mut L,
+) -> u8
+    requires { L.listens link.old ≡ false }
+{
+    let Ends {
+        shelf,
+        input,
+        out,
+        err,
+    } = ends;
+    status_of(rt, alloc, words, shelf, input, out, err, link)
+}
+
+/// The status of the call of these words over these ends.
+fn status_of<R: Threads + Wait + Sync, H: Shelf, S: Source, K: Sink, E: Sink, L: Listener>(
+    rt: &R,
+    alloc: Global,
+    words: &[Word],
+    shelf: &mut H,
+    input: &mut S,
+    out: &mut K,
+    err: &mut E,
+    link: &mut L,
+) -> u8
+    requires { L.listens link.old ≡ false }
+{
+    run(rt, alloc, words, shelf, input, out, err, link)
+}
+
+/// Puts the title and the status behind the text.
+fn show_head(alloc: Global, text: &mut Vec<u8>, title: &[u8], status: u8) -> Result<(), Memory> {
+    text.extend_from_slice(title)?;
+    let line = format!(in alloc; "\nstatus {status}\n")?;
+    text.extend_from_slice(line.as_bytes())?;
+    Ok(())
 }
 
 /// Puts what each client was sent behind the text.
