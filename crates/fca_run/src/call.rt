@@ -52,9 +52,9 @@ pub fn run<R: Threads + Wait + Sync, H: Shelf, S: Source, K: Sink, E: Sink, L: L
     // A command whose files and input have their forms comes to its whole text, or a count of faults rose, or memory is wanting.
     ensures complete { IfSome (command_form words.now) (λ command. IsReadable command (H.tells shelf.old) (S.left input.old)
         → IsComplete result
-            ⊎ (FaultRose command (H.faults shelf.old) (H.faults shelf.new) (S.faults input.old) (S.faults input.new)
-                ⊎ (Rose (K.faults out.old) (K.faults out.new)
-                    ⊎ LinkFaultRose command (L.open_faults link.old) (L.open_faults link.new) (L.accept_faults link.old) (L.accept_faults link.new)))) }
+        ⊎ (FaultRose command (H.faults shelf.old) (H.faults shelf.new) (S.faults input.old) (S.faults input.new)
+        ⊎ (Rose (K.faults out.old) (K.faults out.new)
+        ⊎ LinkFaultRose command (L.open_faults link.old) (L.open_faults link.new) (L.accept_faults link.old) (L.accept_faults link.new)))) }
 
     // What out gained.
     ensures plain_output { IsWhole result → IfSome (command_form words.now) (λ command.
