@@ -4,7 +4,7 @@ ghost use Rattle.std.specs.Prelude.{◌≡◌, ◌≤◌, false, IfOk};
 
 use crate::call::run;
 use fca_io::{
-    Duplex, Failed, Listener, MemoryEnd, MemoryShelf, MemorySink, MemorySource, Sink, Source,
+    Duplex, Failed, Listener, MemoryEnd, MemoryShelf, MemorySink, MemorySource, Shelf, Sink, Source,
 };
 use fca_model::{Memory, Word};
 use std::alloc::Global;
@@ -193,41 +193,108 @@ fn patient_link<'a>(
     })
 }
 
-/// Serves two experts, of whom each goes on only once the other was asked: the status, what was written, and the link.
+/// The ends of a call but its link.
+#[derive(Drop)]
+struct Ends {
+    shelf: MemoryShelf,
+    input: MemorySource,
+    out: MemorySink,
+    err: MemorySink,
+}
+
+/// Ends of a call over the two attributes.
+fn ends_of_call(alloc: Global) -> Result<Ends, Memory> {
+    Ok(Ends {
+        shelf: shelf_of_two(alloc)?,
+        input: MemorySource::new(alloc, b"", &[], 1)?,
+        out: MemorySink::new(alloc, 1000, &[], 10)?,
+        err: MemorySink::new(alloc, 100, &[], 7)?,
+    })
+}
+
+fn shelf_of_two(alloc: Global) -> Result<MemoryShelf, Memory> {
+    let mut shelf = MemoryShelf::new(alloc, &[])?;
+    shelf.put(b"F", TWO)?;
+    Ok(shelf)
+}
+
+fn words_of_call(alloc: Global) -> Result<Vec<Word>, Memory> {
+    let mut words = Vec::new(alloc);
+    for word in SERVE {
+        words.push(Word::new(alloc, word.as_bytes())?)?;
+    }
+    Ok(words)
+}
+
+/// The status of the call of these words over these ends.
+fn status_of<R: Threads + Wait + Sync, H: Shelf, S: Source, K: Sink, E: Sink, L: Listener>(
+    rt: &R,
+    alloc: Global,
+    words: &[Word],
+    shelf: &mut H,
+    input: &mut S,
+    out: &mut K,
+    err: &mut E,
+    link: &mut L,
+) -> u8
+    requires { L.listens link.old ≡ false }
+{
+    run(rt, alloc, words, shelf, input, out, err, link)
+}
+
+/// The same, over the ends of the tests.
+fn status_over<R: Threads + Wait + Sync, L: Listener>(
+    rt: &R,
+    alloc: Global,
+    words: &[Word],
+    ends: &mut Ends,
+    link: &mut L,
+) -> u8
+    requires { L.listens link.old ≡ false }
+{
+    let Ends {
+        shelf,
+        input,
+        out,
+        err,
+    } = ends;
+    status_of(rt, alloc, words, shelf, input, out, err, link)
+}
+
+/// What serving left: the status, what was written, and the link.
+#[derive(Drop)]
+struct Served<'a> {
+    status: u8,
+    ends: Ends,
+    link: PatientLink<'a>,
+}
+
+/// Serves two experts, of whom each goes on only once the other was asked.
 fn serve_patient<'a, R: Threads + Wait + Sync>(
     rt: &R,
     alloc: Global,
     first: &'a AtomicBool,
     second: &'a AtomicBool,
-) -> Result<(u8, MemorySink, PatientLink<'a>), Memory> {
-    let mut words = Vec::new(alloc);
-    for word in SERVE {
-        words.push(Word::new(alloc, word.as_bytes())?)?;
-    }
-    let mut shelf = MemoryShelf::new(alloc, &[])?;
-    shelf.put(b"F", TWO)?;
-    let mut input = MemorySource::new(alloc, b"", &[], 1)?;
-    let mut out = MemorySink::new(alloc, 1000, &[], 10)?;
-    let mut err = MemorySink::new(alloc, 100, &[], 7)?;
+) -> Result<Served<'a>, Memory> {
+    let words = words_of_call(alloc)?;
+    let mut ends = ends_of_call(alloc)?;
     let mut link = patient_link(alloc, first, second)?;
-    let status = run(
-        rt, alloc, &words, &mut shelf, &mut input, &mut out, &mut err, &mut link,
-    );
-    Ok((status, out, link))
+    let status = status_over(rt, alloc, &words, &mut ends, &mut link);
+    Ok(Served { status, ends, link })
 }
 
 #[test]
 fn sessions_run_at_once(rt: HostRuntime) -> Result<(), Fail> {
     let (first, second) = (AtomicBool::new(false), AtomicBool::new(false));
-    let (status, out, link) = serve_patient(&rt, rt.alloc(), &first, &second)?;
-    assert_eq!(rt; status, 6);
+    let served = serve_patient(&rt, rt.alloc(), &first, &second)?;
+    assert_eq!(rt; served.status, 6);
     assert!(&rt;
-        out.written().ends_with(
+        served.ends.out.written().ends_with(
             b"# recorded 0\n# accepted 0\n# open 1\n# .. XX {} -> {a, b}\n# sessions 2\n# 1 quit\n# 2 quit\n"
         )
     );
-    assert_eq!(rt; link.given.len(), 2);
-    for given in &link.given {
+    assert_eq!(rt; served.link.given.len(), 2);
+    for given in &served.link.given {
         assert!(&rt;
             given
                 .end
