@@ -1,14 +1,17 @@
 #!/usr/bin/env python3
-"""Clients of `serve` at once: serve.py [CLIENTS [LINES]], 64 clients of 1,000 lines each where nothing is said.
+"""Clients of `serve` at once: serve.py [--hostile] [CLIENTS [LINES]], 64 clients of 1,000 lines each where nothing is said.
 
 Each client is an expert who knows a table of its own: it draws, answers by the first of its rows that refutes the
 question, and else confirms; it sends a line once the one before it was answered. All clients are in one thread, which
-waits for whichever is answered next. At the end the text is checked: it has each client's lines, and replayed it gives itself.
+waits for whichever is answered next. With --hostile three of them are others: one says nothing, one resets its connection
+after a draw, and one sends as many lines as it may and never reads. At the end the text is checked: it has what each
+client was told was accepted or taken, in that place, and replayed it gives itself.
 """
 import os
 import random
 import selectors
 import socket
+import struct
 import subprocess
 import sys
 import tempfile
@@ -48,6 +51,7 @@ class Client:
         self.link.setsockopt(socket.IPPROTO_TCP, socket.TCP_NODELAY, 1)
         self.greeting, self.left, self.replies = 3 + ATTRIBUTES, lines, 0
         self.part, self.question, self.row = "", None, None
+        self.recorded = []
 
     def refuting(self):
         """The first of the rows that refutes the question."""
@@ -69,6 +73,10 @@ class Client:
     def take(self, reply):
         words = reply.split(" ")
         self.replies += 1
+        if words[0] == "accepted":
+            self.recorded.append(b"# %d %s %s " % (int(words[1]), *[pattern(part).encode() for part in self.question]))
+        elif words[0] == "taken":
+            self.recorded.append(b"# %d %s r%d\n" % (int(words[1]), pattern(self.row).encode(), self.row))
         if words[0] == "breaks":
             self.rows.remove(self.row)
         elif words[0] == "ask":
@@ -91,6 +99,41 @@ class Client:
         return came != b""
 
 
+class Silent:
+    """A connection over which nothing is said."""
+
+    def __init__(self, port):
+        self.link = connect(port)
+
+    def end(self):
+        self.link.close()
+
+
+class Resetting(Silent):
+    """One that is reset after a draw, while its question is held."""
+
+    def __init__(self, port):
+        super().__init__(port)
+        self.link.sendall(b"draw\ndraw\n")
+        time.sleep(0.5)
+        self.link.setsockopt(socket.SOL_SOCKET, socket.SO_LINGER, struct.pack("ii", 1, 0))
+        self.link.close()
+
+
+class Deaf(Silent):
+    """One that sends as many lines as its buffers take, and never reads."""
+
+    def __init__(self, port, lines):
+        super().__init__(port)
+        self.link.setblocking(False)
+        text = b"draw\n" * lines
+        try:
+            while text:
+                text = text[self.link.send(text) :]
+        except BlockingIOError:
+            pass
+
+
 def talk(clients):
     """Lets the clients talk until each was answered `bye` and its connection was closed."""
     ready = selectors.DefaultSelector()
@@ -103,9 +146,25 @@ def talk(clients):
                 key.fileobj.close()
 
 
+def missing(said, record):
+    """How many of the lines that clients were told of have no such line in the sections of the text."""
+    sections = record[record.index(b"# recorded ") :].splitlines(keepends=True)
+    rows = set(sections)
+    rules = {line[: line.find(b"{")] for line in sections}
+    return sum(line not in rows and line not in rules for line in said)
+
+
+def other_endings(sessions):
+    """How the sessions ended that did not end by `quit`."""
+    lines = sessions.decode().splitlines()[1:]
+    return ", ".join(line.split(" ", 2)[2] for line in lines if not line.endswith(" quit")) or "none"
+
+
 def main():
-    count = int(sys.argv[1]) if len(sys.argv) > 1 else 64
-    lines = int(sys.argv[2]) if len(sys.argv) > 2 else 1000
+    words = [word for word in sys.argv[1:] if word != "--hostile"]
+    hostile = len(words) + 1 < len(sys.argv)
+    count = int(words[0]) if words else 64
+    lines = int(words[1]) if len(words) > 1 else 1000
     table = measure.table(1, 0, ATTRIBUTES, 0)
     with socket.socket() as free:
         free.bind(("127.0.0.1", 0))
@@ -113,10 +172,13 @@ def main():
     words = [measure.FCA, "serve", table, "--experts", str(count), "--listen", "127.0.0.1:%d" % port]
     with tempfile.TemporaryFile() as out:
         server = subprocess.Popen(words, stdout=out)
-        clients = [Client(port, seed, lines) for seed in range(count)]
+        others = [Silent(port), Deaf(port, 100000), Resetting(port)] if hostile else []
+        clients = [Client(port, seed, lines) for seed in range(count - len(others))]
         begin = time.time()
         talk(clients)
         took = time.time() - begin
+        for other in others:
+            other.end()
         _, ended, usage = os.wait4(server.pid, 0)
         status = os.waitstatus_to_exitcode(ended)
         out.seek(0)
@@ -126,10 +188,14 @@ def main():
     replayed = subprocess.run([measure.FCA, "replay", table], input=text, stdout=subprocess.PIPE).stdout
     again = time.time() - begin
     replies = sum(client.replies for client in clients)
-    print("clients %d, lines each %d, replies %d, status %d" % (count, lines, replies, status))
+    served = sum(client.replies == lines for client in clients)
+    print("clients %d, of whom %d hostile, lines each %d, replies %d, status %d" % (count, len(others), lines, replies, status))
+    print("clients whose every line was answered: %d of %d" % (served, len(clients)))
     print("seconds %.2f, lines a second %.0f, bytes of text %d" % (took, replies / took, len(text)))
     print("processor seconds %.2f, peak of memory %d bytes" % (usage.ru_utime + usage.ru_stime, usage.ru_maxrss * 1024))
-    print("sessions that ended by quit: %d" % sessions.count(b" quit\n"))
+    said = [line for client in clients for line in client.recorded]
+    print("answers told as recorded %d, missing from the text %d" % (len(said), missing(said, record)))
+    print("sessions that ended by quit: %d, others: %s" % (sessions.count(b" quit\n"), other_endings(sessions)))
     print("replays to itself: %s, in %.2f seconds" % (replayed == record, again))
 
 

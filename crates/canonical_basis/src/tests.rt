@@ -80,9 +80,16 @@ fn basis_of_two_implications(rt: HostRuntime) -> Result<(), Memory> {
         premise: a,
         conclusion: a.with(2),
     })?;
+    let full = Attrs::full(3);
+    let both = Derivation::new(rt.alloc(), &[1, 0])?;
+    assert!(&rt; check(&list, &a, &full, &both));
+    let first = Derivation::new(rt.alloc(), &[0])?;
+    assert!(&rt; !check(&list, &a, &full, &first));
+    let past = Derivation::new(rt.alloc(), &[2])?;
+    assert!(&rt; !check(&list, &a, &full, &past));
     let found = basis_of_list(&rt, rt.alloc(), &list)?;
     assert!(&rt; found.as_slice().len() == 1);
     assert!(&rt; found.as_slice()[0].premise == a);
-    assert!(&rt; found.as_slice()[0].conclusion == Attrs::full(3));
+    assert!(&rt; found.as_slice()[0].conclusion == full);
     Ok(())
 }

@@ -15,23 +15,6 @@ fn people(alloc: Global) -> Result<Values, PlanFault> {
 }
 
 #[test]
-fn values_become_crosses(rt: HostRuntime) -> Result<(), PlanFault> {
-    let alloc = rt.alloc();
-    let values = people(alloc)?;
-    let plan = read_plan(alloc, b"ordinal,age,30,40\nnominal,size,s,m,l\n", &values)?;
-    let table = scale(alloc, &values, &plan)?;
-    assert!(&rt; plan.len() == 2 && table.title().is_none());
-    assert!(&rt; table.rows().len() == 2 && table.rows().width() == 5);
-    assert!(&rt; table.object(1).bytes() == b"ann".as_slice());
-    assert!(&rt; table.attribute_name(0).bytes() == b"age <= 30".as_slice());
-    assert!(&rt; table.attribute_name(4).bytes() == b"size = l".as_slice());
-    let tim = Attrs::empty(5).with(0).with(1).with(2);
-    let ann = Attrs::empty(5).with(1).with(4);
-    assert!(&rt; table.rows().as_slice() == [tim, ann].as_slice());
-    Ok(())
-}
-
-#[test]
 fn rows_give_bounds_back(rt: HostRuntime) -> Result<(), PlanFault> {
     let alloc = rt.alloc();
     let values = people(alloc)?;
@@ -44,20 +27,5 @@ fn rows_give_bounds_back(rt: HostRuntime) -> Result<(), PlanFault> {
     assert!(&rt; plan.len() == 1 && rows.width() == 4);
     assert!(&rt; read_back(&plan, 0, &rows.get(0)) == Back::Between(Some(21), Some(21)));
     assert!(&rt; read_back(&plan, 0, &rows.get(1)) == Back::Between(Some(30), None));
-    Ok(())
-}
-
-#[test]
-fn the_first_fault_is_told(rt: HostRuntime) -> Result<(), PlanFault> {
-    let alloc = rt.alloc();
-    let values = people(alloc)?;
-    let value = read_plan(alloc, b"ordinal,size,1\n", &values);
-    assert!(&rt; matches!(value, Err(PlanFault::BadValue(1, 0))));
-    let zero = read_plan(alloc, b"interordinal,age,0,-0\n", &values);
-    assert!(&rt; matches!(zero, Err(PlanFault::BadName(1, 4))));
-    let kind = read_plan(alloc, b"nominal,size,s\ncardinal,age,1\n", &values);
-    assert!(&rt; matches!(kind, Err(PlanFault::BadKind(2))));
-    let unknown = read_plan(alloc, b"nominal,sizes,s\n", &values);
-    assert!(&rt; matches!(unknown, Err(PlanFault::UnknownAttribute(1))));
     Ok(())
 }

@@ -5,3 +5,4 @@ pub mod ReplyLemmas
 pub mod KeptLemmas
 pub mod CourseLemmas
 pub mod OpenLemmas
+pub mod ConfirmLemmas

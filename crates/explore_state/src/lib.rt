@@ -356,9 +356,8 @@ impl Explore {
             ),
             Event::Confirm { expert } => match held_in(&self.held, *expert) {
                 Some(question) => reply_to_confirmation(
-                    self.queue.rows(),
+                    &self.queue,
                     self.settings.known.as_slice(),
-                    self.queue.accepted(),
                     &question,
                 ),
                 None => Reply::NotHeld,

@@ -1,6 +1,7 @@
 //! The reply to each event, which changes nothing.
 
-ghost use Rattle.std.specs.Prelude.{◌≡◌, ◌<◌, Some, length};
+ghost use Rattle.std.specs.Prelude.{◌≡◌, ◌<◌, true, Some, length};
+ghost use Rattle.fca_model.specs.declared.Reply.TheVariants.{Accepted};
 ghost use Rattle.fca_model.specs.Exploration.{State, rules_of, given_back, draw_reply, confirm_reply, row_reply};
 ghost use Rattle.explore_state.specs.Fewest.{IsFewest};
 
@@ -10,6 +11,7 @@ use answer_check::{Verdict, check_confirm, check_row};
 use attr_bits::Attrs;
 use derivation::Rows;
 use implication_closure::ImplicationList;
+use level_queue::LevelQueue;
 
 /// The reply to a draw of the expert, where at most so many experts may hold one question.
 pub(crate) fn reply_to_draw(questions: &[Question], held: &[Hold], expert: u8, most: usize) -> Reply
@@ -46,8 +48,32 @@ fn fewest_held(questions: &[Question], held: &[Hold], expert: u8) -> usize
     best
 }
 
-/// The reply to a confirmation of the question.
+/// The reply to a confirmation of the question. One that is open is accepted, and only for another is it looked up what speaks against it.
 pub(crate) fn reply_to_confirmation(
+    queue: &LevelQueue,
+    known: &[Implication],
+    question: &Question,
+) -> Reply
+    requires { known.now ≡ queue.now.known }
+    ensures { (s : State) → s.context ≡ queue.now.context → s.accepted ≡ queue.now.accepted
+        → s.settings.known ≡ known.now → result ≡ confirm_reply s (Some question.now) }
+{
+    if is_open(queue, question) {
+        return Reply::Accepted(queue.rules().as_slice().len());
+    }
+    reply_to_late_confirmation(queue.rows(), known, queue.accepted(), question)
+}
+
+/// Whether the question is open; it may be that it is and the queue does not say so.
+fn is_open(queue: &LevelQueue, question: &Question) -> bool
+    ensures { result ≡ true → (s : State) → s.context ≡ queue.now.context → s.accepted ≡ queue.now.accepted
+        → s.settings.known ≡ queue.now.known → confirm_reply s (Some question.now) ≡ Accepted (length (rules_of s)) }
+{
+    queue.place_of(question).is_some()
+}
+
+/// The reply to a confirmation of a question that may have been settled meanwhile.
+fn reply_to_late_confirmation(
     rows: &Rows,
     known: &[Implication],
     accepted: &ImplicationList,

@@ -25,7 +25,7 @@ returns-in-Some c =
     subst (λ h. c.reply_to_confirmation.result ≡ reply_to (state_of h) c.args.event.now) c.self.view_is
     (reply_to-confirm o i.journal.items i.queue.context i.queue.accepted i.held.items c.self.invariant.kept c.in-Confirm.expert c.in-Some.question c.reply_to_confirmation.result
     (ap (held_by c.in-Confirm.expert) (sym c.deref-in-Confirm.ensures.value) ∙ sym c.held_in.ensures ∙ c.in-Some.is)
-    (λ t rows accepted known. c.reply_to_confirmation.ensures t (rows ∙ sym c.rows.ensures) (accepted ∙ sym (ap (λ (J : RuleList). J.members) c.accepted.ensures.list)) (known ∙ sym c.as_slice.ensures.members))
+    (λ t rows accepted known. c.reply_to_confirmation.ensures t rows accepted (known ∙ sym c.as_slice.ensures.members))
     ∙ ap (reply_to (state_of (record { opening = o; journal = i.journal.items; spare = 0 }))) (sym c.in-Confirm.is))
 
 pub returns-in-None : goal.returns-in-None
@@ -44,7 +44,7 @@ returns-in-Some-held_in c =
     subst (λ h. c.reply_to_row.result ≡ reply_to (state_of h) c.args.event.now) c.self.view_is
     (reply_to-row o i.journal.items i.queue.context i.queue.accepted i.held.items c.self.invariant.kept c.in-Row.expert c.in-Row.name c.in-Row.row c.in-Some-held_in.question c.reply_to_row.result
     (ap (held_by c.in-Row.expert) (sym c.deref-in-Row.ensures.value) ∙ sym c.held_in-in-Row.ensures ∙ c.in-Some-held_in.is)
-    (λ t rows rules. c.reply_to_row.ensures t (rows ∙ sym c.rows-in-Some-held_in.ensures)
+    (λ t rows rules. c.reply_to_row.ensures t (rows ∙ sym c.rows.ensures)
     (rules ∙ ap (λ S. S ++ i.queue.accepted) (sym c.self.invariant.known) ∙ sym (ap (λ (J : RuleList). J.members) c.rules.ensures.list)))
     ∙ ap (reply_to (state_of (record { opening = o; journal = i.journal.items; spare = 0 }))) (sym c.in-Row.is))
 
@@ -64,3 +64,6 @@ returns-in-Leave c =
     subst (λ h. Left ≡ reply_to (state_of h) c.args.event.now) c.self.view_is
     (reply_to-leave o i.journal.items i.queue.context i.queue.accepted i.held.items c.self.invariant.kept c.in-Leave.expert
     ∙ ap (reply_to (state_of (record { opening = o; journal = i.journal.items; spare = 0 }))) (sym c.in-Leave.is))
+
+pub reply_to_confirmation-requires : goal.reply_to_confirmation-requires
+reply_to_confirmation-requires c = c.as_slice.ensures.members ∙ sym c.self.invariant.known
