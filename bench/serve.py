@@ -51,7 +51,7 @@ class Client:
         self.link.setsockopt(socket.IPPROTO_TCP, socket.TCP_NODELAY, 1)
         self.greeting, self.left, self.replies = 3 + ATTRIBUTES, lines, 0
         self.part, self.question, self.row = "", None, None
-        self.recorded = []
+        self.recorded, self.is_done = [], False
 
     def refuting(self):
         """The first of the rows that refutes the question."""
@@ -73,6 +73,7 @@ class Client:
     def take(self, reply):
         words = reply.split(" ")
         self.replies += 1
+        self.is_done = reply == "bye"
         if words[0] == "accepted":
             self.recorded.append(b"# %d %s %s " % (int(words[1]), *[pattern(part).encode() for part in self.question]))
         elif words[0] == "taken":
@@ -85,7 +86,8 @@ class Client:
             self.question = None
 
     def read(self):
-        """Takes what came, answers each whole line with the next request, and tells whether more is to come."""
+        """Takes what came, answers each whole line with the next request, and tells whether more is to come. Connections are
+        closed when all sessions have ended, so the reply to `quit` is the last that is waited for."""
         came = self.link.recv(65536)
         lines = (self.part + came.decode()).split("\n")
         self.part = lines.pop()
@@ -96,7 +98,7 @@ class Client:
                 self.take(line)
             if self.greeting == 0 and self.left > 0:
                 self.link.sendall((self.request() + "\n").encode())
-        return came != b""
+        return came != b"" and not self.is_done
 
 
 class Silent:
@@ -135,7 +137,7 @@ class Deaf(Silent):
 
 
 def talk(clients):
-    """Lets the clients talk until each was answered `bye` and its connection was closed."""
+    """Lets the clients talk until each was answered `bye`."""
     ready = selectors.DefaultSelector()
     for client in clients:
         ready.register(client.link, selectors.EVENT_READ, client)
