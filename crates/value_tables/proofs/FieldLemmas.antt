@@ -1,6 +1,8 @@
 -- One field more.
-use Rattle.std.proofs.Common.{◌≡◌, ◌∙◌, ◌<◌, ◌≤◌, ◌+◌, ◌==◌, ◌∷◌, [], ℕ, zero, suc, Bool, true, false, not, List, Option, Some, None, cond, drop, length, get_or, slice_get, inl, inr, refl, sym, ap, arith, ltb, eqb, ltb-false, eqb-true, is_none}
-use Rattle.std.proofs.lemmas.Bool.{cases_Bool, or_cases}
+use Rattle.std.proofs.Common.{◌≡◌, ◌∙◌, ◌<◌, ◌≤◌, ◌+◌, ◌==◌, ◌-◌, ◌||◌, ◌∷◌, le-ltb, [], ℕ, zero, suc, Bool, true, false, not, List, Option, Some, None, cond, take, drop, length, get_or, length-drop, slice_get, inl, inr, refl, sym, ap, arith, ltb, eqb, ltb-false, eqb-true, is_none}
+use Rattle.std.proofs.lemmas.Bool.{cases_Bool, or_cases, or_parts}
+use Rattle.std.proofs.lemmas.List.{length-take}
+use Rattle.csv.specs.Records.{cut_from}
 use Rattle.std.proofs.lemmas.Option.{slice_get_within, slice_get-get_or}
 use Rattle.std.specs.List.{list_any}
 use Rattle.fca_model.specs.Names.{is_line_break, name_fault}
@@ -89,3 +91,39 @@ bad_field_none fields none = elim (cases_Bool (is_name (get_or fields 0 []))) [
   | inl is ↦ (is, rw is at none)
   | inr isnt ↦ let some = rw isnt at none in cc
 ]
+
+-- ---- a record as one text
+
+any_take : (p : ℕ → Bool) (n : ℕ) (xs : Text) → list_any p xs ≡ false → list_any p (take n xs) ≡ false
+any_take p zero xs h = refl
+any_take p (suc n) [] h = refl
+any_take p (suc n) (x ∷ xs) h = let parts = or_parts (p x) (list_any p xs) h in rw (parts.0) (any_take p n xs parts.1)
+
+any_drop : (p : ℕ → Bool) (n : ℕ) (xs : Text) → list_any p xs ≡ false → list_any p (drop n xs) ≡ false
+any_drop p zero xs h = h
+any_drop p (suc n) [] h = refl
+any_drop p (suc n) (x ∷ xs) h = any_drop p n xs (or_parts (p x) (list_any p xs) h).1
+
+module _ (bytes : Text) (few : length bytes ≤ 255) (unbroken : list_any is_line_break bytes ≡ false) where
+  piece_name : (m n : ℕ) → eqb (length (take n (drop m bytes))) 0 ≡ false → is_name (take n (drop m bytes)) ≡ true
+  piece_name m n some =
+      let piece : Text = take n (drop m bytes) in
+      let size : length piece ≤ 255 = omega (arith, length-take n (drop m bytes), length-drop m bytes, few) in
+      sym (is_name_short piece some (le-ltb MAX_NAME_BYTES (length piece) size))
+      ∙ ap not (any_take is_line_break n (drop m bytes) (any_drop is_line_break m bytes unbroken))
+
+  piece_value : (m n : ℕ) → is_field kind.Value (take n (drop m bytes)) ≡ true
+  piece_value m n = elim (cases_Bool (eqb (length (take n (drop m bytes))) 0)) [
+    | inl empty ↦ ap (λ b. b || is_name (take n (drop m bytes))) empty
+    | inr some ↦ rw some (piece_name m n some)
+  ]
+
+  pieces_good : (start j : ℕ) (ends : List ℕ) → first_bad kind.Value j (cut_from start ends bytes) ≡ None
+  unfolding cut_from
+  pieces_good start j [] = refl
+  pieces_good start j (end ∷ ends) = rw (piece_value start (end - start)) (pieces_good end (j + 1) ends)
+
+  pub bad_field-none_from : (ends : List ℕ) → eqb (length (get_or (cut_from 0 ends bytes) 0 [])) 0 ≡ false → bad_field (cut_from 0 ends bytes) ≡ None
+  unfolding cut_from
+  bad_field-none_from [] some = absurd (cc)
+  bad_field-none_from (end ∷ ends) some = rw (piece_name 0 (end - 0) some) (pieces_good end 2 ends)

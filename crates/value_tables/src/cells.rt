@@ -40,7 +40,7 @@ impl Cells {
         if self.lengths.len() == BLOCK * self.starts.len() {
             self.starts.push(self.text.len())?;
         }
-        self.text.extend_from_slice(value)?;
+        append(&mut self.text, value)?;
         self.lengths.push(value.len() as u8)?;
         Ok(())
     }
@@ -64,6 +64,17 @@ impl Cells {
     {
         let block = k / BLOCK;
         self.starts[block] + total(&self.lengths[BLOCK * block..k])
+    }
+}
+
+/// Puts the value behind the text. Most values have one byte or none.
+fn append(text: &mut Vec<u8>, value: &[u8]) -> Result<(), Memory>
+    ensures { OnOk result (text.new.items ≡ text.old.items ++ value.now) }
+{
+    match value {
+        [] => Ok(()),
+        [byte] => Ok(text.push(*byte)?),
+        _ => Ok(text.extend_from_slice(value)?),
     }
 }
 

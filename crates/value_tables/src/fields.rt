@@ -48,7 +48,7 @@ fn is_name(field: &[u8]) -> bool
     !has_line_break(field)
 }
 
-fn has_line_break(field: &[u8]) -> bool
+pub(crate) fn has_line_break(field: &[u8]) -> bool
     ensures { result ≡ list_any is_line_break field.now }
 {
     field.iter().any(|byte| *byte == b'\n' || *byte == b'\r')

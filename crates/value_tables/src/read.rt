@@ -1,6 +1,6 @@
 //! The reader.
 
-ghost use Rattle.std.specs.Prelude.{◌≡◌, ◌<◌, ◌≤◌, ◌+◌, ◌*◌, ◌++◌, [], IfOk, OnOk, None, MatchResult, Ok, Err, drop, length, slice_index_or, vec_len};
+ghost use Rattle.std.specs.Prelude.{◌≡◌, ◌<◌, ◌≤◌, ◌+◌, ◌*◌, ◌++◌, [], true, IfOk, OnOk, None, MatchResult, Ok, Err, drop, length, slice_index_or, vec_len};
 ghost use Rattle.context_table.specs.Table.{first_repeat};
 ghost use Rattle.csv.specs.Records.{AllText, fields_of};
 ghost use Rattle.csv_context.specs.Records.{IsOpen, csv_records, records_left};
@@ -10,11 +10,11 @@ ghost use Rattle.value_tables.specs.Telling.{Tells, TellsBy};
 
 use crate::ValuesFault;
 use crate::cells::Cells;
-use crate::fields::{FieldKind, first_bad, name_at};
+use crate::fields::{FieldKind, first_bad, has_line_break, name_at};
 use crate::values::Values;
 use csv::{ByteRecord, Reader};
 use csv_context::{field_at, next_record, open};
-use fca_model::{MAX_ATTRIBUTES, MAX_OBJECTS, Memory, Name};
+use fca_model::{MAX_ATTRIBUTES, MAX_NAME_BYTES, MAX_OBJECTS, Memory, Name};
 use indexmap::IndexSet;
 use std::alloc::Global;
 
@@ -133,11 +133,29 @@ fn bad_field(fields: &ByteRecord) -> Option<usize>
     requires { 0 < length (fields_of fields.now) }
     ensures { result ≡ form.bad_field (fields_of fields.now) }
 {
+    if are_all_good(fields) {
+        return None;
+    }
     if FieldKind::Name.admits(field_at(fields, 0)) {
         first_bad(FieldKind::Value, fields, 1)
     } else {
         Some(1)
     }
+}
+
+/// Whether it is seen of the record as one text that its first field is a name and the others are values; of a long record it is not.
+fn are_all_good(fields: &ByteRecord) -> bool
+    requires { 0 < length (fields_of fields.now) }
+    ensures { result ≡ true → form.bad_field (fields_of fields.now) ≡ None }
+{
+    let text = fields.as_slice();
+    if text.len() > MAX_NAME_BYTES {
+        return false;
+    }
+    if field_at(fields, 0).is_empty() {
+        return false;
+    }
+    !has_line_break(text)
 }
 
 /// Puts the values of an object last.

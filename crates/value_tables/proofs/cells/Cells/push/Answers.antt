@@ -19,5 +19,5 @@ returns-clause-texts c =
     ] in
     ap₂ cut
     (c.in_ok-push-2.ensures.items ∙ ap (λ (ns : List ℕ). ns ++ length value ∷ []) lengths)
-    (c.in_ok-extend_from_slice.ensures.items ∙ ap (λ (bytes : List ℕ). bytes ++ value) text)
+    (c.in_ok-append.ensures ∙ ap (λ (bytes : List ℕ). bytes ++ value) text)
     ∙ cut_push old.lengths.items old.text.items value c.requires.cells.whole
