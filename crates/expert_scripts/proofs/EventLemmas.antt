@@ -1,5 +1,5 @@
 -- The line of an event, by an expert and with a row of the width and a name that is a name, says just this event.
-use Rattle.std.proofs.Common.{◌≡◌, ◌<◌, ◌≤◌, ℕ, ◌^◌, true, false, cond, List, ◌∷◌, ◌++◌, length, Ok, Err, refl, ap, ap₂, ◌∙◌, subst, arith, ltb, append_assoc}
+use Rattle.std.proofs.Common.{◌≡◌, ◌<◌, ◌≤◌, ℕ, ◌^◌, true, false, cond, ◌∷◌, ◌++◌, length, Ok, Err, refl, ap, ap₂, ◌∙◌, subst, arith, ltb, append_assoc}
 use Rattle.std.specs.Prelude.{codes, decimal, IsUtf8, nat_le, ◌==◌}
 use Rattle.std.specs.List.{list_any, list_all}
 use Rattle.std.proofs.lemmas.Bool.{and_parts, leb-true}
@@ -12,7 +12,7 @@ use Rattle.fca_model.specs.declared.TheConstants.{MAX_EXPERTS}
 use Rattle.fca_model.specs.declared.Event.TheVariants.{Draw, Confirm, Row, Leave}
 use Rattle.expert_wire.specs.Texts.{pattern}
 use Rattle.expert_wire.specs.Words.{is_space, first_word, later_words, is_numeral, value_of, named_row}
-use Rattle.expert_wire.proofs.ReadLemmas.{before_first-at, after_first-at, numeral-decimal, pattern_no_space, ascii_pattern, utf8_words, utf8_decimal, decimal_no_space, named_row-written}
+use Rattle.expert_wire.proofs.ReadLemmas.{before_first-at, after_first-at, numeral-decimal, ascii_pattern, utf8_words, utf8_decimal, decimal_no_space, named_row-written}
 use Rattle.expert_scripts.specs.declared.fault.ScriptFault.TheVariants.{BadLine, BadExpert}
 use Rattle.expert_scripts.specs.Scripts.{CanBeSaid, expert_in, event_by, row_by, row_event, event_of, event_of_words}
 use Rattle.expert_scripts.specs.Transcripts.{event_text}

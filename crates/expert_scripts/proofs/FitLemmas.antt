@@ -1,13 +1,13 @@
 -- What a script says can be said: each event is of an expert, and its row has the width; the settings have a number of holders, implications
 -- of the width, and names. A line gives such an event or such settings or none, case by case, and a script has those of its lines.
-use Rattle.std.proofs.Common.{◌≡◌, ◌==◌, ◌&&◌, ◌<◌, ◌≤◌, ◌+◌, ℕ, Bool, true, false, cond, List, [], ◌∷◌, ◌++◌, map, length, drop, get_or, Option, Some, None, Result, Ok, Err, refl, sym, ap, ◌∙◌, subst, inl, inr, arith, nat_le}
-use Rattle.std.specs.Prelude.{IsUtf8, is_none, unwrap_or, bytes_eq, codes}
+use Rattle.std.proofs.Common.{◌≡◌, ◌==◌, ◌&&◌, ◌<◌, ◌≤◌, ◌+◌, ℕ, Bool, true, false, cond, List, [], ◌∷◌, ◌++◌, map, length, get_or, Option, Some, None, Result, Ok, Err, refl, sym, ◌∙◌, subst, inl, inr, arith, nat_le}
+use Rattle.std.specs.Prelude.{IsUtf8, is_none, bytes_eq}
 use Rattle.std.specs.Ordering.{nat_cmp}
 use Rattle.std.specs.BTreeMap.{insert_entry}
 use Rattle.std.specs.List.{list_all, position_or_len}
 use Rattle.std.specs.Str.{is_utf8}
 use Rattle.std.proofs.lemmas.Str.{IsUtf8-drop, IsUtf8-nil, IsUtf8-from_is_utf8, IsCharBoundary-after_ascii}
-use Rattle.std.proofs.lemmas.Bool.{and_parts, and_from, cases_Bool, cases_lt, eqb-true, leb-true}
+use Rattle.std.proofs.lemmas.Bool.{and_parts, and_from, cases_lt, eqb-true, leb-true}
 use Rattle.std.proofs.lemmas.List.Sums.{passes_at_first}
 use Rattle.std.proofs.lemmas.List.Folds.{list_all-append}
 use Rattle.std.proofs.Math.ListN.{drop_of_length-le}
@@ -16,7 +16,7 @@ use Rattle.fca_model.specs.Tables.{Text}
 use Rattle.fca_model.specs.Names.{IsName, name_fault}
 use Rattle.fca_model.specs.declared.names.NameFault.{NameFault}
 use Rattle.fca_model.specs.Implications.{Rule, rule}
-use Rattle.fca_model.specs.Exploration.{SetEvent, RowName, is_expert}
+use Rattle.fca_model.specs.Exploration.{SetEvent, is_expert}
 use Rattle.fca_model.specs.declared.TheConstants.{MAX_EXPERTS}
 use Rattle.fca_model.specs.declared.Event.TheVariants.{Draw, Confirm, Row, Leave}
 use Rattle.implication_closure.specs.Closing.{has_width}
@@ -31,8 +31,8 @@ use Rattle.known_rules.specs.declared.fault.KnownFault.TheVariants.{BadWidth as 
 use Rattle.known_rules.specs.Known.{rule_of_width, known_rule, with_first, all_ok}
 use Rattle.expert_scripts.specs.declared.fault.ScriptFault.{ScriptFault}
 use Rattle.expert_scripts.specs.declared.fault.ScriptFault.TheVariants.{BadLine, BadExpert, BadHolders}
-use Rattle.expert_scripts.specs.Scripts.{Said, Told, nothing_told, settings_told, may_apply, expert_in, event_by, row_by, row_event, event_of, event_of_words, events_said, holders_once, holders_told, name_once, name_told, rule_told, setting_of_words, setting_of, finished, by_setting, settled, headed, second_heading, script_form}
-use Rattle.expert_scripts.specs.Transcripts.{AreNamed, CanBeTold}
+use Rattle.expert_scripts.specs.Scripts.{Said, Told, nothing_told, settings_told, may_apply, expert_in, event_by, row_by, event_of, events_said, holders_once, holders_told, name_once, name_told, rule_told, setting_of_words, setting_of, finished, by_setting, settled, headed, second_heading, script_form}
+use Rattle.expert_scripts.specs.Transcripts.{CanBeTold}
 use Rattle.expert_scripts.proofs.NamedLemmas.{named-insert}
 
 -- ---- events

@@ -1,14 +1,14 @@
 -- A transcript, with more lines behind it that begin with `#`, is read as its settings and its events. No text that a line is made of has a line
 -- break, so the lines of the text are the lines that were written. The lines of settings come first, each of which tells what it was written
 -- of; then the events one by one, each behind the skipped line of the reply before it.
-use Rattle.std.proofs.Common.{◌≡◌, ◌<◌, ◌≤◌, ℕ, zero, suc, ◌+◌, Bool, true, false, ◌&&◌, cond, List, [], ◌∷◌, ◌++◌, map, length, Option, Some, None, Result, Ok, Err, refl, sym, ap, ap₂, ◌∙◌, subst, arith, append_assoc, append-nil, inl, inr}
+use Rattle.std.proofs.Common.{◌≡◌, ℕ, ◌+◌, Bool, true, false, ◌&&◌, cond, List, [], ◌∷◌, ◌++◌, map, length, Option, Some, None, Result, Ok, Err, refl, sym, ap, ap₂, ◌∙◌, arith, append_assoc, append-nil, inl, inr}
 use Rattle.std.specs.Prelude.{codes, decimal, is_none, ◌==◌, nat_le, IsUtf8}
 use Rattle.std.specs.Str.{is_utf8}
 use Rattle.std.specs.List.{list_any, list_all, flat_map}
 use Rattle.std.specs.Ordering.{nat_cmp}
 use Rattle.std.specs.BTreeMap.{insert_entry}
 use Rattle.std.proofs.lemmas.List.{nil_from_length}
-use Rattle.std.proofs.lemmas.Bool.{and_parts, and_from, cases_Bool, eqb-true, eq-eqb, le-leb}
+use Rattle.std.proofs.lemmas.Bool.{and_parts, and_from, cases_Bool, eqb-true, le-leb}
 use Rattle.std.proofs.lemmas.Str.{IsUtf8-append, IsUtf8-from_ascii, is_utf8-from_IsUtf8}
 use Rattle.fca_model.specs.Sets.{Set}
 use Rattle.fca_model.specs.Tables.{Text}
@@ -31,7 +31,7 @@ use Rattle.known_rules.specs.Known.{known_rule, with_first, all_ok}
 use Rattle.known_rules.proofs.KnownLemmas.{full_text-read}
 use Rattle.expert_scripts.specs.declared.fault.ScriptFault.{ScriptFault}
 use Rattle.expert_scripts.specs.declared.fault.ScriptFault.TheVariants.{BadLine, BadExpert, BadHolders}
-use Rattle.expert_scripts.specs.Scripts.{Said, Told, nothing_told, settings_told, CanBeSaid, EachCanBeSaid, event_of, events_said, holders_once, holders_told, name_once, name_told, rule_told, setting_of_words, setting_of, finished, settled, headed, second_heading, script_form}
+use Rattle.expert_scripts.specs.Scripts.{Said, Told, nothing_told, CanBeSaid, EachCanBeSaid, event_of, events_said, holders_once, holders_told, name_once, name_told, rule_told, setting_of_words, setting_of, finished, settled, headed, second_heading, script_form}
 use Rattle.expert_scripts.specs.Transcripts.{event_text, entries_text, is_plain, known_line, name_line, names_text, settings_text, opening_text, transcript, second_of, AreNames, AreNamed, CanBeTold}
 use Rattle.expert_scripts.proofs.StageLemmas.{setting_taken, setting_none}
 use Rattle.expert_scripts.proofs.NamedLemmas.{AreBelow, below-more, unnamed, insert-last, below-push, names_text-listed}

@@ -4,7 +4,7 @@
 -- and then lines of settings may stand before the events: how many experts may hold one question, what is known, and names of experts. Over a and b the lines
 -- `exploration 2`, `holders 1`, `known X. .X`, `expert 2 Ann` and `draw 1` say that one expert may hold a question, that a implies b is known, that expert 2
 -- is Ann, and that expert 1 draws.
-use Rattle.std.specs.Prelude.{◌≡◌, ⊤, ℕ, Bool, true, ◌&&◌, cond, Option, Some, None, Result, Ok, Err, List, [], ◌∷◌, ◌++◌, map, length, is_none, unwrap_or, bytes_eq, codes}
+use Rattle.std.specs.Prelude.{◌≡◌, ⊤, ℕ, Bool, true, ◌&&◌, cond, Option, Some, None, Result, Ok, Err, List, [], ◌∷◌, ◌++◌, map, is_none, unwrap_or, bytes_eq, codes}
 use Rattle.std.specs.Ordering.{nat_cmp}
 use Rattle.std.specs.BTreeMap.{insert_entry}
 use Rattle.std.specs.Str.{is_utf8}

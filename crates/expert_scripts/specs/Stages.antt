@@ -1,5 +1,5 @@
 -- What a script says, by what was read of it and the lines that are still to come.
-use Rattle.std.specs.Prelude.{ℕ, None, Result, Ok, Err, List, ◌++◌}
+use Rattle.std.specs.Prelude.{ℕ, Result, Ok, Err, List, ◌++◌}
 use Rattle.fca_model.specs.Tables.{Text}
 use Rattle.fca_model.specs.Exploration.{SetEvent}
 use Rattle.expert_scripts.specs.declared.fault.ScriptFault.{ScriptFault}

@@ -1,4 +1,4 @@
-use Rattle.std.proofs.Common.{◌≡◌, ◌≤◌, ◌<◌, ◌+◌, ◌++◌, sym, ap, ◌∙◌, append_assoc, append-nil, arith}
+use Rattle.std.proofs.Common.{◌≤◌, ◌<◌, ◌+◌, ◌++◌, sym, ap, ◌∙◌, append_assoc, append-nil, arith}
 use Rattle.fca_model.specs.declared.TheConstants.{MAX_EXPERTS}
 use Rattle.explore_state.specs.Settings.{name_of}
 use Rattle.expert_scripts.specs.Transcripts.{line_named}

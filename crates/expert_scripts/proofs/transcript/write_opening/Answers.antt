@@ -1,11 +1,10 @@
-use Rattle.std.proofs.Common.{◌≡◌, ◌++◌, true, false, cond, sym, ap, ◌∙◌, append_assoc, refl}
+use Rattle.std.proofs.Common.{◌++◌, sym, ap, ◌∙◌, append_assoc}
 use Rattle.std.proofs.lemmas.Result.{on_ok_weaker}
 use Rattle.std.proofs.lemmas.Bool.{false≢true}
 use Rattle.explore_state.specs.Settings.{settings_of}
 use Rattle.expert_wire.specs.Texts.{line_end}
-use Rattle.expert_wire.specs.Replies.{heading}
 use Rattle.expert_scripts.specs.Scripts.{second_heading}
-use Rattle.expert_scripts.specs.Transcripts.{settings_text, opening_text}
+use Rattle.expert_scripts.specs.Transcripts.{settings_text}
 use Rattle.expert_scripts.proofs.TranscriptLemmas.{opening_text-other}
 use Rattle.expert_scripts.proofs.transcript.write_opening.Goals as goal
 
