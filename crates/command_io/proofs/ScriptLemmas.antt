@@ -1,6 +1,6 @@
 -- The events of a script may be applied: each is of an expert, and its row has the width. A line gives such an event or none,
 -- case by case, and a script has the events of its lines.
-use Rattle.std.proofs.Common.{◌≡◌, ◌==◌, ◌&&◌, ℕ, Bool, true, false, cond, List, [], ◌∷◌, map, length, Option, Some, None, Result, Ok, Err, refl, sym, subst}
+use Rattle.std.proofs.Common.{◌≡◌, ◌==◌, ◌&&◌, ℕ, Bool, true, false, cond, List, [], ◌∷◌, map, length, Option, Some, None, Result, Ok, Err, refl, subst}
 use Rattle.std.specs.List.{list_all}
 use Rattle.fca_model.specs.Sets.{Set}
 use Rattle.fca_model.specs.Tables.{Text}
@@ -11,7 +11,7 @@ use Rattle.expert_wire.specs.declared.requests.RequestFault.TheVariants.{Line, W
 use Rattle.expert_wire.specs.declared.scripts.ScriptFault.{ScriptFault}
 use Rattle.expert_wire.specs.declared.scripts.ScriptFault.TheVariants.{BadLine, BadExpert}
 use Rattle.expert_wire.specs.Words.{is_numeral, value_of, named_row, row_of_width, is_name, set_marked, first_word, later_words}
-use Rattle.expert_wire.specs.Scripts.{script_form, expert_in, event_by, row_by, row_event, event_of, event_of_words, with_event, all_events, events_said, lines, said_from, behind_heading}
+use Rattle.expert_wire.specs.Scripts.{script_form, expert_in, event_by, row_by, event_of, with_event, all_events, events_said, lines, said_from, behind_heading}
 use Rattle.command_io.specs.Forms.{may_apply}
 
 -- what the answer gives may be applied

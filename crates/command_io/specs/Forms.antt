@@ -1,5 +1,5 @@
 -- Tables in files, tables of values with plans for them, and scripts on the input.
-use Rattle.std.specs.Prelude.{◌≡◌, ℕ, Bool, ◌&&◌, cond, Option, List, nat_eq, codes}
+use Rattle.std.specs.Prelude.{ℕ, Bool, ◌&&◌, cond, Option, List, nat_eq, codes}
 use Rattle.std.specs.List.{ends_with}
 use Rattle.fca_model.specs.Tables.{Text, NamedContext}
 use Rattle.fca_model.specs.Exploration.{SetEvent, is_expert, expert_of, has_width}
