@@ -1,4 +1,3 @@
-pub mod ScriptLemmas
 pub mod CourseLemmas
 pub mod ErrLemmas
 pub mod ReadingLemmas

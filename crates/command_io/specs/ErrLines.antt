@@ -13,8 +13,8 @@ use Rattle.cxt_format.specs.declared.CxtFault.TheVariants as cxt
 use Rattle.csv_context.specs.declared.CsvFault.{CsvFault}
 use Rattle.csv_context.specs.declared.CsvFault.TheVariants as csv
 use Rattle.expert_wire.specs.Texts.{line_end, ordinal}
-use Rattle.expert_wire.specs.declared.scripts.ScriptFault.{ScriptFault}
-use Rattle.expert_wire.specs.declared.scripts.ScriptFault.TheVariants as script
+use Rattle.expert_scripts.specs.declared.fault.ScriptFault.{ScriptFault}
+use Rattle.expert_scripts.specs.declared.fault.ScriptFault.TheVariants as script
 use Rattle.known_rules.specs.declared.fault.KnownFault.{KnownFault}
 use Rattle.known_rules.specs.declared.fault.KnownFault.TheVariants as rules
 use Rattle.command_io.specs.Endings.{stop_status, IsSilent}
@@ -89,6 +89,7 @@ abbrev pub script_told : ScriptFault → Place × Text
 script_told (script.BadLine line) = (Line line, codes "bad line")
 script_told (script.BadExpert line) = (Line line, codes "bad expert")
 script_told (script.BadWidth line) = (Line line, codes "bad width")
+script_told (script.BadHolders line) = (Line line, codes "bad holders")
 script_told script.Memory = (Whole, codes "no memory")
 
 abbrev pub known_told : KnownFault → Place × Text

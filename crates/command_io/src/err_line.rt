@@ -8,7 +8,7 @@ ghost use Rattle.command_io.specs.ErrLines.{plain_line, numbered_line, field_lin
 use crate::stop::{Origin, Stop};
 use csv_context::CsvFault;
 use cxt_format::CxtFault;
-use expert_wire::ScriptFault;
+use expert_scripts::ScriptFault;
 use fca_io::{Put, Sink, write_text};
 use itoa::Buffer;
 use known_rules::KnownFault;
@@ -296,6 +296,7 @@ fn script_fault(fault: &ScriptFault) -> (Place, &'static [u8])
         ScriptFault::BadLine(line) => (Place::Line(*line), b"bad line"),
         ScriptFault::BadExpert(line) => (Place::Line(*line), b"bad expert"),
         ScriptFault::BadWidth(line) => (Place::Line(*line), b"bad width"),
+        ScriptFault::BadHolders(line) => (Place::Line(*line), b"bad holders"),
         ScriptFault::Memory => (Place::Whole, b"no memory"),
     }
 }
