@@ -1,20 +1,22 @@
--- The text of an exploration by its parts. With plain settings the rules are the accepted implications alone, and so are the numbers.
+-- The text of an exploration by its parts.
 use Rattle.std.proofs.Common.{◌≡◌, ◌++◌, ◌+◌, [], ℕ, List, arith, codes, ap, sym, ◌∙◌, length, append_assoc}
 use Rattle.fca_model.specs.Tables.{Text, NamedContext}
 use Rattle.fca_model.specs.Implications.{Rule}
 use Rattle.fca_model.specs.Questions.{open_questions}
-use Rattle.fca_model.specs.Exploration.{State, SetEntry, Settings, plain, opening, events_of}
+use Rattle.fca_model.specs.Exploration.{State, SetEntry, Settings, opening, events_of}
 use Rattle.fca_model.proofs.CourseLemmas.{run_settings}
-use Rattle.expert_wire.specs.Replies.{transcript, numbered_rule}
+use Rattle.expert_wire.specs.Replies.{numbered_rule}
 use Rattle.expert_wire.specs.Texts.{line_end}
+use Rattle.expert_scripts.specs.Transcripts.{transcript}
 use Rattle.basis_report.specs.Reports.{counted}
 use Rattle.std.specs.List.{flat_map, enumerate_from}
 use Rattle.basis_report.specs.Explorations.{recorded_section, accepted_section, open_section, basis_section, sections, state_of_text, explore_text}
 
-pub sections-plain : (attributes : List Text) (H : List SetEntry) (s : State) → s.settings ≡ plain
+pub sections-known : (attributes : List Text) (H : List SetEntry) (s : State) (S : List Rule) → s.settings.known ≡ S
     → sections attributes H s
-    ≡ recorded_section H ++ (accepted_section attributes 0 s.accepted ++ (open_section attributes (open_questions [] s.context s.accepted) ++ basis_section attributes s.accepted (open_questions [] s.context s.accepted)))
-sections-plain attributes H s e = ap (λ (settings : Settings). recorded_section H ++ (accepted_section attributes (length settings.known) s.accepted ++ (open_section attributes (open_questions settings.known s.context s.accepted) ++ basis_section attributes s.accepted (open_questions settings.known s.context s.accepted)))) e
+    ≡ recorded_section H ++ (accepted_section attributes (length S) s.accepted ++ (open_section attributes (open_questions S s.context s.accepted) ++ basis_section attributes s.accepted (open_questions S s.context s.accepted)))
+sections-known attributes H s S e =
+    ap (λ K. recorded_section H ++ (accepted_section attributes (length K) s.accepted ++ (open_section attributes (open_questions K s.context s.accepted) ++ basis_section attributes s.accepted (open_questions K s.context s.accepted)))) e
 
 -- the head of the accepted implications, before any of them
 pub accepted_section-begun : (attributes : List Text) (k : ℕ) (acc : List Rule) (before after : Text) → after ≡ before ++ counted (codes "# accepted ") (length acc)
@@ -33,23 +35,24 @@ five_parts d0 d1 d2 d3 d4 d5 a b c d e e0 e1 e2 e3 e4 e5 =
     all ∙ simp append_assoc
 
 -- the parts that are written, where k rules are known
-abbrev written : NamedContext → ℕ → List SetEntry → List SetEntry → List Rule → List Rule → List Rule → List Rule → Text
-written T k J J' A Q A' Q' = transcript T.attributes J ++ (recorded_section J' ++ (accepted_section T.attributes k A ++ (open_section T.attributes Q ++ basis_section T.attributes A' Q')))
+abbrev written : NamedContext → Settings → ℕ → List SetEntry → List SetEntry → List Rule → List Rule → List Rule → List Rule → Text
+written T G k J J' A Q A' Q' = transcript T.attributes G J ++ (recorded_section J' ++ (accepted_section T.attributes k A ++ (open_section T.attributes Q ++ basis_section T.attributes A' Q')))
 
 -- the questions open after the history, beside what was known
 abbrev open_after : NamedContext → Settings → List SetEntry → List Rule
 open_after t settings H = open_questions settings.known (state_of_text t settings H).context (state_of_text t settings H).accepted
 
 pub explore_text-parts : (t : NamedContext) (settings : Settings) (H : List SetEntry)
-    → (T : NamedContext) → T ≡ t → (S : List Rule) → S ≡ settings.known → (J : List SetEntry) → J ≡ H → (J' : List SetEntry) → J' ≡ H
+    → (T : NamedContext) → T ≡ t → (G : Settings) → G ≡ settings → (S : List Rule) → S ≡ settings.known → (J : List SetEntry) → J ≡ H → (J' : List SetEntry) → J' ≡ H
     → (A : List Rule) → A ≡ (state_of_text t settings H).accepted → (Q : List Rule) → Q ≡ open_questions settings.known (state_of_text t settings H).context (state_of_text t settings H).accepted
     → (A' : List Rule) → A' ≡ (state_of_text t settings H).accepted → (Q' : List Rule) → Q' ≡ open_questions settings.known (state_of_text t settings H).context (state_of_text t settings H).accepted
-    → transcript T.attributes J ++ (recorded_section J' ++ (accepted_section T.attributes (length S) A ++ (open_section T.attributes Q ++ basis_section T.attributes A' Q'))) ≡ explore_text t settings H
+    → transcript T.attributes G J ++ (recorded_section J' ++ (accepted_section T.attributes (length S) A ++ (open_section T.attributes Q ++ basis_section T.attributes A' Q'))) ≡ explore_text t settings H
 unfolding explore_text
-explore_text-parts t settings H T eT S eS J eJ J' eJ' A eA Q eQ A' eA' Q' eQ' =
+explore_text-parts t settings H T eT G eG S eS J eJ J' eJ' A eA Q eQ A' eA' Q' eQ' =
     let s = state_of_text t settings H in
     let k = length settings.known in
     let open_ = open_after t settings H in
-    ap (λ x. written x (length S) J J' A Q A' Q') eT ∙ ap (λ (x : List Rule). written t (length x) J J' A Q A' Q') eS ∙ ap (λ x. written t k x J' A Q A' Q') eJ ∙ ap (λ x. written t k H x A Q A' Q') eJ'
-    ∙ ap (λ x. written t k H H x Q A' Q') eA ∙ ap (λ x. written t k H H s.accepted x A' Q') eQ ∙ ap (λ x. written t k H H s.accepted open_ x Q') eA' ∙ ap (λ x. written t k H H s.accepted open_ s.accepted x) eQ'
-    ∙ ap (λ (S : Settings). written t (length S.known) H H s.accepted (open_questions S.known s.context s.accepted) s.accepted (open_questions S.known s.context s.accepted)) (sym (run_settings (opening t.context t.objects settings) (events_of H)))
+    ap (λ x. written x G (length S) J J' A Q A' Q') eT ∙ ap (λ x. written t x (length S) J J' A Q A' Q') eG ∙ ap (λ (x : List Rule). written t settings (length x) J J' A Q A' Q') eS
+    ∙ ap (λ x. written t settings k x J' A Q A' Q') eJ ∙ ap (λ x. written t settings k H x A Q A' Q') eJ'
+    ∙ ap (λ x. written t settings k H H x Q A' Q') eA ∙ ap (λ x. written t settings k H H s.accepted x A' Q') eQ ∙ ap (λ x. written t settings k H H s.accepted open_ x Q') eA' ∙ ap (λ x. written t settings k H H s.accepted open_ s.accepted x) eQ'
+    ∙ ap (λ (S : Settings). written t settings (length S.known) H H s.accepted (open_questions S.known s.context s.accepted) s.accepted (open_questions S.known s.context s.accepted)) (sym (run_settings (opening t.context t.objects settings) (events_of H)))

@@ -1,4 +1,4 @@
--- The basis at the end of a text is the basis of all rows, from scratch. What is listed are the accepted implications in the lectic order of their
+-- The basis at the end of a text is the basis of all rows beside what is known, from scratch. What is listed are the accepted implications in the lectic order of their
 -- premises: a tree takes them one by one, each new premise comes besides those that are there and keeps the order. Where no question is open, a list with the
 -- members of what was accepted whose premises are in order is the basis.
 use Rattle.std.proofs.Common.{◌≡◌, Bool, true, false, not, ◌&&◌, ◌||◌, List, [], ◌∷◌, ◌++◌, map, fold, length, refl, sym, ap, ap₂, ◌∙◌, subst, Ordering, Less, Equal, Greater}
@@ -12,12 +12,12 @@ use Rattle.fca_model.specs.Sets.{Set, same, lectic_cmp, increasing}
 use Rattle.fca_model.specs.SetLaws.{lectic_total}
 use Rattle.fca_model.specs.Context.{Context}
 use Rattle.fca_model.specs.Tables.{Text, NamedContext}
-use Rattle.fca_model.specs.Implications.{Rule, rule, premises, respects_all}
-use Rattle.fca_model.specs.Pseudo.{basis}
+use Rattle.fca_model.specs.Implications.{Rule, rule, premises}
+use Rattle.fca_model.specs.Pseudo.{basis_known}
 use Rattle.fca_model.specs.Questions.{has_premise, open_questions}
-use Rattle.fca_model.specs.Exploration.{State, Settings, SetEntry, IsLegal, plain, opening, open_in, state_after, events_of}
-use Rattle.fca_model.specs.Invariant.{IsAccepted, distinct_premises}
-use Rattle.fca_model.proofs.ListLemmas.{list_all_from, list_all-mono, and_true, and_assoc}
+use Rattle.fca_model.specs.Exploration.{State, Settings, SetEntry, IsLegal, opening, open_in, state_after, events_of}
+use Rattle.fca_model.specs.Invariant.{IsAccepted, distinct_premises, rows_respect}
+use Rattle.fca_model.proofs.ListLemmas.{list_all-mono, and_true, and_assoc}
 use Rattle.fca_model.proofs.SetLemmas.{lectic_equal, same-true, same_refl}
 use Rattle.fca_model.proofs.DoneLemmas.{accepted_sorted, accepted_length}
 use Rattle.fca_model.proofs.RunLemmas.{legal_valid}
@@ -182,24 +182,25 @@ none_there (i ∷ J) = none_there J
 
 -- ---- the section
 
--- where no question is open, the accepted implications in order are the basis
-in_lectic_order-basis : (K : Context) (acc : List Rule) → IsAccepted [] K acc → open_questions [] K acc ≡ [] → in_lectic_order acc ≡ basis K
-in_lectic_order-basis K acc h done = accepted_sorted [] K acc h done (in_lectic_order acc) (λ p. members-with_all p [] acc h.distinct (none_there acc))
+-- where no question is open, the accepted implications in order are the basis beside what is known
+in_lectic_order-basis : (S : List Rule) (K : Context) (acc : List Rule) → IsAccepted S K acc → open_questions S K acc ≡ [] → in_lectic_order acc ≡ basis_known S K
+in_lectic_order-basis S K acc h done = accepted_sorted S K acc h done (in_lectic_order acc) (λ p. members-with_all p [] acc h.distinct (none_there acc))
     (ap increasing (premises-ruled (with_all [] acc)) ∙ in_order-with_all [] acc refl)
 
-pub basis_section-basis : (attributes : List Text) (K : Context) (acc : List Rule) → IsAccepted [] K acc → open_questions [] K acc ≡ []
-    → basis_section attributes acc [] ≡ counted (codes "# basis ") (length (basis K)) ++ arrow_lines (codes "# ") attributes (basis K)
-basis_section-basis attributes K acc h done =
-    ap₂ (λ n J. counted (codes "# basis ") n ++ arrow_lines (codes "# ") attributes J) (accepted_length [] K acc h done) (in_lectic_order-basis K acc h done)
+pub basis_section-basis : (attributes : List Text) (S : List Rule) (K : Context) (acc : List Rule) → IsAccepted S K acc → open_questions S K acc ≡ []
+    → basis_section attributes acc [] ≡ counted (codes "# basis ") (length (basis_known S K)) ++ arrow_lines (codes "# ") attributes (basis_known S K)
+basis_section-basis attributes S K acc h done =
+    ap₂ (λ n J. counted (codes "# basis ") n ++ arrow_lines (codes "# ") attributes J) (accepted_length S K acc h done) (in_lectic_order-basis S K acc h done)
 
 -- a legal history that leaves no question open
-pub finished_basis : (t : NamedContext) (H : List SetEntry) → IsLegal (opening t.context t.objects plain) H → open_in (state_of_text t plain H) ≡ []
-    → basis_section t.attributes (state_of_text t plain H).accepted []
-    ≡ counted (codes "# basis ") (length (basis (state_of_text t plain H).context)) ++ arrow_lines (codes "# ") t.attributes (basis (state_of_text t plain H).context)
-finished_basis t H legal done =
-    let start : State = opening t.context t.objects plain in
+pub finished_basis : (t : NamedContext) (settings : Settings) (H : List SetEntry) → rows_respect settings.known t.context ≡ true → IsLegal (opening t.context t.objects settings) H
+    → open_in (state_of_text t settings H) ≡ [] → basis_section t.attributes (state_of_text t settings H).accepted []
+    ≡ counted (codes "# basis ") (length (basis_known settings.known (state_of_text t settings H).context))
+    ++ arrow_lines (codes "# ") t.attributes (basis_known settings.known (state_of_text t settings H).context)
+finished_basis t settings H respect legal done =
+    let start : State = opening t.context t.objects settings in
     let s : State = state_after start (events_of H) in
-    let known : s.settings.known ≡ [] = ap (λ (g : Settings). g.known) (run_settings start (events_of H)) in
-    let valid = legal_valid start H (opening_valid t.context t.objects plain (list_all_from (respects_all []) (λ row. refl) t.context.rows)) legal in
+    let known : s.settings.known ≡ settings.known = ap (λ (g : Settings). g.known) (run_settings start (events_of H)) in
+    let valid = legal_valid start H (opening_valid t.context t.objects settings respect) legal in
     let accepted = subst (λ S. IsAccepted S s.context s.accepted) known valid.accepted in
-    basis_section-basis t.attributes s.context s.accepted accepted (ap (λ S. open_questions S s.context s.accepted) (sym known) ∙ done)
+    basis_section-basis t.attributes settings.known s.context s.accepted accepted (ap (λ S. open_questions S s.context s.accepted) (sym known) ∙ done)

@@ -1,6 +1,6 @@
--- The text of an exploration spells its history: each line of the sections begins with `#` and is skipped, so a script reads just the
--- events of the transcript, and a legal history is the journal of its events.
-use Rattle.std.proofs.Common.{◌≡◌, ℕ, ◌+◌, true, false, List, [], ◌∷◌, ◌++◌, length, filter, Ok, refl, ap, ◌∙◌, subst, append_assoc}
+-- The text of an exploration spells its settings and its history: each line of the sections begins with `#` and is skipped, so a script reads just the
+-- settings and the events of the transcript, and a legal history is the journal of its events.
+use Rattle.std.proofs.Common.{◌≡◌, ℕ, ◌+◌, true, false, List, [], ◌∷◌, ◌++◌, length, filter, Ok, refl, ap, ◌∙◌, subst, append_assoc, append-nil}
 use Rattle.std.specs.Prelude.{codes, decimal, is_none}
 use Rattle.std.specs.List.{list_any, list_all, flat_map, enumerate_from}
 use Rattle.std.proofs.lemmas.Bool.{and_parts}
@@ -13,11 +13,13 @@ use Rattle.fca_model.specs.declared.Reply.TheVariants.{Taken}
 use Rattle.expert_wire.specs.Texts.{line_end, ordinal, pattern, arrow_text, full_text}
 use Rattle.expert_wire.specs.Replies.{numbered_rule}
 use Rattle.expert_wire.specs.Words.{is_name}
-use Rattle.expert_wire.specs.Scripts.{EachCanBeSaid, IsNamed, script_form}
 use Rattle.expert_wire.proofs.ReadLemmas.{pattern_no_break}
-use Rattle.expert_wire.proofs.SkipLemmas.{Skips, Skips-nil, Skips-append, Skips-comment, Skips-flat_map, no_break-append, no_break-decimal, no_break-name, no_break-arrow, no_break-full, no_break-rule, script_form-transcript}
+use Rattle.expert_wire.proofs.SkipLemmas.{Skips, Skips-nil, Skips-append, Skips-comment, Skips-flat_map, no_break-append, no_break-decimal, no_break-name, no_break-arrow, no_break-full, no_break-rule}
+use Rattle.expert_scripts.specs.Scripts.{EachCanBeSaid, IsNamed, script_form}
+use Rattle.expert_scripts.specs.Transcripts.{AreNames, CanBeTold, transcript}
+use Rattle.expert_scripts.proofs.TranscriptLemmas.{are_names, script_form-transcript}
 use Rattle.basis_report.specs.Reports.{counted, arrow_line, arrow_lines}
-use Rattle.basis_report.specs.Explorations.{is_recorded, recorded_line, recorded_section, accepted_section, open_section, in_lectic_order, basis_section, sections, state_of_text, explore_text, events_read, spelled, EachNamed}
+use Rattle.basis_report.specs.Explorations.{is_recorded, recorded_line, recorded_section, accepted_section, open_section, in_lectic_order, basis_section, sections, state_of_text, explore_text, said_in, Spells, EachNamed}
 
 -- ---- each section is skipped
 
@@ -87,14 +89,23 @@ each_said n (entry ∷ H) experts widths named =
     let w = and_parts (has_width n entry.event) (list_all (λ x. has_width n x.event) H) widths in
     (record { expert = e.0; wide = w.0; named = named.0 }, each_said n H e.1 w.1 named.1)
 
-pub script_form-explore_text : (t : NamedContext) (settings : Settings) (H : List SetEntry) → list_all is_name t.attributes ≡ true → EachNamed H → IsLegal (opening t.context t.objects settings) H
-    → script_form (explore_text t settings H) t.context.width ≡ Ok (events_of H)
-unfolding explore_text
-script_form-explore_text t settings H names named legal =
-    script_form-transcript t.context.width t.attributes H (sections t.attributes H (state_of_text t settings H)) names (each_said t.context.width H legal.experts legal.widths named)
-    (Skips-sections t.attributes H (state_of_text t settings H) names named)
+-- ---- the whole
 
-pub spelled-explore_text : (t : NamedContext) (settings : Settings) (H : List SetEntry) → list_all is_name t.attributes ≡ true → EachNamed H → IsLegal (opening t.context t.objects settings) H
-    → spelled t settings (explore_text t settings H) ≡ H
-spelled-explore_text t settings H names named legal =
-    ap (λ r. journal_of (opening t.context t.objects settings) (events_read r)) (script_form-explore_text t settings H names named legal) ∙ legal.replayed
+-- whatever is skipped may stand behind the text
+pub spelled-more : (t : NamedContext) (settings : Settings) (H : List SetEntry) (more : Text) → AreNames t.attributes → CanBeTold t.context.width settings → EachNamed H
+    → IsLegal (opening t.context t.objects settings) H → Skips more → Spells t settings H (explore_text t settings H ++ more)
+unfolding explore_text
+spelled-more t settings H more names can named legal skips =
+    let n = t.context.width in
+    let found = sections t.attributes H (state_of_text t settings H) in
+    let behind = Skips-append found more (Skips-sections t.attributes H (state_of_text t settings H) (are_names t.attributes names) named) skips in
+    let said = ap (λ text. script_form text n) (append_assoc (transcript t.attributes settings H) found more)
+    ∙ script_form-transcript n t.attributes settings H (found ++ more) names can (each_said n H legal.experts legal.widths named) behind in record {
+      history = ap (λ r. journal_of (opening t.context t.objects (said_in r).settings) (said_in r).events) said ∙ legal.replayed;
+      settings = ap (λ r. (said_in r).settings) said;
+    }
+
+pub spelled-explore_text : (t : NamedContext) (settings : Settings) (H : List SetEntry) → AreNames t.attributes → CanBeTold t.context.width settings → EachNamed H
+    → IsLegal (opening t.context t.objects settings) H → Spells t settings H (explore_text t settings H)
+spelled-explore_text t settings H names can named legal =
+    subst (Spells t settings H) (append-nil (explore_text t settings H)) (spelled-more t settings H [] names can named legal Skips-nil)

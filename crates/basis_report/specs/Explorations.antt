@@ -1,17 +1,18 @@
 -- The text of an exploration: its transcript, and what came of it.
-use Rattle.std.specs.Prelude.{◌≡◌, ⊤, ℕ, Result, Ok, Err, Bool, true, false, List, [], ◌∷◌, ◌++◌, map, fold, filter, length, codes}
+use Rattle.std.specs.Prelude.{◌≡◌, ⊤, ℕ, Result, Ok, Err, None, Bool, true, false, List, [], ◌∷◌, ◌++◌, map, fold, filter, length, codes}
 use Rattle.std.specs.List.{flat_map, enumerate_from}
 use Rattle.std.specs.BTreeMap.{insert_entry}
 use Rattle.fca_model.specs.Sets.{Set, lectic_cmp}
 use Rattle.fca_model.specs.Tables.{Text, NamedContext}
 use Rattle.fca_model.specs.Implications.{Rule, rule}
-use Rattle.fca_model.specs.Exploration.{State, Settings, SetEvent, SetReply, SetEntry, opening, open_in, state_after, events_of, journal_of}
+use Rattle.fca_model.specs.Exploration.{State, Settings, SetEvent, SetReply, SetEntry, plain, opening, open_in, state_after, events_of, journal_of}
 use Rattle.fca_model.specs.declared.Event.TheVariants.{Row}
 use Rattle.fca_model.specs.declared.Reply.TheVariants.{Taken}
-use Rattle.expert_wire.specs.declared.scripts.ScriptFault.{ScriptFault}
-use Rattle.expert_wire.specs.Scripts.{IsNamed, script_form}
 use Rattle.expert_wire.specs.Texts.{line_end, ordinal, pattern, full_text}
-use Rattle.expert_wire.specs.Replies.{transcript, numbered_rule}
+use Rattle.expert_wire.specs.Replies.{numbered_rule}
+use Rattle.expert_scripts.specs.declared.fault.ScriptFault.{ScriptFault}
+use Rattle.expert_scripts.specs.Scripts.{Said, IsNamed, script_form}
+use Rattle.expert_scripts.specs.Transcripts.{transcript}
 use Rattle.basis_report.specs.Reports.{counted, arrow_lines}
 use Rattle.basis_report.specs.Comments.{comments}
 
@@ -64,26 +65,39 @@ sections attributes H s =
 abbrev pub state_of_text : NamedContext → Settings → List SetEntry → State
 state_of_text t settings H = state_after (opening t.context t.objects settings) (events_of H)
 
--- the text of a history that began with the table under plain settings
+-- the text of a history that began with the table under these settings
 unfoldable pub explore_text : NamedContext → Settings → List SetEntry → Text
-explore_text t settings H = transcript t.attributes H ++ sections t.attributes H (state_of_text t settings H)
+explore_text t settings H = transcript t.attributes settings H ++ sections t.attributes H (state_of_text t settings H)
 
 -- ---- the history that a text spells
 
--- the events of a script, and none where it has a fault
-abbrev pub events_read : Result (List SetEvent) ScriptFault → List SetEvent
-events_read (Ok events) = events
-events_read (Err fault) = []
+-- what a script says, and plain settings alone where it has a fault
+abbrev pub said_in : Result Said ScriptFault → Said
+said_in (Ok said) = said
+said_in (Err fault) = record { settings = plain; events = []; second = None }
 
--- the journal of the events that a text says, from the table under these settings
-abbrev pub spelled : NamedContext → Settings → Text → List SetEntry
-spelled t settings text = journal_of (opening t.context t.objects settings) (events_read (script_form text t.context.width))
+-- what a text says of the table
+abbrev pub said_by : NamedContext → Text → Said
+said_by t text = said_in (script_form text t.context.width)
+
+-- the settings that a text spells
+abbrev pub spelled_settings : NamedContext → Text → Settings
+spelled_settings t text = (said_by t text).settings
+
+-- the journal of the events that a text says, from the table under the settings that it spells
+abbrev pub spelled : NamedContext → Text → List SetEntry
+spelled t text = journal_of (opening t.context t.objects (spelled_settings t text)) (said_by t text).events
 
 -- the names of the rows of a history are names
 abbrev pub EachNamed : List SetEntry → Type 0
 EachNamed [] = ⊤
 EachNamed (entry ∷ H) = IsNamed entry.event × EachNamed H
 
--- the text of the history spells it, with these lines behind it
+-- the text spells the settings and the history
+pub record Spells (t : NamedContext) (s : Settings) (H : List SetEntry) (text : Text) : Type 0 where
+  pub history : spelled t text ≡ H
+  pub settings : spelled_settings t text ≡ s
+
+-- the text of the history spells both, with these lines behind it
 abbrev pub SpellsBefore : NamedContext → Settings → List SetEntry → List Text → Type 0
-SpellsBefore t settings H lines = spelled t settings (explore_text t settings H ++ comments lines) ≡ H
+SpellsBefore t s H lines = Spells t s H (explore_text t s H ++ comments lines)

@@ -3,6 +3,7 @@
 ghost use Rattle.std.specs.Prelude.{◌≡◌, ◌++◌, List, true, length, filter, IfOk, OnOk};
 ghost use Rattle.std.specs.List.{flat_map};
 ghost use Rattle.fca_model.specs.Tables.{Text};
+ghost use Rattle.expert_scripts.specs.Transcripts.{CanBeTold};
 ghost use Rattle.basis_report.specs.Comments.{are_lines};
 ghost use Rattle.basis_report.specs.Explorations.{SpellsBefore, is_recorded, recorded_line, recorded_section, accepted_section, open_section, by_premise, in_lectic_order, basis_section, explore_text};
 
@@ -11,23 +12,25 @@ use crate::implications::write_arrows;
 use crate::names::{look_at_attributes, look_at_rows};
 use attr_bits::Attrs;
 use context_table::Table;
-use expert_wire::{Draft, Part, write_transcript};
+use expert_scripts::write_transcript;
+use expert_wire::{Draft, Part};
 use explore_state::{Entry, Event, Explore, Implication, Question, Reply};
 use fca_model::Memory;
 use std::alloc::Global;
 use std::collections::BTreeMap;
 
 /// The transcript of the exploration, and then what came of it. Replayed on the same table the text gives itself, whatever lines that
-/// begin with `#` stand behind it.
+/// begin with `#` stand behind it, where its settings are those that a script can tell.
 pub fn explore_text(alloc: Global, explore: &Explore) -> Result<Vec<u8>, Memory>
     ensures text { IfOk result (λ v. v.items ≡ explore_text explore.now.opening.table explore.now.opening.settings explore.now.journal) }
-    ensures reads_back { OnOk result ((lines : List Text) → are_lines lines ≡ true → SpellsBefore explore.now.opening.table explore.now.opening.settings explore.now.journal lines) }
+    ensures reads_back { OnOk result ((lines : List Text) → are_lines lines ≡ true
+        → CanBeTold explore.now.opening.table.context.width explore.now.opening.settings → SpellsBefore explore.now.opening.table explore.now.opening.settings explore.now.journal lines) }
 {
     let table = explore.table();
     look_at_attributes(table);
     look_at_rows(explore.journal());
     let mut draft = Draft::new(alloc);
-    write_transcript(&mut draft, table, explore.journal())?;
+    write_transcript(&mut draft, table, explore.settings(), explore.journal())?;
     write_recorded(&mut draft, table, explore.journal())?;
     write_accepted(&mut draft, table, explore.known(), explore.accepted())?;
     write_open(&mut draft, table, explore.open_questions())?;

@@ -3,9 +3,11 @@
 ghost use Rattle.std.specs.Prelude.{◌≡◌, ◌++◌, ℕ, [], List, true, false, Some, length, codes};
 ghost use Rattle.std.specs.List.{list_all};
 ghost use Rattle.fca_model.specs.Tables.{Text, NamedContext};
-ghost use Rattle.fca_model.specs.Exploration.{Settings, SetEntry, IsLegal, opening, plain, open_in};
+ghost use Rattle.fca_model.specs.Exploration.{Settings, SetEntry, IsLegal, opening, open_in};
 ghost use Rattle.expert_wire.specs.Words.{is_name};
-ghost use Rattle.fca_model.specs.Pseudo.{basis};
+ghost use Rattle.expert_scripts.specs.Transcripts.{AreNames, CanBeTold};
+ghost use Rattle.fca_model.specs.Pseudo.{basis, basis_known};
+ghost use Rattle.fca_model.specs.Invariant.{rows_respect};
 ghost use Rattle.fca_model.specs.Sets.{Set};
 ghost use Rattle.fca_model.specs.Implications.{Rule, rule, holds};
 ghost use Rattle.canonical_basis.specs.Derivations.{is_sound};
@@ -17,30 +19,31 @@ ghost use Rattle.lectic_concepts.specs.declared.Concept.{Concept};
 ghost use Rattle.basis_report.specs.Json.{concepts_json, basis_json, concepts_written, basis_written};
 ghost use Rattle.basis_report.specs.Sessions.{sessions_text};
 ghost use Rattle.basis_report.specs.Verdicts.{first_refuting, held_text, refuted_text, follows_text};
-ghost use Rattle.basis_report.specs.Explorations.{EachNamed, explore_text, spelled, state_of_text, basis_section};
+ghost use Rattle.basis_report.specs.Explorations.{EachNamed, explore_text, Spells, SpellsBefore, state_of_text, basis_section};
 
-/// The text of an exploration spells its history.
+/// The text of an exploration spells its settings and its history.
 pub fn exploration_reads_back()
-    ensures { (t : NamedContext) (settings : Settings) (H : List SetEntry) → list_all is_name t.attributes ≡ true → EachNamed H
-        → IsLegal (opening t.context t.objects settings) H → spelled t settings (explore_text t settings H) ≡ H }
+    ensures { (t : NamedContext) (settings : Settings) (H : List SetEntry) → AreNames t.attributes → CanBeTold t.context.width settings → EachNamed H
+        → IsLegal (opening t.context t.objects settings) H → Spells t settings H (explore_text t settings H) }
 {}
 
 /// Lines that begin with `#`, as those of conflicts and of sessions, change nothing of what the text of an exploration before them spells.
 pub fn comments_change_nothing()
-    ensures any { (t : NamedContext) (settings : Settings) (H : List SetEntry) (lines : List Text) → list_all is_name t.attributes ≡ true → EachNamed H
-        → IsLegal (opening t.context t.objects settings) H → are_lines lines ≡ true → spelled t settings (explore_text t settings H ++ comments lines) ≡ H }
-    ensures conflicts { (t : NamedContext) (settings : Settings) (H : List SetEntry) (accepted : List Rule) (oracles : List (NamedContext × Conflicts)) → list_all is_name t.attributes ≡ true
-        → EachNamed H → IsLegal (opening t.context t.objects settings) H → list_all (λ o. list_all is_name o.0.objects) oracles ≡ true
-        → spelled t settings (explore_text t settings H ++ conflicts_text t.attributes accepted oracles) ≡ H }
-    ensures sessions { (t : NamedContext) (settings : Settings) (H : List SetEntry) (endings : List Text) → list_all is_name t.attributes ≡ true → EachNamed H
-        → IsLegal (opening t.context t.objects settings) H → are_lines endings ≡ true → spelled t settings (explore_text t settings H ++ sessions_text endings) ≡ H }
+    ensures any { (t : NamedContext) (settings : Settings) (H : List SetEntry) (lines : List Text) → AreNames t.attributes → CanBeTold t.context.width settings → EachNamed H
+        → IsLegal (opening t.context t.objects settings) H → are_lines lines ≡ true → SpellsBefore t settings H lines }
+    ensures conflicts { (t : NamedContext) (settings : Settings) (H : List SetEntry) (accepted : List Rule) (oracles : List (NamedContext × Conflicts)) → AreNames t.attributes
+        → CanBeTold t.context.width settings → EachNamed H → IsLegal (opening t.context t.objects settings) H → list_all (λ o. list_all is_name o.0.objects) oracles ≡ true
+        → Spells t settings H (explore_text t settings H ++ conflicts_text t.attributes accepted oracles) }
+    ensures sessions { (t : NamedContext) (settings : Settings) (H : List SetEntry) (endings : List Text) → AreNames t.attributes → CanBeTold t.context.width settings → EachNamed H
+        → IsLegal (opening t.context t.objects settings) H → are_lines endings ≡ true → Spells t settings H (explore_text t settings H ++ sessions_text endings) }
 {}
 
-/// Where no question is open, the text of an exploration ends with the basis of all rows, from scratch.
+/// Where no question is open, the text of an exploration ends with the basis of all rows beside what is known, from scratch.
 pub fn finished_ends_with_basis()
-    ensures { (t : NamedContext) (H : List SetEntry) → IsLegal (opening t.context t.objects plain) H → open_in (state_of_text t plain H) ≡ []
-        → basis_section t.attributes (state_of_text t plain H).accepted []
-        ≡ counted (codes "# basis ") (length (basis (state_of_text t plain H).context)) ++ arrow_lines (codes "# ") t.attributes (basis (state_of_text t plain H).context) }
+    ensures { (t : NamedContext) (settings : Settings) (H : List SetEntry) → rows_respect settings.known t.context ≡ true → IsLegal (opening t.context t.objects settings) H
+        → open_in (state_of_text t settings H) ≡ [] → basis_section t.attributes (state_of_text t settings H).accepted []
+        ≡ counted (codes "# basis ") (length (basis_known settings.known (state_of_text t settings H).context))
+        ++ arrow_lines (codes "# ") t.attributes (basis_known settings.known (state_of_text t settings H).context) }
 {}
 
 /// The verdict on an implication is right: where it holds, a sound derivation from the basis is told, and else the first row that refutes it.

@@ -3,7 +3,8 @@
 ghost use Rattle.std.specs.Prelude.{◌≡◌, true};
 ghost use Rattle.std.specs.List.{list_all};
 ghost use Rattle.expert_wire.specs.Words.{is_name};
-ghost use Rattle.expert_wire.specs.Scripts.{IsNamed};
+ghost use Rattle.expert_scripts.specs.Scripts.{IsNamed};
+ghost use Rattle.expert_scripts.specs.Transcripts.{AreNames};
 ghost use Rattle.basis_report.specs.Explorations.{EachNamed};
 
 use context_table::Table;
@@ -12,7 +13,7 @@ use oracle_expert::Oracle;
 
 /// The names of the attributes.
 pub(crate) fn look_at_attributes(table: &Table)
-    ensures { list_all is_name table.now.attributes ≡ true }
+    ensures { AreNames table.now.attributes }
 {
     for attribute in 0..table.rows().width() {
         let _name = table.attribute_name(attribute).bytes();

@@ -1,16 +1,23 @@
 -- What is promised of an exploration follows from the laws of its steps: each front of a legal history is one too, and so each
 -- reply is the one at its moment.
-use Rattle.std.proofs.Common.{◌≡◌, ◌↔◌, ◌++◌, ◌∷◌, [], ℕ, List, true, refl, sym, ◌∙◌, subst, append_assoc}
+use Rattle.std.proofs.Common.{◌≡◌, ◌↔◌, ◌++◌, ◌∷◌, [], ℕ, List, length, eqb, true, refl, sym, ◌∙◌, subst, append_assoc}
+use Rattle.std.proofs.lemmas.Bool.{and_parts}
+use Rattle.std.specs.List.{list_all}
 use Rattle.fca_model.specs.Tables.{NamedContext}
-use Rattle.fca_model.specs.Exploration.{State, SetReply, SetEntry, is_expert, reply_to, open_in, state_after, events_of, IsLegal}
+use Rattle.fca_model.specs.Exploration.{State, SetReply, SetEntry, Settings, is_expert, open_in, state_after, events_of, IsLegal}
 use Rattle.fca_model.specs.declared.Event.TheVariants.{Draw}
 use Rattle.fca_model.specs.declared.Reply.TheVariants.{Done}
-use Rattle.fca_model.specs.Implications.{respects_all}
-use Rattle.fca_model.proofs.ListLemmas.{list_all_from}
+use Rattle.fca_model.specs.Context.{Context}
+use Rattle.fca_model.specs.Implications.{Rule, holds}
+use Rattle.fca_model.specs.Invariant.{rows_respect}
+use Rattle.fca_model.proofs.ListLemmas.{list_all-mono}
+use Rattle.fca_model.proofs.ClosureLemmas.{known_hold}
 use Rattle.fca_model.proofs.RunLemmas.{legal_front, legal_reply}
-use Rattle.fca_model.proofs.CourseLemmas.{draw_done}
+use Rattle.fca_model.proofs.CourseLemmas.{draw_done, run_width}
+use Rattle.implication_closure.specs.Closing.{has_width, HaveWidth}
 use Rattle.explore_state.specs.History.{Opening, opening_state}
 use Rattle.explore_state.specs.Kept.{IsKept}
+use Rattle.explore_state.proofs.KeptLemmas.{kept_known, kept_valid}
 use Rattle.explore_state.proofs.CourseLemmas.{basis_is}
 use Rattle.command_io.specs.Explorations.{opening_of, IsExplored}
 
@@ -23,20 +30,31 @@ done-then s H before after e reply legal split =
     let law = draw_done (state_after s (events_of before)) e in
     (λ done. law.0 (sym answer ∙ done), λ none. answer ∙ law.1 none)
 
-pub legal-course : (table : NamedContext) (experts : ℕ) (H : List SetEntry) → is_expert experts ≡ true → IsLegal (opening_state (opening_of table experts)) H
-    → IsExplored (record { opening = opening_of table experts; journal = H })
-legal-course table experts H expert legal =
-    let o : Opening = opening_of table experts in
+-- what every row respects, of sets as wide as the rows, holds
+known_holds : (S : List Rule) (K : Context) → HaveWidth K.width S → rows_respect S K ≡ true → list_all (holds K) S ≡ true
+known_holds S K wide respecting =
+    known_hold S K (list_all-mono (has_width K.width) (λ i. eqb (length i.conclusion) K.width) (λ i w. (and_parts (eqb (length i.premise) K.width) (eqb (length i.conclusion) K.width) w).1) S wide) respecting
+
+pub legal-course : (table : NamedContext) (experts : ℕ) (settings : Settings) (H : List SetEntry) → is_expert experts ≡ true
+    → rows_respect settings.known table.context ≡ true → HaveWidth table.context.width settings.known
+    → IsLegal (opening_state (opening_of table experts settings)) H → IsExplored (record { opening = opening_of table experts settings; journal = H })
+legal-course table experts settings H expert respecting wide legal =
+    let o : Opening = opening_of table experts settings in
     let s : State = opening_state o in
     let now : State = state_after s (events_of H) in
     let kept : IsKept o H now.context now.accepted now.holds = record {
       shown = record { context = refl; accepted = refl; holds = refl };
       legal = legal;
       experts = expert;
-      known = list_all_from (respects_all []) (λ row. refl) table.context.rows;
+      known = respecting;
     } in
+    let Respect : List Rule → Type 0 = λ S. rows_respect S now.context ≡ true in
+    let Wide : ℕ → Type 0 = λ n. HaveWidth n settings.known in
+    let known : list_all (holds now.context) settings.known ≡ true =
+    known_holds settings.known now.context (subst Wide (sym (run_width s (events_of H))) wide)
+    (subst Respect (kept_known o H now.context now.accepted now.holds kept) (kept_valid o H now.context now.accepted now.holds kept).known) in
     record {
       legal = legal;
       done = λ before after e reply split. done-then s H before after e reply legal split;
-      basis = λ none. basis_is o H now.context now.accepted now.holds kept refl none;
+      basis = λ none. basis_is o H now.context now.accepted now.holds kept known none;
     }

@@ -1,6 +1,6 @@
 -- What err gains. A call that writes a line leaves err with the whole line, or with a front of it and one fault more; and the line
 -- is that of the stop, or the one for a fault of out or for turns that are spent, as the status says.
-use Rattle.std.proofs.Common.{◌≡◌, ◌≢◌, ◌⊎◌, ◌<◌, ◌++◌, ℕ, suc, List, length, drop, get_or, Bool, true, false, cond, Option, Result, Ok, Err, inl, inr, refl, sym, ap, subst, arith}
+use Rattle.std.proofs.Common.{◌≡◌, ◌≢◌, ◌<◌, ◌++◌, ℕ, suc, List, length, drop, get_or, Bool, true, false, cond, Option, Result, Ok, Err, inl, inr, refl, sym, ap, subst, arith}
 use Rattle.std.proofs.Math.Seq.{drop-cons}
 use Rattle.std.specs.List.{flat_map}
 use Rattle.std.specs.Prelude.{IfOk, IfErr, IsErrAnd}

@@ -1,4 +1,4 @@
-pub mod ScriptLemmas
 pub mod CourseLemmas
 pub mod ErrLemmas
 pub mod ReadingLemmas
+pub mod KnownLemmas

@@ -1,6 +1,6 @@
 -- One reading after the other: what may be read or refused behind a first reading.
-use Rattle.std.proofs.Common.{◌≡◌, subst}
-use Rattle.command_io.specs.Readings.{Reading, then, MayRead, MayRefuse}
+use Rattle.std.proofs.Common.{subst}
+use Rattle.command_io.specs.Readings.{Reading, then, MayRead, MayRefuse, IfRead}
 use Rattle.command_io.specs.Readings.Reading.{Untold, Missing, Refused, Read}
 
 pub refused_then : {X Y : Type 0} (r : Reading X) (next : X → Reading Y) → MayRefuse r → MayRefuse (then r next)
@@ -20,3 +20,10 @@ read_after Untold x next y here may = tt
 read_after Missing x next y here may = here
 read_after Refused x next y here may = here
 read_after {X = X} (Read z) x next y here may = let P : X → Type 0 = λ w. MayRead (next w) y in subst P here may
+
+-- what holds of what is read behind the first reading, where that is not refused
+pub if_read-after : {X Y : Type 0} (r : Reading X) (x : X) (next : X → Reading Y) (P : Y → Type 0) → MayRead r x → IfRead (next x) P → IfRead (then r next) P
+if_read-after Untold x next P here holds = tt
+if_read-after Missing x next P here holds = here
+if_read-after Refused x next P here holds = here
+if_read-after {X = X} (Read z) x next P here holds = let Q : X → Type 0 = λ w. IfRead (next w) P in subst Q here holds

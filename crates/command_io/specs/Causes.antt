@@ -10,7 +10,7 @@ use Rattle.csv_context.specs.Form.{csv_form}
 use Rattle.value_tables.specs.Values.{ValueTable}
 use Rattle.value_tables.specs.Form.{values_form}
 use Rattle.context_scaling.specs.PlanForm.{plan_form}
-use Rattle.expert_wire.specs.Scripts.{script_form}
+use Rattle.expert_scripts.specs.Scripts.{script_form}
 use Rattle.command_io.specs.Forms.{is_csv}
 use Rattle.command_io.specs.declared.stop.Origin.{Origin}
 use Rattle.command_io.specs.declared.stop.Origin.TheVariants.{Input}

@@ -5,7 +5,7 @@ use Rattle.fca_io.specs.declared.outside.Taken.{Taken}
 use Rattle.fca_io.specs.declared.outside.Taken.TheVariants as taken
 use Rattle.command_io.specs.Readings.{Reading, MayRefuse}
 use Rattle.command_io.specs.declared.stop.Stop.{Stop}
-use Rattle.command_io.specs.declared.stop.Stop.TheVariants.{NoCommand, TooLong, NoTable, NoCsv, BadValues, BadPlan, NoScript, UnknownAttribute, OtherAttributes, Fault, Listener, Memory}
+use Rattle.command_io.specs.declared.stop.Stop.TheVariants.{NoCommand, TooLong, NoTable, NoCsv, BadValues, BadPlan, NoKnown, RowBreaks, NoScript, UnknownAttribute, OtherAttributes, Fault, Listener, Memory}
 
 -- a text, and whether it leaves a question open
 pub record Output : Type 0 where
@@ -48,6 +48,8 @@ stop_status (NoTable origin fault) = 2
 stop_status (NoCsv origin fault) = 2
 stop_status (BadValues origin fault) = 2
 stop_status (BadPlan origin fault) = 2
+stop_status (NoKnown fault) = 2
+stop_status (RowBreaks origin row rule) = 2
 stop_status (NoScript fault) = 2
 stop_status UnknownAttribute = 2
 stop_status (OtherAttributes origin) = 2

@@ -2,7 +2,7 @@
 -- script, by the name of the file or `input`, and by the place in it where there is one.
 --
 -- A row that is too short, in line 9 of the file F: `fca: F: line 9: bad row`.
-use Rattle.std.specs.Prelude.{◌≡◌, ◌⊎◌, ℕ, decimal, codes, Option, None, Some, List, [], ◌∷◌, slice_get, unwrap_or}
+use Rattle.std.specs.Prelude.{◌≡◌, ◌⊎◌, ℕ, decimal, codes, Option, List, [], ◌∷◌, slice_get, unwrap_or}
 use Rattle.std.specs.List.{concat}
 use Rattle.std.specs.Io.KnownBytes.{Appends}
 use Rattle.fca_model.specs.Tables.{Text}
@@ -12,14 +12,16 @@ use Rattle.cxt_format.specs.declared.CxtFault.{CxtFault}
 use Rattle.cxt_format.specs.declared.CxtFault.TheVariants as cxt
 use Rattle.csv_context.specs.declared.CsvFault.{CsvFault}
 use Rattle.csv_context.specs.declared.CsvFault.TheVariants as csv
-use Rattle.expert_wire.specs.Texts.{line_end}
-use Rattle.expert_wire.specs.declared.scripts.ScriptFault.{ScriptFault}
-use Rattle.expert_wire.specs.declared.scripts.ScriptFault.TheVariants as script
+use Rattle.expert_wire.specs.Texts.{line_end, ordinal}
+use Rattle.expert_scripts.specs.declared.fault.ScriptFault.{ScriptFault}
+use Rattle.expert_scripts.specs.declared.fault.ScriptFault.TheVariants as script
+use Rattle.known_rules.specs.declared.fault.KnownFault.{KnownFault}
+use Rattle.known_rules.specs.declared.fault.KnownFault.TheVariants as rules
 use Rattle.command_io.specs.Endings.{stop_status, IsSilent}
 use Rattle.command_io.specs.declared.stop.Origin.{Origin}
-use Rattle.command_io.specs.declared.stop.Origin.TheVariants.{File, Later, Input}
+use Rattle.command_io.specs.declared.stop.Origin.TheVariants.{File, Known, Later, Input}
 use Rattle.command_io.specs.declared.stop.Stop.{Stop}
-use Rattle.command_io.specs.declared.stop.Stop.TheVariants.{NoCommand, TooLong, NoTable, NoCsv, BadValues, BadPlan, NoScript, UnknownAttribute, OtherAttributes, Fault, Listener, Memory}
+use Rattle.command_io.specs.declared.stop.Stop.TheVariants.{NoCommand, TooLong, NoTable, NoCsv, BadValues, BadPlan, NoKnown, RowBreaks, NoScript, UnknownAttribute, OtherAttributes, Fault, Listener, Memory}
 use Rattle.command_io.specs.declared.err_line.Place.{Place}
 use Rattle.command_io.specs.declared.err_line.Place.TheVariants.{Whole, Byte, Line, Record, Field}
 
@@ -37,6 +39,14 @@ numbered_line name kind number words = concat (codes "fca: " ∷ name ∷ kind �
 abbrev pub field_line : Text → Text → Text → Text → Text
 field_line name number field words =
     concat (codes "fca: " ∷ name ∷ codes ": record " ∷ number ∷ codes ": field " ∷ field ∷ codes ": " ∷ words ∷ line_end ∷ [])
+
+-- a line on the row of what has this name that breaks one of the known implications, by the digits of their numbers
+abbrev pub broken_line : Text → Text → Text → Text
+broken_line name row rule = concat (codes "fca: " ∷ name ∷ codes ": row " ∷ row ∷ codes " breaks known " ∷ rule ∷ line_end ∷ [])
+
+-- the same line, by their places
+abbrev pub breaks_line : Text → ℕ → ℕ → Text
+breaks_line name row rule = broken_line name (ordinal row) (ordinal rule)
 
 -- a line of these words on a place of what has this name
 abbrev pub placed_line : Text → Place → Text → Text
@@ -79,13 +89,20 @@ abbrev pub script_told : ScriptFault → Place × Text
 script_told (script.BadLine line) = (Line line, codes "bad line")
 script_told (script.BadExpert line) = (Line line, codes "bad expert")
 script_told (script.BadWidth line) = (Line line, codes "bad width")
+script_told (script.BadHolders line) = (Line line, codes "bad holders")
 script_told script.Memory = (Whole, codes "no memory")
+
+abbrev pub known_told : KnownFault → Place × Text
+known_told (rules.BadLine line) = (Line line, codes "bad line")
+known_told (rules.BadWidth line) = (Line line, codes "bad width")
+known_told rules.Memory = (Whole, codes "no memory")
 
 -- ---- the line of a stop
 
 -- the name under which the line speaks of what is at fault, where a file at fault has the name `file`
 abbrev pub name_of : Text → Origin → Text
 name_of file File = file
+name_of file Known = file
 name_of file (Later place) = file
 name_of file Input = codes "input"
 
@@ -97,6 +114,8 @@ stop_line file (NoTable origin fault) = placed_line (name_of file origin) (cxt_t
 stop_line file (NoCsv origin fault) = placed_line (name_of file origin) (csv_told fault).0 (csv_told fault).1
 stop_line file (BadValues origin fault) = placed_line (name_of file origin) Whole (codes "bad values")
 stop_line file (BadPlan origin fault) = placed_line (name_of file origin) Whole (codes "bad plan")
+stop_line file (NoKnown fault) = placed_line (name_of file Known) (known_told fault).0 (known_told fault).1
+stop_line file (RowBreaks origin row rule) = breaks_line (name_of file origin) row rule
 stop_line file (NoScript fault) = placed_line (codes "input") (script_told fault).0 (script_told fault).1
 stop_line file UnknownAttribute = plain_line (codes "unknown attribute")
 stop_line file (OtherAttributes origin) = placed_line (name_of file origin) Whole (codes "attributes differ")
@@ -112,29 +131,28 @@ write_fault_line = plain_line (codes "write fault")
 abbrev pub turns_spent_line : Text
 turns_spent_line = plain_line (codes "turns spent")
 
--- the place behind the first of the file that is at fault, if one there is
-abbrev pub origin_later : Origin → Option ℕ
-origin_later File = None
-origin_later (Later place) = Some place
-origin_later Input = None
+-- what is at fault, which is the first file where it is nothing else
+abbrev pub stop_origin : Stop → Origin
+stop_origin (TooLong origin) = origin
+stop_origin (NoTable origin fault) = origin
+stop_origin (NoCsv origin fault) = origin
+stop_origin (BadValues origin fault) = origin
+stop_origin (BadPlan origin fault) = origin
+stop_origin (NoKnown fault) = Known
+stop_origin (RowBreaks origin row rule) = origin
+stop_origin (OtherAttributes origin) = origin
+stop_origin (Fault origin) = origin
+stop_origin _ = File
 
-abbrev pub stop_later : Stop → Option ℕ
-stop_later (TooLong origin) = origin_later origin
-stop_later (NoTable origin fault) = origin_later origin
-stop_later (NoCsv origin fault) = origin_later origin
-stop_later (BadValues origin fault) = origin_later origin
-stop_later (BadPlan origin fault) = origin_later origin
-stop_later (OtherAttributes origin) = origin_later origin
-stop_later (Fault origin) = origin_later origin
-stop_later _ = None
+-- the name of the file from which it is, where the first file, that of what is known and those behind it are named so
+abbrev pub file_from : Text → Option Text → List Text → Origin → Text
+file_from file known later Known = unwrap_or known file
+file_from file known later (Later place) = unwrap_or (slice_get later place) file
+file_from file known later _ = file
 
--- the name of the file at fault: that of a later file, where it is one, else that of the first file
-abbrev pub later_file : Text → List Text → Option ℕ → Text
-later_file file later None = file
-later_file file later (Some place) = unwrap_or (slice_get later place) file
-
-abbrev pub file_at_fault : Text → List Text → Stop → Text
-file_at_fault file later stop = later_file file later (stop_later stop)
+-- the name of the file at fault
+abbrev pub file_at_fault : Text → Option Text → List Text → Stop → Text
+file_at_fault file known later stop = file_from file known later (stop_origin stop)
 
 -- ---- what err gained
 

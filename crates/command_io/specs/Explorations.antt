@@ -3,15 +3,15 @@ use Rattle.std.specs.Prelude.{◌≡◌, ◌↔◌, ◌++◌, ◌∷◌, ℕ, Li
 use Rattle.fca_model.specs.Tables.{NamedContext}
 use Rattle.fca_model.specs.Implications.{Rule}
 use Rattle.fca_model.specs.Questions.{open_questions}
-use Rattle.fca_model.specs.Exploration.{SetEntry, SetReply, State, plain, open_in, state_after, events_of, IsLegal}
+use Rattle.fca_model.specs.Exploration.{SetEntry, SetReply, Settings, State, open_in, state_after, events_of, IsLegal}
 use Rattle.fca_model.specs.declared.Event.TheVariants.{Draw}
 use Rattle.fca_model.specs.declared.Reply.TheVariants.{Done}
 use Rattle.explore_state.specs.History.{Opening, History, opening_state}
 use Rattle.explore_state.specs.Basis.{IsBasisBeside}
 
--- the table as the opening of an exploration by so many experts
-abbrev pub opening_of : NamedContext → ℕ → Opening
-opening_of table experts = record { table = table; experts = experts; settings = plain }
+-- the table as the opening of an exploration by so many experts under the settings
+abbrev pub opening_of : NamedContext → ℕ → Settings → Opening
+opening_of table experts settings = record { table = table; experts = experts; settings = settings }
 
 -- an exploration: what it was opened with, and its journal
 pub record Recorded : Type 0 where

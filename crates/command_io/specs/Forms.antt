@@ -1,8 +1,7 @@
 -- Tables in files, tables of values with plans for them, and scripts on the input.
-use Rattle.std.specs.Prelude.{◌≡◌, ℕ, Bool, ◌&&◌, cond, Option, List, nat_eq, codes}
+use Rattle.std.specs.Prelude.{ℕ, Bool, cond, Option, List, nat_eq, codes}
 use Rattle.std.specs.List.{ends_with}
 use Rattle.fca_model.specs.Tables.{Text, NamedContext}
-use Rattle.fca_model.specs.Exploration.{SetEvent, is_expert, expert_of, has_width}
 use Rattle.fca_io.specs.Shelves.{Told}
 use Rattle.cxt_format.specs.Form.{cxt_form}
 use Rattle.csv_context.specs.Form.{csv_form}
@@ -10,7 +9,7 @@ use Rattle.value_tables.specs.Values.{ValueTable}
 use Rattle.value_tables.specs.Form.{values_form}
 use Rattle.context_scaling.specs.Scaling.{Scaling}
 use Rattle.context_scaling.specs.PlanForm.{plan_form}
-use Rattle.expert_wire.specs.Scripts.{script_form}
+use Rattle.expert_scripts.specs.Scripts.{Said, script_form}
 use Rattle.command_io.specs.Readings.{Reading, formed, file_read, input_read}
 
 -- the name of a file in the CSV form
@@ -33,10 +32,6 @@ values_read told = file_read (λ bytes. formed (values_form bytes)) told
 abbrev pub plan_read : ValueTable → Told → Reading (List Scaling)
 plan_read t told = file_read (λ bytes. formed (plan_form t bytes)) told
 
--- the events of the script on the input, whose rows have width n
-abbrev pub script_read : ℕ → Option Text → Reading (List SetEvent)
+-- what the script on the input says, whose rows and patterns have width n
+abbrev pub script_read : ℕ → Option Text → Reading Said
 script_read n input = input_read (λ bytes. formed (script_form bytes n)) input
-
--- an event of an expert, with a row of width n where it has one
-abbrev pub may_apply : ℕ → SetEvent → Bool
-may_apply n event = is_expert (expert_of event) && has_width n event

@@ -2,5 +2,6 @@ pub mod Causes
 pub mod ErrLines
 pub mod Readings
 pub mod Forms
+pub mod Known
 pub mod Endings
 pub mod Explorations

@@ -1,7 +1,8 @@
 -- What is read of the outside: whole files and a whole input, each in a form. The outside may not tell what it holds.
-use Rattle.std.specs.Prelude.{◌≡◌, ℕ, nat_le, cond, List, length, Option, Some, None, Result, Ok, Err, ⊤}
+use Rattle.std.specs.Prelude.{◌≡◌, ◌⊎◌, ℕ, nat_le, cond, List, [], ◌∷◌, length, Option, Some, None, Result, Ok, Err, ⊤}
 use Rattle.fca_model.specs.Tables.{Text}
 use Rattle.fca_model.specs.declared.TheConstants.{FILE_BYTES}
+use Rattle.fca_io.specs.Faults.{Rose}
 use Rattle.fca_io.specs.Shelves.{Told}
 
 -- what reading comes to, where no call of the outside fails and memory is there: it is not told, there is nothing to read, and so a call fails, it is
@@ -63,3 +64,8 @@ IfRead Untold P = ⊤
 IfRead Missing P = ⊥
 IfRead Refused P = ⊥
 IfRead (Read x) P = P x
+
+-- a count of faults rose for one of the files
+abbrev pub SomeRose : (Text → ℕ) → (Text → ℕ) → List Text → Type 0
+SomeRose counts counts' [] = ⊥
+SomeRose counts counts' (file ∷ files) = Rose (counts file) (counts' file) ⊎ SomeRose counts counts' files

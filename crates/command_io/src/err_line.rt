@@ -3,14 +3,15 @@
 ghost use Rattle.std.specs.Prelude.{◌≡◌};
 ghost use Rattle.std.specs.List.{flat_map};
 ghost use Rattle.expert_wire.specs.Parts.{Writes};
-ghost use Rattle.command_io.specs.ErrLines.{plain_line, numbered_line, field_line, placed_line, cxt_told, csv_told, script_told, name_of, stop_line, write_fault_line, GainsLine};
+ghost use Rattle.command_io.specs.ErrLines.{plain_line, numbered_line, field_line, broken_line, breaks_line, placed_line, cxt_told, csv_told, known_told, script_told, name_of, stop_line, write_fault_line, GainsLine};
 
 use crate::stop::{Origin, Stop};
 use csv_context::CsvFault;
 use cxt_format::CxtFault;
-use expert_wire::ScriptFault;
+use expert_scripts::ScriptFault;
 use fca_io::{Put, Sink, write_text};
 use itoa::Buffer;
+use known_rules::KnownFault;
 
 /// Where in a file or a script a fault is.
 #[derive(Clone, Copy)]
@@ -59,6 +60,13 @@ fn write_stop<E: Sink>(err: &mut E, file: &[u8], stop: &Stop) -> Result<(), Put>
         Stop::BadPlan(origin, _) => {
             write_placed(err, name_of(file, *origin), Place::Whole, b"bad plan")
         }
+        Stop::NoKnown(fault) => write_known(err, file, fault),
+        Stop::RowBreaks(origin, row, rule) => write_breaks(
+            err,
+            name_of(file, *origin),
+            *row,
+            *rule,
+        ),
         Stop::NoScript(fault) => {
             let (place, words) = script_fault(fault);
             write_placed(err, b"input", place, words)
@@ -83,7 +91,7 @@ fn name_of(file: &[u8], origin: Origin) -> &[u8]
     ensures { result.now ≡ name_of file.now origin }
 {
     match origin {
-        Origin::File | Origin::Later(_) => file,
+        Origin::File | Origin::Known | Origin::Later(_) => file,
         Origin::Input => b"input",
     }
 }
@@ -173,6 +181,45 @@ fn write_field<E: Sink>(
     write_parts(err, &parts)
 }
 
+/// A line on what is at fault in a file of what is known.
+fn write_known<E: Sink>(err: &mut E, name: &[u8], fault: &KnownFault) -> Result<(), Put>
+    ensures { Writes (E.held err.old) (E.held err.new) (E.faults err.old) (E.faults err.new) (E.beside err.old) (E.beside err.new)
+        (E.faults_beside err.old) (E.faults_beside err.new) (placed_line name.now (known_told fault.now).0 (known_told fault.now).1) result }
+{
+    let (place, words) = known_fault(fault);
+    write_placed(err, name, place, words)
+}
+
+/// A line on the row that breaks one of the known implications, by their places.
+fn write_breaks<E: Sink>(err: &mut E, name: &[u8], row: usize, rule: usize) -> Result<(), Put>
+    ensures { Writes (E.held err.old) (E.held err.new) (E.faults err.old) (E.faults err.new) (E.beside err.old) (E.beside err.new)
+        (E.faults_beside err.old) (E.faults_beside err.new) (breaks_line name.now row rule) result }
+{
+    write_broken(
+        err,
+        name,
+        Buffer::new().format(row as u128 + 1).as_bytes(),
+        Buffer::new().format(rule as u128 + 1).as_bytes(),
+    )
+}
+
+/// The same line, by the digits of the numbers.
+fn write_broken<E: Sink>(err: &mut E, name: &[u8], row: &[u8], rule: &[u8]) -> Result<(), Put>
+    ensures { Writes (E.held err.old) (E.held err.new) (E.faults err.old) (E.faults err.new) (E.beside err.old) (E.beside err.new)
+        (E.faults_beside err.old) (E.faults_beside err.new) (broken_line name.now row.now rule.now) result }
+{
+    let parts: [&[u8]; 7] = [
+        b"fca: ",
+        name,
+        b": row ",
+        row,
+        b" breaks known ",
+        rule,
+        b"\n",
+    ];
+    write_parts(err, &parts)
+}
+
 /// The parts, one behind the other.
 fn write_parts<E: Sink>(err: &mut E, parts: &[&[u8]]) -> Result<(), Put>
     ensures { Writes (E.held err.old) (E.held err.new) (E.faults err.old) (E.faults err.new) (E.beside err.old) (E.beside err.new)
@@ -230,6 +277,17 @@ fn csv_fault(fault: &CsvFault) -> (Place, &'static [u8])
     }
 }
 
+fn known_fault(fault: &KnownFault) -> (Place, &'static [u8])
+    ensures place { result.0 ≡ (known_told fault.now).0 }
+    ensures words { result.1.now ≡ (known_told fault.now).1 }
+{
+    match fault {
+        KnownFault::BadLine(line) => (Place::Line(*line), b"bad line"),
+        KnownFault::BadWidth(line) => (Place::Line(*line), b"bad width"),
+        KnownFault::Memory => (Place::Whole, b"no memory"),
+    }
+}
+
 fn script_fault(fault: &ScriptFault) -> (Place, &'static [u8])
     ensures place { result.0 ≡ (script_told fault.now).0 }
     ensures words { result.1.now ≡ (script_told fault.now).1 }
@@ -238,6 +296,7 @@ fn script_fault(fault: &ScriptFault) -> (Place, &'static [u8])
         ScriptFault::BadLine(line) => (Place::Line(*line), b"bad line"),
         ScriptFault::BadExpert(line) => (Place::Line(*line), b"bad expert"),
         ScriptFault::BadWidth(line) => (Place::Line(*line), b"bad width"),
+        ScriptFault::BadHolders(line) => (Place::Line(*line), b"bad holders"),
         ScriptFault::Memory => (Place::Whole, b"no memory"),
     }
 }

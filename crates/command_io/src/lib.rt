@@ -3,12 +3,14 @@
 
 mod answer;
 mod err_line;
+mod known;
 mod readings;
 mod scalings;
 mod stop;
 
 pub use answer::{Answer, conclude};
 pub use err_line::{report, report_plain};
+pub use known::{Start, check_known, known_under, start_under};
 pub use readings::{script_on, table_under};
 pub use scalings::{plan_under, values_under};
-pub use stop::{Origin, Stop};
+pub use stop::{Origin, Stop, file_at_fault};

@@ -5,11 +5,13 @@ ghost use Rattle.std.specs.List.{list_all};
 ghost use Rattle.std.specs.Io.KnownBytes.{IsAtEnd};
 ghost use Rattle.fca_model.specs.declared.TheConstants.{MAX_ATTRIBUTES, FILE_BYTES};
 ghost use Rattle.fca_io.specs.Faults.{Rose};
-ghost use Rattle.expert_wire.specs.Scripts.{script_form};
+ghost use Rattle.explore_state.specs.Settings.{settings_of};
+ghost use Rattle.expert_scripts.specs.Scripts.{said_of, script_form, may_apply};
+ghost use Rattle.expert_scripts.specs.Transcripts.{CanBeTold};
 ghost use Rattle.cxt_format.specs.Form.{cxt_form};
 ghost use Rattle.csv_context.specs.Form.{csv_form};
 ghost use Rattle.command_io.specs.Readings.{formed, MayRead};
-ghost use Rattle.command_io.specs.Forms.{is_csv, table_formed, may_apply, table_read, script_read};
+ghost use Rattle.command_io.specs.Forms.{is_csv, table_formed, table_read, script_read};
 ghost use Rattle.command_io.specs.Causes.{taken_stop, IsFormStop, IsFileStop, IsScriptStop};
 ghost use Rattle.command_io.specs.Endings.{stop_status, Stops, taken_status};
 
@@ -17,8 +19,7 @@ use crate::stop::{Origin, Stop};
 use context_table::Table;
 use csv_context::{CsvFault, read_csv};
 use cxt_format::{CxtFault, read_cxt};
-use expert_wire::{ScriptFault, read_script};
-use explore_state::Event;
+use expert_scripts::{Script, ScriptFault, read_script};
 use fca_io::{Shelf, Source, Taken, read_all};
 use fca_model::{FILE_BYTES, Word};
 use std::alloc::Global;
@@ -100,11 +101,13 @@ fn cxt_table(alloc: Global, bytes: &[u8], origin: Origin) -> Result<Table, Stop>
     }
 }
 
-/// The events of the script on the input, whose rows have width n.
-pub fn script_on<S: Source>(alloc: Global, input: &mut S, n: u32) -> Result<Vec<Event>, Stop>
+/// What the script on the input says, whose rows and patterns have width n.
+pub fn script_on<S: Source>(alloc: Global, input: &mut S, n: u32) -> Result<Script, Stop>
     requires { n ≤ MAX_ATTRIBUTES }
-    ensures script { IfOk result (λ events. MayRead (script_read n (S.left input.old)) events.items) }
-    ensures fits { IfOk result (λ events. list_all (may_apply n) events.items ≡ true) }
+    ensures script { IfOk result (λ script. MayRead (script_read n (S.left input.old)) (said_of script)) }
+    ensures width { IfOk result (λ script. script.settings.known.width ≡ n) }
+    ensures told { IfOk result (λ script. CanBeTold n (settings_of script.settings)) }
+    ensures fits { IfOk result (λ script. list_all (may_apply n) script.events ≡ true) }
     ensures end { OnOk result (IsAtEnd (S.left input.new)) }
     ensures stop { IfErr result (λ stop. Stops (script_read n (S.left input.old)) (Rose (S.faults input.old) (S.faults input.new)) (stop_status stop)) }
     ensures cause { IfErr result (IsScriptStop n (S.left input.old)) }
@@ -116,16 +119,18 @@ pub fn script_on<S: Source>(alloc: Global, input: &mut S, n: u32) -> Result<Vec<
     script_of(alloc, &bytes, n)
 }
 
-/// The events of the script that the bytes are.
-fn script_of(alloc: Global, bytes: &[u8], n: u32) -> Result<Vec<Event>, Stop>
+/// What the script that the bytes are says.
+fn script_of(alloc: Global, bytes: &[u8], n: u32) -> Result<Script, Stop>
     requires { n ≤ MAX_ATTRIBUTES }
-    ensures script { IfOk result (λ events. MayRead (formed (script_form bytes.now n)) events.items) }
-    ensures fits { IfOk result (λ events. list_all (may_apply n) events.items ≡ true) }
+    ensures script { IfOk result (λ script. MayRead (formed (script_form bytes.now n)) (said_of script)) }
+    ensures width { IfOk result (λ script. script.settings.known.width ≡ n) }
+    ensures told { IfOk result (λ script. CanBeTold n (settings_of script.settings)) }
+    ensures fits { IfOk result (λ script. list_all (may_apply n) script.events ≡ true) }
     ensures stop { IfErr result (λ stop. Stops (formed (script_form bytes.now n)) ⊥ (stop_status stop)) }
     ensures cause { IfErr result (IsScriptStop n (Some bytes.now)) }
 {
     match read_script(alloc, bytes, n) {
-        Ok(events) => Ok(events),
+        Ok(script) => Ok(script),
         Err(ScriptFault::Memory) => Err(Stop::Memory),
         Err(fault) => Err(Stop::NoScript(fault)),
     }

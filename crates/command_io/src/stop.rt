@@ -1,14 +1,15 @@
 //! Why a command stops before it has a text to write.
 
-ghost use Rattle.std.specs.Prelude.{◌≡◌};
+ghost use Rattle.std.specs.Prelude.{◌≡◌, option_copied, unwrap_or};
 ghost use Rattle.command_io.specs.Endings.{stop_status};
-ghost use Rattle.command_io.specs.ErrLines.{stop_later};
+ghost use Rattle.command_io.specs.ErrLines.{stop_origin, file_at_fault};
 
 use context_scaling::PlanFault;
 use csv_context::CsvFault;
 use cxt_format::CxtFault;
-use expert_wire::ScriptFault;
-use fca_model::Memory;
+use expert_scripts::ScriptFault;
+use fca_model::{Memory, Word};
+use known_rules::KnownFault;
 use std::alloc::{AllocError, AllocFailed};
 use value_tables::ValuesFault;
 
@@ -17,7 +18,9 @@ use value_tables::ValuesFault;
 pub enum Origin {
     /// The file that its words name first.
     File,
-    /// The file that they name at this place behind it.
+    /// The file of what is known.
+    Known,
+    /// The file that they name at this place behind these.
     Later(usize),
     Input,
 }
@@ -31,6 +34,9 @@ pub enum Stop {
     NoCsv(Origin, CsvFault),
     BadValues(Origin, ValuesFault),
     BadPlan(Origin, PlanFault),
+    NoKnown(KnownFault),
+    /// The row at the one place breaks the known implication at the other, which is of this origin.
+    RowBreaks(Origin, usize, usize),
     NoScript(ScriptFault),
     UnknownAttribute,
     /// The table of an expert has other attributes.
@@ -71,19 +77,21 @@ impl<T: Drop> From<AllocFailed<T>> for Stop {
 }
 
 impl Stop {
-    /// The place behind the first of the file that is at fault, if one there is.
-    pub fn later(&self) -> Option<usize>
-        ensures { result ≡ stop_later self.now }
+    /// What is at fault, which is the first file where it is nothing else.
+    pub fn origin(&self) -> Origin
+        ensures { result ≡ stop_origin self.now }
     {
         match self {
-            Stop::TooLong(Origin::Later(place))
-            | Stop::NoTable(Origin::Later(place), _)
-            | Stop::NoCsv(Origin::Later(place), _)
-            | Stop::BadValues(Origin::Later(place), _)
-            | Stop::BadPlan(Origin::Later(place), _)
-            | Stop::OtherAttributes(Origin::Later(place))
-            | Stop::Fault(Origin::Later(place)) => Some(*place),
-            _ => None,
+            Stop::TooLong(origin)
+            | Stop::NoTable(origin, _)
+            | Stop::NoCsv(origin, _)
+            | Stop::BadValues(origin, _)
+            | Stop::BadPlan(origin, _)
+            | Stop::RowBreaks(origin, ..)
+            | Stop::OtherAttributes(origin)
+            | Stop::Fault(origin) => *origin,
+            Stop::NoKnown(_) => Origin::Known,
+            _ => Origin::File,
         }
     }
 
@@ -98,6 +106,8 @@ impl Stop {
             | Stop::NoCsv(..)
             | Stop::BadValues(..)
             | Stop::BadPlan(..)
+            | Stop::NoKnown(_)
+            | Stop::RowBreaks(..)
             | Stop::NoScript(_)
             | Stop::UnknownAttribute
             | Stop::OtherAttributes(_) => 2,
@@ -105,5 +115,31 @@ impl Stop {
             Stop::Memory => 5,
             Stop::Listener => 7,
         }
+    }
+}
+
+/// The name of the file at fault, where the first file, that of what is known and those behind it are named so.
+pub fn file_at_fault<'a>(
+    stop: &Stop,
+    file: &'a Word,
+    known: Option<&'a Word>,
+    later: &'a [Word],
+) -> &'a [u8]
+    ensures { result.now ≡ file_at_fault file.now (option_copied known.entry) later.now stop.now }
+{
+    match stop.origin() {
+        Origin::Known => name_or(known, file),
+        Origin::Later(place) => name_or(later.get(place), file),
+        Origin::File | Origin::Input => file.bytes(),
+    }
+}
+
+/// The one name where there is one, or the other.
+fn name_or<'a>(name: Option<&'a Word>, other: &'a Word) -> &'a [u8]
+    ensures { result.now ≡ unwrap_or (option_copied name.entry) other.now }
+{
+    match name {
+        Some(word) => word.bytes(),
+        None => other.bytes(),
     }
 }

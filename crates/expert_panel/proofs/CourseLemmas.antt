@@ -1,22 +1,24 @@
 -- What the laws of oracles say of an exploration at a gate. Each oracle's share in the history is its own entries, so they are few; and with few attributes they
 -- are fewer than its turns. Where all tables have one context, a number of no expert has no entry, and stands for an expert of any such table.
 use Rattle.std.proofs.Common.{◌≡◌, ℕ, zero, suc, ◌+◌, ◌-◌, ◌*◌, ◌^◌, ◌<◌, ◌≤◌, ◌⊎◌, ◌↔◌, Bool, true, false, Option, Some, None, List, [], ◌∷◌, ◌++◌, length, get_or, slice_get, All, inl, inr, refl, sym, ap, ◌∙◌, subst, arith, le-leb, leb}
-use Rattle.std.proofs.lemmas.Bool.{cases_Bool, cases_lt, and_from, false≢true}
+use Rattle.std.proofs.lemmas.Bool.{cases_Bool, cases_lt, and_from, and_parts, leb-true, false≢true}
 use Rattle.std.proofs.lemmas.List.{get_or_past}
 use Rattle.std.proofs.lemmas.Option.{get_or_from_slice_get, slice_get_within, slice_get-get_or}
 use Rattle.fca_model.specs.declared.Event.TheVariants.{Draw}
 use Rattle.fca_model.specs.declared.TheConstants.{MAX_EXPERTS}
 use Rattle.fca_model.specs.Context.{Context}
 use Rattle.fca_model.specs.Tables.{NamedContext}
-use Rattle.fca_model.specs.Pseudo.{basis}
-use Rattle.fca_model.specs.Invariant.{SameMembers, rows_respect}
-use Rattle.fca_model.specs.Implications.{respects_all}
+use Rattle.fca_model.specs.Pseudo.{basis_known}
+use Rattle.fca_model.specs.Invariant.{IsValid, SameMembers, rows_respect}
+use Rattle.fca_model.specs.Implications.{Rule, holds}
 use Rattle.fca_model.specs.Questions.{open_questions}
 use Rattle.std.specs.List.{list_all}
-use Rattle.fca_model.specs.Exploration.{State, Settings, SetEntry, plain, opening, open_in, state_after, events_of, is_expert, own, IsLegal}
+use Rattle.fca_model.specs.Exploration.{State, Settings, SetEntry, opening, open_in, state_after, events_of, is_expert, own, IsLegal}
 use Rattle.fca_model.proofs.CourseLemmas.{run_settings}
-use Rattle.fca_model.proofs.ListLemmas.{list_all_from}
+use Rattle.fca_model.proofs.ClosureLemmas.{known_hold}
+use Rattle.implication_closure.specs.Closing.{HaveWidth}
 use Rattle.explore_state.specs.History.{Opening, History, opening_state, state_of, open_of}
+use Rattle.explore_state.proofs.OpenLemmas.{wide_conclusions}
 use Rattle.oracle_expert.specs.Counts.{recorded_in, dropped}
 use Rattle.oracle_expert.specs.Oracles.{Recall, no_conflict}
 use Rattle.oracle_expert.specs.Runs.{IsOracleFront, ends_done, conflicts_of}
@@ -32,20 +34,26 @@ use Rattle.expert_panel.specs.Seats.{IsEnd}
 use Rattle.expert_panel.specs.Explorations.{IsOraclesShare, EachNumbered, HasFewRows, most_turns, most_turns_between, IsWithinTurns, HasMadeAtMost, SeatsTurns, HasAgreed, is_part}
 use Rattle.expert_panel.proofs.ShareLemmas.{Run}
 
-module _ (o : Opening) (H : List SetEntry) (turns : ℕ) (oracles : List Recall) (plainly : o.settings ≡ plain) (legal : IsLegal (opening_state o) H) (count : length oracles ≤ MAX_EXPERTS)
-    (shares : EachNumbered (IsOraclesShare turns H) oracles) where
+-- there is an expert, and no more than there may be
+pub expert_range : (n : ℕ) → is_expert n ≡ true → (1 ≤ n) × (n ≤ MAX_EXPERTS)
+expert_range n is = let parts = and_parts (leb 1 n) (leb n MAX_EXPERTS) is in (leb-true 1 n parts.0, leb-true n MAX_EXPERTS parts.1)
+
+-- the rows of a new exploration respect what is known
+pub respecting_new : (h : History) → h.journal ≡ [] → IsValid (state_of h) → rows_respect h.opening.settings.known h.opening.table.context ≡ true
+unfolding state_after
+respecting_new h new v = (subst (λ (J : List SetEntry). IsValid (state_after (opening_state h.opening) (events_of J))) new v).known
+
+-- what the rows of a context respect holds there
+pub known_holds : (S : List Rule) (C : Context) (n : ℕ) → HaveWidth n S → C.width ≡ n → rows_respect S C ≡ true → list_all (holds C) S ≡ true
+known_holds S C n even wide respecting = known_hold S C (wide_conclusions C.width S (subst (λ k. HaveWidth k S) (sym wide) even)) respecting
+
+module _ (o : Opening) (H : List SetEntry) (turns : ℕ) (oracles : List Recall) (respecting : rows_respect o.settings.known o.table.context ≡ true) (most : o.settings.holders ≡ MAX_EXPERTS)
+    (legal : IsLegal (opening_state o) H) (count : length oracles ≤ MAX_EXPERTS) (shares : EachNumbered (IsOraclesShare turns H) oracles) where
   abbrev K : Context
   K = o.table.context
 
   abbrev first : State
-  first = opening K o.table.objects plain
-
-  plain_legal : IsLegal first H
-  plain_legal = subst (λ (S : Settings). IsLegal (opening K o.table.objects S) H) plainly legal
-
-  -- with nothing known, each row respects it
-  respecting : list_all (respects_all []) K.rows ≡ true
-  respecting = list_all_from (respects_all []) (λ row. refl) K.rows
+  first = opening_state o
 
   is_number : (k : ℕ) (oracle : Recall) → slice_get oracles k ≡ Some oracle → is_expert (k + 1) ≡ true
   is_number k oracle at =
@@ -56,7 +64,7 @@ module _ (o : Opening) (H : List SetEntry) (turns : ℕ) (oracles : List Recall)
   within_turns = λ k oracle at.
       let share = shares k oracle at in
       subst (λ (cs : List (Option ℕ)). length (own H (k + 1)) ≤ 2 * recorded_in H + dropped cs + 1) (sym share.conflicts)
-      (oracle_turns K o.table.objects plain H respecting refl plain_legal oracle.table (k + 1) (is_number k oracle at) [] (own H (k + 1)) refl share.front)
+      (oracle_turns K o.table.objects o.settings H respecting most legal oracle.table (k + 1) (is_number k oracle at) [] (own H (k + 1)) refl share.front)
 
   -- with few attributes each has its last reply Done
   done_by_few : (k : ℕ) (oracle : Recall) → slice_get oracles k ≡ Some oracle → HasFewRows oracle → turns ≡ 2 ^ 48 → K.width ≤ 46 → ends_done (own H (k + 1)) ≡ true
@@ -65,7 +73,7 @@ module _ (o : Opening) (H : List SetEntry) (turns : ℕ) (oracles : List Recall)
       by_end : (ends_done (own H (k + 1)) ≡ true) ⊎ ((ends_done (own H (k + 1)) ≡ false) × (length (own H (k + 1)) ≡ turns)) → ends_done (own H (k + 1)) ≡ true
       by_end (inl done) = done
       by_end (inr all) =
-          let few : length (own H (k + 1)) < 2 ^ 48 = oracle_few K o.table.objects plain H respecting refl plain_legal oracle.table (k + 1) (is_number k oracle at) [] (own H (k + 1)) refl (shares k oracle at).front narrow small in
+          let few : length (own H (k + 1)) < 2 ^ 48 = oracle_few K o.table.objects o.settings H respecting most legal oracle.table (k + 1) (is_number k oracle at) [] (own H (k + 1)) refl (shares k oracle at).front narrow small in
           let taken = all.1 in
           absurd (omega arith)
 
@@ -86,7 +94,7 @@ module _ (o : Opening) (H : List SetEntry) (turns : ℕ) (oracles : List Recall)
 
   -- ---- tables of one context
 
-  module _ (C : Context) (wide : C.width ≡ K.width) (part : is_part K C ≡ true) (same : All (λ (oracle : Recall). oracle.table.context ≡ C) oracles)
+  module _ (C : Context) (wide : C.width ≡ K.width) (part : is_part K C ≡ true) (known : list_all (holds C) o.settings.known ≡ true) (same : All (λ (oracle : Recall). oracle.table.context ≡ C) oracles)
       (others : (e : ℕ) → (e ≡ 0) ⊎ (length oracles < e) → own H e ≡ []) where
     -- an oracle of C that knows no names
     abbrev bare : Recall
@@ -126,20 +134,24 @@ module _ (o : Opening) (H : List SetEntry) (turns : ℕ) (oracles : List Recall)
         let next : k + 1 ≡ suc k = omega arith in
         let mine : get_or oracles k bare ≡ oracle = get_or_from_slice_get oracles k oracle bare at in
         (shares k oracle at).conflicts ∙ ap (λ (n : ℕ). conflicts_of oracle.table (own H n)) next ∙ ap (λ (r : Recall). conflicts_of r.table (own H (suc k))) (sym mine)
-        ∙ nothing_dropped C table_of one_context K o.table.objects plain H respecting refl refl plain_legal wide part fronts (suc k) ∙ ap (λ (r : Recall). no_conflict r.table) mine
+        ∙ nothing_dropped C table_of one_context K o.table.objects o.settings H respecting most known legal wide part fronts (suc k) ∙ ap (λ (r : Recall). no_conflict r.table) mine
 
     pub agreed : (explore : History) (spent : Bool) → explore.opening ≡ o → explore.journal ≡ H → (spent ≡ false → open_of explore ≡ []) → HasAgreed C explore oracles spent
     agreed explore spent opened journal finished =
         let final : State = state_after first (events_of H) in
-        let is : state_of explore ≡ final = ap (λ (p : Opening). state_after (opening_state p) (events_of explore.journal)) opened ∙ ap (λ (J : List SetEntry). state_after (opening_state o) (events_of J)) journal
-        ∙ ap (λ (S : Settings). state_after (opening K o.table.objects S) (events_of H)) plainly in
+        let is : state_of explore ≡ final = ap (λ (p : Opening). state_after (opening_state p) (events_of explore.journal)) opened ∙ ap (λ (J : List SetEntry). state_after (opening_state o) (events_of J)) journal in
+        let settings : explore.opening.settings ≡ o.settings = ap (λ (p : Opening). p.settings) opened in
         let done : spent ≡ false → open_in final ≡ [] = λ h.
-        ap (λ (S : Settings). open_questions S.known final.context final.accepted) (run_settings first (events_of H) ∙ sym plainly ∙ sym (ap (λ (p : Opening). p.settings) opened))
+        ap (λ (S : Settings). open_questions S.known final.context final.accepted) (run_settings first (events_of H) ∙ sym settings)
         ∙ ap (λ (t : State). open_questions explore.opening.settings.known t.context t.accepted) (sym is) ∙ finished h in
         record {
           kept = none_dropped;
-          accepted = λ h. subst (λ (t : State). SameMembers t.accepted (basis C)) (sym is) (one_accepted C table_of one_context K o.table.objects plain H respecting refl refl plain_legal wide part fronts (done h));
-          basis = λ h. ap (λ (t : State). basis t.context) is ∙ one_basis C table_of one_context K o.table.objects plain H respecting refl refl plain_legal wide part fronts (done h);
+          accepted = λ h.
+              subst (λ (S : Settings). SameMembers (state_of explore).accepted (basis_known S.known C)) (sym settings)
+              (subst (λ (t : State). SameMembers t.accepted (basis_known o.settings.known C)) (sym is) (one_accepted C table_of one_context K o.table.objects o.settings H respecting most known legal wide part fronts (done h)));
+          basis = λ h.
+              subst (λ (S : Settings). basis_known S.known (state_of explore).context ≡ basis_known S.known C) (sym settings)
+              (ap (λ (t : State). basis_known o.settings.known t.context) is ∙ one_basis C table_of one_context K o.table.objects o.settings H respecting most known legal wide part fronts (done h));
         }
 
 -- ---- one seat

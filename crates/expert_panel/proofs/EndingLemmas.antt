@@ -8,10 +8,11 @@ use Rattle.std.proofs.lemmas.List.Elements.{All-nil, All-cons, All-head, All-tai
 use Rattle.std.specs.List.{list_any}
 use Rattle.fca_model.specs.Tables.{NamedContext}
 use Rattle.fca_model.specs.Questions.{open_questions}
-use Rattle.fca_model.specs.Exploration.{State, Settings, SetEntry, plain, state_after, events_of, own}
+use Rattle.fca_model.specs.Invariant.{rows_respect}
+use Rattle.fca_model.specs.Exploration.{State, Settings, SetEntry, state_after, events_of, own}
 use Rattle.fca_model.proofs.CourseLemmas.{run_settings}
+use Rattle.fca_model.proofs.ValidLemmas.{opening_valid}
 use Rattle.explore_state.specs.History.{Opening, History, opening_state, open_of}
-use Rattle.explore_state.proofs.KeptLemmas.{opened_valid}
 use Rattle.turn_lock.specs.Passes.{Known, Badge, Lock, Belongs, IsFresh, badge, roll}
 use Rattle.turn_lock.proofs.ClosingLemmas.{roll-belongs}
 use Rattle.expert_gate.specs.Turns.{HasClosed}
@@ -97,11 +98,11 @@ module _ (gate : Lock Opening) (ps : List (Known Opening SetEntry)) (before : Li
       inr (omega arith)
 
   -- where no seat is spent the first was done
-  module _ (plainly : gate.base.settings ≡ plain) (opened : explore.opening ≡ gate.base) where
+  module _ (respecting : rows_respect gate.base.settings.known gate.base.table.context ≡ true) (opened : explore.opening ≡ gate.base) where
     done_at_last : ends_done (own H 1) ≡ true → open_of explore ≡ []
     done_at_last done =
         let s : State = opening_state gate.base in
-        let none = done_leaves_none s H 1 (opened_valid gate.base plainly) closed.is_legal.legal done in
+        let none = done_leaves_none s H 1 (opening_valid gate.base.table.context gate.base.table.objects gate.base.settings respecting) closed.is_legal.legal done in
         subst (λ (o : Opening). open_questions o.settings.known (state_after (opening_state o) (events_of H)).context (state_after (opening_state o) (events_of H)).accepted ≡ []) (sym opened)
         (ap (λ (S : Settings). open_questions S.known (state_after s (events_of H)).context (state_after s (events_of H)).accepted) (sym (run_settings s (events_of H))) ∙ none)
 

@@ -4,7 +4,7 @@ use Rattle.std.specs.List.{list_all, list_any}
 use Rattle.fca_model.specs.declared.TheConstants.{MAX_OBJECTS}
 use Rattle.fca_model.specs.Sets.{same}
 use Rattle.fca_model.specs.Context.{Context}
-use Rattle.fca_model.specs.Pseudo.{basis}
+use Rattle.fca_model.specs.Pseudo.{basis_known}
 use Rattle.fca_model.specs.Invariant.{SameMembers}
 use Rattle.fca_model.specs.Exploration.{SetEntry, IsLegal, own}
 use Rattle.explore_state.specs.History.{Opening, History, opening_state, state_of, open_of}
@@ -77,8 +77,9 @@ most_turns_between H old new = 2 * recorded_in H + (dropped new.conflicts - drop
 abbrev pub is_part : Context → Context → Bool
 is_part K C = list_all (λ row. list_any (same row) C.rows) K.rows
 
--- What comes of oracles of one context C: none dropped a row; and if none was spent, what was accepted is the basis of C, and so is the basis of the recorded rows
+-- What comes of oracles of one context C: none dropped a row; and if none was spent, what was accepted is the basis of C beside what is known, and so is the
+-- basis of the recorded rows
 pub record HasAgreed (C : Context) (explore : History) (oracles : List Recall) (spent : Bool) : Type 0 where
   pub kept : All (λ oracle. oracle.conflicts ≡ no_conflict oracle.table) oracles
-  pub accepted : spent ≡ false → SameMembers (state_of explore).accepted (basis C)
-  pub basis : spent ≡ false → basis (state_of explore).context ≡ basis C
+  pub accepted : spent ≡ false → SameMembers (state_of explore).accepted (basis_known explore.opening.settings.known C)
+  pub basis : spent ≡ false → basis_known explore.opening.settings.known (state_of explore).context ≡ basis_known explore.opening.settings.known C

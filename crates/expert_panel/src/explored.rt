@@ -3,7 +3,9 @@
 ghost use Rattle.std.specs.Prelude.{◌≡◌, ◌≤◌, ◌<◌, ◌^◌, ◌⊎◌, ◌↔◌, ℕ, true, false, [], All, IfOk, map, length, vec_len};
 ghost use Rattle.std.specs.List.{list_any};
 ghost use Rattle.fca_model.specs.Context.{Context};
-ghost use Rattle.fca_model.specs.Exploration.{plain, own, IsLegal};
+ghost use Rattle.fca_model.specs.declared.TheConstants.{MAX_EXPERTS};
+ghost use Rattle.fca_model.specs.Exploration.{own, IsLegal};
+ghost use Rattle.fca_model.specs.Invariant.{rows_respect};
 ghost use Rattle.explore_state.specs.History.{opening_state, open_of};
 ghost use Rattle.turn_lock.specs.Passes.{badge, roll, IsFresh};
 ghost use Rattle.oracle_expert.specs.Oracles.{untold, no_conflict};
@@ -16,7 +18,7 @@ use crate::seat::{Seat, seated};
 use context_table::Table;
 use expert_gate::{ExpertPass, Gate};
 use explore_state::Explore;
-use fca_model::{MAX_EXPERTS, Memory};
+use fca_model::Memory;
 use oracle_expert::Oracle;
 use std::alloc::Global;
 use std::sync::Wait;
@@ -32,19 +34,21 @@ pub struct Explored {
     pub spent: bool,
 }
 
-/// Explores the table: expert k is the oracle of the k-th of the expert tables, and each may make `turns` turns.
+/// Lets oracles go through an exploration in which nothing was done yet and all experts may hold one question: expert k is
+/// the oracle of the k-th of the expert tables, and each may make `turns` turns.
 pub fn explore_with_oracles<R: Threads + Wait + Sync>(
     rt: &R,
     alloc: Global,
-    table: Table,
+    explore: Explore,
     experts: Vec<Table>,
     turns: u64,
 ) -> Result<Explored, Memory>
+    requires new { explore.journal ≡ [] }
+    requires holders { explore.opening.settings.holders ≡ MAX_EXPERTS }
+    requires experts { explore.opening.experts ≡ vec_len experts }
+    requires width { All (λ expert. expert.context.width ≡ explore.opening.table.context.width) experts.items }
     requires turns { (1 ≤ turns) × (turns ≤ 2 ^ 48) }
-    requires experts { (1 ≤ vec_len experts) × (vec_len experts ≤ MAX_EXPERTS) }
-    requires width { All (λ expert. expert.context.width ≡ table.context.width) experts.items }
-    ensures opening { IfOk result (λ r. r.explore.opening
-        ≡ record { table = table; experts = vec_len experts; settings = plain }) }
+    ensures opening { IfOk result (λ r. r.explore.opening ≡ explore.opening) }
     ensures legal { IfOk result (λ r. IsLegal (opening_state r.explore.opening) r.explore.journal) }
     ensures tables { IfOk result (λ r. map (λ oracle. oracle.table) r.oracles.items ≡ experts.items) }
     ensures oracles { IfOk result (λ r.
@@ -54,15 +58,15 @@ pub fn explore_with_oracles<R: Threads + Wait + Sync>(
         ↔ ((e : ℕ) × (1 ≤ e) × (e ≤ vec_len experts) × (ends_done (own r.explore.journal e) ≡ false))) }
     ensures finished { IfOk result (λ r. r.spent ≡ false → open_of r.explore ≡ []) }
     ensures turns { IfOk result (λ r. EachNumbered (IsWithinTurns r.explore.journal) r.oracles.items) }
-    ensures unspent { IfOk result (λ r. turns ≡ 2 ^ 48 → table.context.width ≤ 46 → r.spent ≡ false) }
+    ensures unspent { IfOk result (λ r. turns ≡ 2 ^ 48 → explore.opening.table.context.width ≤ 46 → r.spent ≡ false) }
     ensures agreed { IfOk result (λ r. (C : Context) → All (λ expert. expert.context ≡ C) experts.items
-        → is_part table.context C ≡ true → HasAgreed C r.explore r.oracles.items r.spent) }
+        → is_part explore.opening.table.context C ≡ true → rows_respect explore.opening.settings.known C ≡ true
+        → HasAgreed C r.explore r.oracles.items r.spent) }
 {
-    let count = experts.len() as u8;
+    let _experts = explore.experts();
+    let _journal = explore.journal();
+    let _known = explore.settings().known.as_slice();
     let oracles = oracles_of(alloc, experts)?;
-    let Ok(explore) = Explore::open(alloc, table, count) else {
-        return Err(Memory);
-    };
     let (gate, passes) = Gate::open(alloc, explore, turns)?;
     run_oracles(rt, alloc, gate, passes, oracles)
 }
@@ -95,7 +99,7 @@ fn run_oracles<R: Threads + Wait + Sync>(
     requires oracles { vec_len oracles ≡ gate.passes }
     requires untold { All (λ oracle. oracle.conflicts ≡ no_conflict oracle.table) oracles.items }
     requires width { All (λ oracle. oracle.table.context.width ≡ gate.base.table.context.width) oracles.items }
-    requires plain { gate.base.settings ≡ plain }
+    requires known { rows_respect gate.base.settings.known gate.base.table.context ≡ true }
     ensures { IfOk result (λ r. HasEnded gate oracles.items r.explore r.oracles.items r.spent) }
 {
     let mut seats = seated(alloc, passes, oracles)?;

@@ -1,9 +1,8 @@
-//! Panels over the attributes a and b.
+//! Two seats at once, over the attributes a and b.
 
-ghost use Rattle.std.specs.Prelude.{◌≡◌, [], IfOk, length, vec_len};
+ghost use Rattle.std.specs.Prelude.{◌≡◌, [], IfOk};
 
-use crate::{Explored, SeatEnd, explore_with_oracles, run_panel, seated};
-use attr_bits::Attrs;
+use crate::{SeatEnd, run_panel, seated};
 use context_table::Table;
 use derivation::Rows;
 use expert_gate::Gate;
@@ -24,58 +23,16 @@ fn named(alloc: Global, text: &str) -> Result<Name, Memory> {
     Name::new(alloc, text).map_err(|_| Memory)
 }
 
-fn table(alloc: Global, objects: Vec<Name>, rows: Rows) -> Result<Table, Memory>
-    requires objects { vec_len objects ≡ length rows.rows }
-    requires width { rows.width ≡ 2 }
-    ensures { IfOk result (λ table. table.context ≡ rows) }
-{
-    let mut attributes = Vec::new(alloc);
-    attributes.push(named(alloc, "a")?)?;
-    attributes.push(named(alloc, "b")?)?;
-    Table::new(alloc, None, objects, attributes, rows).map_err(|_| Memory)
-}
-
 /// No object.
 fn bare(alloc: Global) -> Result<Table, Memory>
     ensures { IfOk result (λ table. table.context.width ≡ 2) }
 {
-    table(alloc, Vec::new(alloc), Rows::new(alloc, 2)?)
+    let mut attributes = Vec::new(alloc);
+    attributes.push(named(alloc, "a")?)?;
+    attributes.push(named(alloc, "b")?)?;
+    let rows = Rows::new(alloc, 2)?;
+    Table::new(alloc, None, Vec::new(alloc), attributes, rows).map_err(|_| Memory)
 }
-
-/// The object g has a.
-fn with_g(alloc: Global) -> Result<Table, Memory>
-    ensures { IfOk result (λ table. table.context.width ≡ 2) }
-{
-    let mut rows = Rows::new(alloc, 2)?;
-    rows.push(Attrs::empty(2).with(0))?;
-    let mut objects = Vec::new(alloc);
-    objects.push(named(alloc, "g")?)?;
-    table(alloc, objects, rows)
-}
-
-// ---- two oracles of one table
-
-fn explored<R: Threads + Wait + Sync>(rt: &R, alloc: Global) -> Result<Explored, Memory> {
-    let mut experts = Vec::new(alloc);
-    experts.push(with_g(alloc)?)?;
-    experts.push(with_g(alloc)?)?;
-    explore_with_oracles(rt, alloc, bare(alloc)?, experts, 1 << 48)
-}
-
-#[test]
-fn oracles_explore(rt: HostRuntime) -> Result<(), Fail> {
-    let Ok(explored) = explored(&rt, rt.alloc()) else {
-        panic!(rt; "memory")
-    };
-    assert!(rt; !explored.spent);
-    assert!(rt; explored.oracles.len() == 2);
-    assert!(rt; explored.explore.open_questions().is_empty());
-    assert!(rt; explored.explore.accepted().len() == 1, "{{}} -> {{a}}");
-    assert!(rt; explored.explore.rows().len() == 1, "the row of g, once");
-    Ok(())
-}
-
-// ---- two seats at once
 
 /// Confirms, and holds each answer until the other expert was asked.
 #[derive(Drop)]

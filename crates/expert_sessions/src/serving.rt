@@ -1,8 +1,7 @@
 //! Many sessions at once: one expert for each end, all at one gate.
 
 ghost use Rattle.std.specs.Prelude.{◌≡◌, ◌≤◌, ◌<◌, ◌+◌, ◌^◌, ◌⊎◌, ℕ, [], All, IfOk, IfErr, map, length, vec_len, vec_capacity};
-ghost use Rattle.fca_model.specs.declared.TheConstants.{MAX_EXPERTS};
-ghost use Rattle.fca_model.specs.Exploration.{plain, own};
+ghost use Rattle.fca_model.specs.Exploration.{own};
 ghost use Rattle.turn_lock.specs.Passes.{badge, roll, IsFresh};
 ghost use Rattle.expert_gate.specs.Histories.{IsHistory};
 ghost use Rattle.expert_sessions.specs.Serving.{EachTalks};
@@ -10,7 +9,6 @@ ghost use Rattle.expert_sessions.specs.Rooms.{IsEmpty, HasRoom};
 
 use crate::ended::Ended;
 use crate::seats::{Seat, Terms, risen, run_seats, seated};
-use context_table::Table;
 use expert_gate::{ExpertPass, Gate};
 use explore_state::Explore;
 use fca_io::Duplex;
@@ -36,27 +34,28 @@ pub struct Unserved<E> {
     pub ends: Vec<E>,
 }
 
-/// Explores the table: expert k works over the k-th end, at most `lines` lines are answered there, and each expert may
-/// make `turns` turns.
+/// Lets experts go through an exploration in which nothing was done yet: expert k works over the k-th end, at most `lines` lines
+/// are answered there, and each expert may make `turns` turns.
 pub fn serve_ends<R: Threads + Wait + Sync, E: Duplex + Send + Drop>(
     rt: &R,
     alloc: Global,
-    table: Table,
+    explore: Explore,
     ends: Vec<E>,
     lines: u32,
     turns: u64,
 ) -> Result<Served<E>, Unserved<E>>
-    requires ends { (1 ≤ vec_len ends) × (vec_len ends ≤ MAX_EXPERTS) }
+    requires new { explore.journal ≡ [] }
+    requires ends { explore.opening.experts ≡ vec_len ends }
     requires lines { (1 ≤ lines) × (lines ≤ 1000000) }
     requires turns { (lines + 1 < turns) × (turns ≤ 2 ^ 48) }
-    ensures opening { IfOk result (λ r. r.explore.opening ≡ record { table = table; experts = vec_len ends; settings = plain }) }
+    ensures opening { IfOk result (λ r. r.explore.opening ≡ explore.opening) }
     ensures history { IfOk result (λ r. IsHistory r.explore.opening r.explore.journal) }
-    ensures talks { IfOk result (λ r. EachTalks E.Source.left E.Sink.held E.Source.faults E.Sink.faults table lines
+    ensures talks { IfOk result (λ r. EachTalks E.Source.left E.Sink.held E.Source.faults E.Sink.faults explore.opening.table lines
         r.explore.journal 1 ends.items r.ends.items r.endings.items) }
     ensures others { IfOk result (λ r. (e : ℕ) → (e ≡ 0) ⊎ (vec_len ends < e) → own r.explore.journal e ≡ []) }
     ensures untouched { IfErr result (λ e. e.ends ≡ ends) }
 {
-    let Ok(hall) = open_hall(alloc, table, ends.len(), lines, turns) else {
+    let Ok(hall) = open_hall(alloc, explore, lines, turns) else {
         return Err(Unserved { ends });
     };
     let Hall {
@@ -92,38 +91,36 @@ struct Hall<E> {
     room: Room<E>,
 }
 
-/// Opens the gate, and makes room.
+/// Opens the gate of the exploration, and makes room for its experts.
 fn open_hall<E: Drop>(
     alloc: Global,
-    table: Table,
-    count: usize,
+    explore: Explore,
     lines: u32,
     turns: u64,
 ) -> Result<Hall<E>, Memory>
-    requires count { (1 ≤ count) × (count ≤ MAX_EXPERTS) }
+    requires new { explore.journal ≡ [] }
     requires lines { (1 ≤ lines) × (lines ≤ 1000000) }
     requires turns { (1 ≤ turns) × (turns ≤ 2 ^ 48) }
-    ensures terms { IfOk result (λ h. (h.terms.table ≡ table) × (h.terms.lines ≡ lines)) }
-    ensures base { IfOk result (λ h. h.gate.base ≡ record { table = table; experts = count; settings = plain }) }
-    ensures counts { IfOk result (λ h. (h.gate.turns ≡ turns) × (h.gate.passes ≡ count)) }
+    ensures terms { IfOk result (λ h. (h.terms.table ≡ explore.opening.table) × (h.terms.lines ≡ lines)) }
+    ensures base { IfOk result (λ h. h.gate.base ≡ explore.opening) }
+    ensures counts { IfOk result (λ h. (h.gate.turns ≡ turns) × (h.gate.passes ≡ explore.opening.experts)) }
+    ensures some { IfOk result (λ h. 1 ≤ h.gate.passes) }
     ensures passes { IfOk result (λ h. map badge h.passes.items ≡ roll h.gate) }
     ensures fresh { IfOk result (λ h. All IsFresh h.passes.items) }
     ensures empty { IfOk result (λ h. IsEmpty h.room) }
-    ensures room { IfOk result (λ h. HasRoom count h.room) }
+    ensures room { IfOk result (λ h. HasRoom explore.opening.experts h.room) }
 {
     let terms = Terms {
-        table: table.copy()?,
+        table: explore.table().copy()?,
         lines,
     };
-    let Ok(explore) = Explore::open(alloc, table, count as u8) else {
-        return Err(Memory);
-    };
+    let room = make_room(alloc, usize::from(explore.experts()))?;
     let (gate, passes) = Gate::open(alloc, explore, turns)?;
     Ok(Hall {
         terms,
         gate,
         passes,
-        room: make_room(alloc, count)?,
+        room,
     })
 }
 

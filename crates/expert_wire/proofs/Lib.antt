@@ -1,5 +1,5 @@
 pub mod WordLemmas
-pub mod ScriptLemmas
+pub mod LineLemmas
 pub mod WriteLemmas
 pub mod ListedLemmas
 pub mod ReadLemmas

@@ -1,26 +1,19 @@
 -- What is written is read back. A word without a space is cut off at the space behind it; decimal digits are a numeral with their
--- number as value; the pattern of a set marks the set. So the line of an event, by an expert and with a row of the width and a name
--- that is a name, says just this event.
-use Rattle.std.proofs.Common.{◌≡◌, ◌<◌, ◌≤◌, ℕ, zero, suc, ◌+◌, ◌/◌, ◌%◌, ◌^◌, Bool, true, false, not, ◌&&◌, cond, List, [], ◌∷◌, ◌++◌, map, length, take, drop, get_or, Some, None, Ok, Err, refl, ap, ap₂, ◌∙◌, subst, arith, eqb, ltb, ne_eqb, ◌≢◌, append_assoc}
+-- number as value; the pattern of a set marks the set. So a row of the width with a name that is a name is read as just this row.
+use Rattle.std.proofs.Common.{◌≡◌, ◌<◌, ◌≤◌, ℕ, zero, suc, ◌+◌, ◌/◌, ◌%◌, ◌^◌, Bool, true, false, not, ◌&&◌, cond, List, [], ◌∷◌, ◌++◌, map, length, take, drop, get_or, Some, None, Ok, Err, refl, ap, ap₂, ◌∙◌, arith, eqb, ltb, ne_eqb, ◌≢◌}
 use Rattle.std.specs.Prelude.{codes, decimal, IsUtf8, IsAscii, is_none, nat_lt, nat_le, ◌==◌, bytes_eq}
 use Rattle.std.specs.List.{list_any, list_all, position_or_len, before_first, after_first}
 use Rattle.std.specs.Char.{is_ascii_digit}
 use Rattle.std.specs.Fmt.{digits, digits_onto, digit_glyph}
 use Rattle.std.proofs.lemmas.Bool.{or_parts, and_parts, and_from, or_from, lt-ltb, le-leb, leb-true, ltb-true}
 use Rattle.std.proofs.Math.Seq.{take-append_seam}
-use Rattle.std.proofs.lemmas.Str.{IsUtf8-append, IsUtf8-from_ascii, is_utf8-from_IsUtf8}
+use Rattle.std.proofs.lemmas.Str.{IsUtf8-from_ascii}
 use Rattle.std.proofs.lemmas.Fmt.{digits_value-decimal, decimal_nonempty}
-use Rattle.fca_model.specs.declared.TheConstants.{MAX_EXPERTS}
-use Rattle.fca_model.specs.declared.Event.TheVariants.{Draw, Confirm, Row, Leave}
 use Rattle.fca_model.specs.Names.{is_line_break, IsName}
-use Rattle.fca_model.specs.Exploration.{SetEvent, is_expert}
 use Rattle.fca_model.specs.Sets.{Set}
 use Rattle.fca_model.specs.Tables.{Text}
 use Rattle.expert_wire.specs.Texts.{pattern, mark_of}
 use Rattle.expert_wire.specs.declared.requests.RequestFault.TheVariants.{Line, Width}
-use Rattle.expert_wire.specs.declared.scripts.ScriptFault.TheVariants.{BadLine, BadExpert}
-use Rattle.expert_wire.specs.Replies.{event_text}
-use Rattle.expert_wire.specs.Scripts.{event_of, event_of_words, event_by, expert_in, row_by, row_event, CanBeSaid}
 use Rattle.expert_wire.proofs.WordLemmas.{numerals}
 use Rattle.expert_wire.specs.Words.{is_space, is_name, named_row, row_of_width, first_word, later_words, is_numeral, value_of, is_cross, is_mark, set_marked}
 
@@ -63,6 +56,13 @@ digits_onto-all (suc k) n acc h =
 pub decimal_digits : (n : ℕ) → list_all is_ascii_digit (decimal n) ≡ true
 unfolding digits
 decimal_digits n = digits_onto-all 64 n [] refl
+
+-- the digits of a number are a numeral, and write it
+pub numeral-decimal : (n : ℕ) → n < 2 ^ 64 → (is_numeral (decimal n) ≡ true) × (value_of (decimal n) ≡ n)
+numeral-decimal n small = (
+  and_from (nat_lt 0 (length (decimal n))) (list_all is_ascii_digit (decimal n)) (lt-ltb 0 (length (decimal n)) (decimal_nonempty n small)) (decimal_digits n),
+  digits_value-decimal numerals n small,
+)
 
 -- ---- sets
 
@@ -140,7 +140,7 @@ ascii_marks (true ∷ A) zero = omega arith
 ascii_marks (false ∷ A) zero = omega arith
 ascii_marks (a ∷ A) (suc i) = ascii_marks A i
 
-ascii_pattern : (A : Set) → IsAscii (pattern A)
+pub ascii_pattern : (A : Set) → IsAscii (pattern A)
 ascii_pattern [] = ascii_dash
   where
     ascii_dash : (i : ℕ) → get_or (codes "-") i 0 < 128
@@ -148,43 +148,23 @@ ascii_pattern [] = ascii_dash
     ascii_dash (suc i) = omega arith
 ascii_pattern (a ∷ A) = ascii_marks (a ∷ A)
 
--- ---- the line of an event
+-- ---- rows
 
 ascii_words : (xs : Text) → list_all (λ x. ltb x 128) xs ≡ true → (i : ℕ) → get_or xs i 0 < 128
 ascii_words [] h i = omega arith
 ascii_words (x ∷ xs) h zero = ltb-true x 128 (and_parts (ltb x 128) (list_all (λ y. ltb y 128) xs) h).0
 ascii_words (x ∷ xs) h (suc i) = ascii_words xs (and_parts (ltb x 128) (list_all (λ y. ltb y 128) xs) h).1 i
 
-utf8_words : (xs : Text) → list_all (λ x. ltb x 128) xs ≡ true → IsUtf8 xs
+pub utf8_words : (xs : Text) → list_all (λ x. ltb x 128) xs ≡ true → IsUtf8 xs
 utf8_words xs h = IsUtf8-from_ascii xs (ascii_words xs h)
 
-utf8_decimal : (n : ℕ) → IsUtf8 (decimal n)
+pub utf8_decimal : (n : ℕ) → IsUtf8 (decimal n)
 utf8_decimal n = IsUtf8-from_ascii (decimal n) (ascii_digits (decimal n) (decimal_digits n))
 
-expert_in-decimal : (k e : ℕ) → is_expert e ≡ true → expert_in k (decimal e) ≡ Ok e
-expert_in-decimal k e h =
-    let bounds = and_parts (nat_le 1 e) (nat_le e MAX_EXPERTS) h in
-    let few : e ≤ MAX_EXPERTS = leb-true e MAX_EXPERTS bounds.1 in
-    let small : e < 2 ^ 64 = omega arith in
-    let value : value_of (decimal e) ≡ e = digits_value-decimal numerals e small in
-    let numeral : is_numeral (decimal e) ≡ true = and_from (nat_lt 0 (length (decimal e))) (list_all is_ascii_digit (decimal e)) (lt-ltb 0 (length (decimal e)) (decimal_nonempty e small)) (decimal_digits e) in
-    ap (λ b. cond b (cond (is_expert (value_of (decimal e))) (Ok (value_of (decimal e))) (Err (BadExpert k))) (Err (BadLine k))) numeral
-    ∙ ap (λ v. cond (is_expert v) (Ok v) (Err (BadExpert k))) value
-    ∙ ap (λ b. cond b (Ok e) (Err (BadExpert k))) h
-
-decimal_no_space : (n : ℕ) → list_any is_space (decimal n) ≡ false
+pub decimal_no_space : (n : ℕ) → list_any is_space (decimal n) ≡ false
 decimal_no_space n = list_any-excluded is_ascii_digit is_space (decimal n) digit_no_space (decimal_digits n)
 
--- a line of a verb and more
-of_verb : (n k : ℕ) (verb text : Text) → list_any is_space verb ≡ false → list_all (λ x. ltb x 128) (verb ++ codes " ") ≡ true → IsUtf8 text
-    → event_of n k (verb ++ (32 ∷ text)) ≡ event_of_words n k verb text
-of_verb n k verb text one ascii utf8 =
-    let line = verb ++ (32 ∷ text) in
-    let whole : IsUtf8 line = subst IsUtf8 (append_assoc verb (codes " ") text) (IsUtf8-append (verb ++ codes " ") text (utf8_words (verb ++ codes " ") ascii) utf8) in
-    ap (λ b. cond b (event_of_words n k (first_word line) (later_words line)) (Err (BadLine k))) (is_utf8-from_IsUtf8 line whole)
-    ∙ ap₂ (event_of_words n k) (before_first-at is_space verb 32 text one refl) (after_first-at is_space verb 32 text one refl)
-
-named_row-written : (n : ℕ) (r : Set) (name : Text) → (length r == n) ≡ true → IsName name → named_row n (pattern r ++ (32 ∷ name)) ≡ Ok (name, r)
+pub named_row-written : (n : ℕ) (r : Set) (name : Text) → (length r == n) ≡ true → IsName name → named_row n (pattern r ++ (32 ∷ name)) ≡ Ok (name, r)
 named_row-written n r name wide named =
     let text = pattern r ++ (32 ∷ name) in
     let first : first_word text ≡ pattern r = before_first-at is_space (pattern r) 32 name (pattern_no_space r) refl in
@@ -193,24 +173,3 @@ named_row-written n r name wide named =
     ∙ ap (λ fault. cond (is_none fault) (row_of_width n name (set_marked (pattern r))) (Err Line)) named.faultless
     ∙ ap (row_of_width n name) (set_marked-pattern r)
     ∙ ap (λ b. cond b (Ok (name, r)) (Err Width)) wide
-
-row_event-written : (n k e : ℕ) (r : Set) (name : Text) → is_expert e ≡ true → (length r == n) ≡ true → IsName name
-    → row_event n k (decimal e ++ (32 ∷ (pattern r ++ (32 ∷ name)))) ≡ Ok (Row e name r)
-row_event-written n k e r name expert wide named =
-    let rest = pattern r ++ (32 ∷ name) in
-    ap₂ (λ w t. row_by k (expert_in k w) (named_row n t)) (before_first-at is_space (decimal e) 32 rest (decimal_no_space e) refl) (after_first-at is_space (decimal e) 32 rest (decimal_no_space e) refl)
-    ∙ ap₂ (row_by k) (expert_in-decimal k e expert) (named_row-written n r name wide named)
-
-utf8_row : (e : ℕ) (r : Set) (name : Text) → IsName name → IsUtf8 (decimal e ++ (32 ∷ (pattern r ++ (32 ∷ name))))
-utf8_row e r name named =
-    let space : (t : Text) → IsUtf8 t → IsUtf8 (32 ∷ t) = λ t h. IsUtf8-append (codes " ") t (utf8_words (codes " ") refl) h in
-    IsUtf8-append (decimal e) (32 ∷ (pattern r ++ (32 ∷ name))) (utf8_decimal e)
-    (space (pattern r ++ (32 ∷ name)) (IsUtf8-append (pattern r) (32 ∷ name) (IsUtf8-from_ascii (pattern r) (ascii_pattern r)) (space name named.utf8)))
-
-pub event_of-event_text : (n k : ℕ) (event : SetEvent) → CanBeSaid n event → event_of n k (event_text event) ≡ Ok event
-event_of-event_text n k (Draw e) h = of_verb n k (codes "draw") (decimal e) refl refl (utf8_decimal e) ∙ ap (event_by Draw) (expert_in-decimal k e h.expert)
-event_of-event_text n k (Confirm e) h = of_verb n k (codes "confirm") (decimal e) refl refl (utf8_decimal e) ∙ ap (event_by Confirm) (expert_in-decimal k e h.expert)
-event_of-event_text n k (Leave e) h = of_verb n k (codes "leave") (decimal e) refl refl (utf8_decimal e) ∙ ap (event_by Leave) (expert_in-decimal k e h.expert)
-event_of-event_text n k (Row e name r) h =
-    of_verb n k (codes "row") (decimal e ++ (32 ∷ (pattern r ++ (32 ∷ name)))) refl refl (utf8_row e r name h.named)
-    ∙ row_event-written n k e r name h.expert h.wide h.named

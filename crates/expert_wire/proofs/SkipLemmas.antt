@@ -1,7 +1,6 @@
--- A transcript, with more lines behind it that begin with `#`, is read as its events. No text that a line is made of has a line break,
--- so the lines of the text are the lines that were written. `Skips` is said of a text of skipped lines: before any other text it only
--- moves the numbers of the lines on. Then the events come one by one, each behind the skipped line of the reply before it.
-use Rattle.std.proofs.Common.{◌≡◌, ℕ, zero, suc, ◌+◌, ◌-◌, Bool, true, false, cond, List, [], ◌∷◌, ◌++◌, map, length, take, get_or, Some, None, Ok, refl, sym, ap, ap₂, ◌∙◌, arith, append_assoc, append-nil, length-append, inl, inr}
+-- No text that a line is made of has a line break, so the lines of a text are the lines that were written. `Skips` is said of a text
+-- of skipped lines: before any other text it only moves the numbers of the lines on.
+use Rattle.std.proofs.Common.{◌≡◌, ℕ, zero, suc, ◌+◌, ◌-◌, Bool, true, false, cond, List, [], ◌∷◌, ◌++◌, length, take, get_or, Some, None, refl, sym, ap, ap₂, ◌∙◌, arith, append_assoc, length-append, inl, inr}
 use Rattle.std.specs.Char.{is_ascii_digit}
 use Rattle.std.specs.Prelude.{codes, decimal, is_none, ◌==◌, nat_lt}
 use Rattle.std.specs.List.{list_any, list_all, flat_map}
@@ -14,16 +13,15 @@ use Rattle.fca_model.specs.Names.{name_fault, is_line_break}
 use Rattle.fca_model.specs.declared.TheConstants.{MAX_NAME_BYTES}
 use Rattle.fca_model.specs.declared.names.NameFault.TheVariants.{Empty, Long, Line}
 use Rattle.fca_model.specs.Implications.{Rule}
-use Rattle.fca_model.specs.Exploration.{SetEvent, SetReply, SetEntry, events_of}
-use Rattle.fca_model.specs.declared.Event.TheVariants.{Draw, Confirm, Row, Leave}
+use Rattle.fca_model.specs.Exploration.{SetReply}
 use Rattle.fca_model.specs.declared.Reply.TheVariants.{Ask, Done, AllHeld, Accepted, Taken, Left, NotHeld, Misses, Keeps, Breaks, Refuted, SupersededRow, SupersededBy}
 use Rattle.attr_bits.specs.Difference.{minus}
 use Rattle.expert_wire.specs.Texts.{line_end, ordinal, pattern, names_of, continued, braced, braces_text, arrow_text, full_text}
-use Rattle.expert_wire.specs.Replies.{attribute_name, numbered_row, numbered_rule, reply_text, event_text, entries_text, heading, transcript}
+use Rattle.expert_wire.specs.Replies.{attribute_name, numbered_row, numbered_rule, reply_text}
 use Rattle.expert_wire.specs.Words.{is_name}
-use Rattle.expert_wire.specs.Scripts.{is_line_feed, lines, is_skipped, said_from, behind_heading, with_event, all_events, events_said, event_of, script_form, CanBeSaid, EachCanBeSaid}
-use Rattle.expert_wire.proofs.ScriptLemmas.{lines-cons, said_from-skipped, said_from-told}
-use Rattle.expert_wire.proofs.ReadLemmas.{before_first-at, after_first-at, list_any-excluded, digit_no_break, decimal_digits, pattern_no_break, event_of-event_text}
+use Rattle.expert_wire.specs.Lines.{is_line_feed, lines, said_from}
+use Rattle.expert_wire.proofs.LineLemmas.{lines-cons, said_from-skipped}
+use Rattle.expert_wire.proofs.ReadLemmas.{before_first-at, after_first-at, list_any-excluded, digit_no_break, decimal_digits, pattern_no_break}
 
 -- ---- texts without a line break
 
@@ -99,14 +97,6 @@ no_break-reply attributes (Refuted place r) h = no_break-row place r
 no_break-reply attributes (SupersededRow place r) h = no_break-row place r
 no_break-reply attributes (SupersededBy place i) h = no_break-rule attributes place i h
 
-no_break-event : (n : ℕ) (event : SetEvent) → CanBeSaid n event → list_any is_line_break (event_text event) ≡ false
-no_break-event n (Draw e) h = no_break-decimal e
-no_break-event n (Confirm e) h = no_break-decimal e
-no_break-event n (Leave e) h = no_break-decimal e
-no_break-event n (Row e name r) h =
-    no_break-append (decimal e) (codes " " ++ (pattern r ++ (codes " " ++ name))) (no_break-decimal e)
-    (no_break-append (pattern r) (codes " " ++ name) (pattern_no_break r) (no_break-name name (ap is_none h.named.faultless)))
-
 -- ---- one line
 
 no_feed : (l : Text) → list_any is_line_break l ≡ false → list_any is_line_feed l ≡ false
@@ -155,37 +145,3 @@ Skips-comment body h k rest =
 pub Skips-flat_map : {X : Type 0} (f : X → Text) (xs : List X) → ((x : X) → Skips (f x)) → Skips (flat_map f xs)
 Skips-flat_map f [] h = Skips-nil
 Skips-flat_map f (x ∷ xs) h = Skips-append (f x) (flat_map f xs) (h x) (Skips-flat_map f xs h)
-
--- ---- the transcript
-
-told_event : (event : SetEvent) → is_skipped (event_text event) ≡ false
-told_event (Draw e) = refl
-told_event (Confirm e) = refl
-told_event (Leave e) = refl
-told_event (Row e name r) = refl
-
-entries-said : (n k : ℕ) (attributes : List Text) (H : List SetEntry) (tail : Text) → list_all is_name attributes ≡ true → EachCanBeSaid n H → Skips tail
-    → events_said n (said_from k (lines (entries_text attributes H ++ tail))) ≡ Ok (events_of H)
-entries-said n k attributes [] tail names said skips =
-    let x = skips k [] in ap (events_said n) (ap (λ t. said_from k (lines t)) (sym (append-nil tail)) ∙ x.1)
-entries-said n k attributes (entry ∷ H) tail names said skips =
-    let more = entries_text attributes H ++ tail in
-    let comment = codes "# " ++ (reply_text attributes entry.reply ++ line_end) in
-    let x = Skips-comment (reply_text attributes entry.reply) (no_break-reply attributes entry.reply names) (k + 1) more in
-    ap (λ t. events_said n (said_from k (lines t))) (regroup (event_text entry.event) comment (entries_text attributes H) tail)
-    ∙ ap (λ ls. events_said n (said_from k ls)) (lines-line (event_text entry.event) (comment ++ more) (no_break-event n entry.event said.0))
-    ∙ ap (events_said n) (said_from-told k (event_text entry.event) (lines (comment ++ more)) (told_event entry.event) ∙ ap (λ ls. (k, event_text entry.event) ∷ ls) x.1)
-    ∙ ap (λ r. all_events (r ∷ map (λ l. event_of n l.0 l.1) (said_from x.0 (lines more)))) (event_of-event_text n k entry.event said.0)
-    ∙ ap (with_event entry.event) (entries-said n x.0 attributes H tail names said.1 skips)
-  where
-    regroup : (a b c d : Text) → ((a ++ (line_end ++ b)) ++ c) ++ d ≡ a ++ (10 ∷ (b ++ (c ++ d)))
-    regroup a b c d = simp append_assoc
-
-pub script_form-transcript : (n : ℕ) (attributes : List Text) (H : List SetEntry) (tail : Text) → list_all is_name attributes ≡ true → EachCanBeSaid n H → Skips tail
-    → script_form (transcript attributes H ++ tail) n ≡ Ok (events_of H)
-unfolding script_form
-script_form-transcript n attributes H tail names said skips =
-    let rest = entries_text attributes H ++ tail in
-    ap (λ ls. events_said n (behind_heading (said_from 1 ls))) (lines-line heading rest refl)
-    ∙ ap (λ said. events_said n (behind_heading said)) (said_from-told 1 heading (lines rest) refl)
-    ∙ entries-said n 2 attributes H tail names said skips

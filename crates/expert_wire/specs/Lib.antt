@@ -3,5 +3,5 @@ pub mod Texts
 pub mod Replies
 pub mod Words
 pub mod Requests
-pub mod Scripts
+pub mod Lines
 pub mod Greetings

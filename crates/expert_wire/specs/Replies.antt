@@ -1,10 +1,9 @@
--- Replies and events as lines, and the transcript of an exploration.
-use Rattle.std.specs.Prelude.{ℕ, List, [], ◌∷◌, ◌++◌, codes, decimal, slice_get, unwrap_or}
+-- Replies as lines.
+use Rattle.std.specs.Prelude.{ℕ, List, [], ◌++◌, codes, slice_get, unwrap_or}
 use Rattle.fca_model.specs.Sets.{Set}
 use Rattle.fca_model.specs.Tables.{Text}
 use Rattle.fca_model.specs.Implications.{Rule}
-use Rattle.fca_model.specs.Exploration.{SetEvent, SetReply, SetEntry}
-use Rattle.fca_model.specs.declared.Event.TheVariants.{Draw, Confirm, Row, Leave}
+use Rattle.fca_model.specs.Exploration.{SetReply}
 use Rattle.fca_model.specs.declared.Reply.TheVariants.{Ask, Done, AllHeld, Accepted, Taken, Left, NotHeld, Misses, Keeps, Breaks, Refuted, SupersededRow, SupersededBy}
 use Rattle.expert_wire.specs.Texts.{line_end, ordinal, pattern, full_text}
 
@@ -40,26 +39,6 @@ reply_text attributes (SupersededBy place i) = codes "superseded accepted " ++ n
 abbrev pub reply_line : List Text → SetReply → Text
 reply_line attributes reply = reply_text attributes reply ++ line_end
 
--- what an event says in a script
-abbrev pub event_text : SetEvent → Text
-event_text (Draw e) = codes "draw " ++ decimal e
-event_text (Confirm e) = codes "confirm " ++ decimal e
-event_text (Row e name r) = codes "row " ++ (decimal e ++ (codes " " ++ (pattern r ++ (codes " " ++ name))))
-event_text (Leave e) = codes "leave " ++ decimal e
-
--- the line of an event, and behind `# ` that of its reply
-abbrev pub entry_lines : List Text → SetEntry → Text
-entry_lines attributes entry = event_text entry.event ++ (line_end ++ (codes "# " ++ reply_line attributes entry.reply))
-
--- the lines of all entries
-abbrev pub entries_text : List Text → List SetEntry → Text
-entries_text attributes [] = []
-entries_text attributes (entry ∷ H) = entry_lines attributes entry ++ entries_text attributes H
-
--- the first line of a transcript whose settings are plain
+-- the first line of a session, and of a transcript whose settings are plain
 abbrev pub heading : Text
 heading = codes "exploration 1"
-
--- the heading, and each event with its reply
-abbrev pub transcript : List Text → List SetEntry → Text
-transcript attributes H = heading ++ (line_end ++ entries_text attributes H)

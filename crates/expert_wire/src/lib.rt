@@ -1,23 +1,20 @@
-//! What experts write and are answered, as texts: greetings, requests, replies, scripts and transcripts.
+//! What experts write and are answered, as texts: lines and their words, greetings, requests and replies.
 #![tactic(auto)]
 
 mod draft;
 mod greeting;
-pub mod laws;
+mod lines;
 mod parts;
 mod replies;
 mod requests;
-mod scripts;
 #[cfg(test)]
 mod tests;
-mod transcript;
 mod words;
 
 pub use draft::Draft;
 pub use greeting::write_greeting;
+pub use lines::{is_skipped, split_line};
 pub use parts::Part;
 pub use replies::write_reply;
 pub use requests::{Request, RequestFault, read_request};
-pub use scripts::{ScriptFault, is_skipped, read_script, split_line};
-pub use transcript::{transcript_text, write_transcript};
-pub use words::{crossed, marks};
+pub use words::{crossed, expert_of, is_numeral, marks, read_row, split_word, text_of};

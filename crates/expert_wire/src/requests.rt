@@ -4,7 +4,7 @@ ghost use Rattle.std.specs.Prelude.{◌≡◌, ◌≤◌, ◌⊎◌, Ok, Err, Is
 ghost use Rattle.fca_model.specs.declared.TheConstants.{MAX_ATTRIBUTES};
 ghost use Rattle.expert_wire.specs.Requests.{request_form, request_of};
 
-use crate::scripts::without_return;
+use crate::lines::without_return;
 use crate::words::{read_row, split_word, text_of};
 use attr_bits::Attrs;
 use fca_model::Name;

@@ -14,14 +14,14 @@ use fca_model::{MAX_EXPERTS, Name, NameFault};
 use std::alloc::Global;
 
 /// The text of the bytes, if they are UTF-8.
-pub(crate) fn text_of(bytes: &[u8]) -> Option<&str>
+pub fn text_of(bytes: &[u8]) -> Option<&str>
     ensures { MatchOption result (is_utf8 bytes.now ≡ false) (λ text. (text.now ≡ bytes.now) × (is_utf8 bytes.now ≡ true)) }
 {
     str::from_utf8(bytes).ok()
 }
 
 /// The text before the first space, and the text behind it.
-pub(crate) fn split_word(text: &str) -> (&str, &str)
+pub fn split_word(text: &str) -> (&str, &str)
     ensures first { result.0.now ≡ first_word text.now }
     ensures later { result.1.now ≡ later_words text.now }
 {
@@ -29,7 +29,7 @@ pub(crate) fn split_word(text: &str) -> (&str, &str)
 }
 
 /// Whether the word is one or more decimal digits.
-pub(crate) fn is_numeral(word: &str) -> bool
+pub fn is_numeral(word: &str) -> bool
     ensures { result ≡ is_numeral word.now }
 {
     !word.is_empty() && all_digits(word.as_bytes())
@@ -42,7 +42,7 @@ fn all_digits(word: &[u8]) -> bool
 }
 
 /// The number of an expert, if the digits write one.
-pub(crate) fn expert_of(digits: &str) -> Option<u8>
+pub fn expert_of(digits: &str) -> Option<u8>
     requires { is_numeral digits.now ≡ true }
     ensures { result ≡ cond (is_expert (value_of digits.now)) (Some (value_of digits.now)) None }
 {
@@ -104,7 +104,7 @@ pub fn crossed(marks: &[u8]) -> Attrs
 }
 
 /// A pattern of width n and a name, with a space between them.
-pub(crate) fn read_row(alloc: Global, text: &str, n: u32) -> Result<(Name, Attrs), RequestFault>
+pub fn read_row(alloc: Global, text: &str, n: u32) -> Result<(Name, Attrs), RequestFault>
     requires { n ≤ MAX_ATTRIBUTES }
     ensures ok { IfOk result (λ x. named_row n text.now ≡ Ok x) }
     ensures refused { IfErr result (λ e. (e ≡ RequestFault.Memory) ⊎ (named_row n text.now ≡ Err e)) }

@@ -1,5 +1,5 @@
 -- The first part of a text ends at its first comma, and where there is none the text is its only part.
-use Rattle.std.proofs.Common.{◌≡◌, ◌∷◌, [], ◌+◌, ◌≤◌, ℕ, List, Bool, true, false, cond, length, take, drop, Option, Some, None, refl, sym, subst, arith}
+use Rattle.std.proofs.Common.{◌≡◌, ◌∷◌, [], ◌+◌, ℕ, Bool, true, false, cond, length, take, drop, Some, None, refl, subst, arith}
 use Rattle.std.specs.Prelude.{nat_lt, position}
 use Rattle.std.specs.List.{slice_split, position_or_len, All}
 use Rattle.std.proofs.lemmas.Bool.{ltb-true, ltb-false}

@@ -1,5 +1,5 @@
 -- Whether bytes are text: what `from_utf8` tells, as a test.
-use Rattle.std.proofs.Common.{◌≡◌, ℕ, List, true, false, Result, Ok, Err}
+use Rattle.std.proofs.Common.{◌≡◌, ℕ, List, Result, Ok, Err}
 use Rattle.std.proofs.lemmas.Bool.{cases_Bool}
 use Rattle.std.proofs.Common.{inl, inr, sym}
 use Rattle.std.proofs.lemmas.Str.{is_utf8-from_IsUtf8, IsUtf8-from_is_utf8}

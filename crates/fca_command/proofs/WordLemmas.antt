@@ -1,5 +1,5 @@
 -- Lists of words by their first two, as code takes them apart.
-use Rattle.std.proofs.Common.{◌≡◌, ◌∷◌, [], ◌++◌, ◌-◌, ◌≤◌, ◌∙◌, ℕ, List, Bool, true, cond, Option, Some, None, length, take, drop, get_or, refl, sym, ap, append_assoc, arith}
+use Rattle.std.proofs.Common.{◌≡◌, ◌∷◌, [], ◌++◌, ◌-◌, ◌≤◌, ◌∙◌, List, Bool, true, cond, Option, Some, None, length, take, drop, get_or, refl, sym, ap, append_assoc, arith}
 use Rattle.std.specs.Prelude.{option_map}
 use Rattle.std.proofs.lemmas.List.{take_all}
 use Rattle.fca_model.specs.Tables.{Text}

@@ -1,11 +1,12 @@
 -- The commands, word by word: exactly these lists of words are commands.
-use Rattle.std.specs.Prelude.{◌≡◌, ℕ, ⊤, length, Bool, true, false, not, ◌&&◌, cond, Option, Some, None, List, [], ◌∷◌, option_map, option_and_then, bytes_eq, codes}
+use Rattle.std.specs.Prelude.{◌≡◌, ℕ, ⊤, length, Bool, true, false, cond, Option, Some, None, List, [], ◌∷◌, ◌++◌, option_map, option_and_then, option_to_list, bytes_eq, codes}
 use Rattle.std.specs.List.{list_all}
 use Rattle.std.specs.Str.{is_utf8}
 use Rattle.fca_model.specs.Tables.{Text}
 use Rattle.fca_model.specs.Exploration.{is_expert}
 use Rattle.fca_model.specs.declared.TheConstants.{MAX_ATTRIBUTES}
 use Rattle.fca_command.specs.Experts.{experts_said, count_said}
+use Rattle.fca_command.specs.Flags.{known_said, behind_known, names_said, behind_names, serving_said}
 use Rattle.fca_command.specs.Recipes.{recipe_said, HasRecipe}
 use Rattle.fca_command.specs.declared.command.Form.{Form}
 use Rattle.fca_command.specs.declared.command.Form.TheVariants.{Cxt, Csv}
@@ -67,21 +68,25 @@ abbrev pub scale_command : Text → List Text → Option Command
 scale_command values (plan ∷ []) = cond (bytes_eq plan []) None (Some (Scale values plan))
 scale_command values _ = None
 
--- `replay F`
+-- `F`, where this is known and no word is left
+abbrev pub replay_by : Text → Option Text → List Text → Option Command
+replay_by file known [] = Some (Replay file known)
+replay_by file known _ = None
+
+-- `replay F`, `replay F --known S`
 abbrev pub replay_command : Text → List Text → Option Command
-replay_command file [] = Some (Replay file)
-replay_command file _ = None
+replay_command file later = replay_by file (known_said later) (behind_known later)
 
--- `explore F --expert G ..`
+-- `explore F --expert G ..`, with `--known S`, `--names` or both before the experts
 abbrev pub explore_command : Text → List Text → Option Command
-explore_command file later = option_map (λ experts. Explore file experts) (experts_said later)
+explore_command file later =
+    option_map (λ experts. Explore file (known_said later) (names_said (behind_known later)) experts)
+    (experts_said (behind_names (behind_known later)))
 
--- `serve F --experts N --listen A`
+-- `serve F --experts N --listen A`, with `--known S` before the experts, `--holders H` behind them, or both
 abbrev pub serve_command : Text → List Text → Option Command
-serve_command file (flag ∷ experts ∷ flag' ∷ listen ∷ []) =
-    cond (bytes_eq flag (codes "--experts") && (bytes_eq flag' (codes "--listen") && not (bytes_eq listen [])))
-    (option_map (λ count. Serve file count listen) (count_said experts)) None
-serve_command file _ = None
+serve_command file later =
+    option_map (λ s. Serve file (known_said later) s.0 s.1 s.2) (serving_said (behind_known later))
 
 -- ---- all commands
 
@@ -156,9 +161,9 @@ reported _ = None
 abbrev pub files_by : Option Text → Command → List Text
 files_by (Some file) command = file ∷ []
 files_by None (Scale values plan) = values ∷ plan ∷ []
-files_by None (Replay file) = file ∷ []
-files_by None (Explore file experts) = file ∷ experts
-files_by None (Serve file experts listen) = file ∷ []
+files_by None (Replay file known) = file ∷ option_to_list known
+files_by None (Explore file known names experts) = file ∷ option_to_list known ++ experts
+files_by None (Serve file known experts holders listen) = file ∷ option_to_list known
 files_by None _ = []
 
 -- the files that the command reads, in their order
@@ -170,33 +175,46 @@ abbrev pub first_of : List Text → Text
 first_of [] = []
 first_of (file ∷ later) = file
 
+-- the file of what is known, if the command reads one
+abbrev pub known_of : Command → Option Text
+known_of (Replay file known) = known
+known_of (Explore file known names experts) = known
+known_of (Serve file known experts holders listen) = known
+known_of _ = None
+
+-- the files that it reads besides these, in their order
+abbrev pub later_of : Command → List Text
+later_of (Scale values plan) = plan ∷ []
+later_of (Explore file known names experts) = experts
+later_of _ = []
+
 -- whether the command reads the input
 abbrev pub reads_input : Command → Bool
-reads_input (Replay file) = true
+reads_input (Replay file known) = true
 reads_input _ = false
 
 -- whether the command listens for experts
 abbrev pub uses_link : Command → Bool
-uses_link (Serve file experts listen) = true
+uses_link (Serve file known experts holders listen) = true
 uses_link _ = false
 
 -- whether the text of the command may leave a question open
 abbrev pub may_end_open : Command → Bool
-may_end_open (Replay file) = true
-may_end_open (Serve file experts listen) = true
+may_end_open (Replay file known) = true
+may_end_open (Serve file known experts holders listen) = true
 may_end_open _ = false
 
 -- whether the command waits for nobody
 abbrev pub is_plain : Command → Bool
-is_plain (Explore file experts) = false
-is_plain (Serve file experts listen) = false
+is_plain (Explore file known names experts) = false
+is_plain (Serve file known experts holders listen) = false
 is_plain (Survey seed objects attributes density experts) = false
 is_plain _ = true
 
--- the limits of what the words of a command say: 1 to 64 experts, and those of a table that is made
+-- the limits of what the words of a command say: 1 to 64 experts and holders, and those of a table that is made
 abbrev pub IsWithinLimits : Command → Type 0
-IsWithinLimits (Explore file experts) = is_expert (length experts) ≡ true
-IsWithinLimits (Serve file experts listen) = is_expert experts ≡ true
+IsWithinLimits (Explore file known names experts) = is_expert (length experts) ≡ true
+IsWithinLimits (Serve file known experts holders listen) = (is_expert experts ≡ true) × (is_expert holders ≡ true)
 IsWithinLimits (Make seed objects attributes density) = HasRecipe MAX_ATTRIBUTES objects attributes density
 IsWithinLimits (Survey seed objects attributes density experts) =
     HasRecipe most_surveyed objects attributes density × (is_expert experts ≡ true)

@@ -6,6 +6,7 @@ ghost use Rattle.std.specs.Str.{is_utf8};
 ghost use Rattle.fca_command.specs.Commands.{command_form, text_command, named_command, make_command, survey_command, over_file, file_command, concepts_command, lattice_command, basis_command, json_said, direct_command, follows_command, convert_command, form_named, reduce_command, arrows_command, scale_command, replay_command, explore_command, serve_command, reported, files_of, first_of, IsWithinLimits};
 
 use crate::experts::{count_said, experts_said};
+use crate::flags::{copied, serving_said, split_known, split_names};
 use crate::recipe::recipe_said;
 use crate::words::Words;
 use fca_model::{MAX_ATTRIBUTES, Memory, Word};
@@ -59,14 +60,19 @@ pub enum Command {
     },
     Replay {
         file: Word,
+        known: Option<Word>,
     },
     Explore {
         file: Word,
+        known: Option<Word>,
+        names: bool,
         experts: Words,
     },
     Serve {
         file: Word,
+        known: Option<Word>,
         experts: u8,
+        holders: u8,
         listen: Word,
     },
     Make {
@@ -115,7 +121,7 @@ impl Command {
             | Command::Convert { file, .. }
             | Command::Reduce { file }
             | Command::Arrows { file }
-            | Command::Replay { file }
+            | Command::Replay { file, .. }
             | Command::Explore { file, .. }
             | Command::Serve { file, .. } => file.bytes(),
             Command::Scale { values, .. } => values.bytes(),
@@ -250,7 +256,7 @@ fn file_command(
     } else if name == b"scale".as_slice() {
         scale_command(alloc, file, later)
     } else if name == b"replay".as_slice() {
-        Ok(replay_command(file, later))
+        replay_command(alloc, file, later)
     } else if name == b"explore".as_slice() {
         explore_command(alloc, file, later)
     } else if name == b"serve".as_slice() {
@@ -381,46 +387,51 @@ fn scale_command(alloc: Global, file: Word, later: &[Word]) -> Result<Option<Com
     Ok(Some(Command::Scale { values: file, plan }))
 }
 
-fn replay_command(file: Word, later: &[Word]) -> Option<Command>
-    ensures command { result ≡ replay_command file later.now }
-    ensures limits { IfSome result IsWithinLimits }
+fn replay_command(alloc: Global, file: Word, later: &[Word]) -> Result<Option<Command>, Memory>
+    ensures command { IfOk result (λ command. command ≡ replay_command file later.now) }
+    ensures limits { IfOk result (λ command. IfSome command IsWithinLimits) }
 {
-    match later {
-        [] => Some(Command::Replay { file }),
-        _ => None,
+    let (known, rest) = split_known(later);
+    if !rest.is_empty() {
+        return Ok(None);
     }
+    let known = copied(alloc, known)?;
+    Ok(Some(Command::Replay { file, known }))
 }
 
 fn explore_command(alloc: Global, file: Word, later: &[Word]) -> Result<Option<Command>, Memory>
     ensures command { IfOk result (λ command. command ≡ explore_command file later.now) }
     ensures limits { IfOk result (λ command. IfSome command IsWithinLimits) }
 {
-    match experts_said(alloc, later)? {
-        Some(experts) => Ok(Some(Command::Explore { file, experts })),
-        None => Ok(None),
-    }
+    let (known, rest) = split_known(later);
+    let (names, rest) = split_names(rest);
+    let Some(experts) = experts_said(alloc, rest)? else {
+        return Ok(None);
+    };
+    let known = copied(alloc, known)?;
+    Ok(Some(Command::Explore {
+        file,
+        known,
+        names,
+        experts,
+    }))
 }
 
 fn serve_command(alloc: Global, file: Word, later: &[Word]) -> Result<Option<Command>, Memory>
     ensures command { IfOk result (λ command. command ≡ serve_command file later.now) }
     ensures limits { IfOk result (λ command. IfSome command IsWithinLimits) }
 {
-    let [experts_flag, experts, listen_flag, listen] = later else {
+    let (known, rest) = split_known(later);
+    let Some((experts, holders, address)) = serving_said(rest) else {
         return Ok(None);
     };
-    if experts_flag.bytes() != b"--experts".as_slice()
-        || listen_flag.bytes() != b"--listen".as_slice()
-        || listen.bytes().is_empty()
-    {
-        return Ok(None);
-    }
-    let Some(experts) = count_said(experts.bytes()) else {
-        return Ok(None);
-    };
-    let listen = Word::new(alloc, listen.bytes())?;
+    let known = copied(alloc, known)?;
+    let listen = Word::new(alloc, address.bytes())?;
     Ok(Some(Command::Serve {
         file,
+        known,
         experts,
+        holders,
         listen,
     }))
 }

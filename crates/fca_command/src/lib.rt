@@ -4,6 +4,7 @@
 mod attributes;
 mod command;
 mod experts;
+mod flags;
 mod numbers;
 mod recipe;
 mod words;

@@ -6,8 +6,8 @@ use Rattle.fca_model.specs.Tables.{Text}
 use Rattle.fca_model.specs.Implications.{Rule}
 use Rattle.expert_wire.specs.Texts.{pattern, arrow_text, full_text}
 use Rattle.expert_wire.specs.Words.{is_space, first_word, later_words, set_marked}
-use Rattle.expert_wire.specs.Scripts.{lines, is_skipped}
-use Rattle.expert_wire.proofs.ScriptLemmas.{later_said, said_from-skipped, said_from-told}
+use Rattle.expert_wire.specs.Lines.{lines, is_skipped}
+use Rattle.expert_wire.proofs.LineLemmas.{later_said, said_from-skipped, said_from-told}
 use Rattle.expert_wire.proofs.ReadLemmas.{before_first-at, after_first-at, pattern_no_space, set_marked-pattern}
 use Rattle.known_rules.specs.declared.fault.KnownFault.{KnownFault}
 use Rattle.known_rules.specs.declared.fault.KnownFault.TheVariants.{BadWidth}

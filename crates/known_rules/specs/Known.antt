@@ -8,7 +8,7 @@ use Rattle.fca_model.specs.Sets.{Set}
 use Rattle.fca_model.specs.Tables.{Text}
 use Rattle.fca_model.specs.Implications.{Rule, rule}
 use Rattle.expert_wire.specs.Words.{first_word, later_words, set_marked}
-use Rattle.expert_wire.specs.Scripts.{lines, said_from}
+use Rattle.expert_wire.specs.Lines.{lines, said_from}
 use Rattle.known_rules.specs.declared.fault.KnownFault.{KnownFault}
 use Rattle.known_rules.specs.declared.fault.KnownFault.TheVariants.{BadLine, BadWidth}
 

@@ -8,4 +8,4 @@ mod read;
 mod tests;
 
 pub use fault::KnownFault;
-pub use read::read_known;
+pub use read::{read_known, read_rule};

@@ -32,8 +32,8 @@ pub fn read_known(alloc: Global, bytes: &[u8], n: u32) -> Result<ImplicationList
     Ok(list)
 }
 
-/// The implication of a line that is not skipped.
-fn read_rule(line: &[u8], n: u32, number: usize) -> Result<Implication, KnownFault>
+/// The implication of a line that is not skipped, between sets of width n. The line is number `number`.
+pub fn read_rule(line: &[u8], n: u32, number: usize) -> Result<Implication, KnownFault>
     requires { n ≤ MAX_ATTRIBUTES }
     ensures ok { IfOk result (λ i. known_rule n number line.now ≡ Ok i) }
     ensures refused { IfErr result (λ e. known_rule n number line.now ≡ Err e) }

@@ -3,6 +3,7 @@ use Rattle.std.specs.List.{list_all}
 use Rattle.std.proofs.lemmas.List.Folds.{list_all-map}
 use Rattle.fca_model.specs.Tables.{NamedContext}
 use Rattle.expert_wire.specs.Words.{is_name}
+use Rattle.expert_scripts.proofs.TranscriptLemmas.{are_names}
 use Rattle.oracle_expert.specs.Oracles.{Conflicts, Recall}
 use Rattle.basis_report.specs.Comments.{AreComments}
 use Rattle.basis_report.proofs.CommentLemmas.{conflicts-comments}
@@ -34,4 +35,4 @@ returns-clause-skipped c =
     let over : length oracles ≤ k = omega arith in
     let text = c.into_bytes.ensures
     ∙ written_end (conflict_line attributes rules) c.loop-expert.draft (conflicts_section attributes rules ds) (dropped_later k oracles) (oracle_end k oracles over) c.loop-expert.invariant in
-    subst AreComments (sym text) (conflicts-comments attributes rules (map (λ o. (o.table, o.conflicts)) oracles) c.look_at_attributes.ensures (list_all-map (λ (x : NamedContext × Conflicts). list_all is_name x.0.objects) (λ (o : Recall). (o.table, o.conflicts)) oracles ∙ c.look_at_oracles.ensures))
+    subst AreComments (sym text) (conflicts-comments attributes rules (map (λ o. (o.table, o.conflicts)) oracles) (are_names attributes c.look_at_attributes.ensures) (list_all-map (λ (x : NamedContext × Conflicts). list_all is_name x.0.objects) (λ (o : Recall). (o.table, o.conflicts)) oracles ∙ c.look_at_oracles.ensures))

@@ -1,8 +1,7 @@
 use Rattle.std.proofs.Common.{◌≡◌, ◌∙◌, true, subst}
-use Rattle.std.specs.List.{list_all}
 use Rattle.fca_model.specs.Tables.{NamedContext}
 use Rattle.fca_model.specs.Exploration.{IsLegal, opening}
-use Rattle.expert_wire.specs.Words.{is_name}
+use Rattle.expert_scripts.specs.Transcripts.{AreNames}
 use Rattle.basis_report.specs.Explorations.{EachNamed}
 use Rattle.basis_report.proofs.CommentLemmas.{spelled-comments}
 use Rattle.basis_report.proofs.ExplorationLemmas.{five_parts, explore_text-parts}
@@ -13,13 +12,13 @@ returns-clause-text c =
     let o = c.args.explore.now.opening in
     c.into_bytes.ensures
     ∙ five_parts _ _ _ _ _ _ _ _ _ _ _ c.new-draft.ensures c.in_ok-write_transcript.ensures c.in_ok-write_recorded.ensures c.in_ok-write_accepted.ensures c.in_ok-write_open.ensures c.in_ok-write_basis.ensures
-    ∙ explore_text-parts o.table o.settings c.args.explore.now.journal _ c.table-table.ensures _ c.known.ensures _ c.journal-2.ensures.entries _ c.journal-3.ensures.entries _ c.accepted.ensures.accepted _ c.open_questions.ensures
+    ∙ explore_text-parts o.table o.settings c.args.explore.now.journal _ c.table-table.ensures _ c.settings.ensures.settings _ c.known.ensures _ c.journal-2.ensures.entries _ c.journal-3.ensures.entries _ c.accepted.ensures.accepted _ c.open_questions.ensures
     _ c.accepted-2.ensures.accepted _ c.open_questions-2.ensures
 
 pub returns-clause-reads_back : goal.returns-clause-reads_back
-returns-clause-reads_back c = λ lines whole.
+returns-clause-reads_back c = λ lines whole can.
     let o = c.args.explore.now.opening in
-    let names = subst (λ (t : NamedContext). list_all is_name t.attributes ≡ true) c.table-table.ensures c.look_at_attributes.ensures in
+    let names = subst (λ (t : NamedContext). AreNames t.attributes) c.table-table.ensures c.look_at_attributes.ensures in
     let named = subst EachNamed c.journal.ensures.entries c.look_at_rows.ensures in
     let legal = subst (IsLegal (opening o.table.context o.table.objects o.settings)) c.journal.ensures.entries c.journal.ensures.legal in
-    spelled-comments o.table o.settings c.args.explore.now.journal lines names named legal whole
+    spelled-comments o.table o.settings c.args.explore.now.journal lines names can named legal whole

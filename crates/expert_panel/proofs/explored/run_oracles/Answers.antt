@@ -51,5 +51,5 @@ returns g c =
     c.requires.some c.requires.passes c.requires.fresh count c.requires.untold
     (ap passes c.as_mut_slice.ensures.value ∙ c.in_ok-seats.ensures.passes) (ap experts c.as_mut_slice.ensures.value ∙ c.in_ok-seats.ensures.experts) c.run_panel.ensures
     (sym (c.any_refused.ensures ∙ ap (list_any (λ (seat : Seat Recall). is_refused seat.ended)) (c.deref.ensures.value ∙ back)) ∙ c.if-any_refused.false)
-    c.requires.plain c.close.ensures.opening c.in_ok-passes.oracles.items c.any_spent-spent.result (c.in_ok-passes.ensures.experts ∙ ap experts back)
+    c.requires.known c.close.ensures.opening c.in_ok-passes.oracles.items c.any_spent-spent.result (c.in_ok-passes.ensures.experts ∙ ap experts back)
     (c.any_spent-spent.ensures ∙ ap (list_any (λ (seat : Seat Recall). is_spent seat.ended)) (c.deref-2.ensures.value ∙ back))

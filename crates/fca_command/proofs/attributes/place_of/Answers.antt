@@ -1,5 +1,5 @@
-use Rattle.std.proofs.Common.{◌≡◌, ◌<◌, ◌≤◌, ◌∙◌, ℕ, [], true, length, get_or, Some, sym, ap, subst, arith, below_more}
-use Rattle.std.specs.Prelude.{bytes_eq, slice_get}
+use Rattle.std.proofs.Common.{◌≡◌, ◌∙◌, [], length, get_or, sym, ap, arith, below_more}
+use Rattle.std.specs.Prelude.{bytes_eq}
 use Rattle.std.proofs.lemmas.Option.{slice_get_within, get_or_from_slice_get}
 use Rattle.fca_model.specs.Context.{Context}
 use Rattle.fca_command.proofs.PlaceLemmas.{position-here, position-none}

@@ -1,4 +1,4 @@
-use Rattle.std.proofs.Common.{◌≡◌, ◌∙◌, ◌++◌, ◌∷◌, [], true, sym, ap}
+use Rattle.std.proofs.Common.{◌≡◌, ◌∙◌, ◌++◌, ◌∷◌, [], true, ap}
 use Rattle.fca_command.specs.Experts.{names_expert}
 use Rattle.fca_command.proofs.WordLemmas.{expert_files-push}
 use Rattle.fca_command.proofs.experts.expert_files.Goals as goal

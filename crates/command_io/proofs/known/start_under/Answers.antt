@@ -1,0 +1,14 @@
+use Rattle.std.proofs.Common.{inr}
+use Rattle.std.specs.Prelude.{option_copied}
+use Rattle.command_io.specs.Known.{IsStartStop}
+use Rattle.command_io.proofs.ErrLemmas.{err-passed}
+use Rattle.command_io.proofs.KnownLemmas.{IsKnownStop-same}
+use Rattle.command_io.proofs.known.start_under.Goals as goal
+
+pub returns-in_err-known-clause-cause : goal.returns-in_err-known-clause-cause
+returns-in_err-known-clause-cause g c =
+    let known = option_copied c.args.known in
+    let stop = c.in_err-known.field-0.0 in
+    let tells = g.H.Shelf.tells c.args.shelf.now in
+    err-passed c.from_residual-in_err-known.result stop (IsStartStop c.args.file.now known tells) c.from_residual-in_err-known.ensures.1
+    (inr (c.in_ok-table.table, c.in_ok-table.ensures.table, IsKnownStop-same known c.in_ok-table.table tells (g.H.Shelf.tells c.table_under.new.shelf) stop c.in_ok-table.ensures.kept c.in_err-known.ensures.cause))

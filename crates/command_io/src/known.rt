@@ -1,0 +1,157 @@
+//! What is known of a table beforehand: implications in a file, which every row of the table respects.
+
+ghost use Rattle.std.specs.Prelude.{◌≡◌, ◌≤◌, ◌∷◌, ℕ, List, IfOk, IfErr, OnOk, Some, None, option_copied, option_to_list};
+ghost use Rattle.fca_model.specs.declared.TheConstants.{MAX_ATTRIBUTES};
+ghost use Rattle.fca_io.specs.Faults.{Rose};
+ghost use Rattle.implication_closure.specs.Closing.{HaveWidth};
+ghost use Rattle.explore_state.specs.Faults.{first_break};
+ghost use Rattle.known_rules.specs.Known.{known_form};
+ghost use Rattle.command_io.specs.Readings.{formed, MayRead, SomeRose};
+ghost use Rattle.command_io.specs.Known.{known_said, known_in, known_read, start_of, start_read, IsBreakStop, IsKnownSaidStop, IsKnownFileStop, IsKnownStop, IsStartStop};
+ghost use Rattle.command_io.specs.Endings.{stop_status, Stops};
+
+use crate::readings::{not_taken, table_under};
+use crate::stop::{Origin, Stop};
+use attr_bits::Attrs;
+use context_table::Table;
+use fca_io::Shelf;
+use fca_model::{FILE_BYTES, Word};
+use implication_closure::ImplicationList;
+use known_rules::{KnownFault, read_known};
+use std::alloc::Global;
+
+/// What an exploration starts from: a table, and what is known of it.
+#[derive(Drop)]
+pub struct Start {
+    pub table: Table,
+    pub known: ImplicationList,
+}
+
+/// The table in the file, and what is known of it by another file, where there is one.
+pub fn start_under<H: Shelf>(
+    alloc: Global,
+    shelf: &mut H,
+    file: &Word,
+    known: Option<&Word>,
+) -> Result<Start, Stop>
+    ensures start { IfOk result (λ start. MayRead (start_read file.now (option_copied known.entry) (H.tells shelf.old)) (start_of start)) }
+    ensures width { IfOk result (λ start. start.known.width ≡ start.table.context.width) }
+    ensures even { IfOk result (λ start. HaveWidth start.table.context.width start.known.members) }
+    ensures respected { IfOk result (λ start. first_break start.known.members 0 start.table.context.rows ≡ None) }
+    ensures stop { IfErr result (λ stop. Stops (start_read file.now (option_copied known.entry) (H.tells shelf.old))
+        (SomeRose (H.faults shelf.old) (H.faults shelf.new) (file.now ∷ option_to_list (option_copied known.entry))) (stop_status stop)) }
+    ensures cause { IfErr result (IsStartStop file.now (option_copied known.entry) (H.tells shelf.old)) }
+    ensures kept { (other : List ℕ) → H.tells shelf.new other ≡ H.tells shelf.old other }
+    ensures later { (other : List ℕ) → H.faults shelf.old other ≤ H.faults shelf.new other }
+{
+    let table = table_under(alloc, shelf, file, Origin::File)?;
+    let known = known_under(alloc, shelf, known, &table)?;
+    Ok(Start { table, known })
+}
+
+/// What is known of the table: the implications of the file of this name, where there is one. Every row of the table respects them.
+pub fn known_under<H: Shelf>(
+    alloc: Global,
+    shelf: &mut H,
+    known: Option<&Word>,
+    table: &Table,
+) -> Result<ImplicationList, Stop>
+    ensures known { IfOk result (λ list. MayRead (known_read (option_copied known.entry) table.now (H.tells shelf.old)) list.members) }
+    ensures width { IfOk result (λ list. list.width ≡ table.now.context.width) }
+    ensures even { IfOk result (λ list. HaveWidth table.now.context.width list.members) }
+    ensures respected { IfOk result (λ list. first_break list.members 0 table.now.context.rows ≡ None) }
+    ensures stop { IfErr result (λ stop. Stops (known_read (option_copied known.entry) table.now (H.tells shelf.old))
+        (SomeRose (H.faults shelf.old) (H.faults shelf.new) (option_to_list (option_copied known.entry))) (stop_status stop)) }
+    ensures cause { IfErr result (IsKnownStop (option_copied known.entry) table.now (H.tells shelf.old)) }
+    ensures kept { (other : List ℕ) → H.tells shelf.new other ≡ H.tells shelf.old other }
+    ensures later { (other : List ℕ) → H.faults shelf.old other ≤ H.faults shelf.new other }
+{
+    match known {
+        Some(file) => known_in(alloc, shelf, file, table),
+        None => Ok(ImplicationList::new(alloc, table.rows().width())?),
+    }
+}
+
+/// What the file of this name says is known of the table. Every row of the table respects it.
+fn known_in<H: Shelf>(
+    alloc: Global,
+    shelf: &mut H,
+    file: &Word,
+    table: &Table,
+) -> Result<ImplicationList, Stop>
+    ensures known { IfOk result (λ list. MayRead (known_in table.now (H.tells shelf.old file.now)) list.members) }
+    ensures width { IfOk result (λ list. list.width ≡ table.now.context.width) }
+    ensures even { IfOk result (λ list. HaveWidth table.now.context.width list.members) }
+    ensures respected { IfOk result (λ list. first_break list.members 0 table.now.context.rows ≡ None) }
+    ensures stop { IfErr result (λ stop. Stops (known_in table.now (H.tells shelf.old file.now))
+        (Rose (H.faults shelf.old file.now) (H.faults shelf.new file.now)) (stop_status stop)) }
+    ensures cause { IfErr result (IsKnownFileStop table.now (H.tells shelf.old file.now)) }
+    ensures kept { (other : List ℕ) → H.tells shelf.new other ≡ H.tells shelf.old other }
+    ensures later { (other : List ℕ) → H.faults shelf.old other ≤ H.faults shelf.new other }
+{
+    let list = known_said(alloc, shelf, file, table.rows().width())?;
+    check_known(table, &list, Origin::File)?;
+    let _members = list.as_slice();
+    Ok(list)
+}
+
+/// The implications between sets of width n that the file of this name says.
+fn known_said<H: Shelf>(
+    alloc: Global,
+    shelf: &mut H,
+    file: &Word,
+    n: u32,
+) -> Result<ImplicationList, Stop>
+    requires { n ≤ MAX_ATTRIBUTES }
+    ensures known { IfOk result (λ list. MayRead (known_said n (H.tells shelf.old file.now)) list.members) }
+    ensures width { IfOk result (λ list. list.width ≡ n) }
+    ensures stop { IfErr result (λ stop. Stops (known_said n (H.tells shelf.old file.now))
+        (Rose (H.faults shelf.old file.now) (H.faults shelf.new file.now)) (stop_status stop)) }
+    ensures cause { IfErr result (IsKnownSaidStop n (H.tells shelf.old file.now)) }
+    ensures kept { (other : List ℕ) → H.tells shelf.new other ≡ H.tells shelf.old other }
+    ensures later { (other : List ℕ) → H.faults shelf.old other ≤ H.faults shelf.new other }
+{
+    let bytes = match shelf.fetch(alloc, file.bytes(), FILE_BYTES) {
+        Ok(bytes) => bytes,
+        Err(taken) => return Err(not_taken(taken, Origin::Known)),
+    };
+    known_of(alloc, &bytes, n)
+}
+
+/// The implications between sets of width n that the bytes say.
+fn known_of(alloc: Global, bytes: &[u8], n: u32) -> Result<ImplicationList, Stop>
+    requires { n ≤ MAX_ATTRIBUTES }
+    ensures known { IfOk result (λ list. MayRead (formed (known_form bytes.now n)) list.members) }
+    ensures width { IfOk result (λ list. list.width ≡ n) }
+    ensures stop { IfErr result (λ stop. Stops (formed (known_form bytes.now n)) ⊥ (stop_status stop)) }
+    ensures cause { IfErr result (IsKnownSaidStop n (Some (Some bytes.now))) }
+{
+    match read_known(alloc, bytes, n) {
+        Ok(list) => Ok(list),
+        Err(KnownFault::Memory) => Err(Stop::Memory),
+        Err(fault) => Err(Stop::NoKnown(fault)),
+    }
+}
+
+/// Whether every row of the table respects what is known of it by what comes from the origin.
+pub fn check_known(table: &Table, known: &ImplicationList, origin: Origin) -> Result<(), Stop>
+    ensures respected { OnOk result (first_break known.now.members 0 table.now.context.rows ≡ None) }
+    ensures broken { IfErr result (IsBreakStop known.now.members table.now origin) }
+{
+    match first_break(table.rows().as_slice(), known) {
+        Some((row, index)) => Err(Stop::RowBreaks(origin, row, index)),
+        None => Ok(()),
+    }
+}
+
+/// The place of the first row that does not respect what is known, with the place of the first implication that it breaks.
+fn first_break(rows: &[Attrs], known: &ImplicationList) -> Option<(usize, usize)>
+    ensures found { result ≡ first_break known.now.members 0 rows.now }
+{
+    for (place, row) in rows.iter().enumerate() {
+        if let Some(index) = known.first_broken(row) {
+            return Some((place, index));
+        }
+    }
+    None
+}

@@ -1,0 +1,6 @@
+pub mod StageLemmas
+pub mod NamedLemmas
+pub mod FitLemmas
+pub mod EventLemmas
+pub mod TranscriptLemmas
+mod Examples

@@ -1,0 +1,193 @@
+-- Scripts: the settings and the events that the lines of a text say.
+--
+-- Lines that are blank or begin with `#` say nothing. The first other line may be `exploration 1`, and then each line is an event. Or it is `exploration 2`,
+-- and then lines of settings may stand before the events: how many experts may hold one question, what is known, and names of experts. Over a and b the lines
+-- `exploration 2`, `holders 1`, `known X. .X`, `expert 2 Ann` and `draw 1` say that one expert may hold a question, that a implies b is known, that expert 2
+-- is Ann, and that expert 1 draws.
+use Rattle.std.specs.Prelude.{◌≡◌, ⊤, ℕ, Bool, true, ◌&&◌, cond, Option, Some, None, Result, Ok, Err, List, [], ◌∷◌, ◌++◌, map, is_none, unwrap_or, bytes_eq, codes}
+use Rattle.std.specs.Ordering.{nat_cmp}
+use Rattle.std.specs.BTreeMap.{insert_entry}
+use Rattle.std.specs.Str.{is_utf8}
+use Rattle.fca_model.specs.Sets.{Set}
+use Rattle.fca_model.specs.Tables.{Text}
+use Rattle.fca_model.specs.Names.{IsName}
+use Rattle.fca_model.specs.Implications.{Rule}
+use Rattle.fca_model.specs.Exploration.{Settings, RowName, SetEvent, SetEntry, expert_of, has_width, is_expert}
+use Rattle.fca_model.specs.declared.TheConstants.{MAX_EXPERTS}
+use Rattle.fca_model.specs.declared.Event.TheVariants.{Draw, Confirm, Row, Leave}
+use Rattle.explore_state.specs.Settings.{settings_of, name_of}
+use Rattle.expert_wire.specs.declared.requests.RequestFault.{RequestFault}
+use Rattle.expert_wire.specs.declared.requests.RequestFault.TheVariants.{Line, Width, Memory as RequestMemory}
+use Rattle.expert_wire.specs.Lines.{lines, said_from}
+use Rattle.expert_wire.specs.Replies.{heading}
+use Rattle.expert_wire.specs.Words.{first_word, later_words, is_numeral, value_of, is_name, named_row}
+use Rattle.known_rules.specs.declared.fault.KnownFault.{KnownFault}
+use Rattle.known_rules.specs.declared.fault.KnownFault.TheVariants as known
+use Rattle.known_rules.specs.Known.{known_rule, all_ok}
+use Rattle.expert_scripts.specs.declared.fault.ScriptFault.{ScriptFault}
+use Rattle.expert_scripts.specs.declared.fault.ScriptFault.TheVariants.{BadLine, BadExpert, BadWidth, BadHolders, Memory}
+use Rattle.expert_scripts.specs.declared.scripts.Script as read
+
+-- what a script says: its settings, its events, and the number of the line `exploration 2` where it has one
+pub record Said : Type 0 where
+  pub settings : Settings
+  pub events : List SetEvent
+  pub second : Option ℕ
+
+-- what a script that was read says
+abbrev pub said_of : read.Script → Said
+said_of s = record { settings = settings_of s.settings; events = s.events; second = s.second }
+
+-- ---- the event of one line
+
+-- the expert whose number a word writes; k is the number of the line
+abbrev pub expert_in : ℕ → Text → Result ℕ ScriptFault
+expert_in k word =
+    cond (is_numeral word) (cond (is_expert (value_of word)) (Ok (value_of word)) (Err (BadExpert k))) (Err (BadLine k))
+
+-- the event of this expert
+abbrev pub event_by : (ℕ → SetEvent) → Result ℕ ScriptFault → Result SetEvent ScriptFault
+event_by event (Ok e) = Ok (event e)
+event_by event (Err fault) = Err fault
+
+-- the row of this expert: a line that has no shape of a row comes before an expert who can't be, and that before another width
+abbrev pub row_by : ℕ → Result ℕ ScriptFault → Result (Text × Set) RequestFault → Result SetEvent ScriptFault
+row_by k expert (Err Line) = Err (BadLine k)
+row_by k expert (Err RequestMemory) = Err Memory
+row_by k (Err fault) (Err Width) = Err fault
+row_by k (Ok e) (Err Width) = Err (BadWidth k)
+row_by k (Err fault) (Ok x) = Err fault
+row_by k (Ok e) (Ok x) = Ok (Row e x.0 x.1)
+
+-- `E PATTERN NAME`
+abbrev pub row_event : ℕ → ℕ → Text → Result SetEvent ScriptFault
+row_event n k text = row_by k (expert_in k (first_word text)) (named_row n (later_words text))
+
+-- what a line says by its first word
+abbrev pub event_of_words : ℕ → ℕ → Text → Text → Result SetEvent ScriptFault
+event_of_words n k verb text =
+    cond (bytes_eq verb (codes "draw")) (event_by Draw (expert_in k text))
+    (cond (bytes_eq verb (codes "confirm")) (event_by Confirm (expert_in k text))
+    (cond (bytes_eq verb (codes "row")) (row_event n k text)
+    (cond (bytes_eq verb (codes "leave")) (event_by Leave (expert_in k text))
+    (Err (BadLine k)))))
+
+-- the event of line k, where rows have width n, or why it has none
+abbrev pub event_of : ℕ → ℕ → Text → Result SetEvent ScriptFault
+event_of n k line = cond (is_utf8 line) (event_of_words n k (first_word line) (later_words line)) (Err (BadLine k))
+
+-- the events of numbered lines, or the first fault
+abbrev pub events_said : ℕ → List (ℕ × Text) → Result (List SetEvent) ScriptFault
+events_said n said = all_ok (map (λ l. event_of n l.0 l.1) said)
+
+-- ---- what one line of settings tells
+
+-- what lines of settings have told so far
+pub record Told : Type 0 where
+  pub known : List Rule
+  pub holders : Option ℕ
+  pub expert_names : List (ℕ × RowName)
+
+abbrev pub nothing_told : Told
+nothing_told = record { known = []; holders = None; expert_names = [] }
+
+-- the settings, where all is told
+abbrev pub settings_told : Told → Settings
+settings_told t = record { known = t.known; holders = unwrap_or t.holders MAX_EXPERTS; expert_names = t.expert_names }
+
+-- so many holders, which is told once
+abbrev pub holders_once : ℕ → Told → ℕ → Result Told ScriptFault
+holders_once k t h = cond (is_expert h && is_none t.holders) (Ok (record t { holders = Some h })) (Err (BadHolders k))
+
+-- `H`
+abbrev pub holders_told : ℕ → Told → Text → Result Told ScriptFault
+holders_told k t word = cond (is_numeral word) (holders_once k t (value_of word)) (Err (BadLine k))
+
+-- the name of expert e, who is named once
+abbrev pub name_once : ℕ → Told → ℕ → RowName → Result Told ScriptFault
+name_once k t e name =
+    cond (is_expert e && is_none (name_of e t.expert_names)) (Ok (record t { expert_names = insert_entry nat_cmp t.expert_names e name })) (Err (BadExpert k))
+
+-- `E NAME`
+abbrev pub name_told : ℕ → Told → Text → Result Told ScriptFault
+name_told k t words =
+    cond (is_numeral (first_word words) && is_name (later_words words)) (name_once k t (value_of (first_word words)) (later_words words)) (Err (BadLine k))
+
+-- why a line of a known file is none
+abbrev pub rule_fault : KnownFault → ScriptFault
+rule_fault (known.BadLine k) = BadLine k
+rule_fault (known.BadWidth k) = BadWidth k
+rule_fault known.Memory = Memory
+
+-- one more implication is known
+abbrev pub rule_told : Told → Result Rule KnownFault → Result Told ScriptFault
+rule_told t (Ok i) = Ok (record t { known = t.known ++ i ∷ [] })
+rule_told t (Err fault) = Err (rule_fault fault)
+
+-- what a line tells by its first word, and None where it is no line of settings
+abbrev pub setting_of_words : ℕ → ℕ → Told → Text → Text → Option (Result Told ScriptFault)
+setting_of_words n k t verb words =
+    cond (bytes_eq verb (codes "holders")) (Some (holders_told k t words))
+    (cond (bytes_eq verb (codes "expert")) (Some (name_told k t words))
+    (cond (bytes_eq verb (codes "known")) (Some (rule_told t (known_rule n k words)))
+    None))
+
+-- what line k tells behind what was told before
+abbrev pub setting_of : ℕ → ℕ → Told → Text → Option (Result Told ScriptFault)
+setting_of n k t line = cond (is_utf8 line) (setting_of_words n k t (first_word line) (later_words line)) None
+
+-- ---- all lines
+
+-- the second version is told by its first line
+abbrev pub second_heading : Text
+second_heading = codes "exploration 2"
+
+-- these settings and events, or the fault
+abbrev pub finished : Told → Option ℕ → Result (List SetEvent) ScriptFault → Result Said ScriptFault
+finished t second (Ok events) = Ok (record { settings = settings_told t; events = events; second = second })
+finished t second (Err fault) = Err fault
+
+-- where the line is one of settings, what comes behind it, or its fault
+abbrev pub by_setting : Option (Result Told ScriptFault) → (Told → Result Said ScriptFault) → Result Said ScriptFault → Result Said ScriptFault
+by_setting None behind otherwise = otherwise
+by_setting (Some (Ok t)) behind otherwise = behind t
+by_setting (Some (Err fault)) behind otherwise = Err fault
+
+-- what lines say behind the line `exploration 2`, which is number `second`: settings, and events from the first line on that is none of settings
+abbrev pub settled : ℕ → Told → ℕ → List (ℕ × Text) → Result Said ScriptFault
+settled n t second [] = finished t (Some second) (Ok [])
+settled n t second (l ∷ ls) =
+    by_setting (setting_of n l.0 t l.1) (λ told. settled n told second ls) (finished t (Some second) (events_said n (l ∷ ls)))
+
+-- what lines say, of which the first may be a heading
+abbrev pub headed : ℕ → Told → List (ℕ × Text) → Result Said ScriptFault
+headed n t [] = finished t None (Ok [])
+headed n t (l ∷ ls) =
+    cond (bytes_eq l.1 heading) (finished t None (events_said n ls))
+    (cond (bytes_eq l.1 second_heading) (settled n t l.0 ls)
+    (finished t None (events_said n (l ∷ ls))))
+
+-- what a script says, where rows and patterns have width n, or its first fault
+unfoldable pub script_form : Text → ℕ → Result Said ScriptFault
+script_form bytes n = headed n nothing_told (said_from 1 (lines bytes))
+
+-- ---- what a script can say
+
+-- an event of an expert, with a row of width n where it has one
+abbrev pub may_apply : ℕ → SetEvent → Bool
+may_apply n event = is_expert (expert_of event) && has_width n event
+
+-- the name of a row is a name
+abbrev pub IsNamed : SetEvent → Type 0
+IsNamed (Row e name r) = IsName name
+IsNamed event = ⊤
+
+-- an event of an expert, whose row, if it has one, has the width and a name
+pub record CanBeSaid (n : ℕ) (event : SetEvent) : Type 0 where
+  pub expert : is_expert (expert_of event) ≡ true
+  pub wide : has_width n event ≡ true
+  pub named : IsNamed event
+
+abbrev pub EachCanBeSaid : ℕ → List SetEntry → Type 0
+EachCanBeSaid n [] = ⊤
+EachCanBeSaid n (entry ∷ H) = CanBeSaid n entry.event × EachCanBeSaid n H

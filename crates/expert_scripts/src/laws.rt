@@ -1,0 +1,18 @@
+//! Laws of the texts, each the contract of a function that does nothing.
+
+ghost use Rattle.std.specs.Prelude.{◌≡◌, ℕ, List, Ok};
+ghost use Rattle.fca_model.specs.Exploration.{Settings, SetEvent, SetEntry, events_of};
+ghost use Rattle.fca_model.specs.Tables.{Text};
+ghost use Rattle.expert_scripts.specs.Scripts.{CanBeSaid, EachCanBeSaid, event_of, script_form};
+ghost use Rattle.expert_scripts.specs.Transcripts.{AreNames, CanBeTold, event_text, second_of, transcript};
+
+/// The line that is written of an event is read as this event.
+pub fn event_reads_back()
+    ensures { (n k : ℕ) (event : SetEvent) → CanBeSaid n event → event_of n k (event_text event) ≡ Ok event }
+{}
+
+/// A transcript is read as its settings and its events.
+pub fn transcript_reads_back()
+    ensures { (n : ℕ) (attributes : List Text) (settings : Settings) (H : List SetEntry) → AreNames attributes → CanBeTold n settings → EachCanBeSaid n H
+        → script_form (transcript attributes settings H) n ≡ Ok (record { settings = settings; events = events_of H; second = second_of settings }) }
+{}

@@ -1,0 +1,87 @@
+//! A script as it is read.
+
+ghost use Rattle.std.specs.Prelude.{◌≡◌, ◌≤◌, ◌⊎◌, Ok, Err, IfOk, IfErr, true};
+ghost use Rattle.std.specs.List.{list_all};
+ghost use Rattle.fca_model.specs.declared.TheConstants.{MAX_ATTRIBUTES};
+ghost use Rattle.explore_state.specs.Settings.{settings_of};
+ghost use Rattle.expert_scripts.specs.Scripts.{said_of, script_form, may_apply};
+ghost use Rattle.expert_scripts.specs.Transcripts.{CanBeTold};
+
+use crate::fault::ScriptFault;
+use crate::reading::Reading;
+use expert_wire::{is_skipped, split_line};
+use explore_state::{Event, Settings};
+use std::alloc::Global;
+use std::marker::Model;
+
+/// What a script says.
+#[derive(Drop)]
+pub struct Script {
+    /// The settings that it begins with.
+    pub settings: Settings,
+    pub events: Events,
+    /// The number of the line `exploration 2`, where it has one.
+    pub second: Option<usize>,
+}
+
+/// Events in their order: contracts see the list.
+#[derive(Drop)]
+pub struct Events {
+    events: Vec<Event>,
+}
+
+impl Model for Events {
+    ghost use Rattle.std.specs.Prelude.{List};
+    ghost use Rattle.fca_model.specs.Exploration.{SetEvent};
+
+    ghost Value = { List SetEvent };
+
+    ghost view = { λ a. a.events.items };
+}
+
+impl Events {
+    /// The events of the list.
+    pub(crate) fn of(events: Vec<Event>) -> Events
+        ensures { result ≡ events.items }
+    {
+        Events { events }
+    }
+
+    /// The events.
+    pub fn as_slice(&self) -> &[Event]
+        ensures { result.now ≡ self.now }
+    {
+        &self.events
+    }
+
+    /// The events, to be moved.
+    pub fn into_vec(self) -> Vec<Event>
+        ensures { result.items ≡ self }
+    {
+        self.events
+    }
+}
+
+/// What a script says, whose rows and patterns have width n.
+pub fn read_script(alloc: Global, bytes: &[u8], n: u32) -> Result<Script, ScriptFault>
+    requires { n ≤ MAX_ATTRIBUTES }
+    ensures ok { IfOk result (λ script. script_form bytes.now n ≡ Ok (said_of script)) }
+    ensures width { IfOk result (λ script. script.settings.known.width ≡ n) }
+    ensures told { IfOk result (λ script. CanBeTold n (settings_of script.settings)) }
+    ensures fits { IfOk result (λ script. list_all (may_apply n) script.events ≡ true) }
+    ensures refused { IfErr result (λ e. (e ≡ ScriptFault.Memory) ⊎ (script_form bytes.now n ≡ Err e)) }
+{
+    let mut reading = Reading::new(alloc, n)?;
+    let mut rest = bytes;
+    let mut number = 0;
+    while !rest.is_empty() {
+        let (line, behind) = split_line(rest);
+        rest = behind;
+        number += 1;
+        if is_skipped(line) {
+            continue;
+        }
+        reading.take(alloc, line, n, number)?;
+    }
+    Ok(reading.into_script())
+}

@@ -1,0 +1,162 @@
+//! The transcript of an exploration.
+
+ghost use Rattle.std.specs.Prelude.{◌≡◌, ◌++◌, ◌≤◌, codes, decimal, IfOk, OnOk};
+ghost use Rattle.std.specs.List.{flat_map};
+ghost use Rattle.explore_state.specs.Settings.{settings_of, name_of};
+ghost use Rattle.expert_wire.specs.Texts.{line_end};
+ghost use Rattle.fca_model.specs.Exploration.{is_expert};
+ghost use Rattle.expert_scripts.specs.Transcripts.{event_text, entries_text, entry_lines, known_line, line_named, names_text, settings_text, opening_text, transcript};
+
+use context_table::Table;
+use expert_wire::{Draft, Part};
+use explore_state::{Entry, Event, ExpertNames, Implication, Settings};
+use fca_model::{MAX_EXPERTS, Memory};
+use std::alloc::Global;
+
+/// The transcript of the journal of an exploration under the settings.
+pub fn transcript_text(
+    alloc: Global,
+    table: &Table,
+    settings: &Settings,
+    journal: &[Entry],
+) -> Result<Vec<u8>, Memory>
+    ensures { IfOk result (λ v. v.items ≡ transcript table.now.attributes (settings_of settings.now) journal.now) }
+{
+    let mut draft = Draft::new(alloc);
+    write_transcript(&mut draft, table, settings, journal)?;
+    Ok(draft.into_bytes())
+}
+
+/// Appends the transcript of the journal of an exploration under the settings.
+pub fn write_transcript(
+    draft: &mut Draft,
+    table: &Table,
+    settings: &Settings,
+    journal: &[Entry],
+) -> Result<(), Memory>
+    ensures { OnOk result (draft.new ≡ draft.old ++ transcript table.now.attributes (settings_of settings.now) journal.now) }
+{
+    write_opening(draft, table, settings)?;
+    write_entries(draft, table, journal)
+}
+
+/// The heading, and the settings where they are not plain.
+fn write_opening(draft: &mut Draft, table: &Table, settings: &Settings) -> Result<(), Memory>
+    ensures { OnOk result (draft.new ≡ draft.old ++ opening_text table.now.attributes (settings_of settings.now)) }
+{
+    if settings.is_plain() {
+        return draft.parts(table, &[Part::Bytes(b"exploration 1\n")]);
+    }
+    draft.parts(table, &[Part::Bytes(b"exploration 2\n")])?;
+    write_settings(draft, table, settings)
+}
+
+fn write_settings(draft: &mut Draft, table: &Table, settings: &Settings) -> Result<(), Memory>
+    ensures { OnOk result (draft.new ≡ draft.old ++ settings_text table.now.attributes (settings_of settings.now)) }
+{
+    let holders = u64::from(settings.holders);
+    draft.parts(
+        table,
+        &[
+            Part::Bytes(b"holders "),
+            Part::Number(holders),
+            Part::Bytes(b"\n"),
+        ],
+    )?;
+    write_known(draft, table, settings.known.as_slice())?;
+    write_names(draft, table, &settings.names)
+}
+
+fn write_known(draft: &mut Draft, table: &Table, known: &[Implication]) -> Result<(), Memory>
+    ensures { OnOk result (draft.new ≡ draft.old ++ flat_map (known_line table.now.attributes) known.now) }
+{
+    for implication in known {
+        draft.question(table, b"known ", implication)?;
+    }
+    Ok(())
+}
+
+fn write_names(draft: &mut Draft, table: &Table, names: &ExpertNames) -> Result<(), Memory>
+    ensures { OnOk result (draft.new ≡ draft.old ++ names_text names.now) }
+{
+    for expert in 1..MAX_EXPERTS + 1 {
+        write_name(draft, table, names, expert)?;
+    }
+    Ok(())
+}
+
+/// The line of the expert, where it has a name.
+fn write_name(
+    draft: &mut Draft,
+    table: &Table,
+    names: &ExpertNames,
+    expert: u8,
+) -> Result<(), Memory>
+    ensures { OnOk result (draft.new ≡ draft.old ++ line_named expert (name_of expert names.now)) }
+{
+    match names.get(expert) {
+        Some(name) => draft.parts(
+            table,
+            &[
+                Part::Bytes(b"expert "),
+                Part::Number(u64::from(expert)),
+                Part::Bytes(b" "),
+                Part::Bytes(name.bytes()),
+                Part::Bytes(b"\n"),
+            ],
+        ),
+        None => Ok(()),
+    }
+}
+
+fn write_entries(draft: &mut Draft, table: &Table, journal: &[Entry]) -> Result<(), Memory>
+    ensures { OnOk result (draft.new ≡ draft.old ++ entries_text table.now.attributes journal.now) }
+{
+    for entry in journal {
+        write_entry(draft, table, entry)?;
+    }
+    Ok(())
+}
+
+fn write_entry(draft: &mut Draft, table: &Table, entry: &Entry) -> Result<(), Memory>
+    ensures { OnOk result (draft.new ≡ draft.old ++ entry_lines table.now.attributes entry.now) }
+{
+    write_event(draft, table, &entry.event)?;
+    draft.parts(table, &[Part::Bytes(b"# ")])?;
+    draft.reply(table, &entry.reply)
+}
+
+fn write_event(draft: &mut Draft, table: &Table, event: &Event) -> Result<(), Memory>
+    ensures { OnOk result (draft.new ≡ draft.old ++ (event_text event.now ++ line_end)) }
+{
+    match event {
+        Event::Draw { expert } => write_expert(draft, table, b"draw ", *expert),
+        Event::Confirm { expert } => write_expert(draft, table, b"confirm ", *expert),
+        Event::Row { expert, name, row } => draft.parts(
+            table,
+            &[
+                Part::Bytes(b"row "),
+                Part::Number(u64::from(*expert)),
+                Part::Bytes(b" "),
+                Part::Pattern(*row),
+                Part::Bytes(b" "),
+                Part::Bytes(name.bytes()),
+                Part::Bytes(b"\n"),
+            ],
+        ),
+        Event::Leave { expert } => write_expert(draft, table, b"leave ", *expert),
+    }
+}
+
+fn write_expert(draft: &mut Draft, table: &Table, words: &[u8], expert: u8) -> Result<(), Memory>
+    ensures { OnOk result (draft.new ≡ draft.old ++ ((words.now ++ decimal expert) ++ line_end)) }
+{
+    draft.parts(
+        table,
+        &[
+            Part::Bytes(words),
+            Part::Number(u64::from(expert)),
+            Part::Bytes(b"\n"),
+        ],
+    )
+}
