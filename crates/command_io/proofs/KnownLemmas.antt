@@ -17,10 +17,6 @@ use Rattle.command_io.proofs.ReadingLemmas.{refused_then, refused_after, read_af
 
 -- ---- rows that break nothing
 
-pub first_break-nothing : (k : ℕ) (rows : List Set) → first_break [] k rows ≡ None
-first_break-nothing k [] = refl
-first_break-nothing k (row ∷ rows) = first_break-nothing (k + 1) rows
-
 pub respected-unbroken : (table : NamedContext) (S : List Rule) → first_break S 0 table.context.rows ≡ None → respected table S ≡ Read S
 respected-unbroken table S none = ap (λ m. unbroken m S) none
 

@@ -12,8 +12,8 @@ ghost use Rattle.command_io.specs.Endings.{stop_status, Stops};
 
 use crate::readings::{not_taken, table_under};
 use crate::stop::{Origin, Stop};
-use attr_bits::Attrs;
 use context_table::Table;
+use explore_state::first_break;
 use fca_io::Shelf;
 use fca_model::{FILE_BYTES, Word};
 use implication_closure::ImplicationList;
@@ -142,16 +142,4 @@ pub fn check_known(table: &Table, known: &ImplicationList, origin: Origin) -> Re
         Some((row, index)) => Err(Stop::RowBreaks(origin, row, index)),
         None => Ok(()),
     }
-}
-
-/// The place of the first row that does not respect what is known, with the place of the first implication that it breaks.
-fn first_break(rows: &[Attrs], known: &ImplicationList) -> Option<(usize, usize)>
-    ensures found { result ≡ first_break known.now.members 0 rows.now }
-{
-    for (place, row) in rows.iter().enumerate() {
-        if let Some(index) = known.first_broken(row) {
-            return Some((place, index));
-        }
-    }
-    None
 }

@@ -48,9 +48,9 @@ pub unbroken_rows : (S : List Rule) (k : ℕ) (rows : List Set) → first_break 
 unbroken_rows S k [] e = refl
 unbroken_rows S k (row ∷ rows) e = unbroken_by S k row rows (broken_by S row) refl e (λ none. unbroken_rows S (k + 1) rows none)
 
-no_rule : (k : ℕ) (rows : List Set) → first_break [] k rows ≡ None
-no_rule k [] = refl
-no_rule k (row ∷ rows) = no_rule (k + 1) rows
+pub first_break-nothing : (k : ℕ) (rows : List Set) → first_break [] k rows ≡ None
+first_break-nothing k [] = refl
+first_break-nothing k (row ∷ rows) = first_break-nothing (k + 1) rows
 
 -- ---- no cause
 
@@ -71,7 +71,7 @@ no_fault K e s none = few (is_expert e) refl none
     few false is none = absurd (cc)
 
 pub open_fault-plain : (K : Context) (e : ℕ) → is_expert e ≡ true → open_fault K e plain ≡ None
-open_fault-plain K e few = ap (λ b. cond b (settings_fault plain (first_break [] 0 K.rows)) (Some (BadExperts e))) few ∙ ap (settings_fault plain) (no_rule 0 K.rows)
+open_fault-plain K e few = ap (λ b. cond b (settings_fault plain (first_break [] 0 K.rows)) (Some (BadExperts e))) few ∙ ap (settings_fault plain) (first_break-nothing 0 K.rows)
 
 -- ---- widths of what is known
 

@@ -70,7 +70,7 @@ pub(crate) fn is_expert(number: u8) -> bool
 }
 
 /// The place of the first row that does not respect what is known, with the place of the first implication that it breaks.
-fn first_break(rows: &[Attrs], known: &ImplicationList) -> Option<(usize, usize)>
+pub fn first_break(rows: &[Attrs], known: &ImplicationList) -> Option<(usize, usize)>
     ensures { result ≡ first_break known.now.members 0 rows.now }
 {
     for (place, row) in rows.iter().enumerate() {

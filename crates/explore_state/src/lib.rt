@@ -26,7 +26,7 @@ mod settings;
 mod tests;
 
 use crate::changes::change;
-pub use crate::fault::OpenFault;
+pub use crate::fault::{OpenFault, first_break};
 use crate::fault::{is_expert, open_fault};
 use crate::holds::held_in;
 pub use crate::names::ExpertNames;

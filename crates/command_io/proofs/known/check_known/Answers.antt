@@ -8,5 +8,5 @@ returns-in-Some-clause-broken c =
     let found : ℕ × ℕ = (c.in-Some.row, c.in-Some.index) in
     let rows = c.as_slice.ensures.rows ∙ ap (λ (K : Context). K.rows) c.rows.ensures.rows in
     let same : first_break c.args.known.now.members 0 c.args.table.now.context.rows ≡ Some found =
-    ap (first_break c.args.known.now.members 0) (sym rows) ∙ sym c.first_break.ensures.found ∙ c.in-Some.is in
+    ap (first_break c.args.known.now.members 0) (sym rows) ∙ sym c.first_break.ensures ∙ c.in-Some.is in
     (found, same, refl)

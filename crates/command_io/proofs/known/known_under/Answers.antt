@@ -1,7 +1,7 @@
 use Rattle.std.proofs.Common.{◌∙◌, ap}
 use Rattle.implication_closure.specs.Closing.{RuleList}
 use Rattle.explore_state.specs.Faults.{first_break}
-use Rattle.command_io.proofs.KnownLemmas.{first_break-nothing}
+use Rattle.explore_state.proofs.OpenLemmas.{first_break-nothing}
 use Rattle.command_io.proofs.known.known_under.Goals as goal
 
 pub returns-in_ok-new-in-None-clause-respected : goal.returns-in_ok-new-in-None-clause-respected
