@@ -6,12 +6,11 @@ use Rattle.fca_model.specs.Sets.{Set}
 use Rattle.fca_model.specs.Context.{extent}
 use Rattle.fca_model.specs.Tables.{Text, NamedContext}
 use Rattle.fca_model.specs.Pseudo.{intents}
-use Rattle.expert_wire.specs.Texts.{line_end, ordinal, braced, braces_text}
+use Rattle.expert_wire.specs.Texts.{line_end, ordinal, listed, names_of, braced, braces_text}
 use Rattle.lectic_concepts.specs.Concepts.{concept_of, concepts}
 use Rattle.basis_report.specs.Reports.{counted, names_at, concept_line, concepts_text}
 use Rattle.basis_report.proofs.ConceptLemmas.{text_start}
-use Rattle.concept_report.specs.Lines.{lines_from, Adds}
-use Rattle.concept_report.specs.declared.lines.Lines.{Lines}
+use Rattle.concept_report.specs.Lines.{CountedText, line_of, lines_from, Adds}
 
 lines_from-append : (t : NamedContext) (n : ℕ) (Xs Ys : List Set) → lines_from t n (Xs ++ Ys) ≡ lines_from t n Xs ++ lines_from t (n + length Xs) Ys
 lines_from-append t n [] Ys = ap (λ k. lines_from t k Ys) (omega arith)
@@ -21,32 +20,42 @@ lines_from-append t n (X ∷ Xs) Ys =
     ap (λ z. line ++ z) (lines_from-append t (n + 1) Xs Ys ∙ ap (λ k. lines_from t (n + 1) Xs ++ lines_from t k Ys) next)
     ∙ sym (append_assoc line (lines_from t (n + 1) Xs) (lines_from t (n + length (X ∷ Xs)) Ys))
 
-pub Adds-append : (t : NamedContext) (a b c : Lines) (Xs Ys : List Set) → Adds t a b Xs → Adds t b c Ys → Adds t a c (Xs ++ Ys)
+pub Adds-append : (t : NamedContext) (a b c : CountedText) (Xs Ys : List Set) → Adds t a b Xs → Adds t b c Ys → Adds t a c (Xs ++ Ys)
 Adds-append t a b c Xs Ys x y = record {
-  text = y.text ∙ ap₂ (λ u k. u ++ lines_from t k Ys) x.text x.count ∙ append_assoc a.text.items (lines_from t a.count Xs) (lines_from t (a.count + length Xs) Ys)
-      ∙ ap (λ z. a.text.items ++ z) (sym (lines_from-append t a.count Xs Ys));
+  text = y.text ∙ ap₂ (λ u k. u ++ lines_from t k Ys) x.text x.count ∙ append_assoc a.text (lines_from t a.count Xs) (lines_from t (a.count + length Xs) Ys)
+      ∙ ap (λ z. a.text ++ z) (sym (lines_from-append t a.count Xs Ys));
   count = let both : length (Xs ++ Ys) ≡ length Xs + length Ys = length-append Xs Ys in omega (arith, x.count, y.count, both);
 }
 
-pub Adds-nothing : (t : NamedContext) (a b : Lines) → b.text.items ≡ a.text.items → b.count ≡ a.count → Adds t a b []
-Adds-nothing t a b e f = record { text = e ∙ sym (append-nil a.text.items); count = omega (arith, f) }
+pub Adds-nothing : (t : NamedContext) (a b : CountedText) → b.text ≡ a.text → b.count ≡ a.count → Adds t a b []
+Adds-nothing t a b e f = record { text = e ∙ sym (append-nil a.text); count = omega (arith, f) }
 
--- one line, as its parts were added
-pub Adds-line : (t : NamedContext) (a b : Lines) (A : Set) (E : List ℕ) → E ≡ extent t.context A
-    → b.text.items ≡ (((((a.text.items ++ ordinal a.count) ++ codes " ") ++ braces_text t.attributes A) ++ codes " | ") ++ braced (names_at t.objects E)) ++ codes "\n"
-    → b.count ≡ a.count + 1 → Adds t a b (A ∷ [])
+-- a line, as its parts were put down
+pub line-parts : (t : NamedContext) (old number : Text) (A : Set) (E : List ℕ)
+    → (((((old ++ number) ++ codes " {") ++ listed (names_of t.attributes A)) ++ codes "} | {") ++ listed (names_at t.objects E)) ++ codes "}\n" ≡ old ++ line_of t number A E
+line-parts t old number A E = regroup old number (codes " {") (listed (names_of t.attributes A)) (codes "} | {") (listed (names_at t.objects E)) (codes "}\n")
+  where
+    regroup : (o n s i m e l : Text) → (((((o ++ n) ++ s) ++ i) ++ m) ++ e) ++ l ≡ o ++ (n ++ (s ++ (i ++ (m ++ (e ++ l)))))
+    regroup o n s i m e l = simp append_assoc
+
+-- the line is that of the concept
+line-concept : (t : NamedContext) (number : Text) (A : Set) (E : List ℕ)
+    → line_of t number A E ≡ number ++ (codes " " ++ (braces_text t.attributes A ++ (codes " | " ++ (braced (names_at t.objects E) ++ line_end))))
+line-concept t number A E = regroup number (listed (names_of t.attributes A)) (listed (names_at t.objects E))
+  where
+    regroup : (n i e : Text) → n ++ (codes " {" ++ (i ++ (codes "} | {" ++ (e ++ codes "}\n")))) ≡ n ++ (codes " " ++ ((codes "{" ++ (i ++ codes "}")) ++ (codes " | " ++ ((codes "{" ++ (e ++ codes "}")) ++ line_end))))
+    regroup n i e = simp append_assoc
+
+-- one line more
+pub Adds-line : (t : NamedContext) (a b : CountedText) (A : Set) (E : List ℕ) → E ≡ extent t.context A → b.text ≡ a.text ++ line_of t (ordinal a.count) A E → b.count ≡ a.count + 1 → Adds t a b (A ∷ [])
 Adds-line t a b A E is made one = record {
-  text = made ∙ ap (λ F. (((((a.text.items ++ ordinal a.count) ++ codes " ") ++ braces_text t.attributes A) ++ codes " | ") ++ braced (names_at t.objects F)) ++ codes "\n") is
-      ∙ regroup a.text.items (ordinal a.count) (codes " ") (braces_text t.attributes A) (codes " | ") (braced (names_at t.objects (extent t.context A))) line_end;
+  text = made ∙ ap (λ F. a.text ++ line_of t (ordinal a.count) A F) is ∙ ap (λ z. a.text ++ z) (line-concept t (ordinal a.count) A (extent t.context A) ∙ sym (append-nil (concept_line t a.count (concept_of t.context A))));
   count = one;
 }
-  where
-    regroup : (o n s i m e l : Text) → (((((o ++ n) ++ s) ++ i) ++ m) ++ e) ++ l ≡ o ++ ((n ++ (s ++ (i ++ (m ++ (e ++ l))))) ++ [])
-    regroup o n s i m e l = simp (append_assoc, append-nil)
 
 -- the head and the lines of all intents
-pub text_whole : (t : NamedContext) (a b : Lines) → a.text.items ≡ [] → a.count ≡ 0 → Adds t a b (intents t.context)
-    → counted (codes "concepts ") b.count ++ b.text.items ≡ concepts_text t (concepts t.context)
+pub text_whole : (t : NamedContext) (a b : CountedText) → a.text ≡ [] → a.count ≡ 0 → Adds t a b (intents t.context)
+    → counted (codes "concepts ") b.count ++ b.text ≡ concepts_text t (concepts t.context)
 unfolding concepts
 text_whole t a b empty none all =
     let n : b.count ≡ length (intents t.context) = omega (arith, all.count, none) in

@@ -1,16 +1,21 @@
 -- Names that each have a comma and a space behind them are a list of names with these behind it.
-use Rattle.std.proofs.Common.{◌≡◌, ℕ, zero, suc, ◌+◌, ◌<◌, ◌≤◌, ◌-◌, true, false, All, Some, List, [], ◌∷◌, ◌++◌, length, map, take, drop, get_or, refl, sym, ap, ap₂, ◌∙◌, arith, append_assoc, length-append}
+use Rattle.std.proofs.Common.{◌≡◌, ℕ, zero, suc, ◌+◌, ◌<◌, ◌≤◌, ◌-◌, Bool, true, false, All, Some, None, Option, eqb, List, [], ◌∷◌, ◌++◌, length, map, take, drop, get_or, cond, ltb, inl, inr, refl, sym, ap, ap₂, ◌∙◌, arith, append_assoc, length-append}
 use Rattle.std.proofs.Math.Nat.{min-le_left}
-use Rattle.std.proofs.lemmas.List.{append-nil, take_at, get_or_read, map_more, at_drop_more}
+use Rattle.std.proofs.lemmas.List.{append-nil, take_at, get_or_read, map_more, at_drop_more, take-take, length-take-le}
+use Rattle.std.proofs.lemmas.Bool.{false≢true, cases_lt, lt-ltb, le-ltb}
 use Rattle.std.specs.Prelude.{codes, slice_get, unwrap_or}
 use Rattle.std.proofs.lemmas.Option.{get_or_from_slice_get}
 use Rattle.std.proofs.lemmas.List.Elements.{All-head, All-tail}
 use Rattle.std.specs.List.{concat}
 use Rattle.fca_model.specs.Sets.{Set}
 use Rattle.fca_model.specs.Tables.{Text}
-use Rattle.expert_wire.specs.Texts.{names_of, continued, listed, braced}
+use Rattle.expert_wire.specs.Texts.{names_of, continued, listed}
 use Rattle.expert_wire.proofs.ListedLemmas.{names_from, names_from-member, names_from-none, names_from-end}
 use Rattle.basis_report.specs.Reports.{names_at}
+use Rattle.fca_model.specs.Names.{name_fault}
+use Rattle.fca_model.specs.declared.TheConstants.{MAX_NAME_BYTES}
+use Rattle.fca_model.specs.declared.names.NameFault.{NameFault}
+use Rattle.fca_model.specs.declared.names.NameFault.TheVariants.{Empty, Long}
 use Rattle.concept_report.specs.Listing.{parted}
 
 pub names_of-map : (f : Text → Text) (names : List Text) (A : Set) → names_of (map f names) A ≡ map f (names_of names A)
@@ -120,9 +125,32 @@ names_at-parted names [] inside = refl
 names_at-parted names (p ∷ ps) inside =
     ap₂ (λ x xs. x ∷ xs) (parted_at names p (All-head (λ q. q < length names) p ps inside)) (names_at-parted names ps (All-tail (λ q. q < length names) p ps inside))
 
--- ---- braces
+-- ---- where they end
 
--- the names in braces, as their parts were appended
-pub in_braces : (old opened named closed : Text) (names : List Text) → opened ≡ old ++ codes "{" → named ≡ opened ++ listed names → closed ≡ named ++ codes "}" → closed ≡ old ++ braced names
-in_braces old opened named closed names a b c =
-    c ∙ ap (λ z. z ++ codes "}") (b ∙ ap (λ z. z ++ listed names) a) ∙ append_assoc (old ++ codes "{") (listed names) (codes "}") ∙ append_assoc old (codes "{") (listed names ++ codes "}")
+-- the names, without the comma and the space behind the last
+pub put_names : (text old : Text) (names : List Text) (start end : ℕ) → take end text ≡ old ++ concat (map parted names) → length old ≡ start → end ≤ length text
+    → take (cond (ltb start end) (end - 2) end) text ≡ old ++ listed names
+put_names text old names start end made starts inside = elim (cases_lt start end) [
+  | inl more ↦
+      let long : length (take end text) ≡ end = length-take-le end text inside in
+      let shorter : end - 2 ≤ end = omega arith in
+      ap (λ b. take (cond b (end - 2) end) text) (lt-ltb start end more) ∙ sym (take-take (end - 2) end text shorter) ∙ ap (λ n. take (n - 2) (take end text)) (sym long)
+      ∙ trimmed old (take end text) names made (omega (arith, long, starts))
+  | inr none ↦
+      let long : length (take end text) ≡ end = length-take-le end text inside in
+      ap (λ b. take (cond b (end - 2) end) text) (le-ltb start end none) ∙ untrimmed old (take end text) names made (omega (arith, long, starts))
+]
+
+-- ---- names are short
+
+not_none : (a b : Bool) (x y : NameFault) (r : Option NameFault) → b ≡ true → cond a (Some x) (cond b (Some y) r) ≡ None → ⊥
+not_none true b x y r e h = cc
+not_none false true x y r e h = cc
+not_none false false x y r e h = false≢true e
+
+pub name_short : (name : Text) → name_fault name ≡ None → length name ≤ MAX_NAME_BYTES
+unfolding name_fault
+name_short name h = elim (cases_lt MAX_NAME_BYTES (length name)) [
+  | inl long ↦ absurd (not_none (eqb (length name) 0) (ltb MAX_NAME_BYTES (length name)) Empty Long _ (lt-ltb MAX_NAME_BYTES (length name) long) h)
+  | inr short ↦ short
+]

@@ -1,6 +1,6 @@
 //! The lines of all concepts, written along the tree of intents. What goes down the tree is the extent, as places in the table.
 
-ghost use Rattle.std.specs.Prelude.{◌≡◌, ◌≤◌, ◌<◌, ◌+◌, ◌++◌, ◌∷◌, [], true, OnOk, IfOk, IfSome, MatchOption, length, take};
+ghost use Rattle.std.specs.Prelude.{◌≡◌, ◌≤◌, ◌<◌, ◌+◌, ◌++◌, true, OnOk, IfOk, IfSome, MatchOption, length, take};
 ghost use Rattle.fca_model.specs.Sets.{within};
 ghost use Rattle.fca_model.specs.Context.{extent, is_closed};
 ghost use Rattle.fca_model.specs.Pseudo.{intents};
@@ -55,7 +55,7 @@ fn write_branch<const W: usize>(
     requires seen { AreSeen sheet.now.context a.now seen.old.items }
     ensures { OnOk result (Adds sheet.now lines.old lines.new (branch sheet.now.context a.now from)) }
 {
-    write_line(sheet, lines, a, places)?;
+    lines.add(sheet, a, places)?;
     let mut found = vec![in alloc; 0; places.len()]?;
     for i in (from..sheet.rows().width()).rev() {
         if let Some(child) = child_at(sheet, a, places, i, seen, &mut found) {
@@ -129,24 +129,4 @@ fn places_of<'a, const W: usize>(
     ensures { result.now ≡ extent sheet.now.context child.now.intent }
 {
     &found[..child.count]
-}
-
-/// Writes the line of the concept of a.
-fn write_line<const W: usize>(
-    sheet: &Sheet<'_, W>,
-    lines: &mut Lines,
-    a: &Bits<W>,
-    places: &[usize],
-) -> Result<(), Memory>
-    requires wide { length a.now ≡ sheet.now.context.width }
-    requires places { places.now ≡ extent sheet.now.context a.now }
-    ensures { OnOk result (Adds sheet.now lines.old lines.new (a.now ∷ [])) }
-{
-    lines.number()?;
-    lines.text.extend_from_slice(b" ")?;
-    sheet.write_intent(&mut lines.text, a)?;
-    lines.text.extend_from_slice(b" | ")?;
-    sheet.write_extent(&mut lines.text, places)?;
-    lines.text.extend_from_slice(b"\n")?;
-    Ok(())
 }

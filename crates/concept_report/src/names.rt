@@ -1,11 +1,11 @@
 //! The names of a table as pieces, each with what stands between two names of a list behind it.
 
-ghost use Rattle.std.specs.Prelude.{◌≡◌, map, IfOk};
+ghost use Rattle.std.specs.Prelude.{◌≡◌, ◌≤◌, map, length, IfOk};
 ghost use Rattle.concept_report.specs.Listing.{parted};
 
 use crate::pieces::Piece;
 use context_table::Table;
-use fca_model::Memory;
+use fca_model::{MAX_NAME_BYTES, Memory};
 use std::alloc::Global;
 
 /// The names of the attributes.
@@ -34,6 +34,7 @@ pub(crate) fn object_pieces(alloc: Global, table: &Table) -> Result<Vec<Piece>, 
 
 /// The name with a comma and a space behind it.
 fn piece_of(alloc: Global, name: &[u8]) -> Result<Piece, Memory>
+    requires { length name.now ≤ MAX_NAME_BYTES }
     ensures { IfOk result (λ piece. piece ≡ parted name.now) }
 {
     let mut text = Vec::from_slice(alloc, name)?;

@@ -1,14 +1,12 @@
 //! A table with what is needed to write the lines of its concepts.
 
-ghost use Rattle.std.specs.Prelude.{◌≡◌, ◌≤◌, ◌<◌, ◌++◌, ℕ, All, List, IfOk, OnOk, length, codes, map};
+ghost use Rattle.std.specs.Prelude.{◌≡◌, ◌+◌, ◌-◌, ◌*◌, ◌≤◌, ◌<◌, ◌++◌, All, IfOk, length, take, cond, nat_lt};
 ghost use Rattle.std.specs.List.{concat};
-ghost use Rattle.fca_model.specs.Tables.{Text};
-ghost use Rattle.expert_wire.specs.Texts.{braced, braces_text, listed, names_of};
+ghost use Rattle.expert_wire.specs.Texts.{listed, names_of};
 ghost use Rattle.basis_report.specs.Reports.{names_at};
-ghost use Rattle.concept_report.specs.Listing.{parted};
 
 use crate::names::{attribute_pieces, object_pieces};
-use crate::pieces::Piece;
+use crate::pieces::{PIECE_BYTES, PIECE_ROOM, Piece};
 use attr_bits::Bits;
 use context_table::Table;
 use derivation::RowsOf;
@@ -69,71 +67,80 @@ impl<'a, const W: usize> Sheet<'a, W> {
         self.rows
     }
 
-    /// Appends the names of the attributes in the set, in braces.
-    pub(crate) fn write_intent(&self, text: &mut Vec<u8>, set: &Bits<W>) -> Result<(), Memory>
-        requires { length set.now ≡ self.now.context.width }
-        ensures { OnOk result (text.new.items ≡ text.old.items ++ braces_text self.now.attributes set.now) }
+    /// Puts the names of the attributes in the set down, and tells where they end.
+    pub(crate) fn put_intent(&self, text: &mut [u8], start: usize, set: &Bits<W>) -> usize
+        requires wide { length set.now ≡ self.now.context.width }
+        requires room { start + PIECE_ROOM * length set.now ≤ length text.old }
+        ensures text { take result text.new ≡ take start text.old ++ listed (names_of self.now.attributes set.now) }
+        ensures ends { result ≤ start + PIECE_BYTES * length set.now }
+        ensures room { length text.new ≡ length text.old }
     {
         let _width = set.width();
         let _words = self.rows.width();
-        text.extend_from_slice(b"{")?;
-        let start = text.len();
-        write_members(&self.attributes, text, set)?;
-        trim(text, start);
-        text.extend_from_slice(b"}")?;
-        Ok(())
+        let end = put_members(&self.attributes, text, start, set);
+        without_comma(start, end)
     }
 
-    /// Appends the names of the objects at these places, in braces.
-    pub(crate) fn write_extent(&self, text: &mut Vec<u8>, places: &[usize]) -> Result<(), Memory>
-        requires { All (λ p. p < length self.now.context.rows) places.now }
-        ensures { OnOk result (text.new.items ≡ text.old.items ++ braced (names_at self.now.objects places.now)) }
+    /// Puts the names of the objects at these places down, and tells where they end.
+    pub(crate) fn put_extent(&self, text: &mut [u8], start: usize, places: &[usize]) -> usize
+        requires inside { All (λ p. p < length self.now.context.rows) places.now }
+        requires room { start + PIECE_ROOM * length places.now ≤ length text.old }
+        ensures text { take result text.new ≡ take start text.old ++ listed (names_at self.now.objects places.now) }
+        ensures ends { result ≤ start + PIECE_BYTES * length places.now }
+        ensures room { length text.new ≡ length text.old }
     {
-        text.extend_from_slice(b"{")?;
-        let start = text.len();
-        write_places(&self.objects, text, places)?;
-        trim(text, start);
-        text.extend_from_slice(b"}")?;
-        Ok(())
+        let end = put_places(&self.objects, text, start, places);
+        without_comma(start, end)
     }
 }
 
-/// Appends the pieces of the members.
-fn write_members<const W: usize>(
+/// Puts the pieces of the members down, and tells where they end.
+fn put_members<const W: usize>(
     pieces: &[Piece],
-    text: &mut Vec<u8>,
+    text: &mut [u8],
+    start: usize,
     set: &Bits<W>,
-) -> Result<(), Memory>
-    requires { length set.now ≤ length pieces.now }
-    ensures { OnOk result (text.new.items ≡ text.old.items ++ concat (names_of pieces.now set.now)) }
+) -> usize
+    requires few { length set.now ≤ length pieces.now }
+    requires room { start + PIECE_ROOM * length set.now ≤ length text.old }
+    ensures text { take result text.new ≡ take start text.old ++ concat (names_of pieces.now set.now) }
+    ensures begins { start ≤ result }
+    ensures ends { result ≤ start + PIECE_BYTES * length set.now }
+    ensures room { length text.new ≡ length text.old }
 {
     let _width = set.width();
+    let mut end = start;
     let mut from = 0;
     while let Some(member) = set.next_member(from) {
-        pieces[member as usize].append(text)?;
+        end = pieces[member as usize].put(text, end);
         from = member + 1;
     }
-    Ok(())
+    end
 }
 
-/// Appends the pieces at these places.
-fn write_places(pieces: &[Piece], text: &mut Vec<u8>, places: &[usize]) -> Result<(), Memory>
-    requires { All (λ p. p < length pieces.now) places.now }
-    ensures { OnOk result (text.new.items ≡ text.old.items ++ concat (names_at pieces.now places.now)) }
+/// Puts the pieces at these places down, and tells where they end.
+fn put_places(pieces: &[Piece], text: &mut [u8], start: usize, places: &[usize]) -> usize
+    requires inside { All (λ p. p < length pieces.now) places.now }
+    requires room { start + PIECE_ROOM * length places.now ≤ length text.old }
+    ensures text { take result text.new ≡ take start text.old ++ concat (names_at pieces.now places.now) }
+    ensures begins { start ≤ result }
+    ensures ends { result ≤ start + PIECE_BYTES * length places.now }
+    ensures room { length text.new ≡ length text.old }
 {
+    let mut end = start;
     for place in places {
-        pieces[*place].append(text)?;
+        end = pieces[*place].put(text, end);
     }
-    Ok(())
+    end
 }
 
-/// Takes the comma and the space behind the last of the names away that were appended from `start` on.
-fn trim(text: &mut Vec<u8>, start: usize)
-    ensures { (old : Text) (names : List Text) → start ≡ length old → text.old.items ≡ old ++ concat (map parted names)
-        → text.new.items ≡ old ++ listed names }
+/// The end without the comma and the space behind the last of the names that stand there, if there is one.
+fn without_comma(start: usize, end: usize) -> usize
+    ensures { result ≡ cond (nat_lt start end) (end - 2) end }
 {
-    if text.len() <= start {
-        return;
+    if start < end {
+        end.saturating_sub(2)
+    } else {
+        end
     }
-    text.truncate(text.len().saturating_sub(2));
 }

@@ -19,7 +19,7 @@ loop-i-init g t c =
       inside = omega (arith, width);
       seen = c.requires.seen;
       room = omega (arith, c.in_ok-found.ensures.len, c.in_ok-found.found.ok.0);
-      added = subst (Adds c.args.sheet.now c.args.lines.now c.write_line.new.lines) (sym (branch_end K A a) ∙ ap (branch K A) (sym width)) c.in_ok-write_line.ensures;
+      added = subst (Adds c.args.sheet.now c.args.lines.now c.add.new.self) (sym (branch_end K A a) ∙ ap (branch K A) (sym width)) c.in_ok-add.ensures;
     }
 
 pub loop-i-preserved-in-Some : goal.loop-i-preserved-in-Some
