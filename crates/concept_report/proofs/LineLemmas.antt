@@ -11,6 +11,8 @@ use Rattle.lectic_concepts.specs.Concepts.{concept_of, concepts}
 use Rattle.basis_report.specs.Reports.{counted, names_at, concept_line, concepts_text}
 use Rattle.basis_report.proofs.ConceptLemmas.{text_start}
 use Rattle.concept_report.specs.Lines.{CountedText, line_of, lines_from, Adds}
+use Rattle.concept_report.specs.Pages.{Fills}
+use Rattle.concept_report.specs.declared.page.Page.{Page}
 
 lines_from-append : (t : NamedContext) (n : ℕ) (Xs Ys : List Set) → lines_from t n (Xs ++ Ys) ≡ lines_from t n Xs ++ lines_from t (n + length Xs) Ys
 lines_from-append t n [] Ys = ap (λ k. lines_from t k Ys) (omega arith)
@@ -29,6 +31,13 @@ Adds-append t a b c Xs Ys x y = record {
 
 pub Adds-nothing : (t : NamedContext) (a b : CountedText) → b.text ≡ a.text → b.count ≡ a.count → Adds t a b []
 Adds-nothing t a b e f = record { text = e ∙ sym (append-nil a.text); count = omega (arith, f) }
+
+pub Fills-append : (t : NamedContext) {W : ℕ} (a b c : Page W) (Xs Ys : List Set) → Fills t a b Xs → Fills t b c Ys → Fills t a c (Xs ++ Ys)
+Fills-append t a b c Xs Ys x y = record {
+  lines = Adds-append t a.lines b.lines c.lines Xs Ys x.lines y.lines;
+  keeps = y.keeps ∙ x.keeps;
+  kept = λ k. y.kept (x.keeps ∙ k) ∙ ap (λ Zs. Zs ++ Ys) (x.kept k) ∙ append_assoc a.kept.items Xs Ys;
+}
 
 -- a line, as its parts were put down
 pub line-parts : (t : NamedContext) (old number : Text) (A : Set) (E : List ℕ)

@@ -1,3 +1,4 @@
 pub mod Listing
 pub mod Lines
 pub mod Places
+pub mod Pages

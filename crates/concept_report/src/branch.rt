@@ -1,14 +1,14 @@
 //! The lines of all concepts, written along the tree of intents. What goes down the tree is the extent, as places in the table.
 
-ghost use Rattle.std.specs.Prelude.{◌≡◌, ◌≤◌, ◌<◌, ◌+◌, ◌++◌, true, OnOk, IfOk, IfSome, MatchOption, length, take};
+ghost use Rattle.std.specs.Prelude.{◌≡◌, ◌≤◌, ◌<◌, ◌+◌, ◌++◌, true, false, OnOk, IfOk, IfSome, MatchOption, length, take, slice_index_or};
 ghost use Rattle.fca_model.specs.Sets.{within};
 ghost use Rattle.fca_model.specs.Context.{extent, is_closed};
 ghost use Rattle.fca_model.specs.Pseudo.{intents};
 ghost use Rattle.lectic_concepts.specs.Branches.{branch, AreSeen};
-ghost use Rattle.concept_report.specs.Lines.{Adds};
+ghost use Rattle.concept_report.specs.Pages.{Fills};
 
 use crate::judge::{first_seen, is_child, is_open, seen_above};
-use crate::lines::Lines;
+use crate::page::Page;
 use crate::places::{closure_at, keep_having};
 use crate::sheet::Sheet;
 use attr_bits::Bits;
@@ -26,15 +26,15 @@ struct Child<const W: usize> {
 pub(crate) fn write_all<const W: usize>(
     alloc: Global,
     sheet: &Sheet<'_, W>,
-    lines: &mut Lines,
+    page: &mut Page<W>,
 ) -> Result<(), Memory>
-    ensures { OnOk result (Adds sheet.now lines.old lines.new (intents sheet.now.context)) }
+    ensures { OnOk result (Fills sheet.now page.old page.new (intents sheet.now.context)) }
 {
     let rows = sheet.rows();
     let least = rows.closure(&Bits::empty(rows.width()));
     let places = rows.extent(alloc, &least)?;
     let mut seen = first_seen(alloc, sheet, &least)?;
-    write_branch(alloc, sheet, lines, &least, places.as_slice(), 0, &mut seen)
+    write_branch(alloc, sheet, page, &least, places.as_slice(), 0, &mut seen)
 }
 
 /// Writes the lines of the intents that contain a and agree with it before attribute `from`. The extent of a child is found among that of a, and
@@ -42,7 +42,7 @@ pub(crate) fn write_all<const W: usize>(
 fn write_branch<const W: usize>(
     alloc: Global,
     sheet: &Sheet<'_, W>,
-    lines: &mut Lines,
+    page: &mut Page<W>,
     a: &Bits<W>,
     places: &[usize],
     from: u32,
@@ -53,29 +53,25 @@ fn write_branch<const W: usize>(
     requires places { places.now ≡ extent sheet.now.context a.now }
     requires inside { from ≤ sheet.now.context.width }
     requires seen { AreSeen sheet.now.context a.now seen.old.items }
-    ensures { OnOk result (Adds sheet.now lines.old lines.new (branch sheet.now.context a.now from)) }
+    ensures { OnOk result (Fills sheet.now page.old page.new (branch sheet.now.context a.now from)) }
 {
-    lines.add(sheet, a, places)?;
-    let mut found = vec![in alloc; 0; places.len()]?;
+    page.add(sheet, a, places)?;
+    let mut found = Vec::new(alloc);
     for i in (from..sheet.rows().width()).rev() {
+        if !is_open(sheet, a, i, seen) {
+            continue;
+        }
+        found.resize(places.len(), 0)?;
         if let Some(child) = child_at(sheet, a, places, i, seen, &mut found) {
             let below = places_of(sheet, &child, &found);
-            let mut passed = seen_above(alloc, sheet, a, seen, &child.intent)?;
-            write_branch(
-                alloc,
-                sheet,
-                lines,
-                &child.intent,
-                below,
-                i + 1,
-                &mut passed,
-            )?;
+            let mut passed = seen_above(alloc, sheet, a, seen, &child.intent, i + 1)?;
+            write_branch(alloc, sheet, page, &child.intent, below, i + 1, &mut passed)?;
         }
     }
     Ok(())
 }
 
-/// The least intent that contains a and attribute i, where it agrees with a before i and a lacks i. The places of its objects are put into the front of
+/// The least intent that contains a and attribute i, which a lacks, where it agrees with a before i. The places of its objects are put into the front of
 /// `found`.
 fn child_at<const W: usize>(
     sheet: &Sheet<'_, W>,
@@ -89,6 +85,7 @@ fn child_at<const W: usize>(
     requires closed { is_closed sheet.now.context a.now ≡ true }
     requires places { places.now ≡ extent sheet.now.context a.now }
     requires inside { i < sheet.now.context.width }
+    requires lacks { slice_index_or a.now i false ≡ false }
     requires seen { AreSeen sheet.now.context a.now seen.old.items }
     requires room { length found.old.items ≡ length places.now }
     ensures wide { IfSome result (λ child. length child.intent ≡ sheet.now.context.width) }
@@ -102,9 +99,6 @@ fn child_at<const W: usize>(
     ensures seen { AreSeen sheet.now.context a.now seen.new.items }
     ensures room { length found.new.items ≡ length places.now }
 {
-    if !is_open(sheet, a, i, seen) {
-        return None;
-    }
     let rows = sheet.rows();
     let _width = rows.width();
     let count = keep_having(rows, places, i, found);

@@ -1,6 +1,6 @@
 //! Which closures of an intent with one attribute more are its children in the tree, and what is known of such closures beforehand.
 
-ghost use Rattle.std.specs.Prelude.{◌≡◌, ◌<◌, ◌+◌, ◌++◌, true, false, IfOk, length, slice_set, slice_index_or};
+ghost use Rattle.std.specs.Prelude.{◌≡◌, ◌<◌, ◌≤◌, ◌+◌, ◌++◌, true, false, IfOk, length, slice_set, slice_index_or};
 ghost use Rattle.std.specs.Bool.{MatchBool};
 ghost use Rattle.fca_model.specs.Sets.{within};
 ghost use Rattle.fca_model.specs.Context.{closure};
@@ -77,18 +77,32 @@ pub(crate) fn first_seen<const W: usize>(
     Ok(seen)
 }
 
-/// What was seen of the closures of a holds of those of a larger set.
+/// What was seen of the closures of a holds of those of a larger set. Where that lacks no attribute from the given one on, nothing need be known.
 pub(crate) fn seen_above<const W: usize>(
     alloc: Global,
     sheet: &Sheet<'_, W>,
     a: &Bits<W>,
     seen: &[u32],
     child: &Bits<W>,
+    from: u32,
 ) -> Result<Vec<u32>, Memory>
     requires seen { AreSeen sheet.now.context a.now seen.now }
     requires larger { within a.now child.now ≡ true }
     requires wide { length child.now ≡ sheet.now.context.width }
+    requires inside { from ≤ sheet.now.context.width }
     ensures { IfOk result (λ seen. AreSeen sheet.now.context child.now seen.items) }
 {
+    let _words = sheet.rows().width();
+    if !lacks_any(child, from) {
+        return Ok(Vec::new(alloc));
+    }
     Ok(Vec::from_slice(alloc, seen)?)
+}
+
+/// Whether a lacks an attribute from that one on. What is found is the same either way, so no contract speaks of it.
+fn lacks_any<const W: usize>(a: &Bits<W>, from: u32) -> bool
+    requires words { W ≤ 1024 }
+    requires inside { from ≤ length a.now }
+{
+    Bits::full(a.width()).minus(a).next_member(from).is_some()
 }

@@ -16,6 +16,9 @@ use std::marker::Model;
 /// How many bytes stand in a line beside the number and the names.
 const MARKS: usize = 9;
 
+/// The least number of bytes by which the text is grown.
+const STEP: usize = 65_536;
+
 /// Lines, and how many they are. They stand in the front of the bytes, whose end is grown in large steps.
 #[derive(Drop)]
 pub(crate) struct Lines {
@@ -111,8 +114,8 @@ fn add_line<const W: usize>(
     Ok(put_line(bytes, start, sheet, digits, a, places))
 }
 
-/// Makes sure that so many bytes are free behind the place. The bytes are grown by an eighth or more.
-fn make_room(bytes: &mut Vec<u8>, end: usize, room: usize) -> Result<(), Memory>
+/// Makes sure that so many bytes are free behind the place.
+pub(crate) fn make_room(bytes: &mut Vec<u8>, end: usize, room: usize) -> Result<(), Memory>
     requires { end ≤ length bytes.old.items }
     ensures text { take end bytes.new.items ≡ take end bytes.old.items }
     ensures kept { end ≤ length bytes.new.items }
@@ -122,7 +125,7 @@ fn make_room(bytes: &mut Vec<u8>, end: usize, room: usize) -> Result<(), Memory>
     if room <= len - end {
         return Ok(());
     }
-    let Some(wanted) = end.checked_add(room.max(len / 8)) else {
+    let Some(wanted) = end.checked_add(room.max(STEP)) else {
         return Err(Memory);
     };
     bytes.resize(wanted, 0)?;

@@ -4,8 +4,8 @@ use Rattle.fca_model.specs.Context.{Context}
 use Rattle.lectic_concepts.specs.Branches.{branch}
 use Rattle.lectic_concepts.proofs.IntentLemmas.{IsIntent}
 use Rattle.lectic_concepts.proofs.BranchLemmas.{branch_end}
-use Rattle.concept_report.specs.Lines.{Adds}
-use Rattle.concept_report.proofs.LineLemmas.{Adds-append}
+use Rattle.concept_report.specs.Pages.{Fills}
+use Rattle.concept_report.proofs.LineLemmas.{Fills-append}
 use Rattle.concept_report.proofs.branch.+write_branch.Goals as goal
 
 pub loop-i-init : goal.loop-i-init
@@ -18,8 +18,7 @@ loop-i-init g t c =
       from_on = omega (arith, width, c.requires.inside);
       inside = omega (arith, width);
       seen = c.requires.seen;
-      room = omega (arith, c.in_ok-found.ensures.len, c.in_ok-found.found.ok.0);
-      added = subst (Adds c.args.sheet.now c.args.lines.now c.add.new.self) (sym (branch_end K A a) ∙ ap (branch K A) (sym width)) c.in_ok-add.ensures;
+      filled = subst (Fills c.args.sheet.now c.args.page.now c.add.new.self) (sym (branch_end K A a) ∙ ap (branch K A) (sym width)) c.in_ok-add.ensures;
     }
 
 pub loop-i-preserved-in-Some : goal.loop-i-preserved-in-Some
@@ -28,12 +27,11 @@ loop-i-preserved-in-Some g t c =
     let A : Set = c.args.a.now in
     let D : Set = c.in-Some.child.intent in
     let up : c.loop-i.i - 1 + 1 ≡ c.loop-i.i = omega (arith, c.loop-i-test.true) in
-    let before : Adds c.args.sheet.now c.args.lines.now c.loop-i.lines (branch K A (c.loop-i.i - 1 + 1)) = subst (λ k. Adds c.args.sheet.now c.args.lines.now c.loop-i.lines (branch K A k)) (sym up) c.loop-i.invariant.added in
+    let before : Fills c.args.sheet.now c.args.page.now c.loop-i.page (branch K A (c.loop-i.i - 1 + 1)) = subst (λ k. Fills c.args.sheet.now c.args.page.now c.loop-i.page (branch K A k)) (sym up) c.loop-i.invariant.filled in
     record {
       from_on = omega (arith, c.loop-i-test.true);
       inside = omega (arith, c.loop-i.invariant.inside);
       seen = c.child_at.ensures.seen;
-      room = c.child_at.ensures.room;
-      added = subst (Adds c.args.sheet.now c.args.lines.now c.write_branch.new.lines) (sym c.in-Some.ensures.splits)
-          (Adds-append c.args.sheet.now c.args.lines.now c.loop-i.lines c.write_branch.new.lines (branch K A (c.loop-i.i - 1 + 1)) (branch K D (c.loop-i.i - 1 + 1)) before c.in_ok-write_branch.ensures);
+      filled = subst (Fills c.args.sheet.now c.args.page.now c.write_branch.new.page) (sym c.in-Some.ensures.splits)
+          (Fills-append c.args.sheet.now c.args.page.now c.loop-i.page c.write_branch.new.page (branch K A (c.loop-i.i - 1 + 1)) (branch K D (c.loop-i.i - 1 + 1)) before c.in_ok-write_branch.ensures);
     }

@@ -1,6 +1,6 @@
-use Rattle.std.proofs.Common.{◌≡◌, ◌≤◌, ◌-◌, length}
+use Rattle.std.proofs.Common.{◌≤◌, ◌-◌}
 use Rattle.lectic_concepts.specs.Branches.{branch, AreSeen}
-use Rattle.concept_report.specs.Lines.{Adds}
+use Rattle.concept_report.specs.Pages.{Fills}
 use Rattle.concept_report.proofs.branch.+write_branch.Given as goal
 
 abbrev pub decreases-write_branch : goal.decreases-write_branch
@@ -11,6 +11,5 @@ invariant-loop-i g l = record {
   from_on : l.fn.from ≤ l.i;
   inside : l.i ≤ l.sheet.context.width;
   seen : AreSeen l.sheet.context l.a l.seen.items;
-  room : length l.found.items ≡ length l.places;
-  added : Adds l.sheet l.fn.lines l.lines (branch l.sheet.context l.a l.i);
+  filled : Fills l.sheet l.fn.page l.page (branch l.sheet.context l.a l.i);
 }

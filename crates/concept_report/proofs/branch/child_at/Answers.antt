@@ -22,7 +22,7 @@ closure_at-closed-requires g c =
       omega arith,
       (
         omega (arith, c.width-width.ensures.words),
-        ap (take c.keep_having-count.result) (c.deref-2.ensures.value ∙ back) ∙ kept_with c.args.sheet.now.context c.rows-rows.result.now c.args.a.now c.with.result c.args.i c.args.places.now (take c.keep_having-count.result c.keep_having-count.new.found)
+        ap (take c.keep_having-count.result) (c.deref.ensures.value ∙ back) ∙ kept_with c.args.sheet.now.context c.rows-rows.result.now c.args.a.now c.with.result c.args.i c.args.places.now (take c.keep_having-count.result c.keep_having-count.new.found)
             c.rows-rows.ensures c.requires.places (omega (arith, c.requires.wide, c.requires.inside)) c.with.ensures c.keep_having-count.ensures.found,
       ),
     )

@@ -6,7 +6,7 @@ use Rattle.fca_model.specs.Context.{Context, closure, extent}
 use Rattle.lectic_concepts.specs.Branches.{branch}
 use Rattle.lectic_concepts.proofs.IntentLemmas.{IsIntent, closed-closure}
 use Rattle.lectic_concepts.proofs.BranchLemmas.{branch_start}
-use Rattle.concept_report.specs.Lines.{Adds}
+use Rattle.concept_report.specs.Pages.{Fills}
 use Rattle.concept_report.proofs.branch.write_all.Goals as goal
 
 -- the least set is the closure of the empty one
@@ -30,11 +30,11 @@ write_branch-requires g c =
     let D : Set = c.closure-least.result in
     let is = least K c.rows-rows.result.now c.width.result c.empty.result D c.rows-rows.ensures c.width.ensures.width c.empty.ensures c.closure-least.ensures in
     let i = is_intent K D is in
-    (omega arith, (omega (arith, c.width.ensures.words), (i.wide, (i.closed, (c.as_slice.ensures ∙ c.in_ok-places.ensures ∙ ap (λ (J : Context). extent J D) c.rows-rows.ensures, (omega arith, c.in_ok-seen.ensures))))))
+    (omega arith, (omega (arith, c.width.ensures.words), (omega (arith, c.width.ensures.words), (i.wide, (i.closed, (c.as_slice.ensures ∙ c.in_ok-places.ensures ∙ ap (λ (J : Context). extent J D) c.rows-rows.ensures, (omega arith, c.in_ok-seen.ensures)))))))
 
 pub returns : goal.returns
 returns g c =
     let K : Context = c.args.sheet.now.context in
     let D : Set = c.closure-least.result in
     let is = least K c.rows-rows.result.now c.width.result c.empty.result D c.rows-rows.ensures c.width.ensures.width c.empty.ensures c.closure-least.ensures in
-    on_ok_weaker c.write_branch.result (subst (λ (Xs : List Set). Adds c.args.sheet.now c.args.lines.now c.write_branch.new.lines Xs) (ap (λ X. branch K X 0) is ∙ branch_start K)) c.write_branch.ensures
+    on_ok_weaker c.write_branch.result (subst (λ (Xs : List Set). Fills c.args.sheet.now c.args.page.now c.write_branch.new.page Xs) (ap (λ X. branch K X 0) is ∙ branch_start K)) c.write_branch.ensures
