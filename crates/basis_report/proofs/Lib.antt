@@ -7,6 +7,5 @@ pub mod VerdictLemmas
 pub mod ConflictLemmas
 pub mod WrittenLemmas
 pub mod NameLemmas
-pub mod ConceptLemmas
 pub mod SurveyLemmas
 pub mod SurveyExamples

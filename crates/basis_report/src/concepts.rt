@@ -1,106 +1,16 @@
 //! The texts of concepts and of their covers.
 
-ghost use Rattle.std.specs.Prelude.{◌≡◌, ◌++◌, ℕ, [], length, map, codes, IfOk, OnOk, slice_get, unwrap_or};
+ghost use Rattle.std.specs.Prelude.{◌≡◌, ◌++◌, ℕ, [], length, codes, IfOk, OnOk, slice_get, unwrap_or};
 ghost use Rattle.std.specs.List.{flat_map, enumerate_from};
-ghost use Rattle.fca_model.specs.Pseudo.{covers};
-ghost use Rattle.lectic_concepts.specs.Concepts.{concept_of, concepts};
 ghost use Rattle.expert_wire.specs.Texts.{braced, braces_text};
 ghost use Rattle.basis_report.specs.Reports.{counted, names_at, concept_line, concepts_text, cover_line, lattice_text};
 
 use attr_bits::Bits;
 use context_table::Table;
-use derivation::RowsOf;
 use expert_wire::{Draft, Part};
 use fca_model::Memory;
-use lattice_covers::covers_of;
-use lectic_concepts::{Concept, FOUR_WORDS, ONE_WORD, intents_of, reach};
+use lectic_concepts::Concept;
 use std::alloc::Global;
-
-/// All concepts of the table, one a line. Sets are as narrow as the table, and each extent is kept only until the next intent that is no larger.
-pub fn table_concepts_text(alloc: Global, table: &Table) -> Result<Vec<u8>, Memory>
-    ensures { IfOk result (λ v. v.items ≡ concepts_text table.now (concepts table.now.context)) }
-{
-    let rows = table.rows();
-    let width = rows.width();
-    if width <= ONE_WORD {
-        return concepts_in(alloc, table, &rows.resized::<1>(alloc)?);
-    }
-    if width <= FOUR_WORDS {
-        return concepts_in(alloc, table, &rows.resized::<4>(alloc)?);
-    }
-    concepts_in(alloc, table, rows)
-}
-
-/// All concepts of the table and then the covers, one a line, as [`table_concepts_text`].
-pub fn table_lattice_text(alloc: Global, table: &Table) -> Result<Vec<u8>, Memory>
-    ensures { IfOk result (λ v. v.items ≡ lattice_text table.now (concepts table.now.context) (covers table.now.context)) }
-{
-    let rows = table.rows();
-    let width = rows.width();
-    if width <= ONE_WORD {
-        return lattice_in(alloc, table, &rows.resized::<1>(alloc)?);
-    }
-    if width <= FOUR_WORDS {
-        return lattice_in(alloc, table, &rows.resized::<4>(alloc)?);
-    }
-    lattice_in(alloc, table, rows)
-}
-
-/// The concepts of the table's rows, in as many words as those have.
-fn concepts_in<const W: usize>(
-    alloc: Global,
-    table: &Table,
-    rows: &RowsOf<W>,
-) -> Result<Vec<u8>, Memory>
-    requires { rows.now ≡ table.now.context }
-    ensures { IfOk result (λ v. v.items ≡ concepts_text table.now (concepts table.now.context)) }
-{
-    let _width = rows.width();
-    let intents = intents_of(alloc, rows)?;
-    let mut draft = Draft::new(alloc);
-    write_reached(alloc, &mut draft, table, rows, &intents)?;
-    Ok(draft.into_bytes())
-}
-
-/// The concepts and covers of the table's rows, in as many words as those have.
-fn lattice_in<const W: usize>(
-    alloc: Global,
-    table: &Table,
-    rows: &RowsOf<W>,
-) -> Result<Vec<u8>, Memory>
-    requires { rows.now ≡ table.now.context }
-    ensures { IfOk result (λ v. v.items ≡ lattice_text table.now (concepts table.now.context) (covers table.now.context)) }
-{
-    let _width = rows.width();
-    let intents = intents_of(alloc, rows)?;
-    let covers = covers_of(alloc, rows, &intents)?;
-    let mut draft = Draft::new(alloc);
-    write_reached(alloc, &mut draft, table, rows, &intents)?;
-    write_counted(&mut draft, table, b"covers ", covers.len())?;
-    write_covers(&mut draft, &covers)?;
-    Ok(draft.into_bytes())
-}
-
-/// The concepts of these intents. An extent is found among the objects of the closest intent before that is smaller.
-fn write_reached<const W: usize>(
-    alloc: Global,
-    draft: &mut Draft,
-    table: &Table,
-    rows: &RowsOf<W>,
-    intents: &[Bits<W>],
-) -> Result<(), Memory>
-    ensures { OnOk result (draft.new ≡ draft.old ++ concepts_text table.now (map (concept_of rows.now) intents.now)) }
-{
-    let _width = rows.width();
-    write_counted(draft, table, b"concepts ", intents.len())?;
-    let mut chain = Vec::new(alloc);
-    for (place, intent) in intents.iter().enumerate() {
-        let reached = reach(alloc, rows, &mut chain, intent)?;
-        write_line(draft, table, place, intent, &reached.extent)?;
-        chain.push(reached)?;
-    }
-    Ok(())
-}
 
 /// The concepts, one a line.
 pub fn concepts_text(alloc: Global, table: &Table, concepts: &[Concept]) -> Result<Vec<u8>, Memory>

@@ -14,7 +14,7 @@ mod surveys;
 mod tests;
 mod verdicts;
 
-pub use concepts::{concepts_text, lattice_text, table_concepts_text, table_lattice_text};
+pub use concepts::{concepts_text, lattice_text};
 pub use conflicts::conflicts_text;
 pub use explorations::explore_text;
 pub use implications::{basis_text, direct_text};

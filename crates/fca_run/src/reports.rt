@@ -11,12 +11,10 @@ ghost use Rattle.fca_run.specs.Reports.{attributes_read, table_concepts, table_b
 ghost use Rattle.fca_run.specs.Endings.{IsReportStop};
 
 use attr_bits::Attrs;
-use basis_report::{
-    basis_json, basis_text, concepts_json, direct_text, table_concepts_text, table_lattice_text,
-    verdict_text,
-};
+use basis_report::{basis_json, basis_text, concepts_json, direct_text, verdict_text};
 use canonical_basis::basis;
 use command_io::{Answer, Origin, Stop, table_under};
+use concept_report::{table_concepts_text, table_lattice_text};
 use context_reduce::{arrows, arrows_text, irreducible, part};
 use context_table::Table;
 use csv_context::write_csv;

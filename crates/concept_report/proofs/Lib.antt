@@ -1,0 +1,4 @@
+pub mod ListingLemmas
+pub mod PlaceLemmas
+pub mod LineLemmas
+pub mod JudgeLemmas

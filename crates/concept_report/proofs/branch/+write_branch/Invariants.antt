@@ -1,0 +1,15 @@
+use Rattle.std.proofs.Common.{◌≤◌, ◌-◌}
+use Rattle.lectic_concepts.specs.Branches.{branch, AreSeen}
+use Rattle.concept_report.specs.Pages.{Fills}
+use Rattle.concept_report.proofs.branch.+write_branch.Given as goal
+
+abbrev pub decreases-write_branch : goal.decreases-write_branch
+decreases-write_branch g l = l.sheet.now.context.width - l.from
+
+abbrev pub invariant-loop-i : goal.invariant-loop-i
+invariant-loop-i g l = record {
+  from_on : l.fn.from ≤ l.i;
+  inside : l.i ≤ l.sheet.context.width;
+  seen : AreSeen l.sheet.context l.a l.seen.items;
+  filled : Fills l.sheet l.fn.page l.page (branch l.sheet.context l.a l.i);
+}

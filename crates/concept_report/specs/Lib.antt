@@ -1,0 +1,4 @@
+pub mod Listing
+pub mod Lines
+pub mod Places
+pub mod Pages

@@ -1,0 +1,15 @@
+-- The rows at some places of a list.
+use Rattle.std.specs.Prelude.{ℕ, Bool, false, List, [], map, slice_index_or}
+use Rattle.fca_model.specs.Sets.{Set}
+
+-- the row at a place
+abbrev pub row_at : List Set → ℕ → Set
+row_at Rs p = slice_index_or Rs p []
+
+-- the row at a place has attribute i
+abbrev pub has_at : List Set → ℕ → ℕ → Bool
+has_at Rs i p = slice_index_or (row_at Rs p) i false
+
+-- the rows at the places
+abbrev pub rows_at : List Set → List ℕ → List Set
+rows_at Rs ps = map (row_at Rs) ps

@@ -1,0 +1,138 @@
+//! The text of the concepts of a table, and of its lattice, written as the intents are met.
+#![tactic(auto)]
+
+mod branch;
+mod cover_lines;
+mod judge;
+mod lines;
+mod names;
+mod page;
+mod pieces;
+mod places;
+mod sheet;
+
+ghost use Rattle.std.specs.Prelude.{◌≡◌, ◌++◌, true, codes, IfOk};
+ghost use Rattle.fca_model.specs.Pseudo.{covers, intents};
+ghost use Rattle.lectic_concepts.specs.Concepts.{concepts};
+ghost use Rattle.basis_report.specs.Reports.{counted, concepts_text, lattice_text};
+
+use branch::write_all;
+use context_table::Table;
+use cover_lines::with_covers;
+use derivation::RowsOf;
+use fca_model::Memory;
+use lattice_covers::covers_of;
+use lectic_concepts::{FOUR_WORDS, ONE_WORD};
+use page::Page;
+use sheet::Sheet;
+use std::alloc::Global;
+
+/// All concepts of the table, one a line. Sets are as narrow as the table.
+pub fn table_concepts_text(alloc: Global, table: &Table) -> Result<Vec<u8>, Memory>
+    ensures { IfOk result (λ v. v.items ≡ concepts_text table.now (concepts table.now.context)) }
+{
+    let rows = table.rows();
+    let width = rows.width();
+    if width <= ONE_WORD {
+        return concepts_in(alloc, table, &rows.resized::<1>(alloc)?);
+    }
+    if width <= FOUR_WORDS {
+        return concepts_in(alloc, table, &rows.resized::<4>(alloc)?);
+    }
+    concepts_in(alloc, table, rows)
+}
+
+/// All concepts of the table and then the covers, one a line, as [`table_concepts_text`].
+pub fn table_lattice_text(alloc: Global, table: &Table) -> Result<Vec<u8>, Memory>
+    ensures { IfOk result (λ v. v.items ≡ lattice_text table.now (concepts table.now.context) (covers table.now.context)) }
+{
+    let rows = table.rows();
+    let width = rows.width();
+    if width <= ONE_WORD {
+        return lattice_in(alloc, table, &rows.resized::<1>(alloc)?);
+    }
+    if width <= FOUR_WORDS {
+        return lattice_in(alloc, table, &rows.resized::<4>(alloc)?);
+    }
+    lattice_in(alloc, table, rows)
+}
+
+/// The concepts of the table's rows, in as many words as those have.
+fn concepts_in<const W: usize>(
+    alloc: Global,
+    table: &Table,
+    rows: &RowsOf<W>,
+) -> Result<Vec<u8>, Memory>
+    requires { rows.now ≡ table.now.context }
+    ensures { IfOk result (λ v. v.items ≡ concepts_text table.now (concepts table.now.context)) }
+{
+    let _width = rows.width();
+    let page = whole_page(alloc, table, rows, false)?;
+    page.lines.headed(b"concepts ")
+}
+
+/// The concepts and covers of the table's rows, in as many words as those have.
+fn lattice_in<const W: usize>(
+    alloc: Global,
+    table: &Table,
+    rows: &RowsOf<W>,
+) -> Result<Vec<u8>, Memory>
+    requires { rows.now ≡ table.now.context }
+    ensures { IfOk result (λ v. v.items ≡ lattice_text table.now (concepts table.now.context) (covers table.now.context)) }
+{
+    let _width = rows.width();
+    let page = whole_page(alloc, table, rows, true)?;
+    let covers = covers_of(alloc, rows, &page.kept)?;
+    let text = page.lines.headed(b"concepts ")?;
+    with_covers(text, &covers)
+}
+
+/// The lines of all concepts of the table's rows, and the intents if they are to be kept.
+fn whole_page<const W: usize>(
+    alloc: Global,
+    table: &Table,
+    rows: &RowsOf<W>,
+    keeps: bool,
+) -> Result<Page<W>, Memory>
+    requires { rows.now ≡ table.now.context }
+    ensures text { IfOk result (λ page. counted (codes "concepts ") page.lines.count ++ page.lines.text ≡ concepts_text table.now (concepts table.now.context)) }
+    ensures kept { IfOk result (λ page. keeps ≡ true → page.kept.items ≡ intents table.now.context) }
+{
+    let sheet = Sheet::new(alloc, table, rows)?;
+    let mut page = Page::new(alloc, keeps);
+    write_all(alloc, &sheet, &mut page)?;
+    Ok(page)
+}
+
+#[cfg(test)]
+mod tests {
+    use super::{table_concepts_text, table_lattice_text};
+    use basis_report::{concepts_text, lattice_text};
+    use context_table::Table;
+    use fca_model::Memory;
+    use lattice_covers::covers;
+    use lectic_concepts::{all_concepts, all_intents};
+    use std::rt::HostRuntime;
+
+    #[test]
+    fn the_concepts_of_a_table(rt: HostRuntime) -> Result<(), Memory> {
+        let table = Table::make(rt.alloc(), 1, 6, 5, 4)?;
+        let concepts = all_concepts(rt.alloc(), table.rows())?;
+        let expected = concepts_text(rt.alloc(), &table, &concepts)?;
+        let text = table_concepts_text(rt.alloc(), &table)?;
+        assert!(&rt; text.as_slice() == expected.as_slice());
+        Ok(())
+    }
+
+    #[test]
+    fn the_lattice_of_a_table(rt: HostRuntime) -> Result<(), Memory> {
+        let table = Table::make(rt.alloc(), 2, 4, 70, 6)?;
+        let concepts = all_concepts(rt.alloc(), table.rows())?;
+        let intents = all_intents(rt.alloc(), table.rows())?;
+        let covers = covers(rt.alloc(), table.rows(), &intents)?;
+        let expected = lattice_text(rt.alloc(), &table, &concepts, &covers)?;
+        let text = table_lattice_text(rt.alloc(), &table)?;
+        assert!(&rt; text.as_slice() == expected.as_slice());
+        Ok(())
+    }
+}

@@ -1,0 +1,169 @@
+//! A text of counted lines.
+
+ghost use Rattle.std.specs.Prelude.{◌≡◌, ◌+◌, ◌*◌, ◌^◌, ◌<◌, ◌≤◌, ◌++◌, ◌∷◌, ℕ, [], IfOk, OnOk, OnErr, length, take};
+ghost use Rattle.fca_model.specs.Context.{extent};
+ghost use Rattle.basis_report.specs.Reports.{counted};
+ghost use Rattle.concept_report.specs.Lines.{Adds, line_of};
+
+use crate::pieces::{PIECE_ROOM, put_bytes};
+use crate::sheet::Sheet;
+use attr_bits::Bits;
+use fca_model::Memory;
+use itoa::Buffer;
+use std::alloc::Global;
+use std::marker::Model;
+
+/// How many bytes stand in a line beside the number and the names.
+const MARKS: usize = 9;
+
+/// The least number of bytes by which the text is grown.
+const STEP: usize = 65_536;
+
+/// Lines, and how many they are. They stand in the front of the bytes, whose end is grown in large steps.
+#[derive(Drop)]
+pub(crate) struct Lines {
+    bytes: Vec<u8>,
+    end: usize,
+    count: usize,
+}
+
+impl Model for Lines {
+    ghost use Rattle.std.specs.Prelude.{◌≤◌, length, take};
+    ghost use Rattle.concept_report.specs.Lines.{CountedText};
+
+    ghost Value = { CountedText };
+
+    ghost view = { λ l. record { text = take l.end l.bytes.items; count = l.count } };
+
+    ghost invariant = { λ l. l.end ≤ length l.bytes.items };
+}
+
+impl Lines {
+    /// No line.
+    pub(crate) fn new(alloc: Global) -> Lines
+        ensures { result ≡ record { text = []; count = 0 } }
+    {
+        Lines {
+            bytes: Vec::new(alloc),
+            end: 0,
+            count: 0,
+        }
+    }
+
+    /// Adds the line of the concept of a, whose objects stand at these places.
+    pub(crate) fn add<const W: usize>(
+        &mut self,
+        sheet: &Sheet<'_, W>,
+        a: &Bits<W>,
+        places: &[usize],
+    ) -> Result<(), Memory>
+        requires wide { length a.now ≡ sheet.now.context.width }
+        requires places { places.now ≡ extent sheet.now.context a.now }
+        ensures { OnOk result (Adds sheet.now self.old self.new (a.now ∷ [])) }
+    {
+        let _width = sheet.rows().width();
+        let Some(number) = self.count.checked_add(1) else {
+            return Err(Memory);
+        };
+        let mut buffer = Buffer::new();
+        let digits = buffer.format(number).as_bytes();
+        let start = self.end;
+        self.end = add_line(&mut self.bytes, start, sheet, digits, a, places)?;
+        self.count = number;
+        Ok(())
+    }
+
+    /// The lines behind one that says in these words how many they are. It is written last and brought to the front, with no second copy of the text.
+    pub(crate) fn headed(self, words: &[u8]) -> Result<Vec<u8>, Memory>
+        ensures { IfOk result (λ v. v.items ≡ counted words.now self.count ++ self.text) }
+    {
+        let end = self.end;
+        let mut text = self.bytes;
+        text.truncate(end);
+        text.extend_from_slice(words)?;
+        text.extend_from_slice(Buffer::new().format(self.count).as_bytes())?;
+        text.extend_from_slice(b"\n")?;
+        text.rotate_left(end);
+        Ok(text)
+    }
+}
+
+/// Puts the line down from that place on, where there is room for it or room is made, and tells where it ends.
+fn add_line<const W: usize>(
+    bytes: &mut Vec<u8>,
+    start: usize,
+    sheet: &Sheet<'_, W>,
+    digits: &[u8],
+    a: &Bits<W>,
+    places: &[usize],
+) -> Result<usize, Memory>
+    requires start { start ≤ length bytes.old.items }
+    requires wide { length a.now ≡ sheet.now.context.width }
+    requires places { places.now ≡ extent sheet.now.context a.now }
+    ensures text { IfOk result (λ end. take end bytes.new.items ≡ take start bytes.old.items ++ line_of sheet.now digits.now a.now places.now) }
+    ensures ends { IfOk result (λ end. end ≤ length bytes.new.items) }
+    ensures kept { OnErr result (start ≤ length bytes.new.items) }
+{
+    let _width = a.width();
+    let _words = sheet.rows().width();
+    make_room(
+        bytes,
+        start,
+        room_of(digits.len(), a.width() as usize, places.len()),
+    )?;
+    Ok(put_line(bytes, start, sheet, digits, a, places))
+}
+
+/// Makes sure that so many bytes are free behind the place.
+pub(crate) fn make_room(bytes: &mut Vec<u8>, end: usize, room: usize) -> Result<(), Memory>
+    requires { end ≤ length bytes.old.items }
+    ensures text { take end bytes.new.items ≡ take end bytes.old.items }
+    ensures kept { end ≤ length bytes.new.items }
+    ensures room { OnOk result (end + room ≤ length bytes.new.items) }
+{
+    let len = bytes.len();
+    if room <= len - end {
+        return Ok(());
+    }
+    let Some(wanted) = end.checked_add(room.max(STEP)) else {
+        return Err(Memory);
+    };
+    bytes.resize(wanted, 0)?;
+    Ok(())
+}
+
+/// How many bytes are to be free for a line with so many digits, attributes and objects.
+fn room_of(digits: usize, attributes: usize, objects: usize) -> usize
+    ensures { (x : ℕ) → result ≤ x → x < 2 ^ 63 → digits + (MARKS + PIECE_ROOM * (attributes + objects)) ≤ x }
+{
+    attributes
+        .saturating_add(objects)
+        .saturating_mul(PIECE_ROOM)
+        .saturating_add(digits)
+        .saturating_add(MARKS)
+}
+
+/// Puts the line down from that place on, and tells where it ends.
+fn put_line<const W: usize>(
+    text: &mut [u8],
+    start: usize,
+    sheet: &Sheet<'_, W>,
+    digits: &[u8],
+    a: &Bits<W>,
+    places: &[usize],
+) -> usize
+    requires wide { length a.now ≡ sheet.now.context.width }
+    requires places { places.now ≡ extent sheet.now.context a.now }
+    requires room { start + (length digits.now + (MARKS + PIECE_ROOM * (length a.now + length places.now))) ≤ length text.old }
+    ensures text { take result text.new ≡ take start text.old ++ line_of sheet.now digits.now a.now places.now }
+    ensures ends { result ≤ length text.new }
+    ensures room { length text.new ≡ length text.old }
+{
+    let _words = sheet.rows().width();
+    let number = put_bytes(text, start, digits);
+    let opened = put_bytes(text, number, b" {");
+    let intent = sheet.put_intent(text, opened, a);
+    let parted = put_bytes(text, intent, b"} | {");
+    let extent = sheet.put_extent(text, parted, places);
+    put_bytes(text, extent, b"}\n")
+}

@@ -1,0 +1,146 @@
+//! A table with what is needed to write the lines of its concepts.
+
+ghost use Rattle.std.specs.Prelude.{◌≡◌, ◌+◌, ◌-◌, ◌*◌, ◌≤◌, ◌<◌, ◌++◌, All, IfOk, length, take, cond, nat_lt};
+ghost use Rattle.std.specs.List.{concat};
+ghost use Rattle.expert_wire.specs.Texts.{listed, names_of};
+ghost use Rattle.basis_report.specs.Reports.{names_at};
+
+use crate::names::{attribute_pieces, object_pieces};
+use crate::pieces::{PIECE_BYTES, PIECE_ROOM, Piece};
+use attr_bits::Bits;
+use context_table::Table;
+use derivation::RowsOf;
+use fca_model::Memory;
+use std::alloc::Global;
+use std::marker::Model;
+
+/// A table, its rows in W words each, and its names as pieces.
+#[derive(Drop)]
+pub(crate) struct Sheet<'a, const W: usize> {
+    table: &'a Table,
+    rows: &'a RowsOf<W>,
+    attributes: Vec<Piece>,
+    objects: Vec<Piece>,
+}
+
+impl<'a, const W: usize> Model for Sheet<'a, W> {
+    ghost use Rattle.std.specs.Prelude.{◌≡◌, map, length};
+    ghost use Rattle.fca_model.specs.Tables.{NamedContext};
+    ghost use Rattle.concept_report.specs.Listing.{parted};
+
+    ghost Value = { NamedContext };
+
+    ghost view = { λ s. s.table.now };
+
+    ghost invariant = { λ s. record {
+      rows : s.rows.now ≡ s.table.now.context;
+      attributes : s.attributes.items ≡ map parted s.table.now.attributes;
+      objects : s.objects.items ≡ map parted s.table.now.objects;
+      each_attribute : length s.table.now.attributes ≡ s.table.now.context.width;
+      each_object : length s.table.now.objects ≡ length s.table.now.context.rows;
+    } };
+}
+
+impl<'a, const W: usize> Sheet<'a, W> {
+    /// The sheet of the table with these rows.
+    pub(crate) fn new(
+        alloc: Global,
+        table: &'a Table,
+        rows: &'a RowsOf<W>,
+    ) -> Result<Sheet<'a, W>, Memory>
+        requires { rows.now ≡ table.now.context }
+        ensures { IfOk result (λ sheet. sheet ≡ table.now) }
+    {
+        let _table = table.rows();
+        Ok(Sheet {
+            table,
+            rows,
+            attributes: attribute_pieces(alloc, table)?,
+            objects: object_pieces(alloc, table)?,
+        })
+    }
+
+    /// The rows.
+    pub(crate) fn rows(&self) -> &RowsOf<W>
+        ensures { result.now ≡ self.now.context }
+    {
+        self.rows
+    }
+
+    /// Puts the names of the attributes in the set down, and tells where they end.
+    pub(crate) fn put_intent(&self, text: &mut [u8], start: usize, set: &Bits<W>) -> usize
+        requires wide { length set.now ≡ self.now.context.width }
+        requires room { start + PIECE_ROOM * length set.now ≤ length text.old }
+        ensures text { take result text.new ≡ take start text.old ++ listed (names_of self.now.attributes set.now) }
+        ensures ends { result ≤ start + PIECE_BYTES * length set.now }
+        ensures room { length text.new ≡ length text.old }
+    {
+        let _width = set.width();
+        let _words = self.rows.width();
+        let end = put_members(&self.attributes, text, start, set);
+        without_comma(start, end)
+    }
+
+    /// Puts the names of the objects at these places down, and tells where they end.
+    pub(crate) fn put_extent(&self, text: &mut [u8], start: usize, places: &[usize]) -> usize
+        requires inside { All (λ p. p < length self.now.context.rows) places.now }
+        requires room { start + PIECE_ROOM * length places.now ≤ length text.old }
+        ensures text { take result text.new ≡ take start text.old ++ listed (names_at self.now.objects places.now) }
+        ensures ends { result ≤ start + PIECE_BYTES * length places.now }
+        ensures room { length text.new ≡ length text.old }
+    {
+        let end = put_places(&self.objects, text, start, places);
+        without_comma(start, end)
+    }
+}
+
+/// Puts the pieces of the members down, and tells where they end.
+fn put_members<const W: usize>(
+    pieces: &[Piece],
+    text: &mut [u8],
+    start: usize,
+    set: &Bits<W>,
+) -> usize
+    requires few { length set.now ≤ length pieces.now }
+    requires room { start + PIECE_ROOM * length set.now ≤ length text.old }
+    ensures text { take result text.new ≡ take start text.old ++ concat (names_of pieces.now set.now) }
+    ensures begins { start ≤ result }
+    ensures ends { result ≤ start + PIECE_BYTES * length set.now }
+    ensures room { length text.new ≡ length text.old }
+{
+    let _width = set.width();
+    let mut end = start;
+    let mut from = 0;
+    while let Some(member) = set.next_member(from) {
+        end = pieces[member as usize].put(text, end);
+        from = member + 1;
+    }
+    end
+}
+
+/// Puts the pieces at these places down, and tells where they end.
+fn put_places(pieces: &[Piece], text: &mut [u8], start: usize, places: &[usize]) -> usize
+    requires inside { All (λ p. p < length pieces.now) places.now }
+    requires room { start + PIECE_ROOM * length places.now ≤ length text.old }
+    ensures text { take result text.new ≡ take start text.old ++ concat (names_at pieces.now places.now) }
+    ensures begins { start ≤ result }
+    ensures ends { result ≤ start + PIECE_BYTES * length places.now }
+    ensures room { length text.new ≡ length text.old }
+{
+    let mut end = start;
+    for place in places {
+        end = pieces[*place].put(text, end);
+    }
+    end
+}
+
+/// The end without the comma and the space behind the last of the names that stand there, if there is one.
+fn without_comma(start: usize, end: usize) -> usize
+    ensures { result ≡ cond (nat_lt start end) (end - 2) end }
+{
+    if start < end {
+        end.saturating_sub(2)
+    } else {
+        end
+    }
+}
