@@ -1,7 +1,7 @@
 -- The tables of experts are read one after the other: what may be read of the files that are left may be read behind those before,
 -- a refusal there refuses all, and a fault there is one of all.
 use Rattle.std.proofs.Common.{◌≡◌, ◌∙◌, ◌≤◌, ◌<◌, ◌+◌, ◌++◌, ◌∷◌, [], ℕ, zero, suc, List, Bool, true, Option, length, get_or, drop, Result, Ok, Err, inl, inr, refl, sym, ap, subst, append_assoc, append-nil, arith}
-use Rattle.std.specs.Prelude.{bytes_eq, IfErr, IsErr, IsErrAnd, option_to_list}
+use Rattle.std.specs.Prelude.{bytes_eq, IfErr, IsErr, IsErrAnd}
 use Rattle.std.proofs.Math.Seq.{drop-cons}
 use Rattle.std.proofs.lemmas.List.{drop_all}
 use Rattle.std.proofs.lemmas.Option.{slice_get_read}
@@ -14,6 +14,7 @@ use Rattle.command_io.specs.Readings.{Reading, then, MayRead, MayRefuse, SomeRos
 use Rattle.command_io.specs.Known.{Start, start_read}
 use Rattle.command_io.specs.Readings.Reading.{Untold, Missing, Refused, Read}
 use Rattle.command_io.proofs.ReadingLemmas.{refused_then, refused_after, read_after}
+use Rattle.command_io.proofs.KnownLemmas.{Rose-between, SomeRose-before}
 use Rattle.explore_command.specs.Panels.{Panel, same_names, agreeing, expert_read, experts_read, settings_by, panel_read, IsExpertStop, IsExpertsStop, FileRose}
 use Rattle.command_io.specs.Forms.{table_read}
 use Rattle.command_io.specs.Endings.{Stops, stop_status}
@@ -106,9 +107,6 @@ ReadsOn-refused table file files all tells before may on = on.refused (refused_h
 
 -- ---- counts of faults
 
-pub Rose-between : (a b c d : ℕ) → a ≤ b → Rose b c → c ≤ d → Rose a d
-Rose-between a b c d before rose after = omega arith
-
 pub SomeRose-at : (files : List Text) (i : ℕ) (d : Text) (counts counts' : Text → ℕ) → i < length files → Rose (counts (get_or files i d)) (counts' (get_or files i d))
     → SomeRose counts counts' files
 SomeRose-at [] i d counts counts' inside rose = absurd (omega arith)
@@ -182,11 +180,6 @@ read_panel start names files Missing tables may = may
 read_panel start names files Refused tables may = may
 read_panel start names files (Read others) tables may = ap (panel_of start names files) may
 
-SomeRose-before : (files : List Text) (counts between after : Text → ℕ) → ((other : Text) → counts other ≤ between other) → SomeRose between after files → SomeRose counts after files
-SomeRose-before [] counts between after later rose = rose
-SomeRose-before (file ∷ files) counts between after later (inl rose) = inl (Rose-between (counts file) (between file) (after file) (after file) (later file) rose (omega arith))
-SomeRose-before (file ∷ files) counts between after later (inr rose) = inr (SomeRose-before files counts between after later rose)
-
 pub panel-read : (file : Text) (known : Option Text) (names : Bool) (files : List Text) (tells now : Text → Told) (start : Start) (tables : List NamedContext)
     → MayRead (start_read file known tells) start → ((other : Text) → now other ≡ tells other) → MayRead (experts_read start.table files now) tables
     → MayRead (panel_read file known names files tells) (panel_of start names files tables)
@@ -207,15 +200,6 @@ Stops-panel file known names files tells now counts between after start n here s
       fault = λ three. inr (SomeRose-before files counts between after later (stop.fault three));
       others = stop.others;
     }
-
--- the start itself is not read
-pub Stops-start : (file : Text) (known : Option Text) (names : Bool) (files : List Text) (tells : Text → Told) (counts after : Text → ℕ) (n : ℕ)
-    → Stops (start_read file known tells) (SomeRose counts after (file ∷ option_to_list known)) n → Stops (panel_read file known names files tells) (FileRose counts after file known files) n
-Stops-start file known names files tells counts after n stop = record {
-  refused = λ two. refused_then (start_read file known tells) (λ s. panel_by s names files (experts_read s.table files tells)) (stop.refused two);
-  fault = λ three. inl (stop.fault three);
-  others = stop.others;
-}
 
 -- ---- which stop it is
 

@@ -1,8 +1,9 @@
 -- The text of sessions: the words for endings stand in one line each, so they change nothing of what the text spells; and what is promised of the
 -- sessions is said of the text.
-use Rattle.std.proofs.Common.{◌≡◌, ◌↔◌, ◌⊎◌, ◌<◌, ◌∙◌, ◌++◌, ◌∷◌, [], ℕ, suc, List, Option, Bool, true, false, map, length, inl, inr, refl, ap, subst, arith}
+use Rattle.std.proofs.Common.{◌≡◌, ◌↔◌, ◌⊎◌, ◌<◌, ◌∙◌, ◌++◌, ◌∷◌, [], ℕ, suc, List, Option, Bool, true, false, map, length, inl, inr, refl, sym, ap, subst, arith}
 use Rattle.fca_model.specs.Tables.{Text, NamedContext}
 use Rattle.fca_model.specs.Exploration.{SetEntry, own, is_expert, IsLegal}
+use Rattle.fca_model.specs.Invariant.{rows_respect}
 use Rattle.fca_io.specs.Links.{Ends}
 use Rattle.expert_gate.specs.Histories.{IsHistory}
 use Rattle.expert_sessions.specs.Serving.{EachTalks}
@@ -10,12 +11,15 @@ use Rattle.expert_sessions.specs.declared.ended.Ended.{Ended}
 use Rattle.expert_sessions.specs.declared.ended.Ended.TheVariants.{Quit, EndOfInput, ReadFault, WriteFault, LongLine, Limit, Spent, Memory}
 use Rattle.explore_state.specs.History.{Opening, History, opening_state, open_of}
 use Rattle.basis_report.specs.Comments.{are_lines, AreComments}
-use Rattle.basis_report.specs.Explorations.{explore_text, spelled, SpellsBefore}
+use Rattle.basis_report.specs.Explorations.{explore_text, Spells, SpellsBefore}
 use Rattle.basis_report.specs.Sessions.{sessions_text}
 use Rattle.command_io.specs.Endings.{Output}
-use Rattle.command_io.specs.Explorations.{opening_of}
+use Rattle.implication_closure.specs.Closing.{HaveWidth}
+use Rattle.expert_scripts.specs.Transcripts.{CanBeTold}
+use Rattle.command_io.specs.Known.{Start}
 use Rattle.command_io.proofs.CourseLemmas.{legal-course}
 use Rattle.serve_command.specs.Accepted.{GaveBack, HasRoomFor}
+use Rattle.serve_command.specs.Openings.{opened_by, IsNew}
 use Rattle.serve_command.specs.Served.{lines, words_of, IsServedText, HasSat, HasRisen}
 
 -- ---- words
@@ -32,13 +36,25 @@ words_are_lines (Spent ∷ endings) = words_are_lines endings
 words_are_lines (Memory ∷ endings) = words_are_lines endings
 
 -- lines behind the text of an exploration change nothing of what it spells
-pub spelled-sessions : (sessions text : Text) (explore : History)
-    → ((more : List Text) → are_lines more ≡ true → SpellsBefore explore.opening.table explore.opening.settings explore.journal more)
+pub spelled-sessions : (sessions text : Text) (explore : History) → CanBeTold explore.opening.table.context.width explore.opening.settings
+    → ((more : List Text) → are_lines more ≡ true → CanBeTold explore.opening.table.context.width explore.opening.settings → SpellsBefore explore.opening.table explore.opening.settings explore.journal more)
     → AreComments sessions → text ≡ explore_text explore.opening.table explore.opening.settings explore.journal ++ sessions
-    → spelled explore.opening.table explore.opening.settings text ≡ explore.journal
-spelled-sessions sessions text explore spells skipped joined =
+    → Spells explore.opening.table explore.opening.settings explore.journal text
+spelled-sessions sessions text explore told spells skipped joined =
     let first = explore_text explore.opening.table explore.opening.settings explore.journal in
-    ap (spelled explore.opening.table explore.opening.settings) (joined ∙ ap (λ l. first ++ l) skipped.text_is) ∙ spells skipped.lines skipped.whole
+    subst (Spells explore.opening.table explore.opening.settings explore.journal) (sym (joined ∙ ap (λ l. first ++ l) skipped.text_is)) (spells skipped.lines skipped.whole told)
+
+-- ---- openings
+
+-- an exploration that was opened so is new
+pub new-opened : (experts holders : ℕ) (start : Start) (h : History) → h.opening ≡ opened_by experts holders start → h.journal ≡ [] → is_expert experts ≡ true → is_expert holders ≡ true
+    → rows_respect start.known start.table.context ≡ true → HaveWidth start.table.context.width start.known → IsNew h
+new-opened experts holders start h is none expert most respecting even = record {
+  none = none;
+  experts = ap (λ (o : Opening). is_expert o.experts) is ∙ expert;
+  respecting = ap (λ (o : Opening). rows_respect o.settings.known o.table.context) is ∙ respecting;
+  told = subst (λ (o : Opening). CanBeTold o.table.context.width o.settings) (sym is) (record { holders = most; known = even; names = tt });
+}
 
 -- ---- sessions
 
@@ -57,49 +73,51 @@ module _ {E : Type 0} (left held : E → Option Text) (reads writes : E → ℕ)
       let rest = talks-long table n H (suc k) before after endings talks.1 in omega arith
 
   -- what sessions come to
-  pub record IsOver (table : NamedContext) (before after : List E) (explore : History) (endings : List Ended) : Type 0 where
-    pub opening : explore.opening ≡ opening_of table (length before)
+  pub record IsOver (o : Opening) (before after : List E) (explore : History) (endings : List Ended) : Type 0 where
+    pub opening : explore.opening ≡ o
     pub history : IsHistory explore.opening explore.journal
-    pub talks : EachTalks left held reads writes table lines explore.journal 1 before after endings
+    pub talks : EachTalks left held reads writes o.table lines explore.journal 1 before after endings
     pub others : (e : ℕ) → (e ≡ 0) ⊎ (length before < e) → own explore.journal e ≡ []
 
-  pub served-text : (table : NamedContext) (before after : List E) (explore : History) (endings : List Ended) (text : Text) (is_open : Bool)
-      → is_expert (length before) ≡ true → IsOver table before after explore endings
-      → text ≡ explore_text explore.opening.table explore.opening.settings explore.journal ++ sessions_text (map words_of endings)
-      → spelled explore.opening.table explore.opening.settings text ≡ explore.journal
-      → (is_open ≡ false) ↔ (open_of explore ≡ [])
-      → IsServedText left held reads writes table before after text is_open
-  served-text table before after explore endings text is_open expert over joined spells finished =
+  -- the text that was made of it
+  pub record IsTextOf (explore : History) (endings : List Ended) (text : Text) (is_open : Bool) : Type 0 where
+    pub joined : text ≡ explore_text explore.opening.table explore.opening.settings explore.journal ++ sessions_text (map words_of endings)
+    pub spells : Spells explore.opening.table explore.opening.settings explore.journal text
+    pub finished : (is_open ≡ false) ↔ (open_of explore ≡ [])
+
+  pub served-text : (o : Opening) (before after : List E) (explore : History) (endings : List Ended) (text : Text) (is_open : Bool)
+      → is_expert o.experts ≡ true → rows_respect o.settings.known o.table.context ≡ true → HaveWidth o.table.context.width o.settings.known → IsOver o before after explore endings → IsTextOf explore endings text is_open
+      → IsServedText left held reads writes o before after text is_open
+  served-text o before after explore endings text is_open expert known even over made =
       let H = explore.journal in
-      let o : Opening = opening_of table (length before) in
       let legal : IsLegal (opening_state o) H = let P : Opening → Type 0 = λ x. IsLegal (opening_state x) H in subst P over.opening over.history.legal in
       let Joined : Opening → Type 0 = λ x. text ≡ explore_text x.table x.settings H ++ sessions_text (map words_of endings) in
-      let Spelled : Opening → Type 0 = λ x. spelled x.table x.settings text ≡ H in
+      let Spelled : Opening → Type 0 = λ x. Spells x.table x.settings H text in
+      let spells = subst Spelled over.opening made.spells in
       let Finished : Opening → Type 0 = λ x. (is_open ≡ false) ↔ (open_of (record { opening = x; journal = H; spare = 0 }) ≡ []) in
       record {
         history = H;
         endings = endings;
-        text = subst Joined over.opening joined;
-        spells = subst Spelled over.opening spells;
-        course = legal-course table (length before) H expert legal;
+        text = subst Joined over.opening made.joined;
+        spells = spells.history;
+        settings = spells.settings;
+        course = legal-course o.table o.experts o.settings H expert known even legal;
         talks = over.talks;
         others = over.others;
-        finished = subst Finished over.opening finished;
+        finished = subst Finished over.opening made.finished;
       }
 
-  pub has-sat : (table : NamedContext) (before after : List E) (old new : Option (Ends E)) (explore : History) (endings : List Ended) (answer : Output)
-      → is_expert (length before) ≡ true → IsOver table before after explore endings → (HasRoomFor old (length after) → GaveBack old new after)
-      → answer.text ≡ explore_text explore.opening.table explore.opening.settings explore.journal ++ sessions_text (map words_of endings)
-      → spelled explore.opening.table explore.opening.settings answer.text ≡ explore.journal
-      → (answer.is_open ≡ false) ↔ (open_of explore ≡ [])
-      → HasSat left held reads writes table before old new answer
-  has-sat table before after old new explore endings answer expert over gave joined spells finished =
-      let long = talks-long table lines explore.journal 1 before after endings over.talks in
+  pub has-sat : (o : Opening) (before after : List E) (old new : Option (Ends E)) (explore : History) (endings : List Ended) (answer : Output)
+      → is_expert o.experts ≡ true → rows_respect o.settings.known o.table.context ≡ true → HaveWidth o.table.context.width o.settings.known → IsOver o before after explore endings
+      → (HasRoomFor old (length after) → GaveBack old new after) → IsTextOf explore endings answer.text answer.is_open
+      → HasSat left held reads writes o before old new answer
+  has-sat o before after old new explore endings answer expert known even over gave made =
+      let long = talks-long o.table lines explore.journal 1 before after endings over.talks in
       record {
         after = after;
         gave = gave;
         long = long;
-        is = served-text table before after explore endings answer.text answer.is_open expert over joined spells finished;
+        is = served-text o before after explore endings answer.text answer.is_open expert known even over made;
       }
 
   pub risen-talks : (table : NamedContext) (H : List SetEntry) (before after : List E) (old new : Option (Ends E)) (endings : List Ended)

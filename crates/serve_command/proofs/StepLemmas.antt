@@ -1,15 +1,17 @@
 -- The steps of a call, one after the other: a call stops where its table is not read, where its ends fall short, or for memory, and each time it says
 -- which ends came and went; ends that have gone through their sessions make an answer.
 use Rattle.std.proofs.Common.{◌≡◌, ◌≤◌, ◌⊎◌, [], ℕ, nat_le, true, List, length, Option, Result, Ok, Err, inl, inr, refl, sym, subst, arith}
-use Rattle.std.proofs.lemmas.Bool.{and_parts, leb-true, le-leb}
-use Rattle.std.specs.Prelude.{IfErr, IsErrAnd}
-use Rattle.fca_model.specs.Tables.{Text, NamedContext}
+use Rattle.std.proofs.lemmas.Bool.{and_parts, leb-true}
+use Rattle.std.specs.Prelude.{IfErr}
+use Rattle.fca_model.specs.Tables.{Text}
+use Rattle.explore_state.specs.History.{Opening}
 use Rattle.fca_model.specs.declared.TheConstants.{MAX_EXPERTS}
 use Rattle.fca_model.specs.Exploration.{is_expert}
 use Rattle.fca_io.specs.Faults.{Rose}
 use Rattle.fca_io.specs.Links.{Ends, IsWithinRoom}
 use Rattle.fca_io.specs.Shelves.{Told}
 use Rattle.command_io.specs.Readings.{Reading, MayRead}
+use Rattle.command_io.specs.Known.{Start}
 use Rattle.command_io.specs.Endings.{Output, IsUnread, Stops, stop_status}
 use Rattle.command_io.specs.declared.stop.Stop.{Stop}
 use Rattle.command_io.specs.declared.stop.Stop.TheVariants.{Listener, Memory}
@@ -19,9 +21,6 @@ use Rattle.serve_command.proofs.AcceptedLemmas.{TookAndGave-none, TookAndGave-bo
 
 pub expert-range : (n : ℕ) → is_expert n ≡ true → (1 ≤ n) × (n ≤ MAX_EXPERTS)
 expert-range n expert = let range = and_parts (nat_le 1 n) (nat_le n MAX_EXPERTS) expert in (leb-true _ _ range.0, leb-true _ _ range.1)
-
-pub range-expert : (n : ℕ) → 1 ≤ n → n ≤ MAX_EXPERTS → is_expert n ≡ true
-range-expert n some few = rw (le-leb 1 n some) (le-leb n MAX_EXPERTS few)
 
 -- ---- results
 
@@ -50,7 +49,7 @@ one_more n (inr (inl three)) = inr (inl three)
 one_more n (inr (inr five)) = inr (inr (inl five))
 
 -- the table was not read
-pub early-stops : (reading : Reading NamedContext) (rose link_rose : Type 0) (n : ℕ) → Stops reading rose n → StopsServing reading rose link_rose n
+pub early-stops : (reading : Reading Start) (rose link_rose : Type 0) (n : ℕ) → Stops reading rose n → StopsServing reading rose link_rose n
 early-stops reading rose link_rose n stop = record {
   refused = stop.refused;
   fault = stop.fault;
@@ -60,7 +59,7 @@ early-stops reading rose link_rose n stop = record {
 }
 
 -- memory was wanting
-pub memory-stops : (reading : Reading NamedContext) (rose link_rose : Type 0) (n : ℕ) → n ≡ 5 → StopsServing reading rose link_rose n
+pub memory-stops : (reading : Reading Start) (rose link_rose : Type 0) (n : ℕ) → n ≡ 5 → StopsServing reading rose link_rose n
 memory-stops reading rose link_rose n five = record {
   refused = λ two. absurd (omega arith);
   fault = λ three. absurd (omega arith);
@@ -87,12 +86,12 @@ five_or_seven n (inr seven) = inr (inr (inr seven))
 
 module _ {E : Type 0} where
   -- the ends fell short
-  pub short-stops : (reading : Reading NamedContext) (table : NamedContext) (rose link_rose : Type 0) (count : ℕ) (old new : Option (Ends E)) (n : ℕ)
-      → MayRead reading table → FallsShort count old new link_rose n → StopsServing reading rose link_rose n
-  short-stops reading table rose link_rose count old new n may short = record {
+  pub short-stops : (reading : Reading Start) (start : Start) (rose link_rose : Type 0) (count : ℕ) (old new : Option (Ends E)) (n : ℕ)
+      → MayRead reading start → FallsShort count old new link_rose n → StopsServing reading rose link_rose n
+  short-stops reading start rose link_rose count old new n may short = record {
     refused = λ two. absurd (neither n short.status (inl two));
     fault = λ three. absurd (neither n short.status (inr three));
-    read = λ seven. (table, may);
+    read = λ seven. (start, may);
     link_fault = short.fault;
     others = five_or_seven n short.status;
   }
@@ -136,10 +135,10 @@ module _ {E : Type 0} where
   risen-ends left held reads writes count a b c before (Err s) within took many risen five =
       risen-back left held reads writes count a b c before (stop_status s) within took many risen five
 
-  pub sat-answer : (left held : E → Option Text) (reads writes : E → ℕ) (table : NamedContext) (count : ℕ) (a b c : Option (Ends E)) (before : List E) (answer : Output)
-      → IsWithinRoom a → TookFirst a b before → length before ≡ count → HasSat left held reads writes table before b c answer
-      → IsAnswer left held reads writes table count a c answer
-  sat-answer left held reads writes table count a b c before answer within took many sat = record {
+  pub sat-answer : (left held : E → Option Text) (reads writes : E → ℕ) (o : Opening) (a b c : Option (Ends E)) (before : List E) (answer : Output)
+      → IsWithinRoom a → TookFirst a b before → length before ≡ o.experts → HasSat left held reads writes o before b c answer
+      → IsAnswer left held reads writes o a c answer
+  sat-answer left held reads writes o a b c before answer within took many sat = record {
     before = before;
     after = sat.after;
     count = many;
@@ -149,9 +148,9 @@ module _ {E : Type 0} where
 
 -- ---- which stop it is
 
-pub memory-serve : (file : Text) (files : Text → Told) (s : Stop) → s ≡ Memory → IsServeStop file files s
-memory-serve file files s e = let P : Stop → Type 0 = IsServeStop file files in subst P (sym e) (inl tt)
+pub memory-serve : (file : Text) (known : Option Text) (files : Text → Told) (s : Stop) → s ≡ Memory → IsServeStop file known files s
+memory-serve file known files s e = let P : Stop → Type 0 = IsServeStop file known files in subst P (sym e) (inl (inl tt))
 
-pub link-serve : (file : Text) (files : Text → Told) (s : Stop) → (s ≡ Listener) ⊎ (s ≡ Memory) → IsServeStop file files s
-link-serve file files s (inl e) = inr e
-link-serve file files s (inr e) = memory-serve file files s e
+pub link-serve : (file : Text) (known : Option Text) (files : Text → Told) (s : Stop) → (s ≡ Listener) ⊎ (s ≡ Memory) → IsServeStop file known files s
+link-serve file known files s (inl e) = inr e
+link-serve file known files s (inr e) = memory-serve file known files s e

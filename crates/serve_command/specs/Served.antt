@@ -4,23 +4,24 @@
 -- `# 2 end of input`.
 use Rattle.std.specs.Prelude.{◌≡◌, ◌↔◌, ◌⊎◌, ◌<◌, ◌≤◌, ℕ, Bool, false, Option, List, [], ◌++◌, map, length, codes}
 use Rattle.fca_model.specs.Tables.{Text, NamedContext}
-use Rattle.fca_model.specs.Exploration.{SetEntry, plain, own}
+use Rattle.fca_model.specs.Exploration.{SetEntry, own}
 use Rattle.fca_io.specs.Links.{Ends}
 use Rattle.expert_sessions.specs.Serving.{EachTalks}
 use Rattle.expert_sessions.specs.declared.ended.Ended.{Ended}
 use Rattle.expert_sessions.specs.declared.ended.Ended.TheVariants.{Quit, EndOfInput, ReadFault, WriteFault, LongLine, Limit, Spent, Memory}
-use Rattle.basis_report.specs.Explorations.{explore_text, spelled}
+use Rattle.explore_state.specs.History.{Opening}
+use Rattle.basis_report.specs.Explorations.{explore_text, spelled, spelled_settings}
 use Rattle.basis_report.specs.Sessions.{sessions_text}
 use Rattle.command_io.specs.Readings.{Reading, MayRead, MayRefuse}
 use Rattle.command_io.specs.Readings.Reading.{Untold, Missing, Refused, Read}
 use Rattle.fca_io.specs.Shelves.{Told}
-use Rattle.command_io.specs.Causes.{IsFileStop}
-use Rattle.command_io.specs.declared.stop.Origin.TheVariants.{File}
+use Rattle.command_io.specs.Known.{Start, IsStartStop}
 use Rattle.command_io.specs.declared.stop.Stop.{Stop}
 use Rattle.command_io.specs.declared.stop.Stop.TheVariants.{Listener}
 use Rattle.command_io.specs.Endings.{Output, whole_status, IsWhole}
-use Rattle.command_io.specs.Explorations.{Recorded, opening_of, open_at, IsExplored}
+use Rattle.command_io.specs.Explorations.{Recorded, open_at, IsExplored}
 use Rattle.serve_command.specs.Accepted.{TookAndGave, GaveBack, HasRoomFor}
+use Rattle.serve_command.specs.Openings.{opened_by}
 
 -- the most lines that a session may have
 abbrev pub lines : ℕ
@@ -37,27 +38,28 @@ words_of Limit = codes "limit"
 words_of Spent = codes "spent"
 words_of Memory = codes "no memory"
 
--- the exploration of a table by so many experts that has this history
-abbrev pub served : NamedContext → ℕ → List SetEntry → Recorded
-served table experts H = record { opening = opening_of table experts; journal = H }
+-- the exploration that was opened so and has this history
+abbrev pub served : Opening → List SetEntry → Recorded
+served o H = record { opening = o; journal = H }
 
 -- its text, and how the sessions ended
-abbrev pub served_text : NamedContext → List SetEntry → List Ended → Text
-served_text table H endings = explore_text table plain H ++ sessions_text (map words_of endings)
+abbrev pub served_text : Opening → List SetEntry → List Ended → Text
+served_text o H endings = explore_text o.table o.settings H ++ sessions_text (map words_of endings)
 
 -- over ends that show what is left and what is held, and their counts of faults
 module _ {E : Type 0} (left held : E → Option Text) (reads writes : E → ℕ) where
-  -- The text spells one legal history, which has no entries but those of the experts at these ends: expert k has talked over the k-th of them,
-  -- and the text tells how that session ended. It is open where a question is, after the last entry
-  pub record IsServedText (table : NamedContext) (before after : List E) (written : Text) (is_open : Bool) : Type 0 where
+  -- The text spells the settings of the exploration and one legal history, which has no entries but those of the experts at these ends: expert k has
+  -- talked over the k-th of them, and the text tells how that session ended. It is open where a question is, after the last entry
+  pub record IsServedText (o : Opening) (before after : List E) (written : Text) (is_open : Bool) : Type 0 where
     pub history : List SetEntry
     pub endings : List Ended
-    pub text : written ≡ served_text table history endings
-    pub spells : spelled table plain written ≡ history
-    pub course : IsExplored (served table (length before) history)
-    pub talks : EachTalks left held reads writes table lines history 1 before after endings
+    pub text : written ≡ served_text o history endings
+    pub spells : spelled o.table written ≡ history
+    pub settings : spelled_settings o.table written ≡ o.settings
+    pub course : IsExplored (served o history)
+    pub talks : EachTalks left held reads writes o.table lines history 1 before after endings
     pub others : (e : ℕ) → (e ≡ 0) ⊎ (length before < e) → own history e ≡ []
-    pub finished : (is_open ≡ false) ↔ (open_at (served table (length before) history) ≡ [])
+    pub finished : (is_open ≡ false) ↔ (open_at (served o history) ≡ [])
 
   -- the ends are as they were, or their experts have talked over them
   abbrev pub MayHaveTalked : List E → List E → Type 0
@@ -66,24 +68,28 @@ module _ {E : Type 0} (left held : E → Option Text) (reads writes : E → ℕ)
       ⊎ ((table : NamedContext) × (H : List SetEntry) × (endings : List Ended) × EachTalks left held reads writes table lines H 1 before after endings)
 
   -- an answer: the ends that were accepted, which are as many as there are experts, are given back, and the text is theirs
-  pub record IsAnswer (table : NamedContext) (experts : ℕ) (old new : Option (Ends E)) (answer : Output) : Type 0 where
+  pub record IsAnswer (o : Opening) (old new : Option (Ends E)) (answer : Output) : Type 0 where
     pub before : List E
     pub after : List E
-    pub count : length before ≡ experts
+    pub count : length before ≡ o.experts
     pub ends : TookAndGave old new before after
-    pub is : IsServedText table before after answer.text answer.is_open
+    pub is : IsServedText o before after answer.text answer.is_open
+
+  -- an answer for what may have been read
+  abbrev pub MayAnswer : Reading Start → ℕ → ℕ → Option (Ends E) → Option (Ends E) → Output → Type 0
+  MayAnswer reading experts holders old new answer = (start : Start) × MayRead reading start × IsAnswer (opened_by experts holders start) old new answer
 
   -- its whole text was written, with this status
-  pub record HasServed (Gained : Text → Type 0) (table : NamedContext) (experts : ℕ) (old new : Option (Ends E)) (result : ℕ) : Type 0 where
+  pub record HasServed (Gained : Text → Type 0) (o : Opening) (old new : Option (Ends E)) (result : ℕ) : Type 0 where
     pub answer : Output
-    pub is : IsAnswer table experts old new answer
+    pub is : IsAnswer o old new answer
     pub gained : Gained answer.text
     pub status : result ≡ whole_status answer
 
   -- its text was begun
-  pub record HasBegun (Gained : Text → Type 0) (table : NamedContext) (experts : ℕ) (old new : Option (Ends E)) : Type 0 where
+  pub record HasBegun (Gained : Text → Type 0) (o : Opening) (old new : Option (Ends E)) : Type 0 where
     pub answer : Output
-    pub is : IsAnswer table experts old new answer
+    pub is : IsAnswer o old new answer
     pub gained : Gained answer.text
 
   -- At most as many ends as there are experts were accepted, the first to come, and just these were given back in their order.
@@ -99,11 +105,11 @@ module _ {E : Type 0} (left held : E → Option Text) (reads writes : E → ℕ)
   -- ---- the steps of a call
 
   -- these ends have gone through their sessions and were given back where there was room, and the answer is theirs
-  pub record HasSat (table : NamedContext) (before : List E) (old new : Option (Ends E)) (answer : Output) : Type 0 where
+  pub record HasSat (o : Opening) (before : List E) (old new : Option (Ends E)) (answer : Output) : Type 0 where
     pub after : List E
     pub gave : HasRoomFor old (length after) → GaveBack old new after
     pub long : length after ≡ length before
-    pub is : IsServedText table before after answer.text answer.is_open
+    pub is : IsServedText o before after answer.text answer.is_open
 
   -- these ends were given back where there was room, as they were or after their sessions
   pub record HasRisen (before : List E) (old new : Option (Ends E)) : Type 0 where
@@ -112,22 +118,22 @@ module _ {E : Type 0} (left held : E → Option Text) (reads writes : E → ℕ)
     pub long : length after ≡ length before
     pub talked : MayHaveTalked before after
 
--- the stop of the file, or of the link
-abbrev pub IsServeStop : Text → (Text → Told) → Stop → Type 0
-IsServeStop file files stop = IsFileStop file (files file) File stop ⊎ (stop ≡ Listener)
+-- the stop of the files, or of the link
+abbrev pub IsServeStop : Text → Option Text → (Text → Told) → Stop → Type 0
+IsServeStop file known files stop = IsStartStop file known files stop ⊎ (stop ≡ Listener)
 
 -- the status of a call that was not cut off, by what was read; the link may fail it
-abbrev pub Serves : Reading NamedContext → ℕ → Type 0
+abbrev pub Serves : Reading Start → ℕ → Type 0
 Serves Untold status = (status ≡ 2) ⊎ ((status ≡ 7) ⊎ IsWhole status)
 Serves Missing status = ⊥
 Serves Refused status = status ≡ 2
-Serves (Read table) status = (status ≡ 7) ⊎ IsWhole status
+Serves (Read start) status = (status ≡ 7) ⊎ IsWhole status
 
--- a call stopped with this status: 2 where the reading may be refused, 3 where a count of the shelf rose, 7 where the table was read and a count
+-- a call stopped with this status: 2 where the reading may be refused, 3 where a count of the shelf rose, 7 where all was read and a count
 -- of the link rose, or 5
-pub record StopsServing (reading : Reading NamedContext) (rose link_rose : Type 0) (status : ℕ) : Type 0 where
+pub record StopsServing (reading : Reading Start) (rose link_rose : Type 0) (status : ℕ) : Type 0 where
   pub refused : status ≡ 2 → MayRefuse reading
   pub fault : status ≡ 3 → rose
-  pub read : status ≡ 7 → (table : NamedContext) × MayRead reading table
+  pub read : status ≡ 7 → (start : Start) × MayRead reading start
   pub link_fault : status ≡ 7 → link_rose
   pub others : (status ≡ 2) ⊎ ((status ≡ 3) ⊎ ((status ≡ 5) ⊎ (status ≡ 7)))

@@ -3,6 +3,7 @@
 
 mod accepting;
 mod endings;
+mod opening;
 mod serving;
 
 pub use serving::serve;

@@ -1,13 +1,22 @@
-use Rattle.std.proofs.Common.{◌∙◌, inl, sym, arith}
+use Rattle.std.proofs.Common.{◌∙◌, inl, sym, ap, subst}
 use Rattle.std.proofs.lemmas.Result.{IfOk-weaker, IfErr-weaker}
+use Rattle.std.specs.Prelude.{option_copied}
+use Rattle.explore_state.specs.History.{Opening}
 use Rattle.command_io.proofs.ErrLemmas.{err-passed}
+use Rattle.command_io.specs.Known.{start_of}
+use Rattle.serve_command.specs.Served.{IsAnswer}
 use Rattle.serve_command.proofs.StepLemmas.{expert-range, any-err, early-back, short-stops, short-back, memory-stops, risen-ends, sat-answer, memory-serve, link-serve, heard}
 use Rattle.serve_command.proofs.serving.exploration.Goals as goal
 
-pub returns-in_err-table-clause-ends : goal.returns-in_err-table-clause-ends
-returns-in_err-table-clause-ends g c =
+pub returns-in_err-start-clause-ends : goal.returns-in_err-start-clause-ends
+returns-in_err-start-clause-ends g c =
     let range = expert-range c.args.experts c.requires.experts in
     any-err c.from_residual.result _ (λ s. early-back _ _ _ _ c.args.experts _ _ range.0)
+
+pub returns-in_err-explore-clause-ends : goal.returns-in_err-explore-clause-ends
+returns-in_err-explore-clause-ends g c =
+    let range = expert-range c.args.experts c.requires.experts in
+    any-err c.from_residual-in_err-explore.result _ (λ s. early-back _ _ _ _ c.args.experts _ _ range.0)
 
 pub ends_at-requires-clause-some : goal.ends_at-requires-clause-some
 ends_at-requires-clause-some g c κs within = (expert-range c.args.experts c.requires.experts).0
@@ -15,7 +24,7 @@ ends_at-requires-clause-some g c κs within = (expert-range c.args.experts c.req
 pub returns-in_err-ends-clause-stop : goal.returns-in_err-ends-clause-stop
 returns-in_err-ends-clause-stop g c =
     err-passed c.from_residual-in_err-ends.result c.in_err-ends.field-0.0 _ c.from_residual-in_err-ends.ensures.1
-    (short-stops _ c.in_ok-table.table _ _ _ _ _ _ c.in_ok-table.ensures.table c.in_err-ends.ensures.short)
+    (short-stops _ (start_of c.in_ok-start.start) _ _ _ _ _ _ c.in_ok-start.ensures.start c.in_err-ends.ensures.short)
 
 pub returns-in_err-ends-clause-ends : goal.returns-in_err-ends-clause-ends
 returns-in_err-ends-clause-ends g c =
@@ -24,17 +33,21 @@ returns-in_err-ends-clause-ends g c =
 
 pub explored-requires-clause-count : goal.explored-requires-clause-count
 explored-requires-clause-count g c κs within =
-    let range = expert-range c.args.experts c.requires.experts in
-    let some = range.0 in
-    let few = range.1 in
+    let experts = ap (λ (o : Opening). o.experts) c.in_ok-explore.ensures.opening in
     let many = c.in_ok-ends.ensures.count in
-    (omega arith, omega arith)
+    experts ∙ sym many
 
 pub returns-clause-answer : goal.returns-clause-answer
 returns-clause-answer g c =
-    let many = sym c.in_ok-ends.ends.ok.0 ∙ c.in_ok-ends.ensures.count in
-    IfOk-weaker c.explored.result _ _ (λ answer sat.
-    (c.in_ok-table.table, c.in_ok-table.ensures.table, sat-answer _ _ _ _ _ _ _ _ _ _ _ c.in_ok-ends.ensures.within c.in_ok-ends.ensures.taken many sat))
+    let o : Opening = c.in_ok-explore.explore.opening in
+    let is = c.in_ok-explore.ensures.opening in
+    let many = sym c.in_ok-ends.ends.ok.0 ∙ c.in_ok-ends.ensures.count ∙ sym (ap (λ (p : Opening). p.experts) is) in
+    IfOk-weaker c.explored.result _ _ (λ answer sat. (
+      start_of c.in_ok-start.start,
+      c.in_ok-start.ensures.start,
+      subst (λ (p : Opening). IsAnswer g.L.End.Source.left g.L.End.Sink.held g.L.End.Source.faults g.L.End.Sink.faults p (g.L.Listener.ends c.args.link.now) (g.L.Listener.ends c.explored.new.link) answer) is
+          (sat-answer _ _ _ _ o _ _ _ _ _ c.in_ok-ends.ensures.within c.in_ok-ends.ensures.taken many sat),
+    ))
     c.explored.ensures.sat
 
 pub returns-clause-stop : goal.returns-clause-stop
@@ -47,10 +60,11 @@ returns-clause-ends g c =
 
 pub returns-in_err-ends-clause-cause : goal.returns-in_err-ends-clause-cause
 returns-in_err-ends-clause-cause g c =
-    err-passed c.from_residual-in_err-ends.result c.in_err-ends.field-0.0 _ c.from_residual-in_err-ends.ensures.1 (link-serve c.args.file.now (g.H.Shelf.tells c.args.shelf.now) _ c.in_err-ends.ensures.cause)
+    err-passed c.from_residual-in_err-ends.result c.in_err-ends.field-0.0 _ c.from_residual-in_err-ends.ensures.1
+    (link-serve c.args.file.now (option_copied c.args.known) (g.H.Shelf.tells c.args.shelf.now) _ c.in_err-ends.ensures.cause)
 
 pub returns-clause-cause : goal.returns-clause-cause
-returns-clause-cause g c = IfErr-weaker c.explored.result _ _ (λ stop memory. memory-serve c.args.file.now (g.H.Shelf.tells c.args.shelf.now) stop memory) c.explored.ensures.cause
+returns-clause-cause g c = IfErr-weaker c.explored.result _ _ (λ stop memory. memory-serve c.args.file.now (option_copied c.args.known) (g.H.Shelf.tells c.args.shelf.now) stop memory) c.explored.ensures.cause
 
 pub returns-in_err-ends-clause-unheard : goal.returns-in_err-ends-clause-unheard
 returns-in_err-ends-clause-unheard g c =

@@ -1,21 +1,21 @@
-use Rattle.std.proofs.Common.{◌≡◌, ◌⊎◌, true, subst}
+use Rattle.std.proofs.Common.{◌≡◌, ◌⊎◌, [], true, subst}
+use Rattle.std.specs.Prelude.{option_copied}
 use Rattle.std.specs.Io.KnownBytes.{Appends}
 use Rattle.fca_model.specs.Tables.{Text}
 use Rattle.fca_io.specs.Faults.{Rose}
 use Rattle.fca_io.specs.Links.{MayListenAt}
 use Rattle.fca_io.specs.Transfers.{AppendsFront}
-use Rattle.command_io.specs.declared.stop.Stop.{Stop}
-use Rattle.command_io.specs.ErrLines.{GainsLine, IsTold}
+use Rattle.command_io.specs.ErrLines.{GainsLine, file_at_fault}
 use Rattle.command_io.proofs.ErrLemmas.{conclude-told}
 use Rattle.serve_command.specs.Served.{IsServeStop}
-use Rattle.serve_command.proofs.EndingLemmas.{call-ends, call-read_fault, call-listener_fault, call-whole, call-front, call-back, silent-same, unread-same, made-ok}
+use Rattle.serve_command.proofs.EndingLemmas.{call-ends, call-read_fault, call-listener_fault, call-whole, call-front, call-back, silent-same, unread-same, made-ok, told-by}
 use Rattle.serve_command.proofs.serving.serve.Goals as goal
 
 pub returns-clause-status : goal.returns-clause-status
 returns-clause-status g c =
     let answer = c.exploration-answer in
     let end = c.conclude.ensures in
-    call-ends _ _ _ _ _ _ _ _ _ _ c.conclude.result answer.result end.answered end.stopped answer.ensures.answer answer.ensures.stop
+    call-ends _ _ _ _ _ _ _ _ _ _ _ c.conclude.result answer.result end.answered end.stopped answer.ensures.answer answer.ensures.stop
 
 pub returns-clause-read_fault : goal.returns-clause-read_fault
 returns-clause-read_fault g c = λ three.
@@ -35,14 +35,14 @@ pub returns-clause-whole_output : goal.returns-clause-whole_output
 returns-clause-whole_output g c = λ whole.
     let answer = c.exploration-answer in
     let end = c.conclude.ensures in
-    call-whole _ _ _ _ _ _ _ _ ⊥ ⊥ c.conclude.result answer.result (Appends (g.K.Sink.held c.args.out.now) (g.K.Sink.held c.conclude.new.out))
+    call-whole _ _ _ _ _ _ _ _ _ ⊥ ⊥ c.conclude.result answer.result (Appends (g.K.Sink.held c.args.out.now) (g.K.Sink.held c.conclude.new.out))
     whole (end.made whole) end.answered answer.ensures.answer (end.whole whole)
 
 pub returns-clause-partial_output : goal.returns-clause-partial_output
 returns-clause-partial_output g c = λ four.
     let answer = c.exploration-answer in
     let end = c.conclude.ensures in
-    call-front _ _ _ _ _ _ _ _ _ _ c.conclude.result answer.result (AppendsFront (g.K.Sink.held c.args.out.now) (g.K.Sink.held c.conclude.new.out))
+    call-front _ _ _ _ _ _ _ _ _ _ _ c.conclude.result answer.result (AppendsFront (g.K.Sink.held c.args.out.now) (g.K.Sink.held c.conclude.new.out))
     four end.stopped answer.ensures.stop answer.ensures.answer (end.front four)
 
 pub returns-clause-no_output : goal.returns-clause-no_output
@@ -55,7 +55,7 @@ pub returns-clause-ends : goal.returns-clause-ends
 returns-clause-ends g c =
     let answer = c.exploration-answer in
     let end = c.conclude.ensures in
-    call-back _ _ _ _ _ _ _ _ ⊥ ⊥ c.conclude.result answer.result end.answered end.stopped answer.ensures.answer answer.ensures.ends
+    call-back _ _ _ _ _ _ _ _ _ ⊥ ⊥ c.conclude.result answer.result end.answered end.stopped answer.ensures.answer answer.ensures.ends
 
 pub returns-clause-listens : goal.returns-clause-listens
 returns-clause-listens g c = λ whole.
@@ -65,12 +65,12 @@ returns-clause-listens g c = λ whole.
 
 pub returns-clause-told : goal.returns-clause-told
 returns-clause-told g c =
+    let answer = c.exploration-answer in
     let end = c.conclude.ensures in
     let Told : Text → Type 0 = GainsLine (g.E.Sink.held c.args.err.now) (g.E.Sink.held c.conclude.new.err) (g.E.Sink.faults c.args.err.now) (g.E.Sink.faults c.conclude.new.err) in
-    let MayCome : Stop → Type 0 = IsServeStop c.args.file.now (g.H.Shelf.tells c.args.shelf.now) in
-    let ToldOf : Text → Type 0 = λ file. IsTold Told MayCome (λ _. file) c.conclude.result in
-    subst ToldOf c.bytes-2.ensures (conclude-told Told MayCome (λ _. c.bytes-2.result.now) c.exploration-answer.result c.conclude.result end.answered end.stopped
-    c.exploration-answer.ensures.cause end.told end.told_fault)
+    let known = option_copied c.args.known in
+    conclude-told Told (IsServeStop c.args.file.now known (g.H.Shelf.tells c.args.shelf.now)) (file_at_fault c.args.file.now known []) answer.result c.conclude.result end.answered end.stopped
+    answer.ensures.cause (told-by Told (file_at_fault c.args.file.now known []) c.name_at_fault-name.result.now answer.result c.name_at_fault-name.ensures end.told) end.told_fault
 
 pub returns-clause-unheard : goal.returns-clause-unheard
 returns-clause-unheard g c = λ unread.

@@ -15,4 +15,4 @@ returns-clause-spells c =
     let behind = c.deref-2.ensures.value in
     let joined : c.extend_from_slice.new.self.items
     ≡ explore_text c.args.explore.now.opening.table c.args.explore.now.opening.settings c.args.explore.now.journal ++ c.in_ok-sessions.sessions.items = cc in
-    spelled-sessions c.in_ok-sessions.sessions.items c.extend_from_slice.new.self.items c.args.explore.now c.in_ok-text.ensures.reads_back skipped joined
+    spelled-sessions c.in_ok-sessions.sessions.items c.extend_from_slice.new.self.items c.args.explore.now c.requires c.in_ok-text.ensures.reads_back skipped joined
