@@ -21,9 +21,9 @@ read_after Missing x next y here may = here
 read_after Refused x next y here may = here
 read_after {X = X} (Read z) x next y here may = let P : X → Type 0 = λ w. MayRead (next w) y in subst P here may
 
--- what holds of what is read behind the first reading, where that is not refused
-pub if_read-after : {X Y : Type 0} (r : Reading X) (x : X) (next : X → Reading Y) (P : Y → Type 0) → MayRead r x → IfRead (next x) P → IfRead (then r next) P
-if_read-after Untold x next P here holds = tt
-if_read-after Missing x next P here holds = here
-if_read-after Refused x next P here holds = here
-if_read-after {X = X} (Read z) x next P here holds = let Q : X → Type 0 = λ w. IfRead (next w) P in subst Q here holds
+-- what holds of what may be read, where the reading is not refused
+pub if_read-may : {X : Type 0} (r : Reading X) (x : X) (P : X → Type 0) → MayRead r x → P x → IfRead r P
+if_read-may Untold x P may holds = tt
+if_read-may Missing x P may holds = may
+if_read-may Refused x P may holds = may
+if_read-may (Read y) x P may holds = subst P may holds

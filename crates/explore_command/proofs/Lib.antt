@@ -1,3 +1,4 @@
+pub mod NameLemmas
 pub mod PanelLemmas
 pub mod PlayLemmas
 pub mod SurveyLemmas

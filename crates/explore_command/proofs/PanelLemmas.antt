@@ -1,6 +1,6 @@
 -- The tables of experts are read one after the other: what may be read of the files that are left may be read behind those before,
 -- a refusal there refuses all, and a fault there is one of all.
-use Rattle.std.proofs.Common.{◌≡◌, ◌∙◌, ◌≤◌, ◌<◌, ◌+◌, ◌++◌, ◌∷◌, [], ℕ, zero, suc, List, true, length, get_or, drop, Result, Ok, Err, inl, inr, refl, sym, ap, subst, append_assoc, append-nil, arith}
+use Rattle.std.proofs.Common.{◌≡◌, ◌∙◌, ◌≤◌, ◌<◌, ◌+◌, ◌++◌, ◌∷◌, [], ℕ, zero, suc, List, Bool, true, Option, length, get_or, drop, Result, Ok, Err, inl, inr, refl, sym, ap, subst, append_assoc, append-nil, arith}
 use Rattle.std.specs.Prelude.{bytes_eq, IfErr, IsErr, IsErrAnd}
 use Rattle.std.proofs.Math.Seq.{drop-cons}
 use Rattle.std.proofs.lemmas.List.{drop_all}
@@ -10,10 +10,12 @@ use Rattle.std.proofs.lemmas.Slice.Eq.{bytes_eq-Decides}
 use Rattle.fca_model.specs.Tables.{Text, NamedContext}
 use Rattle.fca_io.specs.Faults.{Rose}
 use Rattle.fca_io.specs.Shelves.{Told}
-use Rattle.command_io.specs.Readings.{Reading, then, MayRead, MayRefuse}
+use Rattle.command_io.specs.Readings.{Reading, then, MayRead, MayRefuse, SomeRose}
+use Rattle.command_io.specs.Known.{Start, start_read}
 use Rattle.command_io.specs.Readings.Reading.{Untold, Missing, Refused, Read}
 use Rattle.command_io.proofs.ReadingLemmas.{refused_then, refused_after, read_after}
-use Rattle.explore_command.specs.Panels.{Panel, same_names, agreeing, expert_read, experts_read, panel_read, IsExpertStop, IsExpertsStop, SomeRose, FileRose}
+use Rattle.command_io.proofs.KnownLemmas.{Rose-between, SomeRose-before}
+use Rattle.explore_command.specs.Panels.{Panel, same_names, agreeing, expert_read, experts_read, settings_by, panel_read, IsExpertStop, IsExpertsStop, FileRose}
 use Rattle.command_io.specs.Forms.{table_read}
 use Rattle.command_io.specs.Endings.{Stops, stop_status}
 use Rattle.command_io.specs.declared.stop.Origin.TheVariants.{Later}
@@ -105,9 +107,6 @@ ReadsOn-refused table file files all tells before may on = on.refused (refused_h
 
 -- ---- counts of faults
 
-pub Rose-between : (a b c d : ℕ) → a ≤ b → Rose b c → c ≤ d → Rose a d
-Rose-between a b c d before rose after = omega arith
-
 pub SomeRose-at : (files : List Text) (i : ℕ) (d : Text) (counts counts' : Text → ℕ) → i < length files → Rose (counts (get_or files i d)) (counts' (get_or files i d))
     → SomeRose counts counts' files
 SomeRose-at [] i d counts counts' inside rose = absurd (omega arith)
@@ -166,34 +165,38 @@ Stops-file table files i file tells now counts between after before n inside is 
 
 -- ---- the panel
 
-read_panel : (table : NamedContext) (r : Reading (List NamedContext)) (tables : List NamedContext) → MayRead r tables
-    → MayRead {X = Panel} (then r (λ tables. Read (record { table = table; experts = tables }))) (record { table = table; experts = tables })
-read_panel table Untold tables may = tt
-read_panel table Missing tables may = may
-read_panel table Refused tables may = may
-read_panel table (Read others) tables may = ap (λ (l : List NamedContext). record { table = table; experts = l }) may
+-- the panel of these experts, where this is the start
+abbrev panel_of : Start → Bool → List Text → List NamedContext → Panel
+panel_of start names files tables = record { table = start.table; settings = settings_by start.known names files; experts = tables }
 
-SomeRose-before : (files : List Text) (counts between after : Text → ℕ) → ((other : Text) → counts other ≤ between other) → SomeRose between after files → SomeRose counts after files
-SomeRose-before [] counts between after later rose = rose
-SomeRose-before (file ∷ files) counts between after later (inl rose) = inl (Rose-between (counts file) (between file) (after file) (after file) (later file) rose (omega arith))
-SomeRose-before (file ∷ files) counts between after later (inr rose) = inr (SomeRose-before files counts between after later rose)
+-- the same, where the tables are read
+abbrev panel_by : Start → Bool → List Text → Reading (List NamedContext) → Reading Panel
+panel_by start names files r = then r (λ tables. Read (panel_of start names files tables))
 
-pub panel-read : (file : Text) (files : List Text) (tells now : Text → Told) (table : NamedContext) (tables : List NamedContext) → MayRead (table_read file (tells file)) table
-    → ((other : Text) → now other ≡ tells other) → MayRead (experts_read table files now) tables → MayRead (panel_read file files tells) (record { table = table; experts = tables })
-panel-read file files tells now table tables here same may =
+read_panel : (start : Start) (names : Bool) (files : List Text) (r : Reading (List NamedContext)) (tables : List NamedContext) → MayRead r tables
+    → MayRead (panel_by start names files r) (panel_of start names files tables)
+read_panel start names files Untold tables may = tt
+read_panel start names files Missing tables may = may
+read_panel start names files Refused tables may = may
+read_panel start names files (Read others) tables may = ap (panel_of start names files) may
+
+pub panel-read : (file : Text) (known : Option Text) (names : Bool) (files : List Text) (tells now : Text → Told) (start : Start) (tables : List NamedContext)
+    → MayRead (start_read file known tells) start → ((other : Text) → now other ≡ tells other) → MayRead (experts_read start.table files now) tables
+    → MayRead (panel_read file known names files tells) (panel_of start names files tables)
+panel-read file known names files tells now start tables here same may =
     let Q : Reading (List NamedContext) → Type 0 = λ r. MayRead r tables in
-    read_after (table_read file (tells file)) table (λ t. then (experts_read t files tells) (λ tables. Read (record { table = t; experts = tables }))) (record { table = table; experts = tables }) here
-    (read_panel table (experts_read table files tells) tables (subst Q (experts_read-same table files tells now same) may))
+    read_after (start_read file known tells) start (λ s. panel_by s names files (experts_read s.table files tells)) (panel_of start names files tables) here
+    (read_panel start names files (experts_read start.table files tells) tables (subst Q (experts_read-same start.table files tells now same) may))
 
-pub Stops-panel : (file : Text) (files : List Text) (tells now : Text → Told) (counts between after : Text → ℕ) (table : NamedContext) (n : ℕ) → MayRead (table_read file (tells file)) table
-    → ((other : Text) → now other ≡ tells other) → ((other : Text) → counts other ≤ between other) → Stops (experts_read table files now) (SomeRose between after files) n
-    → Stops (panel_read file files tells) (FileRose counts after file files) n
-Stops-panel file files tells now counts between after table n here same later stop =
+pub Stops-panel : (file : Text) (known : Option Text) (names : Bool) (files : List Text) (tells now : Text → Told) (counts between after : Text → ℕ) (start : Start) (n : ℕ)
+    → MayRead (start_read file known tells) start → ((other : Text) → now other ≡ tells other) → ((other : Text) → counts other ≤ between other)
+    → Stops (experts_read start.table files now) (SomeRose between after files) n → Stops (panel_read file known names files tells) (FileRose counts after file known files) n
+Stops-panel file known names files tells now counts between after start n here same later stop =
     let M : Reading (List NamedContext) → Type 0 = λ r. MayRefuse r in
     record {
-      refused = λ two. refused_after (table_read file (tells file)) table (λ t. then (experts_read t files tells) (λ tables. Read (record { table = t; experts = tables }))) here
-          (refused_then (experts_read table files tells) (λ tables. Read (record { table = table; experts = tables }))
-          (subst M (experts_read-same table files tells now same) (stop.refused two)));
+      refused = λ two. refused_after (start_read file known tells) start (λ s. panel_by s names files (experts_read s.table files tells)) here
+          (refused_then (experts_read start.table files tells) (λ tables. Read (panel_of start names files tables))
+          (subst M (experts_read-same start.table files tells now same) (stop.refused two)));
       fault = λ three. inr (SomeRose-before files counts between after later (stop.fault three));
       others = stop.others;
     }

@@ -10,25 +10,26 @@ use Rattle.fca_model.specs.Context.{Context}
 use Rattle.fca_model.specs.Tables.{Text, NamedContext}
 use Rattle.fca_model.specs.Implications.{Rule}
 use Rattle.fca_model.specs.Questions.{open_questions}
-use Rattle.fca_model.specs.Pseudo.{basis}
-use Rattle.fca_model.specs.Exploration.{Settings, SetEntry, own, plain, rules_of, opening, open_in, state_after, events_of, is_expert, IsLegal}
+use Rattle.fca_model.specs.Pseudo.{basis_known}
+use Rattle.fca_model.specs.Invariant.{rows_respect}
+use Rattle.fca_model.specs.Exploration.{Settings, SetEntry, own, rules_of, opening, open_in, state_after, events_of, is_expert, IsLegal}
 use Rattle.fca_model.proofs.CourseLemmas.{run_settings}
 use Rattle.oracle_expert.specs.Oracles.{Recall, Conflicts, no_conflict}
 use Rattle.oracle_expert.specs.Runs.{ends_done, conflicts_of}
 use Rattle.expert_panel.specs.Explorations.{IsOraclesShare, EachNumbered, HasAgreed, is_part}
 use Rattle.explore_state.specs.History.{Opening, History, opening_state, state_of, open_of}
 use Rattle.basis_report.specs.Comments.{comments as comments_of, are_lines, AreComments}
-use Rattle.expert_wire.specs.Replies.{transcript}
+use Rattle.expert_scripts.specs.Transcripts.{CanBeTold, transcript}
 use Rattle.basis_report.specs.Reports.{counted, arrow_lines}
-use Rattle.basis_report.specs.Explorations.{recorded_section, accepted_section, open_section, basis_section, state_of_text, explore_text, spelled, SpellsBefore}
+use Rattle.basis_report.specs.Explorations.{recorded_section, accepted_section, open_section, basis_section, state_of_text, explore_text, Spells, SpellsBefore}
 use Rattle.basis_report.specs.Conflicts.{dropped_at, dropped_of, dropped_from, conflicts_section, conflicts_text}
-use Rattle.basis_report.proofs.ExplorationLemmas.{sections-plain}
+use Rattle.basis_report.proofs.ExplorationLemmas.{sections-known}
 use Rattle.basis_report.proofs.OrderLemmas.{finished_basis}
 use Rattle.command_io.specs.Endings.{IsSilent}
 use Rattle.command_io.specs.Explorations.{opening_of, open_at}
 use Rattle.command_io.proofs.ErrLemmas.{silent-apart}
 use Rattle.command_io.proofs.CourseLemmas.{legal-course}
-use Rattle.explore_command.specs.Panels.{Panel}
+use Rattle.explore_command.specs.Panels.{Panel, MayExplore}
 use Rattle.explore_command.specs.Played.{turns, IsShare, dropped_in, played, panel_text, recorded_text, basis_alone, played_status, IsPanelText}
 
 -- an oracle's table with its conflicts
@@ -61,16 +62,17 @@ shares-tables H oracles h = λ k D e. share-by H k D (slice_get oracles k) (λ o
 
 -- what comes of an exploration of the panel's table by oracles of the experts' tables
 pub record IsPlay (p : Panel) (explore : History) (oracles : List Recall) (spent : Bool) : Type 0 where
-  pub opening : explore.opening ≡ opening_of p.table (length p.experts)
+  pub opening : explore.opening ≡ opening_of p.table (length p.experts) p.settings
   pub legal : IsLegal (opening_state explore.opening) explore.journal
-  pub spells : (lines : List Text) → are_lines lines ≡ true → SpellsBefore explore.opening.table explore.opening.settings explore.journal lines
+  pub spells : (lines : List Text) → are_lines lines ≡ true → CanBeTold explore.opening.table.context.width explore.opening.settings
+      → SpellsBefore explore.opening.table explore.opening.settings explore.journal lines
   pub tables : map (λ oracle. oracle.table) oracles ≡ p.experts
   pub shares : EachNumbered (IsOraclesShare turns explore.journal) oracles
   pub others : (e : ℕ) → (e ≡ 0) ⊎ (length p.experts < e) → own explore.journal e ≡ []
   pub unfinished : (spent ≡ true) ↔ ((e : ℕ) × (1 ≤ e) × (e ≤ length p.experts) × (ends_done (own explore.journal e) ≡ false))
   pub finished : spent ≡ false → open_of explore ≡ []
   pub unspent : p.table.context.width ≤ 46 → spent ≡ false
-  pub agreed : (C : Context) → All (λ D. D.context ≡ C) p.experts → is_part p.table.context C ≡ true → HasAgreed C explore oracles spent
+  pub agreed : (C : Context) → All (λ D. D.context ≡ C) p.experts → is_part p.table.context C ≡ true → rows_respect p.settings.known C ≡ true → HasAgreed C explore oracles spent
 
 -- ---- oracles who know one table
 
@@ -95,23 +97,25 @@ regrouped : (t r a o b c : Text) → (t ++ (r ++ (a ++ (o ++ b)))) ++ c ≡ (t +
 regrouped t r a o b c = simp append_assoc
 
 -- the text of an exploration at whose end no question is open, before such conflicts
-agreed_text : (T : NamedContext) (H : List SetEntry) (C : Context) (conflicts : Text) → IsLegal (opening T.context T.objects plain) H
-    → open_questions [] (state_of_text T plain H).context (state_of_text T plain H).accepted ≡ [] → basis (state_of_text T plain H).context ≡ basis C
-    → explore_text T plain H ++ conflicts
-    ≡ (transcript T.attributes H ++ (recorded_section H ++ accepted_section T.attributes 0 (state_of_text T plain H).accepted))
-    ++ (open_section T.attributes [] ++ ((counted (codes "# basis ") (length (basis C)) ++ arrow_lines (codes "# ") T.attributes (basis C)) ++ conflicts))
+agreed_text : (T : NamedContext) (G : Settings) (H : List SetEntry) (C : Context) (conflicts : Text) → rows_respect G.known T.context ≡ true → IsLegal (opening T.context T.objects G) H
+    → open_questions G.known (state_of_text T G H).context (state_of_text T G H).accepted ≡ [] → basis_known G.known (state_of_text T G H).context ≡ basis_known G.known C
+    → explore_text T G H ++ conflicts
+    ≡ (transcript T.attributes G H ++ (recorded_section H ++ accepted_section T.attributes (length G.known) (state_of_text T G H).accepted))
+    ++ (open_section T.attributes [] ++ ((counted (codes "# basis ") (length (basis_known G.known C)) ++ arrow_lines (codes "# ") T.attributes (basis_known G.known C)) ++ conflicts))
 unfolding explore_text
-agreed_text T H C conflicts legal done same =
-    let s = state_of_text T plain H in
-    let settled = run_settings (opening T.context T.objects plain) (events_of H) in
-    let none : open_in s ≡ [] = ap (λ (S : Settings). open_questions S.known s.context s.accepted) settled ∙ done in
-    let at_end : basis_section T.attributes s.accepted [] ≡ counted (codes "# basis ") (length (basis C)) ++ arrow_lines (codes "# ") T.attributes (basis C) =
-    finished_basis T H legal none ∙ ap (λ (J : List Rule). counted (codes "# basis ") (length J) ++ arrow_lines (codes "# ") T.attributes J) same in
-    ap (λ l. (transcript T.attributes H ++ l) ++ conflicts)
-    (sections-plain T.attributes H s settled ∙ ap (λ (Q : List Rule). recorded_section H ++ (accepted_section T.attributes 0 s.accepted ++ (open_section T.attributes Q ++ basis_section T.attributes s.accepted Q))) done
-    ∙ ap (λ l. recorded_section H ++ (accepted_section T.attributes 0 s.accepted ++ (open_section T.attributes [] ++ l))) at_end)
-    ∙ regrouped (transcript T.attributes H) (recorded_section H) (accepted_section T.attributes 0 s.accepted) (open_section T.attributes [])
-    (counted (codes "# basis ") (length (basis C)) ++ arrow_lines (codes "# ") T.attributes (basis C)) conflicts
+agreed_text T G H C conflicts respected legal done same =
+    let s = state_of_text T G H in
+    let S = G.known in
+    let B = basis_known S C in
+    let settled : s.settings.known ≡ S = ap (λ (x : Settings). x.known) (run_settings (opening T.context T.objects G) (events_of H)) in
+    let none : open_in s ≡ [] = ap (λ K. open_questions K s.context s.accepted) settled ∙ done in
+    let at_end : basis_section T.attributes s.accepted [] ≡ counted (codes "# basis ") (length B) ++ arrow_lines (codes "# ") T.attributes B =
+    finished_basis T G H respected legal none ∙ ap (λ (J : List Rule). counted (codes "# basis ") (length J) ++ arrow_lines (codes "# ") T.attributes J) same in
+    let head = accepted_section T.attributes (length S) s.accepted in
+    ap (λ l. (transcript T.attributes G H ++ l) ++ conflicts)
+    (sections-known T.attributes H s S settled ∙ ap (λ (Q : List Rule). recorded_section H ++ (head ++ (open_section T.attributes Q ++ basis_section T.attributes s.accepted Q))) done
+    ∙ ap (λ l. recorded_section H ++ (head ++ (open_section T.attributes [] ++ l))) at_end)
+    ∙ regrouped (transcript T.attributes G H) (recorded_section H) head (open_section T.attributes []) (counted (codes "# basis ") (length B) ++ arrow_lines (codes "# ") T.attributes B) conflicts
 
 pub panel_text-play : (p : Panel) (explore : History) (oracles : List Recall) (spent : Bool) → IsPlay p explore oracles spent
     → explore_text explore.opening.table explore.opening.settings explore.journal ++ conflicts_text explore.opening.table.attributes (rules_of (state_of explore)) (map with_conflicts oracles)
@@ -122,50 +126,56 @@ panel_text-play p explore oracles spent play =
     explore_text o.table o.settings H ++ conflicts_text o.table.attributes (rules_of (state_after (opening_state o) (events_of H))) dropped in
     let dropped = dropped-oracles H 1 oracles (λ k oracle at. (play.shares k oracle at).conflicts) in
     ap (λ o. text o (map with_conflicts oracles)) play.opening
-    ∙ ap (text (opening_of p.table (length p.experts))) (dropped ∙ ap (dropped_in H 1) play.tables)
+    ∙ ap (text (opening_of p.table (length p.experts) p.settings)) (dropped ∙ ap (dropped_in H 1) play.tables)
 
-agreed-play : (p : Panel) (explore : History) (oracles : List Recall) (spent : Bool) (first conflicts text : Text) → IsPlay p explore oracles spent
+agreed-play : (p : Panel) (explore : History) (oracles : List Recall) (spent : Bool) (first conflicts text : Text) → MayExplore p.table p.settings → IsPlay p explore oracles spent
     → first ≡ explore_text explore.opening.table explore.opening.settings explore.journal
     → conflicts ≡ conflicts_text explore.opening.table.attributes (rules_of (state_of explore)) (map with_conflicts oracles) → text ≡ first ++ conflicts
-    → (C : Context) → All (λ (D : NamedContext). D.context ≡ C) p.experts → is_part p.table.context C ≡ true → spent ≡ false
-    → text ≡ recorded_text p explore.journal ++ basis_alone p.table.attributes (basis C)
-agreed-play p explore oracles spent first conflicts text play first_is conflicts_is joined C same part unspent =
+    → (C : Context) → All (λ (D : NamedContext). D.context ≡ C) p.experts → is_part p.table.context C ≡ true → rows_respect p.settings.known C ≡ true → spent ≡ false
+    → text ≡ recorded_text p explore.journal ++ basis_alone p.table.attributes (basis_known p.settings.known C)
+agreed-play p explore oracles spent first conflicts text may play first_is conflicts_is joined C same part respected unspent =
     let H = explore.journal in
-    let o : Opening = opening_of p.table (length p.experts) in
-    let agreed = play.agreed C same part in
+    let o : Opening = opening_of p.table (length p.experts) p.settings in
+    let agreed = play.agreed C same part respected in
+    let B = basis_known p.settings.known C in
     let legal : IsLegal (opening_state o) H = subst (λ (x : Opening). IsLegal (opening_state x) H) play.opening play.legal in
     let done : open_at (played p H) ≡ [] = subst (λ (x : Opening). open_of (record { opening = x; journal = H; spare = 0 }) ≡ []) play.opening (play.finished unspent) in
-    let same_basis : basis (state_of_text p.table plain H).context ≡ basis C = subst (λ (x : Opening). basis (state_after (opening_state x) (events_of H)).context ≡ basis C) play.opening (agreed.basis unspent) in
-    let none : conflicts ≡ conflicts_section p.table.attributes (basis C) [] =
+    let same_basis : basis_known p.settings.known (state_of_text p.table p.settings H).context ≡ B =
+    subst (λ (x : Opening). basis_known x.settings.known (state_after (opening_state x) (events_of H)).context ≡ basis_known x.settings.known C) play.opening (agreed.basis unspent) in
+    let none : conflicts ≡ conflicts_section p.table.attributes B [] =
     conflicts_is ∙ ap (λ (x : Opening). conflicts_text x.table.attributes (rules_of (state_of explore)) (map with_conflicts oracles)) play.opening
-    ∙ no_conflicts p.table.attributes (rules_of (state_of explore)) (basis C) oracles agreed.kept in
-    joined ∙ ap (λ l. l ++ conflicts) (first_is ∙ ap (λ (x : Opening). explore_text x.table x.settings H) play.opening) ∙ ap (λ l. explore_text p.table plain H ++ l) none
-    ∙ agreed_text p.table H C (conflicts_section p.table.attributes (basis C) []) legal done same_basis
+    ∙ no_conflicts p.table.attributes (rules_of (state_of explore)) B oracles agreed.kept in
+    joined ∙ ap (λ l. l ++ conflicts) (first_is ∙ ap (λ (x : Opening). explore_text x.table x.settings H) play.opening) ∙ ap (λ l. explore_text p.table p.settings H ++ l) none
+    ∙ agreed_text p.table p.settings H C (conflicts_section p.table.attributes B []) may.respected legal done same_basis
 
-pub IsPanelText-play : (p : Panel) (explore : History) (oracles : List Recall) (spent : Bool) (first conflicts text : Text) → is_expert (length p.experts) ≡ true
+pub IsPanelText-play : (p : Panel) (explore : History) (oracles : List Recall) (spent : Bool) (first conflicts text : Text) → is_expert (length p.experts) ≡ true → MayExplore p.table p.settings
     → IsPlay p explore oracles spent → first ≡ explore_text explore.opening.table explore.opening.settings explore.journal
     → conflicts ≡ conflicts_text explore.opening.table.attributes (rules_of (state_of explore)) (map with_conflicts oracles) → AreComments conflicts
     → text ≡ first ++ conflicts → IsPanelText p text spent
-IsPanelText-play p explore oracles spent first conflicts text expert play first_is conflicts_is comments joined =
+IsPanelText-play p explore oracles spent first conflicts text expert may play first_is conflicts_is comments joined =
     let H = explore.journal in
-    let o : Opening = opening_of p.table (length p.experts) in
+    let o : Opening = opening_of p.table (length p.experts) p.settings in
     let legal : IsLegal (opening_state o) H = let P : Opening → Type 0 = λ x. IsLegal (opening_state x) H in subst P play.opening play.legal in
     let all : text ≡ panel_text p H = joined ∙ ap (λ l. l ++ conflicts) first_is ∙ ap (λ l. explore_text explore.opening.table explore.opening.settings H ++ l) conflicts_is ∙ panel_text-play p explore oracles spent play in
     let commented : text ≡ explore_text explore.opening.table explore.opening.settings H ++ comments_of comments.lines =
     joined ∙ ap (λ l. l ++ conflicts) first_is ∙ ap (λ l. explore_text explore.opening.table explore.opening.settings H ++ l) comments.text_is in
-    let Spelled : Opening → Type 0 = λ x. spelled x.table x.settings text ≡ H in
+    let Tells : Opening → Type 0 = λ x. CanBeTold x.table.context.width x.settings in
+    let SpellsText : Opening → Type 0 = λ x. Spells x.table x.settings H text in
     let Open : Opening → Type 0 = λ x. (spent ≡ false → open_of (record { opening = x; journal = H; spare = 0 }) ≡ []) in
+    let written = play.spells comments.lines comments.whole (subst Tells (sym play.opening) may.told) in
+    let spells : Spells p.table p.settings H text = subst SpellsText play.opening (subst (Spells explore.opening.table explore.opening.settings H) (sym commented) written) in
     record {
       history = H;
       whole = all;
-      spells = subst Spelled play.opening (ap (spelled explore.opening.table explore.opening.settings) commented ∙ play.spells comments.lines comments.whole);
-      course = legal-course p.table (length p.experts) H expert legal;
+      spells = spells.history;
+      settings = spells.settings;
+      course = legal-course p.table (length p.experts) p.settings H expert may.respected may.told.known legal;
       shares = (let P : List NamedContext → Type 0 = EachNumbered (IsShare H) in subst P play.tables (shares-tables H oracles play.shares));
       others = play.others;
       unfinished = play.unfinished;
       finished = subst Open play.opening play.finished;
       unspent = play.unspent;
-      agreed = agreed-play p explore oracles spent first conflicts text play first_is conflicts_is joined;
+      agreed = agreed-play p explore oracles spent first conflicts text may play first_is conflicts_is joined;
     }
 
 -- ---- what is told

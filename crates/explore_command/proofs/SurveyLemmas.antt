@@ -1,7 +1,9 @@
 -- Oracles of one table that explore its attributes accept as many implications as its basis has.
-use Rattle.std.proofs.Common.{◌≡◌, ◌∙◌, ℕ, List, [], Bool, true, false, length, refl, ap}
+use Rattle.std.proofs.Common.{◌≡◌, ◌∙◌, ℕ, List, [], Bool, true, false, length, refl, sym, ap, subst}
 use Rattle.fca_model.specs.Context.{Context}
-use Rattle.fca_model.specs.Implications.{Rule}
+use Rattle.fca_model.specs.Implications.{Rule, respects_all}
+use Rattle.fca_model.specs.Invariant.{rows_respect}
+use Rattle.fca_model.proofs.ListLemmas.{list_all_from}
 use Rattle.fca_model.specs.Tables.{NamedContext}
 use Rattle.fca_model.specs.Pseudo.{intents, basis, basis_known}
 use Rattle.fca_model.specs.Exploration.{Settings, plain}
@@ -27,7 +29,11 @@ pub length-agreed : (C : Context) (explore : History) (accepted : List Rule) (or
     → (open_of explore ≡ [] → IsBasisBeside explore.opening.settings.known (state_of explore).context accepted) → (spent ≡ false → open_of explore ≡ [])
     → HasAgreed C explore oracles spent → spent ≡ false → length accepted ≡ length (basis C)
 length-agreed C explore accepted oracles spent plainly is finished agreed unspent =
-    (is (finished unspent)).once ∙ ap (λ (t : Settings). length (basis_known t.known (state_of explore).context)) plainly ∙ ap length (agreed.basis unspent)
+    (is (finished unspent)).once ∙ ap length (agreed.basis unspent) ∙ ap (λ (t : Settings). length (basis_known t.known C)) plainly
+
+-- with nothing known, each row respects it
+pub respecting_plain : (s : Settings) (C : Context) → s ≡ plain → rows_respect s.known C ≡ true
+respecting_plain s C plainly = subst (λ (t : Settings). rows_respect t.known C ≡ true) (sym plainly) (list_all_from (respects_all []) (λ row. refl) C.rows)
 
 pub survey_text-counts : (t u : NamedContext) (n m k : ℕ) → t ≡ u → n ≡ length (intents t.context) → m ≡ length (basis t.context) → k ≡ length (basis t.context)
     → survey_text t n m k ≡ surveyed_text u

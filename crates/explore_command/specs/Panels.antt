@@ -1,21 +1,59 @@
--- What `explore` reads: a table, and of each expert a table that has the same attributes in the same order.
-use Rattle.std.specs.Prelude.{◌≡◌, ℕ, ◌⊎◌, Bool, true, false, ◌&&◌, cond, Some, List, [], ◌∷◌, slice_get, bytes_eq}
+-- What `explore` reads: a table, what is known of it, and of each expert a table that has the same attributes in the same order. Where experts are named,
+-- each has the word of its file as its name, if that is one.
+--
+-- Of the files `A` and, with a line break in its name, a second, expert 1 alone has a name, which is A.
+use Rattle.std.specs.Prelude.{◌≡◌, ℕ, ◌+◌, ◌⊎◌, Bool, true, false, ◌&&◌, cond, Option, Some, List, [], ◌∷◌, slice_get, bytes_eq, option_to_list}
+use Rattle.std.specs.Str.{is_utf8}
+use Rattle.fca_model.specs.declared.TheConstants.{MAX_EXPERTS}
+use Rattle.fca_model.specs.Implications.{Rule}
+use Rattle.fca_model.specs.Invariant.{rows_respect}
+use Rattle.fca_model.specs.Exploration.{Settings, RowName}
 use Rattle.fca_model.specs.Tables.{Text, NamedContext}
-use Rattle.fca_io.specs.Faults.{Rose}
 use Rattle.fca_io.specs.Shelves.{Told}
-use Rattle.command_io.specs.Readings.{Reading, then}
+use Rattle.expert_wire.specs.Words.{is_name}
+use Rattle.expert_scripts.specs.Transcripts.{CanBeTold}
+use Rattle.command_io.specs.Readings.{Reading, then, SomeRose}
 use Rattle.command_io.specs.Readings.Reading.{Refused, Read}
 use Rattle.command_io.specs.Forms.{table_read}
+use Rattle.command_io.specs.Known.{Start, start_read, IsStartStop}
 use Rattle.command_io.specs.Causes.{IsFileStop}
 use Rattle.command_io.specs.declared.stop.Origin.{Origin}
-use Rattle.command_io.specs.declared.stop.Origin.TheVariants.{File, Later}
+use Rattle.command_io.specs.declared.stop.Origin.TheVariants.{Later}
 use Rattle.command_io.specs.declared.stop.Stop.{Stop}
 use Rattle.command_io.specs.declared.stop.Stop.TheVariants.{OtherAttributes, Memory}
 
--- a table, and those of the experts
+-- a table, the settings of its exploration, and the tables of the experts
 pub record Panel : Type 0 where
   pub table : NamedContext
+  pub settings : Settings
   pub experts : List NamedContext
+
+-- settings that a script can tell, which ask of the table's rows what they have, and under which all experts may hold one question
+pub record MayExplore (table : NamedContext) (s : Settings) : Type 0 where
+  pub told : CanBeTold table.context.width s
+  pub respected : rows_respect s.known table.context ≡ true
+  pub free : s.holders ≡ MAX_EXPERTS
+
+-- ---- names of experts
+
+-- the word of a file that is a name
+abbrev pub is_named : Text → Bool
+is_named file = is_utf8 file && is_name file
+
+-- the experts from number e on, of whom these are the files, with their names
+abbrev pub names_from : ℕ → List Text → List (ℕ × RowName)
+names_from e [] = []
+names_from e (file ∷ files) = cond (is_named file) ((e, file) ∷ names_from (e + 1) files) (names_from (e + 1) files)
+
+-- the same from the first expert on, where experts are named
+abbrev pub names_told : Bool → List Text → List (ℕ × RowName)
+names_told names files = cond names (names_from 1 files) []
+
+-- the settings under which this is known, of experts who have these files
+abbrev pub settings_by : List Rule → Bool → List Text → Settings
+settings_by S names files = record { known = S; holders = MAX_EXPERTS; expert_names = names_told names files }
+
+-- ---- the tables of experts
 
 abbrev pub same_names : List Text → List Text → Bool
 same_names [] [] = true
@@ -37,12 +75,14 @@ experts_read table [] files = Read []
 experts_read table (file ∷ rest) files =
     then (expert_read table file files) (λ D. then (experts_read table rest files) (λ experts. Read (D ∷ experts)))
 
--- the table in the first file, and those of the experts in the others
-abbrev pub panel_read : Text → List Text → (Text → Told) → Reading Panel
-panel_read file experts files =
-    then (table_read file (files file)) (λ table.
-    then (experts_read table experts files) (λ tables.
-    Read (record { table = table; experts = tables })))
+-- the table in the first file, what is known of it, and the tables of the experts in the others
+abbrev pub panel_read : Text → Option Text → Bool → List Text → (Text → Told) → Reading Panel
+panel_read file known names experts files =
+    then (start_read file known files) (λ start.
+    then (experts_read start.table experts files) (λ tables.
+    Read (record { table = start.table; settings = settings_by start.known names experts; experts = tables })))
+
+-- ---- why they are not read
 
 -- the stop of the file of an expert, whose table has other attributes where it has one
 abbrev pub IsExpertStop : Text → Told → Origin → Stop → Type 0
@@ -53,15 +93,10 @@ abbrev pub IsExpertsStop : List Text → (Text → Told) → Stop → Type 0
 IsExpertsStop experts files stop =
     (stop ≡ Memory) ⊎ ((place : ℕ) × (file : Text) × (slice_get experts place ≡ Some file) × IsExpertStop file (files file) (Later place) stop)
 
--- the stop of the first file, or of the file of one of the experts
-abbrev pub IsPanelStop : Text → List Text → (Text → Told) → Stop → Type 0
-IsPanelStop file experts files stop = IsFileStop file (files file) File stop ⊎ IsExpertsStop experts files stop
-
--- a count of faults rose for one of the files
-abbrev pub SomeRose : (Text → ℕ) → (Text → ℕ) → List Text → Type 0
-SomeRose counts counts' [] = ⊥
-SomeRose counts counts' (file ∷ files) = Rose (counts file) (counts' file) ⊎ SomeRose counts counts' files
+-- the stop of the first file, of what is known, or of the file of one of the experts
+abbrev pub IsPanelStop : Text → Option Text → List Text → (Text → Told) → Stop → Type 0
+IsPanelStop file known experts files stop = IsStartStop file known files stop ⊎ IsExpertsStop experts files stop
 
 -- a count of faults rose for a file of the command
-abbrev pub FileRose : (Text → ℕ) → (Text → ℕ) → Text → List Text → Type 0
-FileRose counts counts' file experts = Rose (counts file) (counts' file) ⊎ SomeRose counts counts' experts
+abbrev pub FileRose : (Text → ℕ) → (Text → ℕ) → Text → Option Text → List Text → Type 0
+FileRose counts counts' file known experts = SomeRose counts counts' (file ∷ option_to_list known) ⊎ SomeRose counts counts' experts

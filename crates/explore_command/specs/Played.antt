@@ -3,14 +3,15 @@ use Rattle.std.specs.Prelude.{◌≡◌, ◌↔◌, ◌⊎◌, ◌≤◌, ◌<�
 use Rattle.fca_model.specs.Context.{Context}
 use Rattle.fca_model.specs.Tables.{Text, NamedContext}
 use Rattle.fca_model.specs.Implications.{Rule}
-use Rattle.fca_model.specs.Pseudo.{basis}
-use Rattle.fca_model.specs.Exploration.{SetEntry, plain, rules_of, own}
+use Rattle.fca_model.specs.Pseudo.{basis_known}
+use Rattle.fca_model.specs.Invariant.{rows_respect}
+use Rattle.fca_model.specs.Exploration.{SetEntry, rules_of, own}
 use Rattle.oracle_expert.specs.Oracles.{Conflicts}
 use Rattle.oracle_expert.specs.Runs.{IsOracleFront, ends_done, conflicts_of}
 use Rattle.expert_panel.specs.Explorations.{EachNumbered, is_part}
-use Rattle.expert_wire.specs.Replies.{transcript}
+use Rattle.expert_scripts.specs.Transcripts.{transcript}
 use Rattle.basis_report.specs.Reports.{counted, arrow_lines}
-use Rattle.basis_report.specs.Explorations.{recorded_section, accepted_section, open_section, explore_text, spelled}
+use Rattle.basis_report.specs.Explorations.{recorded_section, accepted_section, open_section, explore_text, spelled, spelled_settings}
 use Rattle.basis_report.specs.Conflicts.{conflicts_section, conflicts_text}
 use Rattle.command_io.specs.Readings.{Reading}
 use Rattle.command_io.specs.Readings.Reading.{Untold, Missing, Refused, Read}
@@ -33,30 +34,31 @@ dropped_in H e (D ∷ experts) = (D, conflicts_of D (own H e)) ∷ dropped_in H 
 
 -- the exploration of a panel's table that has this history
 abbrev pub played : Panel → List SetEntry → Recorded
-played p H = record { opening = opening_of p.table (length p.experts); journal = H }
+played p H = record { opening = opening_of p.table (length p.experts) p.settings; journal = H }
 
 -- its text, and the conflicts
 abbrev pub panel_text : Panel → List SetEntry → Text
-panel_text p H = explore_text p.table plain H ++ conflicts_text p.table.attributes (rules_of (last_state (played p H))) (dropped_in H 1 p.experts)
+panel_text p H = explore_text p.table p.settings H ++ conflicts_text p.table.attributes (rules_of (last_state (played p H))) (dropped_in H 1 p.experts)
 
 -- what its text says before the open questions
 abbrev pub recorded_text : Panel → List SetEntry → Text
 recorded_text p H =
-    transcript p.table.attributes H ++ (recorded_section H ++ accepted_section p.table.attributes 0 (last_state (played p H)).accepted)
+    transcript p.table.attributes p.settings H ++ (recorded_section H ++ accepted_section p.table.attributes (length p.settings.known) (last_state (played p H)).accepted)
 
 -- `# open 0`; then `# basis N`, and these N implications with their numbers; then `# conflicts 0`
 abbrev pub basis_alone : List Text → List Rule → Text
 basis_alone attributes J =
     open_section attributes [] ++ ((counted (codes "# basis ") (length J) ++ arrow_lines (codes "# ") attributes J) ++ conflicts_section attributes J [])
 
--- The text spells one legal history, which has no entries but those of the panel's oracles. Where one of them took all its turns,
+-- The text spells the panel's settings and one legal history, which has no entries but those of the panel's oracles. Where one of them took all its turns,
 -- the exploration is spent; else no question is open at its end. With at most 46 attributes it is never spent. Where all experts'
--- tables have one context C, and each row of the panel's table is a row of C, the text ends with the basis of C in lectic order,
--- and no conflict
+-- tables have one context C, each row of the panel's table is a row of C, and each row of C respects what is known, the text ends with the
+-- basis of C beside what is known, in lectic order, and no conflict
 pub record IsPanelText (p : Panel) (text : Text) (spent : Bool) : Type 0 where
   pub history : List SetEntry
   pub whole : text ≡ panel_text p history
-  pub spells : spelled p.table plain text ≡ history
+  pub spells : spelled p.table text ≡ history
+  pub settings : spelled_settings p.table text ≡ p.settings
   pub course : IsExplored (played p history)
   pub shares : EachNumbered (IsShare history) p.experts
   pub others : (e : ℕ) → (e ≡ 0) ⊎ (length p.experts < e) → own history e ≡ []
@@ -64,7 +66,7 @@ pub record IsPanelText (p : Panel) (text : Text) (spent : Bool) : Type 0 where
   pub finished : spent ≡ false → open_at (played p history) ≡ []
   pub unspent : p.table.context.width ≤ 46 → spent ≡ false
   pub agreed : (C : Context) → All (λ D. D.context ≡ C) p.experts → is_part p.table.context C ≡ true
-      → spent ≡ false → text ≡ recorded_text p history ++ basis_alone p.table.attributes (basis C)
+      → rows_respect p.settings.known C ≡ true → spent ≡ false → text ≡ recorded_text p history ++ basis_alone p.table.attributes (basis_known p.settings.known C)
 
 -- ---- statuses
 

@@ -1,6 +1,7 @@
 //! The commands `explore` and `survey`: the oracles of experts' tables explore a table through one gate.
 #![tactic(auto)]
 
+mod names;
 mod panel;
 mod play;
 mod surveys;

@@ -1,50 +1,88 @@
 //! The tables that `explore` reads: the one that is explored, and those of the experts.
 
-ghost use Rattle.std.specs.Prelude.{◌≡◌, ◌≤◌, ℕ, List, All, IfOk, IfErr, OnOk, vec_len, length};
-ghost use Rattle.command_io.specs.Readings.{MayRead};
+ghost use Rattle.std.specs.Prelude.{◌≡◌, ◌≤◌, ℕ, List, All, Bool, true, IfOk, IfErr, OnOk, vec_len, length, option_copied};
+ghost use Rattle.fca_model.specs.Exploration.{is_expert};
+ghost use Rattle.command_io.specs.Readings.{MayRead, SomeRose};
 ghost use Rattle.command_io.specs.Endings.{stop_status, Stops};
 ghost use Rattle.fca_io.specs.Faults.{Rose};
-ghost use Rattle.explore_command.specs.Panels.{agreeing, expert_read, experts_read, panel_read, IsExpertStop, IsExpertsStop, IsPanelStop, SomeRose, FileRose};
+ghost use Rattle.fca_model.specs.declared.TheConstants.{MAX_EXPERTS};
+ghost use Rattle.explore_command.specs.Panels.{MayExplore, agreeing, expert_read, experts_read, panel_read, IsExpertStop, IsExpertsStop, IsPanelStop, FileRose};
 
-use command_io::{Origin, Stop, table_under};
+use crate::names::names_told;
+use command_io::{Origin, Start, Stop, start_under, table_under};
 use context_table::Table;
+use explore_state::{ExpertNames, Settings};
 use fca_io::Shelf;
-use fca_model::Word;
+use fca_model::{MAX_EXPERTS, Word};
 use std::alloc::Global;
 use std::marker::Model;
 
-/// A table, and those of the experts who explore it.
+/// A table, the settings of its exploration, and the tables of the experts who explore it.
 #[derive(Drop)]
 pub struct Panel {
-    pub table: Table,
-    pub experts: Vec<Table>,
+    pub(crate) table: Table,
+    pub(crate) settings: Settings,
+    pub(crate) experts: Vec<Table>,
 }
 
 impl Model for Panel {
-    ghost use Rattle.explore_command.specs.Panels.{Panel as TheTables};
+    ghost use Rattle.std.specs.Prelude.{◌≡◌};
+    ghost use Rattle.explore_state.specs.Settings.{settings_of};
+    ghost use Rattle.explore_command.specs.Panels.{Panel as TheTables, MayExplore};
 
     ghost Value = { TheTables };
 
-    ghost view = { λ p. record { table = p.table; experts = p.experts.items } };
+    ghost view = { λ p. record { table = p.table; settings = settings_of p.settings; experts = p.experts.items } };
+
+    ghost invariant = { λ p. record {
+      wide : p.settings.known.width ≡ p.table.context.width;
+      may : MayExplore p.table (settings_of p.settings);
+    } };
 }
 
-/// The table in the file, and those of the experts in the others.
+/// The table in the file, what is known of it, and the tables of the experts in the others; `names` says whether experts are named by
+/// the words of their files.
 pub fn panel_under<H: Shelf>(
     alloc: Global,
     shelf: &mut H,
     file: &Word,
+    known: Option<&Word>,
+    names: bool,
     experts: &[Word],
 ) -> Result<Panel, Stop>
-    ensures panel { IfOk result (λ panel. MayRead (panel_read file.now experts.now (H.tells shelf.old)) panel) }
+    requires { is_expert (length experts.now) ≡ true }
+    ensures panel { IfOk result (λ panel. MayRead (panel_read file.now (option_copied known.entry) names experts.now (H.tells shelf.old)) panel) }
     ensures count { IfOk result (λ panel. length panel.experts ≡ length experts.now) }
     ensures wide { IfOk result (λ panel. All (λ expert. expert.context.width ≡ panel.table.context.width) panel.experts) }
-    ensures stop { IfErr result (λ stop. Stops (panel_read file.now experts.now (H.tells shelf.old))
-        (FileRose (H.faults shelf.old) (H.faults shelf.new) file.now experts.now) (stop_status stop)) }
-    ensures cause { IfErr result (IsPanelStop file.now experts.now (H.tells shelf.old)) }
+    ensures stop { IfErr result (λ stop. Stops (panel_read file.now (option_copied known.entry) names experts.now (H.tells shelf.old))
+        (FileRose (H.faults shelf.old) (H.faults shelf.new) file.now (option_copied known.entry) experts.now) (stop_status stop)) }
+    ensures cause { IfErr result (IsPanelStop file.now (option_copied known.entry) experts.now (H.tells shelf.old)) }
 {
-    let table = table_under(alloc, shelf, file, Origin::File)?;
-    let experts = experts_under(alloc, shelf, &table, experts)?;
-    Ok(Panel { table, experts })
+    let start = start_under(alloc, shelf, file, known)?;
+    let tables = experts_under(alloc, shelf, &start.table, experts)?;
+    let names = names_told(alloc, names, experts)?;
+    Ok(seated(start, names, tables))
+}
+
+/// The panel of these experts, all of whom may hold one question.
+fn seated(start: Start, names: ExpertNames, experts: Vec<Table>) -> Panel
+    requires wide { start.known.width ≡ start.table.context.width }
+    requires may { MayExplore start.table (record { known = start.known.members; holders = MAX_EXPERTS; expert_names = names }) }
+    ensures { result ≡ record {
+      table = start.table;
+      settings = record { known = start.known.members; holders = MAX_EXPERTS; expert_names = names };
+      experts = experts.items;
+    } }
+{
+    Panel {
+        table: start.table,
+        settings: Settings {
+            known: start.known,
+            holders: MAX_EXPERTS,
+            names,
+        },
+        experts,
+    }
 }
 
 /// The tables in the files of experts who know the attributes of the table.

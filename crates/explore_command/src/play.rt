@@ -1,20 +1,24 @@
 //! The exploration by the oracles of the panel, its text, and the status of the call.
 
-ghost use Rattle.std.specs.Prelude.{◌≡◌, ◌≤◌, ◌⊎◌, true, All, Result, Ok, Err, Some, IfOk, IfErr, length};
+ghost use Rattle.std.specs.Prelude.{◌≡◌, ◌≤◌, ◌⊎◌, true, [], All, Result, Ok, Err, Some, IfOk, IfErr, length, option_copied};
 ghost use Rattle.std.specs.Io.KnownBytes.{Appends};
 ghost use Rattle.fca_model.specs.Exploration.{is_expert};
 ghost use Rattle.fca_io.specs.Faults.{Rose};
 ghost use Rattle.fca_io.specs.Transfers.{AppendsFront};
+ghost use Rattle.explore_state.specs.Settings.{settings_of};
 ghost use Rattle.command_io.specs.Readings.{IfRead};
+ghost use Rattle.command_io.specs.Explorations.{opening_of};
 ghost use Rattle.command_io.specs.Endings.{IsCutOff, IsSilent, Stops, stop_status};
-ghost use Rattle.command_io.specs.ErrLines.{later_file, file_at_fault, write_fault_line, turns_spent_line, GainsLine, IsTold};
+ghost use Rattle.command_io.specs.ErrLines.{file_at_fault, write_fault_line, turns_spent_line, GainsLine, IsTold};
 ghost use Rattle.explore_command.specs.Panels.{panel_read, IsPanelStop, FileRose};
 ghost use Rattle.explore_command.specs.Played.{IsPanelText, HasPlayed, HasBegun, IsPlayed, Plays, played_status};
 
 use crate::panel::{Panel, panel_under};
 use basis_report::{conflicts_text, explore_text};
-use command_io::{Answer, Stop, conclude, report_plain};
+use command_io::{Answer, Stop, conclude, file_at_fault, report_plain};
+use context_table::Table;
 use expert_panel::explore_with_oracles;
+use explore_state::{Explore, Settings};
 use fca_io::{Shelf, Sink};
 use fca_model::{Memory, Word};
 use std::alloc::Global;
@@ -31,12 +35,15 @@ struct Played {
     spent: bool,
 }
 
-/// Lets the oracles of the experts' files explore the table in the file, and writes what came of it.
+/// Lets the oracles of the experts' files explore the table in the file, beside what is known of it, and writes what came of it; `names`
+/// says whether experts are named by the words of their files.
 pub fn explore<R: Threads + Wait + Sync, H: Shelf, K: Sink, E: Sink>(
     rt: &R,
     alloc: Global,
     shelf: &mut H,
     file: &Word,
+    known: Option<&Word>,
+    names: bool,
     experts: &[Word],
     out: &mut K,
     err: &mut E,
@@ -44,48 +51,28 @@ pub fn explore<R: Threads + Wait + Sync, H: Shelf, K: Sink, E: Sink>(
     requires { is_expert (length experts.now) ≡ true }
 
     // Which status comes. What the shelf does not tell is not spoken of.
-    ensures status { Plays (panel_read file.now experts.now (H.tells shelf.old)) result ⊎ IsCutOff result }
-    ensures read_fault { result ≡ 3 → FileRose (H.faults shelf.old) (H.faults shelf.new) file.now experts.now }
+    ensures status { Plays (panel_read file.now (option_copied known.entry) names experts.now (H.tells shelf.old)) result ⊎ IsCutOff result }
+    ensures read_fault { result ≡ 3 → FileRose (H.faults shelf.old) (H.faults shelf.new) file.now (option_copied known.entry) experts.now }
     ensures write_fault { result ≡ 4 → Rose (K.faults out.old) (K.faults out.new) }
 
     // What out gained.
-    ensures whole_output { IsPlayed result → IfRead (panel_read file.now experts.now (H.tells shelf.old))
+    ensures whole_output { IsPlayed result → IfRead (panel_read file.now (option_copied known.entry) names experts.now (H.tells shelf.old))
         (λ panel. HasPlayed (Appends (K.held out.old) (K.held out.new)) panel result) }
-    ensures partial_output { result ≡ 4 → IfRead (panel_read file.now experts.now (H.tells shelf.old))
+    ensures partial_output { result ≡ 4 → IfRead (panel_read file.now (option_copied known.entry) names experts.now (H.tells shelf.old))
         (λ panel. HasBegun (AppendsFront (K.held out.old) (K.held out.new)) panel) }
     ensures no_output { IsSilent result → out.new ≡ out.old }
 
     // What err gained.
     ensures quiet { result ≡ 0 → err.new ≡ err.old }
     ensures told { IsTold (GainsLine (E.held err.old) (E.held err.new) (E.faults err.old) (E.faults err.new))
-        (IsPanelStop file.now experts.now (H.tells shelf.old)) (file_at_fault file.now experts.now) result }
+        (IsPanelStop file.now (option_copied known.entry) experts.now (H.tells shelf.old)) (file_at_fault file.now (option_copied known.entry) experts.now) result }
 {
-    match exploration(rt, alloc, shelf, file, experts) {
+    match exploration(rt, alloc, shelf, file, known, names, experts) {
         Ok(played) => write_played(played, out, err),
         Err(stop) => {
-            let name = file_at_fault(&stop, file, experts);
+            let name = file_at_fault(&stop, file, known, experts);
             conclude(Err(stop), name, out, err)
         }
-    }
-}
-
-/// The name of the file that is at fault.
-fn file_at_fault<'a>(stop: &Stop, file: &'a Word, experts: &'a [Word]) -> &'a [u8]
-    ensures { result.now ≡ file_at_fault file.now experts.now stop.now }
-{
-    match stop.later() {
-        Some(place) => expert_file(file, experts, place),
-        None => file.bytes(),
-    }
-}
-
-/// The name of the expert's file, where there is one.
-fn expert_file<'a>(file: &'a Word, experts: &'a [Word], place: usize) -> &'a [u8]
-    ensures { result.now ≡ later_file file.now experts.now (Some place) }
-{
-    match experts.get(place) {
-        Some(expert) => expert.bytes(),
-        None => file.bytes(),
     }
 }
 
@@ -113,15 +100,17 @@ fn exploration<R: Threads + Wait + Sync, H: Shelf>(
     alloc: Global,
     shelf: &mut H,
     file: &Word,
+    known: Option<&Word>,
+    names: bool,
     experts: &[Word],
 ) -> Result<Played, Stop>
     requires { is_expert (length experts.now) ≡ true }
-    ensures played { IfOk result (λ played. IfRead (panel_read file.now experts.now (H.tells shelf.old)) (λ panel. IsPanelText panel played.text.items played.spent)) }
-    ensures stop { IfErr result (λ stop. Stops (panel_read file.now experts.now (H.tells shelf.old))
-        (FileRose (H.faults shelf.old) (H.faults shelf.new) file.now experts.now) (stop_status stop)) }
-    ensures cause { IfErr result (IsPanelStop file.now experts.now (H.tells shelf.old)) }
+    ensures played { IfOk result (λ played. IfRead (panel_read file.now (option_copied known.entry) names experts.now (H.tells shelf.old)) (λ panel. IsPanelText panel played.text.items played.spent)) }
+    ensures stop { IfErr result (λ stop. Stops (panel_read file.now (option_copied known.entry) names experts.now (H.tells shelf.old))
+        (FileRose (H.faults shelf.old) (H.faults shelf.new) file.now (option_copied known.entry) experts.now) (stop_status stop)) }
+    ensures cause { IfErr result (IsPanelStop file.now (option_copied known.entry) experts.now (H.tells shelf.old)) }
 {
-    let panel = panel_under(alloc, shelf, file, experts)?;
+    let panel = panel_under(alloc, shelf, file, known, names, experts)?;
     Ok(play(rt, alloc, panel)?)
 }
 
@@ -131,7 +120,9 @@ fn play<R: Threads + Wait + Sync>(rt: &R, alloc: Global, panel: Panel) -> Result
     requires wide { All (λ expert. expert.context.width ≡ panel.table.context.width) panel.experts }
     ensures { IfOk result (λ played. IsPanelText panel played.text.items played.spent) }
 {
-    let explored = explore_with_oracles(rt, alloc, panel.table, panel.experts, TURNS)?;
+    let count = panel.experts.len() as u8;
+    let explore = opened(alloc, panel.table, count, panel.settings)?;
+    let explored = explore_with_oracles(rt, alloc, explore, panel.experts, TURNS)?;
     let mut text = explore_text(alloc, &explored.explore)?;
     let conflicts = conflicts_text(alloc, &explored.explore, &explored.oracles)?;
     text.extend_from_slice(&conflicts)?;
@@ -139,4 +130,16 @@ fn play<R: Threads + Wait + Sync>(rt: &R, alloc: Global, panel: Panel) -> Result
         text,
         spent: explored.spent,
     })
+}
+
+/// The exploration of the table by so many experts, which no row forbids.
+fn opened(alloc: Global, table: Table, experts: u8, settings: Settings) -> Result<Explore, Memory>
+    requires { settings.known.width ≡ table.context.width }
+    ensures opening { IfOk result (λ explore. explore.opening ≡ opening_of table experts (settings_of settings)) }
+    ensures journal { IfOk result (λ explore. explore.journal ≡ []) }
+{
+    match Explore::open_with(alloc, table, experts, settings) {
+        Ok(explore) => Ok(explore),
+        Err(_) => Err(Memory),
+    }
 }

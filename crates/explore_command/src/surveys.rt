@@ -12,6 +12,7 @@ use basis_report::survey_text;
 use canonical_basis::basis;
 use context_table::Table;
 use expert_panel::explore_with_oracles;
+use explore_state::Explore;
 use fca_command::Recipe;
 use fca_model::Memory;
 use lectic_concepts::all_intents;
@@ -89,7 +90,10 @@ fn explored<R: Threads + Wait + Sync>(
         },
     )?;
     let oracles = copies(alloc, table, experts)?;
-    let explored = explore_with_oracles(rt, alloc, bare, oracles, TURNS)?;
+    let Ok(explore) = Explore::open(alloc, bare, experts) else {
+        return Err(Memory);
+    };
+    let explored = explore_with_oracles(rt, alloc, explore, oracles, TURNS)?;
     Ok(explored.explore.accepted().len())
 }
 

@@ -1,0 +1,21 @@
+use Rattle.std.proofs.Common.{◌≡◌, ◌∙◌, ℕ, List, true, sym, ap, subst}
+use Rattle.std.specs.List.{list_all}
+use Rattle.fca_model.specs.Context.{Context}
+use Rattle.fca_model.specs.Exploration.{SetEvent}
+use Rattle.explore_state.specs.Settings.{settings_of}
+use Rattle.expert_scripts.specs.Scripts.{may_apply}
+use Rattle.command_io.specs.Explorations.{IsExplored}
+use Rattle.replay_command.proofs.CourseLemmas.{explored-course}
+use Rattle.replay_command.proofs.replaying.explored_by.Goals as goal
+
+pub returns-clause-course : goal.returns-clause-course
+returns-clause-course g c =
+    let table = c.args.start.table in
+    let wide : c.width.result ≡ table.context.width = c.width.ensures.width ∙ ap (λ (K : Context). K.width) c.rows.ensures.rows in
+    let events : c.into_vec.result.items ≡ c.in_ok-script.script.events = c.into_vec.ensures ∙ c.in_ok-settings.ensures.events in
+    let MayAll : ℕ → Type 0 = λ n. list_all (may_apply n) c.in_ok-script.script.events ≡ true in
+    let MayBe : List SetEvent → Type 0 = λ l. list_all (may_apply table.context.width) l ≡ true in
+    let settled = c.in_ok-settings.ensures.may_open in
+    subst IsExplored (sym c.in_ok-explored.ensures)
+    (explored-course table (settings_of c.in_ok-settings.settings) c.into_vec.result.items settled.respected settled.told.known
+    (subst MayBe (sym events) (subst MayAll wide c.in_ok-script.ensures.fits)))

@@ -1,0 +1,103 @@
+-- What `replay` records: the exploration of a table by the events of a script, under the script's settings or beside what a file says is known.
+--
+-- Over a and b, of which a file says that a implies b, the script `draw 1` records one draw, whose reply asks {} -> {a, b}. The script `exploration 2` is
+-- refused there, since it may set something.
+use Rattle.std.specs.Prelude.{◌≡◌, ◌⊎◌, ℕ, Option, Some, None, List, length, nat_lt}
+use Rattle.fca_model.specs.Tables.{Text, NamedContext}
+use Rattle.fca_model.specs.declared.TheConstants.{MAX_EXPERTS}
+use Rattle.fca_model.specs.Implications.{Rule}
+use Rattle.fca_model.specs.Exploration.{Settings, SetEvent, plain, journal_of}
+use Rattle.fca_io.specs.Shelves.{Told}
+use Rattle.explore_state.specs.History.{Opening, opening_state}
+use Rattle.explore_state.specs.Faults.{first_break}
+use Rattle.explore_state.specs.Settings.{settings_of}
+use Rattle.explore_state.specs.declared.settings.Settings as told
+use Rattle.expert_scripts.specs.Scripts.{Said}
+use Rattle.expert_scripts.specs.Transcripts.{CanBeTold}
+use Rattle.expert_scripts.specs.declared.fault.ScriptFault.TheVariants.{BadLine}
+use Rattle.basis_report.specs.Explorations.{explore_text, Spells}
+use Rattle.command_io.specs.Readings.{Reading, then, MayRead}
+use Rattle.command_io.specs.Readings.Reading.{Refused, Read}
+use Rattle.command_io.specs.Forms.{script_read}
+use Rattle.command_io.specs.Causes.{IsScriptStop}
+use Rattle.command_io.specs.Known.{Start, respected, start_read, IsBreakStop, IsStartStop}
+use Rattle.command_io.specs.Endings.{Output}
+use Rattle.command_io.specs.Explorations.{Recorded, opening_of, open_at, IsExplored}
+use Rattle.command_io.specs.declared.stop.Origin.TheVariants.{Input}
+use Rattle.command_io.specs.declared.stop.Stop.{Stop}
+use Rattle.command_io.specs.declared.stop.Stop.TheVariants.{NoScript}
+
+-- ---- what is read
+
+-- the script, where it has no line `exploration 2`
+abbrev pub of_first_version : Option ℕ → Said → Reading Said
+of_first_version None said = Read said
+of_first_version (Some line) said = Refused
+
+-- The settings of a replay that has this known file, of which S was read, and this script. Beside a known file the script is of the first version, and S is
+-- all that is set; without one it is what the script says, where every row of the table respects what it says is known.
+abbrev pub settings_read : Option Text → List Rule → NamedContext → Said → Reading Settings
+settings_read None S table said = then (respected table said.settings.known) (λ _. Read said.settings)
+settings_read (Some file) S table said = then (of_first_version said.second said) (λ _. Read (record plain { known = S }))
+
+-- an exploration of the table may be opened with these settings, and they can be told: what is known has the table's width, and every row respects it
+pub record MayOpen (table : NamedContext) (s : told.Settings) : Type 0 where
+  pub width : s.known.width ≡ table.context.width
+  pub respected : first_break s.known.members 0 table.context.rows ≡ None
+  pub told : CanBeTold table.context.width (settings_of s)
+
+-- the opening of a replay, for as many experts as there may be
+abbrev pub replay_opening : NamedContext → Settings → Opening
+replay_opening table settings = opening_of table MAX_EXPERTS settings
+
+-- the exploration of the table under the settings by the events
+abbrev pub explored : NamedContext → Settings → List SetEvent → Recorded
+explored table settings events =
+    record { opening = replay_opening table settings; journal = journal_of (opening_state (replay_opening table settings)) events }
+
+-- the exploration by the script on the input, from this start, of which what is known is of this file, if one there is
+abbrev pub explored_by : Option Text → Option Text → Start → Reading Recorded
+explored_by known input start =
+    then (script_read start.table.context.width input) (λ said.
+    then (settings_read known start.known start.table said) (λ settings.
+    Read (explored start.table settings said.events)))
+
+-- the exploration that `replay` records
+abbrev pub replayed : Text → Option Text → (Text → Told) → Option Text → Reading Recorded
+replayed file known files input = then (start_read file known files) (explored_by known input)
+
+-- the text of an exploration
+abbrev pub exploration_output : Recorded → Output
+exploration_output r = record { text = explore_text r.opening.table r.opening.settings r.journal; is_open = nat_lt 0 (length (open_at r)) }
+
+-- what `replay` writes
+abbrev pub replay_output : Text → Option Text → (Text → Told) → Option Text → Reading Output
+replay_output file known files input = then (replayed file known files input) (λ r. Read (exploration_output r))
+
+-- its text spells its settings and its history
+abbrev pub SpellsItself : Recorded → Type 0
+SpellsItself r = Spells r.opening.table r.opening.settings r.journal (exploration_output r).text
+
+-- What is promised of it, whatever its events were: its journal is one legal history with the questions and the basis of an exploration,
+-- and the text that is written spells this history
+pub record IsReplayed (r : Recorded) : Type 0 where
+  pub course : IsExplored r
+  pub spells : SpellsItself r
+
+-- ---- why it stops
+
+-- The stop of a script that was read: beside a known file it is at fault at its line `exploration 2`, and without one where a row of the table breaks what
+-- it says is known
+abbrev pub IsSettingsStop : Option Text → NamedContext → Said → Stop → Type 0
+IsSettingsStop None table said stop = IsBreakStop said.settings.known table Input stop
+IsSettingsStop (Some file) table said stop = (line : ℕ) × (said.second ≡ Some line) × (stop ≡ NoScript (BadLine line))
+
+-- the stop of a script on the input of a replay, or of its settings
+abbrev pub IsInputStop : Option Text → NamedContext → Option Text → Stop → Type 0
+IsInputStop known table input stop = IsScriptStop table.context.width input stop
+    ⊎ ((said : Said) × MayRead (script_read table.context.width input) said × IsSettingsStop known table said stop)
+
+-- the stop of what a replay starts from, or of its script
+abbrev pub IsReplayStop : Text → Option Text → (Text → Told) → Option Text → Stop → Type 0
+IsReplayStop file known files input stop = IsStartStop file known files stop
+    ⊎ ((start : Start) × MayRead (start_read file known files) start × IsInputStop known start.table input stop)

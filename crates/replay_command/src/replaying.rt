@@ -1,0 +1,122 @@
+//! The exploration that a script records.
+
+ghost use Rattle.std.specs.Prelude.{◌≡◌, ◌⊎◌, ◌∷◌, IfOk, IfErr, OnOk, true, None, option_copied, option_to_list};
+ghost use Rattle.std.specs.List.{list_all};
+ghost use Rattle.std.specs.Io.KnownBytes.{IsAtEnd};
+ghost use Rattle.fca_io.specs.Faults.{Rose};
+ghost use Rattle.implication_closure.specs.Closing.{HaveWidth};
+ghost use Rattle.explore_state.specs.Faults.{first_break};
+ghost use Rattle.explore_state.specs.Settings.{settings_of};
+ghost use Rattle.expert_scripts.specs.Scripts.{may_apply};
+ghost use Rattle.expert_scripts.specs.Transcripts.{CanBeTold};
+ghost use Rattle.command_io.specs.Readings.{MayRead, IfRead, SomeRose};
+ghost use Rattle.command_io.specs.Known.{start_of};
+ghost use Rattle.command_io.specs.Explorations.{IsExplored, recorded};
+ghost use Rattle.command_io.specs.Endings.{stop_status, Stops};
+ghost use Rattle.replay_command.specs.Replayed.{explored, explored_by, replayed, replay_output, exploration_output, SpellsItself, IsReplayed, IsInputStop, IsReplayStop};
+
+use crate::settings::settled;
+use basis_report::explore_text;
+use command_io::{Answer, Start, Stop, script_on, start_under};
+use context_table::Table;
+use explore_state::{Event, Explore, Settings};
+use fca_io::{Shelf, Source};
+use fca_model::{MAX_EXPERTS, Memory, Word};
+use std::alloc::Global;
+
+/// What the exploration of the table in the file comes to, by the script on the input, where there may be a file of what is known.
+pub fn replay<H: Shelf, S: Source>(
+    alloc: Global,
+    shelf: &mut H,
+    input: &mut S,
+    file: &Word,
+    known: Option<&Word>,
+) -> Result<Answer, Stop>
+    ensures output { IfOk result (λ answer. MayRead (replay_output file.now (option_copied known.entry) (H.tells shelf.old) (S.left input.old)) answer) }
+    ensures replayed { OnOk result (IfRead (replayed file.now (option_copied known.entry) (H.tells shelf.old) (S.left input.old)) IsReplayed) }
+    ensures end { OnOk result (IsAtEnd (S.left input.new)) }
+    ensures stop { IfErr result (λ stop. Stops (replay_output file.now (option_copied known.entry) (H.tells shelf.old) (S.left input.old))
+        (SomeRose (H.faults shelf.old) (H.faults shelf.new) (file.now ∷ option_to_list (option_copied known.entry)) ⊎ Rose (S.faults input.old) (S.faults input.new))
+        (stop_status stop)) }
+    ensures cause { IfErr result (IsReplayStop file.now (option_copied known.entry) (H.tells shelf.old) (S.left input.old)) }
+{
+    let explore = exploration(alloc, shelf, input, file, known)?;
+    Ok(exploration_answer(alloc, &explore)?)
+}
+
+/// The exploration of the table in the file by the script on the input.
+fn exploration<H: Shelf, S: Source>(
+    alloc: Global,
+    shelf: &mut H,
+    input: &mut S,
+    file: &Word,
+    known: Option<&Word>,
+) -> Result<Explore, Stop>
+    ensures exploration { IfOk result (λ explore. MayRead (replayed file.now (option_copied known.entry) (H.tells shelf.old) (S.left input.old)) (recorded explore)) }
+    ensures course { IfOk result (λ explore. IsExplored (recorded explore)) }
+    ensures told { IfOk result (λ explore. CanBeTold explore.opening.table.context.width explore.opening.settings) }
+    ensures end { OnOk result (IsAtEnd (S.left input.new)) }
+    ensures stop { IfErr result (λ stop. Stops (replayed file.now (option_copied known.entry) (H.tells shelf.old) (S.left input.old))
+        (SomeRose (H.faults shelf.old) (H.faults shelf.new) (file.now ∷ option_to_list (option_copied known.entry)) ⊎ Rose (S.faults input.old) (S.faults input.new))
+        (stop_status stop)) }
+    ensures cause { IfErr result (IsReplayStop file.now (option_copied known.entry) (H.tells shelf.old) (S.left input.old)) }
+{
+    let start = start_under(alloc, shelf, file, known)?;
+    explored_by(alloc, input, known, start)
+}
+
+/// The exploration by the script on the input, which begins with the start; what is known there is of a file, if one is given.
+fn explored_by<S: Source>(
+    alloc: Global,
+    input: &mut S,
+    known: Option<&Word>,
+    start: Start,
+) -> Result<Explore, Stop>
+    requires width { start.known.width ≡ start.table.context.width }
+    requires even { HaveWidth start.table.context.width start.known.members }
+    requires respected { first_break start.known.members 0 start.table.context.rows ≡ None }
+    ensures exploration { IfOk result (λ explore. MayRead (explored_by (option_copied known.entry) (S.left input.old) (start_of start)) (recorded explore)) }
+    ensures course { IfOk result (λ explore. IsExplored (recorded explore)) }
+    ensures told { IfOk result (λ explore. CanBeTold explore.opening.table.context.width explore.opening.settings) }
+    ensures end { OnOk result (IsAtEnd (S.left input.new)) }
+    ensures stop { IfErr result (λ stop. Stops (explored_by (option_copied known.entry) (S.left input.old) (start_of start))
+        (Rose (S.faults input.old) (S.faults input.new)) (stop_status stop)) }
+    ensures cause { IfErr result (IsInputStop (option_copied known.entry) start.table (S.left input.old)) }
+{
+    let Start { table, known: list } = start;
+    let script = script_on(alloc, input, table.rows().width())?;
+    let (settings, events) = settled(alloc, known, list, &table, script)?;
+    Ok(explored(alloc, table, settings, events.into_vec())?)
+}
+
+/// The exploration of the table under the settings after the events.
+fn explored(
+    alloc: Global,
+    table: Table,
+    settings: Settings,
+    events: Vec<Event>,
+) -> Result<Explore, Memory>
+    requires width { settings.known.width ≡ table.context.width }
+    requires may { list_all (may_apply table.context.width) events.items ≡ true }
+    ensures { IfOk result (λ explore. recorded explore ≡ explored table (settings_of settings) events.items) }
+{
+    let Ok(mut explore) = Explore::open_with(alloc, table, MAX_EXPERTS, settings) else {
+        return Err(Memory);
+    };
+    for event in events {
+        explore.apply(event)?;
+    }
+    Ok(explore)
+}
+
+/// The text of an exploration.
+fn exploration_answer(alloc: Global, explore: &Explore) -> Result<Answer, Memory>
+    requires { CanBeTold explore.now.opening.table.context.width explore.now.opening.settings }
+    ensures text { IfOk result (λ answer. answer ≡ exploration_output (recorded explore.now)) }
+    ensures spells { OnOk result (SpellsItself (recorded explore.now)) }
+{
+    Ok(Answer {
+        text: explore_text(alloc, explore)?,
+        is_open: !explore.open_questions().is_empty(),
+    })
+}
