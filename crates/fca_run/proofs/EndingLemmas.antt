@@ -1,24 +1,27 @@
 -- How a call ends follows from what its command was to write: it has this to write, or it stopped and nothing is written.
-use Rattle.std.proofs.Common.{◌≡◌, ◌∙◌, ◌⊎◌, ℕ, Bool, true, false, cond, Option, Some, None, List, [], ◌∷◌, Result, Ok, Err, inl, inr, refl, sym, ap, subst, arith}
-use Rattle.std.specs.Prelude.{IfOk, IfErr, IsOk, OnOk, IfSome, MatchOption}
-use Rattle.fca_model.specs.Tables.{Text, NamedContext}
-use Rattle.command_io.specs.Readings.{Reading, MayRead, MayRefuse, IfRead}
+use Rattle.std.proofs.Common.{◌≡◌, ◌∙◌, ◌⊎◌, ℕ, Bool, true, false, cond, Option, Some, None, List, [], ◌∷◌, ◌++◌, Result, Ok, Err, inl, inr, refl, sym, ap, subst, arith}
+use Rattle.std.specs.Prelude.{IfOk, IfErr, IsOk, OnOk, IfSome, MatchOption, option_to_list}
+use Rattle.fca_model.specs.Tables.{Text}
+use Rattle.command_io.specs.Readings.{Reading, MayRead, MayRefuse, IfRead, SomeRose}
 use Rattle.command_io.specs.Readings.Reading.{Untold, Missing, Refused, Read}
 use Rattle.command_io.specs.Endings.{Output, whole_status, IsWhole, IsCutOff, IsUnread, EndsAnswer, Stops, stop_status}
-use Rattle.command_io.specs.Forms.{table_read}
-use Rattle.command_io.specs.ErrLines.{stop_line, stop_later, later_file, IsTold}
+use Rattle.command_io.specs.Known.{Start, start_read}
+use Rattle.command_io.specs.ErrLines.{stop_line, stop_origin, file_from}
+use Rattle.command_io.specs.declared.stop.Origin.{Origin}
+use Rattle.command_io.specs.declared.stop.Origin.TheVariants.{File, Known, Later, Input}
 use Rattle.command_io.specs.declared.stop.Stop.{Stop}
 use Rattle.command_io.specs.declared.stop.Stop.TheVariants.{NoCommand, Memory}
 use Rattle.fca_io.specs.Faults.{Rose}
 use Rattle.fca_io.specs.Shelves.{Told}
 use Rattle.fca_run.specs.Reports.{report_read}
-use Rattle.fca_run.specs.Outputs.{replay_output, other_output, output_by, output}
-use Rattle.fca_command.specs.Commands.{reported, files_by, files_of, first_of, reads_input, uses_link, may_end_open, is_plain}
+use Rattle.replay_command.specs.Replayed.{replay_output}
+use Rattle.fca_run.specs.Outputs.{other_output, output_by, output}
+use Rattle.fca_command.specs.Commands.{reported, files_by, files_of, first_of, reads_input, uses_link, is_plain}
 use Rattle.fca_command.specs.declared.command.Command.{Command}
 use Rattle.fca_command.specs.declared.command.Command.TheVariants.{Scale, Replay, Explore, Serve, Make, Survey}
 use Rattle.fca_run.specs.Endings.{Finishes, Ends, EndsBy, IsGiven, IsReadable, IsComplete, FaultRose, MayReachEnd, HasCourse, HasExplored, HasBegunExploring, HasServedExperts, HasBegunServing, MayListen, IsCommandStop, IsCallStop, fault_file, HasGivenBack}
 use Rattle.fca_io.specs.Links.{Ends as LinkEnds}
-use Rattle.explore_command.specs.Panels.{Panel, SomeRose, panel_read}
+use Rattle.explore_command.specs.Panels.{Panel, panel_read}
 use Rattle.explore_command.specs.Played.{Plays}
 use Rattle.serve_command.specs.Served.{GaveAllBack, Serves}
 use Rattle.command_io.proofs.ErrLemmas.{silent-apart, stop-silent}
@@ -108,23 +111,23 @@ module _ (n : ℕ) (rose out_rose link_rose : Type 0) (read : n ≡ 3 → rose) 
   panel-completes (Read p) (inl (inr eight)) given = inl (inr (inl eight))
   panel-completes (Read p) (inr cut) given = cut_off-completes cut
 
-  serving-completes : (reading : Reading NamedContext) → Serves reading n ⊎ IsCutOff n → IsGiven reading → Completes
+  serving-completes : (reading : Reading Start) → Serves reading n ⊎ IsCutOff n → IsGiven reading → Completes
   serving-completes Untold ends given = absurd given
   serving-completes Missing ends given = absurd given
   serving-completes Refused ends given = absurd given
-  serving-completes (Read table) (inl (inl seven)) given = inr (inr (inr (listen seven)))
-  serving-completes (Read table) (inl (inr whole)) given = inl (inr (inr whole))
-  serving-completes (Read table) (inr cut) given = cut_off-completes cut
+  serving-completes (Read start) (inl (inl seven)) given = inr (inr (inr (listen seven)))
+  serving-completes (Read start) (inl (inr whole)) given = inl (inr (inr whole))
+  serving-completes (Read start) (inr cut) given = cut_off-completes cut
 
   pub command-completes : (command : Command) (files : Text → Told) (input : Option Text) → EndsBy command files input n → IsReadable command files input → Completes
-  command-completes (Explore file experts) files input ends given = panel-completes (panel_read file experts files) ends given
-  command-completes (Serve file experts listen) files input ends given = serving-completes (table_read file (files file)) ends given
+  command-completes (Explore file known names experts) files input ends given = panel-completes (panel_read file known names experts files) ends given
+  command-completes (Serve file known experts holders listen) files input ends given = serving-completes (start_read file known files) ends given
   command-completes command files input ends given = output-completes (output command files input) ends given
 
 -- ---- want of memory for the words
 
 memory-ends : (command : Command) (files : Text → Told) (input : Option Text) (n : ℕ) → n ≡ 5 → EndsBy command files input n
-memory-ends (Explore file experts) files input n e = inr (inr (inr e))
+memory-ends (Explore file known names experts) files input n e = inr (inr (inr e))
 memory-ends _ files input n e = inr (inr (inr e))
 
 pub memory-status : (found : Option Command) (files : Text → Told) (input : Option Text) (n : ℕ) → n ≡ 5
@@ -153,7 +156,7 @@ module _ {E : Type 0} (left held : E → Option Text) (reads writes : E → ℕ)
   }
 
   given-by : (command : Command) (ends : Option (LinkEnds E)) (n : ℕ) → n ≡ 5 → HasGivenBack left held reads writes command ends ends n
-  given-by (Serve file experts listen) ends n e = none-given experts ends n e
+  given-by (Serve file known experts holders listen) ends n e = none-given experts ends n e
   given-by _ ends n e = tt
 
   pub memory-given : (found : Option Command) (ends : Option (LinkEnds E)) (n : ℕ) → n ≡ 5 → IfSome found (λ command. HasGivenBack left held reads writes command ends ends n)
@@ -219,15 +222,15 @@ played-not_six reading n (inr (inr (inr five))) six = omega arith
 
 -- they do not read the input, do not explore, and what is true of them holds of no other
 pub reads_input-reported : (command : Command) (file : Text) → reported command ≡ Some file → reads_input command ≡ false
-reads_input-reported (Replay f) file e = cc
+reads_input-reported (Replay f known) file e = cc
 reads_input-reported _ file e = refl
 
 pub course-reported : (command : Command) (file : Text) (files : Text → Told) (input : Option Text) → reported command ≡ Some file → HasCourse command files input
-course-reported (Replay f) file files input e = cc
+course-reported (Replay f known) file files input e = cc
 course-reported _ file files input e = tt
 
 pub end-reported : (command : Command) (file : Text) (left : Option Text) → reported command ≡ Some file → MayReachEnd command left
-end-reported (Replay f) file left e = cc
+end-reported (Replay f known) file left e = cc
 end-reported _ file left e = λ reads. cc
 
 pub on-any : {X F : Type 0} (r : Result X F) (P : Type 0) → P → OnOk r P
@@ -248,37 +251,48 @@ report-stops command file files input counts counts' a a' (Err s) e h =
     Stops (output_by found command files input) (SomeRose counts counts' (files_by found command) ⊎ ((reads_input command ≡ true) × Rose a a')) (stop_status s) in
     subst StopsBy e (record { refused = h.refused; fault = λ three. inl (inl (h.fault three)); others = h.others })
 
-replay-rose : (A B : Type 0) → A ⊎ B → (A ⊎ ⊥) ⊎ ((true ≡ true) × B)
-replay-rose A B (inl a) = inl (inl a)
+replay-rose : (A B : Type 0) → A ⊎ B → A ⊎ ((true ≡ true) × B)
+replay-rose A B (inl a) = inl a
 replay-rose A B (inr b) = inr (refl, b)
 
--- a replay stops for its file or for the input
-pub replay-stops : (file : Text) (files : Text → Told) (input : Option Text) (counts counts' : Text → ℕ) (a a' : ℕ) (r : Result Output Stop)
-    → IfErr r (λ stop. Stops (replay_output file files input) (Rose (counts file) (counts' file) ⊎ Rose a a') (stop_status stop))
-    → IfErr r (λ stop. Stops (other_output (Replay file) files input) (FaultRose (Replay file) counts counts' a a') (stop_status stop))
-replay-stops file files input counts counts' a a' (Ok x) h = tt
-replay-stops file files input counts counts' a a' (Err s) h =
+-- a replay stops for its files or for the input
+pub replay-stops : (file : Text) (known : Option Text) (files : Text → Told) (input : Option Text) (counts counts' : Text → ℕ) (a a' : ℕ) (r : Result Output Stop)
+    → IfErr r (λ stop. Stops (replay_output file known files input) (SomeRose counts counts' (file ∷ option_to_list known) ⊎ Rose a a') (stop_status stop))
+    → IfErr r (λ stop. Stops (other_output (Replay file known) files input) (FaultRose (Replay file known) counts counts' a a') (stop_status stop))
+replay-stops file known files input counts counts' a a' (Ok x) h = tt
+replay-stops file known files input counts counts' a a' (Err s) h =
     record { refused = h.refused; fault = λ three. replay-rose _ _ (h.fault three); others = h.others }
+
+-- a count of faults rose for one of both lists of files
+pub SomeRose-append : (counts counts' : Text → ℕ) (xs ys : List Text) → SomeRose counts counts' xs ⊎ SomeRose counts counts' ys → SomeRose counts counts' (xs ++ ys)
+SomeRose-append counts counts' [] ys (inl rose) = absurd rose
+SomeRose-append counts counts' [] ys (inr rose) = rose
+SomeRose-append counts counts' (x ∷ xs) ys (inl (inl rose)) = inl rose
+SomeRose-append counts counts' (x ∷ xs) ys (inl (inr rose)) = inr (SomeRose-append counts counts' xs ys (inl rose))
+SomeRose-append counts counts' (x ∷ xs) ys (inr rose) = inr (SomeRose-append counts counts' xs ys (inr rose))
 
 -- ---- what is told
 
-pub one_file : (file : Text) (place : Option ℕ) → later_file file [] place ≡ file
-one_file file None = refl
-one_file file (Some place) = refl
+one_file : (file : Text) (origin : Origin) → file_from file None [] origin ≡ file
+one_file file File = refl
+one_file file Known = refl
+one_file file (Later place) = refl
+one_file file Input = refl
 
--- whether the command reads a plan behind its first file
-abbrev pub reads_plan : Command → Bool
-reads_plan (Scale values plan) = true
-reads_plan _ = false
+-- whether the command may read a file behind its first
+abbrev pub reads_more : Command → Bool
+reads_more (Scale values plan) = true
+reads_more (Replay file known) = true
+reads_more _ = false
 
--- the file at fault is the one of the command, where it waits for nobody and reads no plan
-pub fault_file-one : (command : Command) → is_plain command ≡ true → reads_plan command ≡ false → (stop : Stop) → fault_file (Some command) stop ≡ first_of (files_of command)
+-- the file at fault is the one of the command, where it waits for nobody and reads no other
+pub fault_file-one : (command : Command) → is_plain command ≡ true → reads_more command ≡ false → (stop : Stop) → fault_file (Some command) stop ≡ first_of (files_of command)
 fault_file-one (Scale values plan) plain one stop = cc
-fault_file-one (Explore file experts) plain one stop = cc
-fault_file-one (Serve file experts listen) plain one stop = cc
-fault_file-one (Make s o m d) plain one stop = refl
+fault_file-one (Replay file known) plain one stop = cc
+fault_file-one (Explore file known names experts) plain one stop = cc
+fault_file-one (Serve file known experts holders listen) plain one stop = cc
 fault_file-one (Survey s o m d experts) plain one stop = cc
-fault_file-one _ plain one stop = one_file _ (stop_later stop)
+fault_file-one _ plain one stop = one_file _ (stop_origin stop)
 
 -- the line of a stop names this file, which is the one at fault
 pub told-at : (Told : Text → Type 0) (file : Text) (file_at_fault : Stop → Text) (answer : Result Output Stop) → IfErr answer (λ stop. file ≡ file_at_fault stop)
@@ -286,19 +300,12 @@ pub told-at : (Told : Text → Type 0) (file : Text) (file_at_fault : Stop → T
 told-at Told file file_at_fault (Ok o) same told = tt
 told-at Told file file_at_fault (Err s) same told = let ToldOf : Text → Type 0 = λ f. Told (stop_line f s) in subst ToldOf same told
 
-pub told-by : (Told : Text → Type 0) (MayCome : Stop → Type 0) (f g : Stop → Text) (n : ℕ) → ((stop : Stop) → f stop ≡ g stop) → IsTold Told MayCome f n → IsTold Told MayCome g n
-told-by Told MayCome f g n same told = record {
-  stop = λ silent. let t = told.stop silent in let ToldOf : Text → Type 0 = λ file. Told (stop_line file t.0) in (t.0, t.1, t.2, subst ToldOf (same t.0) t.3);
-  fault = told.fault;
-  spent = told.spent;
-}
-
 -- want of memory may come of each call
 memory-comes_of : (command : Command) (files : Text → Told) (input : Option Text) → IsCommandStop command files input Memory
 memory-comes_of (Scale values plan) files input = inl tt
-memory-comes_of (Replay file) files input = inl tt
-memory-comes_of (Explore file experts) files input = inl tt
-memory-comes_of (Serve file experts listen) files input = inl tt
+memory-comes_of (Replay file known) files input = inl (inl tt)
+memory-comes_of (Explore file known names experts) files input = inl (inl tt)
+memory-comes_of (Serve file known experts holders listen) files input = inl (inl tt)
 memory-comes_of (Make s o m d) files input = refl
 memory-comes_of (Survey s o m d experts) files input = refl
 memory-comes_of _ files input = inl tt
@@ -329,35 +336,35 @@ finished-not_six o n finished (inr (inr (inr five))) six = omega arith
 -- ---- commands that wait for nobody: what is said of explorations and sessions does not speak of them
 
 pub plain-EndsBy : (command : Command) (files : Text → Told) (input : Option Text) (n : ℕ) → is_plain command ≡ true → Ends (output command files input) n → EndsBy command files input n
-plain-EndsBy (Explore file experts) files input n plain ends = cc
-plain-EndsBy (Serve file experts listen) files input n plain ends = cc
+plain-EndsBy (Explore file known names experts) files input n plain ends = cc
+plain-EndsBy (Serve file known experts holders listen) files input n plain ends = cc
 plain-EndsBy _ files input n plain ends = ends
 
 pub plain-HasExplored : (command : Command) (files : Text → Told) (Gained : Text → Type 0) (n : ℕ) → is_plain command ≡ true → HasExplored command files Gained n
-plain-HasExplored (Explore file experts) files Gained n plain = cc
+plain-HasExplored (Explore file known names experts) files Gained n plain = cc
 plain-HasExplored _ files Gained n plain = tt
 
 pub plain-HasBegunExploring : (command : Command) (files : Text → Told) (Gained : Text → Type 0) → is_plain command ≡ true → HasBegunExploring command files Gained
-plain-HasBegunExploring (Explore file experts) files Gained plain = cc
+plain-HasBegunExploring (Explore file known names experts) files Gained plain = cc
 plain-HasBegunExploring _ files Gained plain = tt
 
 pub plain-MayListen : (command : Command) (listens : Bool) (at : Option Text) → is_plain command ≡ true → MayListen command listens at
-plain-MayListen (Serve file experts listen) listens at plain = cc
+plain-MayListen (Serve file known experts holders listen) listens at plain = cc
 plain-MayListen _ listens at plain = tt
 
 module _ {E : Type 0} (left held : E → Option Text) (reads writes : E → ℕ) where
   pub plain-HasServedExperts : (command : Command) (files : Text → Told) (Gained : Text → Type 0) (old new : Option (LinkEnds E)) (n : ℕ) → is_plain command ≡ true
       → HasServedExperts left held reads writes command files Gained old new n
-  plain-HasServedExperts (Serve file experts listen) files Gained old new n plain = cc
+  plain-HasServedExperts (Serve file known experts holders listen) files Gained old new n plain = cc
   plain-HasServedExperts _ files Gained old new n plain = tt
 
   pub plain-HasBegunServing : (command : Command) (files : Text → Told) (Gained : Text → Type 0) (old new : Option (LinkEnds E)) → is_plain command ≡ true
       → HasBegunServing left held reads writes command files Gained old new
-  plain-HasBegunServing (Serve file experts listen) files Gained old new plain = cc
+  plain-HasBegunServing (Serve file known experts holders listen) files Gained old new plain = cc
   plain-HasBegunServing _ files Gained old new plain = tt
 
   pub plain-HasGivenBack : (command : Command) (old new : Option (LinkEnds E)) (n : ℕ) → is_plain command ≡ true → HasGivenBack left held reads writes command old new n
-  plain-HasGivenBack (Serve file experts listen) old new n plain = cc
+  plain-HasGivenBack (Serve file known experts holders listen) old new n plain = cc
   plain-HasGivenBack _ old new n plain = tt
 
 -- ---- want of memory for the words, and calls that complete

@@ -1,4 +1,2 @@
-pub mod ReplayLemmas
-pub mod CourseLemmas
 pub mod EndingLemmas
 pub mod ScalingLemmas

@@ -1,23 +1,19 @@
 -- What each command writes.
-use Rattle.std.specs.Prelude.{Option, Some, None, List, length, nat_lt}
-use Rattle.fca_model.specs.Tables.{Text, NamedContext}
-use Rattle.fca_model.specs.declared.TheConstants.{MAX_EXPERTS}
-use Rattle.fca_model.specs.Exploration.{SetEvent, journal_of}
+use Rattle.std.specs.Prelude.{Option, Some, None}
+use Rattle.fca_model.specs.Tables.{Text}
 use Rattle.fca_io.specs.Shelves.{Told}
 use Rattle.context_scaling.specs.Scaling.{scaled}
-use Rattle.explore_state.specs.History.{opening_state}
-use Rattle.basis_report.specs.Explorations.{explore_text}
 use Rattle.fca_command.specs.Commands.{reported}
 use Rattle.fca_command.specs.declared.recipe.Recipe.{Recipe}
 use Rattle.fca_command.specs.declared.command.Command.{Command}
 use Rattle.fca_command.specs.declared.command.Command.TheVariants.{Scale, Replay, Make, Survey}
 use Rattle.command_io.specs.Readings.{Reading, then}
 use Rattle.command_io.specs.Readings.Reading.{Untold, Read}
-use Rattle.command_io.specs.Forms.{table_read, values_read, plan_read, script_read}
+use Rattle.command_io.specs.Forms.{values_read, plan_read}
 use Rattle.command_io.specs.Endings.{Output, finished}
-use Rattle.command_io.specs.Explorations.{Recorded, opening_of, open_at}
 use Rattle.cxt_format.specs.Written.{cxt_text}
 use Rattle.explore_command.specs.Surveyed.{made, surveyed_text}
+use Rattle.replay_command.specs.Replayed.{replay_output}
 use Rattle.fca_run.specs.Reports.{report_read}
 
 -- ---- tables of values
@@ -28,25 +24,6 @@ scale_output values plan files =
     then (values_read (files values)) (λ t.
     then (plan_read t (files plan)) (λ p.
     Read (finished (cxt_text (scaled t p)))))
-
--- ---- replays
-
--- the exploration of the table by the events
-abbrev pub explored : NamedContext → List SetEvent → Recorded
-explored table events = record { opening = opening_of table MAX_EXPERTS; journal = journal_of (opening_state (opening_of table MAX_EXPERTS)) events }
-
--- the exploration that `replay` records
-abbrev pub replayed : Text → (Text → Told) → Option Text → Reading Recorded
-replayed file files input =
-    then (table_read file (files file)) (λ table. then (script_read table.context.width input) (λ events. Read (explored table events)))
-
--- the text of an exploration
-abbrev pub exploration_output : Recorded → Output
-exploration_output r = record { text = explore_text r.opening.table r.opening.settings r.journal; is_open = nat_lt 0 (length (open_at r)) }
-
--- what `replay` writes
-abbrev pub replay_output : Text → (Text → Told) → Option Text → Reading Output
-replay_output file files input = then (replayed file files input) (λ r. Read (exploration_output r))
 
 -- ---- tables that are made
 
@@ -64,7 +41,7 @@ survey_output recipe = finished (surveyed_text (made recipe))
 -- tell nothing
 abbrev pub other_output : Command → (Text → Told) → Option Text → Reading Output
 other_output (Scale values plan) files input = scale_output values plan files
-other_output (Replay file) files input = replay_output file files input
+other_output (Replay file known) files input = replay_output file known files input
 other_output (Make s o m d) files input = Read (made_output (record { seed = s; objects = o; attributes = m; density = d }))
 other_output (Survey s o m d experts) files input = Read (survey_output (record { seed = s; objects = o; attributes = m; density = d }))
 other_output _ files input = Untold

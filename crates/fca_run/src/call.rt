@@ -13,14 +13,14 @@ ghost use Rattle.command_io.specs.ErrLines.{stop_line, GainsLine, IsTold};
 ghost use Rattle.fca_run.specs.Endings.{Ends, EndsBy, IsReadable, IsComplete, FaultRose, MayReachEnd, HasCourse, HasExplored, HasBegunExploring, LinkFaultRose, IsCommandStop, IsOtherStop, IsCallStop, fault_file, MayListen, HasServedExperts, HasBegunServing, HasGivenBack};
 
 use crate::made::{made_answer, run_survey};
-use crate::replay::replay;
 use crate::reports::report_answer;
 use crate::scaling::scale_answer;
-use command_io::{Answer, Stop, conclude, report};
+use command_io::{Answer, Origin, Stop, conclude, file_at_fault, report};
 use explore_command::explore;
 use fca_command::{Command, Recipe, command_of};
 use fca_io::{Listener, Shelf, Sink, Source};
 use fca_model::{Memory, Word};
+use replay_command::replay;
 use serve_command::serve;
 use std::alloc::Global;
 use std::sync::Wait;
@@ -73,8 +73,8 @@ pub fn run<R: Threads + Wait + Sync, H: Shelf, S: Source, K: Sink, E: Sink, L: L
         (AppendsFront (K.held out.old) (K.held out.new)) (L.ends link.old) (L.ends link.new)) }
     ensures no_output { IsSilent result → out.new ≡ out.old }
 
-    // The questions written as open are the smallest pseudo-intents that are not accepted; where none is, the accepted
-    // implications are the basis of the recorded context.
+    // The questions written as open are the smallest pseudo-intents, relative to what is known, that are not accepted; where none
+    // is, the accepted implications are the basis of the recorded context beside what is known. The text spells its own history.
     ensures explored { IsWhole result → IfSome (command_form words.now) (λ command. HasCourse command (H.tells shelf.old) (S.left input.old)) }
 
     // What else was touched.
@@ -154,14 +154,41 @@ fn run_command<R: Threads + Wait + Sync, H: Shelf, S: Source, K: Sink, E: Sink, 
         (IsCommandStop command.now (H.tells shelf.old) (S.left input.old)) (fault_file (Some command.now)) result }
 {
     match command {
-        Command::Explore { file, experts } => {
-            explore(rt, alloc, shelf, file, experts.as_slice(), out, err)
-        }
+        Command::Explore {
+            file,
+            known,
+            names,
+            experts,
+        } => explore(
+            rt,
+            alloc,
+            shelf,
+            file,
+            known.as_ref(),
+            *names,
+            experts.as_slice(),
+            out,
+            err,
+        ),
         Command::Serve {
             file,
+            known,
             experts,
+            holders,
             listen,
-        } => serve(rt, alloc, shelf, file, *experts, listen, out, err, link),
+        } => serve(
+            rt,
+            alloc,
+            shelf,
+            file,
+            known.as_ref(),
+            *experts,
+            *holders,
+            listen,
+            out,
+            err,
+            link,
+        ),
         Command::Survey {
             seed,
             objects,
@@ -205,8 +232,8 @@ pub fn run_plain<R: Threads + Sync, H: Shelf, S: Source, K: Sink, E: Sink>(
     ensures partial_output { result ≡ 4 → IfRead (output command.now (H.tells shelf.old) (S.left input.old)) (λ o. AppendsFront (K.held out.old) (K.held out.new) o.text) }
     ensures no_output { IsSilent result → out.new ≡ out.old }
 
-    // The questions written as open are the smallest pseudo-intents that are not accepted; where none is, the accepted
-    // implications are the basis of the recorded context.
+    // The questions written as open are the smallest pseudo-intents, relative to what is known, that are not accepted; where none
+    // is, the accepted implications are the basis of the recorded context beside what is known. The text spells its own history.
     ensures explored { IsWhole result → HasCourse command.now (H.tells shelf.old) (S.left input.old) }
 
     // What else was touched.
@@ -219,12 +246,12 @@ pub fn run_plain<R: Threads + Sync, H: Shelf, S: Source, K: Sink, E: Sink>(
         (IsCommandStop command.now (H.tells shelf.old) (S.left input.old)) (fault_file (Some command.now)) result }
 {
     let answer = answer_to(rt, alloc, command, shelf, input);
-    let file = file_at_fault(command, &answer);
+    let file = name_at_fault(command, &answer);
     conclude(answer, file, out, err)
 }
 
 /// The name of the file at fault where there is no answer, or no byte.
-fn file_at_fault<'a>(command: &'a Command, answer: &Result<Answer, Stop>) -> &'a [u8]
+fn name_at_fault<'a>(command: &'a Command, answer: &Result<Answer, Stop>) -> &'a [u8]
     requires { is_plain command.now ≡ true }
     ensures { IfErr answer.now (λ stop. result.now ≡ fault_file (Some command.now) stop) }
 {
@@ -240,10 +267,11 @@ fn file_of<'a>(command: &'a Command, stop: &Stop) -> &'a [u8]
     ensures { result.now ≡ fault_file (Some command.now) stop.now }
 {
     match command {
-        Command::Scale { values, plan } => match stop.later() {
-            Some(0) => plan.bytes(),
+        Command::Scale { values, plan } => match stop.origin() {
+            Origin::Later(0) => plan.bytes(),
             _ => values.bytes(),
         },
+        Command::Replay { file, known } => file_at_fault(stop, file, known.as_ref(), &[]),
         _ => command.first_file(),
     }
 }
@@ -294,7 +322,7 @@ fn other_answer<H: Shelf, S: Source>(
 {
     match command {
         Command::Scale { values, plan } => scale_answer(alloc, shelf, values, plan),
-        Command::Replay { file } => replay(alloc, shelf, input, file),
+        Command::Replay { file, known } => replay(alloc, shelf, input, file, known.as_ref()),
         Command::Make {
             seed,
             objects,

@@ -3,7 +3,6 @@
 
 mod call;
 mod made;
-mod replay;
 mod reports;
 mod scaling;
 

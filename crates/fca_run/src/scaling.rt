@@ -3,9 +3,8 @@
 ghost use Rattle.std.specs.Prelude.{◌≡◌, [], ◌∷◌, false, IfOk, IfErr};
 ghost use Rattle.context_scaling.specs.Scaling.{Fits, scaled};
 ghost use Rattle.cxt_format.specs.Written.{cxt_text};
-ghost use Rattle.command_io.specs.Readings.{MayRead};
+ghost use Rattle.command_io.specs.Readings.{MayRead, SomeRose};
 ghost use Rattle.command_io.specs.Endings.{stop_status, Stops};
-ghost use Rattle.explore_command.specs.Panels.{SomeRose};
 ghost use Rattle.fca_run.specs.Outputs.{scale_output};
 ghost use Rattle.fca_run.specs.Endings.{IsScaleStop};
 

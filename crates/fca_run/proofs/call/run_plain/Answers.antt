@@ -1,4 +1,4 @@
-use Rattle.std.proofs.Common.{◌≡◌, ℕ, Some}
+use Rattle.std.proofs.Common.{Some}
 use Rattle.std.specs.Io.KnownBytes.{Appends}
 use Rattle.fca_io.specs.Transfers.{AppendsFront}
 use Rattle.fca_model.specs.Tables.{Text}
@@ -6,7 +6,6 @@ use Rattle.command_io.specs.ErrLines.{GainsLine}
 use Rattle.command_io.proofs.ErrLemmas.{conclude-told}
 use Rattle.command_io.specs.declared.stop.Stop.{Stop}
 use Rattle.fca_run.specs.Endings.{IsCommandStop, fault_file}
-use Rattle.fca_run.specs.Outputs.{output}
 use Rattle.fca_run.proofs.EndingLemmas.{whole-gained, front-gained, call-ends, told-at, call-open}
 use Rattle.fca_run.proofs.call.run_plain.Goals as goal
 
@@ -30,7 +29,7 @@ returns-clause-told g c =
     let MayCome : Stop → Type 0 = IsCommandStop c.args.command.now (g.H.Shelf.tells c.args.shelf.now) (g.S.Source.left c.args.input.now) in
     let at_fault : Stop → Text = fault_file (Some c.args.command.now) in
     conclude-told Told MayCome at_fault answer c.conclude.result end.answered end.stopped c.answer_to-answer.ensures.cause
-    (told-at Told c.file_at_fault-file.result.now at_fault answer c.file_at_fault-file.ensures end.told) end.told_fault
+    (told-at Told c.name_at_fault-file.result.now at_fault answer c.name_at_fault-file.ensures end.told) end.told_fault
 
 pub returns-clause-open : goal.returns-clause-open
 returns-clause-open g c = λ six. call-open _ c.answer_to-answer.result c.conclude.result c.answer_to-answer.ensures.open c.conclude.ensures.answered c.conclude.ensures.stopped six

@@ -7,7 +7,6 @@ use Rattle.command_io.specs.Readings.Reading.{Read}
 use Rattle.command_io.specs.Endings.{Output}
 use Rattle.command_io.specs.ErrLines.{GainsLine}
 use Rattle.command_io.proofs.ErrLemmas.{conclude-told}
-use Rattle.command_io.specs.declared.stop.Stop.{Stop}
 use Rattle.command_io.specs.declared.stop.Stop.TheVariants.{Memory}
 use Rattle.fca_run.specs.Outputs.{survey_output}
 use Rattle.fca_run.proofs.EndingLemmas.{call-ends, whole-gained, front-gained, memory-stops}
