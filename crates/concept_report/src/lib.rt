@@ -1,6 +1,7 @@
 //! The text of the concepts of a table, and of its lattice, written as the intents are met.
 #![tactic(auto)]
 
+mod block;
 mod branch;
 mod cover_lines;
 mod judge;

@@ -6,7 +6,7 @@ ghost use Rattle.expert_wire.specs.Texts.{listed, names_of};
 ghost use Rattle.basis_report.specs.Reports.{names_at};
 
 use crate::names::{attribute_pieces, object_pieces};
-use crate::pieces::{PIECE_BYTES, PIECE_ROOM, Piece};
+use crate::pieces::{PIECE_BYTES, PIECE_ROOM, Pieces};
 use attr_bits::Bits;
 use context_table::Table;
 use derivation::RowsOf;
@@ -19,8 +19,8 @@ use std::marker::Model;
 pub(crate) struct Sheet<'a, const W: usize> {
     table: &'a Table,
     rows: &'a RowsOf<W>,
-    attributes: Vec<Piece>,
-    objects: Vec<Piece>,
+    attributes: Pieces,
+    objects: Pieces,
 }
 
 impl<'a, const W: usize> Model for Sheet<'a, W> {
@@ -34,8 +34,8 @@ impl<'a, const W: usize> Model for Sheet<'a, W> {
 
     ghost invariant = { λ s. record {
       rows : s.rows.now ≡ s.table.now.context;
-      attributes : s.attributes.items ≡ map parted s.table.now.attributes;
-      objects : s.objects.items ≡ map parted s.table.now.objects;
+      attributes : s.attributes ≡ map parted s.table.now.attributes;
+      objects : s.objects ≡ map parted s.table.now.objects;
       each_attribute : length s.table.now.attributes ≡ s.table.now.context.width;
       each_object : length s.table.now.objects ≡ length s.table.now.context.rows;
     } };
@@ -96,7 +96,7 @@ impl<'a, const W: usize> Sheet<'a, W> {
 
 /// Puts the pieces of the members down, and tells where they end.
 fn put_members<const W: usize>(
-    pieces: &[Piece],
+    pieces: &Pieces,
     text: &mut [u8],
     start: usize,
     set: &Bits<W>,
@@ -112,14 +112,14 @@ fn put_members<const W: usize>(
     let mut end = start;
     let mut from = 0;
     while let Some(member) = set.next_member(from) {
-        end = pieces[member as usize].put(text, end);
+        end = pieces.put(member as usize, text, end);
         from = member + 1;
     }
     end
 }
 
 /// Puts the pieces at these places down, and tells where they end.
-fn put_places(pieces: &[Piece], text: &mut [u8], start: usize, places: &[usize]) -> usize
+fn put_places(pieces: &Pieces, text: &mut [u8], start: usize, places: &[usize]) -> usize
     requires inside { All (λ p. p < length pieces.now) places.now }
     requires room { start + PIECE_ROOM * length places.now ≤ length text.old }
     ensures text { take result text.new ≡ take start text.old ++ concat (names_at pieces.now places.now) }
@@ -129,7 +129,7 @@ fn put_places(pieces: &[Piece], text: &mut [u8], start: usize, places: &[usize])
 {
     let mut end = start;
     for place in places {
-        end = pieces[*place].put(text, end);
+        end = pieces.put(*place, text, end);
     }
     end
 }
