@@ -3,6 +3,7 @@
 
 mod block;
 mod branch;
+mod columns;
 mod cover_lines;
 mod judge;
 mod lines;

@@ -4,7 +4,9 @@ ghost use Rattle.std.specs.Prelude.{◌≡◌, ◌+◌, ◌-◌, ◌*◌, ◌≤
 ghost use Rattle.std.specs.List.{concat};
 ghost use Rattle.expert_wire.specs.Texts.{listed, names_of};
 ghost use Rattle.basis_report.specs.Reports.{names_at};
+ghost use Rattle.concept_report.specs.Places.{column};
 
+use crate::columns::{Objects, columns_of};
 use crate::names::{attribute_pieces, object_pieces};
 use crate::pieces::{PIECE_BYTES, PIECE_ROOM, Pieces};
 use attr_bits::Bits;
@@ -14,17 +16,20 @@ use fca_model::Memory;
 use std::alloc::Global;
 use std::marker::Model;
 
-/// A table, its rows in W words each, and its names as pieces.
+/// A table, its rows in W words each, the objects of each attribute, and its names as pieces.
 #[derive(Drop)]
 pub(crate) struct Sheet<'a, const W: usize> {
     table: &'a Table,
     rows: &'a RowsOf<W>,
+    columns: Vec<Objects>,
     attributes: Pieces,
     objects: Pieces,
 }
 
 impl<'a, const W: usize> Model for Sheet<'a, W> {
     ghost use Rattle.std.specs.Prelude.{◌≡◌, map, length};
+    ghost use Rattle.std.specs.List.{range_with_len};
+    ghost use Rattle.concept_report.specs.Places.{column};
     ghost use Rattle.fca_model.specs.Tables.{NamedContext};
     ghost use Rattle.concept_report.specs.Listing.{parted};
 
@@ -34,6 +39,7 @@ impl<'a, const W: usize> Model for Sheet<'a, W> {
 
     ghost invariant = { λ s. record {
       rows : s.rows.now ≡ s.table.now.context;
+      columns : s.columns.items ≡ map (column s.table.now.context.rows) (range_with_len 0 s.table.now.context.width);
       attributes : s.attributes ≡ map parted s.table.now.attributes;
       objects : s.objects ≡ map parted s.table.now.objects;
       each_attribute : length s.table.now.attributes ≡ s.table.now.context.width;
@@ -55,6 +61,7 @@ impl<'a, const W: usize> Sheet<'a, W> {
         Ok(Sheet {
             table,
             rows,
+            columns: columns_of(alloc, rows)?,
             attributes: attribute_pieces(alloc, table)?,
             objects: object_pieces(alloc, table)?,
         })
@@ -65,6 +72,14 @@ impl<'a, const W: usize> Sheet<'a, W> {
         ensures { result.now ≡ self.now.context }
     {
         self.rows
+    }
+
+    /// The objects that have attribute i.
+    pub(crate) fn column(&self, i: u32) -> &Objects
+        requires { i < self.now.context.width }
+        ensures { result.now ≡ column self.now.context.rows i }
+    {
+        &self.columns[i as usize]
     }
 
     /// Puts the names of the attributes in the set down, and tells where they end.
