@@ -1,4 +1,5 @@
 pub mod ListingLemmas
+pub mod PieceLemmas
 pub mod PlaceLemmas
 pub mod LineLemmas
 pub mod JudgeLemmas

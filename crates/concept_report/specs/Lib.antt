@@ -1,4 +1,5 @@
 pub mod Listing
+pub mod Pieces
 pub mod Lines
 pub mod Places
 pub mod Pages

@@ -101,7 +101,7 @@ fn child_at<const W: usize>(
 {
     let rows = sheet.rows();
     let _width = rows.width();
-    let count = keep_having(rows, places, i, found);
+    let count = keep_having(sheet.column(i), places, found);
     let closed = closure_at(rows, &found[..count], &a.with(i));
     if is_child(sheet, a, i, &closed, seen) {
         return Some(Child {

@@ -1,7 +1,9 @@
 //! The text of the concepts of a table, and of its lattice, written as the intents are met.
 #![tactic(auto)]
 
+mod block;
 mod branch;
+mod columns;
 mod cover_lines;
 mod judge;
 mod lines;

@@ -3,41 +3,46 @@
 ghost use Rattle.std.specs.Prelude.{◌≡◌, ◌≤◌, map, length, IfOk};
 ghost use Rattle.concept_report.specs.Listing.{parted};
 
-use crate::pieces::Piece;
+use crate::pieces::{Pieces, block_of, tail_of};
 use context_table::Table;
 use fca_model::{MAX_NAME_BYTES, Memory};
 use std::alloc::Global;
 
 /// The names of the attributes.
-pub(crate) fn attribute_pieces(alloc: Global, table: &Table) -> Result<Vec<Piece>, Memory>
-    ensures { IfOk result (λ pieces. pieces.items ≡ map parted table.now.attributes) }
+pub(crate) fn attribute_pieces(alloc: Global, table: &Table) -> Result<Pieces, Memory>
+    ensures { IfOk result (λ pieces. pieces ≡ map parted table.now.attributes) }
 {
     let width = table.rows().width();
-    let mut pieces = Vec::with_capacity(alloc, width as usize)?;
+    let mut blocks = Vec::with_capacity(alloc, width as usize)?;
+    let mut tails = Vec::with_capacity(alloc, width as usize)?;
     for attribute in 0..width {
-        pieces.push(piece_of(alloc, table.attribute_name(attribute).bytes())?)?;
+        let text = parted(alloc, table.attribute_name(attribute).bytes())?;
+        blocks.push(block_of(&text))?;
+        tails.push(tail_of(alloc, &text)?)?;
     }
-    Ok(pieces)
+    Ok(Pieces::new(blocks, tails))
 }
 
 /// The names of the objects.
-pub(crate) fn object_pieces(alloc: Global, table: &Table) -> Result<Vec<Piece>, Memory>
-    ensures { IfOk result (λ pieces. pieces.items ≡ map parted table.now.objects) }
+pub(crate) fn object_pieces(alloc: Global, table: &Table) -> Result<Pieces, Memory>
+    ensures { IfOk result (λ pieces. pieces ≡ map parted table.now.objects) }
 {
     let count = table.rows().len();
-    let mut pieces = Vec::with_capacity(alloc, count)?;
+    let mut blocks = Vec::with_capacity(alloc, count)?;
+    let mut tails = Vec::with_capacity(alloc, count)?;
     for object in 0..count {
-        pieces.push(piece_of(alloc, table.object(object).bytes())?)?;
+        let text = parted(alloc, table.object(object).bytes())?;
+        blocks.push(block_of(&text))?;
+        tails.push(tail_of(alloc, &text)?)?;
     }
-    Ok(pieces)
+    Ok(Pieces::new(blocks, tails))
 }
 
 /// The name with a comma and a space behind it.
-fn piece_of(alloc: Global, name: &[u8]) -> Result<Piece, Memory>
-    requires { length name.now ≤ MAX_NAME_BYTES }
-    ensures { IfOk result (λ piece. piece ≡ parted name.now) }
+fn parted(alloc: Global, name: &[u8]) -> Result<Vec<u8>, Memory>
+    ensures { IfOk result (λ text. text.items ≡ parted name.now) }
 {
     let mut text = Vec::from_slice(alloc, name)?;
     text.extend_from_slice(b", ")?;
-    Piece::new(alloc, &text)
+    Ok(text)
 }

@@ -1,33 +1,26 @@
-//! The rows that have an attribute, among those at some places, and what rows at places share.
+//! The places of the objects that have an attribute, among some places, and what the rows at places share.
 
-ghost use Rattle.std.specs.Prelude.{◌≡◌, ◌≤◌, ◌<◌, All, length, take, filter};
+ghost use Rattle.std.specs.Prelude.{◌≡◌, ◌≤◌, ◌<◌, false, All, length, take, filter, slice_index_or};
 ghost use Rattle.fca_model.specs.Context.{closure, extent};
-ghost use Rattle.concept_report.specs.Places.{has_at};
 
+use crate::columns::Objects;
 use attr_bits::Bits;
 use derivation::RowsOf;
 
-/// Puts those of the places whose rows have attribute i into the front of `found`, and tells how many they are. Each place is put down, and the next one
+/// Puts those of the places that are in the column into the front of `found`, and tells how many they are. Each place is put down, and the next one
 /// comes behind it only if it stays, so no step waits for a test.
-pub(crate) fn keep_having<const W: usize>(
-    rows: &RowsOf<W>,
-    places: &[usize],
-    i: u32,
-    found: &mut [usize],
-) -> usize
-    requires attribute { i < rows.now.width }
-    requires inside { All (λ p. p < length rows.now.rows) places.now }
+pub(crate) fn keep_having(column: &Objects, places: &[usize], found: &mut [usize]) -> usize
+    requires inside { All (λ p. p < length column.now) places.now }
     requires room { length places.now ≤ length found.old }
-    ensures found { take result found.new ≡ filter (has_at rows.now.rows i) places.now }
+    ensures found { take result found.new ≡ filter (λ p. slice_index_or column.now p false) places.now }
     ensures few { result ≤ length places.now }
     ensures room { length found.new ≡ length found.old }
 {
-    let _width = rows.width();
-    let all = rows.as_slice();
+    let _objects = column.width();
     let mut count = 0;
     for place in places {
         found[count] = *place;
-        if all[*place].has(i) {
+        if column.has(*place as u32) {
             count += 1;
         }
     }

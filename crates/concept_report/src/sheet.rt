@@ -4,9 +4,11 @@ ghost use Rattle.std.specs.Prelude.{◌≡◌, ◌+◌, ◌-◌, ◌*◌, ◌≤
 ghost use Rattle.std.specs.List.{concat};
 ghost use Rattle.expert_wire.specs.Texts.{listed, names_of};
 ghost use Rattle.basis_report.specs.Reports.{names_at};
+ghost use Rattle.concept_report.specs.Places.{column};
 
+use crate::columns::{Objects, columns_of};
 use crate::names::{attribute_pieces, object_pieces};
-use crate::pieces::{PIECE_BYTES, PIECE_ROOM, Piece};
+use crate::pieces::{PIECE_BYTES, PIECE_ROOM, Pieces};
 use attr_bits::Bits;
 use context_table::Table;
 use derivation::RowsOf;
@@ -14,17 +16,20 @@ use fca_model::Memory;
 use std::alloc::Global;
 use std::marker::Model;
 
-/// A table, its rows in W words each, and its names as pieces.
+/// A table, its rows in W words each, the objects of each attribute, and its names as pieces.
 #[derive(Drop)]
 pub(crate) struct Sheet<'a, const W: usize> {
     table: &'a Table,
     rows: &'a RowsOf<W>,
-    attributes: Vec<Piece>,
-    objects: Vec<Piece>,
+    columns: Vec<Objects>,
+    attributes: Pieces,
+    objects: Pieces,
 }
 
 impl<'a, const W: usize> Model for Sheet<'a, W> {
     ghost use Rattle.std.specs.Prelude.{◌≡◌, map, length};
+    ghost use Rattle.std.specs.List.{range_with_len};
+    ghost use Rattle.concept_report.specs.Places.{column};
     ghost use Rattle.fca_model.specs.Tables.{NamedContext};
     ghost use Rattle.concept_report.specs.Listing.{parted};
 
@@ -34,8 +39,9 @@ impl<'a, const W: usize> Model for Sheet<'a, W> {
 
     ghost invariant = { λ s. record {
       rows : s.rows.now ≡ s.table.now.context;
-      attributes : s.attributes.items ≡ map parted s.table.now.attributes;
-      objects : s.objects.items ≡ map parted s.table.now.objects;
+      columns : s.columns.items ≡ map (column s.table.now.context.rows) (range_with_len 0 s.table.now.context.width);
+      attributes : s.attributes ≡ map parted s.table.now.attributes;
+      objects : s.objects ≡ map parted s.table.now.objects;
       each_attribute : length s.table.now.attributes ≡ s.table.now.context.width;
       each_object : length s.table.now.objects ≡ length s.table.now.context.rows;
     } };
@@ -55,6 +61,7 @@ impl<'a, const W: usize> Sheet<'a, W> {
         Ok(Sheet {
             table,
             rows,
+            columns: columns_of(alloc, rows)?,
             attributes: attribute_pieces(alloc, table)?,
             objects: object_pieces(alloc, table)?,
         })
@@ -65,6 +72,14 @@ impl<'a, const W: usize> Sheet<'a, W> {
         ensures { result.now ≡ self.now.context }
     {
         self.rows
+    }
+
+    /// The objects that have attribute i.
+    pub(crate) fn column(&self, i: u32) -> &Objects
+        requires { i < self.now.context.width }
+        ensures { result.now ≡ column self.now.context.rows i }
+    {
+        &self.columns[i as usize]
     }
 
     /// Puts the names of the attributes in the set down, and tells where they end.
@@ -96,7 +111,7 @@ impl<'a, const W: usize> Sheet<'a, W> {
 
 /// Puts the pieces of the members down, and tells where they end.
 fn put_members<const W: usize>(
-    pieces: &[Piece],
+    pieces: &Pieces,
     text: &mut [u8],
     start: usize,
     set: &Bits<W>,
@@ -112,14 +127,14 @@ fn put_members<const W: usize>(
     let mut end = start;
     let mut from = 0;
     while let Some(member) = set.next_member(from) {
-        end = pieces[member as usize].put(text, end);
+        end = pieces.put(member as usize, text, end);
         from = member + 1;
     }
     end
 }
 
 /// Puts the pieces at these places down, and tells where they end.
-fn put_places(pieces: &[Piece], text: &mut [u8], start: usize, places: &[usize]) -> usize
+fn put_places(pieces: &Pieces, text: &mut [u8], start: usize, places: &[usize]) -> usize
     requires inside { All (λ p. p < length pieces.now) places.now }
     requires room { start + PIECE_ROOM * length places.now ≤ length text.old }
     ensures text { take result text.new ≡ take start text.old ++ concat (names_at pieces.now places.now) }
@@ -129,7 +144,7 @@ fn put_places(pieces: &[Piece], text: &mut [u8], start: usize, places: &[usize])
 {
     let mut end = start;
     for place in places {
-        end = pieces[*place].put(text, end);
+        end = pieces.put(*place, text, end);
     }
     end
 }

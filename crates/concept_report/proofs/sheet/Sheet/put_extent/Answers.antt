@@ -18,7 +18,7 @@ returns-clause-text g c =
     let end = c.put_places-end.result in
     let names : List Text = names_at t.objects c.args.places.now in
     let written : take end new ≡ old ++ concat (map parted names) =
-    c.put_places-end.ensures.text ∙ ap (λ (ns : List Text). old ++ concat (names_at ns c.args.places.now)) (c.deref.ensures.value ∙ c.self.invariant.objects) ∙ ap (λ (ns : List Text). old ++ concat ns) (names_at-parted t.objects c.args.places.now inside) in
+    c.put_places-end.ensures.text ∙ ap (λ (ns : List Text). old ++ concat (names_at ns c.args.places.now)) c.self.invariant.objects ∙ ap (λ (ns : List Text). old ++ concat ns) (names_at-parted t.objects c.args.places.now inside) in
     ap (λ n. take n new) c.without_comma.ensures
     ∙ put_names new old names c.args.start end written (length-take-le c.args.start c.args.text.now (omega (arith, c.requires.room))) (omega (arith, c.requires.room, c.put_places-end.ensures.ends, c.put_places-end.ensures.room))
     ∙ ap (λ (x : NamedContext). old ++ listed (names_at x.objects c.args.places.now)) c.self.view_is

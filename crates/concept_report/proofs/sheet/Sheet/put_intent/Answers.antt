@@ -15,7 +15,7 @@ returns-clause-text g c =
     let end = c.put_members-end.result in
     let names : List Text = names_of t.attributes c.args.set.now in
     let written : take end new ≡ old ++ concat (map parted names) =
-    c.put_members-end.ensures.text ∙ ap (λ (ns : List Text). old ++ concat (names_of ns c.args.set.now)) (c.deref.ensures.value ∙ c.self.invariant.attributes) ∙ ap (λ (ns : List Text). old ++ concat ns) (names_of-map parted t.attributes c.args.set.now) in
+    c.put_members-end.ensures.text ∙ ap (λ (ns : List Text). old ++ concat (names_of ns c.args.set.now)) c.self.invariant.attributes ∙ ap (λ (ns : List Text). old ++ concat ns) (names_of-map parted t.attributes c.args.set.now) in
     ap (λ n. take n new) c.without_comma.ensures
     ∙ put_names new old names c.args.start end written (length-take-le c.args.start c.args.text.now (omega (arith, c.requires.room))) (omega (arith, c.requires.room, c.put_members-end.ensures.ends, c.put_members-end.ensures.room))
     ∙ ap (λ (x : NamedContext). old ++ listed (names_of x.attributes c.args.set.now)) c.self.view_is
