@@ -29,9 +29,6 @@ Adds-append t a b c Xs Ys x y = record {
   count = let both : length (Xs ++ Ys) ≡ length Xs + length Ys = length-append Xs Ys in omega (arith, x.count, y.count, both);
 }
 
-pub Adds-nothing : (t : NamedContext) (a b : CountedText) → b.text ≡ a.text → b.count ≡ a.count → Adds t a b []
-Adds-nothing t a b e f = record { text = e ∙ sym (append-nil a.text); count = omega (arith, f) }
-
 pub Fills-append : (t : NamedContext) {W : ℕ} (a b c : Page W) (Xs Ys : List Set) → Fills t a b Xs → Fills t b c Ys → Fills t a c (Xs ++ Ys)
 Fills-append t a b c Xs Ys x y = record {
   lines = Adds-append t a.lines b.lines c.lines Xs Ys x.lines y.lines;

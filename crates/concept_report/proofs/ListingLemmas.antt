@@ -1,10 +1,9 @@
 -- Names that each have a comma and a space behind them are a list of names with these behind it.
 use Rattle.std.proofs.Common.{◌≡◌, ℕ, zero, suc, ◌+◌, ◌<◌, ◌≤◌, ◌-◌, Bool, true, false, All, Some, None, Option, eqb, List, [], ◌∷◌, ◌++◌, length, map, take, drop, get_or, cond, ltb, inl, inr, refl, sym, ap, ap₂, ◌∙◌, arith, append_assoc, length-append}
 use Rattle.std.proofs.Math.Nat.{min-le_left}
-use Rattle.std.proofs.lemmas.List.{append-nil, take_at, get_or_read, map_more, at_drop_more, take-take, length-take-le}
+use Rattle.std.proofs.lemmas.List.{append-nil, take_at, get_or_read, at_drop_more, take-take, length-take-le}
 use Rattle.std.proofs.lemmas.Bool.{false≢true, cases_lt, lt-ltb, le-ltb}
 use Rattle.std.specs.Prelude.{codes, slice_get, unwrap_or}
-use Rattle.std.proofs.lemmas.Option.{get_or_from_slice_get}
 use Rattle.std.proofs.lemmas.List.Elements.{All-head, All-tail}
 use Rattle.std.specs.List.{concat}
 use Rattle.fca_model.specs.Sets.{Set}
@@ -95,12 +94,6 @@ members_all names A from old whole h wide none total =
     sym (append-nil old) ∙ ap (λ ns. old ++ concat ns) (sym empty) ∙ total
 
 -- ---- names at places
-
--- one more name
-pub pieces_more : (names : List Text) (i : ℕ) (name piece : Text) (old new : List Text) → i < length names → Some name ≡ slice_get names i → piece ≡ parted name → new ≡ old ++ piece ∷ []
-    → old ≡ map parted (take i names) → new ≡ map parted (take (i + 1) names)
-pieces_more names i name piece old new inside named is made h =
-    made ∙ ap₂ (λ os p. os ++ p ∷ []) h (is ∙ ap parted (sym (get_or_from_slice_get names i name [] (sym named)))) ∙ sym (map_more parted names i [] inside)
 
 named_at : (xs : List Text) (p : ℕ) (x : Text) → p < length xs → x ≡ get_or xs p x → unwrap_or (slice_get xs p) [] ≡ x
 named_at [] p x inside is = absurd (omega arith)
