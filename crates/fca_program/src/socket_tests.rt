@@ -6,6 +6,7 @@ use crate::link::TcpLink;
 use context_table::Table;
 use derivation::Rows;
 use expert_sessions::{Ended, serve_ends};
+use explore_state::Explore;
 use fca_io::{Duplex, Listener};
 use fca_model::{Memory, Name};
 use std::alloc::Global;
@@ -59,7 +60,10 @@ fn serve_one<R: Threads + Wait + Sync, E: Duplex + Send + Drop>(
     };
     let mut ends = Vec::new(alloc);
     ends.push(end)?;
-    match serve_ends(rt, alloc, table, ends, 9, 99) {
+    let Ok(explore) = Explore::open(alloc, table, 1) else {
+        return Err(Memory);
+    };
+    match serve_ends(rt, alloc, explore, ends, 9, 99) {
         Ok(served) => served.endings.first().copied().ok_or(Memory),
         Err(_) => Err(Memory),
     }
