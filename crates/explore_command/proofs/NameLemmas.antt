@@ -1,6 +1,6 @@
 -- Names of experts by the words of their files, one after the other: each is named behind those before it, and so the names stand in the order
 -- of the experts.
-use Rattle.std.proofs.Common.{◌≡◌, ◌<◌, ◌≤◌, ℕ, suc, ◌+◌, Bool, true, false, ◌&&◌, cond, List, [], ◌∷◌, ◌++◌, length, drop, get_or, Option, Some, None, refl, sym, ap, ◌∙◌, subst, arith, append_assoc, append-nil, nat_le}
+use Rattle.std.proofs.Common.{◌≡◌, ◌<◌, ◌≤◌, ℕ, suc, ◌+◌, Bool, true, false, cond, List, [], ◌∷◌, ◌++◌, length, drop, get_or, Option, Some, None, refl, sym, ap, ◌∙◌, subst, arith, append_assoc, append-nil, nat_le}
 use Rattle.std.specs.Prelude.{is_none}
 use Rattle.std.specs.Ordering.{nat_cmp}
 use Rattle.std.specs.BTreeMap.{insert_entry}
@@ -13,7 +13,6 @@ use Rattle.fca_model.specs.Tables.{Text}
 use Rattle.fca_model.specs.Names.{IsName, name_fault}
 use Rattle.fca_model.specs.declared.names.NameFault.{NameFault}
 use Rattle.fca_model.specs.declared.TheConstants.{MAX_EXPERTS}
-use Rattle.fca_model.specs.Context.{Context}
 use Rattle.fca_model.specs.Exploration.{RowName, is_expert}
 use Rattle.fca_model.specs.Implications.{Rule}
 use Rattle.fca_model.specs.Tables.{NamedContext}

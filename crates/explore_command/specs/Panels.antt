@@ -15,7 +15,7 @@ use Rattle.expert_scripts.specs.Transcripts.{CanBeTold}
 use Rattle.command_io.specs.Readings.{Reading, then, SomeRose}
 use Rattle.command_io.specs.Readings.Reading.{Refused, Read}
 use Rattle.command_io.specs.Forms.{table_read}
-use Rattle.command_io.specs.Known.{Start, start_read, IsStartStop}
+use Rattle.command_io.specs.Known.{start_read, IsStartStop}
 use Rattle.command_io.specs.Causes.{IsFileStop}
 use Rattle.command_io.specs.declared.stop.Origin.{Origin}
 use Rattle.command_io.specs.declared.stop.Origin.TheVariants.{Later}

@@ -1,4 +1,4 @@
-use Rattle.std.proofs.Common.{◌≤◌, ◌+◌, ◌∙◌, [], cond, length, arith, ap, sym}
+use Rattle.std.proofs.Common.{◌≤◌, ◌∙◌, [], cond, length, arith, ap, sym}
 use Rattle.expert_scripts.proofs.NamedLemmas.{unnamed}
 use Rattle.explore_command.specs.Panels.{names_from}
 use Rattle.explore_command.proofs.NameLemmas.{NamesOn-more, NamesOn-all}

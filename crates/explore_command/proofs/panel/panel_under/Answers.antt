@@ -1,6 +1,6 @@
 use Rattle.std.proofs.Common.{ℕ, List, sym, ap, ◌∙◌, subst}
 use Rattle.std.specs.Prelude.{option_copied}
-use Rattle.fca_model.specs.Exploration.{Settings, RowName}
+use Rattle.fca_model.specs.Exploration.{RowName}
 use Rattle.fca_model.specs.declared.TheConstants.{MAX_EXPERTS}
 use Rattle.command_io.specs.Readings.{MayRead}
 use Rattle.command_io.specs.Known.{start_of}

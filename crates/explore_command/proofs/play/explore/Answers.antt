@@ -1,4 +1,4 @@
-use Rattle.std.proofs.Common.{sym, subst}
+use Rattle.std.proofs.Common.{subst}
 use Rattle.std.specs.Prelude.{option_copied}
 use Rattle.fca_model.specs.Tables.{Text}
 use Rattle.command_io.specs.ErrLines.{GainsLine, file_at_fault, stop_line}
