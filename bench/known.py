@@ -38,7 +38,8 @@ def explored(words):
 
 def accepted(text):
     """The patterns of the accepted implications."""
-    lines = text[text.index("# accepted ") :].split("\n# open ")[0].split("\n")[1:]
+    sections = text[text.index("# recorded ") :]
+    lines = sections[sections.index("# accepted ") :].split("\n# open ")[0].split("\n")[1:]
     return [line.split(" ")[2:4] for line in lines]
 
 
