@@ -18,7 +18,7 @@ use Rattle.fca_model.specs.declared.TheConstants.{MAX_NAME_BYTES}
 use Rattle.fca_model.specs.declared.names.NameFault.TheVariants as name
 use Rattle.text_pieces.specs.Lines.{Line, is_line_feed, unless_empty, without_empty_end, lines, text_of}
 use Rattle.text_pieces.proofs.BlankLemmas.{last-split}
-use Rattle.text_pieces.proofs.TextLemmas.{IsUtf8-one}
+use Rattle.text_pieces.proofs.TextLemmas.{IsUtf8-cons}
 use Rattle.text_pieces.proofs.WordLemmas.{before_first-at, after_first-at}
 
 -- ---- the lines of a text that isn't empty
@@ -160,7 +160,7 @@ lines-text_of (line ∷ ls) h = lines-line line (text_of ls) h.0.unbroken ∙ ap
 
 pub IsUtf8-text_of : (ls : List Line) → EachLine ls → IsUtf8 (text_of ls)
 IsUtf8-text_of [] h = IsUtf8-nil
-IsUtf8-text_of (line ∷ ls) h = IsUtf8-append line (10 ∷ text_of ls) h.0.utf8 (IsUtf8-append (10 ∷ []) (text_of ls) (IsUtf8-one 10 (omega arith)) (IsUtf8-text_of ls h.1))
+IsUtf8-text_of (line ∷ ls) h = IsUtf8-append line (10 ∷ text_of ls) h.0.utf8 (IsUtf8-cons 10 (text_of ls) (omega arith) (IsUtf8-text_of ls h.1))
 
 pub IsLine-nil : IsLine []
 IsLine-nil = record { unbroken = refl; utf8 = IsUtf8-nil }
@@ -168,7 +168,7 @@ IsLine-nil = record { unbroken = refl; utf8 = IsUtf8-nil }
 pub IsLine-more : (b : ℕ) (line : Line) → is_line_break b ≡ false → b < 128 → IsLine line → IsLine (b ∷ line)
 IsLine-more b line h small rest = record {
   unbroken = rw h rest.unbroken;
-  utf8 = IsUtf8-append (b ∷ []) line (IsUtf8-one b small) rest.utf8;
+  utf8 = IsUtf8-cons b line small rest.utf8;
 }
 
 pub IsLine-name : (bytes : Text) → IsName bytes → IsLine bytes

@@ -1,13 +1,13 @@
 -- Decimal digits: what they are not, that those of a number write it, and that a number only grows with the digits behind it.
 use Rattle.std.proofs.Common.{◌≡◌, ◌≢◌, ◌≤◌, ◌<◌, ◌+◌, ◌*◌, ◌-◌, ◌/◌, ◌%◌, ◌^◌, ◌∙◌, ℕ, Bool, true, false, cond, zero, suc, List, [], ◌∷◌, ◌++◌, length, take, get_or, fold, Some, None, refl, ne_eqb, arith}
-use Rattle.std.specs.Prelude.{decimal, nat_lt, nat_le, ◌==◌}
+use Rattle.std.specs.Prelude.{decimal, IsUtf8, nat_lt, nat_le, ◌==◌}
 use Rattle.std.specs.Char.{is_ascii_digit}
 use Rattle.std.specs.Fmt.{digits, digits_onto, digit_glyph}
 use Rattle.std.specs.List.{list_any, list_all}
 use Rattle.std.proofs.lemmas.Nat.{div-add-mod'}
 use Rattle.std.proofs.lemmas.Bool.{le-ltb, lt-ltb, ltb-false, le-leb, leb-true, and_parts, and_from, or_from}
 use Rattle.std.proofs.lemmas.List.Sums.{fold-append}
-use Rattle.std.proofs.lemmas.Fmt.{decimal_by_steps, decimal_nonempty, IsAscii-decimal}
+use Rattle.std.proofs.lemmas.Fmt.{decimal_by_steps, decimal_nonempty}
 use Rattle.std.proofs.lemmas.Str.{IsUtf8-from_ascii}
 use Rattle.fca_model.specs.Names.{is_line_break}
 use Rattle.fca_model.specs.Tables.{Text}
@@ -94,8 +94,16 @@ no_break-decimal n = list_any-excluded is_ascii_digit is_line_break (decimal n) 
 pub decimal_no_space : (n : ℕ) → list_any is_space (decimal n) ≡ false
 decimal_no_space n = list_any-excluded is_ascii_digit is_space (decimal n) digit_no_space (decimal_digits n)
 
-pub IsLine-decimal : (n : ℕ) → n < 2 ^ 64 → IsLine (decimal n)
-IsLine-decimal n small = record { unbroken = no_break-decimal n; utf8 = IsUtf8-from_ascii (decimal n) (IsAscii-decimal n small) }
+ascii_digits : (xs : Text) → list_all is_ascii_digit xs ≡ true → (i : ℕ) → get_or xs i 0 < 128
+ascii_digits [] h i = omega arith
+ascii_digits (x ∷ xs) h zero = let range = digit_in_range x (and_parts (is_ascii_digit x) (list_all is_ascii_digit xs) h).0 in omega arith
+ascii_digits (x ∷ xs) h (suc i) = ascii_digits xs (and_parts (is_ascii_digit x) (list_all is_ascii_digit xs) h).1 i
+
+pub utf8_decimal : (n : ℕ) → IsUtf8 (decimal n)
+utf8_decimal n = IsUtf8-from_ascii (decimal n) (ascii_digits (decimal n) (decimal_digits n))
+
+pub IsLine-decimal : (n : ℕ) → IsLine (decimal n)
+IsLine-decimal n = record { unbroken = no_break-decimal n; utf8 = utf8_decimal n }
 
 -- ---- numbers of 64 bits
 
@@ -117,6 +125,13 @@ in_64_bits-past digits i d inside past =
 
 pub in_64_bits-fits : (n : ℕ) → n < 2 ^ 64 → in_64_bits n ≡ Some n
 in_64_bits-fits n fits = rw (lt-ltb n (2 ^ 64) fits) refl
+
+some-by : (n m : ℕ) (b : Bool) → cond b (Some n) None ≡ Some m → m ≡ n
+some-by n m true e = cc
+some-by n m false e = cc
+
+pub in_64_bits-some : (n m : ℕ) → in_64_bits n ≡ Some m → m ≡ n
+in_64_bits-some n m e = some-by n m (nat_lt n (2 ^ 64)) e
 
 past-by : (n : ℕ) (b : Bool) → nat_lt n (2 ^ 64) ≡ b → cond b (Some n) None ≡ None → 2 ^ 64 ≤ n
 past-by n true h e = cc

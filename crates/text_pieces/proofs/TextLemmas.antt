@@ -2,7 +2,7 @@
 use Rattle.std.proofs.Common.{◌≡◌, ◌<◌, ℕ, zero, suc, Bool, true, false, ◌∷◌, [], refl, IsUtf8, slice_index, arith}
 use Rattle.std.specs.List.{list_any, list_all}
 use Rattle.std.proofs.lemmas.Bool.{and_parts, or_from}
-use Rattle.std.proofs.lemmas.Str.{IsUtf8-from_ascii}
+use Rattle.std.proofs.lemmas.Str.{IsUtf8-append, IsUtf8-from_ascii}
 use Rattle.fca_model.specs.Tables.{Text}
 
 ascii-one : (b : ℕ) → b < 128 → (i : ℕ) → slice_index (b ∷ []) i < 128
@@ -11,6 +11,9 @@ ascii-one b h (suc i) = omega arith
 
 pub IsUtf8-one : (b : ℕ) → b < 128 → IsUtf8 (b ∷ [])
 IsUtf8-one b h = IsUtf8-from_ascii (b ∷ []) (ascii-one b h)
+
+pub IsUtf8-cons : (b : ℕ) (bytes : Text) → b < 128 → IsUtf8 bytes → IsUtf8 (b ∷ bytes)
+IsUtf8-cons b bytes small text = IsUtf8-append (b ∷ []) bytes (IsUtf8-one b small) text
 
 -- where each byte is of a kind, none is of another
 pub list_any-excluded : (p q : ℕ → Bool) (xs : Text) → ((x : ℕ) → p x ≡ true → q x ≡ false) → list_all p xs ≡ true → list_any q xs ≡ false

@@ -1,6 +1,6 @@
 //! Sets of attributes as marks, one for each attribute.
 
-ghost use Rattle.std.specs.Prelude.{◌≡◌, ◌≤◌, ◌<◌, ◌==◌, ℕ, length, map, slice_index, take};
+ghost use Rattle.std.specs.Prelude.{◌≡◌, ◌≤◌, ◌<◌, ◌+◌, ◌-◌, ◌==◌, ℕ, length, map, slice_index, take, drop};
 ghost use Rattle.std.specs.Int.{bit_at};
 ghost use Rattle.std.specs.List.{list_all};
 ghost use Rattle.fca_model.specs.declared.TheConstants.{MAX_ATTRIBUTES};
@@ -11,9 +11,6 @@ use fca_model::MAX_ATTRIBUTES;
 
 /// How many marks are taken at once.
 const BLOCK: u32 = 64;
-
-/// The most marks of a set.
-const WIDEST: usize = MAX_ATTRIBUTES as usize;
 
 /// The marks of a place outside a set and of one inside.
 const MARKS: [u8; 2] = [b'.', b'X'];
@@ -67,15 +64,16 @@ fn crosses_of(cells: &[u8]) -> u64
     crosses
 }
 
-/// The marks of the attributes, at the front.
-pub fn marks_of(set: &Attrs) -> [u8; WIDEST]
-    requires { length set.now ≤ MAX_ATTRIBUTES }
-    ensures long { length result ≡ MAX_ATTRIBUTES }
-    ensures front { take (length set.now) result ≡ mark.marks_of set.now }
+/// The marks of the places from `from` to `end`, with nothing meant from there on.
+pub fn marks_of<const N: usize>(set: &Attrs, from: u32, end: u32) -> [u8; N]
+    requires order { from ≤ end }
+    requires few { end ≤ from + N }
+    requires inside { end ≤ length set.now }
+    ensures { take (end - from) result ≡ mark.marks_of (take (end - from) (drop from set.now)) }
 {
-    let mut marks = [b'.'; WIDEST];
-    for attribute in 0..set.width() {
-        marks[attribute as usize] = MARKS[usize::from(set.has(attribute))];
+    let mut marks = [b'.'; N];
+    for j in 0..end - from {
+        marks[j as usize] = MARKS[usize::from(set.has(from + j))];
     }
     marks
 }
