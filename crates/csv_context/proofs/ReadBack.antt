@@ -15,7 +15,7 @@ use Rattle.fca_model.specs.declared.TheConstants.{MAX_ATTRIBUTES, MAX_OBJECTS}
 use Rattle.context_table.specs.Table.{IsTable, repeat_from}
 use Rattle.cxt_format.specs.Written.{EachName}
 use Rattle.cxt_format.proofs.ReadBack.{EachWide, EachWide-from_All}
-use Rattle.cxt_format.proofs.WrittenLines.{IsUtf8-one}
+use Rattle.text_pieces.proofs.TextLemmas.{IsUtf8-one}
 use Rattle.csv.proofs.RoundTrip.{read-write}
 use Rattle.csv.specs.Machine.{next_record}
 use Rattle.csv.specs.Reading.{default_config, records, records_from, strip_bom}

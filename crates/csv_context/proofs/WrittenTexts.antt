@@ -6,16 +6,13 @@ use Rattle.std.proofs.lemmas.Str.{IsUtf8-append, IsUtf8-nil, IsUtf8-encode, enco
 use Rattle.std.specs.Str.{IsUtf8}
 use Rattle.csv.specs.Records.{AllText}
 use Rattle.csv.specs.Writing.{default_writer, escaped, field_text, fields_text, is_blank, needs_quotes, quoted, row_body, row_text}
-use Rattle.cxt_format.proofs.WrittenLines.{IsUtf8-one}
+use Rattle.text_pieces.proofs.TextLemmas.{IsUtf8-cons, IsUtf8-one}
 use Rattle.csv_context.specs.Records.{Record}
 use Rattle.csv_context.specs.Written.{text_of}
 use Rattle.csv_context.proofs.Texts.{High, encode-high, not-mark}
 use lib.Utf8.{encode, encodes, scalar, scalars}
 use mathlib.Core.Logic.{dite}
 use native.Mathlib.Decide.{dec_lt}
-
-IsUtf8-cons : (b : ℕ) (bytes : List ℕ) → b < 128 → IsUtf8 bytes → IsUtf8 (b ∷ bytes)
-IsUtf8-cons b bytes small text = IsUtf8-append (b ∷ []) bytes (IsUtf8-one b small) text
 
 escaped-high : (hs rest : List ℕ) → High hs → escaped default_writer (hs ++ rest) ≡ hs ++ escaped default_writer rest
 unfolding escaped

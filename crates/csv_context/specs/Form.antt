@@ -8,7 +8,7 @@ use Rattle.fca_model.specs.Names.{name_fault}
 use Rattle.fca_model.specs.declared.TheConstants.{MAX_ATTRIBUTES, MAX_OBJECTS}
 use Rattle.fca_model.specs.declared.names.NameFault.{NameFault}
 use Rattle.fca_model.specs.declared.names.NameFault.TheVariants as name
-use Rattle.cxt_format.specs.Words.{trimmed}
+use Rattle.text_pieces.specs.Blanks.{trimmed}
 use Rattle.csv_context.specs.Records.{Record, csv_records}
 use Rattle.csv_context.specs.declared.read.Object.{Object}
 use Rattle.csv_context.specs.declared.CsvFault.{CsvFault}

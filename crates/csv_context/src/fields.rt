@@ -9,10 +9,10 @@ ghost use Rattle.csv_context.specs.Form.{Tells};
 use crate::CsvFault;
 use attr_bits::Attrs;
 use csv::ByteRecord;
-use cxt_format::trimmed;
 use fca_model::{MAX_ATTRIBUTES, Name, NameFault};
 use indexmap::IndexSet;
 use std::alloc::Global;
+use text_pieces::trimmed;
 
 /// The field at this place, counted from 0.
 pub fn field_at(fields: &ByteRecord, place: usize) -> &[u8]

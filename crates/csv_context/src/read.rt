@@ -14,7 +14,7 @@ use attr_bits::Attrs;
 use context_table::{Table, TableFault};
 use csv::{ByteRecord, Reader};
 use derivation::Rows;
-use fca_model::{MAX_ATTRIBUTES, MAX_OBJECTS, Memory, Name};
+use fca_model::{MAX_ATTRIBUTES, MAX_OBJECTS, Name};
 use indexmap::IndexSet;
 use std::alloc::Global;
 
@@ -73,7 +73,7 @@ fn read_header(alloc: Global, fields: &ByteRecord) -> Result<Vec<Name>, CsvFault
         return Err(CsvFault::TooManyAttributes);
     }
     let names = read_attributes(alloc, fields)?;
-    Ok(listed(alloc, names)?)
+    Ok(names.into_iter().collect(alloc)?)
 }
 
 /// Attribute names in their order, looked up by hash.
@@ -90,13 +90,6 @@ fn read_attributes(alloc: Global, fields: &ByteRecord) -> Result<IndexSet<Name>,
         names.insert(attribute_of(alloc, &names, place + 1, field)?)?;
     }
     Ok(names)
-}
-
-/// The names in their order.
-fn listed(alloc: Global, names: IndexSet<Name>) -> Result<Vec<Name>, Memory>
-    ensures { IfOk result (λ list. list.items ≡ names.keys) }
-{
-    Ok(names.into_iter().collect(alloc)?)
 }
 
 fn read_objects(alloc: Global, width: u32, reader: &mut Reader<&[u8]>) -> Result<Objects, CsvFault>

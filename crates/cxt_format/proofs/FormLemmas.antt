@@ -5,7 +5,8 @@ use Rattle.std.specs.Option.{unwrap_or}
 use Rattle.std.specs.Str.Pattern.{FindsCharPrefix}
 use Rattle.std.specs.List.{list_any}
 use Rattle.fca_model.specs.Tables.{Text}
-use Rattle.cxt_format.specs.Lines.{Line, Left}
+use Rattle.text_pieces.specs.Left.{Left}
+use Rattle.text_pieces.specs.Lines.{Line}
 use Rattle.cxt_format.specs.Words.{name_form, new_name, attribute_form}
 use Rattle.cxt_format.specs.Form.{Taken, Takes, more, then, next, next_of, without_mark}
 use Rattle.cxt_format.specs.declared.CxtFault.{CxtFault}

@@ -13,12 +13,17 @@ use Rattle.fca_model.specs.Sets.{Set}
 use Rattle.fca_model.specs.Tables.{Text, NamedContext}
 use Rattle.fca_model.specs.declared.TheConstants.{MAX_ATTRIBUTES, MAX_OBJECTS}
 use Rattle.context_table.specs.Table.{IsTable, repeat_from}
-use Rattle.cxt_format.specs.Lines.{Line, Left, lines_of}
+use Rattle.text_pieces.specs.Left.{Left, after_blanks_of}
+use Rattle.text_pieces.specs.Lines.{Line, lines}
 use Rattle.cxt_format.specs.Words.{title_form, row_of}
-use Rattle.cxt_format.specs.Form.{Taken, objects_form, attributes_form, rows_form, head_form, body_form, table_form, end_form, after_blanks_of, without_mark, cxt_form}
-use Rattle.cxt_format.specs.Written.{EachName, row_line, title_line, head_lines, cxt_lines, cxt_text}
+use Rattle.cxt_format.specs.Form.{Taken, objects_form, attributes_form, rows_form, head_form, body_form, table_form, end_form, without_mark, cxt_form}
+use Rattle.text_pieces.specs.Marks.{marks_of}
+use Rattle.cxt_format.specs.Written.{EachName, title_line, head_lines, cxt_lines, cxt_text}
 use Rattle.cxt_format.specs.declared.CxtFault.{CxtFault}
-use Rattle.cxt_format.proofs.WrittenLines.{IsLine, IsLine-more, EachLine, EachLine-append, IsLine-nil, IsLine-name, IsLine-decimal, IsLine-row_line, lines_of-text_of, IsUtf8-text_of, count_form-decimal, row_of-row_line, is_blank_line-row_line}
+use Rattle.text_pieces.proofs.LineLemmas.{IsLine, IsLine-more, EachLine, EachLine-append, IsLine-nil, IsLine-name, lines-text_of, IsUtf8-text_of}
+use Rattle.text_pieces.proofs.MarkLemmas.{IsLine-marks_of}
+use Rattle.text_pieces.proofs.NumeralLemmas.{IsLine-decimal}
+use Rattle.cxt_format.proofs.WordLemmas.{count_form-decimal, row_of-marks_of, is_blank_line-marks_of}
 
 -- the form takes xs, and leaves these lines
 abbrev Gives : {X : Type 0} → Taken X → X → List Line → Type 0
@@ -58,19 +63,19 @@ pub EachWide-from_All : (width : ℕ) (rows : List Set) → All (λ row. length 
 EachWide-from_All width [] h = tt
 EachWide-from_All width (row ∷ rows) h = (h zero row (omega arith), EachWide-from_All width rows (λ k d below. h (suc k) d (omega arith)))
 
-EachLine-rows : (rows : List Set) → EachLine (map row_line rows)
+EachLine-rows : (rows : List Set) → EachLine (map marks_of rows)
 EachLine-rows [] = tt
-EachLine-rows (row ∷ rows) = (IsLine-row_line row, EachLine-rows rows)
+EachLine-rows (row ∷ rows) = (IsLine-marks_of row, EachLine-rows rows)
 
 rows-back : (width : ℕ) (seen rows : List Set) (k : ℕ) → EachWide (suc width) rows
-    → Gives (rows_form (suc width) seen (length rows) (record { number = k; lines = map row_line rows })) (seen ++ rows) []
+    → Gives (rows_form (suc width) seen (length rows) (record { number = k; lines = map marks_of rows })) (seen ++ rows) []
 rows-back width seen [] k wide = (k, rw (append-nil seen) refl)
 rows-back width seen ([] ∷ rows) k wide = cc wide.0
 rows-back width seen ((mark ∷ row) ∷ rows) k wide =
     let left = rows-back width (seen ++ (mark ∷ row) ∷ []) rows (k + 1) wide.1 in
-    let P : ℕ → Type 0 = λ n. row_of n (row_line (mark ∷ row)) ≡ Some (mark ∷ row) in
-    let read : row_of (suc width) (row_line (mark ∷ row)) ≡ Some (mark ∷ row) = subst P wide.0 (row_of-row_line (mark ∷ row)) in
-    (left.0, rw (is_blank_line-row_line mark row, read) (left.1 ∙ rw (append_assoc seen ((mark ∷ row) ∷ []) rows) refl))
+    let P : ℕ → Type 0 = λ n. row_of n (marks_of (mark ∷ row)) ≡ Some (mark ∷ row) in
+    let read : row_of (suc width) (marks_of (mark ∷ row)) ≡ Some (mark ∷ row) = subst P wide.0 (row_of-marks_of (mark ∷ row)) in
+    (left.0, rw (is_blank_line-marks_of mark row, read) (left.1 ∙ rw (append_assoc seen ((mark ∷ row) ∷ []) rows) refl))
 
 -- no line is read for a row with no place
 no-rows-back : (seen rows : List Set) (left : Left) → EachWide zero rows → rows_form zero seen (length rows) left ≡ Ok (seen ++ rows, left)
@@ -78,17 +83,17 @@ no-rows-back seen [] left wide = rw (append-nil seen) refl
 no-rows-back seen ([] ∷ rows) left wide = no-rows-back (seen ++ [] ∷ []) rows left wide.1 ∙ rw (append_assoc seen ([] ∷ []) rows) refl
 no-rows-back seen ((mark ∷ row) ∷ rows) left wide = cc wide.0
 
-no-rows-end : (rows : List Set) (k : ℕ) → EachWide zero rows → (m : ℕ) × (after_blanks_of k (map row_line rows) ≡ record { number = m; lines = [] })
+no-rows-end : (rows : List Set) (k : ℕ) → EachWide zero rows → (m : ℕ) × (after_blanks_of k (map marks_of rows) ≡ record { number = m; lines = [] })
 no-rows-end [] k wide = (k, refl)
 no-rows-end ([] ∷ rows) k wide = no-rows-end rows (k + 1) wide.1
 no-rows-end ((mark ∷ row) ∷ rows) k wide = cc wide.0
 
 -- the rows, and the end of the file
 rows-and-end : (width : ℕ) (rows : List Set) (k : ℕ) → EachWide width rows
-    → (left : Left) × (rows_form width [] (length rows) (record { number = k; lines = map row_line rows }) ≡ Ok (rows, left)) × (end_form left ≡ Ok tt)
+    → (left : Left) × (rows_form width [] (length rows) (record { number = k; lines = map marks_of rows }) ≡ Ok (rows, left)) × (end_form left ≡ Ok tt)
 rows-and-end zero rows k wide =
     let done = no-rows-end rows k wide in
-    (record { number = k; lines = map row_line rows }, no-rows-back [] rows (record { number = k; lines = map row_line rows }) wide, rw done.1 refl)
+    (record { number = k; lines = map marks_of rows }, no-rows-back [] rows (record { number = k; lines = map marks_of rows }) wide, rw done.1 refl)
 rows-and-end (suc width) rows k wide =
     let left = rows-back width [] rows k wide in
     (record { number = left.0; lines = [] }, left.1, refl)
@@ -117,12 +122,12 @@ pub record IsNamed (t : NamedContext) : Type 0 where
   pub attributes : EachName t.attributes
 
 body-back : (t : NamedContext) → IsTable t → IsNamed t
-    → body_form (record { title = t.title; objects = length t.objects; attributes = length t.attributes }) (record { number = 6; lines = t.objects ++ (t.attributes ++ map row_line t.context.rows) }) ≡ Ok t
+    → body_form (record { title = t.title; objects = length t.objects; attributes = length t.attributes }) (record { number = 6; lines = t.objects ++ (t.attributes ++ map marks_of t.context.rows) }) ≡ Ok t
 body-back t table named =
     let P : ℕ → Type 0 = λ width. EachWide width t.context.rows in
     let wide : EachWide (length t.attributes) t.context.rows = subst P (sym table.each_attribute) (EachWide-from_All t.context.width t.context.rows table.even) in
-    let objects = objects-back [] t.objects 6 (t.attributes ++ map row_line t.context.rows) named.objects in
-    let attributes = attributes-back [] t.attributes 0 objects.0 (map row_line t.context.rows) named.attributes table.differing in
+    let objects = objects-back [] t.objects 6 (t.attributes ++ map marks_of t.context.rows) named.objects in
+    let attributes = attributes-back [] t.attributes 0 objects.0 (map marks_of t.context.rows) named.attributes table.differing in
     let rows = rows-and-end (length t.attributes) t.context.rows attributes.0 wide in
     let of_width : ℕ → Result NamedContext CxtFault = λ width. Ok (record { title = t.title; objects = t.objects; attributes = t.attributes; context = record { width = width; rows = t.context.rows } }) in
     rw (objects.1, attributes.1, table.each_object, rows.1, rows.2) (ap of_width table.each_attribute)
@@ -131,8 +136,8 @@ table-back : (t : NamedContext) → IsTable t → IsNamed t → table_form (cxt_
 table-back t table named =
     let P : ℕ → Type 0 = λ n. n ≤ MAX_ATTRIBUTES in
     rw (
-      head-back t (t.objects ++ t.attributes ++ map row_line t.context.rows) named.title table.few_objects (subst P (sym table.each_attribute) table.few_attributes),
-      append_assoc t.objects t.attributes (map row_line t.context.rows),
+      head-back t (t.objects ++ t.attributes ++ map marks_of t.context.rows) named.title table.few_objects (subst P (sym table.each_attribute) table.few_attributes),
+      append_assoc t.objects t.attributes (map marks_of t.context.rows),
     )
     (body-back t table named)
 
@@ -147,9 +152,9 @@ EachLine-cxt_lines t table named =
     let narrow : t.context.width ≤ MAX_ATTRIBUTES = table.few_attributes in
     let head : EachLine (head_lines t) = (
       IsLine-more 66 [] refl (omega arith) IsLine-nil,
-      (IsLine-title t.title named.title, (IsLine-decimal (length t.objects) (omega arith), (IsLine-decimal (length t.attributes) (omega arith), (IsLine-nil, tt)))),
+      (IsLine-title t.title named.title, (IsLine-decimal (length t.objects), (IsLine-decimal (length t.attributes), (IsLine-nil, tt)))),
     ) in
-    EachLine-append (head_lines t ++ t.objects ++ t.attributes) (map row_line t.context.rows)
+    EachLine-append (head_lines t ++ t.objects ++ t.attributes) (map marks_of t.context.rows)
     (EachLine-append (head_lines t ++ t.objects) t.attributes (EachLine-append (head_lines t) t.objects head (EachLine-names t.objects named.objects)) (EachLine-names t.attributes named.attributes))
     (EachLine-rows t.context.rows)
 
@@ -161,8 +166,8 @@ without_mark-B (b ∷ s) = refl
 pub cxt_form-cxt_text : (t : NamedContext) → IsTable t → IsNamed t → cxt_form (cxt_text t) ≡ Ok t
 unfolding cxt_form
 cxt_form-cxt_text t table named =
-    let lines = EachLine-cxt_lines t table named in
-    let whole : utf8_valid_len (cxt_text t) == length (cxt_text t) ≡ true = eq-eqb _ _ (utf8_valid_len-IsUtf8 (cxt_text t) (IsUtf8-text_of (cxt_lines t) lines)) in
+    let each = EachLine-cxt_lines t table named in
+    let whole : utf8_valid_len (cxt_text t) == length (cxt_text t) ≡ true = eq-eqb _ _ (utf8_valid_len-IsUtf8 (cxt_text t) (IsUtf8-text_of (cxt_lines t) each)) in
     let unmarked : without_mark (cxt_text t) ≡ cxt_text t = without_mark-B _ in
-    let read : lines_of (without_mark (cxt_text t)) ≡ cxt_lines t = ap lines_of unmarked ∙ lines_of-text_of (cxt_lines t) lines in
+    let read : lines (without_mark (cxt_text t)) ≡ cxt_lines t = ap lines unmarked ∙ lines-text_of (cxt_lines t) each in
     rw whole (ap table_form read ∙ table-back t table named)

@@ -3,7 +3,7 @@ use Rattle.std.proofs.Common.{◌≡◌, ◌∙◌, ◌≤◌, ◌+◌, ◌++◌
 use Rattle.std.proofs.lemmas.List.{append-nil, drop_all}
 use Rattle.fca_model.specs.Names.{IsName}
 use Rattle.fca_model.specs.Tables.{Text}
-use Rattle.cxt_format.specs.Lines.{Line, text_of}
+use Rattle.text_pieces.specs.Lines.{Line, text_of}
 use Rattle.cxt_format.specs.Written.{EachName}
 
 drop-item_suc : {X : Type 0} (xs : List X) (i : ℕ) (x : X) → slice_get xs i ≡ Some x → drop i xs ≡ x ∷ drop (suc i) xs

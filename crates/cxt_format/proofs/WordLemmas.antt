@@ -1,49 +1,39 @@
--- Blanks at the ends of a line.
-use Rattle.std.proofs.Common.{◌≡◌, ◌∙◌, ◌<◌, ◌-◌, ◌++◌, ◌∷◌, ◌&&◌, [], ℕ, suc, Bool, true, false, length, take, get_or, refl, sym, ap, inl, inr, arith}
-use Rattle.std.proofs.lemmas.Bool.{cases_Bool}
-use Rattle.cxt_format.specs.Lines.{Line}
-use Rattle.cxt_format.specs.Words.{is_blank, is_blank_line, without_blanks_after}
+-- What the form makes of the lines that are written of numbers and rows, and how wide a row is that was read.
+use Rattle.std.proofs.Common.{◌≡◌, ◌∙◌, ◌<◌, ◌≤◌, ◌^◌, ◌&&◌, ◌∷◌, [], ℕ, Bool, true, false, nat_le, IfOk, Some, Ok, length, take, drop, refl, inl, inr, arith}
+use Rattle.std.specs.Fmt.{decimal}
+use Rattle.std.specs.List.{list_all}
+use Rattle.std.proofs.Math.ListN.{drop_of_length-le}
+use Rattle.std.proofs.lemmas.Bool.{and_parts, cases_Bool, le-leb, le-ltb, leb-true}
+use Rattle.std.proofs.lemmas.List.{length-map, length-take-le, take_all}
+use Rattle.fca_model.specs.Sets.{Set}
+use Rattle.text_pieces.specs.Blanks.{is_blank_line}
+use Rattle.text_pieces.specs.Lines.{Line}
+use Rattle.text_pieces.specs.Marks.{is_cross, is_mark, marks_of}
+use Rattle.text_pieces.proofs.MarkLemmas.{marks_of-marks, crossed-marks_of, length-marks_of}
+use Rattle.text_pieces.proofs.NumeralLemmas.{numeral-decimal, trimmed-decimal}
+use Rattle.cxt_format.specs.Words.{count_form, row_of, row_form}
 
-blank-last : (line : Line) (b : ℕ) → is_blank b ≡ true → is_blank_line (line ++ b ∷ []) ≡ is_blank_line line
-blank-last [] b h = rw h refl
-blank-last (x ∷ line) b h = ap (λ rest. is_blank x && rest) (blank-last line b h)
+pub count_form-decimal : (most k n : ℕ) → n ≤ most → n < 2 ^ 64 → count_form most k (decimal n) ≡ Ok n
+count_form-decimal most k n within small =
+    let numeral = numeral-decimal n small in
+    rw (trimmed-decimal n, numeral.0, numeral.1, le-ltb most n within) refl
 
-filled-last : (line : Line) (b : ℕ) → is_blank b ≡ false → is_blank_line (line ++ b ∷ []) ≡ false
-filled-last [] b h = rw h refl
-filled-last (x ∷ line) b h = elim (cases_Bool (is_blank x)) [
-  | inl is ↦ rw is (filled-last line b h)
-  | inr isnt ↦ rw isnt refl
+pub row_of-marks_of : (row : Set) → row_of (length row) (marks_of row) ≡ Some row
+row_of-marks_of row =
+    let same = length-marks_of row in
+    let all : take (length row) (marks_of row) ≡ marks_of row = take_all (length row) (marks_of row) (omega (arith, same)) in
+    let none : drop (length row) (marks_of row) ≡ [] = drop_of_length-le (marks_of row) (omega (arith, same)) in
+    rw (le-leb (length row) (length (marks_of row)) (omega (arith, same)), all, none, marks_of-marks row, crossed-marks_of row) refl
+
+pub is_blank_line-marks_of : (mark : Bool) (row : Set) → is_blank_line (marks_of (mark ∷ row)) ≡ false
+is_blank_line-marks_of true row = refl
+is_blank_line-marks_of false row = refl
+
+-- a row that was read has as many places as there are attributes
+pub wide-row_form : (width k : ℕ) (line : Line) → IfOk (row_form width k line) (λ row. length row ≡ width)
+wide-row_form width k line = elim (cases_Bool (nat_le width (length line) && (list_all is_mark (take width line) && is_blank_line (drop width line)))) [
+  | inl is ↦
+      let long = and_parts (nat_le width (length line)) (list_all is_mark (take width line) && is_blank_line (drop width line)) is in
+      rw is (length-map (take width line) is_cross ∙ length-take-le width line (leb-true width (length line) long.0))
+  | inr isnt ↦ rw isnt tt
 ]
-
--- a blank at the end is dropped
-pub without_blanks_after-blank : (line : Line) (b : ℕ) → is_blank b ≡ true → without_blanks_after (line ++ b ∷ []) ≡ without_blanks_after line
-without_blanks_after-blank [] b h = rw h refl
-without_blanks_after-blank (x ∷ line) b h =
-    rw (blank-last line b h, without_blanks_after-blank line b h) refl
-
--- and where there is none, nothing is
-pub without_blanks_after-filled : (line : Line) (b : ℕ) → is_blank b ≡ false → without_blanks_after (line ++ b ∷ []) ≡ line ++ b ∷ []
-without_blanks_after-filled [] b h = rw h refl
-without_blanks_after-filled (x ∷ line) b h = elim (cases_Bool (is_blank x)) [
-  | inl is ↦ rw (is, filled-last line b h, without_blanks_after-filled line b h) refl
-  | inr isnt ↦ rw (isnt, without_blanks_after-filled line b h) refl
-]
-
-last-split : (line : Line) → 0 < length line → take (length line - 1) line ++ get_or line (length line - 1) 0 ∷ [] ≡ line
-last-split [] some = absurd (omega arith)
-last-split (x ∷ []) some = refl
-last-split (x ∷ y ∷ line) some =
-    let more : 0 < length (y ∷ line) = omega arith in
-    let one : length (x ∷ y ∷ line) - 1 ≡ suc (length (y ∷ line) - 1) = omega arith in
-    rw one (ap (λ rest. x ∷ rest) (last-split (y ∷ line) more))
-
--- a step of the code that drops the blanks at the end one by one
-pub without_blanks_after-step : (line : Line) (b : Bool) → 0 < length line → b ≡ is_blank (get_or line (length line - 1) 0) → b ≡ true
-    → without_blanks_after (take (length line - 1) line) ≡ without_blanks_after line
-without_blanks_after-step line b some e is =
-    sym (without_blanks_after-blank (take (length line - 1) line) (get_or line (length line - 1) 0) (sym e ∙ is)) ∙ ap without_blanks_after (last-split line some)
-
--- and its end
-pub without_blanks_after-end : (line : Line) (b : Bool) → 0 < length line → b ≡ is_blank (get_or line (length line - 1) 0) → b ≡ false → line ≡ without_blanks_after line
-without_blanks_after-end line b some e is =
-    sym (ap without_blanks_after (sym (last-split line some)) ∙ without_blanks_after-filled (take (length line - 1) line) (get_or line (length line - 1) 0) (sym e ∙ is) ∙ last-split line some)

@@ -4,8 +4,9 @@ use Rattle.std.specs.Str.Lossy.{utf8_valid_len}
 use Rattle.fca_model.specs.Sets.{Set}
 use Rattle.fca_model.specs.Tables.{Text, NamedContext}
 use Rattle.fca_model.specs.declared.TheConstants.{MAX_ATTRIBUTES, MAX_OBJECTS}
-use Rattle.cxt_format.specs.Lines.{Line, Left, lines_of}
-use Rattle.cxt_format.specs.Words.{is_blank_line, mark_form, title_form, count_form, name_form, attribute_form, row_form}
+use Rattle.text_pieces.specs.Left.{Left, after_blank, after_blanks}
+use Rattle.text_pieces.specs.Lines.{Line, lines}
+use Rattle.cxt_format.specs.Words.{mark_form, title_form, count_form, name_form, attribute_form, row_form}
 use Rattle.cxt_format.specs.declared.read.Head.{Head}
 use Rattle.cxt_format.specs.declared.CxtFault.{CxtFault}
 use Rattle.cxt_format.specs.declared.CxtFault.TheVariants as fault
@@ -34,22 +35,6 @@ next_of form k (line ∷ lines) = then (form k line) (λ x. Ok (x, record { numb
 -- what the form makes of the next line, which there must be
 abbrev pub next : {X : Type 0} → (ℕ → Line → Result X CxtFault) → Left → Taken X
 next form left = next_of form left.number left.lines
-
-abbrev pub after_blanks_of : ℕ → List Line → Left
-after_blanks_of k [] = record { number = k; lines = [] }
-after_blanks_of k (line ∷ lines) = cond (is_blank_line line) (after_blanks_of (k + 1) lines) (record { number = k; lines = line ∷ lines })
-
--- what is left after the blank lines at the front
-abbrev pub after_blanks : Left → Left
-after_blanks left = after_blanks_of left.number left.lines
-
-abbrev pub after_blank_of : ℕ → List Line → Left
-after_blank_of k [] = record { number = k; lines = [] }
-after_blank_of k (line ∷ lines) = cond (is_blank_line line) (record { number = k + 1; lines = lines }) (record { number = k; lines = line ∷ lines })
-
--- what is left after the next line, where that is blank
-abbrev pub after_blank : Left → Left
-after_blank left = after_blank_of left.number left.lines
 
 -- n more of what `take` takes, which may look at those before
 abbrev pub more : {X : Type 0} → (List X → Left → Taken X) → List X → ℕ → Left → Taken (List X)
@@ -112,5 +97,5 @@ without_mark bytes = bytes
 unfoldable pub cxt_form : List ℕ → Result NamedContext CxtFault
 cxt_form bytes =
     cond (utf8_valid_len bytes == length bytes)
-    (table_form (lines_of (without_mark bytes)))
+    (table_form (lines (without_mark bytes)))
     (Err (fault.NotUtf8 (utf8_valid_len bytes)))

@@ -3,7 +3,6 @@
 
 ghost use Rattle.std.specs.Prelude.{◌≡◌};
 
-mod lines;
 mod read;
 mod words;
 mod write;
@@ -12,7 +11,6 @@ use fca_model::Memory;
 pub use read::read_cxt;
 use std::alloc::{AllocError, AllocFailed};
 use thiserror::Error;
-pub use words::{is_blank_line, is_number, trimmed, value_of};
 pub use write::write_cxt;
 
 /// Why bytes are no table in the Burmeister form. Lines are numbered from 1.

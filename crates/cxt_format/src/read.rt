@@ -2,20 +2,20 @@
 
 ghost use Rattle.std.specs.Prelude.{◌≡◌, ◌<◌, ◌≤◌, ◌-◌, ◌^◌, [], IfOk, false, length, vec_len, bytes_eq};
 ghost use Rattle.std.specs.List.{list_any};
-ghost use Rattle.cxt_format.specs.Lines.{lines_of};
+ghost use Rattle.text_pieces.specs.Lines.{lines};
 ghost use Rattle.cxt_format.specs.Words as word;
 ghost use Rattle.cxt_format.specs.Form as form;
 ghost use Rattle.cxt_format.specs.Form.{Tells, Takes};
 
 use crate::CxtFault;
-use crate::lines::Lines;
-use crate::words::{count_of, is_mark, name_of, row_of, title_of};
+use crate::words::{count_of, is_b_line, name_of, row_of, title_of};
 use attr_bits::Attrs;
 use context_table::Table;
 use derivation::Rows;
-use fca_model::{MAX_ATTRIBUTES, MAX_OBJECTS, Memory, Name};
+use fca_model::{MAX_ATTRIBUTES, MAX_OBJECTS, Name};
 use indexmap::IndexSet;
 use std::alloc::Global;
+use text_pieces::Lines;
 
 /// What stands before the names.
 #[derive(Drop)]
@@ -37,7 +37,7 @@ pub fn read_cxt(alloc: Global, bytes: &[u8]) -> Result<Table, CxtFault>
 
 fn read_text(alloc: Global, text: &str) -> Result<Table, CxtFault>
     requires { length text.now < 2 ^ 63 }
-    ensures { Tells result (form.table_form (lines_of (form.without_mark text.now))) }
+    ensures { Tells result (form.table_form (lines (form.without_mark text.now))) }
 {
     let mut lines = Lines::new(without_mark(text));
     let head = read_head(alloc, &mut lines)?;
@@ -89,7 +89,7 @@ fn next_mark(lines: &mut Lines<'_>) -> Result<(), CxtFault>
     let number = lines.number();
     match lines.next() {
         Some(line) => {
-            if is_mark(line.as_bytes()) {
+            if is_b_line(line.as_bytes()) {
                 Ok(())
             } else {
                 Err(CxtFault::NotB)
@@ -110,7 +110,6 @@ fn next_title(alloc: Global, lines: &mut Lines<'_>) -> Result<Option<Name>, CxtF
 }
 
 fn next_count(most: usize, lines: &mut Lines<'_>) -> Result<usize, CxtFault>
-    requires { most < 2 ^ 64 - 1 }
     ensures form { Takes (λ x. x) result (form.next (word.count_form most) lines.old) lines.new }
     ensures within { IfOk result (λ count. count ≤ most) }
 {
@@ -165,18 +164,7 @@ fn read_attributes(
     ensures counted { IfOk result (λ names. vec_len names ≡ count) }
 {
     let names = read_new_names(alloc, count, lines)?;
-    Ok(listed(alloc, names)?)
-}
-
-/// The names in their order.
-fn listed(alloc: Global, names: IndexSet<Name>) -> Result<Vec<Name>, Memory>
-    ensures { IfOk result (λ list. list.items ≡ names.keys) }
-{
-    let mut list = Vec::with_capacity(alloc, names.len())?;
-    for name in names {
-        list.push(name)?;
-    }
-    Ok(list)
+    Ok(names.into_iter().collect(alloc)?)
 }
 
 /// Attribute names in their order, looked up by hash.

@@ -4,21 +4,23 @@ ghost use Rattle.std.specs.Prelude.{◌≡◌, ◌≤◌, ◌+◌, ◌-◌, ◌+
 ghost use Rattle.std.specs.Option.{ForSome};
 ghost use Rattle.std.specs.Fmt.{decimal};
 ghost use Rattle.fca_model.specs.Names.{IsName};
-ghost use Rattle.cxt_format.specs.Lines.{text_of};
+ghost use Rattle.text_pieces.specs.Lines.{text_of};
+ghost use Rattle.text_pieces.specs.Marks.{marks_of};
 ghost use Rattle.cxt_format.specs.Form.{cxt_form};
-ghost use Rattle.cxt_format.specs.Written.{EachName, cxt_text, head_lines, row_line, title_line};
+ghost use Rattle.cxt_format.specs.Written.{EachName, cxt_text, head_lines, title_line};
 
 use attr_bits::Attrs;
 use context_table::Table;
 use derivation::Rows;
 use fca_model::Memory;
 use std::alloc::Global;
-
-/// The characters of a place without a cross and with one.
-const MARKS: [u8; 2] = [b'.', b'X'];
+use text_pieces::marks_of;
 
 /// How many characters of a row are put at once.
 const BLOCK: u32 = 64;
+
+/// The bytes of these.
+const BLOCK_BYTES: usize = BLOCK as usize;
 
 /// The written form of the table.
 pub fn write_cxt(alloc: Global, table: &Table) -> Result<Vec<u8>, Memory>
@@ -83,7 +85,7 @@ fn write_attributes(text: &mut Vec<u8>, table: &Table) -> Result<(), Memory>
 }
 
 fn write_rows(text: &mut Vec<u8>, rows: &Rows) -> Result<(), Memory>
-    ensures { OnOk result (text.new.items ≡ text.old.items ++ text_of (map row_line rows.now.rows)) }
+    ensures { OnOk result (text.new.items ≡ text.old.items ++ text_of (map marks_of rows.now.rows)) }
 {
     for i in 0..rows.len() {
         write_row(text, &rows.get(i))?;
@@ -92,30 +94,16 @@ fn write_rows(text: &mut Vec<u8>, rows: &Rows) -> Result<(), Memory>
 }
 
 fn write_row(text: &mut Vec<u8>, row: &Attrs) -> Result<(), Memory>
-    ensures { OnOk result (text.new.items ≡ text.old.items ++ row_line row.now ++ 10 ∷ []) }
+    ensures { OnOk result (text.new.items ≡ text.old.items ++ marks_of row.now ++ 10 ∷ []) }
 {
     for block in 0..row.width().div_ceil(BLOCK) {
         let from = BLOCK * block;
         let end = row.width().min(from + BLOCK);
-        let marks = marks_of(row, from, end);
+        let marks = marks_of::<BLOCK_BYTES>(row, from, end);
         text.extend_from_slice(&marks[..(end - from) as usize])?;
     }
     text.push(b'\n')?;
     Ok(())
-}
-
-/// The characters of the places from `from` to `end`, with nothing meant from there on.
-fn marks_of(row: &Attrs, from: u32, end: u32) -> [u8; 64]
-    requires order { from ≤ end }
-    requires few { end ≤ from + BLOCK }
-    requires inside { end ≤ length row.now }
-    ensures { take (end - from) result ≡ row_line (take (end - from) (drop from row.now)) }
-{
-    let mut marks = [0; 64];
-    for j in 0..end - from {
-        marks[j as usize] = MARKS[usize::from(row.has(from + j))];
-    }
-    marks
 }
 
 fn write_line(text: &mut Vec<u8>, line: &[u8]) -> Result<(), Memory>

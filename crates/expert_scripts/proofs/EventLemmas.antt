@@ -11,8 +11,12 @@ use Rattle.fca_model.specs.Exploration.{SetEvent, is_expert}
 use Rattle.fca_model.specs.declared.TheConstants.{MAX_EXPERTS}
 use Rattle.fca_model.specs.declared.Event.TheVariants.{Draw, Confirm, Row, Leave}
 use Rattle.expert_wire.specs.Texts.{pattern}
-use Rattle.expert_wire.specs.Words.{is_space, first_word, later_words, is_numeral, value_of, named_row}
-use Rattle.expert_wire.proofs.ReadLemmas.{before_first-at, after_first-at, numeral-decimal, ascii_pattern, utf8_words, utf8_decimal, decimal_no_space, named_row-written}
+use Rattle.text_pieces.specs.Numerals.{is_numeral, value_of}
+use Rattle.text_pieces.specs.Words.{is_space, first_word, later_words}
+use Rattle.expert_wire.specs.Words.{named_row}
+use Rattle.text_pieces.proofs.NumeralLemmas.{numeral-decimal, utf8_decimal, decimal_no_space}
+use Rattle.text_pieces.proofs.WordLemmas.{before_first-at, after_first-at}
+use Rattle.expert_wire.proofs.ReadLemmas.{ascii_pattern, utf8_words, named_row-written}
 use Rattle.expert_scripts.specs.declared.fault.ScriptFault.TheVariants.{BadLine, BadExpert}
 use Rattle.expert_scripts.specs.Scripts.{CanBeSaid, expert_in, event_by, row_by, row_event, event_of, event_of_words}
 use Rattle.expert_scripts.specs.Transcripts.{event_text}

@@ -23,9 +23,12 @@ use Rattle.implication_closure.specs.Closing.{has_width}
 use Rattle.explore_state.specs.Settings.{name_of}
 use Rattle.expert_wire.specs.declared.requests.RequestFault.{RequestFault}
 use Rattle.expert_wire.specs.declared.requests.RequestFault.TheVariants.{Line, Width, Memory as RequestMemory}
-use Rattle.expert_wire.specs.Lines.{lines, said_from}
+use Rattle.text_pieces.specs.Lines.{lines}
+use Rattle.expert_wire.specs.Lines.{said_from}
 use Rattle.expert_wire.specs.Replies.{heading}
-use Rattle.expert_wire.specs.Words.{is_space, is_numeral, value_of, named_row, row_of_width, is_name, set_marked, first_word, later_words}
+use Rattle.text_pieces.specs.Numerals.{is_numeral, value_of}
+use Rattle.text_pieces.specs.Words.{is_space, first_word, later_words}
+use Rattle.expert_wire.specs.Words.{named_row, row_of_width, is_name, set_marked}
 use Rattle.known_rules.specs.declared.fault.KnownFault.{KnownFault}
 use Rattle.known_rules.specs.declared.fault.KnownFault.TheVariants.{BadWidth as WrongWidth}
 use Rattle.known_rules.specs.Known.{rule_of_width, known_rule, with_first, all_ok}

@@ -4,7 +4,8 @@ use Rattle.std.proofs.Common.{◌≡◌, ℕ, true, false, cond, List, [], ◌�
 use Rattle.std.specs.Str.{bytes_eq}
 use Rattle.fca_model.specs.Tables.{Text}
 use Rattle.fca_model.specs.Exploration.{SetEvent}
-use Rattle.expert_wire.specs.Lines.{lines, said_from}
+use Rattle.text_pieces.specs.Lines.{lines}
+use Rattle.expert_wire.specs.Lines.{said_from}
 use Rattle.expert_wire.specs.Replies.{heading}
 use Rattle.known_rules.specs.Known.{with_first, all_ok}
 use Rattle.expert_scripts.specs.declared.fault.ScriptFault.{ScriptFault}

@@ -20,13 +20,20 @@ use Rattle.fca_model.specs.declared.Event.TheVariants.{Draw, Confirm, Row, Leave
 use Rattle.attr_bits.specs.Difference.{minus}
 use Rattle.implication_closure.specs.Closing.{has_width, HaveWidth}
 use Rattle.explore_state.specs.Settings.{name_of}
-use Rattle.expert_wire.specs.Lines.{lines, is_skipped, said_from}
+use Rattle.text_pieces.specs.Lines.{lines}
+use Rattle.expert_wire.specs.Lines.{is_skipped, said_from}
 use Rattle.expert_wire.specs.Texts.{line_end, pattern, names_of, continued, braced, braces_text, arrow_text, full_text}
 use Rattle.expert_wire.specs.Replies.{heading, reply_text}
-use Rattle.expert_wire.specs.Words.{is_space, is_name, is_numeral, value_of, first_word, later_words}
+use Rattle.text_pieces.specs.Numerals.{is_numeral, value_of}
+use Rattle.text_pieces.specs.Words.{is_space, first_word, later_words}
+use Rattle.expert_wire.specs.Words.{is_name}
 use Rattle.expert_wire.proofs.LineLemmas.{said_from-told}
-use Rattle.expert_wire.proofs.ReadLemmas.{before_first-at, after_first-at, pattern_no_break, ascii_pattern, utf8_words, utf8_decimal, decimal_no_space}
-use Rattle.expert_wire.proofs.SkipLemmas.{Skips, Skips-comment, lines-line, no_break-append, no_break-decimal, no_break-name, no_break-full, no_break-reply}
+use Rattle.text_pieces.proofs.NumeralLemmas.{utf8_decimal, decimal_no_space}
+use Rattle.text_pieces.proofs.WordLemmas.{before_first-at, after_first-at}
+use Rattle.expert_wire.proofs.ReadLemmas.{pattern_no_break, ascii_pattern, utf8_words}
+use Rattle.text_pieces.proofs.LineLemmas.{lines-line, no_break-append}
+use Rattle.text_pieces.proofs.NumeralLemmas.{no_break-decimal}
+use Rattle.expert_wire.proofs.SkipLemmas.{Skips, Skips-comment, no_break-name, no_break-full, no_break-reply}
 use Rattle.known_rules.specs.Known.{known_rule, with_first, all_ok}
 use Rattle.known_rules.proofs.KnownLemmas.{full_text-read}
 use Rattle.expert_scripts.specs.declared.fault.ScriptFault.{ScriptFault}

@@ -18,9 +18,12 @@ use Rattle.fca_model.specs.declared.Event.TheVariants.{Draw, Confirm, Row, Leave
 use Rattle.explore_state.specs.Settings.{settings_of, name_of}
 use Rattle.expert_wire.specs.declared.requests.RequestFault.{RequestFault}
 use Rattle.expert_wire.specs.declared.requests.RequestFault.TheVariants.{Line, Width, Memory as RequestMemory}
-use Rattle.expert_wire.specs.Lines.{lines, said_from}
+use Rattle.text_pieces.specs.Lines.{lines}
+use Rattle.expert_wire.specs.Lines.{said_from}
 use Rattle.expert_wire.specs.Replies.{heading}
-use Rattle.expert_wire.specs.Words.{first_word, later_words, is_numeral, value_of, is_name, named_row}
+use Rattle.text_pieces.specs.Numerals.{is_numeral, value_of}
+use Rattle.text_pieces.specs.Words.{first_word, later_words}
+use Rattle.expert_wire.specs.Words.{is_name, named_row}
 use Rattle.known_rules.specs.declared.fault.KnownFault.{KnownFault}
 use Rattle.known_rules.specs.declared.fault.KnownFault.TheVariants as known
 use Rattle.known_rules.specs.Known.{known_rule, all_ok}

@@ -5,9 +5,10 @@ ghost use Rattle.fca_model.specs.declared.TheConstants.{MAX_ATTRIBUTES};
 ghost use Rattle.expert_scripts.specs.Scripts.{event_of, event_of_words, expert_in, row_event};
 
 use crate::fault::ScriptFault;
-use expert_wire::{RequestFault, expert_of, is_numeral, read_row, split_word, text_of};
+use expert_wire::{RequestFault, expert_of, read_row, text_of};
 use explore_state::Event;
 use std::alloc::Global;
+use text_pieces::{is_numeral, split_word};
 
 /// The event of a line that is not skipped.
 pub(crate) fn read_event(
@@ -52,7 +53,7 @@ fn event_of_words(
 fn read_expert(word: &str, number: usize) -> Result<u8, ScriptFault>
     ensures { result ≡ expert_in number word.now }
 {
-    if !is_numeral(word) {
+    if !is_numeral(word.as_bytes()) {
         return Err(ScriptFault::BadLine(number));
     }
     expert_of(word).ok_or(ScriptFault::BadExpert(number))

@@ -11,10 +11,11 @@ use crate::events::read_event;
 use crate::fault::ScriptFault;
 use crate::scripts::{Events, Script};
 use crate::told::Told;
-use expert_wire::{split_word, text_of};
+use expert_wire::text_of;
 use explore_state::Event;
 use fca_model::Memory;
 use std::alloc::Global;
+use text_pieces::split_word;
 
 /// What may come of a script.
 #[derive(Clone, Copy)]

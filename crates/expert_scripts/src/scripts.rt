@@ -9,10 +9,11 @@ ghost use Rattle.expert_scripts.specs.Transcripts.{CanBeTold};
 
 use crate::fault::ScriptFault;
 use crate::reading::Reading;
-use expert_wire::{is_skipped, split_line};
+use expert_wire::is_skipped;
 use explore_state::{Event, Settings};
 use std::alloc::Global;
 use std::marker::Model;
+use text_pieces::bytes::split_line;
 
 /// What a script says.
 #[derive(Drop)]

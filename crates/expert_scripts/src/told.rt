@@ -8,12 +8,13 @@ ghost use Rattle.expert_scripts.specs.Stages.{told_of};
 ghost use Rattle.known_rules.specs.Known.{known_rule};
 
 use crate::fault::ScriptFault;
-use expert_wire::{expert_of, is_numeral, split_word};
+use expert_wire::expert_of;
 use explore_state::{ExpertNames, Settings};
 use fca_model::{MAX_EXPERTS, Memory, Name, NameFault};
 use implication_closure::ImplicationList;
 use known_rules::read_rule;
 use std::alloc::Global;
+use text_pieces::{is_numeral, split_word};
 
 /// What lines of settings have told so far.
 #[derive(Drop)]
@@ -83,7 +84,7 @@ impl Told {
         ensures width { self.new.known.width ≡ self.old.known.width }
         ensures refused { IfErr result (λ e. holders_told number (told_of self.old) word.now ≡ Err e) }
     {
-        if !is_numeral(word) {
+        if !is_numeral(word.as_bytes()) {
             return Err(ScriptFault::BadLine(number));
         }
         let holders = expert_of(word);
@@ -101,7 +102,7 @@ impl Told {
         ensures refused { IfErr result (λ e. (e ≡ ScriptFault.Memory) ⊎ (name_told number (told_of self.old) words.now ≡ Err e)) }
     {
         let (word, name) = split_word(words);
-        if !is_numeral(word) {
+        if !is_numeral(word.as_bytes()) {
             return Err(ScriptFault::BadLine(number));
         }
         let name = match Name::new(alloc, name) {

@@ -11,7 +11,7 @@ use Rattle.fca_model.specs.Exploration.{SetEvent, SetEntry}
 use Rattle.expert_wire.specs.Texts.{line_end}
 use Rattle.expert_wire.specs.Replies.{reply_line}
 use Rattle.expert_wire.specs.Requests.{request_form}
-use Rattle.expert_wire.specs.Lines.{is_line_feed}
+use Rattle.text_pieces.specs.Lines.{is_line_feed}
 use Rattle.expert_wire.specs.declared.requests.Request.{Request}
 use Rattle.expert_wire.specs.declared.requests.Request.TheVariants.{Draw as DrawAsked, Confirm as ConfirmAsked, Row as RowAsked, Leave as LeaveAsked, Quit}
 use Rattle.expert_wire.specs.declared.requests.RequestFault.{RequestFault}

@@ -1,4 +1,4 @@
--- Marks and names, written one by one. `bridged` is what is still to be written of a list: the next name comes behind nothing
+-- Names, written one by one. `bridged` is what is still to be written of a list: the next name comes behind nothing
 -- where it is the first, else behind a comma and a space.
 use Rattle.std.proofs.Common.{◌≡◌, ℕ, suc, ◌<◌, ◌≤◌, true, false, List, [], ◌∷◌, ◌++◌, length, drop, get_or, refl, sym, ap, ◌∙◌, append_assoc, arith, min, cond, inl, inr, Some, take, map, ap₂}
 use Rattle.std.proofs.Math.Nat.{le-min}
@@ -9,7 +9,8 @@ use Rattle.std.proofs.Math.ListN.{drop_of_length-le}
 use Rattle.std.specs.Prelude.{codes, slice_get}
 use Rattle.fca_model.specs.Sets.{Set}
 use Rattle.fca_model.specs.Tables.{Text}
-use Rattle.expert_wire.specs.Texts.{names_of, continued, listed, mark_of, pattern, ordinal, line_end, braces_text, full_text}
+use Rattle.text_pieces.specs.Marks.{marks_of}
+use Rattle.expert_wire.specs.Texts.{names_of, continued, listed, pattern, ordinal, line_end, braces_text, full_text}
 use Rattle.expert_wire.specs.Replies.{numbered_rule}
 use Rattle.fca_model.specs.Implications.{Rule}
 use Rattle.attr_bits.specs.Difference.{minus}
@@ -66,15 +67,9 @@ bridged-member between i names A name tail h k e named =
     ∙ ap (λ x. (between ++ (name ++ x)) ++ tail) (sym (bridged-next (names_from (suc i) names A)))
     ∙ simp append_assoc
 
--- ---- marks
+-- ---- patterns
 
--- marks that were filled in place by place
-pub marks_filled : (A : Set) (marks : Text) → length A ≤ length marks → ((k : ℕ) → k < length A → get_or marks k 0 ≡ mark_of (get_or A k false)) → take (length A) marks ≡ map mark_of A
-marks_filled [] marks h f = refl
-marks_filled (a ∷ A) [] h f = absurd (omega arith)
-marks_filled (a ∷ A) (m ∷ marks) h f = ap₂ (λ x xs. x ∷ xs) (f 0 (omega arith)) (marks_filled A marks (omega arith) (λ k l. f (suc k) (omega arith)))
-
-pub pattern-some : (A : Set) → 0 < length A → pattern A ≡ map mark_of A
+pub pattern-some : (A : Set) → 0 < length A → pattern A ≡ marks_of A
 pattern-some [] h = absurd (omega arith)
 pattern-some (a ∷ A) h = refl
 

@@ -1,48 +1,36 @@
--- No text that a line is made of has a line break, so the lines of a text are the lines that were written. `Skips` is said of a text
+-- No text that a line is made of has a line break. `Skips` is said of a text
 -- of skipped lines: before any other text it only moves the numbers of the lines on.
-use Rattle.std.proofs.Common.{◌≡◌, ℕ, zero, suc, ◌+◌, ◌-◌, Bool, true, false, cond, List, [], ◌∷◌, ◌++◌, length, take, get_or, Some, None, refl, sym, ap, ap₂, ◌∙◌, arith, append_assoc, length-append, inl, inr}
-use Rattle.std.specs.Char.{is_ascii_digit}
-use Rattle.std.specs.Prelude.{codes, decimal, is_none, ◌==◌, nat_lt}
+use Rattle.std.proofs.Common.{◌≡◌, ℕ, zero, suc, ◌+◌, true, false, List, [], ◌∷◌, ◌++◌, Option, Some, None, refl, ap, ◌∙◌, append_assoc}
+use Rattle.std.specs.Prelude.{codes, is_none}
 use Rattle.std.specs.List.{list_any, list_all, flat_map}
-use Rattle.std.specs.Str.Lines.{strip_carriage_return}
-use Rattle.std.proofs.lemmas.Bool.{false≢true, cases_Bool, or_parts, and_parts, and_from, or_from}
-use Rattle.std.proofs.lemmas.List.Folds.{list_any-append}
+use Rattle.std.proofs.lemmas.Bool.{false≢true, and_parts, and_from}
 use Rattle.fca_model.specs.Sets.{Set}
 use Rattle.fca_model.specs.Tables.{Text}
 use Rattle.fca_model.specs.Names.{name_fault, is_line_break}
-use Rattle.fca_model.specs.declared.TheConstants.{MAX_NAME_BYTES}
-use Rattle.fca_model.specs.declared.names.NameFault.TheVariants.{Empty, Long, Line}
+use Rattle.fca_model.specs.declared.names.NameFault.{NameFault}
 use Rattle.fca_model.specs.Implications.{Rule}
 use Rattle.fca_model.specs.Exploration.{SetReply}
 use Rattle.fca_model.specs.declared.Reply.TheVariants.{Ask, Done, AllHeld, Accepted, Taken, Left, NotHeld, Misses, Keeps, Breaks, Refuted, SupersededRow, SupersededBy}
 use Rattle.attr_bits.specs.Difference.{minus}
+use Rattle.text_pieces.specs.Lines.{lines}
+pub use Rattle.text_pieces.proofs.LineLemmas.{no_break-append}
+pub use Rattle.text_pieces.proofs.NumeralLemmas.{no_break-decimal}
+use Rattle.text_pieces.proofs.LineLemmas.{lines-line, no_break-faultless}
 use Rattle.expert_wire.specs.Texts.{line_end, ordinal, pattern, names_of, continued, braced, braces_text, arrow_text, full_text}
 use Rattle.expert_wire.specs.Replies.{attribute_name, numbered_row, numbered_rule, reply_text}
 use Rattle.expert_wire.specs.Words.{is_name}
-use Rattle.expert_wire.specs.Lines.{is_line_feed, lines, said_from}
-use Rattle.expert_wire.proofs.LineLemmas.{lines-cons, said_from-skipped}
-use Rattle.expert_wire.proofs.ReadLemmas.{before_first-at, after_first-at, list_any-excluded, digit_no_break, decimal_digits, pattern_no_break}
+use Rattle.expert_wire.specs.Lines.{said_from}
+use Rattle.expert_wire.proofs.LineLemmas.{said_from-skipped}
+use Rattle.expert_wire.proofs.ReadLemmas.{pattern_no_break}
 
 -- ---- texts without a line break
 
-pub no_break-append : (a b : Text) → list_any is_line_break a ≡ false → list_any is_line_break b ≡ false → list_any is_line_break (a ++ b) ≡ false
-no_break-append a b h k = list_any-append is_line_break a b ∙ or_from (list_any is_line_break a) (list_any is_line_break b) h k
-
-pub no_break-decimal : (n : ℕ) → list_any is_line_break (decimal n) ≡ false
-no_break-decimal n = list_any-excluded is_ascii_digit is_line_break (decimal n) digit_no_break (decimal_digits n)
-
-break_is_fault : (a b c : Bool) → c ≡ true → is_none (cond a (Some Empty) (cond b (Some Long) (cond c (Some Line) None))) ≡ false
-break_is_fault true b c h = refl
-break_is_fault false true c h = refl
-break_is_fault false false true h = refl
-break_is_fault false false false h = absurd (false≢true h)
+faultless : (fault : Option NameFault) → is_none fault ≡ true → fault ≡ None
+faultless None h = refl
+faultless (Some fault) h = absurd (false≢true h)
 
 pub no_break-name : (name : Text) → is_name name ≡ true → list_any is_line_break name ≡ false
-unfolding name_fault
-no_break-name name h = elim (cases_Bool (list_any is_line_break name)) [
-  | inl t ↦ absurd (false≢true (sym (break_is_fault (length name == 0) (nat_lt MAX_NAME_BYTES (length name)) (list_any is_line_break name) t) ∙ h))
-  | inr f ↦ f
-]
+no_break-name name h = no_break-faultless name (faultless (name_fault name) h)
 
 no_break-names_of : (attributes : List Text) (A : Set) → list_all is_name attributes ≡ true → list_all is_name (names_of attributes A) ≡ true
 no_break-names_of [] A h = refl
@@ -96,28 +84,6 @@ no_break-reply attributes (Breaks place i) h = no_break-rule attributes place i 
 no_break-reply attributes (Refuted place r) h = no_break-row place r
 no_break-reply attributes (SupersededRow place r) h = no_break-row place r
 no_break-reply attributes (SupersededBy place i) h = no_break-rule attributes place i h
-
--- ---- one line
-
-no_feed : (l : Text) → list_any is_line_break l ≡ false → list_any is_line_feed l ≡ false
-no_feed [] h = refl
-no_feed (b ∷ l) h =
-    let parts = or_parts (is_line_break b) (list_any is_line_break l) h in
-    or_from (is_line_feed b) (list_any is_line_feed l) (or_parts (b == 10) (b == 13) parts.0).0 (no_feed l parts.1)
-
-no_return : (l : Text) → list_any is_line_break l ≡ false → (i : ℕ) → (get_or l i 0 == 13) ≡ false
-no_return [] h i = refl
-no_return (b ∷ l) h zero = (or_parts (b == 10) (b == 13) (or_parts (is_line_break b) (list_any is_line_break l) h).0).1
-no_return (b ∷ l) h (suc i) = no_return l (or_parts (is_line_break b) (list_any is_line_break l) h).1 i
-
-strip-line : (l : Text) → list_any is_line_break l ≡ false → strip_carriage_return l ≡ l
-strip-line l h = ap (λ b. cond b (take (length l - 1) l) l) (no_return l h (length l - 1))
-
-pub lines-line : (l rest : Text) → list_any is_line_break l ≡ false → lines (l ++ (10 ∷ rest)) ≡ l ∷ lines rest
-lines-line l rest h =
-    lines-cons (l ++ (10 ∷ rest)) (omega (arith, length-append l (10 ∷ rest)))
-    ∙ ap₂ (λ x t. strip_carriage_return x ∷ lines t) (before_first-at is_line_feed l 10 rest (no_feed l h) refl) (after_first-at is_line_feed l 10 rest (no_feed l h) refl)
-    ∙ ap (λ x. x ∷ lines rest) (strip-line l h)
 
 -- ---- skipped lines
 

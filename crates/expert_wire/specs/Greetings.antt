@@ -1,15 +1,11 @@
 -- The first lines of a session: who is greeted, and over which attributes.
 --
 -- Expert 2 over a and b is greeted by `exploration 1`, `expert 2`, `attributes 2`, `a` and `b`.
-use Rattle.std.specs.Prelude.{ℕ, List, [], ◌∷◌, ◌++◌, codes, decimal}
+use Rattle.std.specs.Prelude.{ℕ, ◌++◌, codes, decimal}
 use Rattle.fca_model.specs.Tables.{Text, NamedContext}
+use Rattle.text_pieces.specs.Lines.{text_of}
 use Rattle.expert_wire.specs.Texts.{line_end}
 use Rattle.expert_wire.specs.Replies.{heading}
-
--- each text on a line of its own
-abbrev pub text_lines : List Text → Text
-text_lines [] = []
-text_lines (x ∷ xs) = (x ++ line_end) ++ text_lines xs
 
 -- the lines before the names of the attributes
 abbrev pub greeting_words : NamedContext → ℕ → Text
@@ -17,4 +13,4 @@ greeting_words t e = heading ++ (line_end ++ (codes "expert " ++ (decimal e ++ (
 
 -- the greeting of expert e
 abbrev pub greeting : NamedContext → ℕ → Text
-greeting t e = greeting_words t e ++ text_lines t.attributes
+greeting t e = greeting_words t e ++ text_of t.attributes

@@ -8,7 +8,8 @@ use Rattle.expert_wire.specs.declared.requests.Request.{Request}
 use Rattle.expert_wire.specs.declared.requests.Request.TheVariants.{Draw, Confirm, Row, Leave, Quit}
 use Rattle.expert_wire.specs.declared.requests.RequestFault.{RequestFault}
 use Rattle.expert_wire.specs.declared.requests.RequestFault.TheVariants.{Line}
-use Rattle.expert_wire.specs.Words.{first_word, later_words, named_row}
+use Rattle.text_pieces.specs.Words.{first_word, later_words}
+use Rattle.expert_wire.specs.Words.{named_row}
 
 abbrev pub row_request : Result (Text × Set) RequestFault → Result Request RequestFault
 row_request (Ok x) = Ok (Row x.0 x.1)

@@ -1,9 +1,10 @@
 -- Sets and implications as texts, by the names of the attributes.
-use Rattle.std.specs.Prelude.{ℕ, ◌+◌, Bool, true, false, cond, List, [], ◌∷◌, ◌++◌, map, codes, decimal}
+use Rattle.std.specs.Prelude.{ℕ, ◌+◌, cond, List, [], ◌∷◌, ◌++◌, codes, decimal}
 use Rattle.fca_model.specs.Sets.{Set}
 use Rattle.fca_model.specs.Tables.{Text}
 use Rattle.fca_model.specs.Implications.{Rule}
 use Rattle.attr_bits.specs.Difference.{minus}
+use Rattle.text_pieces.specs.Marks.{marks_of}
 
 -- what stands at the end of each line
 abbrev pub line_end : Text
@@ -15,15 +16,10 @@ ordinal place = decimal (place + 1)
 
 -- ---- sets
 
--- `X` for a member and `.` for none
-abbrev pub mark_of : Bool → ℕ
-mark_of true = 88
-mark_of false = 46
-
 -- one mark for each attribute, and a dash where there are no attributes
 abbrev pub pattern : Set → Text
 pattern [] = codes "-"
-pattern (a ∷ A) = map mark_of (a ∷ A)
+pattern (a ∷ A) = marks_of (a ∷ A)
 
 -- the names of the members, in the order of the attributes
 abbrev pub names_of : List Text → Set → List Text

@@ -1,43 +1,13 @@
--- The words of a line: parted by one space, patterns of sets, numbers, and rows with their names.
-use Rattle.std.specs.Prelude.{ℕ, Bool, ◌&&◌, ◌||◌, ◌==◌, nat_lt, cond, Option, Some, None, Result, Ok, Err, [], map, length, is_none, bytes_eq, codes}
-use Rattle.std.specs.List.{list_all, before_first, after_first}
-use Rattle.std.specs.Char.{is_ascii_digit}
-use Rattle.std.specs.Str.Parse.{digits_value}
+-- Patterns of sets, and rows with their names.
+use Rattle.std.specs.Prelude.{ℕ, Bool, ◌&&◌, ◌==◌, nat_lt, cond, Option, Some, None, Result, Ok, Err, [], map, length, is_none, bytes_eq, codes}
+use Rattle.std.specs.List.{list_all}
 use Rattle.fca_model.specs.Names.{name_fault}
 use Rattle.fca_model.specs.Sets.{Set}
 use Rattle.fca_model.specs.Tables.{Text}
+use Rattle.text_pieces.specs.Marks.{is_cross, is_mark}
+use Rattle.text_pieces.specs.Words.{first_word, later_words}
 use Rattle.expert_wire.specs.declared.requests.RequestFault.{RequestFault}
 use Rattle.expert_wire.specs.declared.requests.RequestFault.TheVariants.{Line, Width}
-
-abbrev pub is_space : ℕ → Bool
-is_space byte = byte == 32
-
--- what stands before the first space, or all where there is none
-abbrev pub first_word : Text → Text
-first_word text = before_first is_space text
-
--- what stands behind the first space, or nothing where there is none
-abbrev pub later_words : Text → Text
-later_words text = after_first is_space text
-
--- ---- numbers
-
--- one or more decimal digits
-abbrev pub is_numeral : Text → Bool
-is_numeral word = nat_lt 0 (length word) && list_all is_ascii_digit word
-
--- the number that digits write
-abbrev pub value_of : Text → ℕ
-value_of word = digits_value 10 word
-
--- ---- sets
-
-abbrev pub is_cross : ℕ → Bool
-is_cross byte = (byte == 88) || (byte == 120)
-
--- `X` or `x` for a member, `.` for none
-abbrev pub is_mark : ℕ → Bool
-is_mark byte = is_cross byte || (byte == 46)
 
 -- the set of the members that a word marks, where it has one or more marks, or is the dash of a set without attributes
 abbrev pub set_marked : Text → Option Set

@@ -1,4 +1,4 @@
-//! What experts write and are answered, as texts: lines and their words, greetings, requests and replies.
+//! What experts write and are answered, as texts: rows, greetings, requests and replies.
 #![tactic(auto)]
 
 mod draft;
@@ -13,8 +13,8 @@ mod words;
 
 pub use draft::Draft;
 pub use greeting::write_greeting;
-pub use lines::{is_skipped, split_line};
+pub use lines::is_skipped;
 pub use parts::Part;
 pub use replies::write_reply;
 pub use requests::{Request, RequestFault, read_request};
-pub use words::{crossed, expert_of, is_numeral, marks, read_row, split_word, text_of};
+pub use words::{expert_of, marks, read_row, text_of};

@@ -1,8 +1,8 @@
 //! Lines as they are written, part by part.
 
-ghost use Rattle.std.specs.Prelude.{◌≡◌, ◌≤◌, ◌++◌, ℕ, decimal, OnOk, OnErr, slice_range, length, map, take};
+ghost use Rattle.std.specs.Prelude.{◌≡◌, ◌≤◌, ◌++◌, ℕ, decimal, OnOk, OnErr, slice_range};
 ghost use Rattle.fca_model.specs.declared.TheConstants.{MAX_ATTRIBUTES};
-ghost use Rattle.expert_wire.specs.Texts.{ordinal, pattern, mark_of, braces_text};
+ghost use Rattle.expert_wire.specs.Texts.{ordinal, pattern, braces_text};
 ghost use Rattle.expert_wire.specs.Parts.{part_text, parts_text, Writes};
 
 use attr_bits::Attrs;
@@ -10,6 +10,7 @@ use context_table::Table;
 use fca_io::{Put, Sink, write_text};
 use fca_model::MAX_ATTRIBUTES;
 use itoa::Buffer;
+use text_pieces::marks_of;
 
 /// The length of the longest pattern.
 const WIDEST: usize = MAX_ATTRIBUTES as usize;
@@ -65,31 +66,12 @@ fn write_pattern<K: Sink>(sink: &mut K, set: &Attrs) -> Result<(), Put>
     ensures { Writes (K.held sink.old) (K.held sink.new) (K.faults sink.old) (K.faults sink.new) (K.beside sink.old) (K.beside sink.new)
         (K.faults_beside sink.old) (K.faults_beside sink.new) (pattern set.now) result }
 {
-    let width = set.width() as usize;
+    let width = set.width();
     if width == 0 {
         return write_bytes(sink, b"-");
     }
-    let marks = marks_of(set);
-    write_bytes(sink, &marks[..width])
-}
-
-/// The marks of the attributes, at the front.
-fn marks_of(set: &Attrs) -> [u8; WIDEST]
-    requires { length set.now ≤ MAX_ATTRIBUTES }
-    ensures long { length result ≡ MAX_ATTRIBUTES }
-    ensures front { take (length set.now) result ≡ map mark_of set.now }
-{
-    let mut marks = [b'.'; WIDEST];
-    for attribute in 0..set.width() {
-        marks[attribute as usize] = mark_of(set.has(attribute));
-    }
-    marks
-}
-
-fn mark_of(is_member: bool) -> u8
-    ensures { result ≡ mark_of is_member }
-{
-    if is_member { b'X' } else { b'.' }
+    let marks = marks_of::<WIDEST>(set, 0, width);
+    write_bytes(sink, &marks[..width as usize])
 }
 
 fn write_braces<K: Sink>(sink: &mut K, table: &Table, set: &Attrs) -> Result<(), Put>

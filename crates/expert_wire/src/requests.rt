@@ -4,11 +4,12 @@ ghost use Rattle.std.specs.Prelude.{◌≡◌, ◌≤◌, ◌⊎◌, Ok, Err, Is
 ghost use Rattle.fca_model.specs.declared.TheConstants.{MAX_ATTRIBUTES};
 ghost use Rattle.expert_wire.specs.Requests.{request_form, request_of};
 
-use crate::lines::without_return;
-use crate::words::{read_row, split_word, text_of};
+use crate::words::{read_row, text_of};
 use attr_bits::Attrs;
 use fca_model::Name;
 use std::alloc::Global;
+use text_pieces::bytes::without_return;
+use text_pieces::split_word;
 use thiserror::Error;
 
 /// What an expert asks for in a session.

@@ -1,17 +1,18 @@
 //! The words of a line.
 
-ghost use Rattle.std.specs.Prelude.{◌≡◌, ◌≤◌, ◌⊎◌, ℕ, Bool, true, false, cond, Option, Some, None, Ok, Err, IfOk, IfErr, MatchOption, map, length};
-ghost use Rattle.std.specs.List.{list_all};
-ghost use Rattle.std.specs.Char.{is_ascii_digit};
+ghost use Rattle.std.specs.Prelude.{◌≡◌, ◌≤◌, ◌⊎◌, true, false, cond, Some, None, Ok, Err, IfOk, IfErr, MatchOption, map};
 ghost use Rattle.std.specs.Str.{is_utf8};
 ghost use Rattle.fca_model.specs.declared.TheConstants.{MAX_ATTRIBUTES};
 ghost use Rattle.fca_model.specs.Exploration.{is_expert};
-ghost use Rattle.expert_wire.specs.Words.{first_word, later_words, is_numeral, is_cross, is_mark, value_of, set_marked, named_row};
+ghost use Rattle.text_pieces.specs.Marks.{is_cross};
+ghost use Rattle.text_pieces.specs.Numerals.{is_numeral, value_of};
+ghost use Rattle.expert_wire.specs.Words.{set_marked, named_row};
 
 use crate::RequestFault;
 use attr_bits::Attrs;
 use fca_model::{MAX_EXPERTS, Name, NameFault};
 use std::alloc::Global;
+use text_pieces::{are_marks, crossed, split_word, value_of};
 
 /// The text of the bytes, if they are UTF-8.
 pub fn text_of(bytes: &[u8]) -> Option<&str>
@@ -20,42 +21,25 @@ pub fn text_of(bytes: &[u8]) -> Option<&str>
     str::from_utf8(bytes).ok()
 }
 
-/// The text before the first space, and the text behind it.
-pub fn split_word(text: &str) -> (&str, &str)
-    ensures first { result.0.now ≡ first_word text.now }
-    ensures later { result.1.now ≡ later_words text.now }
-{
-    text.split_once(' ').unwrap_or((text, ""))
-}
-
-/// Whether the word is one or more decimal digits.
-pub fn is_numeral(word: &str) -> bool
-    ensures { result ≡ is_numeral word.now }
-{
-    !word.is_empty() && all_digits(word.as_bytes())
-}
-
-fn all_digits(word: &[u8]) -> bool
-    ensures { result ≡ list_all is_ascii_digit word.now }
-{
-    word.iter().all(|byte| byte.is_ascii_digit())
-}
-
 /// The number of an expert, if the digits write one.
 pub fn expert_of(digits: &str) -> Option<u8>
     requires { is_numeral digits.now ≡ true }
     ensures { result ≡ cond (is_expert (value_of digits.now)) (Some (value_of digits.now)) None }
 {
-    match digits.parse::<u8>() {
-        Ok(number) => expert_numbered(number),
-        Err(_) => None,
+    match value_of(digits.as_bytes()) {
+        Some(number) => expert_numbered(number),
+        None => None,
     }
 }
 
-fn expert_numbered(number: u8) -> Option<u8>
+fn expert_numbered(number: u64) -> Option<u8>
     ensures { result ≡ cond (is_expert number) (Some number) None }
 {
-    (1 <= number && number <= MAX_EXPERTS).then_some(number)
+    if 1 <= number && number <= u64::from(MAX_EXPERTS) {
+        Some(number as u8)
+    } else {
+        None
+    }
 }
 
 /// The marks of a pattern, if the word is a pattern.
@@ -64,43 +48,11 @@ pub fn marks(word: &[u8]) -> Option<&[u8]>
 {
     if word == b"-".as_slice() {
         Some(&[])
-    } else if !word.is_empty() && all_marks(word) {
+    } else if !word.is_empty() && are_marks(word) {
         Some(word)
     } else {
         None
     }
-}
-
-fn all_marks(word: &[u8]) -> bool
-    ensures { result ≡ list_all is_mark word.now }
-{
-    word.iter().all(|byte| is_mark(*byte))
-}
-
-fn is_cross(byte: u8) -> bool
-    ensures { result ≡ is_cross byte }
-{
-    byte == b'X' || byte == b'x'
-}
-
-fn is_mark(byte: u8) -> bool
-    ensures { result ≡ is_mark byte }
-{
-    is_cross(byte) || byte == b'.'
-}
-
-/// The set of the attributes that are marked by a cross.
-pub fn crossed(marks: &[u8]) -> Attrs
-    requires { length marks.now ≤ MAX_ATTRIBUTES }
-    ensures { result ≡ map is_cross marks.now }
-{
-    let mut set = Attrs::empty(marks.len() as u32);
-    for (attribute, byte) in marks.iter().enumerate() {
-        if is_cross(*byte) {
-            set.insert(attribute as u32);
-        }
-    }
-    set
 }
 
 /// A pattern of width n and a name, with a space between them.

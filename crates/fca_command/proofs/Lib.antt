@@ -2,4 +2,3 @@ pub mod TextLemmas
 pub mod PartLemmas
 pub mod PlaceLemmas
 pub mod WordLemmas
-pub mod NumberLemmas

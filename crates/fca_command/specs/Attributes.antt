@@ -6,7 +6,7 @@ use Rattle.std.specs.Prelude.{ℕ, Bool, false, ◌==◌, cond, Option, Some, No
 use Rattle.std.specs.List.{slice_split}
 use Rattle.fca_model.specs.Sets.{Set}
 use Rattle.fca_model.specs.Tables.{Text}
-use Rattle.cxt_format.specs.Words.{is_blank_line, trimmed}
+use Rattle.text_pieces.specs.Blanks.{is_blank_line, trimmed}
 
 abbrev pub is_comma : ℕ → Bool
 is_comma byte = byte == 44

@@ -6,7 +6,7 @@ ghost use Rattle.fca_command.specs.Attributes.{is_comma, attributes_said, later_
 
 use attr_bits::Attrs;
 use context_table::Table;
-use cxt_format::{is_blank_line, trimmed};
+use text_pieces::{is_blank_line, trimmed};
 
 /// The attributes of the table that the word names, parted by commas: a blank word names none, and a name that no attribute has
 /// makes the whole word one that names nothing.

@@ -1,10 +1,9 @@
 //! The numbers that words say.
 
-ghost use Rattle.std.specs.Prelude.{◌≡◌, ◌≤◌, ◌+◌, ◌*◌, ◌-◌, IfSome};
-ghost use Rattle.cxt_format.specs.Words.{value_of};
-ghost use Rattle.fca_command.specs.Numbers.{in_64_bits, number_said};
+ghost use Rattle.std.specs.Prelude.{◌≡◌, ◌≤◌, IfSome};
+ghost use Rattle.fca_command.specs.Numbers.{number_said};
 
-use cxt_format::is_number;
+use text_pieces::{is_numeral, value_of};
 
 /// The most digits that a number may have.
 const MAX_DIGITS: usize = 20;
@@ -14,29 +13,9 @@ pub(crate) fn number_said(most: u64, word: &[u8]) -> Option<u64>
     ensures number { result ≡ number_said most word.now }
     ensures limit { IfSome result (λ number. number ≤ most) }
 {
-    if !is_number(word) || word.len() > MAX_DIGITS {
+    if !is_numeral(word) || word.len() > MAX_DIGITS {
         return None;
     }
-    let number = written(word)?;
+    let number = value_of(word)?;
     (number <= most).then_some(number)
-}
-
-/// The number that the digits write, if it has no more than 64 bits.
-fn written(digits: &[u8]) -> Option<u64>
-    ensures { result ≡ in_64_bits (value_of digits.now) }
-{
-    let mut value = 0u64;
-    for digit in digits {
-        value = with_digit(value, *digit)?;
-    }
-    Some(value)
-}
-
-/// The number with one digit more, if it has no more than 64 bits.
-fn with_digit(value: u64, digit: u8) -> Option<u64>
-    ensures { result ≡ in_64_bits (value * 10 + (digit - 48)) }
-{
-    value
-        .checked_mul(10)?
-        .checked_add(u64::from(digit.saturating_sub(b'0')))
 }

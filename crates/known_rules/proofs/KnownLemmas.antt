@@ -5,10 +5,13 @@ use Rattle.std.specs.Prelude.{codes}
 use Rattle.fca_model.specs.Tables.{Text}
 use Rattle.fca_model.specs.Implications.{Rule}
 use Rattle.expert_wire.specs.Texts.{pattern, arrow_text, full_text}
-use Rattle.expert_wire.specs.Words.{is_space, first_word, later_words, set_marked}
-use Rattle.expert_wire.specs.Lines.{lines, is_skipped}
+use Rattle.text_pieces.specs.Words.{is_space, first_word, later_words}
+use Rattle.expert_wire.specs.Words.{set_marked}
+use Rattle.text_pieces.specs.Lines.{lines}
+use Rattle.expert_wire.specs.Lines.{is_skipped}
 use Rattle.expert_wire.proofs.LineLemmas.{later_said, said_from-skipped, said_from-told}
-use Rattle.expert_wire.proofs.ReadLemmas.{before_first-at, after_first-at, pattern_no_space, set_marked-pattern}
+use Rattle.text_pieces.proofs.WordLemmas.{before_first-at, after_first-at}
+use Rattle.expert_wire.proofs.ReadLemmas.{pattern_no_space, set_marked-pattern}
 use Rattle.known_rules.specs.declared.fault.KnownFault.{KnownFault}
 use Rattle.known_rules.specs.declared.fault.KnownFault.TheVariants.{BadWidth}
 use Rattle.known_rules.specs.Known.{rule_of_width, known_rule, with_first, all_ok, known_from, known_form}

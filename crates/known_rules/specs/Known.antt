@@ -7,8 +7,10 @@ use Rattle.std.specs.Prelude.{ℕ, ◌&&◌, ◌==◌, cond, Option, Some, None,
 use Rattle.fca_model.specs.Sets.{Set}
 use Rattle.fca_model.specs.Tables.{Text}
 use Rattle.fca_model.specs.Implications.{Rule, rule}
-use Rattle.expert_wire.specs.Words.{first_word, later_words, set_marked}
-use Rattle.expert_wire.specs.Lines.{lines, said_from}
+use Rattle.text_pieces.specs.Words.{first_word, later_words}
+use Rattle.expert_wire.specs.Words.{set_marked}
+use Rattle.text_pieces.specs.Lines.{lines}
+use Rattle.expert_wire.specs.Lines.{said_from}
 use Rattle.known_rules.specs.declared.fault.KnownFault.{KnownFault}
 use Rattle.known_rules.specs.declared.fault.KnownFault.TheVariants.{BadLine, BadWidth}
 

@@ -1,14 +1,15 @@
 //! Reading a known file.
 
-ghost use Rattle.std.specs.Prelude.{◌≡◌, ◌≤◌, ◌⊎◌, Ok, Err, IfOk, IfErr, position, length};
+ghost use Rattle.std.specs.Prelude.{◌≡◌, ◌≤◌, ◌⊎◌, Ok, Err, IfOk, IfErr, length};
 ghost use Rattle.fca_model.specs.declared.TheConstants.{MAX_ATTRIBUTES};
-ghost use Rattle.expert_wire.specs.Words.{first_word, later_words, is_space};
 ghost use Rattle.known_rules.specs.Known.{known_form, known_rule};
 
 use crate::fault::KnownFault;
-use expert_wire::{crossed, is_skipped, marks, split_line};
+use expert_wire::{is_skipped, marks};
 use implication_closure::{Implication, ImplicationList};
 use std::alloc::Global;
+use text_pieces::bytes::{split_line, split_word};
+use text_pieces::crossed;
 
 /// The implications of a known file, between sets of width n, in their order.
 pub fn read_known(alloc: Global, bytes: &[u8], n: u32) -> Result<ImplicationList, KnownFault>
@@ -52,21 +53,4 @@ pub fn read_rule(line: &[u8], n: u32, number: usize) -> Result<Implication, Know
         premise: crossed(premise),
         conclusion: crossed(conclusion),
     })
-}
-
-/// The bytes before the first space, and those behind it.
-fn split_word(text: &[u8]) -> (&[u8], &[u8])
-    ensures first { result.0.now ≡ first_word text.now }
-    ensures later { result.1.now ≡ later_words text.now }
-{
-    match first_space(text) {
-        Some(end) => (&text[..end], &text[end + 1..]),
-        None => (text, &[]),
-    }
-}
-
-fn first_space(text: &[u8]) -> Option<usize>
-    ensures { result ≡ position is_space text.now }
-{
-    text.iter().position(|byte| *byte == b' ')
 }

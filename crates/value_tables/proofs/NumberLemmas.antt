@@ -1,37 +1,25 @@
--- Digits: each is a byte from 48 to 57, and the number of i of them is below 10^i.
-use Rattle.std.proofs.Common.{◌≡◌, ◌<◌, ◌≤◌, ◌+◌, ◌*◌, ◌^◌, ◌-◌, ℕ, zero, suc, subst, List, true, length, get_or, arith, leb-true, pow-suc}
-use Rattle.std.proofs.lemmas.Bool.{and_parts}
-use Rattle.std.proofs.lemmas.List.Sums.{AllPass-from_list_all}
+-- What the form makes of digits, by the number of 64 bits that they write.
+use Rattle.std.proofs.Common.{◌≡◌, ◌∙◌, ◌≤◌, ◌<◌, ◌^◌, ℕ, Bool, true, false, cond, Option, Some, None, nat_le, nat_lt, refl, ap, sym, inl, inr, arith}
+use Rattle.std.proofs.lemmas.Bool.{cases_Bool, le-ltb, lt-leb}
 use Rattle.fca_model.specs.Tables.{Text}
-use Rattle.value_tables.specs.Numbers.{are_digits, is_digit}
+use Rattle.text_pieces.specs.Numerals.{value_of, in_64_bits}
+use Rattle.text_pieces.proofs.NumeralLemmas.{in_64_bits-none, in_64_bits-some}
+use Rattle.value_tables.specs.Numbers.{are_digits, in_range, signed}
 
-pub digit_between : (digits : Text) (i : ℕ) → are_digits digits ≡ true → i < length digits → (48 ≤ get_or digits i 0) × (get_or digits i 0 ≤ 57)
-digit_between digits i are below =
-    let some = and_parts _ _ are in
-    let few = and_parts _ _ some.1 in
-    let both = and_parts _ _ (AllPass-from_list_all is_digit digits few.1 i 0 below) in
-    (leb-true _ _ both.0, leb-true _ _ both.1)
+in_range-large : (minus : Bool) (n : ℕ) → 2 ^ 64 ≤ n → in_range minus n ≡ None
+in_range-large true n large = rw (lt-leb n 9223372036854775808 (omega arith)) refl
+in_range-large false n large = rw (le-ltb n 9223372036854775808 (omega arith)) refl
 
-pub digits_few : (digits : Text) → are_digits digits ≡ true → length digits ≤ 19
-digits_few digits are =
-    let some = and_parts _ _ are in
-    let few = and_parts _ _ some.1 in
-    leb-true _ _ few.0
+pub signed-none : (minus : Bool) (digits : Text) → cond (are_digits digits) (in_64_bits (value_of digits)) None ≡ None → signed minus digits ≡ None
+signed-none minus digits e = elim (cases_Bool (are_digits digits)) [
+  | inl is ↦ let large : in_64_bits (value_of digits) ≡ None = rw is at e in rw is (in_range-large minus (value_of digits) (in_64_bits-none (value_of digits) large))
+  | inr isnt ↦ rw isnt refl
+]
 
-power_grows : (i k : ℕ) → 10 ^ i ≤ 10 ^ (i + k)
-power_grows i zero = let same : i + zero ≡ i = omega arith in rw same (omega arith)
-power_grows i (suc k) =
-    let next : i + suc k ≡ suc (i + k) = omega arith in
-    let less = power_grows i k in
-    rw (next, pow-suc 10 (i + k)) (omega arith)
-
-pub digits_room : (n i : ℕ) → n < 10 ^ i → i ≤ 18 → n < 1000000000000000000
-digits_room n i small few =
-    let all : i + (18 - i) ≡ 18 = omega arith in
-    let most : 10 ^ i ≤ 10 ^ 18 = let P : ℕ → Type 0 = λ k. 10 ^ i ≤ 10 ^ k in subst P all (power_grows i (18 - i)) in
-    omega arith
-
-pub digits_small : (n d i : ℕ) → n < 10 ^ i → d ≤ 9 → n * 10 + d < 10 ^ (i + 1)
-digits_small n d i small digit =
-    let one : i + 1 ≡ suc i = omega arith in
-    rw (one, pow-suc 10 i) (omega arith)
+pub signed-some : (minus : Bool) (digits : Text) (value : ℕ) → cond (are_digits digits) (in_64_bits (value_of digits)) None ≡ Some value → signed minus digits ≡ in_range minus value
+signed-some minus digits value e = elim (cases_Bool (are_digits digits)) [
+  | inl is ↦
+      let some : in_64_bits (value_of digits) ≡ Some value = rw is at e in
+      rw (is, in_64_bits-some (value_of digits) value some) refl
+  | inr isnt ↦ let none : None ≡ Some value = rw isnt at e in cc none
+]

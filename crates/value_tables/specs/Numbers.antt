@@ -3,30 +3,24 @@
 -- A number is 1 to 19 decimal digits, with or without a - before them, from -2^63 to 2^63 - 1. So -0 and 0 are one number, and so are 7 and 007.
 --
 -- "-12" is the number -12; "+12", "1.5" and "12 " are none.
-use Rattle.std.specs.Prelude.{ℕ, ◌+◌, ◌*◌, ◌-◌, ◌^◌, ◌==◌, ◌&&◌, Bool, nat_le, nat_lt, true, false, cond, List, [], ◌∷◌, Option, Some, None, ℤ, pos, neg_ℤ, length, fold}
-use Rattle.std.specs.List.{list_all}
+use Rattle.std.specs.Prelude.{ℕ, ◌==◌, ◌&&◌, Bool, nat_le, nat_lt, true, false, cond, [], ◌∷◌, Option, Some, None, ℤ, pos, neg_ℤ, length}
 use Rattle.fca_model.specs.Tables.{Text}
-
--- a decimal digit
-abbrev pub is_digit : ℕ → Bool
-is_digit byte = nat_le 48 byte && nat_le byte 57
+use Rattle.text_pieces.specs.Numerals.{is_numeral, value_of}
 
 -- 1 to 19 decimal digits
 abbrev pub are_digits : Text → Bool
-are_digits digits = nat_lt 0 (length digits) && (nat_le (length digits) 19 && list_all is_digit digits)
+are_digits digits = is_numeral digits && nat_le (length digits) 19
 
--- the natural number that digits write
-abbrev pub digits_value : Text → ℕ
-digits_value digits = fold (λ n byte. n * 10 + (byte - 48)) 0 digits
+-- the number of this sign and absolute value, if it is from -2^63 to 2^63 - 1
+abbrev pub in_range : Bool → ℕ → Option ℤ
+in_range minus value =
+    cond minus
+    (cond (nat_le value 9223372036854775808) (Some (neg_ℤ (pos value))) None)
+    (cond (nat_lt value 9223372036854775808) (Some (pos value)) None)
 
 -- the number that digits write, with the sign that stands before them
 abbrev pub signed : Bool → Text → Option ℤ
-signed minus digits =
-    cond (are_digits digits)
-    (cond minus
-    (cond (nat_le (digits_value digits) 9223372036854775808) (Some (neg_ℤ (pos (digits_value digits)))) None)
-    (cond (nat_lt (digits_value digits) 9223372036854775808) (Some (pos (digits_value digits))) None))
-    None
+signed minus digits = cond (are_digits digits) (in_range minus (value_of digits)) None
 
 -- the number that the text is, if it is one; 45 is -
 abbrev pub number_of : Text → Option ℤ

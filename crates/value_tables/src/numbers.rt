@@ -1,8 +1,10 @@
 //! Numbers in texts.
 
-ghost use Rattle.std.specs.Prelude.{◌≡◌, true, false};
-ghost use Rattle.std.specs.List.{list_all};
-ghost use Rattle.value_tables.specs.Numbers.{are_digits, digits_value, is_digit, number_of, signed};
+ghost use Rattle.std.specs.Prelude.{◌≡◌, true, false, cond, None};
+ghost use Rattle.text_pieces.specs.Numerals.{in_64_bits, value_of};
+ghost use Rattle.value_tables.specs.Numbers.{are_digits, in_range, number_of};
+
+use text_pieces::{is_numeral, value_of};
 
 /// The most digits of a number.
 const MOST_DIGITS: usize = 19;
@@ -15,18 +17,25 @@ pub fn number_of(text: &[u8]) -> Option<i64>
     ensures { result ≡ number_of text.now }
 {
     match text {
-        [b'-', digits @ ..] => negative_of(digits),
-        _ => positive_of(text),
+        [b'-', digits @ ..] => negative(digits_value(digits)?),
+        _ => positive(digits_value(text)?),
     }
 }
 
-fn positive_of(digits: &[u8]) -> Option<i64>
-    ensures { result ≡ signed false digits.now }
+/// The natural number that the digits write, if they are few enough.
+fn digits_value(digits: &[u8]) -> Option<u64>
+    ensures { result ≡ cond (are_digits digits.now) (in_64_bits (value_of digits.now)) None }
 {
-    if !are_digits(digits) {
-        return None;
+    if is_numeral(digits) && digits.len() <= MOST_DIGITS {
+        value_of(digits)
+    } else {
+        None
     }
-    let value = digits_value(digits);
+}
+
+fn positive(value: u64) -> Option<i64>
+    ensures { result ≡ in_range false value }
+{
     if value < LEAST {
         Some(value as i64)
     } else {
@@ -34,13 +43,9 @@ fn positive_of(digits: &[u8]) -> Option<i64>
     }
 }
 
-fn negative_of(digits: &[u8]) -> Option<i64>
-    ensures { result ≡ signed true digits.now }
+fn negative(value: u64) -> Option<i64>
+    ensures { result ≡ in_range true value }
 {
-    if !are_digits(digits) {
-        return None;
-    }
-    let value = digits_value(digits);
     if value < LEAST {
         Some(-(value as i64))
     } else if value == LEAST {
@@ -48,28 +53,4 @@ fn negative_of(digits: &[u8]) -> Option<i64>
     } else {
         None
     }
-}
-
-fn are_digits(text: &[u8]) -> bool
-    ensures { result ≡ are_digits text.now }
-{
-    0 < text.len() && text.len() <= MOST_DIGITS && all_digits(text)
-}
-
-fn all_digits(text: &[u8]) -> bool
-    ensures { result ≡ list_all is_digit text.now }
-{
-    text.iter().all(|byte| b'0' <= *byte && *byte <= b'9')
-}
-
-/// The natural number that the digits write.
-fn digits_value(digits: &[u8]) -> u64
-    requires { are_digits digits.now ≡ true }
-    ensures { result ≡ digits_value digits.now }
-{
-    let mut value = 0;
-    for byte in digits {
-        value = value * 10 + u64::from(*byte - b'0');
-    }
-    value
 }

@@ -1,6 +1,6 @@
 use Rattle.std.proofs.Common.{◌≤◌, ◌∙◌, ◌++◌, ℕ, length, sym, ap, subst}
 use Rattle.fca_model.specs.Context.{Context}
-use Rattle.cxt_format.specs.Lines.{text_of}
+use Rattle.text_pieces.specs.Lines.{text_of}
 use Rattle.cxt_format.proofs.TextLemmas.{NamesWritten-more, NamesWritten-all}
 use Rattle.cxt_format.proofs.write.write_attributes.Goals as goal
 

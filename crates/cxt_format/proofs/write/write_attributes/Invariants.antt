@@ -1,5 +1,5 @@
 use Rattle.std.proofs.Common.{◌++◌}
-use Rattle.cxt_format.specs.Lines.{text_of}
+use Rattle.text_pieces.specs.Lines.{text_of}
 use Rattle.cxt_format.proofs.TextLemmas.{NamesWritten}
 use Rattle.cxt_format.proofs.write.write_attributes.Given as goal
 

@@ -2,7 +2,7 @@ use Rattle.std.proofs.Common.{◌≡◌, ◌∙◌, ◌+◌, ◌-◌, ◌*◌, �
 use Rattle.std.proofs.lemmas.List.{map-append}
 use Rattle.std.proofs.Math.Seq.{take-add}
 use Rattle.fca_model.specs.Sets.{Set}
-use Rattle.cxt_format.specs.Written.{byte_of, row_line}
+use Rattle.text_pieces.specs.Marks.{mark_of, marks_of}
 use Rattle.cxt_format.proofs.write.write_row.Goals as goal
 
 pub loop-block-preserved : goal.loop-block-preserved
@@ -15,6 +15,6 @@ loop-block-preserved c =
     let start : min (length row) from ≡ from = omega arith in
     let next : from + count ≡ min (length row) (64 * (c.loop-block.block + 1)) = omega (arith, c.min-end.ensures, c.width-in-loop-block.ensures.width) in
     c.in_ok-extend_from_slice.ensures.items
-    ∙ ap₂ (λ (xs ys : List ℕ). xs ++ ys) (c.loop-block.invariant ∙ ap (λ k. old ++ row_line (take k row)) start) c.marks_of-marks.ensures
-    ∙ append_assoc old (row_line (take from row)) (row_line (take count (drop from row)))
-    ∙ ap (λ xs. old ++ xs) (sym (map-append byte_of (take from row) (take count (drop from row))) ∙ ap row_line (sym (take-add from count row)) ∙ ap (λ k. row_line (take k row)) next)
+    ∙ ap₂ (λ (xs ys : List ℕ). xs ++ ys) (c.loop-block.invariant ∙ ap (λ k. old ++ marks_of (take k row)) start) c.marks_of-marks.ensures
+    ∙ append_assoc old (marks_of (take from row)) (marks_of (take count (drop from row)))
+    ∙ ap (λ xs. old ++ xs) (sym (map-append mark_of (take from row) (take count (drop from row))) ∙ ap marks_of (sym (take-add from count row)) ∙ ap (λ k. marks_of (take k row)) next)

@@ -1,7 +1,7 @@
 use Rattle.std.proofs.Common.{◌≡◌, ◌++◌, map, drop}
-use Rattle.cxt_format.specs.Lines.{text_of}
-use Rattle.cxt_format.specs.Written.{row_line}
+use Rattle.text_pieces.specs.Lines.{text_of}
+use Rattle.text_pieces.specs.Marks.{marks_of}
 use Rattle.cxt_format.proofs.write.write_rows.Given as goal
 
 abbrev pub invariant-loop-i : goal.invariant-loop-i
-invariant-loop-i l = l.text.items ++ text_of (map row_line (drop l.i l.rows.rows)) ≡ l.fn.text.items ++ text_of (map row_line l.rows.rows)
+invariant-loop-i l = l.text.items ++ text_of (map marks_of (drop l.i l.rows.rows)) ≡ l.fn.text.items ++ text_of (map marks_of l.rows.rows)

@@ -1,7 +1,9 @@
 use Rattle.std.proofs.Common.{◌≡◌, ◌+◌, true, false, sym, ap, ◌∙◌, inl, inr, arith}
 use Rattle.std.proofs.lemmas.Result.{err_from_is_err_and}
-use Rattle.expert_wire.specs.Lines.{is_skipped, lines, said_from}
-use Rattle.expert_wire.proofs.LineLemmas.{lines-cut, lines-none, said_from-skipped, said_from-told}
+use Rattle.text_pieces.specs.Lines.{lines}
+use Rattle.expert_wire.specs.Lines.{is_skipped, said_from}
+use Rattle.text_pieces.proofs.LineLemmas.{lines-cut, lines-none}
+use Rattle.expert_wire.proofs.LineLemmas.{said_from-skipped, said_from-told}
 use Rattle.expert_scripts.specs.Scripts.{said_of}
 use Rattle.expert_scripts.specs.Stages.{to_come}
 use Rattle.expert_scripts.proofs.StageLemmas.{script_form-headed}

@@ -1,5 +1,6 @@
 use Rattle.std.proofs.Common.{◌≡◌, ◌≤◌, ◌+◌, length}
-use Rattle.expert_wire.specs.Lines.{lines, said_from}
+use Rattle.text_pieces.specs.Lines.{lines}
+use Rattle.expert_wire.specs.Lines.{said_from}
 use Rattle.expert_scripts.specs.Scripts.{script_form}
 use Rattle.expert_scripts.specs.Stages.{to_come}
 use Rattle.expert_scripts.proofs.scripts.read_script.Given as goal

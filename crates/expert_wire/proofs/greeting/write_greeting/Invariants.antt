@@ -1,5 +1,6 @@
 use Rattle.std.proofs.Common.{drop}
-use Rattle.expert_wire.specs.Greetings.{text_lines, greeting}
+use Rattle.text_pieces.specs.Lines.{text_of}
+use Rattle.expert_wire.specs.Greetings.{greeting}
 use Rattle.expert_wire.proofs.WriteLemmas.{Underway}
 use Rattle.expert_wire.proofs.greeting.write_greeting.Given as goal
 
@@ -7,4 +8,4 @@ abbrev pub invariant-loop-attribute : goal.invariant-loop-attribute
 invariant-loop-attribute g l =
     Underway (g.K.Sink.held l.fn.sink) (g.K.Sink.held l.sink) (g.K.Sink.faults l.fn.sink) (g.K.Sink.faults l.sink)
     (g.K.Sink.beside l.fn.sink) (g.K.Sink.beside l.sink) (g.K.Sink.faults_beside l.fn.sink) (g.K.Sink.faults_beside l.sink)
-    (greeting l.table l.expert) (text_lines (drop l.attribute l.table.attributes))
+    (greeting l.table l.expert) (text_of (drop l.attribute l.table.attributes))

@@ -1,5 +1,5 @@
 use Rattle.std.proofs.Common.{◌≡◌, map, length, option_copied}
-use Rattle.cxt_format.specs.Words.{trimmed}
+use Rattle.text_pieces.specs.Blanks.{trimmed}
 use Rattle.fca_command.specs.Attributes.{attributes_said, later_parts, with_named}
 use Rattle.fca_command.proofs.attributes.attributes_said.Given as goal
 

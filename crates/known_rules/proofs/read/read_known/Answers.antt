@@ -1,7 +1,8 @@
 use Rattle.std.proofs.Common.{◌≡◌, ◌+◌, true, false, sym, ap, ◌∙◌, inr, arith}
 use Rattle.std.proofs.lemmas.Result.{err_from_is_err_and}
-use Rattle.expert_wire.specs.Lines.{is_skipped, lines}
-use Rattle.expert_wire.proofs.LineLemmas.{lines-cut}
+use Rattle.text_pieces.specs.Lines.{lines}
+use Rattle.expert_wire.specs.Lines.{is_skipped}
+use Rattle.text_pieces.proofs.LineLemmas.{lines-cut}
 use Rattle.known_rules.specs.Known.{known_from}
 use Rattle.known_rules.proofs.KnownLemmas.{after, known_form-from, known_from-skipped, known_from-rule, known_from-fault}
 use Rattle.known_rules.proofs.read.read_known.Goals as goal

@@ -1,5 +1,5 @@
 use Rattle.std.proofs.Common.{◌≡◌, ◌≤◌, ◌+◌, length}
-use Rattle.expert_wire.specs.Lines.{lines}
+use Rattle.text_pieces.specs.Lines.{lines}
 use Rattle.known_rules.specs.Known.{known_from, known_form}
 use Rattle.known_rules.proofs.KnownLemmas.{after}
 use Rattle.known_rules.proofs.read.read_known.Given as goal

@@ -1,0 +1,6 @@
+pub mod BlankLemmas
+pub mod TextLemmas
+pub mod WordLemmas
+pub mod LineLemmas
+pub mod NumeralLemmas
+pub mod MarkLemmas

@@ -1,0 +1,34 @@
+-- The lines of a text. A line is a piece between line feeds; what follows the last line feed is a line only where it is not empty.
+-- One carriage return at the end of a line is no part of it, be there a line feed behind it or not (std's `lines` keeps it where
+-- there is none).
+use Rattle.std.specs.Prelude.{ℕ, Bool, ◌==◌, List, [], ◌∷◌, ◌++◌, map}
+use Rattle.std.specs.List.{slice_split}
+use Rattle.std.specs.Str.Lines.{strip_carriage_return}
+use Rattle.fca_model.specs.Tables.{Text}
+
+-- a line, as its bytes
+abbrev pub Line : Type 0
+Line = Text
+
+abbrev pub is_line_feed : ℕ → Bool
+is_line_feed byte = byte == 10
+
+-- the text alone, where it isn't empty
+abbrev pub unless_empty : Text → List Line
+unless_empty [] = []
+unless_empty (byte ∷ bytes) = (byte ∷ bytes) ∷ []
+
+-- what stands behind the last line feed is a line only where it isn't empty
+abbrev pub without_empty_end : List Text → List Line
+without_empty_end [] = []
+without_empty_end (x ∷ []) = unless_empty x
+without_empty_end (x ∷ y ∷ more) = x ∷ without_empty_end (y ∷ more)
+
+-- the pieces between line feeds, each without the one carriage return at its end
+abbrev pub lines : Text → List Line
+lines bytes = map strip_carriage_return (without_empty_end (slice_split is_line_feed bytes))
+
+-- the bytes of a list of lines, each ended by a line feed
+abbrev pub text_of : List Line → Text
+text_of [] = []
+text_of (line ∷ more) = line ++ 10 ∷ text_of more

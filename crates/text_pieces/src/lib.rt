@@ -1,0 +1,15 @@
+//! The pieces of texts, which all text forms share: lines, words, blanks, numerals and marks.
+#![tactic(auto)]
+
+mod blanks;
+pub mod bytes;
+mod lines;
+mod marks;
+mod numerals;
+mod words;
+
+pub use blanks::{is_blank_line, trimmed};
+pub use lines::Lines;
+pub use marks::{are_marks, crossed, is_mark, marks_of};
+pub use numerals::{is_numeral, value_of};
+pub use words::split_word;
