@@ -1,5 +1,5 @@
 -- What the form makes of digits, by the number of 64 bits that they write.
-use Rattle.std.proofs.Common.{◌≡◌, ◌∙◌, ◌≤◌, ◌<◌, ◌^◌, ℕ, Bool, true, false, cond, Option, Some, None, nat_le, nat_lt, refl, ap, sym, inl, inr, arith}
+use Rattle.std.proofs.Common.{◌≡◌, ◌≤◌, ◌^◌, ℕ, Bool, true, false, cond, Some, None, refl, inl, inr, arith}
 use Rattle.std.proofs.lemmas.Bool.{cases_Bool, le-ltb, lt-leb}
 use Rattle.fca_model.specs.Tables.{Text}
 use Rattle.text_pieces.specs.Numerals.{value_of, in_64_bits}
