@@ -111,7 +111,7 @@ records_from-bound (suc n) (suc m) s xs between below under = by (next_record de
         let shorter = next_record-shorter s xs p between e in
         ap (λ rest. p.0 ∷ rest) (more p.1 p.2 (next_record-left s [] [] xs p e).0 (omega arith) (omega arith))
 
-records_by-Some : (s : State) (xs : List ℕ) (p : Read) → ends_at_end s ≡ false → next_record default_config s [] [] xs ≡ Some p
+pub records_by-Some : (s : State) (xs : List ℕ) (p : Read) → ends_at_end s ≡ false → next_record default_config s [] [] xs ≡ Some p
     → records_by s (Some xs) ≡ p.0 ∷ records_by p.1 (Some p.2)
 unfolding records_from
 records_by-Some s xs p between e =
@@ -120,7 +120,7 @@ records_by-Some s xs p between e =
     let same = records_from-bound (length xs) (length p.2 + 1) p.1 p.2 (next_record-left s [] [] xs p e).0 shorter (omega arith) in
     rw (one, e) (ap (λ rest. p.0 ∷ rest) same)
 
-records_by-None : (s : State) (xs : List ℕ) → next_record default_config s [] [] xs ≡ None → records_by s (Some xs) ≡ []
+pub records_by-None : (s : State) (xs : List ℕ) → next_record default_config s [] [] xs ≡ None → records_by s (Some xs) ≡ []
 unfolding records_from
 records_by-None s xs e =
     let one : length xs + 1 ≡ suc (length xs) = omega arith in

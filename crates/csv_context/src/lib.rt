@@ -4,12 +4,14 @@
 ghost use Rattle.std.specs.Prelude.{◌≡◌};
 
 mod fields;
+mod lines;
 mod read;
 mod records;
 mod write;
 
 use fca_model::Memory;
 pub use fields::{field_at, text_of};
+pub use lines::{next_field, next_line, read_fields, unquoted};
 pub use read::read_csv;
 pub use records::{next_record, open};
 use std::alloc::{AllocError, AllocFailed};

@@ -1,11 +1,13 @@
--- Cutting a text by lengths: one piece more at its end (`cut_push`), and one piece of it (`cut_at`). Then the rows of a table: one more
+-- Cutting a text by lengths: more pieces at its end (`cut_append`), and one piece of it (`cut_at`). Then the rows of a table: one more
 -- (`objects_push`), and what stands in one (`objects_name`, `objects_value`).
-use Rattle.std.proofs.Common.{◌≡◌, ◌∙◌, ◌<◌, ◌≤◌, ◌+◌, ◌*◌, ◌-◌, ◌++◌, ◌∷◌, [], ℕ, zero, suc, List, length, take, drop, get_or, sum, Result, Ok, refl, sym, ap, ap₂, subst, arith, get_or-take, get_or-drop, drop-drop, take_all, take-add, length-drop}
-use Rattle.std.proofs.lemmas.List.{length_push, nil_from_length, take-append-le, drop-append-le}
+use Rattle.std.proofs.Common.{◌≡◌, ◌∙◌, ◌<◌, ◌≤◌, ◌+◌, ◌*◌, ◌-◌, ◌++◌, ◌∷◌, [], ℕ, zero, suc, List, length, take, drop, get_or, sum, Ok, inl, inr, refl, sym, ap, ap₂, subst, arith, get_or-take, get_or-drop, drop-drop, take_all, take-add, length-drop}
+use Rattle.std.proofs.lemmas.Bool.{cases_lt}
+use Rattle.std.proofs.Math.Seq.{get_or-append_seam}
+use Rattle.std.proofs.lemmas.List.{get_or_append_left, length-take-le, length_push, nil_from_length, take-append-le, drop-append-le}
 use Rattle.std.proofs.lemmas.List.Sums.{sum_by-cons, sum_by-append, sum_by_more, sum_by-take-le}
 use Rattle.fca_model.specs.Tables.{Text}
 use Rattle.value_tables.specs.Values.{ObjectValues, no_object}
-use Rattle.value_tables.specs.Cells.{cut, objects_of}
+use Rattle.value_tables.specs.Cells.{StartsRight, cut, objects_of}
 use Rattle.csv_context.specs.Records.{Record}
 use Rattle.value_tables.specs.Form.{object_form, object_of, objects_form}
 
@@ -18,16 +20,20 @@ cut_length (n ∷ lengths) text = ap suc (cut_length lengths (drop n text))
 sum_cons : (n : ℕ) (ns : List ℕ) → sum (n ∷ ns) ≡ n + sum ns
 sum_cons n ns = sum_by-cons (λ x. x) n ns
 
-pub cut_push : (lengths : List ℕ) (text value : Text) → sum lengths ≡ length text
-    → cut (lengths ++ length value ∷ []) (text ++ value) ≡ cut lengths text ++ value ∷ []
-cut_push [] text value whole =
+pub cut_append : (lengths more : List ℕ) (text behind : Text) → sum lengths ≡ length text → cut (lengths ++ more) (text ++ behind) ≡ cut lengths text ++ cut more behind
+cut_append [] more text behind whole =
     let none : text ≡ [] = nil_from_length text (sym whole) in
-    rw none (ap (λ (v : Text). v ∷ []) (take_all (length value) value (omega arith)))
-cut_push (n ∷ lengths) text value whole =
+    rw none refl
+cut_append (n ∷ lengths) more text behind whole =
     let all : n + sum lengths ≡ length text = sym (sum_cons n lengths) ∙ whole in
     let within : n ≤ length text = omega arith in
     let rest : sum lengths ≡ length (drop n text) = omega (arith, length-drop n text) in
-    rw (take-append-le n text value within, drop-append-le n text value within) (ap (λ (ts : List Text). take n text ∷ ts) (cut_push lengths (drop n text) value rest))
+    rw (take-append-le n text behind within, drop-append-le n text behind within) (ap (λ (ts : List Text). take n text ∷ ts) (cut_append lengths more (drop n text) behind rest))
+
+pub cut_push : (lengths : List ℕ) (text value : Text) → sum lengths ≡ length text
+    → cut (lengths ++ length value ∷ []) (text ++ value) ≡ cut lengths text ++ value ∷ []
+cut_push lengths text value whole =
+    cut_append lengths (length value ∷ []) text value whole ∙ ap (λ (v : Text). cut lengths text ++ v ∷ []) (take_all (length value) value (omega arith))
 
 pub cut_at : (lengths : List ℕ) (text : Text) (k : ℕ) → k < length lengths → get_or (cut lengths text) k [] ≡ take (get_or lengths k 0) (drop (sum (take k lengths)) text)
 cut_at [] text k below = absurd (omega arith)
@@ -35,6 +41,13 @@ cut_at (n ∷ lengths) text zero below = refl
 cut_at (n ∷ lengths) text (suc k) below =
     let less : k < length lengths = omega arith in
     rw (sum_cons n (take k lengths)) (cut_at lengths (drop n text) k less ∙ ap (take (get_or lengths k 0)) (drop-drop (sum (take k lengths)) n text))
+
+-- the first piece is as long as it is to be
+pub cut_first : (lengths : List ℕ) (text : Text) → 0 < length lengths → sum lengths ≡ length text → length (get_or (cut lengths text) 0 []) ≡ get_or lengths 0 0
+cut_first [] text some whole = absurd (omega arith)
+cut_first (n ∷ lengths) text some whole =
+    let all : n + sum lengths ≡ length text = sym (sum_cons n lengths) ∙ whole in
+    length-take-le n text (omega arith)
 
 -- a piece ends within the text
 pub piece_within : (lengths : List ℕ) (k : ℕ) → k < length lengths → sum (take k lengths) + get_or lengths k 0 ≤ sum lengths
@@ -50,6 +63,29 @@ sum_from lengths j k before =
     sym (sum_by-append (λ x. x) (take j lengths) (take (k - j) (drop j lengths)))
     ∙ ap sum (sym (take-add j (k - j) lengths))
     ∙ ap (λ (n : ℕ). sum (take n lengths)) all
+
+-- ---- starts
+
+-- the same where more pieces came behind
+pub StartsRight-more : (starts lengths more : List ℕ) → 16 * length starts < length lengths + 16 → StartsRight starts lengths → StartsRight starts (lengths ++ more)
+StartsRight-more starts lengths more needed right b below = right b below ∙ ap sum (sym (take-append-le (16 * b) lengths more (omega arith)))
+
+-- one start more
+pub StartsRight-push : (starts lengths : List ℕ) (start : ℕ) → start ≡ sum (take (16 * length starts) lengths) → StartsRight starts lengths → StartsRight (starts ++ start ∷ []) lengths
+StartsRight-push starts lengths start is right b below = elim (cases_lt b (length starts)) [
+  | inl less ↦ get_or_append_left starts (start ∷ []) 0 b less ∙ right b less
+  | inr last ↦
+      let size = length_push starts start in
+      let same : b ≡ length starts = omega (arith, size) in
+      rw same (get_or-append_seam starts start [] 0 ∙ is)
+]
+
+-- the start behind the last block
+pub start_next : (starts lengths : List ℕ) → 0 < length starts → StartsRight starts lengths
+    → get_or starts (length starts - 1) 0 + sum (take (16 * length starts - 16 * (length starts - 1)) (drop (16 * (length starts - 1)) lengths)) ≡ sum (take (16 * length starts) lengths)
+start_next starts lengths some right =
+    let n = length starts in
+    ap (λ (s : ℕ). s + sum (take (16 * n - 16 * (n - 1)) (drop (16 * (n - 1)) lengths))) (right (n - 1) (omega arith)) ∙ sum_from lengths (16 * (n - 1)) (16 * n) (omega arith)
 
 -- ---- rows of a table
 

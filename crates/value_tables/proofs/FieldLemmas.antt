@@ -1,6 +1,6 @@
 -- One field more.
-use Rattle.std.proofs.Common.{◌≡◌, ◌∙◌, ◌<◌, ◌≤◌, ◌+◌, ◌==◌, ◌-◌, ◌||◌, ◌∷◌, le-ltb, [], ℕ, zero, suc, Bool, true, false, not, List, Option, Some, None, cond, take, drop, length, get_or, length-drop, slice_get, inl, inr, refl, sym, ap, arith, ltb, eqb, ltb-false, eqb-true, is_none}
-use Rattle.std.proofs.lemmas.Bool.{cases_Bool, or_cases, or_parts}
+use Rattle.std.proofs.Common.{◌≡◌, ◌∙◌, ◌<◌, ◌≤◌, ◌+◌, ◌-◌, ◌||◌, ◌∷◌, le-ltb, [], ℕ, zero, suc, true, false, not, List, Option, Some, None, take, drop, length, get_or, length-drop, slice_get, inl, inr, refl, sym, ap, arith, ltb, eqb, ltb-false, eqb-true, is_none}
+use Rattle.std.proofs.lemmas.Bool.{cases_Bool, ne_eqb, or_cases, or_parts}
 use Rattle.std.proofs.lemmas.List.{length-take}
 use Rattle.csv.specs.Records.{cut_from}
 use Rattle.std.proofs.lemmas.Option.{slice_get_within, slice_get-get_or}
@@ -10,7 +10,10 @@ use Rattle.fca_model.specs.declared.TheConstants.{MAX_NAME_BYTES}
 use Rattle.fca_model.specs.declared.names.NameFault.{NameFault}
 use Rattle.fca_model.specs.Tables.{Text}
 use Rattle.cxt_format.proofs.TextLemmas.{drop-item}
+use Rattle.cxt_format.specs.Lines.{joined}
+use Rattle.csv_context.specs.Lines.{fields_in, is_comma}
 use Rattle.csv_context.specs.Records.{Record}
+use Rattle.csv_context.proofs.LineLemmas.{any_drop, any_take}
 use Rattle.value_tables.specs.Form.{bad_field, first_bad, is_field, is_name}
 use Rattle.value_tables.specs.declared.fields.FieldKind.{FieldKind}
 use Rattle.value_tables.specs.declared.fields.FieldKind.TheVariants as kind
@@ -94,36 +97,68 @@ bad_field_none fields none = elim (cases_Bool (is_name (get_or fields 0 []))) [
 
 -- ---- a record as one text
 
-any_take : (p : ℕ → Bool) (n : ℕ) (xs : Text) → list_any p xs ≡ false → list_any p (take n xs) ≡ false
-any_take p zero xs h = refl
-any_take p (suc n) [] h = refl
-any_take p (suc n) (x ∷ xs) h = let parts = or_parts (p x) (list_any p xs) h in rw (parts.0) (any_take p n xs parts.1)
+-- bytes without a line break are a name where they are some, and a value
+unbroken_name : (piece : Text) → length piece ≤ 255 → list_any is_line_break piece ≡ false → eqb (length piece) 0 ≡ false → is_name piece ≡ true
+unbroken_name piece few unbroken some = sym (is_name_short piece some (le-ltb MAX_NAME_BYTES (length piece) few)) ∙ ap not unbroken
 
-any_drop : (p : ℕ → Bool) (n : ℕ) (xs : Text) → list_any p xs ≡ false → list_any p (drop n xs) ≡ false
-any_drop p zero xs h = h
-any_drop p (suc n) [] h = refl
-any_drop p (suc n) (x ∷ xs) h = any_drop p n xs (or_parts (p x) (list_any p xs) h).1
+unbroken_value : (piece : Text) → length piece ≤ 255 → list_any is_line_break piece ≡ false → is_field kind.Value piece ≡ true
+unbroken_value piece few unbroken = elim (cases_Bool (eqb (length piece) 0)) [
+  | inl empty ↦ ap (λ b. b || is_name piece) empty
+  | inr some ↦ rw some (unbroken_name piece few unbroken some)
+]
 
 module _ (bytes : Text) (few : length bytes ≤ 255) (unbroken : list_any is_line_break bytes ≡ false) where
-  piece_name : (m n : ℕ) → eqb (length (take n (drop m bytes))) 0 ≡ false → is_name (take n (drop m bytes)) ≡ true
-  piece_name m n some =
-      let piece : Text = take n (drop m bytes) in
-      let size : length piece ≤ 255 = omega (arith, length-take n (drop m bytes), length-drop m bytes, few) in
-      sym (is_name_short piece some (le-ltb MAX_NAME_BYTES (length piece) size))
-      ∙ ap not (any_take is_line_break n (drop m bytes) (any_drop is_line_break m bytes unbroken))
+  piece_few : (m n : ℕ) → length (take n (drop m bytes)) ≤ 255
+  piece_few m n = omega (arith, length-take n (drop m bytes), length-drop m bytes, few)
 
-  piece_value : (m n : ℕ) → is_field kind.Value (take n (drop m bytes)) ≡ true
-  piece_value m n = elim (cases_Bool (eqb (length (take n (drop m bytes))) 0)) [
-    | inl empty ↦ ap (λ b. b || is_name (take n (drop m bytes))) empty
-    | inr some ↦ rw some (piece_name m n some)
-  ]
+  piece_unbroken : (m n : ℕ) → list_any is_line_break (take n (drop m bytes)) ≡ false
+  piece_unbroken m n = any_take is_line_break n (drop m bytes) (any_drop is_line_break m bytes unbroken)
 
   pieces_good : (start j : ℕ) (ends : List ℕ) → first_bad kind.Value j (cut_from start ends bytes) ≡ None
   unfolding cut_from
   pieces_good start j [] = refl
-  pieces_good start j (end ∷ ends) = rw (piece_value start (end - start)) (pieces_good end (j + 1) ends)
+  pieces_good start j (end ∷ ends) = rw (unbroken_value (take (end - start) (drop start bytes)) (piece_few start (end - start)) (piece_unbroken start (end - start))) (pieces_good end (j + 1) ends)
 
   pub bad_field-none_from : (ends : List ℕ) → eqb (length (get_or (cut_from 0 ends bytes) 0 [])) 0 ≡ false → bad_field (cut_from 0 ends bytes) ≡ None
   unfolding cut_from
   bad_field-none_from [] some = absurd (cc)
-  bad_field-none_from (end ∷ ends) some = rw (piece_name 0 (end - 0) some) (pieces_good end 2 ends)
+  bad_field-none_from (end ∷ ends) some = rw (unbroken_name (take (end - 0) (drop 0 bytes)) (piece_few 0 (end - 0)) (piece_unbroken 0 (end - 0)) some) (pieces_good end 2 ends)
+
+-- ---- a line
+
+-- each piece has at most n bytes, and no line break
+abbrev AreParts : ℕ → Record → Type 0
+AreParts n [] = Unit {0}
+AreParts n (piece ∷ pieces) = (length piece ≤ n) × (list_any is_line_break piece ≡ false) × AreParts n pieces
+
+AreParts-more : (n m : ℕ) (pieces : Record) → n ≤ m → AreParts n pieces → AreParts m pieces
+AreParts-more n m [] le parts = tt
+AreParts-more n m (piece ∷ pieces) le parts = (omega (arith, parts.0), parts.1, AreParts-more n m pieces le parts.2)
+
+AreParts-joined : (n b : ℕ) (pieces : Record) → is_line_break b ≡ false → AreParts n pieces → AreParts (suc n) (joined b pieces)
+AreParts-joined n b [] plain parts = (omega arith, rw plain refl, tt)
+AreParts-joined n b (piece ∷ pieces) plain parts = (omega (arith, parts.0), rw plain parts.1, AreParts-more n (suc n) pieces (omega arith) parts.2)
+
+AreParts-fields : (line : Text) → list_any is_line_break line ≡ false → AreParts (length line) (fields_in line)
+AreParts-fields [] unbroken = (omega arith, refl, tt)
+AreParts-fields (b ∷ line) unbroken =
+    let plain = or_parts (is_line_break b) (list_any is_line_break line) unbroken in
+    let parts = AreParts-fields line plain.1 in
+    elim (cases_Bool (is_comma b)) [
+      | inl is ↦ rw is (omega arith, refl, AreParts-more (length line) (suc (length line)) (fields_in line) (omega arith) parts)
+      | inr isnt ↦ rw isnt (AreParts-joined (length line) b (fields_in line) plain.0 parts)
+    ]
+
+parts_good : (pieces : Record) (j : ℕ) → AreParts 255 pieces → first_bad kind.Value j pieces ≡ None
+parts_good [] j parts = refl
+parts_good (piece ∷ pieces) j parts = rw (unbroken_value piece parts.0 parts.1) (parts_good pieces (j + 1) parts.2)
+
+-- the fields of a short line are a name and values where the first has a byte
+pub bad_field-none_in : (line : Text) → length line ≤ 255 → list_any is_line_break line ≡ false → 0 < length (get_or (fields_in line) 0 []) → bad_field (fields_in line) ≡ None
+bad_field-none_in line few unbroken some = by (fields_in line) (AreParts-more (length line) 255 (fields_in line) few (AreParts-fields line unbroken)) some
+  where
+    by : (pieces : Record) → AreParts 255 pieces → 0 < length (get_or pieces 0 []) → bad_field pieces ≡ None
+    by [] parts some = absurd (omega arith)
+    by (piece ∷ pieces) parts some =
+        let filled : eqb (length piece) 0 ≡ false = ne_eqb (length piece) 0 (λ e. absurd (omega (arith, e, some))) in
+        rw (unbroken_name piece parts.0 parts.1 filled) (parts_good pieces 2 parts.2)

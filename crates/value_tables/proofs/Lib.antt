@@ -1,4 +1,6 @@
 pub mod CellLemmas
+pub mod PieceLemmas
 pub mod FieldLemmas
+pub mod ReadLemmas
 pub mod NumberLemmas
 pub mod Examples

@@ -1,9 +1,10 @@
 -- How a table of values is kept: all values in one text, row by row, and how long each of them is. At every 16th value its start is kept too, so that a value is
 -- found without going through those before it.
-use Rattle.std.specs.Prelude.{◌≡◌, ◌<◌, ◌≤◌, ◌+◌, ◌*◌, ℕ, List, [], ◌∷◌, None, length, sum, take, drop, slice_index_or}
+use Rattle.std.specs.Prelude.{◌≡◌, ◌<◌, ◌≤◌, ◌+◌, ◌*◌, ℕ, List, [], ◌∷◌, ◌++◌, None, length, sum, take, drop, slice_index_or}
 use Rattle.fca_model.specs.Tables.{Text}
 use Rattle.fca_model.specs.declared.TheConstants.{MAX_ATTRIBUTES, MAX_OBJECTS}
 use Rattle.context_table.specs.Table.{first_repeat}
+use Rattle.csv_context.specs.Records.{Record}
 use Rattle.value_tables.specs.declared.cells.Cells.{Cells}
 use Rattle.value_tables.specs.Values.{ObjectValues, ValueTable}
 
@@ -15,6 +16,10 @@ cut (n ∷ lengths) text = take n text ∷ cut lengths (drop n text)
 -- the values
 abbrev pub texts : Cells → List Text
 texts cells = cut cells.lengths.items cells.text.items
+
+-- the starts that there are tell where their pieces begin
+abbrev pub StartsRight : List ℕ → List ℕ → Type 0
+StartsRight starts lengths = (b : ℕ) → b < length starts → slice_index_or starts b 0 ≡ sum (take (16 * b) lengths)
 
 -- the lengths make up the text, and the starts are right
 pub record AreCells (cells : Cells) : Type 0 where
@@ -38,3 +43,10 @@ pub record AreTable (attributes names : List Text) (cells : Cells) : Type 0 wher
   pub differing : first_repeat attributes ≡ None
   pub few_attributes : length attributes ≤ MAX_ATTRIBUTES
   pub few_objects : length names ≤ MAX_OBJECTS
+
+-- the values of an object were put last; it is record i of the file, and has a field for each attribute and its name
+pub record PutsObject (width i : ℕ) (fields : Record) (old new : Cells) : Type 0 where
+  pub within : i ≤ MAX_OBJECTS + 1
+  pub whole : length fields ≡ width + 1
+  pub cells : AreCells new
+  pub texts : texts new ≡ texts old ++ drop 1 fields

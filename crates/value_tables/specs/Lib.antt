@@ -2,4 +2,5 @@ pub mod Telling
 pub mod Numbers
 pub mod Values
 pub mod Cells
+pub mod Pieces
 pub mod Form

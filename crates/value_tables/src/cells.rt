@@ -1,7 +1,7 @@
 //! The values of a table, in one text.
 
-ghost use Rattle.std.specs.Prelude.{◌≡◌, ◌<◌, ◌≤◌, ◌++◌, ◌∷◌, [], OnOk, length, sum, slice_index_or, take, vec_len};
-ghost use Rattle.value_tables.specs.Cells.{AreCells, texts};
+ghost use Rattle.std.specs.Prelude.{◌≡◌, ◌<◌, ◌≤◌, ◌+◌, ◌*◌, ◌^◌, ◌++◌, ◌∷◌, [], OnOk, length, sum, slice_index_or, take, vec_len};
+ghost use Rattle.value_tables.specs.Cells.{AreCells, StartsRight, cut, texts};
 
 use fca_model::Memory;
 use std::alloc::Global;
@@ -45,6 +45,19 @@ impl Cells {
         Ok(())
     }
 
+    /// Puts the values of these lengths, which make up the text, last. Where memory is refused, nothing is known of the cells.
+    pub fn push_all(&mut self, text: &[u8], lengths: &[u8]) -> Result<(), Memory>
+        requires cells { AreCells self.old }
+        requires whole { sum lengths.now ≡ length text.now }
+        ensures cells { OnOk result (AreCells self.new) }
+        ensures texts { OnOk result (texts self.new ≡ texts self.old ++ cut lengths.now text.now) }
+    {
+        self.text.extend_from_slice(text)?;
+        self.lengths.extend_from_slice(lengths)?;
+        add_starts(&mut self.starts, &self.lengths)?;
+        Ok(())
+    }
+
     /// Value k.
     pub fn get(&self, k: usize) -> &[u8]
         requires cells { AreCells self.now }
@@ -64,6 +77,37 @@ impl Cells {
     {
         let block = k / BLOCK;
         self.starts[block] + total(&self.lengths[BLOCK * block..k])
+    }
+}
+
+/// Adds the starts that are wanting.
+fn add_starts(starts: &mut Vec<usize>, lengths: &[u8]) -> Result<(), Memory>
+    requires right { StartsRight starts.old.items lengths.now }
+    requires needed { 16 * length starts.old.items < length lengths.now + 16 }
+    requires small { sum lengths.now < 2 ^ 64 }
+    ensures right { OnOk result (StartsRight starts.new.items lengths.now) }
+    ensures needed { OnOk result (16 * length starts.new.items < length lengths.now + 16) }
+    ensures enough { OnOk result (length lengths.now ≤ 16 * length starts.new.items) }
+{
+    while BLOCK * starts.len() < lengths.len() {
+        starts.push(next_start(starts, lengths))?;
+    }
+    Ok(())
+}
+
+/// The start behind those that there are.
+fn next_start(starts: &[usize], lengths: &[u8]) -> usize
+    requires right { StartsRight starts.now lengths.now }
+    requires place { 16 * length starts.now ≤ length lengths.now }
+    requires small { sum lengths.now < 2 ^ 64 }
+    ensures { result ≡ sum (take (16 * length starts.now) lengths.now) }
+{
+    match starts {
+        [] => 0,
+        [.., last] => {
+            let block = starts.len();
+            *last + total(&lengths[BLOCK * (block - 1)..BLOCK * block])
+        }
     }
 }
 

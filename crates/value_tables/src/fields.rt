@@ -79,7 +79,7 @@ pub fn name_at(alloc: Global, fields: &ByteRecord, place: usize) -> Result<Name,
 }
 
 /// The name with this text, which has no fault.
-fn named(alloc: Global, text: &str) -> Result<Name, Memory>
+pub(crate) fn named(alloc: Global, text: &str) -> Result<Name, Memory>
     requires { name_fault text.now ≡ None }
     ensures { IfOk result (λ name. name ≡ text.now) }
 {

@@ -7,6 +7,7 @@ ghost use Rattle.std.specs.Prelude.{◌≡◌};
 mod cells;
 mod fields;
 mod numbers;
+mod pieces;
 mod read;
 mod values;
 

@@ -1,19 +1,23 @@
 //! The reader.
 
-ghost use Rattle.std.specs.Prelude.{◌≡◌, ◌<◌, ◌≤◌, ◌+◌, ◌*◌, ◌++◌, [], true, IfOk, OnOk, None, MatchResult, Ok, Err, drop, length, slice_index_or, vec_len};
+ghost use Rattle.std.specs.Prelude.{◌≡◌, ◌<◌, ◌≤◌, ◌+◌, ◌*◌, ◌++◌, [], true, false, IfOk, IsUtf8, OnOk, None, MatchResult, Ok, Err, drop, length, slice_index_or, sum, vec_len};
 ghost use Rattle.context_table.specs.Table.{first_repeat};
 ghost use Rattle.csv.specs.Records.{AllText, fields_of};
 ghost use Rattle.csv_context.specs.Records.{IsOpen, csv_records, records_left};
-ghost use Rattle.value_tables.specs.Cells.{AreCells, objects_of, texts};
+ghost use Rattle.csv_context.specs.Lines.{IsUnquoted, fields_in, records_in};
+ghost use Rattle.fca_model.specs.Names.{is_line_break, name_fault};
+ghost use Rattle.std.specs.List.{list_any};
+ghost use Rattle.value_tables.specs.Cells.{AreCells, PutsObject, cut, objects_of, texts};
 ghost use Rattle.value_tables.specs.Form as form;
 ghost use Rattle.value_tables.specs.Telling.{Tells, TellsBy};
 
 use crate::ValuesFault;
 use crate::cells::Cells;
-use crate::fields::{FieldKind, first_bad, has_line_break, name_at};
+use crate::fields::{FieldKind, first_bad, has_line_break, name_at, named};
+use crate::pieces::pieces_of;
 use crate::values::Values;
 use csv::{ByteRecord, Reader};
-use csv_context::{field_at, next_record, open};
+use csv_context::{field_at, next_line, next_record, open, read_fields, text_of, unquoted};
 use fca_model::{MAX_ATTRIBUTES, MAX_NAME_BYTES, MAX_OBJECTS, Memory, Name};
 use indexmap::IndexSet;
 use std::alloc::Global;
@@ -36,6 +40,30 @@ pub fn read_values(alloc: Global, bytes: &[u8]) -> Result<Values, ValuesFault>
 }
 
 fn read_text(alloc: Global, text: &str) -> Result<Values, ValuesFault>
+    ensures { Tells ValuesFault.Memory result (form.table_form (csv_records text.now)) }
+{
+    match unquoted(text) {
+        Some(bytes) => read_lines(alloc, bytes),
+        None => read_records(alloc, text),
+    }
+}
+
+/// The table of values whose records are lines.
+fn read_lines(alloc: Global, bytes: &[u8]) -> Result<Values, ValuesFault>
+    requires { IsUnquoted bytes.now }
+    ensures { Tells ValuesFault.Memory result (form.table_form (records_in bytes.now)) }
+{
+    let Some((header, rest)) = next_line(bytes) else {
+        return Err(ValuesFault::NoHeader);
+    };
+    let mut fields = ByteRecord::new(alloc);
+    read_fields(&mut fields, header)?;
+    let attributes = read_header(alloc, &fields)?;
+    let objects = read_object_lines(alloc, attributes.len(), rest)?;
+    Ok(Values::of(attributes, objects.names, objects.cells))
+}
+
+fn read_records(alloc: Global, text: &str) -> Result<Values, ValuesFault>
     ensures { Tells ValuesFault.Memory result (form.table_form (csv_records text.now)) }
 {
     let mut reader = open(alloc, text);
@@ -101,11 +129,132 @@ fn read_objects(
     let mut cells = Cells::new(alloc);
     let mut record = ByteRecord::new(alloc);
     while next_record(reader, &mut record)? {
-        check_object(width, names.len() + 2, &record)?;
-        names.push(name_at(alloc, &record, 0)?)?;
-        push_values(&mut cells, &record)?;
+        let i = names.len() + 2;
+        names.push(read_object(alloc, width, i, &record, &mut cells)?)?;
     }
     Ok(Objects { names, cells })
+}
+
+/// The objects whose records are lines.
+fn read_object_lines(alloc: Global, width: usize, bytes: &[u8]) -> Result<Objects, ValuesFault>
+    requires unquoted { IsUnquoted bytes.now }
+    requires narrow { width ≤ MAX_ATTRIBUTES }
+    ensures form { TellsBy ValuesFault.Memory (λ objects. objects_of width objects.names.items (texts objects.cells)) result (form.objects_form width 2 [] (records_in bytes.now)) }
+    ensures few { IfOk result (λ objects. length objects.names.items ≤ MAX_OBJECTS) }
+    ensures cells { IfOk result (λ objects. AreCells objects.cells) }
+    ensures even { IfOk result (λ objects. length (texts objects.cells) ≡ length objects.names.items * width) }
+{
+    let mut names = Vec::new(alloc);
+    let mut cells = Cells::new(alloc);
+    let mut fields = ByteRecord::new(alloc);
+    let mut left = bytes;
+    while let Some((line, behind)) = next_line(left) {
+        let i = names.len() + 2;
+        names.push(read_line(alloc, width, i, line, &mut cells, &mut fields)?)?;
+        left = behind;
+    }
+    Ok(Objects { names, cells })
+}
+
+/// The name of the object on the line of record `i`, whose values are put last.
+fn read_line(
+    alloc: Global,
+    width: usize,
+    i: usize,
+    line: &[u8],
+    cells: &mut Cells,
+    fields: &mut ByteRecord,
+) -> Result<Name, ValuesFault>
+    requires narrow { width ≤ MAX_ATTRIBUTES }
+    requires cells { AreCells cells.old }
+    requires text { AllText (fields_in line.now) }
+    requires unbroken { list_any is_line_break line.now ≡ false }
+    ensures form { TellsBy ValuesFault.Memory (λ _. form.object_of (fields_in line.now)) result (form.object_form width i (fields_in line.now)) }
+    ensures name { IfOk result (λ name. name ≡ slice_index_or (fields_in line.now) 0 []) }
+    ensures puts { OnOk result (PutsObject width i (fields_in line.now) cells.old cells.new) }
+{
+    if line.len() > MAX_NAME_BYTES {
+        return read_long(alloc, width, i, line, cells, fields);
+    }
+    let pieces = pieces_of(line);
+    if !may_be_object(width, i, pieces.lengths()) {
+        return read_long(alloc, width, i, line, cells, fields);
+    }
+    Ok(put_pieces(alloc, pieces.text(), pieces.lengths(), cells)?)
+}
+
+/// Whether pieces of a short line are an object, in record `i`: its name and a value for each attribute.
+fn may_be_object(width: usize, i: usize, lengths: &[u8]) -> bool
+    requires { width ≤ MAX_ATTRIBUTES }
+    ensures within { result ≡ true → i ≤ MAX_OBJECTS + 1 }
+    ensures whole { result ≡ true → length lengths.now ≡ width + 1 }
+    ensures named { result ≡ true → 0 < slice_index_or lengths.now 0 0 }
+{
+    if i > MAX_OBJECTS + 1 {
+        return false;
+    }
+    if lengths.len() != width + 1 {
+        return false;
+    }
+    lengths[0] > 0
+}
+
+/// The name that is the first of the pieces of these lengths, which make up the text; the others are put last as values.
+fn put_pieces(alloc: Global, text: &[u8], lengths: &[u8], cells: &mut Cells) -> Result<Name, Memory>
+    requires cells { AreCells cells.old }
+    requires whole { sum lengths.now ≡ length text.now }
+    requires some { 0 < length lengths.now }
+    requires text { IsUtf8 (slice_index_or (cut lengths.now text.now) 0 []) }
+    requires faultless { name_fault (slice_index_or (cut lengths.now text.now) 0 []) ≡ None }
+    ensures name { IfOk result (λ name. name ≡ slice_index_or (cut lengths.now text.now) 0 []) }
+    ensures cells { OnOk result (AreCells cells.new) }
+    ensures texts { OnOk result (texts cells.new ≡ texts cells.old ++ drop 1 (cut lengths.now text.now)) }
+{
+    let end = lengths[0] as usize;
+    let name = named(alloc, text_of(&text[..end]))?;
+    cells.push_all(&text[end..], &lengths[1..])?;
+    Ok(name)
+}
+
+/// The name of the object on the line of record `i`, read field by field; its values are put last.
+fn read_long(
+    alloc: Global,
+    width: usize,
+    i: usize,
+    line: &[u8],
+    cells: &mut Cells,
+    fields: &mut ByteRecord,
+) -> Result<Name, ValuesFault>
+    requires narrow { width ≤ MAX_ATTRIBUTES }
+    requires cells { AreCells cells.old }
+    requires text { AllText (fields_in line.now) }
+    ensures form { TellsBy ValuesFault.Memory (λ _. form.object_of (fields_in line.now)) result (form.object_form width i (fields_in line.now)) }
+    ensures name { IfOk result (λ name. name ≡ slice_index_or (fields_in line.now) 0 []) }
+    ensures puts { OnOk result (PutsObject width i (fields_in line.now) cells.old cells.new) }
+{
+    read_fields(fields, line)?;
+    read_object(alloc, width, i, fields, cells)
+}
+
+/// The name of the object in record `i`, whose values are put last.
+fn read_object(
+    alloc: Global,
+    width: usize,
+    i: usize,
+    fields: &ByteRecord,
+    cells: &mut Cells,
+) -> Result<Name, ValuesFault>
+    requires narrow { width ≤ MAX_ATTRIBUTES }
+    requires cells { AreCells cells.old }
+    requires text { AllText (fields_of fields.now) }
+    ensures form { TellsBy ValuesFault.Memory (λ _. form.object_of (fields_of fields.now)) result (form.object_form width i (fields_of fields.now)) }
+    ensures name { IfOk result (λ name. name ≡ slice_index_or (fields_of fields.now) 0 []) }
+    ensures puts { OnOk result (PutsObject width i (fields_of fields.now) cells.old cells.new) }
+{
+    check_object(width, i, fields)?;
+    let name = name_at(alloc, fields, 0)?;
+    push_values(cells, fields)?;
+    Ok(name)
 }
 
 /// Whether record `i` is an object.

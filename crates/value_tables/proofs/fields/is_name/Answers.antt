@@ -1,5 +1,4 @@
-use Rattle.std.proofs.Common.{◌≡◌, ◌∙◌, true, false, length, not, sym, ap, eqb, ltb, lt-ltb, le-ltb}
-use Rattle.fca_model.specs.declared.TheConstants.{MAX_NAME_BYTES}
+use Rattle.std.proofs.Common.{◌∙◌, not, sym, ap, lt-ltb, le-ltb}
 use Rattle.value_tables.proofs.FieldLemmas.{is_name_empty, is_name_long, is_name_short}
 use Rattle.value_tables.proofs.fields.is_name.Goals as goal
 

@@ -1,4 +1,4 @@
-use Rattle.std.proofs.Common.{◌≡◌, ◌∙◌, ◌+◌, ◌++◌, ◌∷◌, [], List, drop, refl, sym, ap, append_assoc}
+use Rattle.std.proofs.Common.{◌∙◌, ◌+◌, ◌++◌, ◌∷◌, [], List, drop, refl, sym, ap, append_assoc}
 use Rattle.csv.specs.Records.{fields_of}
 use Rattle.fca_model.specs.Tables.{Text}
 use Rattle.cxt_format.proofs.TextLemmas.{drop-item}

@@ -1,4 +1,4 @@
-use Rattle.std.proofs.Common.{◌≡◌, ◌+◌, ◌++◌, None, drop, length}
+use Rattle.std.proofs.Common.{◌≡◌, ◌+◌, ◌++◌, drop, length}
 use Rattle.context_table.specs.Table.{first_repeat, repeat_from}
 use Rattle.csv.specs.Records.{fields_of}
 use Rattle.value_tables.proofs.read.read_attributes.Given as goal

@@ -1,4 +1,4 @@
-use Rattle.std.proofs.Common.{◌≡◌, ◌∙◌, ◌<◌, ◌≤◌, ◌+◌, ◌-◌, sum, take, drop, length, get_or, sym, ap, ap₂, arith}
+use Rattle.std.proofs.Common.{◌≡◌, ◌∙◌, ◌<◌, ◌+◌, ◌-◌, take, drop, length, get_or, sym, ap₂, arith}
 use Rattle.std.proofs.lemmas.List.{get_or_read}
 use Rattle.value_tables.proofs.CellLemmas.{cut_at, piece_within}
 use Rattle.value_tables.proofs.cells.Cells.get.Goals as goal

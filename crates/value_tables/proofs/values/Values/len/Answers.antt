@@ -1,4 +1,4 @@
-use Rattle.std.proofs.Common.{◌≡◌, ◌∙◌, length, sym, ap}
+use Rattle.std.proofs.Common.{◌∙◌, length, sym, ap}
 use Rattle.value_tables.specs.Values.{ValueTable}
 use Rattle.value_tables.specs.Cells.{texts}
 use Rattle.value_tables.proofs.CellLemmas.{objects_length}

@@ -1,4 +1,4 @@
-use Rattle.std.proofs.Common.{◌≡◌, ◌∙◌, ◌<◌, ◌≤◌, ◌+◌, ◌*◌, [], ℕ, length, get_or, sym, ap, subst, arith, rules}
+use Rattle.std.proofs.Common.{◌≡◌, ◌∙◌, ◌<◌, ◌+◌, ◌*◌, [], ℕ, length, get_or, sym, ap, subst, arith, rules}
 use Rattle.value_tables.specs.Values.{ValueTable, object_at, value_of}
 use Rattle.value_tables.specs.Cells.{texts}
 use Rattle.value_tables.proofs.CellLemmas.{cut_length, objects_length, objects_value, place_within}
