@@ -14,9 +14,8 @@ use Rattle.csv.specs.Reading.{default_config, is_bom, records_from, strip_bom}
 use Rattle.csv.specs.declared.parser.State.{State}
 use Rattle.csv.specs.declared.parser.State.TheVariants as st
 use Rattle.memchr.specs.Find.{IsFirstByte, is_byte, is_byte2}
-use Rattle.cxt_format.specs.Lines.{joined}
 use Rattle.csv_context.specs.Records.{Record, records_by}
-use Rattle.csv_context.specs.Lines.{IsUnquoted, TakesLine, fields_in, is_comma, is_quote, records_in, without_ends}
+use Rattle.csv_context.specs.Lines.{IsUnquoted, TakesLine, fields_in, joined, is_comma, is_quote, records_in, without_ends}
 use Rattle.csv_context.proofs.Texts.{GivesText, next_record-text, no-mark-text}
 use Rattle.csv_context.proofs.RecordLemmas.{records_by-Some, records_by-None}
 

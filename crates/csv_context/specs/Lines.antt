@@ -7,7 +7,6 @@ use Rattle.fca_model.specs.Tables.{Text}
 use Rattle.fca_model.specs.Names.{is_line_break}
 use Rattle.csv.specs.Reading.{default_config, records}
 use Rattle.csv.specs.Records.{AllText}
-use Rattle.cxt_format.specs.Lines.{joined}
 use Rattle.csv_context.specs.Records.{Record}
 
 -- a comma
@@ -17,6 +16,11 @@ is_comma b = b == 44
 -- a double quote
 abbrev pub is_quote : ℕ → Bool
 is_quote b = b == 34
+
+-- the pieces with a byte in front of the first
+abbrev pub joined : ℕ → List Text → List Text
+joined b [] = (b ∷ []) ∷ []
+joined b (piece ∷ pieces) = (b ∷ piece) ∷ pieces
 
 -- the pieces of a line between its commas
 abbrev pub fields_in : Text → Record

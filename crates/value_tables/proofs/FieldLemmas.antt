@@ -10,8 +10,7 @@ use Rattle.fca_model.specs.declared.TheConstants.{MAX_NAME_BYTES}
 use Rattle.fca_model.specs.declared.names.NameFault.{NameFault}
 use Rattle.fca_model.specs.Tables.{Text}
 use Rattle.cxt_format.proofs.TextLemmas.{drop-item}
-use Rattle.cxt_format.specs.Lines.{joined}
-use Rattle.csv_context.specs.Lines.{fields_in, is_comma}
+use Rattle.csv_context.specs.Lines.{fields_in, joined, is_comma}
 use Rattle.csv_context.specs.Records.{Record}
 use Rattle.csv_context.proofs.LineLemmas.{any_drop, any_take}
 use Rattle.value_tables.specs.Form.{bad_field, first_bad, is_field, is_name}

@@ -4,8 +4,7 @@ use Rattle.std.proofs.lemmas.Bool.{cases_Bool}
 use Rattle.std.proofs.lemmas.List.{drop-append-le, drop_all, length-take-le, take-append-drop, take-set, take-set-le, take-take, take_all, take_more_set}
 use Rattle.std.proofs.lemmas.List.Sums.{sum_by-append, sum_by-cons}
 use Rattle.fca_model.specs.Tables.{Text}
-use Rattle.cxt_format.specs.Lines.{joined}
-use Rattle.csv_context.specs.Lines.{fields_in, is_comma}
+use Rattle.csv_context.specs.Lines.{fields_in, joined, is_comma}
 use Rattle.csv_context.specs.Records.{Record}
 use Rattle.value_tables.specs.Cells.{cut}
 use Rattle.value_tables.proofs.CellLemmas.{cut_append}
