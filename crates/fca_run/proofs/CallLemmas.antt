@@ -12,7 +12,7 @@ use Rattle.basis_report.specs.Explorations.{explore_text, Spells}
 use Rattle.basis_report.specs.Conflicts.{conflicts_text}
 use Rattle.basis_report.specs.Sessions.{sessions_text}
 use Rattle.fca_model.specs.Exploration.{rules_of}
-use Rattle.fca_command.specs.Commands.{reported, reads_input, may_end_open, is_plain}
+use Rattle.fca_command.specs.Commands.{reported, files_of, first_of, reads_input, may_end_open, is_plain}
 use Rattle.fca_command.specs.declared.command.Command.{Command}
 use Rattle.fca_command.specs.declared.command.Command.TheVariants.{Concepts, Lattice, Basis, Direct, Follows, Convert, Reduce, Arrows, Scale, Replay, Explore, Serve, Make, Survey}
 use Rattle.fca_command.specs.declared.recipe.Recipe.{Recipe}
@@ -21,7 +21,9 @@ use Rattle.command_io.specs.Readings.Reading.{Read}
 use Rattle.command_io.specs.Known.{Start, start_read}
 use Rattle.command_io.specs.Endings.{Output, Outcome, finished, ending_of, IsRefusal, IsUnread, MayBecome}
 use Rattle.command_io.specs.Endings.Outcome.{Written, CutOff, Stopped}
-use Rattle.command_io.specs.ErrLines.{stop_line, line_of}
+use Rattle.command_io.specs.ErrLines.{stop_line, stop_origin, file_from, line_of}
+use Rattle.command_io.specs.declared.stop.Origin.{Origin}
+use Rattle.command_io.specs.declared.stop.Origin.TheVariants.{File, Known, Later, Input}
 use Rattle.command_io.specs.Explorations.{Recorded, last_state, open_at}
 use Rattle.command_io.specs.Streams.{Moment, GainsLine, HasConcluded}
 use Rattle.command_io.specs.declared.answer.Ending.{Ending}
@@ -35,6 +37,7 @@ use Rattle.explore_command.specs.Played.{dropped_in, played, panel_ending, MayPl
 use Rattle.serve_command.specs.Openings.{opened_by}
 use Rattle.serve_command.specs.Served.{served, words_of, MayServe, IsServeStop, GaveAllBack}
 use Rattle.serve_command.proofs.AcceptedLemmas.{TookAndGave-none}
+use Rattle.fca_run.specs.Causes.{fault_file}
 use Rattle.fca_run.specs.Outputs.{output, survey_output}
 use Rattle.fca_run.specs.Calls.{ShelfMoment, LinkMoment, Sides, Outside, outside, unlinked, TellsExploration, HasCourse, MayEnd, read_by, IsGiven, IsBlamed, FaultRose, LinkFaultRose, IsCommandStop, HasGivenBack, MayListen, ComesTo, CallComesTo}
 use Rattle.fca_run.proofs.BlameLemmas.{stop-blamed, given-comes}
@@ -404,3 +407,27 @@ course-reported _ file text e = tt
 pub reads_input-reported : (command : Command) (file : Text) → reported command ≡ Some file → reads_input command ≡ false
 reads_input-reported (Replay f known) file e = cc
 reads_input-reported _ file e = refl
+
+-- ---- the file at fault
+
+one_file : (file : Text) (origin : Origin) → file_from file None [] origin ≡ file
+one_file file File = refl
+one_file file Known = refl
+one_file file (Later place) = refl
+one_file file Input = refl
+
+-- whether the command may read a file behind its first
+abbrev pub reads_more : Command → Bool
+reads_more (Scale values plan) = true
+reads_more (Replay file known) = true
+reads_more (Explore file known names experts) = true
+reads_more (Serve file known experts holders listen) = true
+reads_more _ = false
+
+-- where it reads no other, the file at fault is its first
+pub fault_file-one : (command : Command) → reads_more command ≡ false → (stop : Stop) → fault_file (Some command) stop ≡ first_of (files_of command)
+fault_file-one (Scale values plan) one stop = cc
+fault_file-one (Replay file known) one stop = cc
+fault_file-one (Explore file known names experts) one stop = cc
+fault_file-one (Serve file known experts holders listen) one stop = cc
+fault_file-one _ one stop = one_file _ (stop_origin stop)

@@ -38,9 +38,9 @@ pub fn run<R: Threads + Wait + Sync, H: Shelf, S: Source, K: Sink, E: Sink, L: L
     requires { L.listens link.old ≡ false }
     ensures ran { HasRun (sides L.End.Source.left L.End.Sink.held L.End.Source.faults L.End.Sink.faults) (command_form words.now)
         (outside (shelf_moment H.tells H.faults shelf.old) (moment S.left S.faults input.old)
-            (link_moment L.listens L.listens_at L.ends L.open_faults L.accept_faults link.old))
+        (link_moment L.listens L.listens_at L.ends L.open_faults L.accept_faults link.old))
         (outside (shelf_moment H.tells H.faults shelf.new) (moment S.left S.faults input.new)
-            (link_moment L.listens L.listens_at L.ends L.open_faults L.accept_faults link.new))
+        (link_moment L.listens L.listens_at L.ends L.open_faults L.accept_faults link.new))
         (moment K.held K.faults out.old) (moment K.held K.faults out.new)
         (moment E.held E.faults err.old) (moment E.held E.faults err.new) result }
 {
@@ -66,9 +66,9 @@ fn run_command<R: Threads + Wait + Sync, H: Shelf, S: Source, K: Sink, E: Sink, 
     requires closed { L.listens link.old ≡ false }
     ensures { HasRun (sides L.End.Source.left L.End.Sink.held L.End.Source.faults L.End.Sink.faults) (Some command.now)
         (outside (shelf_moment H.tells H.faults shelf.old) (moment S.left S.faults input.old)
-            (link_moment L.listens L.listens_at L.ends L.open_faults L.accept_faults link.old))
+        (link_moment L.listens L.listens_at L.ends L.open_faults L.accept_faults link.old))
         (outside (shelf_moment H.tells H.faults shelf.new) (moment S.left S.faults input.new)
-            (link_moment L.listens L.listens_at L.ends L.open_faults L.accept_faults link.new))
+        (link_moment L.listens L.listens_at L.ends L.open_faults L.accept_faults link.new))
         (moment K.held K.faults out.old) (moment K.held K.faults out.new)
         (moment E.held E.faults err.old) (moment E.held E.faults err.new) result }
 {
@@ -90,9 +90,9 @@ fn answer_to<R: Threads + Wait + Sync, H: Shelf, S: Source, L: Listener>(
     requires closed { L.listens link.old ≡ false }
     ensures { ComesTo (sides L.End.Source.left L.End.Sink.held L.End.Source.faults L.End.Sink.faults) command.now
         (outside (shelf_moment H.tells H.faults shelf.old) (moment S.left S.faults input.old)
-            (link_moment L.listens L.listens_at L.ends L.open_faults L.accept_faults link.old))
+        (link_moment L.listens L.listens_at L.ends L.open_faults L.accept_faults link.old))
         (outside (shelf_moment H.tells H.faults shelf.new) (moment S.left S.faults input.new)
-            (link_moment L.listens L.listens_at L.ends L.open_faults L.accept_faults link.new)) result }
+        (link_moment L.listens L.listens_at L.ends L.open_faults L.accept_faults link.new)) result }
 {
     match command {
         Command::Explore {

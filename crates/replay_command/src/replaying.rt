@@ -40,7 +40,7 @@ pub fn replay<H: Shelf, S: Source>(
         (Rises (H.faults shelf.old) (H.faults shelf.new)) (Rose (S.faults input.old) (S.faults input.new))) }
 {
     let explore = exploration(alloc, shelf, input, file, known)?;
-    Ok(exploration_answer(alloc, &explore)?)
+    exploration_answer(alloc, &explore)
 }
 
 /// The exploration of the table in the file by the script on the input.
@@ -108,10 +108,11 @@ fn explored(
 }
 
 /// The text of an exploration.
-fn exploration_answer(alloc: Global, explore: &Explore) -> Result<Answer, Memory>
+fn exploration_answer(alloc: Global, explore: &Explore) -> Result<Answer, Stop>
     requires { CanBeTold explore.now.opening.table.context.width explore.now.opening.settings }
     ensures text { IfOk result (λ answer. answer ≡ exploration_output (recorded explore.now)) }
     ensures spells { OnOk result (SpellsItself (recorded explore.now)) }
+    ensures cause { IfErr result (λ stop. stop ≡ Stop.Memory) }
 {
     Ok(Answer {
         text: explore_text(alloc, explore)?,

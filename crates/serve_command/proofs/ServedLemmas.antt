@@ -81,10 +81,10 @@ module _ {E : Type 0} (left held : E → Option Text) (reads writes : E → ℕ)
     pub others : (e : ℕ) → (e ≡ 0) ⊎ (length before < e) → own explore.journal e ≡ []
 
   -- the text that was made of it
-  pub record IsTextOf (explore : History) (endings : List Ended) (text : Text) (ending : Ending) : Type 0 where
+  pub record IsTextOf (explore : History) (endings : List Ended) (text : Text) (end : Ending) : Type 0 where
     pub joined : text ≡ explore_text explore.opening.table explore.opening.settings explore.journal ++ sessions_text (map words_of endings)
     pub spells : Spells explore.opening.table explore.opening.settings explore.journal text
-    pub ending : ending ≡ ending_of (open_of explore)
+    pub ending : end ≡ ending_of (open_of explore)
 
   pub served-text : (o : Opening) (before after : List E) (explore : History) (endings : List Ended) (text : Text) (ending : Ending)
       → is_expert o.experts ≡ true → rows_respect o.settings.known o.table.context ≡ true → HaveWidth o.table.context.width o.settings.known → IsOver o before after explore endings → IsTextOf explore endings text ending

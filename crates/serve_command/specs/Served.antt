@@ -50,7 +50,7 @@ served_text o H endings = explore_text o.table o.settings H ++ sessions_text (ma
 module _ {E : Type 0} (left held : E → Option Text) (reads writes : E → ℕ) where
   -- The text spells the settings of the exploration and one legal history, which has no entries but those of the experts at these ends: expert k has
   -- talked over the k-th of them, and the text tells how that session ended. It ends open where a question is, after the last entry
-  pub record IsServedText (o : Opening) (before after : List E) (written : Text) (ending : Ending) : Type 0 where
+  pub record IsServedText (o : Opening) (before after : List E) (written : Text) (end : Ending) : Type 0 where
     pub history : List SetEntry
     pub endings : List Ended
     pub text : written ≡ served_text o history endings
@@ -59,7 +59,7 @@ module _ {E : Type 0} (left held : E → Option Text) (reads writes : E → ℕ)
     pub course : IsExplored (served o history)
     pub talks : EachTalks left held reads writes o.table lines history 1 before after endings
     pub others : (e : ℕ) → (e ≡ 0) ⊎ (length before < e) → own history e ≡ []
-    pub ending : ending ≡ ending_of (open_at (served o history))
+    pub ending : end ≡ ending_of (open_at (served o history))
 
   -- the ends are as they were, or their experts have talked over them
   abbrev pub MayHaveTalked : List E → List E → Type 0

@@ -1,13 +1,15 @@
-use Rattle.std.proofs.Common.{◌≡◌, ◌<◌, ◌+◌, ◌++◌, ◌∷◌, ◌∙◌, [], length, drop, List, sym, subst, arith}
-use Rattle.std.specs.Prelude.{All}
+use Rattle.std.proofs.Common.{rules, ◌≡◌, ◌<◌, ◌+◌, ◌++◌, ◌∷◌, ◌∙◌, [], length, drop, List, sym, subst, arith}
+use Rattle.std.specs.Prelude.{All, IfErr}
+use Rattle.std.proofs.lemmas.Result.{IfErr-weaker}
 use Rattle.fca_model.specs.Tables.{NamedContext}
 use Rattle.std.proofs.lemmas.List.Elements.{All-push}
 use Rattle.command_io.specs.Endings.{IsRefusal}
 use Rattle.command_io.specs.Readings.{MayRefuse, Rises}
 use Rattle.command_io.specs.declared.stop.Stop.{Stop}
+use Rattle.command_io.specs.declared.stop.Stop.TheVariants.{Memory}
 use Rattle.command_io.proofs.ErrLemmas.{err-passed}
 use Rattle.explore_command.specs.Panels.{experts_read, IsExpertsStop}
-use Rattle.explore_command.proofs.PanelLemmas.{ReadsOn, ReadsOn-next, ReadsOn-all, refused-file, experts-stop}
+use Rattle.explore_command.proofs.PanelLemmas.{ReadsOn, ReadsOn-next, ReadsOn-all, refused-file, experts-stop, memory-experts}
 use Rattle.explore_command.proofs.panel.experts_under.Goals as goal
 
 pub returns-in_err-expert-clause-refused : goal.returns-in_err-expert-clause-refused
@@ -56,3 +58,12 @@ loop-place-preserved g c =
 pub returns-clause-tables : goal.returns-clause-tables
 returns-clause-tables g c =
     ReadsOn-all c.args.table.now c.args.files.now c.loop-place.place (g.H.Shelf.tells c.args.shelf.now) (g.H.Shelf.faults c.args.shelf.now) c.loop-place.tables.items (let past = c.loop-place-test.false in omega arith) c.loop-place.invariant.0
+
+pub returns-in_err-push-clause-cause : goal.returns-in_err-push-clause-cause
+returns-in_err-push-clause-cause g c =
+    let left = c.from_residual-in_err-push.result in
+    let memory : IfErr left (λ (s : Stop). s ≡ Memory) = search rules in
+    let table = c.args.table.now in
+    let tells = g.H.Shelf.tells c.args.shelf.now in
+    let rises = Rises (g.H.Shelf.faults c.args.shelf.now) (g.H.Shelf.faults c.expert_under.new.shelf) in
+    IfErr-weaker left (λ (s : Stop). s ≡ Memory) (IsExpertsStop table 0 c.args.files.now tells rises) (λ s e. memory-experts table 0 c.args.files.now tells rises s e) memory

@@ -33,8 +33,12 @@ returns-in_err-tables-clause-cause g c =
     let start = start_of c.in_ok-start.start in
     let stop = c.in_err-tables.field-0.0 in
     err-passed c.from_residual-in_err-tables.result stop (IsPanelStop c.args.file.now known c.args.experts.now tells (Rises counts after)) c.from_residual-in_err-tables.ensures.1
-    (inr (start, c.in_ok-start.ensures.start, IsExpertsStop-same start.table 0 c.args.experts.now tells now (Rises between after) (Rises counts after) stop c.in_ok-start.ensures.kept
-    (λ other. Rises-before counts between after other c.in_ok-start.ensures.later) c.in_err-tables.ensures.cause))
+    (inr (
+      start,
+      c.in_ok-start.ensures.start,
+      IsExpertsStop-same start.table 0 c.args.experts.now tells now (Rises between after) (Rises counts after) stop c.in_ok-start.ensures.kept
+          (λ other. Rises-before counts between after other c.in_ok-start.ensures.later) c.in_err-tables.ensures.cause,
+    ))
 
 pub seated-requires-clause-may : goal.seated-requires-clause-may
 seated-requires-clause-may g c =

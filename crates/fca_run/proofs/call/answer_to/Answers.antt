@@ -1,8 +1,9 @@
-use Rattle.std.proofs.Common.{rules, ◌≡◌, true, List, Option, sym, subst}
+use Rattle.std.proofs.Common.{rules, ◌≡◌, true, List, Option, sym, ap, subst}
 use Rattle.fca_model.specs.Tables.{Text}
 use Rattle.fca_command.specs.Commands.{is_plain}
 use Rattle.fca_command.specs.declared.command.Command.{Command}
 use Rattle.fca_command.specs.declared.command.Command.TheVariants.{Explore, Serve}
+use Rattle.fca_command.specs.declared.recipe.Recipe.{Recipe}
 use Rattle.command_io.specs.Streams.{moment}
 use Rattle.fca_run.specs.Calls.{shelf_moment, link_moment, sides, outside, ComesTo}
 use Rattle.fca_run.proofs.CallLemmas.{explore-comes, serve-comes, survey-comes, plain-comes}
@@ -38,7 +39,25 @@ returns-in-Serve g c =
     ends.answer ends.listens ends.refused ends.cause ends.unheard ends.ends))
 
 pub returns-in-Survey : goal.returns-in-Survey
-returns-in-Survey g c = ?
+returns-in-Survey g c =
+    let talk = sides g.L.End.Source.left g.L.End.Sink.held g.L.End.Source.faults g.L.End.Sink.faults in
+    let s = shelf_moment g.H.Shelf.tells g.H.Shelf.faults c.args.shelf.now in
+    let input = moment g.S.Source.left g.S.Source.faults c.args.input.now in
+    let link = link_moment g.L.Listener.listens g.L.Listener.listens_at g.L.Listener.ends g.L.Listener.open_faults g.L.Listener.accept_faults c.args.link.now in
+    let recipe : Recipe = record { seed = c.in-Survey.seed; objects = c.in-Survey.objects; attributes = c.in-Survey.attributes; density = c.in-Survey.density } in
+    let Comes : Command → Type 0 = λ command. ComesTo talk command (outside s input link) (outside s input link) c.survey_answer.result in
+    subst Comes (sym c.in-Survey.is)
+    (survey-comes talk s input link recipe c.in-Survey.experts c.survey_answer.result c.survey_answer.ensures.output c.survey_answer.ensures.cause)
 
 pub returns-in_default : goal.returns-in_default
-returns-in_default g c = ?
+returns-in_default g c =
+    let talk = sides g.L.End.Source.left g.L.End.Sink.held g.L.End.Source.faults g.L.End.Sink.faults in
+    let s = shelf_moment g.H.Shelf.tells g.H.Shelf.faults c.args.shelf.now in
+    let s' = shelf_moment g.H.Shelf.tells g.H.Shelf.faults c.plain_answer.new.shelf in
+    let input = moment g.S.Source.left g.S.Source.faults c.args.input.now in
+    let input' = moment g.S.Source.left g.S.Source.faults c.plain_answer.new.input in
+    let link = link_moment g.L.Listener.listens g.L.Listener.listens_at g.L.Listener.ends g.L.Listener.open_faults g.L.Listener.accept_faults c.args.link.now in
+    let plain : is_plain c.args.command.now ≡ true = search rules in
+    let came = c.plain_answer.ensures in
+    plain-comes talk s s' input input' link c.plain_answer.result c.args.command.now plain came.output came.ending came.course came.cause came.refused came.read_to_end
+    (λ kept. ap (moment g.S.Source.left g.S.Source.faults) (came.input_kept kept))
