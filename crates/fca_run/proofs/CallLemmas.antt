@@ -86,7 +86,7 @@ panel-ends : (file : Text) (known : Option Text) (names : Bool) (experts : List 
 panel-ends file known names experts true = tt
 panel-ends file known names experts false = tt
 
-questions-end : (command : Command) (open : List Rule) → may_end_open command ≡ true → MayEnd command (ending_of open)
+questions-end : (command : Command) (questions : List Rule) → may_end_open command ≡ true → MayEnd command (ending_of questions)
 questions-end command [] may = tt
 questions-end command (question ∷ later) may = may
 
@@ -256,9 +256,9 @@ module _ {H S D E : Type 0} (talk : Sides E) (s s' : ShelfMoment H) (input input
         → IfOk came (λ answer. MayEnd command answer.ending)
         → IfOk came (λ answer. HasCourse command answer.text)
         → IfErr came (IsCommandStop command (outside s input unlinked) (outside s' input' unlinked))
-        → IfErr came (λ stop. (IsRefusal stop → MayRefuse (then (output command s.tells input.bytes) (λ _. Read tt))))
+        → IfErr came (λ stop. (IsRefusal stop → MayRefuse (then {Y = Unit {0}} (output command s.tells input.bytes) (λ _. Read tt))))
         → IfErr came (IsBlamed (FaultRose command (outside s input unlinked) (outside s' input' unlinked)) ⊥)
-        → (IsGiven (then (output command s.tells input.bytes) (λ _. Read tt))
+        → (IsGiven (then {Y = Unit {0}} (output command s.tells input.bytes) (λ _. Read tt))
         → IfErr came (λ stop. (stop ≡ Memory) ⊎ (FaultRose command (outside s input unlinked) (outside s' input' unlinked) ⊎ ⊥)))
         → (reads_input command ≡ true → OnOk came (IsAtEnd input'.bytes))
         → (reads_input command ≡ false → input' ≡ input)

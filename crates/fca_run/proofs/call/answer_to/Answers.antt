@@ -1,9 +1,13 @@
 use Rattle.std.proofs.Common.{rules, ◌≡◌, true, List, Option, sym, ap, subst}
+use Rattle.std.specs.Prelude.{IfErr}
+use Rattle.std.proofs.lemmas.Result.{IfErr-weaker}
 use Rattle.fca_model.specs.Tables.{Text}
 use Rattle.fca_command.specs.Commands.{is_plain}
 use Rattle.fca_command.specs.declared.command.Command.{Command}
 use Rattle.fca_command.specs.declared.command.Command.TheVariants.{Explore, Serve}
 use Rattle.fca_command.specs.declared.recipe.Recipe.{Recipe}
+use Rattle.command_io.specs.Endings.{IsUnread}
+use Rattle.command_io.specs.declared.stop.Stop.{Stop}
 use Rattle.command_io.specs.Streams.{moment}
 use Rattle.fca_run.specs.Calls.{shelf_moment, link_moment, sides, outside, ComesTo}
 use Rattle.fca_run.proofs.CallLemmas.{explore-comes, serve-comes, survey-comes, plain-comes}
@@ -34,9 +38,12 @@ returns-in-Serve g c =
     let ends = c.serve.ensures in
     let Comes : Command → Type 0 = λ command. ComesTo talk command (outside s input link) (outside s' input link') c.serve.result in
     let Beside : Option Text → Type 0 = λ known. Comes (Serve c.in-Serve.file known c.in-Serve.experts c.in-Serve.holders c.in-Serve.listen) in
+    let unheard : IfErr c.serve.result (λ (stop : Stop). (IsUnread stop → link' ≡ link)) =
+    IfErr-weaker c.serve.result (λ (stop : Stop). (IsUnread stop → c.serve.new.link ≡ c.args.link.now)) (λ (stop : Stop). (IsUnread stop → link' ≡ link))
+    (λ stop same. λ unread. ap (link_moment g.L.Listener.listens g.L.Listener.listens_at g.L.Listener.ends g.L.Listener.open_faults g.L.Listener.accept_faults) (same unread)) ends.unheard in
     subst Comes (sym c.in-Serve.is) (subst Beside c.as_ref-in-Serve.ensures.value
     (serve-comes talk s s' input link link' c.in-Serve.file _ c.in-Serve.experts c.in-Serve.holders c.in-Serve.listen c.serve.result
-    ends.answer ends.listens ends.refused ends.cause ends.unheard ends.ends))
+    ends.answer ends.listens ends.refused ends.cause unheard ends.ends))
 
 pub returns-in-Survey : goal.returns-in-Survey
 returns-in-Survey g c =

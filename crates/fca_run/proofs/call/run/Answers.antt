@@ -18,7 +18,7 @@ returns-in-Ok-Some g c =
     let Ran : Option Command → Type 0 = λ call. HasRun talk call old new
     (moment g.K.Sink.held g.K.Sink.faults c.args.out.now) (moment g.K.Sink.held g.K.Sink.faults c.run_command.new.out)
     (moment g.E.Sink.held g.E.Sink.faults c.args.err.now) (moment g.E.Sink.held g.E.Sink.faults c.run_command.new.err) c.run_command.result in
-    subst Ran (sym c.in-Ok-Some.field-0-is ∙ c.in-Ok-Some.ensures.command) c.run_command.ensures
+    record { ran = subst Ran (sym c.in-Ok-Some.field-0-is ∙ c.in-Ok-Some.ensures.command) c.run_command.ensures }
 
 pub returns-in-Ok-None : goal.returns-in-Ok-None
 returns-in-Ok-None g c =
@@ -29,7 +29,7 @@ returns-in-Ok-None g c =
     let Ran : Option Command → Type 0 = λ call. HasRun talk call old old
     (moment g.K.Sink.held g.K.Sink.faults c.args.out.now) (moment g.K.Sink.held g.K.Sink.faults c.conclude.new.out)
     (moment g.E.Sink.held g.E.Sink.faults c.args.err.now) (moment g.E.Sink.held g.E.Sink.faults c.conclude.new.err) c.conclude.result in
-    subst Ran (sym none) (record { came = Err NoCommand; comes = (inl refl, refl); concluded = c.conclude.ensures })
+    record { ran = subst Ran (sym none) (record { came = Err NoCommand; comes = (inl refl, refl); concluded = c.conclude.ensures }) }
 
 pub returns-in-Err : goal.returns-in-Err
 returns-in-Err g c =
@@ -39,8 +39,10 @@ returns-in-Err g c =
     let call = command_form c.args.words.now in
     let end = c.conclude-in-Err in
     record {
-      came = Err Memory;
-      comes = call-memory talk old call;
-      concluded = concluded-memory (moment g.K.Sink.held g.K.Sink.faults c.args.out.now) (moment g.K.Sink.held g.K.Sink.faults end.new.out)
-          (moment g.E.Sink.held g.E.Sink.faults c.args.err.now) (moment g.E.Sink.held g.E.Sink.faults end.new.err) end.result (λ _. []) (fault_file call) end.ensures;
+      ran = record {
+        came = Err Memory;
+        comes = call-memory talk old call;
+        concluded = concluded-memory (moment g.K.Sink.held g.K.Sink.faults c.args.out.now) (moment g.K.Sink.held g.K.Sink.faults end.new.out)
+            (moment g.E.Sink.held g.E.Sink.faults c.args.err.now) (moment g.E.Sink.held g.E.Sink.faults end.new.err) end.result (λ _. []) (fault_file call) end.ensures;
+      };
     }

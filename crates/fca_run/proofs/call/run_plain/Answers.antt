@@ -13,10 +13,12 @@ returns g c =
     let input' = moment g.S.Source.left g.S.Source.faults c.plain_answer-answer.new.input in
     let came = c.plain_answer-answer in
     record {
-      came = came.result;
-      comes = plain-comes no_sides s s' input input' unlinked came.result c.args.command.now c.requires.plain came.ensures.output came.ensures.ending came.ensures.course
-          came.ensures.cause came.ensures.refused came.ensures.read_to_end (λ kept. ap (moment g.S.Source.left g.S.Source.faults) (came.ensures.input_kept kept));
-      concluded = concluded-named (moment g.K.Sink.held g.K.Sink.faults c.args.out.now) (moment g.K.Sink.held g.K.Sink.faults c.conclude.new.out)
-          (moment g.E.Sink.held g.E.Sink.faults c.args.err.now) (moment g.E.Sink.held g.E.Sink.faults c.conclude.new.err) c.conclude.result
-          c.name_at_fault-file.result.now (fault_file (Some c.args.command.now)) came.result c.name_at_fault-file.ensures c.conclude.ensures;
+      ran = record {
+        came = came.result;
+        comes = plain-comes no_sides s s' input input' unlinked came.result c.args.command.now c.requires.plain came.ensures.output came.ensures.ending came.ensures.course
+            came.ensures.cause came.ensures.refused came.ensures.read_to_end (λ kept. ap (moment g.S.Source.left g.S.Source.faults) (came.ensures.input_kept kept));
+        concluded = concluded-named (moment g.K.Sink.held g.K.Sink.faults c.args.out.now) (moment g.K.Sink.held g.K.Sink.faults c.conclude.new.out)
+            (moment g.E.Sink.held g.E.Sink.faults c.args.err.now) (moment g.E.Sink.held g.E.Sink.faults c.conclude.new.err) c.conclude.result
+            c.name_at_fault-file.result.now (fault_file (Some c.args.command.now)) came.result c.name_at_fault-file.ensures c.conclude.ensures;
+      };
     }
