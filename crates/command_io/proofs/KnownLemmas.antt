@@ -1,18 +1,16 @@
 -- What is known of a table is read behind the table, and the shelf tells the same then.
-use Rattle.std.proofs.Common.{◌≡◌, ◌≤◌, ◌+◌, ℕ, List, [], ◌∷◌, Option, Some, None, inl, inr, refl, ap, subst, arith}
-use Rattle.std.specs.Prelude.{option_to_list}
-use Rattle.fca_model.specs.Sets.{Set}
+use Rattle.std.proofs.Common.{◌≡◌, ◌≤◌, ℕ, List, Option, Some, None, inl, inr, refl, ap, subst, arith}
 use Rattle.fca_model.specs.Tables.{Text, NamedContext}
 use Rattle.fca_model.specs.Implications.{Rule}
 use Rattle.fca_io.specs.Faults.{Rose}
 use Rattle.fca_io.specs.Shelves.{Told}
 use Rattle.explore_state.specs.Faults.{first_break}
-use Rattle.command_io.specs.Readings.{Reading, then, MayRead, MayRefuse, SomeRose}
+use Rattle.command_io.specs.Readings.{Reading, then, MayRead, MayRefuse, Rises}
 use Rattle.command_io.specs.Readings.Reading.{Refused, Read}
 use Rattle.command_io.specs.Forms.{table_read}
-use Rattle.command_io.specs.Endings.{Stops}
-use Rattle.command_io.specs.Known.{unbroken, respected, known_in, known_read, Start, start_read, IsKnownFileStop, IsKnownStop}
+use Rattle.command_io.specs.Known.{unbroken, respected, known_in, known_read, Start, start_read, IsKnownSaidStop, IsKnownFileStop, IsKnownStop}
 use Rattle.command_io.specs.declared.stop.Stop.{Stop}
+use Rattle.command_io.specs.declared.stop.Stop.TheVariants.{Fault}
 use Rattle.command_io.proofs.ReadingLemmas.{refused_then, refused_after, read_after}
 
 -- ---- rows that break nothing
@@ -30,20 +28,31 @@ pub known_read-same : (known : Option Text) (table : NamedContext) (tells now : 
 known_read-same None table tells now same = refl
 known_read-same (Some file) table tells now same = ap (known_in table) (same file)
 
-pub IsKnownStop-same : (known : Option Text) (table : NamedContext) (tells now : Text → Told) (stop : Stop) → ((other : Text) → now other ≡ tells other)
-    → IsKnownStop known table now stop → IsKnownStop known table tells stop
-IsKnownStop-same None table tells now stop same is = is
-IsKnownStop-same (Some file) table tells now stop same is = let P : Told → Type 0 = λ told. IsKnownFileStop table told stop in subst P (same file) is
-
 -- ---- counts of faults
 
 pub Rose-between : (a b c d : ℕ) → a ≤ b → Rose b c → c ≤ d → Rose a d
 Rose-between a b c d before rose after = omega arith
 
-pub SomeRose-before : (files : List Text) (counts between after : Text → ℕ) → ((other : Text) → counts other ≤ between other) → SomeRose between after files → SomeRose counts after files
-SomeRose-before [] counts between after later rose = rose
-SomeRose-before (file ∷ files) counts between after later (inl rose) = inl (Rose-between (counts file) (between file) (after file) (after file) (later file) rose (omega arith))
-SomeRose-before (file ∷ files) counts between after later (inr rose) = inr (SomeRose-before files counts between after later rose)
+pub Rises-before : (counts between after : Text → ℕ) (file : Text) → ((other : Text) → counts other ≤ between other) → Rises between after file → Rises counts after file
+Rises-before counts between after file later rose = Rose-between (counts file) (between file) (after file) (after file) (later file) rose (omega arith)
+
+-- ---- a file is at fault where a count rose for it
+
+IsKnownSaidStop-more : (n : ℕ) (told : Told) (rose rose' : Type 0) (s : Stop) → (rose → rose') → IsKnownSaidStop n told rose s → IsKnownSaidStop n told rose' s
+IsKnownSaidStop-more n told rose rose' (Fault at) more is = (is.0, more is.1)
+IsKnownSaidStop-more n told rose rose' _ more is = is
+
+IsKnownFileStop-more : (table : NamedContext) (told : Told) (rose rose' : Type 0) (s : Stop) → (rose → rose') → IsKnownFileStop table told rose s → IsKnownFileStop table told rose' s
+IsKnownFileStop-more table told rose rose' s more (inl said) = inl (IsKnownSaidStop-more table.context.width told rose rose' s more said)
+IsKnownFileStop-more table told rose rose' s more (inr broken) = inr broken
+
+-- the shelf tells the same later, and a count that rose since then rose since before
+pub IsKnownStop-same : (known : Option Text) (table : NamedContext) (tells now : Text → Told) (rises rises' : Text → Type 0) (s : Stop) → ((other : Text) → now other ≡ tells other)
+    → ((other : Text) → rises other → rises' other) → IsKnownStop known table now rises s → IsKnownStop known table tells rises' s
+IsKnownStop-same None table tells now rises rises' s same more is = is
+IsKnownStop-same (Some file) table tells now rises rises' s same more is =
+    let P : Told → Type 0 = λ told. IsKnownFileStop table told (rises' file) s in
+    subst P (same file) (IsKnownFileStop-more table (now file) (rises file) (rises' file) s (more file) is)
 
 -- ---- a table and what is known of it
 
@@ -55,14 +64,9 @@ start-read file known tells now table S here same may =
     read_after (table_read file (tells file)) table (λ t. then (known_read known t tells) (λ R. Read (record { table = t; known = R }))) start here
     (read_after (known_read known table tells) S (λ R. Read (record { table = table; known = R })) start (subst P (known_read-same known table tells now same) may) refl)
 
-pub Stops-start : (file : Text) (known : Option Text) (tells now : Text → Told) (counts between after : Text → ℕ) (table : NamedContext) (n : ℕ) → MayRead (table_read file (tells file)) table
-    → ((other : Text) → now other ≡ tells other) → ((other : Text) → counts other ≤ between other)
-    → Stops (known_read known table now) (SomeRose between after (option_to_list known)) n → Stops (start_read file known tells) (SomeRose counts after (file ∷ option_to_list known)) n
-Stops-start file known tells now counts between after table n here same later stop =
+pub refused-start : (file : Text) (known : Option Text) (tells now : Text → Told) (table : NamedContext) → MayRead (table_read file (tells file)) table
+    → ((other : Text) → now other ≡ tells other) → MayRefuse (known_read known table now) → MayRefuse (start_read file known tells)
+refused-start file known tells now table here same may =
     let P : Reading (List Rule) → Type 0 = λ r. MayRefuse r in
-    record {
-      refused = λ two. refused_after (table_read file (tells file)) table (λ t. then (known_read known t tells) (λ R. Read (record { table = t; known = R }))) here
-          (refused_then (known_read known table tells) (λ R. Read (record { table = table; known = R })) (subst P (known_read-same known table tells now same) (stop.refused two)));
-      fault = λ three. inr (SomeRose-before (option_to_list known) counts between after later (stop.fault three));
-      others = stop.others;
-    }
+    refused_after (table_read file (tells file)) table (λ t. then (known_read known t tells) (λ R. Read (record { table = t; known = R }))) here
+    (refused_then (known_read known table tells) (λ R. Read (record { table = table; known = R })) (subst P (known_read-same known table tells now same) may))

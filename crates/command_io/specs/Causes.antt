@@ -1,4 +1,5 @@
--- Why a table, a table of values, a plan or a script could not be read: which stop it is.
+-- Why a table, a table of values, a plan or a script could not be read: which stop it is. A fault comes only where a count of faults rose
+-- for this file, or for the input.
 use Rattle.std.specs.Prelude.{◌≡◌, ⊤, ℕ, true, false, Option, None, Some, Err, length, ◌<◌}
 use Rattle.fca_model.specs.Tables.{Text}
 use Rattle.fca_model.specs.declared.TheConstants.{FILE_BYTES}
@@ -36,31 +37,31 @@ IfHeld None P = ⊤
 IfHeld (Some None) P = ⊥
 IfHeld (Some (Some bytes)) P = P bytes
 
--- The stop of the file of this name, of which this is told and which comes from the origin: it could not be read, it is too long,
--- or its bytes are not of the form
-abbrev pub IsFileStop : Text → Told → Origin → Stop → Type 0
-IsFileStop name told origin (Fault at) = at ≡ origin
-IsFileStop name told origin (TooLong at) = (at ≡ origin) × MayExceed told FILE_BYTES
-IsFileStop name told origin (NoTable at fault) = (at ≡ origin) × (is_csv name ≡ false) × IfHeld told (λ bytes. cxt_form bytes ≡ Err fault)
-IsFileStop name told origin (NoCsv at fault) = (at ≡ origin) × (is_csv name ≡ true) × IfHeld told (λ bytes. csv_form bytes ≡ Err fault)
-IsFileStop name told origin Memory = ⊤
-IsFileStop name told origin _ = ⊥
+-- The stop of the file of this name, of which this is told and which comes from the origin: it could not be read, and a count of faults
+-- rose; it is too long; or its bytes are not of the form
+abbrev pub IsFileStop : Text → Told → Type 0 → Origin → Stop → Type 0
+IsFileStop name told rose origin (Fault at) = (at ≡ origin) × rose
+IsFileStop name told rose origin (TooLong at) = (at ≡ origin) × MayExceed told FILE_BYTES
+IsFileStop name told rose origin (NoTable at fault) = (at ≡ origin) × (is_csv name ≡ false) × IfHeld told (λ bytes. cxt_form bytes ≡ Err fault)
+IsFileStop name told rose origin (NoCsv at fault) = (at ≡ origin) × (is_csv name ≡ true) × IfHeld told (λ bytes. csv_form bytes ≡ Err fault)
+IsFileStop name told rose origin Memory = ⊤
+IsFileStop name told rose origin _ = ⊥
 
 -- the stop of the file of values of which this is told and which comes from the origin
-abbrev pub IsValuesStop : Told → Origin → Stop → Type 0
-IsValuesStop told origin (Fault at) = at ≡ origin
-IsValuesStop told origin (TooLong at) = (at ≡ origin) × MayExceed told FILE_BYTES
-IsValuesStop told origin (BadValues at fault) = (at ≡ origin) × IfHeld told (λ bytes. values_form bytes ≡ Err fault)
-IsValuesStop told origin Memory = ⊤
-IsValuesStop told origin _ = ⊥
+abbrev pub IsValuesStop : Told → Type 0 → Origin → Stop → Type 0
+IsValuesStop told rose origin (Fault at) = (at ≡ origin) × rose
+IsValuesStop told rose origin (TooLong at) = (at ≡ origin) × MayExceed told FILE_BYTES
+IsValuesStop told rose origin (BadValues at fault) = (at ≡ origin) × IfHeld told (λ bytes. values_form bytes ≡ Err fault)
+IsValuesStop told rose origin Memory = ⊤
+IsValuesStop told rose origin _ = ⊥
 
 -- the stop of the file of a plan for the table of values
-abbrev pub IsPlanStop : ValueTable → Told → Origin → Stop → Type 0
-IsPlanStop t told origin (Fault at) = at ≡ origin
-IsPlanStop t told origin (TooLong at) = (at ≡ origin) × MayExceed told FILE_BYTES
-IsPlanStop t told origin (BadPlan at fault) = (at ≡ origin) × IfHeld told (λ bytes. plan_form t bytes ≡ Err fault)
-IsPlanStop t told origin Memory = ⊤
-IsPlanStop t told origin _ = ⊥
+abbrev pub IsPlanStop : ValueTable → Told → Type 0 → Origin → Stop → Type 0
+IsPlanStop t told rose origin (Fault at) = (at ≡ origin) × rose
+IsPlanStop t told rose origin (TooLong at) = (at ≡ origin) × MayExceed told FILE_BYTES
+IsPlanStop t told rose origin (BadPlan at fault) = (at ≡ origin) × IfHeld told (λ bytes. plan_form t bytes ≡ Err fault)
+IsPlanStop t told rose origin Memory = ⊤
+IsPlanStop t told rose origin _ = ⊥
 
 -- there may be more left than the limit
 abbrev pub MayBeLonger : Option Text → ℕ → Type 0
@@ -73,9 +74,9 @@ IfLeft None P = ⊤
 IfLeft (Some bytes) P = P bytes
 
 -- the stop of a script on this input, whose rows have width n
-abbrev pub IsScriptStop : ℕ → Option Text → Stop → Type 0
-IsScriptStop n input (Fault at) = at ≡ Input
-IsScriptStop n input (TooLong at) = (at ≡ Input) × MayBeLonger input FILE_BYTES
-IsScriptStop n input (NoScript fault) = IfLeft input (λ bytes. script_form bytes n ≡ Err fault)
-IsScriptStop n input Memory = ⊤
-IsScriptStop n input _ = ⊥
+abbrev pub IsScriptStop : ℕ → Option Text → Type 0 → Stop → Type 0
+IsScriptStop n input rose (Fault at) = (at ≡ Input) × rose
+IsScriptStop n input rose (TooLong at) = (at ≡ Input) × MayBeLonger input FILE_BYTES
+IsScriptStop n input rose (NoScript fault) = IfLeft input (λ bytes. script_form bytes n ≡ Err fault)
+IsScriptStop n input rose Memory = ⊤
+IsScriptStop n input rose _ = ⊥

@@ -1,46 +1,83 @@
--- What a command has to write, and the status with which a call ends.
-use Rattle.std.specs.Prelude.{◌≡◌, ◌⊎◌, ℕ, Bool, false, cond}
+-- The two parts of a call: what its command comes to, an answer or a stop, and what the call did with that. The status says the second.
+--
+-- `concepts F`, whose text a fault of out cut off, has the outcome `CutOff`, and so the status 4.
+use Rattle.std.specs.Prelude.{◌≡◌, ◌⊎◌, ⊤, ℕ, List, [], ◌∷◌, Result, Ok, Err}
 use Rattle.fca_model.specs.Tables.{Text}
-use Rattle.fca_io.specs.declared.outside.Taken.{Taken}
-use Rattle.fca_io.specs.declared.outside.Taken.TheVariants as taken
-use Rattle.command_io.specs.Readings.{Reading, MayRefuse}
+use Rattle.fca_model.specs.Implications.{Rule}
+use Rattle.command_io.specs.declared.answer.Ending.{Ending}
+use Rattle.command_io.specs.declared.answer.Ending.TheVariants.{Finished, Open, Spent}
 use Rattle.command_io.specs.declared.stop.Stop.{Stop}
 use Rattle.command_io.specs.declared.stop.Stop.TheVariants.{NoCommand, TooLong, NoTable, NoCsv, BadValues, BadPlan, NoKnown, RowBreaks, NoScript, UnknownAttribute, OtherAttributes, Fault, Listener, Memory}
 
--- a text, and whether it leaves a question open
+-- ---- what a command comes to
+
+-- a text, and how it ends
 pub record Output : Type 0 where
   pub text : Text
-  pub is_open : Bool
+  pub ending : Ending
 
--- a text that leaves no question open
+-- a text that leaves nothing open
 abbrev pub finished : Text → Output
-finished text = record { text = text; is_open = false }
+finished text = record { text = text; ending = Finished }
 
--- the status of a whole text: 6 where it leaves a question open
-abbrev pub whole_status : Output → ℕ
-whole_status o = cond o.is_open 6 0
+-- how a text ends that leaves these questions open
+abbrev pub ending_of : List Rule → Ending
+ending_of [] = Finished
+ending_of (question ∷ later) = Open
 
--- the whole text was written
-abbrev pub IsWhole : ℕ → Type 0
-IsWhole status = (status ≡ 0) ⊎ (status ≡ 6)
-
--- a fault of the shelf or of the input, a fault of out, or want of memory
-abbrev pub IsCutOff : ℕ → Type 0
-IsCutOff status = (status ≡ 3) ⊎ ((status ≡ 4) ⊎ (status ≡ 5))
+-- the stop refuses what was read
+abbrev pub IsRefusal : Stop → Type 0
+IsRefusal NoCommand = ⊥
+IsRefusal (Fault origin) = ⊥
+IsRefusal Listener = ⊥
+IsRefusal Memory = ⊥
+IsRefusal _ = ⊤
 
 -- something that the command reads was refused, or could not be read
-abbrev pub IsUnread : ℕ → Type 0
-IsUnread status = (status ≡ 2) ⊎ (status ≡ 3)
+abbrev pub IsUnread : Stop → Type 0
+IsUnread NoCommand = ⊥
+IsUnread Listener = ⊥
+IsUnread Memory = ⊥
+IsUnread _ = ⊤
 
--- a status under which nothing was written
-abbrev pub IsSilent : ℕ → Type 0
-IsSilent status = (status ≡ 1) ⊎ ((status ≡ 2) ⊎ ((status ≡ 3) ⊎ ((status ≡ 5) ⊎ (status ≡ 7))))
+-- ---- what a call did
 
--- the status of a call that had this to write
-abbrev pub EndsAnswer : Output → ℕ → Type 0
-EndsAnswer o status = (status ≡ whole_status o) ⊎ (status ≡ 4)
+-- the whole text was written, a fault of out cut it off, or there was none
+pub data Outcome : Type 0 where
+  Written : Output → Outcome
+  CutOff : Output → Outcome
+  Stopped : Stop → Outcome
 
--- the status of a stop
+-- what may become of what a command came to
+abbrev pub MayBecome : Result Output Stop → Outcome → Type 0
+MayBecome (Ok answer) outcome = (outcome ≡ Written answer) ⊎ (outcome ≡ CutOff answer)
+MayBecome (Err stop) outcome = outcome ≡ Stopped stop
+
+-- P holds of the answer, if there is one
+abbrev pub IfAnswer : Outcome → (Output → Type 0) → Type 0
+IfAnswer (Written answer) P = P answer
+IfAnswer (CutOff answer) P = P answer
+IfAnswer (Stopped stop) P = ⊤
+
+-- P holds of the answer, if the whole text was written
+abbrev pub IfWritten : Outcome → (Output → Type 0) → Type 0
+IfWritten (Written answer) P = P answer
+IfWritten (CutOff answer) P = ⊤
+IfWritten (Stopped stop) P = ⊤
+
+-- P holds of the stop, if there is one
+abbrev pub IfStopped : Outcome → (Stop → Type 0) → Type 0
+IfStopped (Written answer) P = ⊤
+IfStopped (CutOff answer) P = ⊤
+IfStopped (Stopped stop) P = P stop
+
+-- ---- the status of each outcome
+
+abbrev pub ending_status : Ending → ℕ
+ending_status Finished = 0
+ending_status Open = 6
+ending_status Spent = 8
+
 abbrev pub stop_status : Stop → ℕ
 stop_status NoCommand = 1
 stop_status (TooLong origin) = 2
@@ -54,17 +91,10 @@ stop_status (NoScript fault) = 2
 stop_status UnknownAttribute = 2
 stop_status (OtherAttributes origin) = 2
 stop_status (Fault origin) = 3
-stop_status Listener = 7
 stop_status Memory = 5
+stop_status Listener = 7
 
--- the status where bytes were not taken
-abbrev pub taken_status : Taken → ℕ
-taken_status taken.Failed = 3
-taken_status taken.Long = 2
-taken_status taken.Memory = 5
-
--- a reading stopped with this status: 2 where it may be refused, 3 where a count of faults rose, or 5
-pub record Stops {X : Type 0} (reading : Reading X) (rose : Type 0) (status : ℕ) : Type 0 where
-  pub refused : status ≡ 2 → MayRefuse reading
-  pub fault : status ≡ 3 → rose
-  pub others : (status ≡ 2) ⊎ ((status ≡ 3) ⊎ (status ≡ 5))
+abbrev pub status_of : Outcome → ℕ
+status_of (Written answer) = ending_status answer.ending
+status_of (CutOff answer) = 4
+status_of (Stopped stop) = stop_status stop

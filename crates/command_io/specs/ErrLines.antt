@@ -2,12 +2,9 @@
 -- script, by the name of the file or `input`, and by the place in it where there is one.
 --
 -- A row that is too short, in line 9 of the file F: `fca: F: line 9: bad row`.
-use Rattle.std.specs.Prelude.{◌≡◌, ◌⊎◌, ℕ, decimal, codes, Option, List, [], ◌∷◌, slice_get, unwrap_or}
+use Rattle.std.specs.Prelude.{ℕ, decimal, codes, Option, None, Some, List, [], ◌∷◌, slice_get, unwrap_or}
 use Rattle.std.specs.List.{concat}
-use Rattle.std.specs.Io.KnownBytes.{Appends}
 use Rattle.fca_model.specs.Tables.{Text}
-use Rattle.fca_io.specs.Faults.{Rose}
-use Rattle.fca_io.specs.Transfers.{AppendsFront}
 use Rattle.cxt_format.specs.declared.CxtFault.{CxtFault}
 use Rattle.cxt_format.specs.declared.CxtFault.TheVariants as cxt
 use Rattle.csv_context.specs.declared.CsvFault.{CsvFault}
@@ -17,7 +14,10 @@ use Rattle.expert_scripts.specs.declared.fault.ScriptFault.{ScriptFault}
 use Rattle.expert_scripts.specs.declared.fault.ScriptFault.TheVariants as script
 use Rattle.known_rules.specs.declared.fault.KnownFault.{KnownFault}
 use Rattle.known_rules.specs.declared.fault.KnownFault.TheVariants as rules
-use Rattle.command_io.specs.Endings.{stop_status, IsSilent}
+use Rattle.command_io.specs.declared.answer.Ending.{Ending}
+use Rattle.command_io.specs.declared.answer.Ending.TheVariants.{Finished, Open, Spent}
+use Rattle.command_io.specs.Endings.{Outcome}
+use Rattle.command_io.specs.Endings.Outcome.{Written, CutOff, Stopped}
 use Rattle.command_io.specs.declared.stop.Origin.{Origin}
 use Rattle.command_io.specs.declared.stop.Origin.TheVariants.{File, Known, Later, Input}
 use Rattle.command_io.specs.declared.stop.Stop.{Stop}
@@ -154,15 +154,16 @@ file_from file known later _ = file
 abbrev pub file_at_fault : Text → Option Text → List Text → Stop → Text
 file_at_fault file known later stop = file_from file known later (stop_origin stop)
 
--- ---- what err gained
+-- ---- the line of an outcome
 
--- the whole line, or a front of it where a count of faults rose; and never anything else
-abbrev pub GainsLine : Option Text → Option Text → ℕ → ℕ → Text → Type 0
-GainsLine old new faults faults' line = Appends old new line ⊎ (AppendsFront old new line × Rose faults faults')
+-- the line of a text that was written whole: where an expert took all turns before it was done
+abbrev pub ending_line : Ending → Option Text
+ending_line Finished = None
+ending_line Open = None
+ending_line Spent = Some turns_spent_line
 
--- What err gained of a call with this status: where there is no text, the line of a stop that has the status and may come, by the
--- name of the file at fault; and one of its own where out failed, or where a text was written of experts who took all their turns
-pub record IsTold (Told : Text → Type 0) (MayCome : Stop → Type 0) (file_at_fault : Stop → Text) (status : ℕ) : Type 0 where
-  pub stop : IsSilent status → (stop : Stop) × (stop_status stop ≡ status) × MayCome stop × Told (stop_line (file_at_fault stop) stop)
-  pub fault : status ≡ 4 → Told write_fault_line
-  pub spent : status ≡ 8 → Told turns_spent_line
+-- the line that a call writes, if it writes one, where this is the name of the file at fault
+abbrev pub line_of : (Stop → Text) → Outcome → Option Text
+line_of file (Written answer) = ending_line answer.ending
+line_of file (CutOff answer) = Some write_fault_line
+line_of file (Stopped stop) = Some (stop_line (file stop) stop)

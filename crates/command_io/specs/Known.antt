@@ -67,24 +67,24 @@ IsBreakStop S table origin stop =
 
 -- the stop of the file of implications between sets of width n, of which this is told: it could not be read, it is too long, or its
 -- bytes are not of the form
-abbrev pub IsKnownSaidStop : ℕ → Told → Stop → Type 0
-IsKnownSaidStop n told (Fault at) = at ≡ Known
-IsKnownSaidStop n told (TooLong at) = (at ≡ Known) × MayExceed told FILE_BYTES
-IsKnownSaidStop n told (NoKnown fault) = IfHeld told (λ bytes. known_form bytes n ≡ Err fault)
-IsKnownSaidStop n told Memory = ⊤
-IsKnownSaidStop n told _ = ⊥
+abbrev pub IsKnownSaidStop : ℕ → Told → Type 0 → Stop → Type 0
+IsKnownSaidStop n told rose (Fault at) = (at ≡ Known) × rose
+IsKnownSaidStop n told rose (TooLong at) = (at ≡ Known) × MayExceed told FILE_BYTES
+IsKnownSaidStop n told rose (NoKnown fault) = IfHeld told (λ bytes. known_form bytes n ≡ Err fault)
+IsKnownSaidStop n told rose Memory = ⊤
+IsKnownSaidStop n told rose _ = ⊥
 
 -- the stop of such a file, or of a row of the table that breaks what it says
-abbrev pub IsKnownFileStop : NamedContext → Told → Stop → Type 0
-IsKnownFileStop table told stop = IsKnownSaidStop table.context.width told stop
+abbrev pub IsKnownFileStop : NamedContext → Told → Type 0 → Stop → Type 0
+IsKnownFileStop table told rose stop = IsKnownSaidStop table.context.width told rose stop
     ⊎ ((S : List Rule) × MayRead (known_said table.context.width told) S × IsBreakStop S table File stop)
 
--- the stop of what is known of the table, by the name of a file where there is one
-abbrev pub IsKnownStop : Option Text → NamedContext → (Text → Told) → Stop → Type 0
-IsKnownStop None table files stop = stop ≡ Memory
-IsKnownStop (Some file) table files stop = IsKnownFileStop table (files file) stop
+-- the stop of what is known of the table, by the name of a file where there is one; for some files a count of faults rose
+abbrev pub IsKnownStop : Option Text → NamedContext → (Text → Told) → (Text → Type 0) → Stop → Type 0
+IsKnownStop None table files rises stop = stop ≡ Memory
+IsKnownStop (Some file) table files rises stop = IsKnownFileStop table (files file) (rises file) stop
 
--- the stop of the table in the file, or of what is known of it
-abbrev pub IsStartStop : Text → Option Text → (Text → Told) → Stop → Type 0
-IsStartStop file known files stop = IsFileStop file (files file) File stop
-    ⊎ ((table : NamedContext) × MayRead (table_read file (files file)) table × IsKnownStop known table files stop)
+-- the stop of the table in the file, or, where that was read, of what is known of it
+abbrev pub IsStartStop : Text → Option Text → (Text → Told) → (Text → Type 0) → Stop → Type 0
+IsStartStop file known files rises stop = IsFileStop file (files file) (rises file) File stop
+    ⊎ ((table : NamedContext) × MayRead (table_read file (files file)) table × IsKnownStop known table files rises stop)

@@ -5,3 +5,4 @@ pub mod Forms
 pub mod Known
 pub mod Endings
 pub mod Explorations
+pub mod Streams

@@ -65,7 +65,11 @@ IfRead Missing P = ⊥
 IfRead Refused P = ⊥
 IfRead (Read x) P = P x
 
--- a count of faults rose for one of the files
+-- a count of faults rose for the file of this name
+abbrev pub Rises : (Text → ℕ) → (Text → ℕ) → Text → Type 0
+Rises counts counts' file = Rose (counts file) (counts' file)
+
+-- the same for one of the files
 abbrev pub SomeRose : (Text → ℕ) → (Text → ℕ) → List Text → Type 0
 SomeRose counts counts' [] = ⊥
-SomeRose counts counts' (file ∷ files) = Rose (counts file) (counts' file) ⊎ SomeRose counts counts' files
+SomeRose counts counts' (file ∷ files) = Rises counts counts' file ⊎ SomeRose counts counts' files

@@ -1,22 +1,60 @@
-//! What a command writes, and how a call ends.
+//! What a command comes to, and what a call does with it.
 
-ghost use Rattle.std.specs.Prelude.{◌≡◌, Result, IfOk, IfErr, IsOk};
-ghost use Rattle.std.specs.Io.KnownBytes.{Appends};
-ghost use Rattle.fca_io.specs.Faults.{Rose};
-ghost use Rattle.fca_io.specs.Transfers.{AppendsFront};
-ghost use Rattle.command_io.specs.Endings.{finished, stop_status, IsWhole, EndsAnswer};
-ghost use Rattle.command_io.specs.ErrLines.{stop_line, write_fault_line, GainsLine};
+ghost use Rattle.std.specs.Prelude.{◌≡◌};
+ghost use Rattle.explore_state.specs.History.{open_of};
+ghost use Rattle.command_io.specs.Endings.{finished, ending_of, ending_status};
+ghost use Rattle.command_io.specs.ErrLines.{ending_line};
+ghost use Rattle.command_io.specs.Streams.{moment, GainsLine, HasConcluded};
 
 use crate::err_line::{report, report_plain};
 use crate::stop::Stop;
+use explore_state::Explore;
 use fca_io::{Sink, write_text};
 use std::marker::Model;
 
-/// A whole text, and whether it leaves a question open.
+/// The status where a fault of out cut off the text.
+const WRITE_FAULT: u8 = 4;
+
+/// How a whole text ends.
+#[derive(Clone, Copy)]
+pub enum Ending {
+    /// Nothing is left open.
+    Finished,
+    /// A question is open.
+    Open,
+    /// An expert took all turns before it was done.
+    Spent,
+}
+
+impl Ending {
+    /// How the text of the exploration ends.
+    pub fn of(explore: &Explore) -> Ending
+        ensures { result ≡ ending_of (open_of explore.now) }
+    {
+        if explore.open_questions().is_empty() {
+            Ending::Finished
+        } else {
+            Ending::Open
+        }
+    }
+
+    /// The status of the program.
+    fn status(self) -> u8
+        ensures { result ≡ ending_status self }
+    {
+        match self {
+            Ending::Finished => 0,
+            Ending::Open => 6,
+            Ending::Spent => 8,
+        }
+    }
+}
+
+/// A whole text, and how it ends.
 #[derive(Drop)]
 pub struct Answer {
     pub text: Vec<u8>,
-    pub is_open: bool,
+    pub ending: Ending,
 }
 
 impl Model for Answer {
@@ -24,43 +62,40 @@ impl Model for Answer {
 
     ghost Value = { Output };
 
-    ghost view = { λ a. record { text = a.text.items; is_open = a.is_open } };
+    ghost view = { λ a. record { text = a.text.items; ending = a.ending } };
 }
 
 impl Answer {
-    /// A text that leaves no question open.
+    /// A text that leaves nothing open.
     pub fn finished(text: Vec<u8>) -> Answer
         ensures { result ≡ finished text.items }
     {
         Answer {
             text,
-            is_open: false,
+            ending: Ending::Finished,
         }
     }
 }
 
-/// Writes the whole text to out, or why there is none to err, and gives the status.
+/// Writes the whole text to out, or why there is none to err, and gives the status: `file` is the name of the file at fault, if one is.
 pub fn conclude<K: Sink, E: Sink>(
     answer: Result<Answer, Stop>,
     file: &[u8],
     out: &mut K,
     err: &mut E,
 ) -> u8
-    ensures answered { IfOk answer (λ a. EndsAnswer a result) }
-    ensures stopped { IfErr answer (λ stop. result ≡ stop_status stop) }
-    ensures made { IsWhole result → IsOk answer }
-
-    ensures whole { IsWhole result → IfOk answer (λ a. Appends (K.held out.old) (K.held out.new) a.text) }
-    ensures front { result ≡ 4 → IfOk answer (λ a. AppendsFront (K.held out.old) (K.held out.new) a.text) }
-    ensures nothing { IfErr answer (λ _. out.new ≡ out.old) }
-
-    ensures fault { result ≡ 4 → Rose (K.faults out.old) (K.faults out.new) }
-    ensures quiet { IsWhole result → err.new ≡ err.old }
-    ensures told { IfErr answer (λ stop. GainsLine (E.held err.old) (E.held err.new) (E.faults err.old) (E.faults err.new) (stop_line file.now stop)) }
-    ensures told_fault { result ≡ 4 → GainsLine (E.held err.old) (E.held err.new) (E.faults err.old) (E.faults err.new) write_fault_line }
+    ensures { HasConcluded answer (λ _. file.now) (moment K.held K.faults out.old) (moment K.held K.faults out.new)
+        (moment E.held E.faults err.old) (moment E.held E.faults err.new) result }
 {
     match answer {
-        Ok(answer) => written(&answer, out, err),
+        Ok(answer) => {
+            if write_text(out, &answer.text).is_err() {
+                report_plain(err, b"write fault");
+                return WRITE_FAULT;
+            }
+            tell_ending(err, answer.ending);
+            answer.ending.status()
+        }
         Err(stop) => {
             report(err, file, &stop);
             stop.status()
@@ -68,18 +103,12 @@ pub fn conclude<K: Sink, E: Sink>(
     }
 }
 
-/// Writes the whole text.
-fn written<K: Sink, E: Sink>(answer: &Answer, out: &mut K, err: &mut E) -> u8
-    ensures answered { EndsAnswer answer.now result }
-    ensures whole { IsWhole result → Appends (K.held out.old) (K.held out.new) answer.now.text }
-    ensures front { result ≡ 4 → AppendsFront (K.held out.old) (K.held out.new) answer.now.text }
-    ensures fault { result ≡ 4 → Rose (K.faults out.old) (K.faults out.new) }
-    ensures quiet { IsWhole result → err.new ≡ err.old }
-    ensures told_fault { result ≡ 4 → GainsLine (E.held err.old) (E.held err.new) (E.faults err.old) (E.faults err.new) write_fault_line }
+/// Tells of turns that are spent.
+fn tell_ending<E: Sink>(err: &mut E, ending: Ending)
+    ensures { GainsLine (ending_line ending) (moment E.held E.faults err.old) (moment E.held E.faults err.new) }
 {
-    if write_text(out, &answer.text).is_err() {
-        report_plain(err, b"write fault");
-        return 4;
+    match ending {
+        Ending::Finished | Ending::Open => {}
+        Ending::Spent => report_plain(err, b"turns spent"),
     }
-    if answer.is_open { 6 } else { 0 }
 }

@@ -1,9 +1,10 @@
 //! The line on err that tells why there is no text.
 
-ghost use Rattle.std.specs.Prelude.{◌≡◌};
+ghost use Rattle.std.specs.Prelude.{◌≡◌, Some};
 ghost use Rattle.std.specs.List.{flat_map};
 ghost use Rattle.expert_wire.specs.Parts.{Writes};
-ghost use Rattle.command_io.specs.ErrLines.{plain_line, numbered_line, field_line, broken_line, breaks_line, placed_line, cxt_told, csv_told, known_told, script_told, name_of, stop_line, write_fault_line, GainsLine};
+ghost use Rattle.command_io.specs.ErrLines.{plain_line, numbered_line, field_line, broken_line, breaks_line, placed_line, cxt_told, csv_told, known_told, script_told, name_of, stop_line};
+ghost use Rattle.command_io.specs.Streams.{moment, GainsLine};
 
 use crate::stop::{Origin, Stop};
 use csv_context::CsvFault;
@@ -25,14 +26,14 @@ pub enum Place {
 
 /// Tells why there is no text: `file` is the name of the file that is at fault, if one is. What err refuses is lost.
 pub fn report<E: Sink>(err: &mut E, file: &[u8], stop: &Stop)
-    ensures { GainsLine (E.held err.old) (E.held err.new) (E.faults err.old) (E.faults err.new) (stop_line file.now stop.now) }
+    ensures { GainsLine (Some (stop_line file.now stop.now)) (moment E.held E.faults err.old) (moment E.held E.faults err.new) }
 {
     let _ = write_stop(err, file, stop);
 }
 
 /// Tells in these words what went wrong.
-pub fn report_plain<E: Sink>(err: &mut E, words: &[u8])
-    ensures { GainsLine (E.held err.old) (E.held err.new) (E.faults err.old) (E.faults err.new) (plain_line words.now) }
+pub(crate) fn report_plain<E: Sink>(err: &mut E, words: &[u8])
+    ensures { GainsLine (Some (plain_line words.now)) (moment E.held E.faults err.old) (moment E.held E.faults err.new) }
 {
     let _ = write_plain(err, words);
 }

@@ -1,14 +1,14 @@
 //! What is known of a table beforehand: implications in a file, which every row of the table respects.
 
-ghost use Rattle.std.specs.Prelude.{◌≡◌, ◌≤◌, ◌∷◌, ℕ, List, IfOk, IfErr, OnOk, Some, None, option_copied, option_to_list};
+ghost use Rattle.std.specs.Prelude.{◌≡◌, ◌≤◌, ℕ, List, IfOk, IfErr, OnOk, Some, None, option_copied};
 ghost use Rattle.fca_model.specs.declared.TheConstants.{MAX_ATTRIBUTES};
 ghost use Rattle.fca_io.specs.Faults.{Rose};
 ghost use Rattle.implication_closure.specs.Closing.{HaveWidth};
 ghost use Rattle.explore_state.specs.Faults.{first_break};
 ghost use Rattle.known_rules.specs.Known.{known_form};
-ghost use Rattle.command_io.specs.Readings.{formed, MayRead, SomeRose};
+ghost use Rattle.command_io.specs.Readings.{formed, MayRead, MayRefuse, Rises};
 ghost use Rattle.command_io.specs.Known.{known_said, known_in, known_read, start_of, start_read, IsBreakStop, IsKnownSaidStop, IsKnownFileStop, IsKnownStop, IsStartStop};
-ghost use Rattle.command_io.specs.Endings.{stop_status, Stops};
+ghost use Rattle.command_io.specs.Endings.{IsRefusal};
 
 use crate::readings::{not_taken, table_under};
 use crate::stop::{Origin, Stop};
@@ -38,9 +38,8 @@ pub fn start_under<H: Shelf>(
     ensures width { IfOk result (λ start. start.known.width ≡ start.table.context.width) }
     ensures even { IfOk result (λ start. HaveWidth start.table.context.width start.known.members) }
     ensures respected { IfOk result (λ start. first_break start.known.members 0 start.table.context.rows ≡ None) }
-    ensures stop { IfErr result (λ stop. Stops (start_read file.now (option_copied known.entry) (H.tells shelf.old))
-        (SomeRose (H.faults shelf.old) (H.faults shelf.new) (file.now ∷ option_to_list (option_copied known.entry))) (stop_status stop)) }
-    ensures cause { IfErr result (IsStartStop file.now (option_copied known.entry) (H.tells shelf.old)) }
+    ensures refused { IfErr result (λ stop. IsRefusal stop → MayRefuse (start_read file.now (option_copied known.entry) (H.tells shelf.old))) }
+    ensures cause { IfErr result (IsStartStop file.now (option_copied known.entry) (H.tells shelf.old) (Rises (H.faults shelf.old) (H.faults shelf.new))) }
     ensures kept { (other : List ℕ) → H.tells shelf.new other ≡ H.tells shelf.old other }
     ensures later { (other : List ℕ) → H.faults shelf.old other ≤ H.faults shelf.new other }
 {
@@ -60,9 +59,8 @@ pub fn known_under<H: Shelf>(
     ensures width { IfOk result (λ list. list.width ≡ table.now.context.width) }
     ensures even { IfOk result (λ list. HaveWidth table.now.context.width list.members) }
     ensures respected { IfOk result (λ list. first_break list.members 0 table.now.context.rows ≡ None) }
-    ensures stop { IfErr result (λ stop. Stops (known_read (option_copied known.entry) table.now (H.tells shelf.old))
-        (SomeRose (H.faults shelf.old) (H.faults shelf.new) (option_to_list (option_copied known.entry))) (stop_status stop)) }
-    ensures cause { IfErr result (IsKnownStop (option_copied known.entry) table.now (H.tells shelf.old)) }
+    ensures refused { IfErr result (λ stop. IsRefusal stop → MayRefuse (known_read (option_copied known.entry) table.now (H.tells shelf.old))) }
+    ensures cause { IfErr result (IsKnownStop (option_copied known.entry) table.now (H.tells shelf.old) (Rises (H.faults shelf.old) (H.faults shelf.new))) }
     ensures kept { (other : List ℕ) → H.tells shelf.new other ≡ H.tells shelf.old other }
     ensures later { (other : List ℕ) → H.faults shelf.old other ≤ H.faults shelf.new other }
 {
@@ -83,9 +81,9 @@ fn known_in<H: Shelf>(
     ensures width { IfOk result (λ list. list.width ≡ table.now.context.width) }
     ensures even { IfOk result (λ list. HaveWidth table.now.context.width list.members) }
     ensures respected { IfOk result (λ list. first_break list.members 0 table.now.context.rows ≡ None) }
-    ensures stop { IfErr result (λ stop. Stops (known_in table.now (H.tells shelf.old file.now))
-        (Rose (H.faults shelf.old file.now) (H.faults shelf.new file.now)) (stop_status stop)) }
-    ensures cause { IfErr result (IsKnownFileStop table.now (H.tells shelf.old file.now)) }
+    ensures refused { IfErr result (λ stop. IsRefusal stop → MayRefuse (known_in table.now (H.tells shelf.old file.now))) }
+    ensures cause { IfErr result (IsKnownFileStop table.now (H.tells shelf.old file.now)
+        (Rose (H.faults shelf.old file.now) (H.faults shelf.new file.now))) }
     ensures kept { (other : List ℕ) → H.tells shelf.new other ≡ H.tells shelf.old other }
     ensures later { (other : List ℕ) → H.faults shelf.old other ≤ H.faults shelf.new other }
 {
@@ -105,9 +103,9 @@ fn known_said<H: Shelf>(
     requires { n ≤ MAX_ATTRIBUTES }
     ensures known { IfOk result (λ list. MayRead (known_said n (H.tells shelf.old file.now)) list.members) }
     ensures width { IfOk result (λ list. list.width ≡ n) }
-    ensures stop { IfErr result (λ stop. Stops (known_said n (H.tells shelf.old file.now))
-        (Rose (H.faults shelf.old file.now) (H.faults shelf.new file.now)) (stop_status stop)) }
-    ensures cause { IfErr result (IsKnownSaidStop n (H.tells shelf.old file.now)) }
+    ensures refused { IfErr result (λ stop. IsRefusal stop → MayRefuse (known_said n (H.tells shelf.old file.now))) }
+    ensures cause { IfErr result (IsKnownSaidStop n (H.tells shelf.old file.now)
+        (Rose (H.faults shelf.old file.now) (H.faults shelf.new file.now))) }
     ensures kept { (other : List ℕ) → H.tells shelf.new other ≡ H.tells shelf.old other }
     ensures later { (other : List ℕ) → H.faults shelf.old other ≤ H.faults shelf.new other }
 {
@@ -123,8 +121,8 @@ fn known_of(alloc: Global, bytes: &[u8], n: u32) -> Result<ImplicationList, Stop
     requires { n ≤ MAX_ATTRIBUTES }
     ensures known { IfOk result (λ list. MayRead (formed (known_form bytes.now n)) list.members) }
     ensures width { IfOk result (λ list. list.width ≡ n) }
-    ensures stop { IfErr result (λ stop. Stops (formed (known_form bytes.now n)) ⊥ (stop_status stop)) }
-    ensures cause { IfErr result (IsKnownSaidStop n (Some (Some bytes.now))) }
+    ensures refused { IfErr result (λ stop. IsRefusal stop → MayRefuse (formed (known_form bytes.now n))) }
+    ensures cause { IfErr result (IsKnownSaidStop n (Some (Some bytes.now)) ⊥) }
 {
     match read_known(alloc, bytes, n) {
         Ok(list) => Ok(list),

@@ -8,8 +8,8 @@ mod readings;
 mod scalings;
 mod stop;
 
-pub use answer::{Answer, conclude};
-pub use err_line::{report, report_plain};
+pub use answer::{Answer, Ending, conclude};
+pub use err_line::report;
 pub use known::{Start, check_known, known_under, start_under};
 pub use readings::{script_on, table_under};
 pub use scalings::{plan_under, values_under};

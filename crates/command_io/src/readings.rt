@@ -10,10 +10,10 @@ ghost use Rattle.expert_scripts.specs.Scripts.{said_of, script_form, may_apply};
 ghost use Rattle.expert_scripts.specs.Transcripts.{CanBeTold};
 ghost use Rattle.cxt_format.specs.Form.{cxt_form};
 ghost use Rattle.csv_context.specs.Form.{csv_form};
-ghost use Rattle.command_io.specs.Readings.{formed, MayRead};
+ghost use Rattle.command_io.specs.Readings.{formed, MayRead, MayRefuse};
 ghost use Rattle.command_io.specs.Forms.{is_csv, table_formed, table_read, script_read};
 ghost use Rattle.command_io.specs.Causes.{taken_stop, IsFormStop, IsFileStop, IsScriptStop};
-ghost use Rattle.command_io.specs.Endings.{stop_status, Stops, taken_status};
+ghost use Rattle.command_io.specs.Endings.{IsRefusal};
 
 use crate::stop::{Origin, Stop};
 use context_table::Table;
@@ -26,8 +26,7 @@ use std::alloc::Global;
 
 /// Why bytes of this origin were not taken.
 pub(crate) fn not_taken(taken: Taken, origin: Origin) -> Stop
-    ensures stop { result ≡ taken_stop taken origin }
-    ensures status { stop_status result ≡ taken_status taken }
+    ensures { result ≡ taken_stop taken origin }
 {
     match taken {
         Taken::Failed => Stop::Fault(origin),
@@ -44,9 +43,9 @@ pub fn table_under<H: Shelf>(
     origin: Origin,
 ) -> Result<Table, Stop>
     ensures table { IfOk result (λ table. MayRead (table_read file.now (H.tells shelf.old file.now)) table) }
-    ensures stop { IfErr result (λ stop. Stops (table_read file.now (H.tells shelf.old file.now))
-        (Rose (H.faults shelf.old file.now) (H.faults shelf.new file.now)) (stop_status stop)) }
-    ensures cause { IfErr result (IsFileStop file.now (H.tells shelf.old file.now) origin) }
+    ensures refused { IfErr result (λ stop. IsRefusal stop → MayRefuse (table_read file.now (H.tells shelf.old file.now))) }
+    ensures cause { IfErr result (IsFileStop file.now (H.tells shelf.old file.now)
+        (Rose (H.faults shelf.old file.now) (H.faults shelf.new file.now)) origin) }
     ensures kept { (other : List ℕ) → H.tells shelf.new other ≡ H.tells shelf.old other }
     ensures later { (other : List ℕ) → H.faults shelf.old other ≤ H.faults shelf.new other }
 {
@@ -60,7 +59,7 @@ pub fn table_under<H: Shelf>(
 /// The table whose form the bytes are, by the name of their file.
 fn table_of(alloc: Global, bytes: &[u8], name: &[u8], origin: Origin) -> Result<Table, Stop>
     ensures table { IfOk result (λ table. MayRead (table_formed name.now bytes.now) table) }
-    ensures stop { IfErr result (λ stop. Stops (table_formed name.now bytes.now) ⊥ (stop_status stop)) }
+    ensures refused { IfErr result (λ stop. IsRefusal stop → MayRefuse (table_formed name.now bytes.now)) }
     ensures cause { IfErr result (IsFormStop name.now origin bytes.now) }
 {
     if is_csv(name) {
@@ -79,7 +78,7 @@ fn is_csv(name: &[u8]) -> bool
 
 fn csv_table(alloc: Global, bytes: &[u8], origin: Origin) -> Result<Table, Stop>
     ensures table { IfOk result (λ table. MayRead (formed (csv_form bytes.now)) table) }
-    ensures stop { IfErr result (λ stop. Stops (formed (csv_form bytes.now)) ⊥ (stop_status stop)) }
+    ensures refused { IfErr result (λ stop. IsRefusal stop → MayRefuse (formed (csv_form bytes.now))) }
     ensures cause { (name : List ℕ) → is_csv name ≡ true → IfErr result (IsFormStop name origin bytes.now) }
 {
     match read_csv(alloc, bytes) {
@@ -91,7 +90,7 @@ fn csv_table(alloc: Global, bytes: &[u8], origin: Origin) -> Result<Table, Stop>
 
 fn cxt_table(alloc: Global, bytes: &[u8], origin: Origin) -> Result<Table, Stop>
     ensures table { IfOk result (λ table. MayRead (formed (cxt_form bytes.now)) table) }
-    ensures stop { IfErr result (λ stop. Stops (formed (cxt_form bytes.now)) ⊥ (stop_status stop)) }
+    ensures refused { IfErr result (λ stop. IsRefusal stop → MayRefuse (formed (cxt_form bytes.now))) }
     ensures cause { (name : List ℕ) → is_csv name ≡ false → IfErr result (IsFormStop name origin bytes.now) }
 {
     match read_cxt(alloc, bytes) {
@@ -109,8 +108,8 @@ pub fn script_on<S: Source>(alloc: Global, input: &mut S, n: u32) -> Result<Scri
     ensures told { IfOk result (λ script. CanBeTold n (settings_of script.settings)) }
     ensures fits { IfOk result (λ script. list_all (may_apply n) script.events ≡ true) }
     ensures end { OnOk result (IsAtEnd (S.left input.new)) }
-    ensures stop { IfErr result (λ stop. Stops (script_read n (S.left input.old)) (Rose (S.faults input.old) (S.faults input.new)) (stop_status stop)) }
-    ensures cause { IfErr result (IsScriptStop n (S.left input.old)) }
+    ensures refused { IfErr result (λ stop. IsRefusal stop → MayRefuse (script_read n (S.left input.old))) }
+    ensures cause { IfErr result (IsScriptStop n (S.left input.old) (Rose (S.faults input.old) (S.faults input.new))) }
 {
     let bytes = match read_all(alloc, input, FILE_BYTES) {
         Ok(bytes) => bytes,
@@ -126,8 +125,8 @@ fn script_of(alloc: Global, bytes: &[u8], n: u32) -> Result<Script, Stop>
     ensures width { IfOk result (λ script. script.settings.known.width ≡ n) }
     ensures told { IfOk result (λ script. CanBeTold n (settings_of script.settings)) }
     ensures fits { IfOk result (λ script. list_all (may_apply n) script.events ≡ true) }
-    ensures stop { IfErr result (λ stop. Stops (formed (script_form bytes.now n)) ⊥ (stop_status stop)) }
-    ensures cause { IfErr result (IsScriptStop n (Some bytes.now)) }
+    ensures refused { IfErr result (λ stop. IsRefusal stop → MayRefuse (formed (script_form bytes.now n))) }
+    ensures cause { IfErr result (IsScriptStop n (Some bytes.now) ⊥) }
 {
     match read_script(alloc, bytes, n) {
         Ok(script) => Ok(script),

@@ -5,10 +5,10 @@ ghost use Rattle.fca_io.specs.Faults.{Rose};
 ghost use Rattle.value_tables.specs.Form.{values_form};
 ghost use Rattle.context_scaling.specs.PlanForm.{plan_form};
 ghost use Rattle.context_scaling.specs.Scaling.{Fits};
-ghost use Rattle.command_io.specs.Readings.{formed, MayRead};
+ghost use Rattle.command_io.specs.Readings.{formed, MayRead, MayRefuse};
 ghost use Rattle.command_io.specs.Forms.{values_read, plan_read};
 ghost use Rattle.command_io.specs.Causes.{IsValuesStop, IsPlanStop};
-ghost use Rattle.command_io.specs.Endings.{stop_status, Stops};
+ghost use Rattle.command_io.specs.Endings.{IsRefusal};
 
 use crate::readings::not_taken;
 use crate::stop::{Origin, Stop};
@@ -26,9 +26,9 @@ pub fn values_under<H: Shelf>(
     origin: Origin,
 ) -> Result<Values, Stop>
     ensures values { IfOk result (λ values. MayRead (values_read (H.tells shelf.old file.now)) values) }
-    ensures stop { IfErr result (λ stop. Stops (values_read (H.tells shelf.old file.now))
-        (Rose (H.faults shelf.old file.now) (H.faults shelf.new file.now)) (stop_status stop)) }
-    ensures cause { IfErr result (IsValuesStop (H.tells shelf.old file.now) origin) }
+    ensures refused { IfErr result (λ stop. IsRefusal stop → MayRefuse (values_read (H.tells shelf.old file.now))) }
+    ensures cause { IfErr result (IsValuesStop (H.tells shelf.old file.now)
+        (Rose (H.faults shelf.old file.now) (H.faults shelf.new file.now)) origin) }
     ensures kept { (other : List ℕ) → H.tells shelf.new other ≡ H.tells shelf.old other }
     ensures later { (other : List ℕ) → H.faults shelf.old other ≤ H.faults shelf.new other }
 {
@@ -42,8 +42,8 @@ pub fn values_under<H: Shelf>(
 /// The table of values whose form the bytes are.
 fn values_of(alloc: Global, bytes: &[u8], origin: Origin) -> Result<Values, Stop>
     ensures values { IfOk result (λ values. MayRead (formed (values_form bytes.now)) values) }
-    ensures stop { IfErr result (λ stop. Stops (formed (values_form bytes.now)) ⊥ (stop_status stop)) }
-    ensures cause { IfErr result (IsValuesStop (Some (Some bytes.now)) origin) }
+    ensures refused { IfErr result (λ stop. IsRefusal stop → MayRefuse (formed (values_form bytes.now))) }
+    ensures cause { IfErr result (IsValuesStop (Some (Some bytes.now)) ⊥ origin) }
 {
     match read_values(alloc, bytes) {
         Ok(values) => Ok(values),
@@ -62,9 +62,9 @@ pub fn plan_under<H: Shelf>(
 ) -> Result<Plan, Stop>
     ensures plan { IfOk result (λ plan. MayRead (plan_read values.now (H.tells shelf.old file.now)) plan) }
     ensures fits { IfOk result (λ plan. Fits plan values.now) }
-    ensures stop { IfErr result (λ stop. Stops (plan_read values.now (H.tells shelf.old file.now))
-        (Rose (H.faults shelf.old file.now) (H.faults shelf.new file.now)) (stop_status stop)) }
-    ensures cause { IfErr result (IsPlanStop values.now (H.tells shelf.old file.now) origin) }
+    ensures refused { IfErr result (λ stop. IsRefusal stop → MayRefuse (plan_read values.now (H.tells shelf.old file.now))) }
+    ensures cause { IfErr result (IsPlanStop values.now (H.tells shelf.old file.now)
+        (Rose (H.faults shelf.old file.now) (H.faults shelf.new file.now)) origin) }
     ensures kept { (other : List ℕ) → H.tells shelf.new other ≡ H.tells shelf.old other }
     ensures later { (other : List ℕ) → H.faults shelf.old other ≤ H.faults shelf.new other }
 {
@@ -79,8 +79,8 @@ pub fn plan_under<H: Shelf>(
 fn plan_of(alloc: Global, bytes: &[u8], origin: Origin, values: &Values) -> Result<Plan, Stop>
     ensures plan { IfOk result (λ plan. MayRead (formed (plan_form values.now bytes.now)) plan) }
     ensures fits { IfOk result (λ plan. Fits plan values.now) }
-    ensures stop { IfErr result (λ stop. Stops (formed (plan_form values.now bytes.now)) ⊥ (stop_status stop)) }
-    ensures cause { IfErr result (IsPlanStop values.now (Some (Some bytes.now)) origin) }
+    ensures refused { IfErr result (λ stop. IsRefusal stop → MayRefuse (formed (plan_form values.now bytes.now))) }
+    ensures cause { IfErr result (IsPlanStop values.now (Some (Some bytes.now)) ⊥ origin) }
 {
     match read_plan(alloc, bytes, values) {
         Ok(plan) => Ok(plan),

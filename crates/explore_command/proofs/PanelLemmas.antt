@@ -1,25 +1,25 @@
 -- The tables of experts are read one after the other: what may be read of the files that are left may be read behind those before,
--- a refusal there refuses all, and a fault there is one of all.
-use Rattle.std.proofs.Common.{◌≡◌, ◌∙◌, ◌≤◌, ◌<◌, ◌+◌, ◌++◌, ◌∷◌, [], ℕ, zero, suc, List, Bool, true, Option, length, get_or, drop, Result, Ok, Err, inl, inr, refl, sym, ap, subst, append_assoc, append-nil, arith}
-use Rattle.std.specs.Prelude.{bytes_eq, IfErr, IsErr, IsErrAnd}
+-- a refusal there refuses all, and a stop there is one of all.
+use Rattle.std.proofs.Common.{◌≡◌, ◌∙◌, ◌≤◌, ◌<◌, ◌+◌, ◌++◌, ◌∷◌, [], ℕ, suc, List, Bool, true, Option, length, get_or, drop, inl, inr, refl, sym, ap, subst, append_assoc, append-nil, arith}
+use Rattle.std.specs.Prelude.{bytes_eq}
 use Rattle.std.proofs.Math.Seq.{drop-cons}
 use Rattle.std.proofs.lemmas.List.{drop_all}
-use Rattle.std.proofs.lemmas.Option.{slice_get_read}
 use Rattle.std.proofs.lemmas.Bool.{and_parts, cases_Bool}
 use Rattle.std.proofs.lemmas.Slice.Eq.{bytes_eq-Decides}
 use Rattle.fca_model.specs.Tables.{Text, NamedContext}
-use Rattle.fca_io.specs.Faults.{Rose}
 use Rattle.fca_io.specs.Shelves.{Told}
-use Rattle.command_io.specs.Readings.{Reading, then, MayRead, MayRefuse, SomeRose}
+use Rattle.command_io.specs.Readings.{Reading, then, MayRead, MayRefuse, Rises}
 use Rattle.command_io.specs.Known.{Start, start_read}
 use Rattle.command_io.specs.Readings.Reading.{Untold, Missing, Refused, Read}
 use Rattle.command_io.proofs.ReadingLemmas.{refused_then, refused_after, read_after}
-use Rattle.command_io.proofs.KnownLemmas.{Rose-between, SomeRose-before}
-use Rattle.explore_command.specs.Panels.{Panel, same_names, agreeing, expert_read, experts_read, settings_by, panel_read, IsExpertStop, IsExpertsStop, FileRose}
+use Rattle.command_io.proofs.KnownLemmas.{Rises-before}
+use Rattle.command_io.specs.Causes.{IsFileStop}
+use Rattle.explore_command.specs.Panels.{Panel, same_names, agreeing, expert_read, experts_read, settings_by, panel_read, IsExpertStop, IsExpertsStop}
 use Rattle.command_io.specs.Forms.{table_read}
-use Rattle.command_io.specs.Endings.{Stops, stop_status}
+use Rattle.command_io.specs.declared.stop.Origin.{Origin}
 use Rattle.command_io.specs.declared.stop.Origin.TheVariants.{Later}
 use Rattle.command_io.specs.declared.stop.Stop.{Stop}
+use Rattle.command_io.specs.declared.stop.Stop.TheVariants.{Fault, Memory}
 
 -- ---- names
 
@@ -50,13 +50,14 @@ agreeing-other table D other = elim (cases_Bool (same_names D.attributes table.a
 
 -- ---- one file more
 
--- what may be read of these files may be read of all, behind these tables
-pub record ReadsOn (table : NamedContext) (files all : List Text) (tells : Text → Told) (before : List NamedContext) : Type 0 where
+-- what may be read of these files, from this place on, may be read of all, behind these tables; and their stops are stops of all
+pub record ReadsOn (table : NamedContext) (place : ℕ) (files all : List Text) (tells : Text → Told) (counts : Text → ℕ) (before : List NamedContext) : Type 0 where
   pub read : (later : List NamedContext) → MayRead (experts_read table files tells) later → MayRead (experts_read table all tells) (before ++ later)
   pub refused : MayRefuse (experts_read table files tells) → MayRefuse (experts_read table all tells)
+  pub stops : (after : Text → ℕ) (s : Stop) → IsExpertsStop table place files tells (Rises counts after) s → IsExpertsStop table 0 all tells (Rises counts after) s
 
-pub ReadsOn-none : (table : NamedContext) (all : List Text) (tells : Text → Told) → ReadsOn table all all tells []
-ReadsOn-none table all tells = record { read = λ later may. may; refused = λ may. may }
+pub ReadsOn-none : (table : NamedContext) (all : List Text) (tells : Text → Told) (counts : Text → ℕ) → ReadsOn table 0 all all tells counts []
+ReadsOn-none table all tells counts = record { read = λ later may. may; refused = λ may. may; stops = λ after s is. is }
 
 read_behind : (D : NamedContext) (rest : Reading (List NamedContext)) (later : List NamedContext) → MayRead rest later
     → MayRead (then rest (λ experts. Read (D ∷ experts))) (D ∷ later)
@@ -86,13 +87,14 @@ first_refused D Missing rest here may = here
 first_refused D Refused rest here may = tt
 first_refused D (Read E) rest here may = refused_behind E rest may
 
-pub ReadsOn-more : (table : NamedContext) (file : Text) (files all : List Text) (tells : Text → Told) (before : List NamedContext) (D : NamedContext)
-    → MayRead (expert_read table file tells) D → ReadsOn table (file ∷ files) all tells before → ReadsOn table files all tells (before ++ D ∷ [])
-ReadsOn-more table file files all tells before D here on = record {
+pub ReadsOn-more : (table : NamedContext) (place : ℕ) (file : Text) (files all : List Text) (tells : Text → Told) (counts : Text → ℕ) (before : List NamedContext) (D : NamedContext)
+    → MayRead (expert_read table file tells) D → ReadsOn table place (file ∷ files) all tells counts before → ReadsOn table (place + 1) files all tells counts (before ++ D ∷ [])
+ReadsOn-more table place file files all tells counts before D here on = record {
   read = λ later may.
       let P : List NamedContext → Type 0 = MayRead (experts_read table all tells) in
       subst P (sym (append_assoc before (D ∷ []) later)) (on.read (D ∷ later) (first_read D (expert_read table file tells) (experts_read table files tells) later here may));
   refused = λ may. on.refused (first_refused D (expert_read table file tells) (experts_read table files tells) here may);
+  stops = λ after s is. on.stops after s (inr (D, here, is));
 }
 
 refused_here : (first : Reading NamedContext) (rest : Reading (List NamedContext)) → MayRefuse first → MayRefuse (then first (λ D. then rest (λ experts. Read (D ∷ experts))))
@@ -101,17 +103,9 @@ refused_here Missing rest may = may
 refused_here Refused rest may = tt
 refused_here (Read E) rest may = absurd may
 
-pub ReadsOn-refused : (table : NamedContext) (file : Text) (files all : List Text) (tells : Text → Told) (before : List NamedContext)
-    → MayRefuse (expert_read table file tells) → ReadsOn table (file ∷ files) all tells before → MayRefuse (experts_read table all tells)
-ReadsOn-refused table file files all tells before may on = on.refused (refused_here (expert_read table file tells) (experts_read table files tells) may)
-
--- ---- counts of faults
-
-pub SomeRose-at : (files : List Text) (i : ℕ) (d : Text) (counts counts' : Text → ℕ) → i < length files → Rose (counts (get_or files i d)) (counts' (get_or files i d))
-    → SomeRose counts counts' files
-SomeRose-at [] i d counts counts' inside rose = absurd (omega arith)
-SomeRose-at (file ∷ files) zero d counts counts' inside rose = inl rose
-SomeRose-at (file ∷ files) (suc i) d counts counts' inside rose = inr (SomeRose-at files i d counts counts' (omega arith) rose)
+pub ReadsOn-refused : (table : NamedContext) (place : ℕ) (file : Text) (files all : List Text) (tells : Text → Told) (counts : Text → ℕ) (before : List NamedContext)
+    → MayRefuse (expert_read table file tells) → ReadsOn table place (file ∷ files) all tells counts before → MayRefuse (experts_read table all tells)
+ReadsOn-refused table place file files all tells counts before may on = on.refused (refused_here (expert_read table file tells) (experts_read table files tells) may)
 
 -- ---- files one after the other
 
@@ -133,35 +127,67 @@ left_files files i file inside is =
     let next : suc i ≡ i + 1 = omega arith in
     drop-cons files i file inside ∙ ap (λ x. x ∷ drop (suc i) files) (sym is) ∙ ap (λ n. file ∷ drop n files) next
 
-pub ReadsOn-next : (table : NamedContext) (files : List Text) (i : ℕ) (file : Text) (tells now : Text → Told) (before : List NamedContext) (D : NamedContext)
+pub ReadsOn-next : (table : NamedContext) (files : List Text) (i : ℕ) (file : Text) (tells now : Text → Told) (counts : Text → ℕ) (before : List NamedContext) (D : NamedContext)
     → i < length files → file ≡ get_or files i file → ((other : Text) → now other ≡ tells other) → MayRead (expert_read table file now) D
-    → ReadsOn table (drop i files) files tells before → ReadsOn table (drop (i + 1) files) files tells (before ++ D ∷ [])
-ReadsOn-next table files i file tells now before D inside is same may on =
-    let P : List Text → Type 0 = λ l. ReadsOn table l files tells before in
+    → ReadsOn table i (drop i files) files tells counts before → ReadsOn table (i + 1) (drop (i + 1) files) files tells counts (before ++ D ∷ [])
+ReadsOn-next table files i file tells now counts before D inside is same may on =
+    let P : List Text → Type 0 = λ l. ReadsOn table i l files tells counts before in
     let Q : Reading NamedContext → Type 0 = λ r. MayRead r D in
-    ReadsOn-more table file (drop (i + 1) files) files tells before D (subst Q (expert_read-same table file tells now (same file)) may) (subst P (left_files files i file inside is) on)
+    ReadsOn-more table i file (drop (i + 1) files) files tells counts before D (subst Q (expert_read-same table file tells now (same file)) may) (subst P (left_files files i file inside is) on)
 
-pub ReadsOn-all : (table : NamedContext) (files : List Text) (i : ℕ) (tells : Text → Told) (tables : List NamedContext) → length files ≤ i
-    → ReadsOn table (drop i files) files tells tables → MayRead (experts_read table files tells) tables
-ReadsOn-all table files i tells tables past on =
+pub ReadsOn-all : (table : NamedContext) (files : List Text) (i : ℕ) (tells : Text → Told) (counts : Text → ℕ) (tables : List NamedContext) → length files ≤ i
+    → ReadsOn table i (drop i files) files tells counts tables → MayRead (experts_read table files tells) tables
+ReadsOn-all table files i tells counts tables past on =
     let P : List Text → Type 0 = λ l. MayRead (experts_read table l tells) [] in
     let Q : List NamedContext → Type 0 = λ l. MayRead (experts_read table files tells) l in
     subst Q (append-nil tables) (on.read [] (subst P (sym (drop_all i files past)) refl))
 
-pub Stops-file : (table : NamedContext) (files : List Text) (i : ℕ) (file : Text) (tells now : Text → Told) (counts between after : Text → ℕ) (before : List NamedContext) (n : ℕ)
-    → i < length files → file ≡ get_or files i file → ((other : Text) → now other ≡ tells other) → ((other : Text) → counts other ≤ between other)
-    → ReadsOn table (drop i files) files tells before → Stops (expert_read table file now) (Rose (between file) (after file)) n
-    → Stops (experts_read table files tells) (SomeRose counts after files) n
-Stops-file table files i file tells now counts between after before n inside is same later on stop =
-    let P : List Text → Type 0 = λ l. ReadsOn table l files tells before in
+pub refused-file : (table : NamedContext) (files : List Text) (i : ℕ) (file : Text) (tells now : Text → Told) (counts : Text → ℕ) (before : List NamedContext)
+    → i < length files → file ≡ get_or files i file → ((other : Text) → now other ≡ tells other)
+    → ReadsOn table i (drop i files) files tells counts before → MayRefuse (expert_read table file now) → MayRefuse (experts_read table files tells)
+refused-file table files i file tells now counts before inside is same on may =
+    let P : List Text → Type 0 = λ l. ReadsOn table i l files tells counts before in
     let M : Reading NamedContext → Type 0 = λ r. MayRefuse r in
-    let R : Text → Type 0 = λ x. Rose (counts x) (after x) in
-    record {
-      refused = λ two. ReadsOn-refused table file (drop (i + 1) files) files tells before
-          (subst M (expert_read-same table file tells now (same file)) (stop.refused two)) (subst P (left_files files i file inside is) on);
-      fault = λ three. SomeRose-at files i file counts after inside (subst R is (Rose-between (counts file) (between file) (after file) (after file) (later file) (stop.fault three) (omega arith)));
-      others = stop.others;
-    }
+    ReadsOn-refused table i file (drop (i + 1) files) files tells counts before (subst M (expert_read-same table file tells now (same file)) may) (subst P (left_files files i file inside is) on)
+
+-- ---- which stop it is
+
+-- a file is at fault where a count rose for it
+IsFileStop-more : (name : Text) (told : Told) (rose rose' : Type 0) (origin : Origin) (s : Stop) → (rose → rose') → IsFileStop name told rose origin s → IsFileStop name told rose' origin s
+IsFileStop-more name told rose rose' origin (Fault at) more is = (is.0, more is.1)
+IsFileStop-more name told rose rose' origin _ more is = is
+
+-- the shelf tells the same later, and a count that rose since then rose since before
+IsExpertStop-same : (table : NamedContext) (file : Text) (tells now : Text → Told) (rises rises' : Text → Type 0) (origin : Origin) (s : Stop) → now file ≡ tells file
+    → (rises file → rises' file) → IsExpertStop table file now rises origin s → IsExpertStop table file tells rises' origin s
+IsExpertStop-same table file tells now rises rises' origin s same more (inl is) =
+    let P : Told → Type 0 = λ told. IsFileStop file told (rises' file) origin s in
+    inl (subst P same (IsFileStop-more file (now file) (rises file) (rises' file) origin s more is))
+IsExpertStop-same table file tells now rises rises' origin s same more (inr other) =
+    let P : Told → Type 0 = λ told. MayRead (table_read file told) other.1 in
+    inr (other.0, other.1, subst P same other.2, other.3)
+
+pub IsExpertsStop-same : (table : NamedContext) (place : ℕ) (files : List Text) (tells now : Text → Told) (rises rises' : Text → Type 0) (s : Stop)
+    → ((other : Text) → now other ≡ tells other) → ((other : Text) → rises other → rises' other)
+    → IsExpertsStop table place files now rises s → IsExpertsStop table place files tells rises' s
+IsExpertsStop-same table place [] tells now rises rises' s same more is = is
+IsExpertsStop-same table place (file ∷ files) tells now rises rises' s same more (inl is) = inl (IsExpertStop-same table file tells now rises rises' (Later place) s (same file) (more file) is)
+IsExpertsStop-same table place (file ∷ files) tells now rises rises' s same more (inr later) =
+    let Q : Reading NamedContext → Type 0 = λ r. MayRead r later.0 in
+    inr (later.0, subst Q (expert_read-same table file tells now (same file)) later.1, IsExpertsStop-same table (place + 1) files tells now rises rises' s same more later.2)
+
+-- of an expert's file, which tells the same now
+pub experts-stop : (table : NamedContext) (files : List Text) (i : ℕ) (file : Text) (tells now : Text → Told) (counts between after : Text → ℕ) (before : List NamedContext) (s : Stop)
+    → i < length files → file ≡ get_or files i file → ((other : Text) → now other ≡ tells other) → ((other : Text) → counts other ≤ between other)
+    → ReadsOn table i (drop i files) files tells counts before → IsExpertStop table file now (Rises between after) (Later i) s → IsExpertsStop table 0 files tells (Rises counts after) s
+experts-stop table files i file tells now counts between after before s inside is same later on stop =
+    let P : List Text → Type 0 = λ l. ReadsOn table i l files tells counts before in
+    let here : ReadsOn table i (file ∷ drop (i + 1) files) files tells counts before = subst P (left_files files i file inside is) on in
+    here.stops after s (inl (IsExpertStop-same table file tells now (Rises between after) (Rises counts after) (Later i) s (same file) (Rises-before counts between after file later) stop))
+
+pub memory-experts : (table : NamedContext) (place : ℕ) (files : List Text) (tells : Text → Told) (rises : Text → Type 0) (s : Stop) → s ≡ Memory → IsExpertsStop table place files tells rises s
+memory-experts table place [] tells rises s e = e
+memory-experts table place (file ∷ files) tells rises s e = let P : Stop → Type 0 = IsExpertsStop table place (file ∷ files) tells rises in subst P (sym e) (inl (inl tt))
 
 -- ---- the panel
 
@@ -188,37 +214,10 @@ panel-read file known names files tells now start tables here same may =
     read_after (start_read file known tells) start (λ s. panel_by s names files (experts_read s.table files tells)) (panel_of start names files tables) here
     (read_panel start names files (experts_read start.table files tells) tables (subst Q (experts_read-same start.table files tells now same) may))
 
-pub Stops-panel : (file : Text) (known : Option Text) (names : Bool) (files : List Text) (tells now : Text → Told) (counts between after : Text → ℕ) (start : Start) (n : ℕ)
-    → MayRead (start_read file known tells) start → ((other : Text) → now other ≡ tells other) → ((other : Text) → counts other ≤ between other)
-    → Stops (experts_read start.table files now) (SomeRose between after files) n → Stops (panel_read file known names files tells) (FileRose counts after file known files) n
-Stops-panel file known names files tells now counts between after start n here same later stop =
+pub refused-panel : (file : Text) (known : Option Text) (names : Bool) (files : List Text) (tells now : Text → Told) (start : Start)
+    → MayRead (start_read file known tells) start → ((other : Text) → now other ≡ tells other)
+    → MayRefuse (experts_read start.table files now) → MayRefuse (panel_read file known names files tells)
+refused-panel file known names files tells now start here same may =
     let M : Reading (List NamedContext) → Type 0 = λ r. MayRefuse r in
-    record {
-      refused = λ two. refused_after (start_read file known tells) start (λ s. panel_by s names files (experts_read s.table files tells)) here
-          (refused_then (experts_read start.table files tells) (λ tables. Read (panel_of start names files tables))
-          (subst M (experts_read-same start.table files tells now same) (stop.refused two)));
-      fault = λ three. inr (SomeRose-before files counts between after later (stop.fault three));
-      others = stop.others;
-    }
-
--- ---- which stop it is
-
--- of an expert's file, which tells the same now
-pub experts-stop : (files : List Text) (i : ℕ) (file : Text) (tells now : Text → Told) (s : Stop) → i < length files → file ≡ get_or files i file
-    → ((other : Text) → now other ≡ tells other) → IsExpertStop file (now file) (Later i) s → IsExpertsStop files tells s
-experts-stop files i file tells now s inside is same stop =
-    let StopsOf : Told → Type 0 = λ told. IsExpertStop file told (Later i) s in
-    inr (i, file, slice_get_read files (length files) i file refl inside is, subst StopsOf (same file) stop)
-
-pub told-later : (experts : List Text) (tells now : Text → Told) (s : Stop) → ((other : Text) → now other ≡ tells other) → IsExpertsStop experts now s → IsExpertsStop experts tells s
-told-later experts tells now s same (inl memory) = inl memory
-told-later experts tells now s same (inr found) =
-    let StopsOf : Told → Type 0 = λ told. IsExpertStop found.1 told (Later found.0) s in
-    inr (found.0, found.1, found.2, subst StopsOf (same found.1) found.3)
-
--- ---- stops that are passed on
-
-pub Stops-passed : {X Y : Type 0} (told : Result Y Stop) (stop : Stop) (reading : Reading X) (rose : Type 0) → IsErr told × IsErrAnd told (λ passed. passed ≡ stop)
-    → Stops reading rose (stop_status stop) → IfErr told (λ s. Stops reading rose (stop_status s))
-Stops-passed (Ok x) stop reading rose passed h = tt
-Stops-passed (Err s) stop reading rose passed h = let P : Stop → Type 0 = λ x. Stops reading rose (stop_status x) in subst P (sym passed.1) h
+    refused_after (start_read file known tells) start (λ s. panel_by s names files (experts_read s.table files tells)) here
+    (refused_then (experts_read start.table files tells) (λ tables. Read (panel_of start names files tables)) (subst M (experts_read-same start.table files tells now same) may))

@@ -25,12 +25,13 @@ use Rattle.basis_report.specs.Explorations.{recorded_section, accepted_section, 
 use Rattle.basis_report.specs.Conflicts.{dropped_at, dropped_of, dropped_from, conflicts_section, conflicts_text}
 use Rattle.basis_report.proofs.ExplorationLemmas.{sections-known}
 use Rattle.basis_report.proofs.OrderLemmas.{finished_basis}
-use Rattle.command_io.specs.Endings.{IsSilent}
+use Rattle.command_io.specs.Endings.{Output}
+use Rattle.command_io.specs.Readings.{Reading, MayRead}
+use Rattle.command_io.specs.Readings.Reading.{Read}
 use Rattle.command_io.specs.Explorations.{opening_of, open_at}
-use Rattle.command_io.proofs.ErrLemmas.{silent-apart}
 use Rattle.command_io.proofs.CourseLemmas.{legal-course}
 use Rattle.explore_command.specs.Panels.{Panel, MayExplore}
-use Rattle.explore_command.specs.Played.{turns, IsShare, dropped_in, played, panel_text, recorded_text, basis_alone, played_status, IsPanelText}
+use Rattle.explore_command.specs.Played.{turns, IsShare, dropped_in, played, panel_text, recorded_text, basis_alone, IsPanelText, MayPlay}
 
 -- an oracle's table with its conflicts
 abbrev pub with_conflicts : Recall → NamedContext × Conflicts
@@ -178,10 +179,13 @@ IsPanelText-play p explore oracles spent first conflicts text expert may play fi
       agreed = agreed-play p explore oracles spent first conflicts text may play first_is conflicts_is joined;
     }
 
--- ---- what is told
+-- ---- the answer
 
--- the status of a text that was written, whole or not, is none of a stop
-pub played-loud : (spent : Bool) (n : ℕ) → (n ≡ played_status spent) ⊎ (n ≡ 4) → IsSilent n → ⊥
-played-loud true n (inl eight) silent = (silent-apart n silent).3 eight
-played-loud false n (inl zero) silent = (silent-apart n silent).0 zero
-played-loud spent n (inr four) silent = (silent-apart n silent).1 four
+pub MayPlay-read : (reading : Reading Panel) (p : Panel) (answer : Output) → MayRead reading p → MayPlay (Read p) answer → MayPlay reading answer
+MayPlay-read reading p answer may play = record {
+  panel = play.panel;
+  read = (let Reads : Panel → Type 0 = MayRead reading in subst Reads (sym play.read) may);
+  spent = play.spent;
+  is = play.is;
+  ending = play.ending;
+}

@@ -2,7 +2,7 @@
 -- each has the word of its file as its name, if that is one.
 --
 -- Of the files `A` and, with a line break in its name, a second, expert 1 alone has a name, which is A.
-use Rattle.std.specs.Prelude.{◌≡◌, ℕ, ◌+◌, ◌⊎◌, Bool, true, false, ◌&&◌, cond, Option, Some, List, [], ◌∷◌, slice_get, bytes_eq, option_to_list}
+use Rattle.std.specs.Prelude.{◌≡◌, ℕ, ◌+◌, ◌⊎◌, Bool, true, false, ◌&&◌, cond, Option, List, [], ◌∷◌, bytes_eq}
 use Rattle.std.specs.Str.{is_utf8}
 use Rattle.fca_model.specs.declared.TheConstants.{MAX_EXPERTS}
 use Rattle.fca_model.specs.Implications.{Rule}
@@ -12,10 +12,10 @@ use Rattle.fca_model.specs.Tables.{Text, NamedContext}
 use Rattle.fca_io.specs.Shelves.{Told}
 use Rattle.expert_wire.specs.Words.{is_name}
 use Rattle.expert_scripts.specs.Transcripts.{CanBeTold}
-use Rattle.command_io.specs.Readings.{Reading, then, SomeRose}
+use Rattle.command_io.specs.Readings.{Reading, then, MayRead}
 use Rattle.command_io.specs.Readings.Reading.{Refused, Read}
 use Rattle.command_io.specs.Forms.{table_read}
-use Rattle.command_io.specs.Known.{start_read, IsStartStop}
+use Rattle.command_io.specs.Known.{Start, start_read, IsStartStop}
 use Rattle.command_io.specs.Causes.{IsFileStop}
 use Rattle.command_io.specs.declared.stop.Origin.{Origin}
 use Rattle.command_io.specs.declared.stop.Origin.TheVariants.{Later}
@@ -84,19 +84,19 @@ panel_read file known names experts files =
 
 -- ---- why they are not read
 
--- the stop of the file of an expert, whose table has other attributes where it has one
-abbrev pub IsExpertStop : Text → Told → Origin → Stop → Type 0
-IsExpertStop file told origin stop = IsFileStop file told origin stop ⊎ (stop ≡ OtherAttributes origin)
+-- the stop of the file of an expert, or, where a table was read of it, that this has other attributes
+abbrev pub IsExpertStop : NamedContext → Text → (Text → Told) → (Text → Type 0) → Origin → Stop → Type 0
+IsExpertStop table file files rises origin stop = IsFileStop file (files file) (rises file) origin stop
+    ⊎ ((stop ≡ OtherAttributes origin) × (D : NamedContext) × MayRead (table_read file (files file)) D × (agreeing table D ≡ Refused))
 
--- the stop of the file of one of the experts, or of memory
-abbrev pub IsExpertsStop : List Text → (Text → Told) → Stop → Type 0
-IsExpertsStop experts files stop =
-    (stop ≡ Memory) ⊎ ((place : ℕ) × (file : Text) × (slice_get experts place ≡ Some file) × IsExpertStop file (files file) (Later place) stop)
+-- The stop of the files of experts, of which the first has this place behind the others that the words name: of the first file, or, where an expert's
+-- table was read of it, of those behind it. Or memory is wanting
+abbrev pub IsExpertsStop : NamedContext → ℕ → List Text → (Text → Told) → (Text → Type 0) → Stop → Type 0
+IsExpertsStop table place [] files rises stop = stop ≡ Memory
+IsExpertsStop table place (file ∷ later) files rises stop = IsExpertStop table file files rises (Later place) stop
+    ⊎ ((D : NamedContext) × MayRead (expert_read table file files) D × IsExpertsStop table (place + 1) later files rises stop)
 
--- the stop of the first file, of what is known, or of the file of one of the experts
-abbrev pub IsPanelStop : Text → Option Text → List Text → (Text → Told) → Stop → Type 0
-IsPanelStop file known experts files stop = IsStartStop file known files stop ⊎ IsExpertsStop experts files stop
-
--- a count of faults rose for a file of the command
-abbrev pub FileRose : (Text → ℕ) → (Text → ℕ) → Text → Option Text → List Text → Type 0
-FileRose counts counts' file known experts = SomeRose counts counts' (file ∷ option_to_list known) ⊎ SomeRose counts counts' experts
+-- the stop of the first file or of what is known, or, where both were read, of the files of the experts
+abbrev pub IsPanelStop : Text → Option Text → List Text → (Text → Told) → (Text → Type 0) → Stop → Type 0
+IsPanelStop file known experts files rises stop = IsStartStop file known files rises stop
+    ⊎ ((start : Start) × MayRead (start_read file known files) start × IsExpertsStop start.table 0 experts files rises stop)

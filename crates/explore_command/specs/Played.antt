@@ -13,8 +13,10 @@ use Rattle.expert_scripts.specs.Transcripts.{transcript}
 use Rattle.basis_report.specs.Reports.{counted, arrow_lines}
 use Rattle.basis_report.specs.Explorations.{recorded_section, accepted_section, open_section, explore_text, spelled, spelled_settings}
 use Rattle.basis_report.specs.Conflicts.{conflicts_section, conflicts_text}
-use Rattle.command_io.specs.Readings.{Reading}
-use Rattle.command_io.specs.Readings.Reading.{Untold, Missing, Refused, Read}
+use Rattle.command_io.specs.Endings.{Output}
+use Rattle.command_io.specs.Readings.{Reading, MayRead}
+use Rattle.command_io.specs.declared.answer.Ending.{Ending}
+use Rattle.command_io.specs.declared.answer.Ending.TheVariants.{Finished, Spent}
 use Rattle.command_io.specs.Explorations.{Recorded, opening_of, last_state, open_at, IsExplored}
 use Rattle.explore_command.specs.Panels.{Panel}
 
@@ -68,34 +70,16 @@ pub record IsPanelText (p : Panel) (text : Text) (spent : Bool) : Type 0 where
   pub agreed : (C : Context) → All (λ D. D.context ≡ C) p.experts → is_part p.table.context C ≡ true
       → rows_respect p.settings.known C ≡ true → spent ≡ false → text ≡ recorded_text p history ++ basis_alone p.table.attributes (basis_known p.settings.known C)
 
--- ---- statuses
+-- ---- the answer
 
--- the status of a whole text
-abbrev pub played_status : Bool → ℕ
-played_status spent = cond spent 8 0
+-- how the text ends, where an expert took all its turns or none did
+abbrev pub panel_ending : Bool → Ending
+panel_ending spent = cond spent Spent Finished
 
--- a whole text was written
-abbrev pub IsPlayed : ℕ → Type 0
-IsPlayed status = (status ≡ 0) ⊎ (status ≡ 8)
-
--- the status of a call that was not cut off, by what was read
-abbrev pub Plays : Reading Panel → ℕ → Type 0
-Plays Untold status = (status ≡ 2) ⊎ IsPlayed status
-Plays Missing status = ⊥
-Plays Refused status = status ≡ 2
-Plays (Read p) status = IsPlayed status
-
--- a text of the panel was written, with this status
-pub record HasPlayed (Gained : Text → Type 0) (p : Panel) (status : ℕ) : Type 0 where
-  pub text : Text
+-- an answer for the panel that may have been read
+pub record MayPlay (reading : Reading Panel) (answer : Output) : Type 0 where
+  pub panel : Panel
+  pub read : MayRead reading panel
   pub spent : Bool
-  pub is : IsPanelText p text spent
-  pub gained : Gained text
-  pub ended : status ≡ played_status spent
-
--- a text of the panel was begun
-pub record HasBegun (Gained : Text → Type 0) (p : Panel) : Type 0 where
-  pub text : Text
-  pub spent : Bool
-  pub is : IsPanelText p text spent
-  pub gained : Gained text
+  pub is : IsPanelText panel answer.text spent
+  pub ending : answer.ending ≡ panel_ending spent

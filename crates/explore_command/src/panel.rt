@@ -2,11 +2,10 @@
 
 ghost use Rattle.std.specs.Prelude.{◌≡◌, ◌≤◌, ℕ, List, All, Bool, true, IfOk, IfErr, OnOk, vec_len, length, option_copied};
 ghost use Rattle.fca_model.specs.Exploration.{is_expert};
-ghost use Rattle.command_io.specs.Readings.{MayRead, SomeRose};
-ghost use Rattle.command_io.specs.Endings.{stop_status, Stops};
-ghost use Rattle.fca_io.specs.Faults.{Rose};
+ghost use Rattle.command_io.specs.Readings.{MayRead, MayRefuse, Rises};
+ghost use Rattle.command_io.specs.Endings.{IsRefusal};
 ghost use Rattle.fca_model.specs.declared.TheConstants.{MAX_EXPERTS};
-ghost use Rattle.explore_command.specs.Panels.{MayExplore, agreeing, expert_read, experts_read, panel_read, IsExpertStop, IsExpertsStop, IsPanelStop, FileRose};
+ghost use Rattle.explore_command.specs.Panels.{MayExplore, agreeing, expert_read, experts_read, panel_read, IsExpertStop, IsExpertsStop, IsPanelStop};
 
 use crate::names::names_told;
 use command_io::{Origin, Start, Stop, start_under, table_under};
@@ -54,9 +53,9 @@ pub fn panel_under<H: Shelf>(
     ensures panel { IfOk result (λ panel. MayRead (panel_read file.now (option_copied known.entry) names experts.now (H.tells shelf.old)) panel) }
     ensures count { IfOk result (λ panel. length panel.experts ≡ length experts.now) }
     ensures wide { IfOk result (λ panel. All (λ expert. expert.context.width ≡ panel.table.context.width) panel.experts) }
-    ensures stop { IfErr result (λ stop. Stops (panel_read file.now (option_copied known.entry) names experts.now (H.tells shelf.old))
-        (FileRose (H.faults shelf.old) (H.faults shelf.new) file.now (option_copied known.entry) experts.now) (stop_status stop)) }
-    ensures cause { IfErr result (IsPanelStop file.now (option_copied known.entry) experts.now (H.tells shelf.old)) }
+    ensures refused { IfErr result (λ stop. IsRefusal stop → MayRefuse (panel_read file.now (option_copied known.entry) names experts.now (H.tells shelf.old))) }
+    ensures cause { IfErr result (IsPanelStop file.now (option_copied known.entry) experts.now (H.tells shelf.old)
+        (Rises (H.faults shelf.old) (H.faults shelf.new))) }
 {
     let start = start_under(alloc, shelf, file, known)?;
     let tables = experts_under(alloc, shelf, &start.table, experts)?;
@@ -95,9 +94,9 @@ fn experts_under<H: Shelf>(
     ensures tables { IfOk result (λ tables. MayRead (experts_read table.now files.now (H.tells shelf.old)) tables.items) }
     ensures count { IfOk result (λ tables. vec_len tables ≡ length files.now) }
     ensures wide { IfOk result (λ tables. All (λ expert. expert.context.width ≡ table.now.context.width) tables.items) }
-    ensures stop { IfErr result (λ stop. Stops (experts_read table.now files.now (H.tells shelf.old))
-        (SomeRose (H.faults shelf.old) (H.faults shelf.new) files.now) (stop_status stop)) }
-    ensures cause { IfErr result (IsExpertsStop files.now (H.tells shelf.old)) }
+    ensures refused { IfErr result (λ stop. IsRefusal stop → MayRefuse (experts_read table.now files.now (H.tells shelf.old))) }
+    ensures cause { IfErr result (IsExpertsStop table.now 0 files.now (H.tells shelf.old)
+        (Rises (H.faults shelf.old) (H.faults shelf.new))) }
     ensures later { (other : List ℕ) → H.faults shelf.old other ≤ H.faults shelf.new other }
 {
     let mut tables = Vec::new(alloc);
@@ -118,9 +117,9 @@ fn expert_under<H: Shelf>(
 ) -> Result<Table, Stop>
     ensures expert { IfOk result (λ expert. MayRead (expert_read table.now file.now (H.tells shelf.old)) expert) }
     ensures wide { IfOk result (λ expert. expert.context.width ≡ table.now.context.width) }
-    ensures stop { IfErr result (λ stop. Stops (expert_read table.now file.now (H.tells shelf.old))
-        (Rose (H.faults shelf.old file.now) (H.faults shelf.new file.now)) (stop_status stop)) }
-    ensures cause { IfErr result (IsExpertStop file.now (H.tells shelf.old file.now) origin) }
+    ensures refused { IfErr result (λ stop. IsRefusal stop → MayRefuse (expert_read table.now file.now (H.tells shelf.old))) }
+    ensures cause { IfErr result (IsExpertStop table.now file.now (H.tells shelf.old)
+        (Rises (H.faults shelf.old) (H.faults shelf.new)) origin) }
     ensures kept { (other : List ℕ) → H.tells shelf.new other ≡ H.tells shelf.old other }
     ensures later { (other : List ℕ) → H.faults shelf.old other ≤ H.faults shelf.new other }
 {
@@ -133,7 +132,7 @@ fn agreeing(table: &Table, expert: Table, origin: Origin) -> Result<Table, Stop>
     ensures expert { IfOk result (λ r. MayRead (agreeing table.now expert) r) }
     ensures same { IfOk result (λ r. r ≡ expert) }
     ensures wide { IfOk result (λ r. r.context.width ≡ table.now.context.width) }
-    ensures stop { IfErr result (λ stop. Stops (agreeing table.now expert) ⊥ (stop_status stop)) }
+    ensures refused { IfErr result (λ _. MayRefuse (agreeing table.now expert)) }
     ensures cause { IfErr result (λ stop. stop ≡ Stop.OtherAttributes origin) }
 {
     if expert.rows().width() == table.rows().width() && expert.same_attributes(table) {

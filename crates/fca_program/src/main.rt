@@ -8,9 +8,9 @@ mod link;
 
 use crate::ends::{FileShelf, StdFault, StdInput, StdOutput};
 use crate::link::TcpLink;
-use command_io::Stop;
+use command_io::{Stop, conclude};
 use fca_model::Word;
-use fca_run::{run, stopped};
+use fca_run::run;
 use std::alloc::Global;
 use std::env::{self, Args};
 use std::io::{Error, ErrorKind};
@@ -37,7 +37,7 @@ fn main(rt: HostRuntime) -> ExitCode {
             &mut err,
             &mut link,
         ),
-        Err(stop) => stopped(&mut err, &stop),
+        Err(stop) => conclude(Err(stop), b"", &mut out, &mut err),
     };
     ExitCode::from(status)
 }

@@ -1,2 +1,3 @@
-pub mod EndingLemmas
+pub mod BlameLemmas
+pub mod CallLemmas
 pub mod ScalingLemmas

@@ -1,3 +1,4 @@
 pub mod Reports
 pub mod Outputs
-pub mod Endings
+pub mod Causes
+pub mod Calls

@@ -6,7 +6,7 @@ mod made;
 mod reports;
 mod scaling;
 
-pub use call::{run, run_plain, stopped};
+pub use call::{run, run_plain};
 
 #[cfg(test)]
 mod session_tests;

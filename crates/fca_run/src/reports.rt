@@ -1,19 +1,18 @@
 //! What the commands report of one table: its concepts, its lattice, its bases, whether an implication holds in it, its arrows, and the
 //! table itself, whole or reduced.
 
-ghost use Rattle.std.specs.Prelude.{◌≡◌, ◌⊎◌, true, false, Some, IfOk, IfErr, length, is_some};
-ghost use Rattle.fca_io.specs.Faults.{Rose};
+ghost use Rattle.std.specs.Prelude.{◌≡◌, ◌⊎◌, true, Some, IfOk, IfErr, length, is_some};
 ghost use Rattle.fca_command.specs.Commands.{reported};
-ghost use Rattle.command_io.specs.Readings.{MayRead};
+ghost use Rattle.command_io.specs.Readings.{MayRead, MayRefuse, Rises};
 ghost use Rattle.command_io.specs.Readings.Reading.{Refused, Read};
-ghost use Rattle.command_io.specs.Endings.{stop_status, Stops};
+ghost use Rattle.command_io.specs.Endings.{IsRefusal};
 ghost use Rattle.fca_run.specs.Reports.{attributes_read, table_concepts, table_basis, table_direct, table_verdict, verdict_read, table_written, table_reduced, table_arrows, table_report, report_read};
-ghost use Rattle.fca_run.specs.Endings.{IsReportStop};
+ghost use Rattle.fca_run.specs.Causes.{IsReportStop};
 
 use attr_bits::Attrs;
 use basis_report::{basis_json, basis_text, concepts_json, direct_text, verdict_text};
 use canonical_basis::basis;
-use command_io::{Answer, Origin, Stop, table_under};
+use command_io::{Answer, Ending, Origin, Stop, table_under};
 use concept_report::{table_concepts_text, table_lattice_text};
 use context_reduce::{arrows, arrows_text, irreducible, part};
 use context_table::Table;
@@ -37,10 +36,10 @@ pub fn report_answer<R: Threads + Sync, H: Shelf>(
 ) -> Result<Answer, Stop>
     requires { reported command.now ≡ Some file.now }
     ensures output { IfOk result (λ answer. MayRead (report_read command.now file.now (H.tells shelf.old)) answer) }
-    ensures stop { IfErr result (λ stop. Stops (report_read command.now file.now (H.tells shelf.old))
-        (Rose (H.faults shelf.old file.now) (H.faults shelf.new file.now)) (stop_status stop)) }
-    ensures finished { IfOk result (λ answer. answer.is_open ≡ false) }
-    ensures cause { IfErr result (IsReportStop command.now file.now (H.tells shelf.old file.now)) }
+    ensures finished { IfOk result (λ answer. answer.ending ≡ Ending.Finished) }
+    ensures refused { IfErr result (λ stop. IsRefusal stop → MayRefuse (report_read command.now file.now (H.tells shelf.old))) }
+    ensures cause { IfErr result (IsReportStop command.now file.now (H.tells shelf.old file.now)
+        (Rises (H.faults shelf.old) (H.faults shelf.new) file.now)) }
 {
     let table = table_under(alloc, shelf, file, Origin::File)?;
     Ok(Answer::finished(report_on(rt, alloc, command, &table)?))
@@ -55,7 +54,7 @@ fn report_on<R: Threads + Sync>(
 ) -> Result<Vec<u8>, Stop>
     requires { is_some (reported command.now) ≡ true }
     ensures text { IfOk result (λ text. MayRead (table_report command.now table.now) text.items) }
-    ensures stop { IfErr result (λ stop. Stops (table_report command.now table.now) ⊥ (stop_status stop)) }
+    ensures refused { IfErr result (λ stop. IsRefusal stop → MayRefuse (table_report command.now table.now)) }
     ensures cause { IfErr result (λ stop. (stop ≡ Stop.Memory) ⊎ ((stop ≡ Stop.UnknownAttribute) × (table_report command.now table.now ≡ Refused))) }
 {
     match command {
@@ -121,7 +120,7 @@ fn verdict<R: Threads + Sync>(
     conclusion: &Word,
 ) -> Result<Vec<u8>, Stop>
     ensures output { IfOk result (λ text. MayRead (verdict_read premise.now conclusion.now table.now) text.items) }
-    ensures stop { IfErr result (λ stop. Stops (verdict_read premise.now conclusion.now table.now) ⊥ (stop_status stop)) }
+    ensures refused { IfErr result (λ stop. IsRefusal stop → MayRefuse (verdict_read premise.now conclusion.now table.now)) }
     ensures cause { IfErr result (λ stop. (stop ≡ Stop.Memory) ⊎ ((stop ≡ Stop.UnknownAttribute) × (verdict_read premise.now conclusion.now table.now ≡ Refused))) }
 {
     let premise = attributes_in(table, premise)?;

@@ -1,14 +1,14 @@
 //! The table that a plan makes of a table of values.
 
-ghost use Rattle.std.specs.Prelude.{◌≡◌, [], ◌∷◌, false, IfOk, IfErr};
+ghost use Rattle.std.specs.Prelude.{◌≡◌, IfOk, IfErr};
 ghost use Rattle.context_scaling.specs.Scaling.{Fits, scaled};
 ghost use Rattle.cxt_format.specs.Written.{cxt_text};
-ghost use Rattle.command_io.specs.Readings.{MayRead, SomeRose};
-ghost use Rattle.command_io.specs.Endings.{stop_status, Stops};
+ghost use Rattle.command_io.specs.Readings.{MayRead, MayRefuse, Rises};
+ghost use Rattle.command_io.specs.Endings.{IsRefusal};
 ghost use Rattle.fca_run.specs.Outputs.{scale_output};
-ghost use Rattle.fca_run.specs.Endings.{IsScaleStop};
+ghost use Rattle.fca_run.specs.Causes.{IsScaleStop};
 
-use command_io::{Answer, Origin, Stop, plan_under, values_under};
+use command_io::{Answer, Ending, Origin, Stop, plan_under, values_under};
 use context_scaling::{Plan, scale};
 use cxt_format::write_cxt;
 use fca_io::Shelf;
@@ -24,10 +24,9 @@ pub fn scale_answer<H: Shelf>(
     plan: &Word,
 ) -> Result<Answer, Stop>
     ensures output { IfOk result (λ answer. MayRead (scale_output values.now plan.now (H.tells shelf.old)) answer) }
-    ensures stop { IfErr result (λ stop. Stops (scale_output values.now plan.now (H.tells shelf.old))
-        (SomeRose (H.faults shelf.old) (H.faults shelf.new) (values.now ∷ plan.now ∷ [])) (stop_status stop)) }
-    ensures finished { IfOk result (λ answer. answer.is_open ≡ false) }
-    ensures cause { IfErr result (IsScaleStop values.now plan.now (H.tells shelf.old)) }
+    ensures finished { IfOk result (λ answer. answer.ending ≡ Ending.Finished) }
+    ensures refused { IfErr result (λ stop. IsRefusal stop → MayRefuse (scale_output values.now plan.now (H.tells shelf.old))) }
+    ensures cause { IfErr result (IsScaleStop values.now plan.now (H.tells shelf.old) (Rises (H.faults shelf.old) (H.faults shelf.new))) }
 {
     let values = values_under(alloc, shelf, values, Origin::File)?;
     let plan = plan_under(alloc, shelf, plan, Origin::Later(0), &values)?;

@@ -1,14 +1,18 @@
 -- One event more on the journal of an exploration that was opened with a table.
-use Rattle.std.proofs.Common.{◌≡◌, ◌++◌, ◌∷◌, [], List, true, nat_le, length, refl, sym, ap, ◌∙◌, subst, arith}
+use Rattle.std.proofs.Common.{◌≡◌, ◌++◌, ◌∷◌, [], List, Result, Ok, Err, true, nat_le, length, refl, sym, ap, ◌∙◌, subst, arith}
 use Rattle.std.proofs.lemmas.Bool.{and_parts, leb-true}
+use Rattle.std.specs.Prelude.{IfOk, OnOk}
 use Rattle.fca_model.specs.Tables.{NamedContext}
 use Rattle.fca_model.specs.declared.TheConstants.{MAX_EXPERTS}
 use Rattle.fca_model.specs.Exploration.{State, Settings, SetEvent, SetReply, SetEntry, is_expert, expert_of, has_width, reply_to, state_after, journal_of, events_of}
 use Rattle.fca_model.proofs.RunLemmas.{journal_of-push, events_of-journal_of}
 use Rattle.explore_state.specs.History.{Opening, History, opening_state, state_of, Admits, IsStep}
 use Rattle.expert_scripts.specs.Scripts.{may_apply}
-use Rattle.command_io.specs.Explorations.{Recorded, recorded}
-use Rattle.replay_command.specs.Replayed.{replay_opening, explored}
+use Rattle.command_io.specs.Readings.{Reading, MayRead}
+use Rattle.command_io.specs.Endings.{Output}
+use Rattle.command_io.specs.Explorations.{Recorded, recorded, IsExplored}
+use Rattle.command_io.specs.declared.stop.Stop.{Stop}
+use Rattle.replay_command.specs.Replayed.{replay_opening, explored, exploration_output, SpellsItself, MayReplay}
 
 -- the parts of an exploration that is as far as these events
 opened : (table : NamedContext) (settings : Settings) (events : List SetEvent) (h : History) → recorded h ≡ explored table settings events → h.opening ≡ replay_opening table settings
@@ -52,3 +56,10 @@ recorded-admits table settings events h event e may =
 pub no_items : {X : Type 0} (l : List X) → length l ≡ 0 → l ≡ []
 no_items [] h = refl
 no_items (x ∷ xs) h = absurd (omega arith)
+
+-- ---- the answer
+
+pub MayReplay-made : (reading : Reading Recorded) (made : Recorded) (r : Result Output Stop) → MayRead reading made → IsExplored made
+    → IfOk r (λ answer. answer ≡ exploration_output made) → OnOk r (SpellsItself made) → IfOk r (MayReplay reading)
+MayReplay-made reading made (Ok answer) may course output spells = record { made = made; read = may; is = record { course = course; spells = spells }; output = output }
+MayReplay-made reading made (Err stop) may course output spells = tt

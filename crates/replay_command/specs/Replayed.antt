@@ -2,7 +2,7 @@
 --
 -- Over a and b, of which a file says that a implies b, the script `draw 1` records one draw, whose reply asks {} -> {a, b}. The script `exploration 2` is
 -- refused there, since it may set something.
-use Rattle.std.specs.Prelude.{◌≡◌, ◌⊎◌, ℕ, Option, Some, None, List, length, nat_lt}
+use Rattle.std.specs.Prelude.{◌≡◌, ◌⊎◌, ℕ, Option, Some, None, List}
 use Rattle.fca_model.specs.Tables.{Text, NamedContext}
 use Rattle.fca_model.specs.declared.TheConstants.{MAX_EXPERTS}
 use Rattle.fca_model.specs.Implications.{Rule}
@@ -21,7 +21,7 @@ use Rattle.command_io.specs.Readings.Reading.{Refused, Read}
 use Rattle.command_io.specs.Forms.{script_read}
 use Rattle.command_io.specs.Causes.{IsScriptStop}
 use Rattle.command_io.specs.Known.{Start, respected, start_read, IsBreakStop, IsStartStop}
-use Rattle.command_io.specs.Endings.{Output}
+use Rattle.command_io.specs.Endings.{Output, ending_of}
 use Rattle.command_io.specs.Explorations.{Recorded, opening_of, open_at, IsExplored}
 use Rattle.command_io.specs.declared.stop.Origin.TheVariants.{Input}
 use Rattle.command_io.specs.declared.stop.Stop.{Stop}
@@ -68,7 +68,7 @@ replayed file known files input = then (start_read file known files) (explored_b
 
 -- the text of an exploration
 abbrev pub exploration_output : Recorded → Output
-exploration_output r = record { text = explore_text r.opening.table r.opening.settings r.journal; is_open = nat_lt 0 (length (open_at r)) }
+exploration_output r = record { text = explore_text r.opening.table r.opening.settings r.journal; ending = ending_of (open_at r) }
 
 -- what `replay` writes
 abbrev pub replay_output : Text → Option Text → (Text → Told) → Option Text → Reading Output
@@ -84,6 +84,13 @@ pub record IsReplayed (r : Recorded) : Type 0 where
   pub course : IsExplored r
   pub spells : SpellsItself r
 
+-- the answer of a replay that may have come to this
+pub record MayReplay (reading : Reading Recorded) (answer : Output) : Type 0 where
+  pub made : Recorded
+  pub read : MayRead reading made
+  pub is : IsReplayed made
+  pub output : answer ≡ exploration_output made
+
 -- ---- why it stops
 
 -- The stop of a script that was read: beside a known file it is at fault at its line `exploration 2`, and without one where a row of the table breaks what
@@ -92,12 +99,13 @@ abbrev pub IsSettingsStop : Option Text → NamedContext → Said → Stop → T
 IsSettingsStop None table said stop = IsBreakStop said.settings.known table Input stop
 IsSettingsStop (Some file) table said stop = (line : ℕ) × (said.second ≡ Some line) × (stop ≡ NoScript (BadLine line))
 
--- the stop of a script on the input of a replay, or of its settings
-abbrev pub IsInputStop : Option Text → NamedContext → Option Text → Stop → Type 0
-IsInputStop known table input stop = IsScriptStop table.context.width input stop
+-- the stop of a script on the input of a replay, or, where that was read, of its settings
+abbrev pub IsInputStop : Option Text → NamedContext → Option Text → Type 0 → Stop → Type 0
+IsInputStop known table input rose stop = IsScriptStop table.context.width input rose stop
     ⊎ ((said : Said) × MayRead (script_read table.context.width input) said × IsSettingsStop known table said stop)
 
--- the stop of what a replay starts from, or of its script
-abbrev pub IsReplayStop : Text → Option Text → (Text → Told) → Option Text → Stop → Type 0
-IsReplayStop file known files input stop = IsStartStop file known files stop
-    ⊎ ((start : Start) × MayRead (start_read file known files) start × IsInputStop known start.table input stop)
+-- The stop of what a replay starts from, or, where that was read, of its script; for some files a count of faults rose, and for the input where
+-- this holds
+abbrev pub IsReplayStop : Text → Option Text → (Text → Told) → Option Text → (Text → Type 0) → Type 0 → Stop → Type 0
+IsReplayStop file known files input rises rose stop = IsStartStop file known files rises stop
+    ⊎ ((start : Start) × MayRead (start_read file known files) start × IsInputStop known start.table input rose stop)

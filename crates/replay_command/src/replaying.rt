@@ -1,6 +1,6 @@
 //! The exploration that a script records.
 
-ghost use Rattle.std.specs.Prelude.{◌≡◌, ◌⊎◌, ◌∷◌, IfOk, IfErr, OnOk, true, None, option_copied, option_to_list};
+ghost use Rattle.std.specs.Prelude.{◌≡◌, IfOk, IfErr, OnOk, true, None, option_copied};
 ghost use Rattle.std.specs.List.{list_all};
 ghost use Rattle.std.specs.Io.KnownBytes.{IsAtEnd};
 ghost use Rattle.fca_io.specs.Faults.{Rose};
@@ -9,15 +9,15 @@ ghost use Rattle.explore_state.specs.Faults.{first_break};
 ghost use Rattle.explore_state.specs.Settings.{settings_of};
 ghost use Rattle.expert_scripts.specs.Scripts.{may_apply};
 ghost use Rattle.expert_scripts.specs.Transcripts.{CanBeTold};
-ghost use Rattle.command_io.specs.Readings.{MayRead, IfRead, SomeRose};
+ghost use Rattle.command_io.specs.Readings.{MayRead, MayRefuse, Rises};
 ghost use Rattle.command_io.specs.Known.{start_of};
 ghost use Rattle.command_io.specs.Explorations.{IsExplored, recorded};
-ghost use Rattle.command_io.specs.Endings.{stop_status, Stops};
-ghost use Rattle.replay_command.specs.Replayed.{explored, explored_by, replayed, replay_output, exploration_output, SpellsItself, IsReplayed, IsInputStop, IsReplayStop};
+ghost use Rattle.command_io.specs.Endings.{IsRefusal};
+ghost use Rattle.replay_command.specs.Replayed.{explored, explored_by, replayed, replay_output, exploration_output, SpellsItself, MayReplay, IsInputStop, IsReplayStop};
 
 use crate::settings::settled;
 use basis_report::explore_text;
-use command_io::{Answer, Start, Stop, script_on, start_under};
+use command_io::{Answer, Ending, Start, Stop, script_on, start_under};
 use context_table::Table;
 use explore_state::{Event, Explore, Settings};
 use fca_io::{Shelf, Source};
@@ -33,15 +33,14 @@ pub fn replay<H: Shelf, S: Source>(
     known: Option<&Word>,
 ) -> Result<Answer, Stop>
     ensures output { IfOk result (λ answer. MayRead (replay_output file.now (option_copied known.entry) (H.tells shelf.old) (S.left input.old)) answer) }
-    ensures replayed { OnOk result (IfRead (replayed file.now (option_copied known.entry) (H.tells shelf.old) (S.left input.old)) IsReplayed) }
+    ensures replayed { IfOk result (MayReplay (replayed file.now (option_copied known.entry) (H.tells shelf.old) (S.left input.old))) }
     ensures end { OnOk result (IsAtEnd (S.left input.new)) }
-    ensures stop { IfErr result (λ stop. Stops (replay_output file.now (option_copied known.entry) (H.tells shelf.old) (S.left input.old))
-        (SomeRose (H.faults shelf.old) (H.faults shelf.new) (file.now ∷ option_to_list (option_copied known.entry)) ⊎ Rose (S.faults input.old) (S.faults input.new))
-        (stop_status stop)) }
-    ensures cause { IfErr result (IsReplayStop file.now (option_copied known.entry) (H.tells shelf.old) (S.left input.old)) }
+    ensures refused { IfErr result (λ stop. IsRefusal stop → MayRefuse (replay_output file.now (option_copied known.entry) (H.tells shelf.old) (S.left input.old))) }
+    ensures cause { IfErr result (IsReplayStop file.now (option_copied known.entry) (H.tells shelf.old) (S.left input.old)
+        (Rises (H.faults shelf.old) (H.faults shelf.new)) (Rose (S.faults input.old) (S.faults input.new))) }
 {
     let explore = exploration(alloc, shelf, input, file, known)?;
-    Ok(exploration_answer(alloc, &explore)?)
+    exploration_answer(alloc, &explore)
 }
 
 /// The exploration of the table in the file by the script on the input.
@@ -56,10 +55,9 @@ fn exploration<H: Shelf, S: Source>(
     ensures course { IfOk result (λ explore. IsExplored (recorded explore)) }
     ensures told { IfOk result (λ explore. CanBeTold explore.opening.table.context.width explore.opening.settings) }
     ensures end { OnOk result (IsAtEnd (S.left input.new)) }
-    ensures stop { IfErr result (λ stop. Stops (replayed file.now (option_copied known.entry) (H.tells shelf.old) (S.left input.old))
-        (SomeRose (H.faults shelf.old) (H.faults shelf.new) (file.now ∷ option_to_list (option_copied known.entry)) ⊎ Rose (S.faults input.old) (S.faults input.new))
-        (stop_status stop)) }
-    ensures cause { IfErr result (IsReplayStop file.now (option_copied known.entry) (H.tells shelf.old) (S.left input.old)) }
+    ensures refused { IfErr result (λ stop. IsRefusal stop → MayRefuse (replayed file.now (option_copied known.entry) (H.tells shelf.old) (S.left input.old))) }
+    ensures cause { IfErr result (IsReplayStop file.now (option_copied known.entry) (H.tells shelf.old) (S.left input.old)
+        (Rises (H.faults shelf.old) (H.faults shelf.new)) (Rose (S.faults input.old) (S.faults input.new))) }
 {
     let start = start_under(alloc, shelf, file, known)?;
     explored_by(alloc, input, known, start)
@@ -79,9 +77,9 @@ fn explored_by<S: Source>(
     ensures course { IfOk result (λ explore. IsExplored (recorded explore)) }
     ensures told { IfOk result (λ explore. CanBeTold explore.opening.table.context.width explore.opening.settings) }
     ensures end { OnOk result (IsAtEnd (S.left input.new)) }
-    ensures stop { IfErr result (λ stop. Stops (explored_by (option_copied known.entry) (S.left input.old) (start_of start))
-        (Rose (S.faults input.old) (S.faults input.new)) (stop_status stop)) }
-    ensures cause { IfErr result (IsInputStop (option_copied known.entry) start.table (S.left input.old)) }
+    ensures refused { IfErr result (λ stop. IsRefusal stop → MayRefuse (explored_by (option_copied known.entry) (S.left input.old) (start_of start))) }
+    ensures cause { IfErr result (IsInputStop (option_copied known.entry) start.table (S.left input.old)
+        (Rose (S.faults input.old) (S.faults input.new))) }
 {
     let Start { table, known: list } = start;
     let script = script_on(alloc, input, table.rows().width())?;
@@ -110,13 +108,14 @@ fn explored(
 }
 
 /// The text of an exploration.
-fn exploration_answer(alloc: Global, explore: &Explore) -> Result<Answer, Memory>
+fn exploration_answer(alloc: Global, explore: &Explore) -> Result<Answer, Stop>
     requires { CanBeTold explore.now.opening.table.context.width explore.now.opening.settings }
     ensures text { IfOk result (λ answer. answer ≡ exploration_output (recorded explore.now)) }
     ensures spells { OnOk result (SpellsItself (recorded explore.now)) }
+    ensures cause { IfErr result (λ stop. stop ≡ Stop.Memory) }
 {
     Ok(Answer {
         text: explore_text(alloc, explore)?,
-        is_open: !explore.open_questions().is_empty(),
+        ending: Ending::of(explore),
     })
 }

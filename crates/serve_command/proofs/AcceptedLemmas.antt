@@ -4,6 +4,8 @@ use Rattle.std.proofs.Common.{◌≡◌, ◌∙◌, ◌<◌, ◌≤◌, ◌+◌,
 use Rattle.std.specs.Prelude.{option_map}
 use Rattle.std.proofs.lemmas.Bool.{lt-ltb}
 use Rattle.fca_io.specs.Links.{Ends, GivesFirst, with_given, IsWithinRoom}
+use Rattle.command_io.specs.declared.stop.Stop.{Stop}
+use Rattle.command_io.specs.declared.stop.Stop.TheVariants.{Listener, Memory}
 use Rattle.serve_command.specs.Accepted.{TookFirst, GaveBack, TookAndGave, HasRoomFor, FallsShort}
 
 module _ {E : Type 0} where
@@ -50,41 +52,41 @@ module _ {E : Type 0} where
 
   -- ---- too few ends
 
-  pub short-memory : (count : ℕ) (a : Option (Ends E)) (rose : Type 0) (n : ℕ) → n ≡ 5 → FallsShort count a a rose n
-  short-memory count a rose n five = record {
+  pub short-memory : (count : ℕ) (a : Option (Ends E)) (rose : Type 0) (s : Stop) → s ≡ Memory → FallsShort count a a rose s
+  short-memory count a rose s memory = record {
     taken = [];
     served = TookAndGave-none a;
     few = omega arith;
-    fewer = λ seven. absurd (omega arith);
-    fault = λ seven. absurd (omega arith);
-    status = inl five;
+    fewer = λ listener. cc;
+    fault = λ listener. cc;
+    cause = inr memory;
   }
 
-  pub short-some : (count : ℕ) (a c : Option (Ends E)) (taken : List E) (rose : Type 0) (n : ℕ) → TookAndGave a c taken taken → length taken < count → rose → n ≡ 7
-      → FallsShort count a c rose n
-  short-some count a c taken rose n served fewer risen seven = record {
+  pub short-some : (count : ℕ) (a c : Option (Ends E)) (taken : List E) (rose : Type 0) (s : Stop) → TookAndGave a c taken taken → length taken < count → rose → s ≡ Listener
+      → FallsShort count a c rose s
+  short-some count a c taken rose s served fewer risen listener = record {
     taken = taken;
     served = served;
     few = omega arith;
     fewer = λ _. fewer;
     fault = λ _. risen;
-    status = inr seven;
+    cause = inl listener;
   }
 
-  pub short-none : (count : ℕ) (a b : Option (Ends E)) (rose : Type 0) (n : ℕ) → b ≡ a → 1 ≤ count → rose → n ≡ 7 → FallsShort count a b rose n
-  short-none count a b rose n same some risen seven =
+  pub short-none : (count : ℕ) (a b : Option (Ends E)) (rose : Type 0) (s : Stop) → b ≡ a → 1 ≤ count → rose → s ≡ Listener → FallsShort count a b rose s
+  short-none count a b rose s same some risen listener =
       let P : Option (Ends E) → Type 0 = λ x. TookAndGave a x [] [] in
-      short-some count a b [] rose n (subst P (sym same) (TookAndGave-none a)) (omega arith) risen seven
+      short-some count a b [] rose s (subst P (sym same) (TookAndGave-none a)) (omega arith) risen listener
 
   -- another fault rose where this one did, and nothing changed before
-  pub short-behind : (count : ℕ) (a b c : Option (Ends E)) (rose rose' : Type 0) (n : ℕ) → b ≡ a → (rose → rose') → FallsShort count b c rose n → FallsShort count a c rose' n
-  short-behind count a b c rose rose' n same more short =
+  pub short-behind : (count : ℕ) (a b c : Option (Ends E)) (rose rose' : Type 0) (s : Stop) → b ≡ a → (rose → rose') → FallsShort count b c rose s → FallsShort count a c rose' s
+  short-behind count a b c rose rose' s same more short =
       let P : Option (Ends E) → Type 0 = λ x. TookAndGave x c short.taken short.taken in
       record {
         taken = short.taken;
         served = subst P same short.served;
         few = short.few;
         fewer = short.fewer;
-        fault = λ seven. more (short.fault seven);
-        status = short.status;
+        fault = λ listener. more (short.fault listener);
+        cause = short.cause;
       }

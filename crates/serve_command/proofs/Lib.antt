@@ -1,4 +1,3 @@
 pub mod AcceptedLemmas
 pub mod ServedLemmas
 pub mod StepLemmas
-pub mod EndingLemmas

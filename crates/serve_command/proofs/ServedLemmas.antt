@@ -1,6 +1,6 @@
 -- The text of sessions: the words for endings stand in one line each, so they change nothing of what the text spells; and what is promised of the
 -- sessions is said of the text.
-use Rattle.std.proofs.Common.{◌≡◌, ◌↔◌, ◌⊎◌, ◌<◌, ◌∙◌, ◌++◌, ◌∷◌, [], ℕ, suc, List, Option, Bool, true, false, map, length, inl, inr, refl, sym, ap, subst, arith}
+use Rattle.std.proofs.Common.{◌≡◌, ◌⊎◌, ◌<◌, ◌∙◌, ◌++◌, ◌∷◌, [], ℕ, suc, List, Option, true, map, length, inl, inr, refl, sym, ap, subst, arith}
 use Rattle.fca_model.specs.Tables.{Text, NamedContext}
 use Rattle.fca_model.specs.Exploration.{SetEntry, own, is_expert, IsLegal}
 use Rattle.fca_model.specs.Invariant.{rows_respect}
@@ -13,7 +13,8 @@ use Rattle.explore_state.specs.History.{Opening, History, opening_state, open_of
 use Rattle.basis_report.specs.Comments.{are_lines, AreComments}
 use Rattle.basis_report.specs.Explorations.{explore_text, Spells, SpellsBefore}
 use Rattle.basis_report.specs.Sessions.{sessions_text}
-use Rattle.command_io.specs.Endings.{Output}
+use Rattle.command_io.specs.Endings.{Output, ending_of}
+use Rattle.command_io.specs.declared.answer.Ending.{Ending}
 use Rattle.implication_closure.specs.Closing.{HaveWidth}
 use Rattle.expert_scripts.specs.Transcripts.{CanBeTold}
 use Rattle.command_io.specs.Known.{Start}
@@ -80,21 +81,21 @@ module _ {E : Type 0} (left held : E → Option Text) (reads writes : E → ℕ)
     pub others : (e : ℕ) → (e ≡ 0) ⊎ (length before < e) → own explore.journal e ≡ []
 
   -- the text that was made of it
-  pub record IsTextOf (explore : History) (endings : List Ended) (text : Text) (is_open : Bool) : Type 0 where
+  pub record IsTextOf (explore : History) (endings : List Ended) (text : Text) (end : Ending) : Type 0 where
     pub joined : text ≡ explore_text explore.opening.table explore.opening.settings explore.journal ++ sessions_text (map words_of endings)
     pub spells : Spells explore.opening.table explore.opening.settings explore.journal text
-    pub finished : (is_open ≡ false) ↔ (open_of explore ≡ [])
+    pub ending : end ≡ ending_of (open_of explore)
 
-  pub served-text : (o : Opening) (before after : List E) (explore : History) (endings : List Ended) (text : Text) (is_open : Bool)
-      → is_expert o.experts ≡ true → rows_respect o.settings.known o.table.context ≡ true → HaveWidth o.table.context.width o.settings.known → IsOver o before after explore endings → IsTextOf explore endings text is_open
-      → IsServedText left held reads writes o before after text is_open
-  served-text o before after explore endings text is_open expert known even over made =
+  pub served-text : (o : Opening) (before after : List E) (explore : History) (endings : List Ended) (text : Text) (ending : Ending)
+      → is_expert o.experts ≡ true → rows_respect o.settings.known o.table.context ≡ true → HaveWidth o.table.context.width o.settings.known → IsOver o before after explore endings → IsTextOf explore endings text ending
+      → IsServedText left held reads writes o before after text ending
+  served-text o before after explore endings text ending expert known even over made =
       let H = explore.journal in
       let legal : IsLegal (opening_state o) H = let P : Opening → Type 0 = λ x. IsLegal (opening_state x) H in subst P over.opening over.history.legal in
       let Joined : Opening → Type 0 = λ x. text ≡ explore_text x.table x.settings H ++ sessions_text (map words_of endings) in
       let Spelled : Opening → Type 0 = λ x. Spells x.table x.settings H text in
       let spells = subst Spelled over.opening made.spells in
-      let Finished : Opening → Type 0 = λ x. (is_open ≡ false) ↔ (open_of (record { opening = x; journal = H; spare = 0 }) ≡ []) in
+      let EndsSo : Opening → Type 0 = λ x. ending ≡ ending_of (open_of (record { opening = x; journal = H; spare = 0 })) in
       record {
         history = H;
         endings = endings;
@@ -104,12 +105,12 @@ module _ {E : Type 0} (left held : E → Option Text) (reads writes : E → ℕ)
         course = legal-course o.table o.experts o.settings H expert known even legal;
         talks = over.talks;
         others = over.others;
-        finished = subst Finished over.opening made.finished;
+        ending = subst EndsSo over.opening made.ending;
       }
 
   pub has-sat : (o : Opening) (before after : List E) (old new : Option (Ends E)) (explore : History) (endings : List Ended) (answer : Output)
       → is_expert o.experts ≡ true → rows_respect o.settings.known o.table.context ≡ true → HaveWidth o.table.context.width o.settings.known → IsOver o before after explore endings
-      → (HasRoomFor old (length after) → GaveBack old new after) → IsTextOf explore endings answer.text answer.is_open
+      → (HasRoomFor old (length after) → GaveBack old new after) → IsTextOf explore endings answer.text answer.ending
       → HasSat left held reads writes o before old new answer
   has-sat o before after old new explore endings answer expert known even over gave made =
       let long = talks-long o.table lines explore.journal 1 before after endings over.talks in
@@ -117,7 +118,7 @@ module _ {E : Type 0} (left held : E → Option Text) (reads writes : E → ℕ)
         after = after;
         gave = gave;
         long = long;
-        is = served-text o before after explore endings answer.text answer.is_open expert known even over made;
+        is = served-text o before after explore endings answer.text answer.ending expert known even over made;
       }
 
   pub risen-talks : (table : NamedContext) (H : List SetEntry) (before after : List E) (old new : Option (Ends E)) (endings : List Ended)

@@ -10,13 +10,13 @@ use Rattle.fca_model.specs.Exploration.{is_expert}
 use Rattle.fca_io.specs.Faults.{Rose}
 use Rattle.fca_io.specs.Links.{Ends, IsWithinRoom}
 use Rattle.fca_io.specs.Shelves.{Told}
-use Rattle.command_io.specs.Readings.{Reading, MayRead}
-use Rattle.command_io.specs.Known.{Start}
-use Rattle.command_io.specs.Endings.{Output, IsUnread, Stops, stop_status}
+use Rattle.command_io.specs.Readings.{MayRead}
+use Rattle.command_io.specs.Known.{Start, start_read}
+use Rattle.command_io.specs.Endings.{Output, IsRefusal, IsUnread}
 use Rattle.command_io.specs.declared.stop.Stop.{Stop}
 use Rattle.command_io.specs.declared.stop.Stop.TheVariants.{Listener, Memory}
 use Rattle.serve_command.specs.Accepted.{TookFirst, FallsShort}
-use Rattle.serve_command.specs.Served.{StopsServing, IsServeStop, IsAnswer, GaveAllBack, HasSat, HasRisen}
+use Rattle.serve_command.specs.Served.{IsServeStop, IsAnswer, GaveAllBack, HasSat, HasRisen}
 use Rattle.serve_command.proofs.AcceptedLemmas.{TookAndGave-none, TookAndGave-both}
 
 pub expert-range : (n : ℕ) → is_expert n ≡ true → (1 ≤ n) × (n ≤ MAX_EXPERTS)
@@ -38,102 +38,56 @@ Rose-behind a b c before rose = omega arith
 
 -- ---- stops
 
-not_unheard : (n : ℕ) → n ≡ 7 → (n ≡ 2) ⊎ ((n ≡ 3) ⊎ (n ≡ 5)) → ⊥
-not_unheard n e (inl two) = omega arith
-not_unheard n e (inr (inl three)) = omega arith
-not_unheard n e (inr (inr five)) = omega arith
+-- what came of the link or of memory is no refusal, and not unread
+pub heard-refused : (s : Stop) (Refuses : Type 0) → (s ≡ Listener) ⊎ (s ≡ Memory) → IsRefusal s → Refuses
+heard-refused s Refuses (inl e) refusal = absurd (subst IsRefusal e refusal)
+heard-refused s Refuses (inr e) refusal = absurd (subst IsRefusal e refusal)
 
-one_more : (n : ℕ) → (n ≡ 2) ⊎ ((n ≡ 3) ⊎ (n ≡ 5)) → (n ≡ 2) ⊎ ((n ≡ 3) ⊎ ((n ≡ 5) ⊎ (n ≡ 7)))
-one_more n (inl two) = inl two
-one_more n (inr (inl three)) = inr (inl three)
-one_more n (inr (inr five)) = inr (inr (inl five))
-
--- the table was not read
-pub early-stops : (reading : Reading Start) (rose link_rose : Type 0) (n : ℕ) → Stops reading rose n → StopsServing reading rose link_rose n
-early-stops reading rose link_rose n stop = record {
-  refused = stop.refused;
-  fault = stop.fault;
-  read = λ seven. absurd (not_unheard n seven stop.others);
-  link_fault = λ seven. absurd (not_unheard n seven stop.others);
-  others = one_more n stop.others;
-}
-
--- memory was wanting
-pub memory-stops : (reading : Reading Start) (rose link_rose : Type 0) (n : ℕ) → n ≡ 5 → StopsServing reading rose link_rose n
-memory-stops reading rose link_rose n five = record {
-  refused = λ two. absurd (omega arith);
-  fault = λ three. absurd (omega arith);
-  read = λ seven. absurd (omega arith);
-  link_fault = λ seven. absurd (omega arith);
-  others = inr (inr (inl five));
-}
-
-neither : (n : ℕ) → (n ≡ 5) ⊎ (n ≡ 7) → (n ≡ 2) ⊎ (n ≡ 3) → ⊥
-neither n (inl five) (inl two) = omega arith
-neither n (inl five) (inr three) = omega arith
-neither n (inr seven) (inl two) = omega arith
-neither n (inr seven) (inr three) = omega arith
-
--- what came of the link or of memory is not unread
-pub heard : (n : ℕ) (Same : Type 0) → (n ≡ 5) ⊎ (n ≡ 7) → IsUnread n → Same
-heard n Same ended unread = absurd (neither n ended unread)
-
-five_or_seven : (n : ℕ) → (n ≡ 5) ⊎ (n ≡ 7) → (n ≡ 2) ⊎ ((n ≡ 3) ⊎ ((n ≡ 5) ⊎ (n ≡ 7)))
-five_or_seven n (inl five) = inr (inr (inl five))
-five_or_seven n (inr seven) = inr (inr (inr seven))
+pub heard : (s : Stop) (Same : Type 0) → (s ≡ Listener) ⊎ (s ≡ Memory) → IsUnread s → Same
+heard s Same (inl e) unread = absurd (subst IsUnread e unread)
+heard s Same (inr e) unread = absurd (subst IsUnread e unread)
 
 -- ---- ends
 
 module _ {E : Type 0} where
-  -- the ends fell short
-  pub short-stops : (reading : Reading Start) (start : Start) (rose link_rose : Type 0) (count : ℕ) (old new : Option (Ends E)) (n : ℕ)
-      → MayRead reading start → FallsShort count old new link_rose n → StopsServing reading rose link_rose n
-  short-stops reading start rose link_rose count old new n may short = record {
-    refused = λ two. absurd (neither n short.status (inl two));
-    fault = λ three. absurd (neither n short.status (inr three));
-    read = λ seven. (start, may);
-    link_fault = short.fault;
-    others = five_or_seven n short.status;
-  }
-
-  pub early-back : (left held : E → Option Text) (reads writes : E → ℕ) (count : ℕ) (a : Option (Ends E)) (n : ℕ) → 1 ≤ count → GaveAllBack left held reads writes count a a n
-  early-back left held reads writes count a n some = record {
+  pub early-back : (left held : E → Option Text) (reads writes : E → ℕ) (count : ℕ) (a : Option (Ends E)) (failed : Type 0) → 1 ≤ count → GaveAllBack left held reads writes count a a failed
+  early-back left held reads writes count a failed some = record {
     before = [];
     after = [];
     ends = TookAndGave-none a;
     talked = inl refl;
     few = omega arith;
-    fewer = λ seven. (omega arith, refl);
+    fewer = λ _. (omega arith, refl);
   }
 
-  pub short-back : (left held : E → Option Text) (reads writes : E → ℕ) (count : ℕ) (a b : Option (Ends E)) (link_rose : Type 0) (n : ℕ) → FallsShort count a b link_rose n
-      → GaveAllBack left held reads writes count a b n
-  short-back left held reads writes count a b link_rose n short = record {
+  pub short-back : (left held : E → Option Text) (reads writes : E → ℕ) (count : ℕ) (a b : Option (Ends E)) (link_rose : Type 0) (s : Stop) → FallsShort count a b link_rose s
+      → GaveAllBack left held reads writes count a b (s ≡ Listener)
+  short-back left held reads writes count a b link_rose s short = record {
     before = short.taken;
     after = short.taken;
     ends = short.served;
     talked = inl refl;
     few = short.few;
-    fewer = λ seven. (short.fewer seven, refl);
+    fewer = λ listener. (short.fewer listener, refl);
   }
 
-  pub risen-back : (left held : E → Option Text) (reads writes : E → ℕ) (count : ℕ) (a b c : Option (Ends E)) (before : List E) (n : ℕ) → IsWithinRoom a → TookFirst a b before
-      → length before ≡ count → HasRisen left held reads writes before b c → n ≡ 5 → GaveAllBack left held reads writes count a c n
-  risen-back left held reads writes count a b c before n within took many risen five = record {
+  risen-back : (left held : E → Option Text) (reads writes : E → ℕ) (count : ℕ) (a b c : Option (Ends E)) (before : List E) (s : Stop) → IsWithinRoom a → TookFirst a b before
+      → length before ≡ count → HasRisen left held reads writes before b c → s ≡ Memory → GaveAllBack left held reads writes count a c (s ≡ Listener)
+  risen-back left held reads writes count a b c before s within took many risen memory = record {
     before = before;
     after = risen.after;
     ends = TookAndGave-both a b c before risen.after within risen.long took risen.gave;
     talked = risen.talked;
     few = omega arith;
-    fewer = λ seven. absurd (omega arith);
+    fewer = λ listener. cc;
   }
 
   pub risen-ends : (left held : E → Option Text) (reads writes : E → ℕ) (count : ℕ) (a b c : Option (Ends E)) (before : List E) (r : Result Output Stop) → IsWithinRoom a
-      → TookFirst a b before → length before ≡ count → IfErr r (λ _. HasRisen left held reads writes before b c) → IfErr r (λ stop. stop_status stop ≡ 5)
-      → IfErr r (λ stop. GaveAllBack left held reads writes count a c (stop_status stop))
-  risen-ends left held reads writes count a b c before (Ok o) within took many risen five = tt
-  risen-ends left held reads writes count a b c before (Err s) within took many risen five =
-      risen-back left held reads writes count a b c before (stop_status s) within took many risen five
+      → TookFirst a b before → length before ≡ count → IfErr r (λ _. HasRisen left held reads writes before b c) → IfErr r (λ stop. stop ≡ Memory)
+      → IfErr r (λ stop. GaveAllBack left held reads writes count a c (stop ≡ Listener))
+  risen-ends left held reads writes count a b c before (Ok o) within took many risen memory = tt
+  risen-ends left held reads writes count a b c before (Err s) within took many risen memory =
+      risen-back left held reads writes count a b c before s within took many risen memory
 
   pub sat-answer : (left held : E → Option Text) (reads writes : E → ℕ) (o : Opening) (a b c : Option (Ends E)) (before : List E) (answer : Output)
       → IsWithinRoom a → TookFirst a b before → length before ≡ o.experts → HasSat left held reads writes o before b c answer
@@ -148,9 +102,11 @@ module _ {E : Type 0} where
 
 -- ---- which stop it is
 
-pub memory-serve : (file : Text) (known : Option Text) (files : Text → Told) (s : Stop) → s ≡ Memory → IsServeStop file known files s
-memory-serve file known files s e = let P : Stop → Type 0 = IsServeStop file known files in subst P (sym e) (inl (inl tt))
+pub memory-serve : (file : Text) (known : Option Text) (files : Text → Told) (rises : Text → Type 0) (link_rose : Type 0) (s : Stop) → s ≡ Memory
+    → IsServeStop file known files rises link_rose s
+memory-serve file known files rises link_rose s e = let P : Stop → Type 0 = IsServeStop file known files rises link_rose in subst P (sym e) (inl (inl tt))
 
-pub link-serve : (file : Text) (known : Option Text) (files : Text → Told) (s : Stop) → (s ≡ Listener) ⊎ (s ≡ Memory) → IsServeStop file known files s
-link-serve file known files s (inl e) = inr e
-link-serve file known files s (inr e) = memory-serve file known files s e
+pub link-serve : (file : Text) (known : Option Text) (files : Text → Told) (rises : Text → Type 0) (link_rose : Type 0) (start : Start) (s : Stop) → MayRead (start_read file known files) start
+    → (s ≡ Listener → link_rose) → (s ≡ Listener) ⊎ (s ≡ Memory) → IsServeStop file known files rises link_rose s
+link-serve file known files rises link_rose start s may rose (inl e) = inr (e, start, may, rose e)
+link-serve file known files rises link_rose start s may rose (inr e) = memory-serve file known files rises link_rose s e

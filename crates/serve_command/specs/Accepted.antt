@@ -1,6 +1,8 @@
 -- The ends that a listener gave and those that it took back.
 use Rattle.std.specs.Prelude.{◌≡◌, ◌≤◌, ◌<◌, ◌+◌, ◌⊎◌, ⊤, ℕ, length, Option, None, Some, List, ◌++◌}
 use Rattle.fca_io.specs.Links.{Ends}
+use Rattle.command_io.specs.declared.stop.Stop.{Stop}
+use Rattle.command_io.specs.declared.stop.Stop.TheVariants.{Listener, Memory}
 
 module _ {E : Type 0} where
   -- these were the first ends to come, and nothing else changed
@@ -25,10 +27,10 @@ module _ {E : Type 0} where
       (later : List E) × (old.to_come ≡ taken ++ later) × (new ≡ Some (record { to_come = later; given = old.given ++ given; room = old.room }))
 
   -- the ends fell short of the count: those that came were given back as they were, and where memory was there the listener failed
-  pub record FallsShort (count : ℕ) (old new : Option (Ends E)) (rose : Type 0) (result : ℕ) : Type 0 where
+  pub record FallsShort (count : ℕ) (old new : Option (Ends E)) (rose : Type 0) (stop : Stop) : Type 0 where
     pub taken : List E
     pub served : TookAndGave old new taken taken
     pub few : length taken ≤ count
-    pub fewer : result ≡ 7 → length taken < count
-    pub fault : result ≡ 7 → rose
-    pub status : (result ≡ 5) ⊎ (result ≡ 7)
+    pub fewer : stop ≡ Listener → length taken < count
+    pub fault : stop ≡ Listener → rose
+    pub cause : (stop ≡ Listener) ⊎ (stop ≡ Memory)

@@ -2,7 +2,7 @@
 --
 -- Where the first of two experts quits at once and the second goes at the end of its input, the text ends with the lines `# sessions 2`, `# 1 quit` and
 -- `# 2 end of input`.
-use Rattle.std.specs.Prelude.{◌≡◌, ◌↔◌, ◌⊎◌, ◌<◌, ◌≤◌, ℕ, Bool, false, Option, List, [], ◌++◌, map, length, codes}
+use Rattle.std.specs.Prelude.{◌≡◌, ◌⊎◌, ◌<◌, ◌≤◌, ℕ, Option, List, [], ◌++◌, map, length, codes}
 use Rattle.fca_model.specs.Tables.{Text, NamedContext}
 use Rattle.fca_model.specs.Exploration.{SetEntry, own}
 use Rattle.fca_io.specs.Links.{Ends}
@@ -12,13 +12,13 @@ use Rattle.expert_sessions.specs.declared.ended.Ended.TheVariants.{Quit, EndOfIn
 use Rattle.explore_state.specs.History.{Opening}
 use Rattle.basis_report.specs.Explorations.{explore_text, spelled, spelled_settings}
 use Rattle.basis_report.specs.Sessions.{sessions_text}
-use Rattle.command_io.specs.Readings.{Reading, MayRead, MayRefuse}
-use Rattle.command_io.specs.Readings.Reading.{Untold, Missing, Refused, Read}
+use Rattle.command_io.specs.Readings.{Reading, MayRead}
 use Rattle.fca_io.specs.Shelves.{Told}
-use Rattle.command_io.specs.Known.{Start, IsStartStop}
+use Rattle.command_io.specs.Known.{Start, start_read, IsStartStop}
 use Rattle.command_io.specs.declared.stop.Stop.{Stop}
 use Rattle.command_io.specs.declared.stop.Stop.TheVariants.{Listener}
-use Rattle.command_io.specs.Endings.{Output, whole_status, IsWhole}
+use Rattle.command_io.specs.Endings.{Output, ending_of}
+use Rattle.command_io.specs.declared.answer.Ending.{Ending}
 use Rattle.command_io.specs.Explorations.{Recorded, open_at, IsExplored}
 use Rattle.serve_command.specs.Accepted.{TookAndGave, GaveBack, HasRoomFor}
 use Rattle.serve_command.specs.Openings.{opened_by}
@@ -49,8 +49,8 @@ served_text o H endings = explore_text o.table o.settings H ++ sessions_text (ma
 -- over ends that show what is left and what is held, and their counts of faults
 module _ {E : Type 0} (left held : E → Option Text) (reads writes : E → ℕ) where
   -- The text spells the settings of the exploration and one legal history, which has no entries but those of the experts at these ends: expert k has
-  -- talked over the k-th of them, and the text tells how that session ended. It is open where a question is, after the last entry
-  pub record IsServedText (o : Opening) (before after : List E) (written : Text) (is_open : Bool) : Type 0 where
+  -- talked over the k-th of them, and the text tells how that session ended. It ends open where a question is, after the last entry
+  pub record IsServedText (o : Opening) (before after : List E) (written : Text) (end : Ending) : Type 0 where
     pub history : List SetEntry
     pub endings : List Ended
     pub text : written ≡ served_text o history endings
@@ -59,7 +59,7 @@ module _ {E : Type 0} (left held : E → Option Text) (reads writes : E → ℕ)
     pub course : IsExplored (served o history)
     pub talks : EachTalks left held reads writes o.table lines history 1 before after endings
     pub others : (e : ℕ) → (e ≡ 0) ⊎ (length before < e) → own history e ≡ []
-    pub finished : (is_open ≡ false) ↔ (open_at (served o history) ≡ [])
+    pub ending : end ≡ ending_of (open_at (served o history))
 
   -- the ends are as they were, or their experts have talked over them
   abbrev pub MayHaveTalked : List E → List E → Type 0
@@ -73,34 +73,21 @@ module _ {E : Type 0} (left held : E → Option Text) (reads writes : E → ℕ)
     pub after : List E
     pub count : length before ≡ o.experts
     pub ends : TookAndGave old new before after
-    pub is : IsServedText o before after answer.text answer.is_open
+    pub is : IsServedText o before after answer.text answer.ending
 
-  -- an answer for what may have been read
-  abbrev pub MayAnswer : Reading Start → ℕ → ℕ → Option (Ends E) → Option (Ends E) → Output → Type 0
-  MayAnswer reading experts holders old new answer = (start : Start) × MayRead reading start × IsAnswer (opened_by experts holders start) old new answer
-
-  -- its whole text was written, with this status
-  pub record HasServed (Gained : Text → Type 0) (o : Opening) (old new : Option (Ends E)) (result : ℕ) : Type 0 where
-    pub answer : Output
-    pub is : IsAnswer o old new answer
-    pub gained : Gained answer.text
-    pub status : result ≡ whole_status answer
-
-  -- its text was begun
-  pub record HasBegun (Gained : Text → Type 0) (o : Opening) (old new : Option (Ends E)) : Type 0 where
-    pub answer : Output
-    pub is : IsAnswer o old new answer
-    pub gained : Gained answer.text
+  -- an answer for what may have been read, by so many experts, of whom so many may hold one question
+  abbrev pub MayServe : Reading Start → ℕ → ℕ → Option (Ends E) → Option (Ends E) → Output → Type 0
+  MayServe reading experts holders old new answer = (start : Start) × MayRead reading start × IsAnswer (opened_by experts holders start) old new answer
 
   -- At most as many ends as there are experts were accepted, the first to come, and just these were given back in their order.
-  -- At 7 they are fewer, and as they were
-  pub record GaveAllBack (experts : ℕ) (old new : Option (Ends E)) (status : ℕ) : Type 0 where
+  -- Where the listener failed they are fewer, and as they were
+  pub record GaveAllBack (experts : ℕ) (old new : Option (Ends E)) (failed : Type 0) : Type 0 where
     pub before : List E
     pub after : List E
     pub ends : TookAndGave old new before after
     pub talked : MayHaveTalked before after
     pub few : length before ≤ experts
-    pub fewer : status ≡ 7 → (length before < experts) × (after ≡ before)
+    pub fewer : failed → (length before < experts) × (after ≡ before)
 
   -- ---- the steps of a call
 
@@ -109,7 +96,7 @@ module _ {E : Type 0} (left held : E → Option Text) (reads writes : E → ℕ)
     pub after : List E
     pub gave : HasRoomFor old (length after) → GaveBack old new after
     pub long : length after ≡ length before
-    pub is : IsServedText o before after answer.text answer.is_open
+    pub is : IsServedText o before after answer.text answer.ending
 
   -- these ends were given back where there was room, as they were or after their sessions
   pub record HasRisen (before : List E) (old new : Option (Ends E)) : Type 0 where
@@ -118,22 +105,7 @@ module _ {E : Type 0} (left held : E → Option Text) (reads writes : E → ℕ)
     pub long : length after ≡ length before
     pub talked : MayHaveTalked before after
 
--- the stop of the files, or of the link
-abbrev pub IsServeStop : Text → Option Text → (Text → Told) → Stop → Type 0
-IsServeStop file known files stop = IsStartStop file known files stop ⊎ (stop ≡ Listener)
-
--- the status of a call that was not cut off, by what was read; the link may fail it
-abbrev pub Serves : Reading Start → ℕ → Type 0
-Serves Untold status = (status ≡ 2) ⊎ ((status ≡ 7) ⊎ IsWhole status)
-Serves Missing status = ⊥
-Serves Refused status = status ≡ 2
-Serves (Read start) status = (status ≡ 7) ⊎ IsWhole status
-
--- a call stopped with this status: 2 where the reading may be refused, 3 where a count of the shelf rose, 7 where all was read and a count
--- of the link rose, or 5
-pub record StopsServing (reading : Reading Start) (rose link_rose : Type 0) (status : ℕ) : Type 0 where
-  pub refused : status ≡ 2 → MayRefuse reading
-  pub fault : status ≡ 3 → rose
-  pub read : status ≡ 7 → (start : Start) × MayRead reading start
-  pub link_fault : status ≡ 7 → link_rose
-  pub others : (status ≡ 2) ⊎ ((status ≡ 3) ⊎ ((status ≡ 5) ⊎ (status ≡ 7)))
+-- the stop of the files, or, where these were read, of the link, of which a count of faults rose
+abbrev pub IsServeStop : Text → Option Text → (Text → Told) → (Text → Type 0) → Type 0 → Stop → Type 0
+IsServeStop file known files rises link_rose stop = IsStartStop file known files rises stop
+    ⊎ ((stop ≡ Listener) × (start : Start) × MayRead (start_read file known files) start × link_rose)

@@ -3,7 +3,6 @@
 ghost use Rattle.std.specs.Prelude.{◌≡◌, ◌≤◌, ◌⊎◌, ℕ, List, true, false, vec_len, IfOk, IfErr, OnOk};
 ghost use Rattle.fca_io.specs.Faults.{Rose};
 ghost use Rattle.fca_io.specs.Links.{IsWithinRoom, MayListenAt};
-ghost use Rattle.command_io.specs.Endings.{stop_status};
 ghost use Rattle.serve_command.specs.Accepted.{TookFirst, GaveBack, HasRoomFor, FallsShort};
 
 use command_io::Stop;
@@ -25,9 +24,7 @@ pub fn ends_at<L: Listener>(
     ensures within { IsWithinRoom (L.ends link.old) }
     ensures listens { OnOk result ((L.listens link.new ≡ true) × MayListenAt (L.listens_at link.new) address.now) }
     ensures short { IfErr result (λ stop. FallsShort count (L.ends link.old) (L.ends link.new)
-        (Rose (L.open_faults link.old address.now) (L.open_faults link.new address.now) ⊎ Rose (L.accept_faults link.old) (L.accept_faults link.new))
-        (stop_status stop)) }
-    ensures cause { IfErr result (λ stop. (stop ≡ Stop.Listener) ⊎ (stop ≡ Stop.Memory)) }
+        (Rose (L.open_faults link.old address.now) (L.open_faults link.new address.now) ⊎ Rose (L.accept_faults link.old) (L.accept_faults link.new)) stop) }
 {
     if link.open(address).is_err() {
         return Err(Stop::Listener);
@@ -43,8 +40,7 @@ fn accept_ends<L: Listener>(alloc: Global, link: &mut L, count: u8) -> Result<Ve
     ensures taken { IfOk result (λ ends. TookFirst (L.ends link.old) (L.ends link.new) ends.items) }
     ensures count { IfOk result (λ ends. vec_len ends ≡ count) }
     ensures short { IfErr result (λ stop. FallsShort count (L.ends link.old) (L.ends link.new)
-        (Rose (L.accept_faults link.old) (L.accept_faults link.new)) (stop_status stop)) }
-    ensures cause { IfErr result (λ stop. (stop ≡ Stop.Listener) ⊎ (stop ≡ Stop.Memory)) }
+        (Rose (L.accept_faults link.old) (L.accept_faults link.new)) stop) }
 
     ensures same { (L.listens link.new ≡ true) × (L.listens_at link.new ≡ L.listens_at link.old) }
     ensures later { (other : List ℕ) → L.open_faults link.old other ≤ L.open_faults link.new other }

@@ -1,4 +1,4 @@
-use Rattle.std.proofs.Common.{◌≡◌, ◌∙◌, length, inl, refl, sym, ap, subst, arith}
+use Rattle.std.proofs.Common.{◌≡◌, ◌∙◌, length, refl, sym, ap, subst}
 use Rattle.fca_model.specs.Context.{Context}
 use Rattle.fca_model.specs.Tables.{NamedContext}
 use Rattle.command_io.specs.Readings.{Reading, MayRead, MayRefuse}
@@ -11,8 +11,8 @@ returns-then-same_attributes-clause-expert c =
     let P : Reading NamedContext → Type 0 = λ r. MayRead r c.args.expert in
     subst P (sym (agreeing-same c.args.table.now c.args.expert (c.same_attributes.ensures.0 c.if-same_attributes.true))) refl
 
-pub returns-else-width-clause-stop : goal.returns-else-width-clause-stop
-returns-else-width-clause-stop c =
+pub returns-else-width-clause-refused : goal.returns-else-width-clause-refused
+returns-else-width-clause-refused c =
     let table = c.args.table.now in
     let expert = c.args.expert in
     let wide : c.width.result ≡ length expert.attributes =
@@ -24,8 +24,4 @@ returns-else-width-clause-stop c =
       | else-width-via-else-width w ↦ λ same. w.if-width.false (wide ∙ ap length same ∙ sym wide-2)
     ] in
     let P : Reading NamedContext → Type 0 = λ r. MayRefuse r in
-    record {
-      refused = λ two. subst P (sym (agreeing-other table expert differ)) tt;
-      fault = λ three. absurd (omega arith);
-      others = inl refl;
-    }
+    subst P (sym (agreeing-other table expert differ)) tt

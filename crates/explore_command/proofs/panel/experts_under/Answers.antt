@@ -1,29 +1,40 @@
-use Rattle.std.proofs.Common.{◌≡◌, ◌<◌, ◌+◌, ◌++◌, ◌∷◌, ◌∙◌, [], length, drop, List, sym, subst, arith}
-use Rattle.std.specs.Prelude.{All}
+use Rattle.std.proofs.Common.{rules, ◌≡◌, ◌<◌, ◌+◌, ◌++◌, ◌∷◌, ◌∙◌, [], length, drop, List, sym, subst, arith}
+use Rattle.std.specs.Prelude.{All, IfErr}
+use Rattle.std.proofs.lemmas.Result.{IfErr-weaker}
 use Rattle.fca_model.specs.Tables.{NamedContext}
 use Rattle.std.proofs.lemmas.List.Elements.{All-push}
+use Rattle.command_io.specs.Endings.{IsRefusal}
+use Rattle.command_io.specs.Readings.{MayRefuse, Rises}
+use Rattle.command_io.specs.declared.stop.Stop.{Stop}
+use Rattle.command_io.specs.declared.stop.Stop.TheVariants.{Memory}
 use Rattle.command_io.proofs.ErrLemmas.{err-passed}
-use Rattle.explore_command.specs.Panels.{IsExpertsStop}
-use Rattle.explore_command.proofs.PanelLemmas.{ReadsOn, ReadsOn-next, ReadsOn-all, Stops-file, experts-stop, Stops-passed}
+use Rattle.explore_command.specs.Panels.{experts_read, IsExpertsStop}
+use Rattle.explore_command.proofs.PanelLemmas.{ReadsOn, ReadsOn-next, ReadsOn-all, refused-file, experts-stop, memory-experts}
 use Rattle.explore_command.proofs.panel.experts_under.Goals as goal
 
-pub returns-in_err-expert-clause-stop : goal.returns-in_err-expert-clause-stop
-returns-in_err-expert-clause-stop g c =
+pub returns-in_err-expert-clause-refused : goal.returns-in_err-expert-clause-refused
+returns-in_err-expert-clause-refused g c =
     let inv = c.loop-place.invariant in
     let stop = c.in_err-expert.field-0.0 in
     let inside : c.loop-place.place < length c.args.files.now = omega arith in
-    Stops-passed c.from_residual.result stop _ _ c.from_residual.ensures
-    (Stops-file c.args.table.now c.args.files.now c.loop-place.place c.index-files-place.result (g.H.Shelf.tells c.args.shelf.now) (g.H.Shelf.tells c.loop-place.shelf)
-    (g.H.Shelf.faults c.args.shelf.now) (g.H.Shelf.faults c.loop-place.shelf) (g.H.Shelf.faults c.expert_under.new.shelf) c.loop-place.tables.items _
-    inside c.index-files-place.is inv.3 inv.4 inv.0 c.in_err-expert.ensures.stop)
+    let table = c.args.table.now in
+    let tells = g.H.Shelf.tells c.args.shelf.now in
+    err-passed c.from_residual.result stop (λ (s : Stop). (IsRefusal s → MayRefuse (experts_read table c.args.files.now tells))) c.from_residual.ensures.1
+    (λ refusal. refused-file table c.args.files.now c.loop-place.place c.index-files-place.result tells (g.H.Shelf.tells c.loop-place.shelf) (g.H.Shelf.faults c.args.shelf.now)
+    c.loop-place.tables.items inside c.index-files-place.is inv.3 inv.0 (c.in_err-expert.ensures.refused refusal))
 
 pub returns-in_err-expert-clause-cause : goal.returns-in_err-expert-clause-cause
 returns-in_err-expert-clause-cause g c =
+    let inv = c.loop-place.invariant in
     let stop = c.in_err-expert.field-0.0 in
     let inside : c.loop-place.place < length c.args.files.now = omega arith in
-    err-passed c.from_residual.result stop (IsExpertsStop c.args.files.now (g.H.Shelf.tells c.args.shelf.now)) c.from_residual.ensures.1
-    (experts-stop c.args.files.now c.loop-place.place c.index-files-place.result (g.H.Shelf.tells c.args.shelf.now) (g.H.Shelf.tells c.loop-place.shelf) stop
-    inside c.index-files-place.is c.loop-place.invariant.3 c.in_err-expert.ensures.cause)
+    let table = c.args.table.now in
+    let tells = g.H.Shelf.tells c.args.shelf.now in
+    let counts = g.H.Shelf.faults c.args.shelf.now in
+    let after = g.H.Shelf.faults c.expert_under.new.shelf in
+    err-passed c.from_residual.result stop (IsExpertsStop table 0 c.args.files.now tells (Rises counts after)) c.from_residual.ensures.1
+    (experts-stop table c.args.files.now c.loop-place.place c.index-files-place.result tells (g.H.Shelf.tells c.loop-place.shelf) counts (g.H.Shelf.faults c.loop-place.shelf) after
+    c.loop-place.tables.items stop inside c.index-files-place.is inv.3 inv.4 inv.0 c.in_err-expert.ensures.cause)
 
 pub loop-place-preserved : goal.loop-place-preserved
 loop-place-preserved g c =
@@ -32,9 +43,11 @@ loop-place-preserved g c =
     let expert = c.in_ok-expert.expert in
     let inside : c.loop-place.place < length c.args.files.now = omega arith in
     let pushed : c.push.new.self.items ≡ c.loop-place.tables.items ++ expert ∷ [] = c.in_ok-push.ensures.items in
-    let Reads : List NamedContext → Type 0 = λ l. ReadsOn table (drop (c.loop-place.place + 1) c.args.files.now) c.args.files.now (g.H.Shelf.tells c.args.shelf.now) l in
+    let Reads : List NamedContext → Type 0 = λ l.
+    ReadsOn table (c.loop-place.place + 1) (drop (c.loop-place.place + 1) c.args.files.now) c.args.files.now (g.H.Shelf.tells c.args.shelf.now) (g.H.Shelf.faults c.args.shelf.now) l in
     let IsWide : List NamedContext → Type 0 = λ l. All (λ (t : NamedContext). t.context.width ≡ table.context.width) l in (
-      subst Reads (sym pushed) (ReadsOn-next table c.args.files.now c.loop-place.place c.index-files-place.result (g.H.Shelf.tells c.args.shelf.now) (g.H.Shelf.tells c.loop-place.shelf) c.loop-place.tables.items expert
+      subst Reads (sym pushed) (ReadsOn-next table c.args.files.now c.loop-place.place c.index-files-place.result (g.H.Shelf.tells c.args.shelf.now) (g.H.Shelf.tells c.loop-place.shelf)
+          (g.H.Shelf.faults c.args.shelf.now) c.loop-place.tables.items expert
           inside c.index-files-place.is inv.3 c.in_ok-expert.ensures.expert inv.0),
       (let longer = c.in_ok-push.ensures.len in let was = inv.1 in omega arith),
       subst IsWide (sym pushed) (All-push (λ (t : NamedContext). t.context.width ≡ table.context.width) c.loop-place.tables.items expert inv.2 c.in_ok-expert.ensures.wide),
@@ -44,4 +57,13 @@ loop-place-preserved g c =
 
 pub returns-clause-tables : goal.returns-clause-tables
 returns-clause-tables g c =
-    ReadsOn-all c.args.table.now c.args.files.now c.loop-place.place (g.H.Shelf.tells c.args.shelf.now) c.loop-place.tables.items (let past = c.loop-place-test.false in omega arith) c.loop-place.invariant.0
+    ReadsOn-all c.args.table.now c.args.files.now c.loop-place.place (g.H.Shelf.tells c.args.shelf.now) (g.H.Shelf.faults c.args.shelf.now) c.loop-place.tables.items (let past = c.loop-place-test.false in omega arith) c.loop-place.invariant.0
+
+pub returns-in_err-push-clause-cause : goal.returns-in_err-push-clause-cause
+returns-in_err-push-clause-cause g c =
+    let left = c.from_residual-in_err-push.result in
+    let memory : IfErr left (λ (s : Stop). s ≡ Memory) = search rules in
+    let table = c.args.table.now in
+    let tells = g.H.Shelf.tells c.args.shelf.now in
+    let rises = Rises (g.H.Shelf.faults c.args.shelf.now) (g.H.Shelf.faults c.expert_under.new.shelf) in
+    IfErr-weaker left (λ (s : Stop). s ≡ Memory) (IsExpertsStop table 0 c.args.files.now tells rises) (λ s e. memory-experts table 0 c.args.files.now tells rises s e) memory

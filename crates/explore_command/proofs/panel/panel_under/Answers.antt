@@ -1,20 +1,44 @@
-use Rattle.std.proofs.Common.{ℕ, List, sym, ap, ◌∙◌, subst}
+use Rattle.std.proofs.Common.{ℕ, List, inr, sym, ap, ◌∙◌, subst}
 use Rattle.std.specs.Prelude.{option_copied}
 use Rattle.fca_model.specs.Exploration.{RowName}
 use Rattle.fca_model.specs.declared.TheConstants.{MAX_EXPERTS}
-use Rattle.command_io.specs.Readings.{MayRead}
+use Rattle.command_io.specs.Endings.{IsRefusal}
+use Rattle.command_io.specs.Readings.{MayRead, MayRefuse, Rises}
+use Rattle.command_io.specs.declared.stop.Stop.{Stop}
+use Rattle.command_io.proofs.ErrLemmas.{err-passed}
+use Rattle.command_io.proofs.KnownLemmas.{Rises-before}
 use Rattle.command_io.specs.Known.{start_of}
-use Rattle.explore_command.specs.Panels.{Panel, MayExplore, panel_read}
+use Rattle.explore_command.specs.Panels.{Panel, MayExplore, panel_read, IsPanelStop}
 use Rattle.explore_command.proofs.NameLemmas.{may_explore}
-use Rattle.explore_command.proofs.PanelLemmas.{panel-read, Stops-panel, Stops-passed}
+use Rattle.explore_command.proofs.PanelLemmas.{panel-read, refused-panel, IsExpertsStop-same}
 use Rattle.explore_command.proofs.panel.panel_under.Goals as goal
 
-pub returns-in_err-tables-clause-stop : goal.returns-in_err-tables-clause-stop
-returns-in_err-tables-clause-stop g c =
-    Stops-passed c.from_residual-in_err-tables.result c.in_err-tables.field-0.0 _ _ c.from_residual-in_err-tables.ensures
-    (Stops-panel c.args.file.now (option_copied c.args.known) c.args.names c.args.experts.now (g.H.Shelf.tells c.args.shelf.now) (g.H.Shelf.tells c.start_under.new.shelf)
-    (g.H.Shelf.faults c.args.shelf.now) (g.H.Shelf.faults c.start_under.new.shelf) (g.H.Shelf.faults c.experts_under.new.shelf) (start_of c.in_ok-start.start) _
-    c.in_ok-start.ensures.start c.in_ok-start.ensures.kept c.in_ok-start.ensures.later c.in_err-tables.ensures.stop)
+pub returns-in_err-tables-clause-refused : goal.returns-in_err-tables-clause-refused
+returns-in_err-tables-clause-refused g c =
+    let known = option_copied c.args.known in
+    let tells = g.H.Shelf.tells c.args.shelf.now in
+    err-passed c.from_residual-in_err-tables.result c.in_err-tables.field-0.0
+    (λ (s : Stop). (IsRefusal s → MayRefuse (panel_read c.args.file.now known c.args.names c.args.experts.now tells))) c.from_residual-in_err-tables.ensures.1
+    (λ refusal. refused-panel c.args.file.now known c.args.names c.args.experts.now tells (g.H.Shelf.tells c.start_under.new.shelf) (start_of c.in_ok-start.start)
+    c.in_ok-start.ensures.start c.in_ok-start.ensures.kept (c.in_err-tables.ensures.refused refusal))
+
+pub returns-in_err-tables-clause-cause : goal.returns-in_err-tables-clause-cause
+returns-in_err-tables-clause-cause g c =
+    let known = option_copied c.args.known in
+    let tells = g.H.Shelf.tells c.args.shelf.now in
+    let now = g.H.Shelf.tells c.start_under.new.shelf in
+    let counts = g.H.Shelf.faults c.args.shelf.now in
+    let between = g.H.Shelf.faults c.start_under.new.shelf in
+    let after = g.H.Shelf.faults c.experts_under.new.shelf in
+    let start = start_of c.in_ok-start.start in
+    let stop = c.in_err-tables.field-0.0 in
+    err-passed c.from_residual-in_err-tables.result stop (IsPanelStop c.args.file.now known c.args.experts.now tells (Rises counts after)) c.from_residual-in_err-tables.ensures.1
+    (inr (
+      start,
+      c.in_ok-start.ensures.start,
+      IsExpertsStop-same start.table 0 c.args.experts.now tells now (Rises between after) (Rises counts after) stop c.in_ok-start.ensures.kept
+          (λ other. Rises-before counts between after other c.in_ok-start.ensures.later) c.in_err-tables.ensures.cause,
+    ))
 
 pub seated-requires-clause-may : goal.seated-requires-clause-may
 seated-requires-clause-may g c =

@@ -50,9 +50,15 @@ returns g c =
     } in
     let IsFew : Panel → Type 0 = λ q. is_expert (length q.experts) ≡ true in
     let Gives : Panel → Type 0 = λ q. IsPanelText q c.extend_from_slice.new.self.items explored.spent in
-    subst Gives (sym is)
-    (IsPanelText-play p explored.explore explored.oracles.items explored.spent c.in_ok-text.text.items c.in_ok-conflicts.conflicts.items c.extend_from_slice.new.self.items
-    (subst IsFew is c.requires.count) c.panel.invariant.may play c.in_ok-text.ensures.text
-    (c.in_ok-conflicts.ensures.text ∙ ap (λ l. conflicts_text explored.explore.opening.table.attributes (rules_of (state_of explored.explore)) (map with_conflicts l)) c.deref.ensures.value)
-    c.in_ok-conflicts.ensures.skipped
-    (c.in_ok-extend_from_slice.ensures.items ∙ ap (λ l. c.in_ok-text.text.items ++ l) c.deref-2.ensures.value))
+    record {
+      panel = c.args.panel;
+      read = refl;
+      spent = explored.spent;
+      ending = c.ending_of.ensures;
+      is = subst Gives (sym is)
+          (IsPanelText-play p explored.explore explored.oracles.items explored.spent c.in_ok-text.text.items c.in_ok-conflicts.conflicts.items c.extend_from_slice.new.self.items
+          (subst IsFew is c.requires.count) c.panel.invariant.may play c.in_ok-text.ensures.text
+          (c.in_ok-conflicts.ensures.text ∙ ap (λ l. conflicts_text explored.explore.opening.table.attributes (rules_of (state_of explored.explore)) (map with_conflicts l)) c.deref.ensures.value)
+          c.in_ok-conflicts.ensures.skipped
+          (c.in_ok-extend_from_slice.ensures.items ∙ ap (λ l. c.in_ok-text.text.items ++ l) c.deref-2.ensures.value));
+    }

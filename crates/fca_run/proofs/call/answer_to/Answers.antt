@@ -1,55 +1,70 @@
-use Rattle.std.proofs.Common.{Option, sym, subst}
-use Rattle.std.specs.Prelude.{IfOk, IfErr}
-use Rattle.std.proofs.lemmas.Result.{IfOk-weaker}
+use Rattle.std.proofs.Common.{rules, ◌≡◌, true, List, Option, sym, ap, subst}
+use Rattle.std.specs.Prelude.{IfErr}
+use Rattle.std.proofs.lemmas.Result.{IfErr-weaker}
 use Rattle.fca_model.specs.Tables.{Text}
-use Rattle.command_io.specs.Readings.{MayRead}
-use Rattle.command_io.specs.Endings.{Stops, stop_status}
-use Rattle.fca_run.specs.Outputs.{output_by}
-use Rattle.fca_run.specs.Endings.{FaultRose, IsStopBy}
-use Rattle.fca_run.proofs.EndingLemmas.{course-reported, end-reported, on-any, report-stops}
+use Rattle.fca_command.specs.Commands.{is_plain}
+use Rattle.fca_command.specs.declared.command.Command.{Command}
+use Rattle.fca_command.specs.declared.command.Command.TheVariants.{Explore, Serve}
+use Rattle.fca_command.specs.declared.recipe.Recipe.{Recipe}
+use Rattle.command_io.specs.Endings.{IsUnread}
+use Rattle.command_io.specs.declared.stop.Stop.{Stop}
+use Rattle.command_io.specs.Streams.{moment}
+use Rattle.fca_run.specs.Calls.{shelf_moment, link_moment, sides, outside, ComesTo}
+use Rattle.fca_run.proofs.CallLemmas.{explore-comes, serve-comes, survey-comes, plain-comes}
 use Rattle.fca_run.proofs.call.answer_to.Goals as goal
 
-pub returns-in-Some-clause-output : goal.returns-in-Some-clause-output
-returns-in-Some-clause-output g c =
-    let P : Option Text → Type 0 = λ found.
-    IfOk c.report_answer.result (λ answer. MayRead (output_by found c.args.command.now (g.H.Shelf.tells c.args.shelf.now) (g.S.Source.left c.args.input.now)) answer) in
-    subst P c.in-Some.ensures c.report_answer.ensures.output
+pub returns-in-Explore : goal.returns-in-Explore
+returns-in-Explore g c =
+    let talk = sides g.L.End.Source.left g.L.End.Sink.held g.L.End.Source.faults g.L.End.Sink.faults in
+    let s = shelf_moment g.H.Shelf.tells g.H.Shelf.faults c.args.shelf.now in
+    let s' = shelf_moment g.H.Shelf.tells g.H.Shelf.faults c.explore.new.shelf in
+    let input = moment g.S.Source.left g.S.Source.faults c.args.input.now in
+    let link = link_moment g.L.Listener.listens g.L.Listener.listens_at g.L.Listener.ends g.L.Listener.open_faults g.L.Listener.accept_faults c.args.link.now in
+    let ends = c.explore.ensures in
+    let Comes : Command → Type 0 = λ command. ComesTo talk command (outside s input link) (outside s' input link) c.explore.result in
+    let Beside : Option Text → Type 0 = λ known. Comes (Explore c.in-Explore.file known c.in-Explore.names c.as_slice.result.now) in
+    let By : List Text → Type 0 = λ experts. Comes (Explore c.in-Explore.file c.in-Explore.known c.in-Explore.names experts) in
+    subst Comes (sym c.in-Explore.is) (subst By c.as_slice.ensures (subst Beside c.as_ref.ensures.value
+    (explore-comes talk s s' input link c.in-Explore.file _ c.in-Explore.names c.as_slice.result.now c.explore.result ends.answer ends.refused ends.cause)))
 
-pub returns-in-Some-clause-stop : goal.returns-in-Some-clause-stop
-returns-in-Some-clause-stop g c =
-    report-stops c.args.command.now _ (g.H.Shelf.tells c.args.shelf.now) (g.S.Source.left c.args.input.now) _ _ _ _ c.report_answer.result c.in-Some.ensures c.report_answer.ensures.stop
+pub returns-in-Serve : goal.returns-in-Serve
+returns-in-Serve g c =
+    let talk = sides g.L.End.Source.left g.L.End.Sink.held g.L.End.Source.faults g.L.End.Sink.faults in
+    let s = shelf_moment g.H.Shelf.tells g.H.Shelf.faults c.args.shelf.now in
+    let s' = shelf_moment g.H.Shelf.tells g.H.Shelf.faults c.serve.new.shelf in
+    let input = moment g.S.Source.left g.S.Source.faults c.args.input.now in
+    let link = link_moment g.L.Listener.listens g.L.Listener.listens_at g.L.Listener.ends g.L.Listener.open_faults g.L.Listener.accept_faults c.args.link.now in
+    let link' = link_moment g.L.Listener.listens g.L.Listener.listens_at g.L.Listener.ends g.L.Listener.open_faults g.L.Listener.accept_faults c.serve.new.link in
+    let ends = c.serve.ensures in
+    let Comes : Command → Type 0 = λ command. ComesTo talk command (outside s input link) (outside s' input link') c.serve.result in
+    let Beside : Option Text → Type 0 = λ known. Comes (Serve c.in-Serve.file known c.in-Serve.experts c.in-Serve.holders c.in-Serve.listen) in
+    let unheard : IfErr c.serve.result (λ (stop : Stop). (IsUnread stop → link' ≡ link)) =
+    IfErr-weaker c.serve.result (λ (stop : Stop). (IsUnread stop → c.serve.new.link ≡ c.args.link.now)) (λ (stop : Stop). (IsUnread stop → link' ≡ link))
+    (λ stop same. λ unread. ap (link_moment g.L.Listener.listens g.L.Listener.listens_at g.L.Listener.ends g.L.Listener.open_faults g.L.Listener.accept_faults) (same unread)) ends.unheard in
+    subst Comes (sym c.in-Serve.is) (subst Beside c.as_ref-in-Serve.ensures.value
+    (serve-comes talk s s' input link link' c.in-Serve.file _ c.in-Serve.experts c.in-Serve.holders c.in-Serve.listen c.serve.result
+    ends.answer ends.listens ends.refused ends.cause unheard ends.ends))
 
-pub returns-in-Some-clause-cause : goal.returns-in-Some-clause-cause
-returns-in-Some-clause-cause g c =
-    let P : Option Text → Type 0 = λ found.
-    IfErr c.report_answer.result (IsStopBy found c.args.command.now (g.H.Shelf.tells c.args.shelf.now) (g.S.Source.left c.args.input.now)) in
-    subst P c.in-Some.ensures c.report_answer.ensures.cause
+pub returns-in-Survey : goal.returns-in-Survey
+returns-in-Survey g c =
+    let talk = sides g.L.End.Source.left g.L.End.Sink.held g.L.End.Source.faults g.L.End.Sink.faults in
+    let s = shelf_moment g.H.Shelf.tells g.H.Shelf.faults c.args.shelf.now in
+    let input = moment g.S.Source.left g.S.Source.faults c.args.input.now in
+    let link = link_moment g.L.Listener.listens g.L.Listener.listens_at g.L.Listener.ends g.L.Listener.open_faults g.L.Listener.accept_faults c.args.link.now in
+    let recipe : Recipe = record { seed = c.in-Survey.seed; objects = c.in-Survey.objects; attributes = c.in-Survey.attributes; density = c.in-Survey.density } in
+    let Comes : Command → Type 0 = λ command. ComesTo talk command (outside s input link) (outside s input link) c.survey_answer.result in
+    subst Comes (sym c.in-Survey.is)
+    (survey-comes talk s input link recipe c.in-Survey.experts c.survey_answer.result c.survey_answer.ensures.output c.survey_answer.ensures.cause)
 
-pub returns-in-Some-clause-explored : goal.returns-in-Some-clause-explored
-returns-in-Some-clause-explored g c = on-any c.report_answer.result _ (course-reported c.args.command.now _ _ _ (sym c.in-Some.ensures))
-
-pub returns-in-Some-clause-open : goal.returns-in-Some-clause-open
-returns-in-Some-clause-open g c = IfOk-weaker c.report_answer.result _ _ (λ answer finished. λ other. finished) c.report_answer.ensures.finished
-
-pub returns-in-Some-clause-end : goal.returns-in-Some-clause-end
-returns-in-Some-clause-end g c = on-any c.report_answer.result _ (end-reported c.args.command.now _ _ (sym c.in-Some.ensures))
-
-pub returns-in-None-clause-output : goal.returns-in-None-clause-output
-returns-in-None-clause-output g c =
-    let P : Option Text → Type 0 = λ found.
-    IfOk c.other_answer.result (λ answer. MayRead (output_by found c.args.command.now (g.H.Shelf.tells c.args.shelf.now) (g.S.Source.left c.args.input.now)) answer) in
-    subst P c.in-None.ensures c.other_answer.ensures.output
-
-pub returns-in-None-clause-stop : goal.returns-in-None-clause-stop
-returns-in-None-clause-stop g c =
-    let P : Option Text → Type 0 = λ found.
-    IfErr c.other_answer.result (λ stop. Stops (output_by found c.args.command.now (g.H.Shelf.tells c.args.shelf.now) (g.S.Source.left c.args.input.now))
-    (FaultRose c.args.command.now (g.H.Shelf.faults c.args.shelf.now) (g.H.Shelf.faults c.other_answer.new.shelf) (g.S.Source.faults c.args.input.now) (g.S.Source.faults c.other_answer.new.input))
-    (stop_status stop)) in
-    subst P c.in-None.ensures c.other_answer.ensures.stop
-
-pub returns-in-None-clause-cause : goal.returns-in-None-clause-cause
-returns-in-None-clause-cause g c =
-    let P : Option Text → Type 0 = λ found.
-    IfErr c.other_answer.result (IsStopBy found c.args.command.now (g.H.Shelf.tells c.args.shelf.now) (g.S.Source.left c.args.input.now)) in
-    subst P c.in-None.ensures c.other_answer.ensures.cause
+pub returns-in_default : goal.returns-in_default
+returns-in_default g c =
+    let talk = sides g.L.End.Source.left g.L.End.Sink.held g.L.End.Source.faults g.L.End.Sink.faults in
+    let s = shelf_moment g.H.Shelf.tells g.H.Shelf.faults c.args.shelf.now in
+    let s' = shelf_moment g.H.Shelf.tells g.H.Shelf.faults c.plain_answer.new.shelf in
+    let input = moment g.S.Source.left g.S.Source.faults c.args.input.now in
+    let input' = moment g.S.Source.left g.S.Source.faults c.plain_answer.new.input in
+    let link = link_moment g.L.Listener.listens g.L.Listener.listens_at g.L.Listener.ends g.L.Listener.open_faults g.L.Listener.accept_faults c.args.link.now in
+    let plain : is_plain c.args.command.now ≡ true = search rules in
+    let came = c.plain_answer.ensures in
+    plain-comes talk s s' input input' link c.plain_answer.result c.args.command.now plain came.output came.ending came.course came.cause came.refused came.read_to_end
+    (λ kept. ap (moment g.S.Source.left g.S.Source.faults) (came.input_kept kept))

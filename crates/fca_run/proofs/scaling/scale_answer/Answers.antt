@@ -1,8 +1,12 @@
 use Rattle.std.proofs.Common.{sym, ap, ◌∙◌, subst}
+use Rattle.command_io.specs.Readings.{MayRefuse, Rises}
+use Rattle.command_io.specs.declared.stop.Stop.{Stop}
+use Rattle.command_io.proofs.ErrLemmas.{err-passed}
 use Rattle.command_io.specs.Readings.{MayRead}
-use Rattle.command_io.specs.Endings.{Output, finished}
+use Rattle.command_io.specs.Endings.{Output, finished, IsRefusal}
+use Rattle.fca_run.specs.Causes.{IsScaleStop}
 use Rattle.fca_run.specs.Outputs.{scale_output}
-use Rattle.fca_run.proofs.ScalingLemmas.{scale-read}
+use Rattle.fca_run.proofs.ScalingLemmas.{scale-read, scale-refused, scale-stop}
 use Rattle.fca_run.proofs.scaling.scale_answer.Goals as goal
 
 pub returns-clause-output : goal.returns-clause-output
@@ -12,3 +16,22 @@ returns-clause-output g c =
     subst Reads (sym (c.finished.ensures ∙ ap finished c.in_ok-scaled_text.ensures))
     (scale-read c.args.values.now c.args.plan.now tells (g.H.Shelf.tells c.values_under.new.shelf) c.in_ok-values.values c.in_ok-plan.plan
     c.in_ok-values.ensures.values c.in_ok-values.ensures.kept c.in_ok-plan.ensures.plan)
+
+pub returns-in_err-plan-clause-refused : goal.returns-in_err-plan-clause-refused
+returns-in_err-plan-clause-refused g c =
+    let tells = g.H.Shelf.tells c.args.shelf.now in
+    err-passed c.from_residual-in_err-plan.result c.in_err-plan.field-0.0 (λ (s : Stop). (IsRefusal s → MayRefuse (scale_output c.args.values.now c.args.plan.now tells)))
+    c.from_residual-in_err-plan.ensures.1
+    (λ refusal. scale-refused c.args.values.now c.args.plan.now tells (g.H.Shelf.tells c.values_under.new.shelf) c.in_ok-values.values c.in_ok-values.ensures.values c.in_ok-values.ensures.kept
+    (c.in_err-plan.ensures.refused refusal))
+
+pub returns-in_err-plan-clause-cause : goal.returns-in_err-plan-clause-cause
+returns-in_err-plan-clause-cause g c =
+    let tells = g.H.Shelf.tells c.args.shelf.now in
+    let counts = g.H.Shelf.faults c.args.shelf.now in
+    let between = g.H.Shelf.faults c.values_under.new.shelf in
+    let after = g.H.Shelf.faults c.plan_under.new.shelf in
+    let stop = c.in_err-plan.field-0.0 in
+    err-passed c.from_residual-in_err-plan.result stop (IsScaleStop c.args.values.now c.args.plan.now tells (Rises counts after)) c.from_residual-in_err-plan.ensures.1
+    (scale-stop c.args.values.now c.args.plan.now tells (g.H.Shelf.tells c.values_under.new.shelf) counts between after c.in_ok-values.values stop
+    c.in_ok-values.ensures.values c.in_ok-values.ensures.kept c.in_ok-values.ensures.later c.in_err-plan.ensures.cause)

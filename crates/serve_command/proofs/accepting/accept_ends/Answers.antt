@@ -1,4 +1,5 @@
 use Rattle.std.proofs.Common.{◌<◌, ◌∙◌, length, refl, sym, ap, subst, arith}
+use Rattle.command_io.specs.declared.stop.Stop.TheVariants.{Listener}
 use Rattle.serve_command.specs.Accepted.{TookFirst, HasRoomFor}
 use Rattle.serve_command.proofs.AcceptedLemmas.{TookFirst-none, TookAndGave-both, short-some}
 use Rattle.serve_command.proofs.StepLemmas.{Rose-before, Rose-behind}
@@ -33,5 +34,5 @@ returns-in-Err-clause-short g c =
     let fewer : length taken < c.args.count = omega (arith, long, many, more) in
     let took : TookFirst a b taken = subst (λ x. TookFirst a x taken) (sym c.in-Err.ensures.none) inv.0 in
     let served = TookAndGave-both a b after taken taken c.requires.room refl took (λ room. c.give_back.ensures.given (subst (HasRoomFor b) (sym long) room)) in
-    short-some c.args.count a after taken _ 7 served fewer
+    short-some c.args.count a after taken _ Listener served fewer
     (Rose-before _ _ _ (Rose-behind _ _ _ inv.6 c.in-Err.ensures.failed) c.give_back.ensures.later_accept) refl

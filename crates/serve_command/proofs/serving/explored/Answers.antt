@@ -38,5 +38,5 @@ returns-in_ok-text_of-in-Ok-clause-sat g c =
     (record {
       joined = told.text ∙ ap (λ endings. explore_text explore.opening.table explore.opening.settings H ++ sessions_text (map words_of endings)) c.deref.ensures.value;
       spells = told.spells;
-      finished = told.finished;
+      ending = told.ending;
     })

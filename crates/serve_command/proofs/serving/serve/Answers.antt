@@ -1,79 +1,82 @@
-use Rattle.std.proofs.Common.{◌≡◌, ◌⊎◌, [], true, subst}
+use Rattle.std.proofs.Common.{◌∙◌, ◌⊎◌, inr, sym, ap, subst}
+use Rattle.std.proofs.lemmas.Result.{IfOk-weaker, IfErr-weaker}
 use Rattle.std.specs.Prelude.{option_copied}
-use Rattle.std.specs.Io.KnownBytes.{Appends}
 use Rattle.fca_model.specs.Tables.{Text}
 use Rattle.fca_io.specs.Faults.{Rose}
-use Rattle.fca_io.specs.Links.{MayListenAt}
-use Rattle.fca_io.specs.Transfers.{AppendsFront}
-use Rattle.command_io.specs.ErrLines.{GainsLine, file_at_fault}
-use Rattle.command_io.proofs.ErrLemmas.{conclude-told}
-use Rattle.serve_command.specs.Served.{IsServeStop}
-use Rattle.serve_command.proofs.EndingLemmas.{call-ends, call-read_fault, call-listener_fault, call-whole, call-front, call-back, silent-same, unread-same, made-ok, told-by}
+use Rattle.explore_state.specs.History.{Opening}
+use Rattle.command_io.specs.Readings.{Rises}
+use Rattle.command_io.proofs.ErrLemmas.{err-passed}
+use Rattle.command_io.specs.Known.{start_of}
+use Rattle.serve_command.specs.Served.{IsAnswer}
+use Rattle.serve_command.proofs.StepLemmas.{expert-range, any-err, early-back, short-back, risen-ends, sat-answer, memory-serve, link-serve, heard, heard-refused}
 use Rattle.serve_command.proofs.serving.serve.Goals as goal
 
-pub returns-clause-status : goal.returns-clause-status
-returns-clause-status g c =
-    let answer = c.exploration-answer in
-    let end = c.conclude.ensures in
-    call-ends _ _ _ _ _ _ _ _ _ _ _ c.conclude.result answer.result end.answered end.stopped answer.ensures.answer answer.ensures.stop
+pub returns-in_err-start-clause-ends : goal.returns-in_err-start-clause-ends
+returns-in_err-start-clause-ends g c =
+    let range = expert-range c.args.experts c.requires.experts in
+    any-err c.from_residual.result _ (λ s. early-back _ _ _ _ c.args.experts _ _ range.0)
 
-pub returns-clause-read_fault : goal.returns-clause-read_fault
-returns-clause-read_fault g c = λ three.
-    let answer = c.exploration-answer in
-    let end = c.conclude.ensures in
-    call-read_fault _ _ _ c.conclude.result answer.result end.answered end.stopped answer.ensures.stop three
+pub returns-in_err-explore-clause-ends : goal.returns-in_err-explore-clause-ends
+returns-in_err-explore-clause-ends g c =
+    let range = expert-range c.args.experts c.requires.experts in
+    any-err c.from_residual-in_err-explore.result _ (λ s. early-back _ _ _ _ c.args.experts _ _ range.0)
 
-pub returns-clause-listener_fault : goal.returns-clause-listener_fault
-returns-clause-listener_fault g c = λ seven.
-    let answer = c.exploration-answer in
-    let end = c.conclude.ensures in
-    let RoseAt : Text → Type 0 = λ address. Rose (g.L.Listener.open_faults c.args.link.now address) (g.L.Listener.open_faults answer.new.link address)
-    ⊎ Rose (g.L.Listener.accept_faults c.args.link.now) (g.L.Listener.accept_faults answer.new.link) in
-    subst RoseAt c.bytes.ensures (call-listener_fault _ _ _ c.conclude.result answer.result end.answered end.stopped answer.ensures.stop seven)
+pub ends_at-requires-clause-some : goal.ends_at-requires-clause-some
+ends_at-requires-clause-some g c κs within = (expert-range c.args.experts c.requires.experts).0
 
-pub returns-clause-whole_output : goal.returns-clause-whole_output
-returns-clause-whole_output g c = λ whole.
-    let answer = c.exploration-answer in
-    let end = c.conclude.ensures in
-    call-whole _ _ _ _ _ _ _ _ _ ⊥ ⊥ c.conclude.result answer.result (Appends (g.K.Sink.held c.args.out.now) (g.K.Sink.held c.conclude.new.out))
-    whole (end.made whole) end.answered answer.ensures.answer (end.whole whole)
+pub returns-in_err-ends-clause-refused : goal.returns-in_err-ends-clause-refused
+returns-in_err-ends-clause-refused g c =
+    err-passed c.from_residual-in_err-ends.result c.in_err-ends.field-0.0 _ c.from_residual-in_err-ends.ensures.1
+    (heard-refused _ _ c.in_err-ends.ensures.short.cause)
 
-pub returns-clause-partial_output : goal.returns-clause-partial_output
-returns-clause-partial_output g c = λ four.
-    let answer = c.exploration-answer in
-    let end = c.conclude.ensures in
-    call-front _ _ _ _ _ _ _ _ _ _ _ c.conclude.result answer.result (AppendsFront (g.K.Sink.held c.args.out.now) (g.K.Sink.held c.conclude.new.out))
-    four end.stopped answer.ensures.stop answer.ensures.answer (end.front four)
+pub returns-in_err-ends-clause-ends : goal.returns-in_err-ends-clause-ends
+returns-in_err-ends-clause-ends g c =
+    err-passed c.from_residual-in_err-ends.result c.in_err-ends.field-0.0 _ c.from_residual-in_err-ends.ensures.1
+    (short-back _ _ _ _ _ _ _ _ _ c.in_err-ends.ensures.short)
 
-pub returns-clause-no_output : goal.returns-clause-no_output
-returns-clause-no_output g c = λ silent.
-    let answer = c.exploration-answer in
-    let end = c.conclude.ensures in
-    silent-same answer.result c.conclude.result (c.conclude.new.out ≡ c.args.out.now) end.answered end.nothing silent
+pub explored-requires-clause-count : goal.explored-requires-clause-count
+explored-requires-clause-count g c κs within =
+    let experts = ap (λ (o : Opening). o.experts) c.in_ok-explore.ensures.opening in
+    let many = c.in_ok-ends.ensures.count in
+    experts ∙ sym many
+
+pub returns-clause-answer : goal.returns-clause-answer
+returns-clause-answer g c =
+    let o : Opening = c.in_ok-explore.explore.opening in
+    let is = c.in_ok-explore.ensures.opening in
+    let many = sym c.in_ok-ends.ends.ok.0 ∙ c.in_ok-ends.ensures.count ∙ sym (ap (λ (p : Opening). p.experts) is) in
+    IfOk-weaker c.explored.result _ _ (λ answer sat. (
+      start_of c.in_ok-start.start,
+      c.in_ok-start.ensures.start,
+      subst (λ (p : Opening). IsAnswer g.L.End.Source.left g.L.End.Sink.held g.L.End.Source.faults g.L.End.Sink.faults p (g.L.Listener.ends c.args.link.now) (g.L.Listener.ends c.explored.new.link) answer) is
+          (sat-answer _ _ _ _ o _ _ _ _ _ c.in_ok-ends.ensures.within c.in_ok-ends.ensures.taken many sat),
+    ))
+    c.explored.ensures.sat
+
+pub returns-clause-refused : goal.returns-clause-refused
+returns-clause-refused g c = IfErr-weaker c.explored.result _ _ (λ stop memory. heard-refused stop _ (inr memory)) c.explored.ensures.cause
 
 pub returns-clause-ends : goal.returns-clause-ends
 returns-clause-ends g c =
-    let answer = c.exploration-answer in
-    let end = c.conclude.ensures in
-    call-back _ _ _ _ _ _ _ _ _ ⊥ ⊥ c.conclude.result answer.result end.answered end.stopped answer.ensures.answer answer.ensures.ends
+    let many = sym c.in_ok-ends.ends.ok.0 ∙ c.in_ok-ends.ensures.count in
+    risen-ends _ _ _ _ _ _ _ _ _ c.explored.result c.in_ok-ends.ensures.within c.in_ok-ends.ensures.taken many c.explored.ensures.risen c.explored.ensures.cause
 
-pub returns-clause-listens : goal.returns-clause-listens
-returns-clause-listens g c = λ whole.
-    let answer = c.exploration-answer in
-    let ListensAt : Text → Type 0 = λ address. (g.L.Listener.listens answer.new.link ≡ true) × MayListenAt (g.L.Listener.listens_at answer.new.link) address in
-    subst ListensAt c.bytes.ensures (made-ok answer.result _ (c.conclude.ensures.made whole) answer.ensures.listens)
+pub returns-in_err-ends-clause-cause : goal.returns-in_err-ends-clause-cause
+returns-in_err-ends-clause-cause g c =
+    let RoseAt : Text → Type 0 = λ address. Rises (g.L.Listener.open_faults c.args.link.now) (g.L.Listener.open_faults c.ends_at.new.link) address
+    ⊎ Rose (g.L.Listener.accept_faults c.args.link.now) (g.L.Listener.accept_faults c.ends_at.new.link) in
+    let short = c.in_err-ends.ensures.short in
+    err-passed c.from_residual-in_err-ends.result c.in_err-ends.field-0.0 _ c.from_residual-in_err-ends.ensures.1
+    (link-serve c.args.file.now (option_copied c.args.known) (g.H.Shelf.tells c.args.shelf.now) _ _ (start_of c.in_ok-start.start) _ c.in_ok-start.ensures.start
+    (λ listener. subst RoseAt c.bytes.ensures (short.fault listener)) short.cause)
 
-pub returns-clause-told : goal.returns-clause-told
-returns-clause-told g c =
-    let answer = c.exploration-answer in
-    let end = c.conclude.ensures in
-    let Told : Text → Type 0 = GainsLine (g.E.Sink.held c.args.err.now) (g.E.Sink.held c.conclude.new.err) (g.E.Sink.faults c.args.err.now) (g.E.Sink.faults c.conclude.new.err) in
-    let known = option_copied c.args.known in
-    conclude-told Told (IsServeStop c.args.file.now known (g.H.Shelf.tells c.args.shelf.now)) (file_at_fault c.args.file.now known []) answer.result c.conclude.result end.answered end.stopped
-    answer.ensures.cause (told-by Told (file_at_fault c.args.file.now known []) c.name_at_fault-name.result.now answer.result c.name_at_fault-name.ensures end.told) end.told_fault
+pub returns-clause-cause : goal.returns-clause-cause
+returns-clause-cause g c = IfErr-weaker c.explored.result _ _ (λ stop memory. memory-serve c.args.file.now (option_copied c.args.known) (g.H.Shelf.tells c.args.shelf.now) _ _ stop memory) c.explored.ensures.cause
+
+pub returns-in_err-ends-clause-unheard : goal.returns-in_err-ends-clause-unheard
+returns-in_err-ends-clause-unheard g c =
+    err-passed c.from_residual-in_err-ends.result c.in_err-ends.field-0.0 _ c.from_residual-in_err-ends.ensures.1
+    (heard _ _ c.in_err-ends.ensures.short.cause)
 
 pub returns-clause-unheard : goal.returns-clause-unheard
-returns-clause-unheard g c = λ unread.
-    let answer = c.exploration-answer in
-    let end = c.conclude.ensures in
-    unread-same c.conclude.result answer.result (answer.new.link ≡ c.args.link.now) end.answered end.stopped answer.ensures.unheard unread
+returns-clause-unheard g c = IfErr-weaker c.explored.result _ _ (λ stop memory. heard stop _ (inr memory)) c.explored.ensures.cause

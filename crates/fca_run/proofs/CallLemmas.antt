@@ -1,0 +1,433 @@
+-- What a command comes to is that of the crate that runs it, and what is touched besides is nothing; and a call writes what its command came to.
+use Rattle.std.proofs.Common.{◌≡◌, ◌⊎◌, ◌∙◌, ◌++◌, [], ℕ, List, ◌∷◌, Bool, true, false, map, Option, Some, None, Result, Ok, Err, inl, inr, refl, sym, ap, subst, append-nil, arith}
+use Rattle.std.specs.Prelude.{IfOk, IfErr, OnOk}
+use Rattle.std.specs.Io.KnownBytes.{IsAtEnd}
+use Rattle.std.proofs.lemmas.Result.{IfOk-weaker, IfErr-weaker}
+use Rattle.fca_model.specs.Tables.{Text}
+use Rattle.fca_model.specs.Implications.{Rule}
+use Rattle.fca_io.specs.Faults.{Rose}
+use Rattle.fca_io.specs.Links.{Ends, MayListenAt}
+use Rattle.explore_state.specs.History.{Opening}
+use Rattle.basis_report.specs.Explorations.{explore_text, Spells}
+use Rattle.basis_report.specs.Conflicts.{conflicts_text}
+use Rattle.basis_report.specs.Sessions.{sessions_text}
+use Rattle.fca_model.specs.Exploration.{rules_of}
+use Rattle.fca_command.specs.Commands.{reported, files_of, first_of, reads_input, may_end_open, is_plain}
+use Rattle.fca_command.specs.declared.command.Command.{Command}
+use Rattle.fca_command.specs.declared.command.Command.TheVariants.{Concepts, Lattice, Basis, Direct, Follows, Convert, Reduce, Arrows, Scale, Replay, Explore, Serve, Make, Survey}
+use Rattle.fca_command.specs.declared.recipe.Recipe.{Recipe}
+use Rattle.command_io.specs.Readings.{Reading, then, MayRead, MayRefuse, Rises}
+use Rattle.command_io.specs.Readings.Reading.{Read}
+use Rattle.command_io.specs.Known.{Start, start_read}
+use Rattle.command_io.specs.Endings.{Output, Outcome, finished, ending_of, IsRefusal, IsUnread, MayBecome}
+use Rattle.command_io.specs.Endings.Outcome.{Written, CutOff, Stopped}
+use Rattle.command_io.specs.ErrLines.{stop_line, stop_origin, file_from, line_of}
+use Rattle.command_io.specs.declared.stop.Origin.{Origin}
+use Rattle.command_io.specs.declared.stop.Origin.TheVariants.{File, Known, Later, Input}
+use Rattle.command_io.specs.Explorations.{Recorded, last_state, open_at}
+use Rattle.command_io.specs.Streams.{Moment, GainsLine, HasConcluded}
+use Rattle.command_io.specs.declared.answer.Ending.{Ending}
+use Rattle.command_io.specs.declared.answer.Ending.TheVariants.{Finished, Open, Spent}
+use Rattle.command_io.specs.declared.stop.Stop.{Stop}
+use Rattle.command_io.specs.declared.stop.Stop.TheVariants.{Listener, Memory}
+use Rattle.command_io.proofs.ReadingLemmas.{refused_then}
+use Rattle.replay_command.specs.Replayed.{replayed, exploration_output, MayReplay}
+use Rattle.explore_command.specs.Panels.{Panel, panel_read, IsPanelStop}
+use Rattle.explore_command.specs.Played.{dropped_in, played, panel_ending, MayPlay}
+use Rattle.serve_command.specs.Openings.{opened_by}
+use Rattle.serve_command.specs.Served.{served, words_of, MayServe, IsServeStop, GaveAllBack}
+use Rattle.serve_command.proofs.AcceptedLemmas.{TookAndGave-none}
+use Rattle.fca_run.specs.Causes.{fault_file}
+use Rattle.fca_run.specs.Outputs.{output, survey_output}
+use Rattle.fca_run.specs.Calls.{ShelfMoment, LinkMoment, Sides, Outside, outside, unlinked, TellsExploration, HasCourse, MayEnd, read_by, IsGiven, IsBlamed, FaultRose, LinkFaultRose, IsCommandStop, HasGivenBack, MayListen, ComesTo, CallComesTo}
+use Rattle.fca_run.proofs.BlameLemmas.{stop-blamed, given-comes}
+
+-- ---- results
+
+any-err : {X F : Type 0} (r : Result X F) (P : F → Type 0) → ((e : F) → P e) → IfErr r P
+any-err (Ok x) P all = tt
+any-err (Err e) P all = all e
+
+pub any-ok : {X F : Type 0} (r : Result X F) (P : Type 0) → P → OnOk r P
+any-ok (Ok x) P p = p
+any-ok (Err e) P p = tt
+
+-- ---- the headline
+
+-- the text of a panel tells of one exploration
+play-tells : (reading : Reading Panel) (answer : Output) → MayPlay reading answer → TellsExploration answer.text
+play-tells reading answer play =
+    let p = play.panel in
+    let is = play.is in
+    record {
+      told = played p is.history;
+      later = conflicts_text p.table.attributes (rules_of (last_state (played p is.history))) (dropped_in is.history 1 p.experts);
+      printed = is.whole;
+      spells = record { history = is.spells; settings = is.settings };
+      explored = is.course;
+    }
+
+pub replay-tells : (reading : Reading Recorded) (answer : Output) → MayReplay reading answer → TellsExploration answer.text
+replay-tells reading answer replay =
+    let r = replay.made in
+    let text : Text = explore_text r.opening.table r.opening.settings r.journal in
+    let is : answer.text ≡ text = ap (λ (o : Output). o.text) replay.output in
+    record {
+      told = r;
+      later = [];
+      printed = is ∙ sym (append-nil text);
+      spells = subst (Spells r.opening.table r.opening.settings r.journal) (sym is) replay.is.spells;
+      explored = replay.is.course;
+    }
+
+-- ---- how texts end
+
+panel-ends : (file : Text) (known : Option Text) (names : Bool) (experts : List Text) (spent : Bool) → MayEnd (Explore file known names experts) (panel_ending spent)
+panel-ends file known names experts true = tt
+panel-ends file known names experts false = tt
+
+questions-end : (command : Command) (questions : List Rule) → may_end_open command ≡ true → MayEnd command (ending_of questions)
+questions-end command [] may = tt
+questions-end command (question ∷ later) may = may
+
+pub finished-ends : (command : Command) (ending : Ending) → ending ≡ Finished → MayEnd command ending
+finished-ends command ending e = subst (MayEnd command) (sym e) tt
+
+pub replay-ends : (file : Text) (known : Option Text) (reading : Reading Recorded) (answer : Output) → MayReplay reading answer → MayEnd (Replay file known) answer.ending
+replay-ends file known reading answer replay =
+    subst (MayEnd (Replay file known)) (sym (ap (λ (o : Output). o.ending) replay.output)) (questions-end (Replay file known) (open_at replay.made) refl)
+
+-- ---- explorations by oracles
+
+module _ {H S D E : Type 0} (talk : Sides E) (s s' : ShelfMoment H) (input : Moment S) (link : LinkMoment D E) where
+  pub explore-comes : (file : Text) (known : Option Text) (names : Bool) (experts : List Text) (came : Result Output Stop)
+      → IfOk came (MayPlay (panel_read file known names experts s.tells))
+      → IfErr came (λ stop. (IsRefusal stop → MayRefuse (panel_read file known names experts s.tells)))
+      → IfErr came (IsPanelStop file known experts s.tells (Rises s.faults s'.faults))
+      → ComesTo talk (Explore file known names experts) (outside s input link) (outside s' input link) came
+  explore-comes file known names experts came answers refuses causes =
+      let command : Command = Explore file known names experts in
+      let old : Outside H S D E = outside s input link in
+      let new : Outside H S D E = outside s' input link in
+      let reading : Reading Panel = panel_read file known names experts s.tells in
+      let Refuses : Stop → Type 0 = λ stop. (IsRefusal stop → MayRefuse (read_by command old)) in
+      let refusals : IfErr came Refuses =
+      IfErr-weaker came (λ stop. (IsRefusal stop → MayRefuse reading)) Refuses (λ stop may. λ refusal. refused_then reading (λ _. Read tt) (may refusal)) refuses in
+      let blames : IfErr came (IsBlamed (FaultRose command old new) (LinkFaultRose command old new)) =
+      IfErr-weaker came (IsCommandStop command old new) (IsBlamed (FaultRose command old new) (LinkFaultRose command old new)) (λ stop is. stop-blamed command old new stop is) causes in
+      record {
+        answer = answers;
+        ending = IfOk-weaker came (MayPlay reading) (λ answer. MayEnd command answer.ending)
+            (λ answer play. subst (MayEnd command) (sym play.ending) (panel-ends file known names experts play.spent)) answers;
+        course = IfOk-weaker came (MayPlay reading) (λ answer. HasCourse command answer.text) (λ answer play. play-tells reading answer play) answers;
+        cause = causes;
+        refused = refusals;
+        blamed = blames;
+        complete = λ given. given-comes (read_by command old) (FaultRose command old new) (LinkFaultRose command old new) came blames refusals given;
+        read_to_end = λ reads. cc;
+        input_kept = λ _. refl;
+        link_kept = λ _. refl;
+        unheard = any-err came (λ stop. (IsUnread stop → link ≡ link)) (λ stop. λ _. refl);
+        listens = any-ok came (MayListen command link) tt;
+        given_back = tt;
+      }
+
+-- ---- sessions of experts
+
+module _ {E : Type 0} (talk : Sides E) where
+  serve-tells : (reading : Reading Start) (experts holders : ℕ) (old new : Option (Ends E)) (answer : Output)
+      → MayServe talk.left talk.held talk.reads talk.writes reading experts holders old new answer → TellsExploration answer.text
+  serve-tells reading experts holders old new answer serve =
+      let o : Opening = opened_by experts holders serve.0 in
+      let is = serve.2.is in
+      record {
+        told = served o is.history;
+        later = sessions_text (map words_of is.endings);
+        printed = is.text;
+        spells = record { history = is.spells; settings = is.settings };
+        explored = is.course;
+      }
+
+  serve-ends : (file : Text) (known : Option Text) (listen : Text) (reading : Reading Start) (experts holders : ℕ) (old new : Option (Ends E)) (answer : Output)
+      → MayServe talk.left talk.held talk.reads talk.writes reading experts holders old new answer → MayEnd (Serve file known experts holders listen) answer.ending
+  serve-ends file known listen reading experts holders old new answer serve =
+      let command : Command = Serve file known experts holders listen in
+      let is = serve.2.is in
+      subst (MayEnd command) (sym is.ending) (questions-end command (open_at (served (opened_by experts holders serve.0) is.history)) refl)
+
+  serve-back : (reading : Reading Start) (experts holders : ℕ) (old new : Option (Ends E)) (came : Result Output Stop)
+      → IfOk came (MayServe talk.left talk.held talk.reads talk.writes reading experts holders old new)
+      → IfErr came (λ stop. GaveAllBack talk.left talk.held talk.reads talk.writes experts old new (stop ≡ Listener))
+      → GaveAllBack talk.left talk.held talk.reads talk.writes experts old new (came ≡ Err Listener)
+  serve-back reading experts holders old new (Ok answer) serve back =
+      let is = serve.2 in
+      let many = is.count in
+      record {
+        before = is.before;
+        after = is.after;
+        ends = is.ends;
+        talked = inr (serve.0.table, is.is.history, is.is.endings, is.is.talks);
+        few = omega arith;
+        fewer = λ failed. cc;
+      }
+  serve-back reading experts holders old new (Err stop) serve back = record {
+    before = back.before;
+    after = back.after;
+    ends = back.ends;
+    talked = back.talked;
+    few = back.few;
+    fewer = λ failed. (let listener : stop ≡ Listener = cc in back.fewer listener);
+  }
+
+module _ {H S D E : Type 0} (talk : Sides E) (s s' : ShelfMoment H) (input : Moment S) (link link' : LinkMoment D E) where
+  pub serve-comes : (file : Text) (known : Option Text) (experts holders : ℕ) (listen : Text) (came : Result Output Stop)
+      → IfOk came (MayServe talk.left talk.held talk.reads talk.writes (start_read file known s.tells) experts holders link.ends link'.ends)
+      → OnOk came ((link'.listens ≡ true) × MayListenAt link'.listens_at listen)
+      → IfErr came (λ stop. (IsRefusal stop → MayRefuse (start_read file known s.tells)))
+      → IfErr came (IsServeStop file known s.tells (Rises s.faults s'.faults) (Rises link.open_faults link'.open_faults listen ⊎ Rose link.accept_faults link'.accept_faults))
+      → IfErr came (λ stop. (IsUnread stop → link' ≡ link))
+      → IfErr came (λ stop. GaveAllBack talk.left talk.held talk.reads talk.writes experts link.ends link'.ends (stop ≡ Listener))
+      → ComesTo talk (Serve file known experts holders listen) (outside s input link) (outside s' input link') came
+  serve-comes file known experts holders listen came answers listening refuses causes unread back =
+      let command : Command = Serve file known experts holders listen in
+      let old : Outside H S D E = outside s input link in
+      let new : Outside H S D E = outside s' input link' in
+      let reading : Reading Start = start_read file known s.tells in
+      let Refuses : Stop → Type 0 = λ stop. (IsRefusal stop → MayRefuse (read_by command old)) in
+      let refusals : IfErr came Refuses =
+      IfErr-weaker came (λ stop. (IsRefusal stop → MayRefuse reading)) Refuses (λ stop may. λ refusal. refused_then reading (λ _. Read tt) (may refusal)) refuses in
+      let blames : IfErr came (IsBlamed (FaultRose command old new) (LinkFaultRose command old new)) =
+      IfErr-weaker came (IsCommandStop command old new) (IsBlamed (FaultRose command old new) (LinkFaultRose command old new)) (λ stop is. stop-blamed command old new stop is) causes in
+      let Serves : Output → Type 0 = MayServe talk.left talk.held talk.reads talk.writes reading experts holders link.ends link'.ends in
+      record {
+        answer = answers;
+        ending = IfOk-weaker came Serves (λ answer. MayEnd command answer.ending)
+            (λ answer serve. serve-ends talk file known listen reading experts holders link.ends link'.ends answer serve) answers;
+        course = IfOk-weaker came Serves (λ answer. HasCourse command answer.text)
+            (λ answer serve. serve-tells talk reading experts holders link.ends link'.ends answer serve) answers;
+        cause = causes;
+        refused = refusals;
+        blamed = blames;
+        complete = λ given. given-comes (read_by command old) (FaultRose command old new) (LinkFaultRose command old new) came blames refusals given;
+        read_to_end = λ reads. cc;
+        input_kept = λ _. refl;
+        link_kept = λ unused. cc;
+        unheard = unread;
+        listens = listening;
+        given_back = serve-back talk reading experts holders link.ends link'.ends came answers back;
+      }
+
+-- ---- a survey
+
+module _ {H S D E : Type 0} (talk : Sides E) (s : ShelfMoment H) (input : Moment S) (link : LinkMoment D E) where
+  pub survey-comes : (r : Recipe) (experts : ℕ) (came : Result Output Stop) → IfOk came (λ answer. answer ≡ survey_output r) → IfErr came (λ stop. stop ≡ Memory)
+      → ComesTo talk (Survey r.seed r.objects r.attributes r.density experts) (outside s input link) (outside s input link) came
+  survey-comes r experts came answers causes =
+      let command : Command = Survey r.seed r.objects r.attributes r.density experts in
+      let old : Outside H S D E = outside s input link in
+      let Refuses : Stop → Type 0 = λ stop. (IsRefusal stop → MayRefuse (read_by command old)) in
+      let refusals : IfErr came Refuses = IfErr-weaker came (λ stop. stop ≡ Memory) Refuses (λ stop memory. λ refusal. absurd (subst IsRefusal memory refusal)) causes in
+      let blames : IfErr came (IsBlamed (FaultRose command old old) (LinkFaultRose command old old)) =
+      IfErr-weaker came (λ stop. stop ≡ Memory) (IsBlamed (FaultRose command old old) (LinkFaultRose command old old)) (λ stop is. stop-blamed command old old stop is) causes in
+      record {
+        answer = answers;
+        ending = IfOk-weaker came (λ answer. answer ≡ survey_output r) (λ answer. MayEnd command answer.ending)
+            (λ answer is. finished-ends command answer.ending (ap (λ (o : Output). o.ending) is)) answers;
+        course = any-ok came (Unit {0}) tt;
+        cause = causes;
+        refused = refusals;
+        blamed = blames;
+        complete = λ given. given-comes (read_by command old) (FaultRose command old old) (LinkFaultRose command old old) came blames refusals given;
+        read_to_end = λ reads. cc;
+        input_kept = λ _. refl;
+        link_kept = λ _. refl;
+        unheard = any-err came (λ stop. (IsUnread stop → link ≡ link)) (λ stop. λ _. refl);
+        listens = any-ok came (Unit {0}) tt;
+        given_back = tt;
+      }
+
+-- ---- commands that wait for nobody
+
+module _ {H S D E : Type 0} (talk : Sides E) (s s' : ShelfMoment H) (input input' : Moment S) (link : LinkMoment D E) where
+  module _ (came : Result Output Stop) where
+    -- the same of each of them
+    plainly : (command : Command) → is_plain command ≡ true
+        → IfOk came (MayRead (output command s.tells input.bytes))
+        → IfOk came (λ answer. MayEnd command answer.ending)
+        → IfOk came (λ answer. HasCourse command answer.text)
+        → IfErr came (IsCommandStop command (outside s input unlinked) (outside s' input' unlinked))
+        → IfErr came (λ stop. (IsRefusal stop → MayRefuse (then {Y = Unit {0}} (output command s.tells input.bytes) (λ _. Read tt))))
+        → IfErr came (IsBlamed (FaultRose command (outside s input unlinked) (outside s' input' unlinked)) ⊥)
+        → (IsGiven (then {Y = Unit {0}} (output command s.tells input.bytes) (λ _. Read tt))
+        → IfErr came (λ stop. (stop ≡ Memory) ⊎ (FaultRose command (outside s input unlinked) (outside s' input' unlinked) ⊎ ⊥)))
+        → (reads_input command ≡ true → OnOk came (IsAtEnd input'.bytes))
+        → (reads_input command ≡ false → input' ≡ input)
+        → ComesTo talk command (outside s input link) (outside s' input' link) came
+    plainly (Explore file known names experts) plain answers ends courses causes refuses blames completes at_end kept = cc
+    plainly (Serve file known experts holders listen) plain answers ends courses causes refuses blames completes at_end kept = cc
+    plainly (Survey seed objects attributes density experts) plain answers ends courses causes refuses blames completes at_end kept = cc
+    plainly _ plain answers ends courses causes refuses blames completes at_end kept = record {
+      answer = answers;
+      ending = ends;
+      course = courses;
+      cause = causes;
+      refused = refuses;
+      blamed = blames;
+      complete = completes;
+      read_to_end = at_end;
+      input_kept = kept;
+      link_kept = λ _. refl;
+      unheard = any-err came (λ stop. (IsUnread stop → link ≡ link)) (λ stop. λ _. refl);
+      listens = any-ok came (Unit {0}) tt;
+      given_back = tt;
+    }
+
+    plain-unlinked : (command : Command) (R : Type 0) (stop : Stop) → is_plain command ≡ true
+        → IsBlamed R (LinkFaultRose command (outside s input unlinked) (outside s' input' unlinked)) stop → IsBlamed R ⊥ stop
+    plain-unlinked (Explore file known names experts) R stop plain blamed = cc
+    plain-unlinked (Serve file known experts holders listen) R stop plain blamed = cc
+    plain-unlinked (Survey seed objects attributes density experts) R stop plain blamed = cc
+    plain-unlinked _ R stop plain blamed = blamed
+
+    pub plain-comes : (command : Command) → is_plain command ≡ true
+        → IfOk came (MayRead (output command s.tells input.bytes))
+        → IfOk came (λ answer. MayEnd command answer.ending)
+        → IfOk came (λ answer. HasCourse command answer.text)
+        → IfErr came (IsCommandStop command (outside s input unlinked) (outside s' input' unlinked))
+        → IfErr came (λ stop. (IsRefusal stop → MayRefuse (output command s.tells input.bytes)))
+        → (reads_input command ≡ true → OnOk came (IsAtEnd input'.bytes))
+        → (reads_input command ≡ false → input' ≡ input)
+        → ComesTo talk command (outside s input link) (outside s' input' link) came
+    plain-comes command plain answers ends courses causes refuses at_end kept =
+        let old : Outside H S (Unit {0}) (Unit {0}) = outside s input unlinked in
+        let new : Outside H S (Unit {0}) (Unit {0}) = outside s' input' unlinked in
+        let R : Type 0 = FaultRose command old new in
+        let reading : Reading (Unit {0}) = then (output command s.tells input.bytes) (λ _. Read tt) in
+        let Refuses : Stop → Type 0 = λ stop. (IsRefusal stop → MayRefuse reading) in
+        let refusals : IfErr came Refuses =
+        IfErr-weaker came (λ stop. (IsRefusal stop → MayRefuse (output command s.tells input.bytes))) Refuses
+        (λ stop may. λ refusal. refused_then (output command s.tells input.bytes) (λ _. Read tt) (may refusal)) refuses in
+        let blames : IfErr came (IsBlamed R ⊥) =
+        IfErr-weaker came (IsCommandStop command old new) (IsBlamed R ⊥) (λ stop is. plain-unlinked command R stop plain (stop-blamed command old new stop is)) causes in
+        plainly command plain answers ends courses causes refusals blames (λ given. given-comes reading R ⊥ came blames refusals given) at_end kept
+
+-- ---- want of memory for the words
+
+module _ {H S D E : Type 0} (talk : Sides E) (old : Outside H S D E) where
+  memory-causes : (command : Command) → IsCommandStop command old old Memory
+  memory-causes (Scale values plan) = inl tt
+  memory-causes (Replay file known) = inl (inl tt)
+  memory-causes (Explore file known names experts) = inl (inl tt)
+  memory-causes (Serve file known experts holders listen) = inl (inl tt)
+  memory-causes (Make seed objects attributes density) = refl
+  memory-causes (Survey seed objects attributes density experts) = refl
+  memory-causes _ = inl tt
+
+  -- no end was accepted and none given back
+  memory-back : (command : Command) → HasGivenBack talk command old.link old.link (Err Memory)
+  memory-back (Serve file known experts holders listen) = record {
+    before = [];
+    after = [];
+    ends = TookAndGave-none old.link.ends;
+    talked = inl refl;
+    few = omega arith;
+    fewer = λ failed. cc;
+  }
+  memory-back _ = tt
+
+  memory-comes : (command : Command) → ComesTo talk command old old (Err Memory)
+  memory-comes command = record {
+    answer = tt;
+    ending = tt;
+    course = tt;
+    cause = memory-causes command;
+    refused = λ refusal. absurd refusal;
+    blamed = tt;
+    complete = λ given. inl refl;
+    read_to_end = λ reads. tt;
+    input_kept = λ _. refl;
+    link_kept = λ _. refl;
+    unheard = λ _. refl;
+    listens = tt;
+    given_back = memory-back command;
+  }
+
+  pub call-memory : (call : Option Command) → CallComesTo talk call old old (Err Memory)
+  call-memory None = (inr refl, refl)
+  call-memory (Some command) = memory-comes command
+
+-- ---- what is done with it
+
+-- two streams, of which the second got the line of what became of this
+module _ {K F : Type 0} (came : Result Output Stop) (out out' : Moment K) (err err' : Moment F) (result : ℕ) where
+  -- names that agree on what came
+  relined : (f g : Stop → Text) → ((outcome : Outcome) → MayBecome came outcome → line_of f outcome ≡ line_of g outcome)
+      → HasConcluded came f out out' err err' result → HasConcluded came g out out' err err' result
+  relined f g same concluded = record {
+    outcome = concluded.outcome;
+    became = concluded.became;
+    status = concluded.status;
+    text = concluded.text;
+    line = (let Gains : Option Text → Type 0 = λ line. GainsLine line err err' in subst Gains (same concluded.outcome concluded.became) concluded.line);
+  }
+
+line-named : (name : Text) (file : Stop → Text) (came : Result Output Stop) (outcome : Outcome) → IfErr came (λ stop. name ≡ file stop) → MayBecome came outcome
+    → line_of (λ _. name) outcome ≡ line_of file outcome
+line-named name file came (Written answer) named became = refl
+line-named name file came (CutOff answer) named became = refl
+line-named name file (Ok answer) (Stopped stop) named (inl became) = cc
+line-named name file (Ok answer) (Stopped stop) named (inr became) = cc
+line-named name file (Err other) (Stopped stop) named became =
+    let same : other ≡ stop = cc in
+    let P : Stop → Type 0 = λ t. name ≡ file t in
+    ap (λ f. Some (stop_line f stop)) (subst P same named)
+
+line-memory : (f g : Stop → Text) (outcome : Outcome) → outcome ≡ Stopped Memory → line_of f outcome ≡ line_of g outcome
+line-memory f g outcome e = ap (line_of f) e ∙ sym (ap (line_of g) e)
+
+module _ {K F : Type 0} (out out' : Moment K) (err err' : Moment F) (result : ℕ) where
+  -- the name of the file at fault, if one is
+  pub concluded-named : (name : Text) (file : Stop → Text) (came : Result Output Stop) → IfErr came (λ stop. name ≡ file stop)
+      → HasConcluded came (λ _. name) out out' err err' result → HasConcluded came file out out' err err' result
+  concluded-named name file came named concluded =
+      relined came out out' err err' result (λ _. name) file (λ outcome became. line-named name file came outcome named became) concluded
+
+  -- the line of want of memory has no name
+  pub concluded-memory : (f g : Stop → Text) → HasConcluded (Err Memory) f out out' err err' result → HasConcluded (Err Memory) g out out' err err' result
+  concluded-memory f g concluded = relined (Err Memory) out out' err err' result f g (λ outcome became. line-memory f g outcome became) concluded
+
+-- ---- commands that report on the table in a file do not explore, and do not read the input
+
+pub course-reported : (command : Command) (file text : Text) → reported command ≡ Some file → HasCourse command text
+course-reported (Replay f known) file text e = cc
+course-reported (Explore f known names experts) file text e = cc
+course-reported (Serve f known experts holders listen) file text e = cc
+course-reported _ file text e = tt
+
+pub reads_input-reported : (command : Command) (file : Text) → reported command ≡ Some file → reads_input command ≡ false
+reads_input-reported (Replay f known) file e = cc
+reads_input-reported _ file e = refl
+
+-- ---- the file at fault
+
+one_file : (file : Text) (origin : Origin) → file_from file None [] origin ≡ file
+one_file file File = refl
+one_file file Known = refl
+one_file file (Later place) = refl
+one_file file Input = refl
+
+-- whether the command may read a file behind its first
+abbrev pub reads_more : Command → Bool
+reads_more (Scale values plan) = true
+reads_more (Replay file known) = true
+reads_more (Explore file known names experts) = true
+reads_more (Serve file known experts holders listen) = true
+reads_more _ = false
+
+-- where it reads no other, the file at fault is its first
+pub fault_file-one : (command : Command) → reads_more command ≡ false → (stop : Stop) → fault_file (Some command) stop ≡ first_of (files_of command)
+fault_file-one (Scale values plan) one stop = cc
+fault_file-one (Replay file known) one stop = cc
+fault_file-one (Explore file known names experts) one stop = cc
+fault_file-one (Serve file known experts holders listen) one stop = cc
+fault_file-one _ one stop = one_file _ (stop_origin stop)

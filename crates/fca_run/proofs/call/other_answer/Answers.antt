@@ -1,0 +1,31 @@
+use Rattle.std.proofs.Common.{◌≡◌, Option, sym, subst}
+use Rattle.std.specs.Prelude.{IfOk, option_copied}
+use Rattle.std.proofs.lemmas.Result.{IfOk-weaker}
+use Rattle.fca_model.specs.Tables.{Text}
+use Rattle.fca_command.specs.declared.command.Command.{Command}
+use Rattle.fca_command.specs.declared.command.Command.TheVariants.{Replay}
+use Rattle.command_io.specs.Endings.{Output}
+use Rattle.replay_command.specs.Replayed.{replayed, MayReplay}
+use Rattle.fca_run.specs.Calls.{MayEnd, HasCourse}
+use Rattle.fca_run.proofs.CallLemmas.{finished-ends, replay-ends, replay-tells}
+use Rattle.fca_run.proofs.call.other_answer.Goals as goal
+
+pub returns-in-Scale-clause-ending : goal.returns-in-Scale-clause-ending
+returns-in-Scale-clause-ending g c =
+    IfOk-weaker c.scale_answer.result _ _ (λ answer finished. finished-ends c.args.command.now answer.ending finished) c.scale_answer.ensures.finished
+
+pub returns-in-Replay-clause-ending : goal.returns-in-Replay-clause-ending
+returns-in-Replay-clause-ending g c =
+    let reading = replayed c.in-Replay.file (option_copied c.as_ref.result) (g.H.Shelf.tells c.args.shelf.now) (g.S.Source.left c.args.input.now) in
+    let Ends : Command → Type 0 = λ command. IfOk c.replay.result (λ (answer : Output). MayEnd command answer.ending) in
+    subst Ends (sym c.in-Replay.is)
+    (IfOk-weaker c.replay.result (MayReplay reading) (λ (answer : Output). MayEnd (Replay c.in-Replay.file c.in-Replay.known) answer.ending)
+    (λ answer replay. replay-ends c.in-Replay.file c.in-Replay.known reading answer replay) c.replay.ensures.replayed)
+
+pub returns-in-Replay-clause-course : goal.returns-in-Replay-clause-course
+returns-in-Replay-clause-course g c =
+    let reading = replayed c.in-Replay.file (option_copied c.as_ref.result) (g.H.Shelf.tells c.args.shelf.now) (g.S.Source.left c.args.input.now) in
+    let Tells : Command → Type 0 = λ command. IfOk c.replay.result (λ (answer : Output). HasCourse command answer.text) in
+    subst Tells (sym c.in-Replay.is)
+    (IfOk-weaker c.replay.result (MayReplay reading) (λ (answer : Output). HasCourse (Replay c.in-Replay.file c.in-Replay.known) answer.text)
+    (λ answer replay. replay-tells reading answer replay) c.replay.ensures.replayed)

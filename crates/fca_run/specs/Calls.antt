@@ -1,0 +1,224 @@
+-- What a call of the program does. It has two parts: what its command comes to, an answer or a stop (`ComesTo`), and what is done with that
+-- (`HasConcluded`). What the outside does not tell is not spoken of.
+use Rattle.std.specs.Prelude.{◌≡◌, ◌⊎◌, ◌++◌, ⊤, ℕ, Bool, true, false, Option, None, Some, Result, Err, IfOk, IfErr, OnOk}
+use Rattle.std.specs.Io.KnownBytes.{IsAtEnd}
+use Rattle.fca_model.specs.Tables.{Text}
+use Rattle.fca_io.specs.Faults.{Rose}
+use Rattle.fca_io.specs.Links.{Ends, MayListenAt}
+use Rattle.fca_io.specs.Shelves.{Told}
+use Rattle.basis_report.specs.Explorations.{explore_text, Spells}
+use Rattle.fca_command.specs.Commands.{reported, files_of, reads_input, uses_link, may_end_open}
+use Rattle.fca_command.specs.declared.command.Command.{Command}
+use Rattle.fca_command.specs.declared.command.Command.TheVariants.{Scale, Replay, Explore, Serve}
+use Rattle.command_io.specs.Readings.{Reading, then, MayRead, MayRefuse, Rises, SomeRose}
+use Rattle.command_io.specs.Readings.Reading.{Untold, Missing, Refused, Read}
+use Rattle.command_io.specs.Known.{start_read}
+use Rattle.command_io.specs.Endings.{Output, IsRefusal, IsUnread}
+use Rattle.command_io.specs.Explorations.{Recorded, IsExplored}
+use Rattle.command_io.specs.Streams.{Moment, HasConcluded}
+use Rattle.command_io.specs.declared.answer.Ending.{Ending}
+use Rattle.command_io.specs.declared.answer.Ending.TheVariants.{Finished, Open, Spent}
+use Rattle.command_io.specs.declared.stop.Stop.{Stop}
+use Rattle.command_io.specs.declared.stop.Stop.TheVariants.{NoCommand, Fault, Listener, Memory}
+use Rattle.replay_command.specs.Replayed.{IsReplayStop}
+use Rattle.explore_command.specs.Panels.{panel_read, IsPanelStop}
+use Rattle.explore_command.specs.Played.{MayPlay}
+use Rattle.serve_command.specs.Served.{MayServe, IsServeStop, GaveAllBack}
+use Rattle.fca_run.specs.Outputs.{output}
+use Rattle.fca_run.specs.Causes.{IsScaleStop, IsReportStop, fault_file}
+
+-- ---- the outside at one moment
+
+-- a shelf of files: itself, what it tells of each name, and its counts of faults
+pub record ShelfMoment (H : Type 0) : Type 0 where
+  pub it : H
+  pub tells : Text → Told
+  pub faults : Text → ℕ
+
+abbrev pub shelf_moment : {H : Type 0} → (H → Text → Told) → (H → Text → ℕ) → H → ShelfMoment H
+shelf_moment tells faults shelf = record { it = shelf; tells = tells shelf; faults = faults shelf }
+
+-- a link: itself, whether it listens and at which address, its ends, and its counts of faults
+pub record LinkMoment (L E : Type 0) : Type 0 where
+  pub it : L
+  pub listens : Bool
+  pub listens_at : Option Text
+  pub ends : Option (Ends E)
+  pub open_faults : Text → ℕ
+  pub accept_faults : ℕ
+
+abbrev pub link_moment : {L E : Type 0} → (L → Bool) → (L → Option Text) → (L → Option (Ends E)) → (L → Text → ℕ) → (L → ℕ) → L → LinkMoment L E
+link_moment listens listens_at ends open_faults accept_faults link =
+    record { it = link; listens = listens link; listens_at = listens_at link; ends = ends link; open_faults = open_faults link; accept_faults = accept_faults link }
+
+-- no link
+abbrev pub unlinked : LinkMoment (Unit {0}) (Unit {0})
+unlinked = record { it = tt; listens = false; listens_at = None; ends = None; open_faults = λ _. 0; accept_faults = 0 }
+
+-- how an end shows what is left and what is held, and its counts of faults
+pub record Sides (E : Type 0) : Type 0 where
+  pub left : E → Option Text
+  pub held : E → Option Text
+  pub reads : E → ℕ
+  pub writes : E → ℕ
+
+abbrev pub sides : {E : Type 0} → (E → Option Text) → (E → Option Text) → (E → ℕ) → (E → ℕ) → Sides E
+sides left held reads writes = record { left = left; held = held; reads = reads; writes = writes }
+
+-- ends that nobody has
+abbrev pub no_sides : Sides (Unit {0})
+no_sides = record { left = λ _. None; held = λ _. None; reads = λ _. 0; writes = λ _. 0 }
+
+-- all that a command reads, or talks to
+pub record Outside (H S L E : Type 0) : Type 0 where
+  pub shelf : ShelfMoment H
+  pub input : Moment S
+  pub link : LinkMoment L E
+
+abbrev pub outside : {H S L E : Type 0} → ShelfMoment H → Moment S → LinkMoment L E → Outside H S L E
+outside shelf input link = record { shelf = shelf; input = input; link = link }
+
+-- ---- the headline
+
+-- The text tells of one exploration: it begins with what is printed of it, and spells its settings and its history. The questions open at each
+-- step of this history are the smallest pseudo-intents, relative to what is known, that are not accepted; where none is open at its end, the
+-- accepted implications are the basis of the recorded context beside what is known
+pub record TellsExploration (text : Text) : Type 0 where
+  pub told : Recorded
+  pub later : Text
+  pub printed : text ≡ explore_text told.opening.table told.opening.settings told.journal ++ later
+  pub spells : Spells told.opening.table told.opening.settings told.journal text
+  pub explored : IsExplored told
+
+-- where the command explores, the text tells of it
+abbrev pub HasCourse : Command → Text → Type 0
+HasCourse (Replay file known) text = TellsExploration text
+HasCourse (Explore file known names experts) text = TellsExploration text
+HasCourse (Serve file known experts holders listen) text = TellsExploration text
+HasCourse _ text = ⊤
+
+-- ---- how a text may end
+
+-- a question may be open where the command takes answers of others, and turns may be spent where oracles answer
+abbrev pub MayEnd : Command → Ending → Type 0
+MayEnd command Finished = ⊤
+MayEnd command Open = may_end_open command ≡ true
+MayEnd (Explore file known names experts) Spent = ⊤
+MayEnd _ Spent = ⊥
+
+-- ---- what is to be read, and why it is not
+
+-- the outside tells what is to be read, and it has its form
+abbrev pub IsGiven : {X : Type 0} → Reading X → Type 0
+IsGiven Untold = ⊥
+IsGiven Missing = ⊥
+IsGiven Refused = ⊥
+IsGiven (Read x) = ⊤
+
+-- a fault of the shelf or the input comes only where the one count rose, and one of the link where the other did
+abbrev pub IsBlamed : Type 0 → Type 0 → Stop → Type 0
+IsBlamed rose link_rose NoCommand = ⊥
+IsBlamed rose link_rose (Fault origin) = rose
+IsBlamed rose link_rose Listener = link_rose
+IsBlamed rose link_rose _ = ⊤
+
+-- ---- experts at the ends of a link
+
+module _ {L E : Type 0} where
+  -- where the command listens, the link does so at its address
+  abbrev pub MayListen : Command → LinkMoment L E → Type 0
+  MayListen (Serve file known experts holders listen) link = (link.listens ≡ true) × MayListenAt link.listens_at listen
+  MayListen _ link = ⊤
+
+  -- where the command serves experts at ends, those that it accepted are given back, and fewer than all where the listener failed
+  abbrev pub HasGivenBack : Sides E → Command → LinkMoment L E → LinkMoment L E → Result Output Stop → Type 0
+  HasGivenBack talk (Serve file known experts holders listen) old new came =
+      GaveAllBack talk.left talk.held talk.reads talk.writes experts old.ends new.ends (came ≡ Err Listener)
+  HasGivenBack talk _ old new came = ⊤
+
+module _ {H S L E : Type 0} where
+  -- what the command reads, all together. Every row of a table that is explored respects what is known of it, and beside a known file the
+  -- script sets nothing
+  abbrev pub read_by : Command → Outside H S L E → Reading (Unit {0})
+  read_by (Explore file known names experts) old = then (panel_read file known names experts old.shelf.tells) (λ _. Read tt)
+  read_by (Serve file known experts holders listen) old = then (start_read file known old.shelf.tells) (λ _. Read tt)
+  read_by command old = then (output command old.shelf.tells old.input.bytes) (λ _. Read tt)
+
+  -- ---- counts of faults
+
+  -- a count of faults rose for a file of the command, or for the input where the command reads it
+  abbrev pub FaultRose : Command → Outside H S L E → Outside H S L E → Type 0
+  FaultRose command old new =
+      SomeRose old.shelf.faults new.shelf.faults (files_of command) ⊎ ((reads_input command ≡ true) × Rose old.input.faults new.input.faults)
+
+  -- the command listens, and a count of faults rose for the address at which it does, or for the ends that it accepts
+  abbrev pub LinkFaultRose : Command → Outside H S L E → Outside H S L E → Type 0
+  LinkFaultRose (Serve file known experts holders listen) old new =
+      Rises old.link.open_faults new.link.open_faults listen ⊎ Rose old.link.accept_faults new.link.accept_faults
+  LinkFaultRose _ old new = ⊥
+
+  -- ---- why a command stops
+
+  -- the stop of a command that reports on no table
+  abbrev pub IsOtherStop : Command → Outside H S L E → Outside H S L E → Stop → Type 0
+  IsOtherStop (Scale values plan) old new stop = IsScaleStop values plan old.shelf.tells (Rises old.shelf.faults new.shelf.faults) stop
+  IsOtherStop (Replay file known) old new stop =
+      IsReplayStop file known old.shelf.tells old.input.bytes (Rises old.shelf.faults new.shelf.faults) (Rose old.input.faults new.input.faults) stop
+  IsOtherStop (Explore file known names experts) old new stop = IsPanelStop file known experts old.shelf.tells (Rises old.shelf.faults new.shelf.faults) stop
+  IsOtherStop (Serve file known experts holders listen) old new stop =
+      IsServeStop file known old.shelf.tells (Rises old.shelf.faults new.shelf.faults)
+      (Rises old.link.open_faults new.link.open_faults listen ⊎ Rose old.link.accept_faults new.link.accept_faults) stop
+  IsOtherStop _ old new stop = stop ≡ Memory
+
+  -- the stop of a command, where it reports on the table in this file or on none
+  abbrev pub IsStopBy : Option Text → Command → Outside H S L E → Outside H S L E → Stop → Type 0
+  IsStopBy (Some file) command old new stop = IsReportStop command file (old.shelf.tells file) (Rises old.shelf.faults new.shelf.faults file) stop
+  IsStopBy None command old new stop = IsOtherStop command old new stop
+
+  -- the stop of the command, in the order of causes: what is read later is at fault only where all before it was read
+  abbrev pub IsCommandStop : Command → Outside H S L E → Outside H S L E → Stop → Type 0
+  IsCommandStop command old new stop = IsStopBy (reported command) command old new stop
+
+  -- an answer of the command, by what the shelf, the input and the ends of the link tell
+  abbrev pub MayAnswer : Sides E → Command → Outside H S L E → Outside H S L E → Output → Type 0
+  MayAnswer talk (Explore file known names experts) old new answer = MayPlay (panel_read file known names experts old.shelf.tells) answer
+  MayAnswer talk (Serve file known experts holders listen) old new answer =
+      MayServe talk.left talk.held talk.reads talk.writes (start_read file known old.shelf.tells) experts holders old.link.ends new.link.ends answer
+  MayAnswer talk command old new answer = MayRead (output command old.shelf.tells old.input.bytes) answer
+
+  -- ---- the first part of a call
+
+  -- What a command comes to, and what it has touched by then
+  pub record ComesTo (talk : Sides E) (command : Command) (old new : Outside H S L E) (came : Result Output Stop) : Type 0 where
+    -- an answer is one of the command, ends as its answers may, and tells of one exploration where the command explores
+    pub answer : IfOk came (MayAnswer talk command old new)
+    pub ending : IfOk came (λ answer. MayEnd command answer.ending)
+    pub course : IfOk came (λ answer. HasCourse command answer.text)
+    -- a stop has its cause; it refuses only what may be refused; and a fault is blamed only where its count rose
+    pub cause : IfErr came (IsCommandStop command old new)
+    pub refused : IfErr came (λ stop. IsRefusal stop → MayRefuse (read_by command old))
+    pub blamed : IfErr came (IsBlamed (FaultRose command old new) (LinkFaultRose command old new))
+    -- where all that is to be read is told and has its form, there is an answer, or a count rose, or memory is wanting
+    pub complete : IsGiven (read_by command old) → IfErr came (λ stop. (stop ≡ Memory) ⊎ (FaultRose command old new ⊎ LinkFaultRose command old new))
+    -- an input that is read is read to its end, and one that is not is as it was
+    pub read_to_end : reads_input command ≡ true → OnOk came (IsAtEnd new.input.bytes)
+    pub input_kept : reads_input command ≡ false → new.input ≡ old.input
+    -- a link is as it was where it is not used, or what is read before it was not had; one that is used listens, and has all its ends back
+    pub link_kept : uses_link command ≡ false → new.link ≡ old.link
+    pub unheard : IfErr came (λ stop. IsUnread stop → new.link ≡ old.link)
+    pub listens : OnOk came (MayListen command new.link)
+    pub given_back : HasGivenBack talk command old.link new.link came
+
+  -- the same of words that may be no command: then all is as it was
+  abbrev pub CallComesTo : Sides E → Option Command → Outside H S L E → Outside H S L E → Result Output Stop → Type 0
+  CallComesTo talk (Some command) old new came = ComesTo talk command old new came
+  CallComesTo talk None old new came = ((came ≡ Err NoCommand) ⊎ (came ≡ Err Memory)) × (new ≡ old)
+
+  -- ---- a call
+
+  -- What a call does whose words are this command, or none: it comes to an answer or a stop, writes that to out or to err, and gives its status
+  pub record HasRun {K F : Type 0} (talk : Sides E) (call : Option Command) (old new : Outside H S L E) (out out' : Moment K) (err err' : Moment F)
+      (result : ℕ) : Type 0 where
+    pub came : Result Output Stop
+    pub comes : CallComesTo talk call old new came
+    pub concluded : HasConcluded came (fault_file call) out out' err err' result

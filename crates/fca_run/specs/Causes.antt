@@ -1,0 +1,32 @@
+-- Why each command stops, and which file is at fault.
+use Rattle.std.specs.Prelude.{◌≡◌, ◌⊎◌, ℕ, Option, None, Some, []}
+use Rattle.fca_model.specs.Tables.{Text, NamedContext}
+use Rattle.fca_io.specs.Shelves.{Told}
+use Rattle.value_tables.specs.Values.{ValueTable}
+use Rattle.fca_command.specs.Commands.{files_of, first_of, known_of, later_of}
+use Rattle.fca_command.specs.declared.command.Command.{Command}
+use Rattle.command_io.specs.Readings.{MayRead}
+use Rattle.command_io.specs.Readings.Reading.{Refused}
+use Rattle.command_io.specs.Forms.{table_read, values_read}
+use Rattle.command_io.specs.Causes.{IsFileStop, IsValuesStop, IsPlanStop}
+use Rattle.command_io.specs.ErrLines.{file_at_fault}
+use Rattle.command_io.specs.declared.stop.Origin.TheVariants.{File, Later}
+use Rattle.command_io.specs.declared.stop.Stop.{Stop}
+use Rattle.command_io.specs.declared.stop.Stop.TheVariants.{UnknownAttribute}
+use Rattle.fca_run.specs.Reports.{table_report}
+
+-- the stop of the file of values, or, where that was read, of the plan for them
+abbrev pub IsScaleStop : Text → Text → (Text → Told) → (Text → Type 0) → Stop → Type 0
+IsScaleStop values plan files rises stop = IsValuesStop (files values) (rises values) File stop
+    ⊎ ((t : ValueTable) × MayRead (values_read (files values)) t × IsPlanStop t (files plan) (rises plan) (Later 0) stop)
+
+-- The stop of a report on the table in the file: that of the file, or, where it was read, that words name what is no attribute of the table,
+-- and so the command has nothing to report
+abbrev pub IsReportStop : Command → Text → Told → Type 0 → Stop → Type 0
+IsReportStop command file told rose stop = IsFileStop file told rose File stop
+    ⊎ ((stop ≡ UnknownAttribute) × ((table : NamedContext) × MayRead (table_read file told) table × (table_report command table ≡ Refused)))
+
+-- the name of the file at fault where the command stops, or none where there is no command
+abbrev pub fault_file : Option Command → Stop → Text
+fault_file None stop = []
+fault_file (Some command) stop = file_at_fault (first_of (files_of command)) (known_of command) (later_of command) stop
