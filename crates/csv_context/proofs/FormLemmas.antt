@@ -1,6 +1,6 @@
 -- One field, and one record, more. What is left of a record after a field is one field shorter, and the form goes on from there with what
 -- the field says.
-use Rattle.std.proofs.Common.{◌≡◌, ◌∙◌, ◌<◌, ◌+◌, ◌-◌, ◌++◌, ◌∷◌, [], ℕ, suc, Bool, true, false, List, Some, None, Result, Ok, Err, drop, length, replicate, set, slice_get, bytes_eq, inl, inr, refl, sym, ap, subst, length-append, append_assoc, arith}
+use Rattle.std.proofs.Common.{◌≡◌, ◌∙◌, ◌<◌, ◌+◌, ◌-◌, ◌++◌, ◌∷◌, [], ℕ, zero, suc, Bool, true, false, List, Some, None, Result, Ok, Err, drop, length, replicate, set, slice_get, bytes_eq, inl, inr, refl, sym, ap, subst, length-append, append_assoc, arith}
 use Rattle.std.specs.Prelude.{◌⊎◌, IsErr, IsErrAnd}
 use Rattle.fca_model.specs.Sets.{Set}
 use Rattle.fca_model.specs.Tables.{Text}
@@ -106,3 +106,14 @@ module _ (i width : ℕ) (fields : Record) (row : Set) (place : ℕ) (field : Te
 
   pub row_form-Err : (e : CsvFault) → cell_form i (place + 2) field ≡ Err e → row_form i 2 [] (drop 1 fields) ≡ Err e
   row_form-Err e is = says-next ∙ rw is refl
+
+-- ---- fields that are left
+
+-- what is left begins with the field at this place, and goes on with those behind it
+pub left-field : (fields : Record) (place : ℕ) (field : Text) (more : Record) → drop place fields ≡ field ∷ more → (Some field ≡ slice_get fields place) × (drop (place + 1) fields ≡ more)
+left-field [] zero field more left = cc
+left-field [] (suc place) field more left = cc
+left-field (f ∷ fields) zero field more left = (cc, cc)
+left-field (f ∷ fields) (suc place) field more left =
+    let one : suc place + 1 ≡ suc (place + 1) = omega arith in
+    rw one (left-field fields place field more left)

@@ -2,7 +2,7 @@
 -- line it skips line ends (`without_ends-records`). So the first line that is not empty is the first record (`next_line-Some`, `next_line-None`).
 use Rattle.std.proofs.Common.{◌≡◌, ◌∙◌, ◌<◌, ◌≤◌, ◌+◌, ◌-◌, ◌==◌, ◌∷◌, ◌++◌, [], ℕ, zero, suc, Bool, true, false, List, Option, Some, None, cond, length, take, drop, get_or, refl, sym, ap, subst, inl, inr, append_assoc, arith}
 use Rattle.std.proofs.lemmas.Bool.{cases_Bool, eqb-true, or_cases, or_parts}
-use Rattle.std.proofs.lemmas.List.{append-nil, take_all, length-drop}
+use Rattle.std.proofs.lemmas.List.{append-nil, take_all, take_more, length-drop}
 use Rattle.std.proofs.lemmas.Str.{IsUtf8-past_char, encode_ascii}
 use Rattle.std.specs.Str.{IsUtf8}
 use lib.Utf8.{encode}
@@ -74,6 +74,53 @@ fields_in-whole (c ∷ line) before = elim (cases_Bool (is_comma c)) [
   | inl is ↦ absurd (before 0 (omega arith) (omega arith) is)
   | inr isnt ↦ rw (isnt, fields_in-whole line (λ j low lt. before (suc j) (omega arith) (omega arith))) refl
 ]
+
+fields_in-some : (line : Text) → 0 < length (fields_in line)
+fields_in-some [] = omega arith
+fields_in-some (b ∷ line) = elim (cases_Bool (is_comma b)) [
+  | inl is ↦ rw is (omega arith)
+  | inr isnt ↦ rw isnt (by b (fields_in line))
+]
+  where
+    by : (c : ℕ) (pieces : Record) → 0 < length (joined c pieces)
+    by c [] = omega arith
+    by c (piece ∷ pieces) = omega arith
+
+-- a field more for a comma at the end, and none more for another byte
+fields_in-append : (line : Text) (c : ℕ) → length (fields_in (line ++ c ∷ [])) ≡ length (fields_in line) + cond (is_comma c) 1 0
+fields_in-append [] c = elim (cases_Bool (is_comma c)) [
+  | inl is ↦ rw is refl
+  | inr isnt ↦ rw isnt refl
+]
+fields_in-append (b ∷ line) c = elim (cases_Bool (is_comma b)) [
+  | inl is ↦ rw is (let more = fields_in-append line c in omega arith)
+  | inr isnt ↦
+      rw isnt
+      (joined-length b (fields_in (line ++ c ∷ [])) (fields_in-some (line ++ c ∷ []))
+      ∙ fields_in-append line c
+      ∙ ap (λ (n : ℕ). n + cond (is_comma c) 1 0) (sym (joined-length b (fields_in line) (fields_in-some line))))
+]
+  where
+    joined-length : (d : ℕ) (pieces : Record) → 0 < length pieces → length (joined d pieces) ≡ length pieces
+    joined-length d [] some = absurd (omega arith)
+    joined-length d (piece ∷ pieces) some = refl
+
+-- one byte more of a line
+pub fields_in-more : (line : Text) (i commas : ℕ) → i < length line → commas + 1 ≡ length (fields_in (take i line))
+    → commas + cond (is_comma (get_or line i 0)) 1 0 + 1 ≡ length (fields_in (take (i + 1) line))
+fields_in-more line i commas below so_far =
+    let more = fields_in-append (take i line) (get_or line i 0) in
+    rw (take_more line i 0 below, more) (omega (arith, so_far))
+
+-- a comma at the first place, and at the second
+pub next_field-none : (line : Text) → 2 ≤ length line → is_comma (get_or line 0 0) ≡ true → fields_in line ≡ [] ∷ fields_in (drop 1 line)
+next_field-none [] long comma = absurd (omega arith)
+next_field-none (b ∷ line) long comma = rw comma refl
+
+pub next_field-one : (line : Text) → 2 ≤ length line → is_comma (get_or line 0 0) ≡ false → is_comma (get_or line 1 0) ≡ true → fields_in line ≡ take 1 line ∷ fields_in (drop 2 line)
+next_field-one [] long other comma = absurd (omega arith)
+next_field-one (b ∷ []) long other comma = absurd (omega arith)
+next_field-one (b ∷ c ∷ line) long other comma = rw (other, comma) refl
 
 -- what a search for a comma says of the fields
 pub next_field-Some : (line : Text) (k : ℕ) → IsFirstByte (is_byte 44) line (Some k) → fields_in line ≡ take k line ∷ fields_in (take (length line - (k + 1)) (drop (k + 1) line))

@@ -1,15 +1,17 @@
 -- The written CSV form of a table.
-use Rattle.std.specs.declared.alloc.Global.{Global}
 use Rattle.std.specs.Prelude.{◌≡◌, ℕ, Bool, false, Vec, cond, List, [], ◌∷◌, ◌++◌, None, map, codes}
 use Rattle.fca_model.specs.Sets.{Set}
 use Rattle.fca_model.specs.Tables.{Text, NamedContext}
-use Rattle.csv.specs.Writing.{default_writer, fields_written, has_written, row_text, writer_pending, writer_setup, writer_under}
-use Rattle.csv.specs.declared.writer.Writer.{Writer}
+use Rattle.csv.specs.Writing.{default_writer, fields_text, row_text}
 use Rattle.csv_context.specs.Records.{Record}
 
 -- the field of a place: X for a cross, and nothing for none
 abbrev pub cell_text : Bool → Text
 cell_text mark = cond mark (codes "X") []
+
+-- the text of the cells, a comma before each
+abbrev pub cells_text : Set → List ℕ
+cells_text row = fields_text default_writer (map cell_text row)
 
 -- the record of the attribute names
 abbrev pub header_record : NamedContext → Record
@@ -41,15 +43,3 @@ csv_text t = text_of (table_records t)
 -- the table without its title
 abbrev pub untitled : NamedContext → NamedContext
 untitled t = record t { title = None }
-
--- ---- a writer that writes to memory
-
--- the bytes that the writer has written
-abbrev pub held : Writer (Vec ℕ Global) → List ℕ
-held writer = (writer_under writer).items ++ writer_pending writer
-
--- the writer has the usual settings and has written whole records so far
-pub record IsReady (writer : Writer (Vec ℕ Global)) : Type 0 where
-  pub settings : writer_setup writer ≡ default_writer
-  pub between : fields_written writer ≡ 0
-  pub clean : has_written writer ≡ false

@@ -3,10 +3,12 @@
 ghost use Rattle.std.specs.Prelude.{◌≡◌, ◌<◌, ◌≤◌, ◌+◌, [], IfOk, IsUtf8, Some, drop, false, length, slice_get, bytes_eq};
 ghost use Rattle.std.specs.List.{list_any};
 ghost use Rattle.csv.specs.Records.{AllText, fields_of};
+ghost use Rattle.csv_context.specs.Lines.{fields_in};
 ghost use Rattle.csv_context.specs.Form as form;
 ghost use Rattle.csv_context.specs.Form.{Tells};
 
 use crate::CsvFault;
+use crate::lines::next_field;
 use attr_bits::Attrs;
 use csv::ByteRecord;
 use fca_model::{MAX_ATTRIBUTES, Name, NameFault};
@@ -80,13 +82,34 @@ fn mark_of(cell: &[u8]) -> Option<bool>
 }
 
 /// Whether field `j` of record `i` is a cross.
-fn cell_of(i: usize, j: usize, field: &[u8]) -> Result<bool, CsvFault>
+pub fn cell_of(i: usize, j: usize, field: &[u8]) -> Result<bool, CsvFault>
     ensures { result ≡ form.cell_form i j field.now }
 {
     match mark_of(trimmed(field)) {
         Some(mark) => Ok(mark),
         None => Err(CsvFault::BadCell(i, j)),
     }
+}
+
+/// The row in the cells on the line of record `i`, those behind its first field.
+pub fn row_in(width: u32, i: usize, line: &[u8]) -> Result<Attrs, CsvFault>
+    requires narrow { width ≤ MAX_ATTRIBUTES }
+    requires whole { length (fields_in line.now) ≡ width + 1 }
+    ensures form { result ≡ form.row_form i 2 [] (drop 1 (fields_in line.now)) }
+    ensures wide { IfOk result (λ row. length row ≡ width) }
+{
+    let mut row = Attrs::empty(width);
+    let (_, mut left) = next_field(line);
+    for place in 0..width {
+        let Some(rest) = left else { unreachable!() };
+        let (field, behind) = next_field(rest);
+        let cross = cell_of(i, place as usize + 2, field)?;
+        if cross {
+            row.insert(place);
+        }
+        left = behind;
+    }
+    Ok(row)
 }
 
 /// The row in the cells of record `i`, those behind its first field.

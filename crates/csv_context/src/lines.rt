@@ -1,6 +1,6 @@
 //! Records without quotes: each is a line, whose fields are parted by commas.
 
-ghost use Rattle.std.specs.Prelude.{◌≡◌, ◌∷◌, [], IfSome, MatchOption, OnOk};
+ghost use Rattle.std.specs.Prelude.{◌≡◌, ◌+◌, ◌∷◌, [], IfSome, MatchOption, OnOk, length};
 ghost use Rattle.csv.specs.Reading.{is_bom, strip_bom};
 ghost use Rattle.csv.specs.Records.{fields_of};
 ghost use Rattle.fca_model.specs.Names as name;
@@ -77,8 +77,37 @@ fn is_line_break(byte: u8) -> bool
     byte == b'\n' || byte == b'\r'
 }
 
-/// The first field of a line, and the bytes behind its comma.
+/// How many commas a line has.
+pub fn commas_in(line: &[u8]) -> usize
+    ensures { result + 1 ≡ length (fields_in line.now) }
+{
+    let mut commas = 0;
+    for byte in line {
+        if *byte == b',' {
+            commas += 1;
+        }
+    }
+    commas
+}
+
+/// The first field of a line, and the bytes behind its comma. Most cells have one byte or none.
 pub fn next_field(line: &[u8]) -> (&[u8], Option<&[u8]>)
+    ensures { fields_in line.now ≡ result.0.now ∷ fields_behind result.1 }
+{
+    if line.len() < 2 {
+        return long_field(line);
+    }
+    if line[0] == b',' {
+        return (&line[..0], Some(&line[1..]));
+    }
+    if line[1] == b',' {
+        return (&line[..1], Some(&line[2..]));
+    }
+    long_field(line)
+}
+
+/// The same of a field of any length.
+fn long_field(line: &[u8]) -> (&[u8], Option<&[u8]>)
     ensures { fields_in line.now ≡ result.0.now ∷ fields_behind result.1 }
 {
     match memchr(b',', line) {

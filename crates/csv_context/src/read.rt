@@ -1,14 +1,16 @@
 //! The reader.
 
-ghost use Rattle.std.specs.Prelude.{◌≡◌, ◌<◌, ◌≤◌, ◌+◌, [], IfOk, OnOk, drop, length, vec_len};
+ghost use Rattle.std.specs.Prelude.{◌≡◌, ◌<◌, ◌≤◌, ◌+◌, [], IfOk, None, Ok, OnOk, drop, length, vec_len};
 ghost use Rattle.csv.specs.Records.{AllText, fields_of};
 ghost use Rattle.csv_context.specs.Records.{IsOpen, csv_records, records_left};
 ghost use Rattle.context_table.specs.Table.{first_repeat};
+ghost use Rattle.csv_context.specs.Lines.{IsUnquoted, fields_in, records_in};
 ghost use Rattle.csv_context.specs.Form as form;
 ghost use Rattle.csv_context.specs.Form.{Tells, TellsBy};
 
 use crate::CsvFault;
-use crate::fields::{attribute_of, field_at, name_of, row_of};
+use crate::fields::{attribute_of, field_at, name_of, row_in, row_of};
+use crate::lines::{commas_in, next_field, next_line, read_fields, unquoted};
 use crate::records::{next_record, open};
 use attr_bits::Attrs;
 use context_table::{Table, TableFault};
@@ -45,6 +47,30 @@ pub fn read_csv(alloc: Global, bytes: &[u8]) -> Result<Table, CsvFault>
 fn read_text(alloc: Global, text: &str) -> Result<Table, CsvFault>
     ensures { Tells result (form.table_form (csv_records text.now)) }
 {
+    match unquoted(text) {
+        Some(bytes) => read_lines(alloc, bytes),
+        None => read_records(alloc, text),
+    }
+}
+
+/// The table whose records are lines.
+fn read_lines(alloc: Global, bytes: &[u8]) -> Result<Table, CsvFault>
+    requires { IsUnquoted bytes.now }
+    ensures { Tells result (form.table_form (records_in bytes.now)) }
+{
+    let Some((header, rest)) = next_line(bytes) else {
+        return Err(CsvFault::NoHeader);
+    };
+    let mut fields = ByteRecord::new(alloc);
+    read_fields(&mut fields, header)?;
+    let attributes = read_header(alloc, &fields)?;
+    let objects = read_object_lines(alloc, attributes.len() as u32, rest)?;
+    table_of(alloc, attributes, objects)
+}
+
+fn read_records(alloc: Global, text: &str) -> Result<Table, CsvFault>
+    ensures { Tells result (form.table_form (csv_records text.now)) }
+{
     let mut reader = open(alloc, text);
     let mut record = ByteRecord::new(alloc);
     if !next_record(&mut reader, &mut record)? {
@@ -52,6 +78,18 @@ fn read_text(alloc: Global, text: &str) -> Result<Table, CsvFault>
     }
     let attributes = read_header(alloc, &record)?;
     let objects = read_objects(alloc, attributes.len() as u32, &mut reader)?;
+    table_of(alloc, attributes, objects)
+}
+
+/// The table of these attributes and objects; it has no title.
+fn table_of(alloc: Global, attributes: Vec<Name>, objects: Objects) -> Result<Table, CsvFault>
+    requires few_attributes { vec_len attributes ≤ MAX_ATTRIBUTES }
+    requires differing { first_repeat attributes.items ≡ None }
+    requires few_objects { vec_len objects.names ≤ MAX_OBJECTS }
+    requires counted { vec_len objects.names ≡ length objects.rows.rows }
+    requires width { objects.rows.width ≡ vec_len attributes }
+    ensures { Tells result (Ok (record { title = None; objects = objects.names.items; attributes = attributes.items; context = objects.rows })) }
+{
     match Table::new(alloc, None, objects.names, attributes, objects.rows) {
         Ok(table) => Ok(table),
         Err(TableFault::Memory) => Err(CsvFault::Memory),
@@ -109,6 +147,47 @@ fn read_objects(alloc: Global, width: u32, reader: &mut Reader<&[u8]>) -> Result
         rows.push(object.row)?;
     }
     Ok(Objects { names, rows })
+}
+
+/// The objects whose records are lines.
+fn read_object_lines(alloc: Global, width: u32, bytes: &[u8]) -> Result<Objects, CsvFault>
+    requires unquoted { IsUnquoted bytes.now }
+    requires narrow { width ≤ MAX_ATTRIBUTES }
+    ensures form { TellsBy (λ objects. (objects.names.items, objects.rows.rows)) result (form.objects_form width 2 ([], []) (records_in bytes.now)) }
+    ensures few { IfOk result (λ objects. vec_len objects.names ≤ MAX_OBJECTS) }
+    ensures counted { IfOk result (λ objects. vec_len objects.names ≡ length objects.rows.rows) }
+    ensures width { IfOk result (λ objects. objects.rows.width ≡ width) }
+{
+    let mut names = Vec::new(alloc);
+    let mut rows = Rows::new(alloc, width)?;
+    let mut left = bytes;
+    while let Some((line, behind)) = next_line(left) {
+        let object = read_line(alloc, width, names.len() + 2, line)?;
+        names.push(object.name)?;
+        rows.push(object.row)?;
+        left = behind;
+    }
+    Ok(Objects { names, rows })
+}
+
+/// The object on the line of record `i`.
+fn read_line(alloc: Global, width: u32, i: usize, line: &[u8]) -> Result<Object, CsvFault>
+    requires narrow { width ≤ MAX_ATTRIBUTES }
+    requires text { AllText (fields_in line.now) }
+    ensures form { Tells result (form.object_form width i (fields_in line.now)) }
+    ensures wide { IfOk result (λ object. length object.row ≡ width) }
+    ensures within { OnOk result (i ≤ MAX_OBJECTS + 1) }
+{
+    if i > MAX_OBJECTS + 1 {
+        return Err(CsvFault::TooManyObjects);
+    }
+    if commas_in(line) != width as usize {
+        return Err(CsvFault::RaggedRecord(i));
+    }
+    let (field, _) = next_field(line);
+    let name = name_of(alloc, i, 1, field)?;
+    let row = row_in(width, i, line)?;
+    Ok(Object { name, row })
 }
 
 /// The object in record `i`.

@@ -1,99 +1,143 @@
 //! The writer.
 
-ghost use Rattle.std.specs.Prelude.{◌≡◌, ◌++◌, ◌∷◌, [], IfOk, OnOk, Ok, Some, map, length, codes};
+ghost use Rattle.std.specs.Prelude.{◌≡◌, ◌≤◌, ◌+◌, ◌-◌, ◌*◌, ◌++◌, ◌∷◌, [], IfOk, OnOk, Ok, drop, length, map, take};
 ghost use Rattle.fca_model.specs.Names.{IsName};
 ghost use Rattle.context_table.specs.Table.{IsTable};
 ghost use Rattle.cxt_format.specs.Written.{EachName};
-ghost use Rattle.csv.specs.Records.{fields_of};
+ghost use Rattle.csv.specs.Writing as csv;
 ghost use Rattle.csv.specs.Writing.{default_writer, row_text};
 ghost use Rattle.csv_context.specs.Form.{csv_form};
-ghost use Rattle.csv_context.specs.Written.{IsReady, held, csv_text, header_record, object_record, object_records, text_of, untitled};
+ghost use Rattle.csv_context.specs.Written.{cells_text, csv_text, header_record, object_record, object_records, text_of, untitled};
 
 use attr_bits::Attrs;
 use context_table::Table;
-use csv::{ByteRecord, Writer};
 use fca_model::{Memory, Name};
 use std::alloc::Global;
+
+/// How many cells of a row are put at once.
+const BLOCK: u32 = 64;
 
 /// The written form of the table.
 pub fn write_csv(alloc: Global, table: &Table) -> Result<Vec<u8>, Memory>
     ensures written { IfOk result (λ text. text.items ≡ csv_text table.now) }
     ensures reads_back { IfOk result (λ text. csv_form text.items ≡ Ok (untitled table.now)) }
 {
-    let mut writer = Writer::from_writer(Vec::new(alloc));
-    let mut record = ByteRecord::new(alloc);
-    write_header(&mut writer, &mut record, table)?;
-    write_objects(&mut writer, &mut record, table)?;
-    match writer.into_inner() {
-        Ok(text) => Ok(text),
-        Err(_) => Err(Memory),
-    }
+    let mut text = Vec::new(alloc);
+    write_header(&mut text, table)?;
+    write_objects(&mut text, table)?;
+    Ok(text)
 }
 
 /// Writes the names of the attributes.
-fn write_header(
-    writer: &mut Writer<Vec<u8>>,
-    fields: &mut ByteRecord,
-    table: &Table,
-) -> Result<(), Memory>
-    requires { IsReady writer.old }
-    ensures ready { OnOk result (IsReady writer.new) }
-    ensures written { OnOk result (held writer.new ≡ held writer.old ++ row_text default_writer (header_record table.now)) }
+fn write_header(text: &mut Vec<u8>, table: &Table) -> Result<(), Memory>
+    ensures written { OnOk result (text.new.items ≡ text.old.items ++ row_text default_writer (header_record table.now)) }
     ensures named { OnOk result (EachName table.now.attributes) }
 {
-    fields.clear();
-    fields.push_field(b"object")?;
+    text.extend_from_slice(b"object")?;
     for i in 0..table.rows().width() {
-        fields.push_field(table.attribute_name(i).bytes())?;
+        text.push(b',')?;
+        write_field(text, table.attribute_name(i).bytes())?;
     }
-    write_record(writer, fields)
+    text.push(b'\n')?;
+    Ok(())
 }
 
-fn write_objects(
-    writer: &mut Writer<Vec<u8>>,
-    fields: &mut ByteRecord,
-    table: &Table,
-) -> Result<(), Memory>
-    requires { IsReady writer.old }
-    ensures ready { OnOk result (IsReady writer.new) }
-    ensures written { OnOk result (held writer.new ≡ held writer.old ++ text_of (object_records table.now.objects table.now.context.rows)) }
+fn write_objects(text: &mut Vec<u8>, table: &Table) -> Result<(), Memory>
+    ensures written { OnOk result (text.new.items ≡ text.old.items ++ text_of (object_records table.now.objects table.now.context.rows)) }
     ensures named { OnOk result (EachName table.now.objects) }
     ensures table { OnOk result (IsTable table.now) }
 {
     for i in 0..table.rows().len() {
-        write_object(writer, fields, table.object(i), &table.rows().get(i))?;
+        write_object(text, table.object(i), &table.rows().get(i))?;
     }
     Ok(())
 }
 
 /// Writes the name of an object and its cells.
-fn write_object(
-    writer: &mut Writer<Vec<u8>>,
-    fields: &mut ByteRecord,
-    name: &Name,
-    row: &Attrs,
-) -> Result<(), Memory>
-    requires { IsReady writer.old }
-    ensures ready { OnOk result (IsReady writer.new) }
-    ensures written { OnOk result (held writer.new ≡ held writer.old ++ row_text default_writer (object_record name.now row.now)) }
+fn write_object(text: &mut Vec<u8>, name: &Name, row: &Attrs) -> Result<(), Memory>
+    ensures written { OnOk result (text.new.items ≡ text.old.items ++ row_text default_writer (object_record name.now row.now)) }
     ensures named { OnOk result (IsName name.now) }
 {
-    fields.clear();
-    fields.push_field(name.bytes())?;
-    for i in 0..row.width() {
-        fields.push_field(if row.has(i) { b"X" } else { b"" })?;
-    }
-    write_record(writer, fields)
+    write_field(text, name.bytes())?;
+    write_cells(text, row)?;
+    text.push(b'\n')?;
+    Ok(())
 }
 
-/// Writes the record.
-fn write_record(writer: &mut Writer<Vec<u8>>, fields: &ByteRecord) -> Result<(), Memory>
-    requires { IsReady writer.old }
-    ensures ready { OnOk result (IsReady writer.new) }
-    ensures written { OnOk result (held writer.new ≡ held writer.old ++ row_text default_writer (fields_of fields.now)) }
+/// Writes the cells, a comma before each.
+fn write_cells(text: &mut Vec<u8>, row: &Attrs) -> Result<(), Memory>
+    ensures { OnOk result (text.new.items ≡ text.old.items ++ cells_text row.now) }
 {
-    match writer.write_byte_record(fields) {
-        Ok(()) => Ok(()),
-        Err(_) => Err(Memory),
+    for block in 0..row.width().div_ceil(BLOCK) {
+        let from = BLOCK * block;
+        let end = row.width().min(from + BLOCK);
+        let (cells, size) = cells_of(row, from, end);
+        text.extend_from_slice(&cells[..size])?;
     }
+    Ok(())
+}
+
+/// The cells of the places from `from` to `end`, and how many bytes they are. An X is put behind each comma, and stays where it is a cross.
+fn cells_of(row: &Attrs, from: u32, end: u32) -> ([u8; 128], usize)
+    requires order { from ≤ end }
+    requires few { end ≤ from + BLOCK }
+    requires inside { end ≤ length row.now }
+    ensures cells { take result.1 result.0 ≡ cells_text (take (end - from) (drop from row.now)) }
+    ensures few { result.1 ≤ 128 }
+{
+    let mut cells = [0; 128];
+    let mut size = 0;
+    for j in 0..end - from {
+        cells[size] = b',';
+        cells[size + 1] = b'X';
+        size += if row.has(from + j) { 2 } else { 1 };
+    }
+    (cells, size)
+}
+
+/// Writes the field, between quotes where it needs them.
+fn write_field(text: &mut Vec<u8>, field: &[u8]) -> Result<(), Memory>
+    ensures { OnOk result (text.new.items ≡ text.old.items ++ csv.field_text default_writer field.now) }
+{
+    if needs_quotes(field) {
+        return write_quoted(text, field);
+    }
+    text.extend_from_slice(field)?;
+    Ok(())
+}
+
+/// Writes the field between quotes, each quote in it twice.
+fn write_quoted(text: &mut Vec<u8>, field: &[u8]) -> Result<(), Memory>
+    ensures { OnOk result (text.new.items ≡ text.old.items ++ csv.quoted default_writer field.now) }
+{
+    text.push(b'"')?;
+    for byte in field {
+        write_escaped(text, *byte)?;
+    }
+    text.push(b'"')?;
+    Ok(())
+}
+
+fn write_escaped(text: &mut Vec<u8>, byte: u8) -> Result<(), Memory>
+    ensures { OnOk result (text.new.items ≡ text.old.items ++ csv.escaped default_writer (byte ∷ [])) }
+{
+    if byte == b'"' {
+        text.extend_from_slice(b"\"\"")?;
+        return Ok(());
+    }
+    text.push(byte)?;
+    Ok(())
+}
+
+fn needs_quotes(field: &[u8]) -> bool
+    ensures { result ≡ csv.needs_quotes default_writer field.now }
+{
+    field.iter().any(|byte| is_special(*byte))
+}
+
+/// Whether a field with this byte stands between quotes.
+fn is_special(byte: u8) -> bool
+    ensures { result ≡ csv.needs_byte default_writer byte }
+{
+    byte == b',' || byte == b'"' || byte == b'\r' || byte == b'\n'
 }

@@ -1,13 +1,12 @@
 use Rattle.std.proofs.Common.{◌≡◌, ◌++◌, drop}
 use Rattle.cxt_format.specs.Written.{EachName}
-use Rattle.csv_context.specs.Written.{IsReady, held, object_records, text_of}
+use Rattle.csv_context.specs.Written.{object_records, text_of}
 use Rattle.csv_context.proofs.write.write_objects.Given as goal
 
 abbrev pub invariant-loop-i : goal.invariant-loop-i
 invariant-loop-i l =
     let t = l.table in
     record {
-      ready : IsReady l.writer;
-      written : held l.writer ++ text_of (object_records (drop l.i t.objects) (drop l.i t.context.rows)) ≡ held l.fn.writer ++ text_of (object_records t.objects t.context.rows);
+      written : l.text.items ++ text_of (object_records (drop l.i t.objects) (drop l.i t.context.rows)) ≡ l.fn.text.items ++ text_of (object_records t.objects t.context.rows);
       named : EachName (drop l.i t.objects) → EachName t.objects;
     }

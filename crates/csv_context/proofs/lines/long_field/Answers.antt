@@ -1,5 +1,5 @@
 use Rattle.csv_context.proofs.LineLemmas.{next_field-None, next_field-Some}
-use Rattle.csv_context.proofs.lines.next_field.Goals as goal
+use Rattle.csv_context.proofs.lines.long_field.Goals as goal
 
 pub returns-in-Some : goal.returns-in-Some
 returns-in-Some c = next_field-Some c.args.line.now c.in-Some.comma c.in-Some.ensures
