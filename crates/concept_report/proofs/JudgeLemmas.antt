@@ -1,5 +1,5 @@
 -- What the closure of an intent with one attribute says of its branch, and what is known of closures.
-use Rattle.std.proofs.Common.{◌≡◌, ◌≢◌, ℕ, suc, ◌+◌, ◌<◌, Bool, true, false, Some, refl, List, ◌++◌, length, get_or, set, sym, ap, ◌∙◌, arith}
+use Rattle.std.proofs.Common.{◌≡◌, ◌≢◌, ℕ, suc, ◌+◌, ◌<◌, Bool, true, false, Some, refl, List, [], ◌++◌, length, get_or, set, sym, ap, ◌∙◌, subst, arith}
 use Rattle.std.proofs.lemmas.List.{append-nil}
 use Rattle.std.specs.Prelude.{unwrap_or}
 use Rattle.std.specs.Bool.{MatchBool}
@@ -28,6 +28,10 @@ module _ (K : Context) (A : Set) (i : ℕ) (lacks : get_or A i false ≡ false) 
 -- another attribute comes first
 pub other_first : (D A : Set) (i k : ℕ) → k ≢ i → first_missing 0 D A ≡ Some k → first_missing 0 D A ≢ Some i
 other_first D A i k other first h = other (ap (λ o. unwrap_or o k) (sym first ∙ h))
+
+-- nothing was seen
+pub seen_none : (K : Context) (A : Set) (ws : List ℕ) → ws ≡ [] → AreSeen K A ws
+seen_none K A ws is = subst (AreSeen K A) (sym is) (record { few = omega arith; member = λ i l. absurd (omega (arith, l)) })
 
 -- what was seen of the closures of A holds of those of a larger set
 pub seen_larger : (K : Context) (A D : Set) (ws : List ℕ) → length D ≡ K.width → within A D ≡ true → AreSeen K A ws → AreSeen K D ws

@@ -3,3 +3,4 @@ pub mod PieceLemmas
 pub mod PlaceLemmas
 pub mod LineLemmas
 pub mod JudgeLemmas
+pub mod FrontLemmas

@@ -1,13 +1,13 @@
 //! The lines of all concepts, written along the tree of intents. What goes down the tree is the extent, as places in the table.
 
-ghost use Rattle.std.specs.Prelude.{◌≡◌, ◌≤◌, ◌<◌, ◌+◌, ◌++◌, true, false, OnOk, IfOk, IfSome, MatchOption, length, take, slice_index_or};
+ghost use Rattle.std.specs.Prelude.{◌≡◌, ◌≤◌, ◌<◌, ◌+◌, ◌++◌, [], true, false, OnOk, IfOk, IfSome, MatchOption, length, take, slice_index_or, slice_set};
 ghost use Rattle.fca_model.specs.Sets.{within};
-ghost use Rattle.fca_model.specs.Context.{extent, is_closed};
+ghost use Rattle.fca_model.specs.Context.{closure, extent, is_closed};
 ghost use Rattle.fca_model.specs.Pseudo.{intents};
 ghost use Rattle.lectic_concepts.specs.Branches.{branch, AreSeen};
 ghost use Rattle.concept_report.specs.Pages.{Fills};
 
-use crate::judge::{first_seen, is_child, is_open, seen_above};
+use crate::judge::{first_seen, is_child, is_open, known, known_above};
 use crate::page::Page;
 use crate::places::{closure_at, keep_having};
 use crate::sheet::Sheet;
@@ -22,6 +22,13 @@ struct Child<const W: usize> {
     count: usize,
 }
 
+/// What a step of the walk writes on: places that are found, and what it notes of closures. It is kept for the steps that follow.
+#[derive(Drop)]
+struct Desk {
+    found: Vec<usize>,
+    noted: Vec<u32>,
+}
+
 /// Writes the lines of all concepts.
 pub(crate) fn write_all<const W: usize>(
     alloc: Global,
@@ -33,8 +40,18 @@ pub(crate) fn write_all<const W: usize>(
     let rows = sheet.rows();
     let least = rows.closure(&Bits::empty(rows.width()));
     let places = rows.extent(alloc, &least)?;
-    let mut seen = first_seen(alloc, sheet, &least)?;
-    write_branch(alloc, sheet, page, &least, places.as_slice(), 0, &mut seen)
+    let seen = first_seen(alloc, sheet, &least)?;
+    let mut desks = Vec::new(alloc);
+    write_branch(
+        alloc,
+        sheet,
+        page,
+        &least,
+        places.as_slice(),
+        0,
+        &seen,
+        &mut desks,
+    )
 }
 
 /// Writes the lines of the intents that contain a and agree with it before attribute `from`. The extent of a child is found among that of a, and
@@ -46,70 +63,123 @@ fn write_branch<const W: usize>(
     a: &Bits<W>,
     places: &[usize],
     from: u32,
-    seen: &mut Vec<u32>,
+    seen: &[u32],
+    desks: &mut Vec<Desk>,
 ) -> Result<(), Memory>
     requires wide { length a.now ≡ sheet.now.context.width }
     requires closed { is_closed sheet.now.context a.now ≡ true }
     requires places { places.now ≡ extent sheet.now.context a.now }
     requires inside { from ≤ sheet.now.context.width }
-    requires seen { AreSeen sheet.now.context a.now seen.old.items }
+    requires seen { AreSeen sheet.now.context a.now seen.now }
     ensures { OnOk result (Fills sheet.now page.old page.new (branch sheet.now.context a.now from)) }
 {
     page.add(sheet, a, places)?;
-    let mut found = Vec::new(alloc);
+    let mut desk = taken(alloc, desks);
     for i in (from..sheet.rows().width()).rev() {
-        if !is_open(sheet, a, i, seen) {
+        if !is_open(sheet, a, i, known(sheet, a, seen, &desk.noted)) {
             continue;
         }
-        found.resize(places.len(), 0)?;
-        if let Some(child) = child_at(sheet, a, places, i, seen, &mut found) {
-            let below = places_of(sheet, &child, &found);
-            let mut passed = seen_above(alloc, sheet, a, seen, &child.intent, i + 1)?;
-            write_branch(alloc, sheet, page, &child.intent, below, i + 1, &mut passed)?;
+        let met = child_at(sheet, a, places, i, seen, &mut desk)?;
+        if let Some(child) = met {
+            let below = places_of(sheet, &child, &desk.found);
+            let passed = known_above(sheet, a, known(sheet, a, seen, &desk.noted), &child.intent);
+            write_branch(
+                alloc,
+                sheet,
+                page,
+                &child.intent,
+                below,
+                i + 1,
+                passed,
+                desks,
+            )?;
         }
     }
+    desks.push(desk)?;
     Ok(())
 }
 
+/// A desk on which nothing is noted.
+fn taken(alloc: Global, desks: &mut Vec<Desk>) -> Desk
+    ensures { result.noted.items ≡ [] }
+{
+    if let Some(mut desk) = desks.pop() {
+        desk.noted.clear();
+        return desk;
+    }
+    Desk {
+        found: Vec::new(alloc),
+        noted: Vec::new(alloc),
+    }
+}
+
 /// The least intent that contains a and attribute i, which a lacks, where it agrees with a before i. The places of its objects are put into the front of
-/// `found`.
+/// those found.
 fn child_at<const W: usize>(
     sheet: &Sheet<'_, W>,
     a: &Bits<W>,
     places: &[usize],
     i: u32,
-    seen: &mut Vec<u32>,
-    found: &mut Vec<usize>,
-) -> Option<Child<W>>
+    seen: &[u32],
+    desk: &mut Desk,
+) -> Result<Option<Child<W>>, Memory>
     requires wide { length a.now ≡ sheet.now.context.width }
     requires closed { is_closed sheet.now.context a.now ≡ true }
     requires places { places.now ≡ extent sheet.now.context a.now }
     requires inside { i < sheet.now.context.width }
     requires lacks { slice_index_or a.now i false ≡ false }
-    requires seen { AreSeen sheet.now.context a.now seen.old.items }
-    requires room { length found.old.items ≡ length places.now }
-    ensures wide { IfSome result (λ child. length child.intent ≡ sheet.now.context.width) }
-    ensures closed { IfSome result (λ child. is_closed sheet.now.context child.intent ≡ true) }
-    ensures places { IfSome result (λ child. take child.count found.new.items ≡ extent sheet.now.context child.intent) }
-    ensures few { IfSome result (λ child. child.count ≤ length found.new.items) }
-    ensures larger { IfSome result (λ child. within a.now child.intent ≡ true) }
-    ensures splits { MatchOption result
+    requires seen { AreSeen sheet.now.context a.now seen.now }
+    requires noted { AreSeen sheet.now.context a.now desk.old.noted.items }
+    ensures wide { IfOk result (λ found. IfSome found (λ child. length child.intent ≡ sheet.now.context.width)) }
+    ensures closed { IfOk result (λ found. IfSome found (λ child. is_closed sheet.now.context child.intent ≡ true)) }
+    ensures places { IfOk result (λ found. IfSome found (λ child. take child.count desk.new.found.items ≡ extent sheet.now.context child.intent)) }
+    ensures few { IfOk result (λ found. IfSome found (λ child. child.count ≤ length desk.new.found.items)) }
+    ensures larger { IfOk result (λ found. IfSome found (λ child. within a.now child.intent ≡ true)) }
+    ensures splits { IfOk result (λ found. MatchOption found
         (branch sheet.now.context a.now i ≡ branch sheet.now.context a.now (i + 1))
-        (λ child. branch sheet.now.context a.now i ≡ branch sheet.now.context a.now (i + 1) ++ branch sheet.now.context child.intent (i + 1)) }
-    ensures seen { AreSeen sheet.now.context a.now seen.new.items }
-    ensures room { length found.new.items ≡ length places.now }
+        (λ child. branch sheet.now.context a.now i ≡ branch sheet.now.context a.now (i + 1) ++ branch sheet.now.context child.intent (i + 1))) }
+    ensures noted { OnOk result (AreSeen sheet.now.context a.now desk.new.noted.items) }
+{
+    let _words = sheet.rows().width();
+    have_room(&mut desk.found, places.len())?;
+    let child = narrowed(sheet, a, places, i, &mut desk.found);
+    if is_child(sheet, a, i, &child.intent, seen, &mut desk.noted)? {
+        return Ok(Some(child));
+    }
+    Ok(None)
+}
+
+/// The closure of a with attribute i. The places of its objects are put into the front of `found`.
+fn narrowed<const W: usize>(
+    sheet: &Sheet<'_, W>,
+    a: &Bits<W>,
+    places: &[usize],
+    i: u32,
+    found: &mut Vec<usize>,
+) -> Child<W>
+    requires wide { length a.now ≡ sheet.now.context.width }
+    requires places { places.now ≡ extent sheet.now.context a.now }
+    requires inside { i < sheet.now.context.width }
+    requires room { length places.now ≤ length found.old.items }
+    ensures closed { result.intent ≡ closure sheet.now.context (slice_set a.now i true) }
+    ensures places { take result.count found.new.items ≡ extent sheet.now.context result.intent }
+    ensures few { result.count ≤ length found.new.items }
 {
     let rows = sheet.rows();
     let _width = rows.width();
     let count = keep_having(sheet.column(i), places, found);
-    let closed = closure_at(rows, &found[..count], &a.with(i));
-    if is_child(sheet, a, i, &closed, seen) {
-        return Some(Child {
-            intent: closed,
-            count,
-        });
+    let intent = closure_at(rows, &found[..count], &a.with(i));
+    Child { intent, count }
+}
+
+/// Makes the list at least so long.
+fn have_room(list: &mut Vec<usize>, len: usize) -> Result<(), Memory>
+    ensures { OnOk result (len ≤ length list.new.items) }
+{
+    if list.len() < len {
+        list.resize(len, 0)?;
     }
-    None
+    Ok(())
 }
 
 /// The places of the objects of the child, which were put into the front of `found`.

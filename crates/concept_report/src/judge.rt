@@ -31,34 +31,75 @@ pub(crate) fn is_open<const W: usize>(
     member >= i || a.has(member)
 }
 
-/// Whether the closure of a with attribute i, which a lacks, agrees with a before i. If it does not, what it has there is noted.
+/// Whether the closure of a with attribute i, which a lacks, agrees with a before i. If it does not, what it has there is noted, beside what was seen.
 pub(crate) fn is_child<const W: usize>(
     sheet: &Sheet<'_, W>,
     a: &Bits<W>,
     i: u32,
     closed: &Bits<W>,
-    seen: &mut Vec<u32>,
-) -> bool
+    seen: &[u32],
+    noted: &mut Vec<u32>,
+) -> Result<bool, Memory>
     requires wide { length a.now ≡ sheet.now.context.width }
     requires inside { i < sheet.now.context.width }
     requires lacks { slice_index_or a.now i false ≡ false }
     requires closed { closed.now ≡ closure sheet.now.context (slice_set a.now i true) }
-    requires seen { AreSeen sheet.now.context a.now seen.old.items }
-    ensures splits { MatchBool result
+    requires seen { AreSeen sheet.now.context a.now seen.now }
+    requires noted { AreSeen sheet.now.context a.now noted.old.items }
+    ensures splits { IfOk result (λ child. MatchBool child
         (branch sheet.now.context a.now i ≡ branch sheet.now.context a.now (i + 1) ++ branch sheet.now.context closed.now (i + 1))
-        (branch sheet.now.context a.now i ≡ branch sheet.now.context a.now (i + 1)) }
-    ensures seen { AreSeen sheet.now.context a.now seen.new.items }
+        (branch sheet.now.context a.now i ≡ branch sheet.now.context a.now (i + 1))) }
+    ensures noted { AreSeen sheet.now.context a.now noted.new.items }
 {
     let Some(new) = closed.first_missing(a) else {
-        return false;
+        return Ok(false);
     };
     if new == i {
-        return true;
+        return Ok(true);
     }
-    if let Some(kept) = seen.get_mut(i as usize) {
-        *kept = new;
+    begin_notes(sheet, a, seen, noted)?;
+    note(noted, i, new);
+    Ok(false)
+}
+
+/// Takes over what was seen, where nothing is noted yet.
+fn begin_notes<const W: usize>(
+    sheet: &Sheet<'_, W>,
+    a: &Bits<W>,
+    seen: &[u32],
+    noted: &mut Vec<u32>,
+) -> Result<(), Memory>
+    requires seen { AreSeen sheet.now.context a.now seen.now }
+    requires noted { AreSeen sheet.now.context a.now noted.old.items }
+    ensures { AreSeen sheet.now.context a.now noted.new.items }
+{
+    if noted.is_empty() {
+        noted.extend_from_slice(seen)?;
     }
-    false
+    Ok(())
+}
+
+/// Puts what was seen of the closure with attribute i in the place of what was seen before.
+fn note(noted: &mut Vec<u32>, i: u32, member: u32)
+    ensures { noted.new.items ≡ slice_set noted.old.items i member }
+{
+    if let Some(kept) = noted.get_mut(i as usize) {
+        *kept = member;
+    }
+}
+
+/// What is known of the closures of a: what was noted, if anything was, and else what was passed down.
+pub(crate) fn known<'a, const W: usize>(
+    sheet: &Sheet<'_, W>,
+    a: &Bits<W>,
+    seen: &'a [u32],
+    noted: &'a Vec<u32>,
+) -> &'a [u32]
+    requires seen { AreSeen sheet.now.context a.now seen.now }
+    requires noted { AreSeen sheet.now.context a.now noted.now.items }
+    ensures { AreSeen sheet.now.context a.now result.now }
+{
+    if noted.is_empty() { seen } else { noted }
 }
 
 /// Each attribute is a member of the closure with it.
@@ -77,32 +118,17 @@ pub(crate) fn first_seen<const W: usize>(
     Ok(seen)
 }
 
-/// What was seen of the closures of a holds of those of a larger set. Where that lacks no attribute from the given one on, nothing need be known.
-pub(crate) fn seen_above<const W: usize>(
-    alloc: Global,
+/// What is known of the closures of a holds of those of a larger set.
+pub(crate) fn known_above<'a, const W: usize>(
     sheet: &Sheet<'_, W>,
     a: &Bits<W>,
-    seen: &[u32],
+    known: &'a [u32],
     child: &Bits<W>,
-    from: u32,
-) -> Result<Vec<u32>, Memory>
-    requires seen { AreSeen sheet.now.context a.now seen.now }
+) -> &'a [u32]
+    requires known { AreSeen sheet.now.context a.now known.now }
     requires larger { within a.now child.now ≡ true }
     requires wide { length child.now ≡ sheet.now.context.width }
-    requires inside { from ≤ sheet.now.context.width }
-    ensures { IfOk result (λ seen. AreSeen sheet.now.context child.now seen.items) }
+    ensures { AreSeen sheet.now.context child.now result.now }
 {
-    let _words = sheet.rows().width();
-    if !lacks_any(child, from) {
-        return Ok(Vec::new(alloc));
-    }
-    Ok(Vec::from_slice(alloc, seen)?)
-}
-
-/// Whether a lacks an attribute from that one on. What is found is the same either way, so no contract speaks of it.
-fn lacks_any<const W: usize>(a: &Bits<W>, from: u32) -> bool
-    requires words { W ≤ 1024 }
-    requires inside { from ≤ length a.now }
-{
-    Bits::full(a.width()).minus(a).next_member(from).is_some()
+    known
 }

@@ -70,7 +70,7 @@ fn concepts_in<const W: usize>(
 {
     let _width = rows.width();
     let page = whole_page(alloc, table, rows, false)?;
-    page.lines.headed(b"concepts ")
+    page.lines.headed(alloc, b"concepts ")
 }
 
 /// The concepts and covers of the table's rows, in as many words as those have.
@@ -85,7 +85,7 @@ fn lattice_in<const W: usize>(
     let _width = rows.width();
     let page = whole_page(alloc, table, rows, true)?;
     let covers = covers_of(alloc, rows, &page.kept)?;
-    let text = page.lines.headed(b"concepts ")?;
+    let text = page.lines.headed(alloc, b"concepts ")?;
     with_covers(text, &covers)
 }
 
@@ -101,7 +101,7 @@ fn whole_page<const W: usize>(
     ensures kept { IfOk result (λ page. keeps ≡ true → page.kept.items ≡ intents table.now.context) }
 {
     let sheet = Sheet::new(alloc, table, rows)?;
-    let mut page = Page::new(alloc, keeps);
+    let mut page = Page::new(alloc, keeps)?;
     write_all(alloc, &sheet, &mut page)?;
     Ok(page)
 }

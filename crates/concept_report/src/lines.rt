@@ -1,6 +1,6 @@
 //! A text of counted lines.
 
-ghost use Rattle.std.specs.Prelude.{◌≡◌, ◌+◌, ◌*◌, ◌^◌, ◌<◌, ◌≤◌, ◌++◌, ◌∷◌, ℕ, [], IfOk, OnOk, OnErr, length, take};
+ghost use Rattle.std.specs.Prelude.{◌≡◌, ◌+◌, ◌*◌, ◌^◌, ◌<◌, ◌≤◌, ◌++◌, ◌∷◌, ℕ, [], IfOk, OnOk, OnErr, length, take, drop};
 ghost use Rattle.fca_model.specs.Context.{extent};
 ghost use Rattle.basis_report.specs.Reports.{counted};
 ghost use Rattle.concept_report.specs.Lines.{Adds, line_of};
@@ -19,7 +19,10 @@ const MARKS: usize = 9;
 /// The least number of bytes by which the text is grown.
 const STEP: usize = 65_536;
 
-/// Lines, and how many they are. They stand in the front of the bytes, whose end is grown in large steps.
+/// How many bytes are left free in front of the lines: those of a first line that counts in six digits, after a word of eight letters and a space.
+const FRONT: usize = 16;
+
+/// Lines, and how many they are. They stand in the bytes up to an end, which is grown in large steps, behind room for a first line.
 #[derive(Drop)]
 pub(crate) struct Lines {
     bytes: Vec<u8>,
@@ -28,26 +31,30 @@ pub(crate) struct Lines {
 }
 
 impl Model for Lines {
-    ghost use Rattle.std.specs.Prelude.{◌≤◌, length, take};
+    ghost use Rattle.std.specs.Prelude.{◌≤◌, length, take, drop};
     ghost use Rattle.concept_report.specs.Lines.{CountedText};
+    ghost use Rattle.concept_report.specs.declared.lines.TheConstants.{FRONT};
 
     ghost Value = { CountedText };
 
-    ghost view = { λ l. record { text = take l.end l.bytes.items; count = l.count } };
+    ghost view = { λ l. record { text = drop FRONT (take l.end l.bytes.items); count = l.count } };
 
-    ghost invariant = { λ l. l.end ≤ length l.bytes.items };
+    ghost invariant = { λ l. record {
+      front : FRONT ≤ l.end;
+      ends : l.end ≤ length l.bytes.items;
+    } };
 }
 
 impl Lines {
     /// No line.
-    pub(crate) fn new(alloc: Global) -> Lines
-        ensures { result ≡ record { text = []; count = 0 } }
+    pub(crate) fn new(alloc: Global) -> Result<Lines, Memory>
+        ensures { IfOk result (λ lines. lines ≡ record { text = []; count = 0 }) }
     {
-        Lines {
-            bytes: Vec::new(alloc),
-            end: 0,
+        Ok(Lines {
+            bytes: Vec::from_slice(alloc, &[0; FRONT])?,
+            end: FRONT,
             count: 0,
-        }
+        })
     }
 
     /// Adds the line of the concept of a, whose objects stand at these places.
@@ -73,23 +80,94 @@ impl Lines {
         Ok(())
     }
 
-    /// The lines behind one that says in these words how many they are. It is written last and brought to the front, with no second copy of the text.
-    pub(crate) fn headed(self, words: &[u8]) -> Result<Vec<u8>, Memory>
+    /// The lines behind one that says in these words how many they are. It is written last, into the room in front, with no second copy of the text.
+    pub(crate) fn headed(self, alloc: Global, words: &[u8]) -> Result<Vec<u8>, Memory>
         ensures { IfOk result (λ v. v.items ≡ counted words.now self.count ++ self.text) }
     {
+        let head = head_of(alloc, words, self.count)?;
         let end = self.end;
         let mut text = self.bytes;
         text.truncate(end);
-        text.extend_from_slice(words)?;
-        text.extend_from_slice(Buffer::new().format(self.count).as_bytes())?;
-        text.extend_from_slice(b"\n")?;
-        text.rotate_left(end);
+        put_front(&mut text, &head)?;
         Ok(text)
     }
 }
 
-/// Puts the line down from that place on, where there is room for it or room is made, and tells where it ends.
+/// The line that says in these words how many there are.
+fn head_of(alloc: Global, words: &[u8], count: usize) -> Result<Vec<u8>, Memory>
+    ensures { IfOk result (λ head. head.items ≡ counted words.now count) }
+{
+    let mut head = Vec::from_slice(alloc, words)?;
+    head.extend_from_slice(Buffer::new().format(count).as_bytes())?;
+    head.extend_from_slice(b"\n")?;
+    Ok(head)
+}
+
+/// Puts the head in the place of the room in front of the text.
+fn put_front(text: &mut Vec<u8>, head: &[u8]) -> Result<(), Memory>
+    requires { FRONT ≤ length text.old.items }
+    ensures { OnOk result (text.new.items ≡ head.now ++ drop FRONT text.old.items) }
+{
+    fit_front(text, head.len())?;
+    overwrite(text, head);
+    Ok(())
+}
+
+/// Puts the head in the place of the first bytes of the text.
+fn overwrite(text: &mut [u8], head: &[u8])
+    requires { length head.now ≤ length text.old }
+    ensures { text.new ≡ head.now ++ drop (length head.now) text.old }
+{
+    text[..head.len()].copy_from_slice(head);
+}
+
+/// Makes the room in front of the text so many bytes long. What is behind it is moved only where that is another number.
+fn fit_front(text: &mut Vec<u8>, wanted: usize) -> Result<(), Memory>
+    requires { FRONT ≤ length text.old.items }
+    ensures text { OnOk result (drop wanted text.new.items ≡ drop FRONT text.old.items) }
+    ensures room { OnOk result (wanted ≤ length text.new.items) }
+{
+    let len = text.len();
+    if wanted <= FRONT {
+        let spare = FRONT - wanted;
+        text.rotate_left(spare);
+        text.truncate(len - spare);
+        return Ok(());
+    }
+    let Some(larger) = len.checked_add(wanted - FRONT) else {
+        return Err(Memory);
+    };
+    text.resize(larger, 0)?;
+    text.rotate_left(len);
+    Ok(())
+}
+
+/// Puts the line down from that place on, behind the room in front, and tells where it ends.
 fn add_line<const W: usize>(
+    bytes: &mut Vec<u8>,
+    start: usize,
+    sheet: &Sheet<'_, W>,
+    digits: &[u8],
+    a: &Bits<W>,
+    places: &[usize],
+) -> Result<usize, Memory>
+    requires front { FRONT ≤ start }
+    requires start { start ≤ length bytes.old.items }
+    requires wide { length a.now ≡ sheet.now.context.width }
+    requires places { places.now ≡ extent sheet.now.context a.now }
+    ensures text { IfOk result (λ end. drop FRONT (take end bytes.new.items)
+        ≡ drop FRONT (take start bytes.old.items) ++ line_of sheet.now digits.now a.now places.now) }
+    ensures front { IfOk result (λ end. FRONT ≤ end) }
+    ensures ends { IfOk result (λ end. end ≤ length bytes.new.items) }
+    ensures kept { OnErr result (start ≤ length bytes.new.items) }
+{
+    let _words = sheet.rows().width();
+    let end = append_line(bytes, start, sheet, digits, a, places)?;
+    Ok(end)
+}
+
+/// Puts the line down from that place on, where there is room for it or room is made, and tells where it ends.
+fn append_line<const W: usize>(
     bytes: &mut Vec<u8>,
     start: usize,
     sheet: &Sheet<'_, W>,

@@ -1,6 +1,6 @@
 //! The lines of concepts, with their intents where these are wanted again.
 
-ghost use Rattle.std.specs.Prelude.{◌≡◌, ◌∷◌, [], OnOk, length};
+ghost use Rattle.std.specs.Prelude.{◌≡◌, ◌∷◌, [], OnOk, IfOk, length};
 ghost use Rattle.fca_model.specs.Context.{extent};
 ghost use Rattle.concept_report.specs.Pages.{Fills};
 
@@ -20,16 +20,16 @@ pub(crate) struct Page<const W: usize> {
 
 impl<const W: usize> Page<W> {
     /// A page with no line.
-    pub(crate) fn new(alloc: Global, keeps: bool) -> Page<W>
-        ensures lines { result.lines ≡ record { text = []; count = 0 } }
-        ensures keeps { result.keeps ≡ keeps }
-        ensures kept { result.kept.items ≡ [] }
+    pub(crate) fn new(alloc: Global, keeps: bool) -> Result<Page<W>, Memory>
+        ensures lines { IfOk result (λ page. page.lines ≡ record { text = []; count = 0 }) }
+        ensures keeps { IfOk result (λ page. page.keeps ≡ keeps) }
+        ensures kept { IfOk result (λ page. page.kept.items ≡ []) }
     {
-        Page {
-            lines: Lines::new(alloc),
+        Ok(Page {
+            lines: Lines::new(alloc)?,
             keeps,
             kept: Vec::new(alloc),
-        }
+        })
     }
 
     /// Adds the line of the concept of a, whose objects stand at these places.

@@ -10,6 +10,6 @@ abbrev pub invariant-loop-i : goal.invariant-loop-i
 invariant-loop-i g l = record {
   from_on : l.fn.from ≤ l.i;
   inside : l.i ≤ l.sheet.context.width;
-  seen : AreSeen l.sheet.context l.a l.seen.items;
+  noted : AreSeen l.sheet.context l.a l.desk.noted.items;
   filled : Fills l.sheet l.fn.page l.page (branch l.sheet.context l.a l.i);
 }
