@@ -1,5 +1,5 @@
 -- Digits: each is a byte from 48 to 57, and the number of i of them is below 10^i.
-use Rattle.std.proofs.Common.{◌≡◌, ◌<◌, ◌≤◌, ◌+◌, ◌*◌, ◌^◌, ◌-◌, ℕ, zero, suc, subst, true, length, get_or, arith, leb-true, pow-suc}
+use Rattle.std.proofs.Common.{◌≡◌, ◌<◌, ◌≤◌, ◌+◌, ◌*◌, ◌^◌, ◌-◌, ℕ, zero, suc, subst, List, true, length, get_or, arith, leb-true, pow-suc}
 use Rattle.std.proofs.lemmas.Bool.{and_parts}
 use Rattle.std.proofs.lemmas.List.Sums.{AllPass-from_list_all}
 use Rattle.fca_model.specs.Tables.{Text}

@@ -3,7 +3,7 @@
 -- A number is 1 to 19 decimal digits, with or without a - before them, from -2^63 to 2^63 - 1. So -0 and 0 are one number, and so are 7 and 007.
 --
 -- "-12" is the number -12; "+12", "1.5" and "12 " are none.
-use Rattle.std.specs.Prelude.{ℕ, ◌+◌, ◌*◌, ◌-◌, ◌==◌, ◌&&◌, Bool, nat_le, nat_lt, true, false, cond, [], ◌∷◌, Option, Some, None, ℤ, pos, neg_ℤ, length, fold}
+use Rattle.std.specs.Prelude.{ℕ, ◌+◌, ◌*◌, ◌-◌, ◌^◌, ◌==◌, ◌&&◌, Bool, nat_le, nat_lt, true, false, cond, List, [], ◌∷◌, Option, Some, None, ℤ, pos, neg_ℤ, length, fold}
 use Rattle.std.specs.List.{list_all}
 use Rattle.fca_model.specs.Tables.{Text}
 

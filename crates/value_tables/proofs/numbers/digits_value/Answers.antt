@@ -1,4 +1,4 @@
-use Rattle.std.proofs.Common.{◌∙◌, ◌+◌, ◌*◌, ◌-◌, ◌≤◌, ℕ, sym, ap₂, arith}
+use Rattle.std.proofs.Common.{◌≡◌, ◌∙◌, ◌+◌, ◌*◌, ◌-◌, ◌<◌, ◌≤◌, ℕ, fold, get_or, sym, ap₂, arith}
 use Rattle.std.proofs.lemmas.List.Sums.{fold_more}
 use Rattle.value_tables.proofs.NumberLemmas.{digit_between, digits_few, digits_room, digits_small}
 use Rattle.value_tables.proofs.numbers.digits_value.Goals as goal
