@@ -1,3 +1,4 @@
 mod BlockLemmas
 mod ColumnLemmas
 mod ClosureSteps
+pub mod ExtentLemmas
