@@ -27,13 +27,13 @@ module _ (n : ℕ) (O : Set) (g : ℕ) where
   pub met_place : (C : Set) (Cs : List Set) → C ≡ get_or Cs n [] → in_block n (meet O C) g ≡ (in_block n O g && in_column Cs g)
   met_place C Cs c = bool_iff (in_block n (meet O C) g) (in_block n O g && in_column Cs g)
       (λ t.
-        let p = and_parts here (at (meet O C)) t in
-        let q = and_parts (at O) (at C) (sym (get_or-meet O C (g % 256)) ∙ p.1) in
-        and_from (in_block n O g) (in_column Cs g) (and_from here (at O) p.0 q.0) (sym (column_here C Cs c p.0) ∙ q.1))
+      let p = and_parts here (at (meet O C)) t in
+      let q = and_parts (at O) (at C) (sym (get_or-meet O C (g % 256)) ∙ p.1) in
+      and_from (in_block n O g) (in_column Cs g) (and_from here (at O) p.0 q.0) (sym (column_here C Cs c p.0) ∙ q.1))
       (λ t.
-        let p = and_parts (in_block n O g) (in_column Cs g) t in
-        let q = and_parts here (at O) p.0 in
-        and_from here (at (meet O C)) q.0 (get_or-meet O C (g % 256) ∙ and_from (at O) (at C) q.1 (column_here C Cs c q.0 ∙ p.1)))
+      let p = and_parts (in_block n O g) (in_column Cs g) t in
+      let q = and_parts here (at O) p.0 in
+      and_from here (at (meet O C)) q.0 (get_or-meet O C (g % 256) ∙ and_from (at O) (at C) q.1 (column_here C Cs c q.0 ∙ p.1)))
 
   -- a block past the end of the column
   pub past_place : (Cs : List Set) → length Cs ≤ n → in_block n O g ≡ true → in_column Cs g ≡ false
@@ -74,14 +74,16 @@ module _ (n : ℕ) (O C D : Set) (Cs Ds : List Set) (c : C ≡ get_or Cs n []) (
       let lt : j < 256 = omega (arith, member_below O j both.0, small) in
       let block : n ≡ (n * 256 + j) / 256 = omega (arith, lt) in
       let place : j ≡ (n * 256 + j) % 256 = omega (arith, lt) in
-      let number : eqb n ((n * 256 + j) / 256) ≡ true = eq-eqb n ((n * 256 + j) / 256) block in
-      (lt, and_from (eqb n ((n * 256 + j) / 256)) (get_or O ((n * 256 + j) % 256) false) number (ap (λ k. get_or O k false) (sym place) ∙ both.0),
+      let number : eqb n ((n * 256 + j) / 256) ≡ true = eq-eqb n ((n * 256 + j) / 256) block in (
+        lt,
+        and_from (eqb n ((n * 256 + j) / 256)) (get_or O ((n * 256 + j) % 256) false) number (ap (λ k. get_or O k false) (sym place) ∙ both.0),
         sym (column_here n O (n * 256 + j) C Cs c number) ∙ ap (λ k. get_or C k false) (sym place) ∙ both.1,
-        sym (column_here n O (n * 256 + j) D Ds d number) ∙ ap (λ k. get_or D k false) (sym place) ∙ parts.1)
+        sym (column_here n O (n * 256 + j) D Ds d number) ∙ ap (λ k. get_or D k false) (sym place) ∙ parts.1,
+      )
 
   pub first_or_none : (o : Option ℕ) → o ≡ first_missing 0 (meet O C) D → length O ≤ 256
       → MatchOption o ((g : ℕ) → in_block n O g ≡ true → in_column Cs g ≡ true → in_column Ds g ≡ true)
-        (λ j. (j < 256) × (in_block n O (n * 256 + j) ≡ true) × (in_column Cs (n * 256 + j) ≡ true) × (in_column Ds (n * 256 + j) ≡ false))
+      (λ j. (j < 256) × (in_block n O (n * 256 + j) ≡ true) × (in_column Cs (n * 256 + j) ≡ true) × (in_column Ds (n * 256 + j) ≡ false))
   first_or_none None e small = none_left (sym e)
   first_or_none (Some j) e small = first_left j small (sym e)
 

@@ -85,8 +85,8 @@ module _ (K : Context) (A : Set) where
       kept_below =
           ap (λ X. within X (closure K A)) n
           ∙ below_rows (set B k true) (length-set B k true ∙ b_wide) (λ g t.
-            let p = and_parts (in_parts Ps g) (has_at K i g) (extent g ∙ t) in
-            set_within B (row_at K g) k (within_trans B (closure K A) (row_at K g) below (row_above g t)) (none g p.0 p.1))
+          let p = and_parts (in_parts Ps g) (has_at K i g) (extent g ∙ t) in
+          set_within B (row_at K g) k (within_trans B (closure K A) (row_at K g) below (row_above g t)) (none g p.0 p.1))
 
       pub kept_more : (size N ≡ size B + 1) × (size N ≤ K.width)
       kept_more =

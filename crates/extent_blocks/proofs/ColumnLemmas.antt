@@ -62,10 +62,10 @@ pub left_out : (Cs : List Set) (p : ℕ) (b : ℕ → Bool) → b p ≡ false �
 left_out Cs p b out h g = h g ∙ bool_iff (ltb g p && b g) (ltb g (p + 1) && b g)
     (λ t. let q = and_parts (ltb g p) (b g) t in and_from (ltb g (p + 1)) (b g) (lt-ltb g (p + 1) (omega (arith, ltb-true g p q.0))) q.1)
     (λ t. let q = and_parts (ltb g (p + 1)) (b g) t in
-      elim (cases_eq g p) [
-        | inl e ↦ absurd (false≢true (sym out ∙ ap b (sym e) ∙ q.1))
-        | inr ne ↦ and_from (ltb g p) (b g) (lt-ltb g p (omega (arith, ltb-true g (p + 1) q.0, ne))) q.1
-      ])
+    elim (cases_eq g p) [
+      | inl e ↦ absurd (false≢true (sym out ∙ ap b (sym e) ∙ q.1))
+      | inr ne ↦ and_from (ltb g p) (b g) (lt-ltb g p (omega (arith, ltb-true g (p + 1) q.0, ne))) q.1
+    ])
 
 pub all_wide : (Cs : List Set) (k : ℕ) (N : Set) → length N ≡ 256 → All (λ B. length B ≡ 256) Cs → All (λ B. length B ≡ 256) (set Cs k N)
 all_wide Cs k N e h = All-from_get_or (λ B. length B ≡ 256) (set Cs k N) [] (λ i l.
@@ -98,6 +98,6 @@ has_row K i g t = elim (cases_lt g (length K.rows)) [
 pub has_one : (K : Context) (i : ℕ) (A : Set) → i < K.width → A ≡ set (replicate K.width false) i true → (g : ℕ) → contains_at K A g ≡ has_at K i g
 has_one K i A l a g = bool_iff (contains_at K A g) (has_at K i g)
     (λ t. within_at_place A (row_at K g) (and_parts (ltb g (length K.rows)) (within A (row_at K g)) t).1 i
-      (ap (λ X. get_or X i false) a ∙ get_or-set_same (replicate K.width false) i true false (omega (arith, length-replicate K.width false, l))))
+    (ap (λ X. get_or X i false) a ∙ get_or-set_same (replicate K.width false) i true false (omega (arith, length-replicate K.width false, l))))
     (λ t. and_from (ltb g (length K.rows)) (within A (row_at K g)) (lt-ltb g (length K.rows) (has_row K i g t))
-      (ap (λ X. within X (row_at K g)) a ∙ set_within (replicate K.width false) (row_at K g) i (within_from_places (replicate K.width false) (row_at K g) (λ j m u. absurd (false≢true (sym (no_member K.width j) ∙ u)))) t))
+    (ap (λ X. within X (row_at K g)) a ∙ set_within (replicate K.width false) (row_at K g) i (within_from_places (replicate K.width false) (row_at K g) (λ j m u. absurd (false≢true (sym (no_member K.width j) ∙ u)))) t))

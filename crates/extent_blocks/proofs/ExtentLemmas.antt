@@ -13,20 +13,20 @@ use Rattle.extent_blocks.proofs.ClosureSteps.{row_above}
 pub same_rows : (K : Context) (X D : Set) → within X D ≡ true → within D (closure K X) ≡ true → (g : ℕ) → contains_at K X g ≡ contains_at K D g
 same_rows K X D up shared g = bool_iff (contains_at K X g) (contains_at K D g)
     (λ t. and_from (ltb g (length K.rows)) (within D (row_at K g)) (and_parts (ltb g (length K.rows)) (within X (row_at K g)) t).0
-      (within_trans D (closure K X) (row_at K g) shared (row_above K X g t)))
+    (within_trans D (closure K X) (row_at K g) shared (row_above K X g t)))
     (λ t. let p = and_parts (ltb g (length K.rows)) (within D (row_at K g)) t in
-      and_from (ltb g (length K.rows)) (within X (row_at K g)) p.0 (within_trans X D (row_at K g) up p.1))
+    and_from (ltb g (length K.rows)) (within X (row_at K g)) p.0 (within_trans X D (row_at K g) up p.1))
 
 -- one attribute more
 pub contains_with : (K : Context) (A : Set) (i : ℕ) → i < length A → within A (set A i true) ≡ true → (g : ℕ) → (contains_at K A g && has_at K i g) ≡ contains_at K (set A i true) g
 contains_with K A i inside up g = bool_iff (contains_at K A g && has_at K i g) (contains_at K (set A i true) g)
     (λ t. let p = and_parts (contains_at K A g) (has_at K i g) t in
-      let q = and_parts (ltb g (length K.rows)) (within A (row_at K g)) p.0 in
-      and_from (ltb g (length K.rows)) (within (set A i true) (row_at K g)) q.0 (set_within A (row_at K g) i q.1 p.1))
+    let q = and_parts (ltb g (length K.rows)) (within A (row_at K g)) p.0 in
+    and_from (ltb g (length K.rows)) (within (set A i true) (row_at K g)) q.0 (set_within A (row_at K g) i q.1 p.1))
     (λ t. let q = and_parts (ltb g (length K.rows)) (within (set A i true) (row_at K g)) t in
-      and_from (contains_at K A g) (has_at K i g)
-      (and_from (ltb g (length K.rows)) (within A (row_at K g)) q.0 (within_trans A (set A i true) (row_at K g) up q.1))
-      (within_at_place (set A i true) (row_at K g) q.1 i (get_or-set_same A i true false inside)))
+    and_from (contains_at K A g) (has_at K i g)
+    (and_from (ltb g (length K.rows)) (within A (row_at K g)) q.0 (within_trans A (set A i true) (row_at K g) up q.1))
+    (within_at_place (set A i true) (row_at K g) q.1 i (get_or-set_same A i true false inside)))
 
 -- the extent of what contains A and i, and lies within the closure
 pub extent_larger : (K : Context) (A D : Set) (i : ℕ) (Ps : List Part) → IsExtent K A Ps → i < length A → within A (set A i true) ≡ true → within (set A i true) D ≡ true → within D (closure K (set A i true)) ≡ true → IsExtentWith K D i Ps

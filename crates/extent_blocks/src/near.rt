@@ -11,6 +11,9 @@ use fca_model::Memory;
 use std::alloc::Global;
 use std::marker::Model;
 
+/// Rows are met one by one where there are no more of them than this.
+const FEW_ROWS: usize = 24;
+
 /// Some places of the block of this number.
 #[derive(Clone, Copy)]
 struct Block {
@@ -68,6 +71,9 @@ impl Near {
         ensures { result ≡ closure sheet.now a.now }
     {
         let rows = sheet.rows();
+        if rows.len() <= FEW_ROWS {
+            return rows.closure(a);
+        }
         let mut met = Bits::full(rows.width());
         let mut kept = *a;
         while let Some(k) = met.first_missing(&kept) {
@@ -118,15 +124,13 @@ impl Block {
         ensures { MatchOption result
             ((g : ℕ) → in_block self.now.number self.now.objects g ≡ true → in_column having.now g ≡ true → in_column lacking.now g ≡ true)
             (λ j. (j < 256) × (in_block self.now.number self.now.objects (self.now.number * 256 + j) ≡ true)
-                × (in_column having.now (self.now.number * 256 + j) ≡ true) × (in_column lacking.now (self.now.number * 256 + j) ≡ false)) }
+            × (in_column having.now (self.now.number * 256 + j) ≡ true) × (in_column lacking.now (self.now.number * 256 + j) ≡ false)) }
     {
         let _width = self.objects.width();
         let Some(with) = having.get(self.number) else {
             return None;
         };
-        self.objects
-            .meet(with)
-            .first_missing(&lacking[self.number])
+        self.objects.meet(with).first_missing(&lacking[self.number])
     }
 }
 

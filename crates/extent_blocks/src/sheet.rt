@@ -64,10 +64,7 @@ impl<const W: usize> Sheet<W> {
 }
 
 /// The column of each attribute.
-fn columns_of<const W: usize>(
-    alloc: Global,
-    rows: &RowsOf<W>,
-) -> Result<Vec<Vec<Objects>>, Memory>
+fn columns_of<const W: usize>(alloc: Global, rows: &RowsOf<W>) -> Result<Vec<Vec<Objects>>, Memory>
     ensures room { IfOk result (λ columns. length columns.items ≡ rows.now.width) }
     ensures columns { IfOk result (λ columns. AreColumns rows.now (map (λ v. v.items) columns.items)) }
 {

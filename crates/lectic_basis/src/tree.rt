@@ -37,7 +37,16 @@ pub(crate) fn visit_all<const W: usize>(
         Some(intent) => {
             let near = Near::of(alloc, sheet, &intent)?;
             let mut forced = first_forced(alloc, found, &intent)?;
-            spread(alloc, sheet, &near, known, found, &intent, from, &mut forced)
+            spread(
+                alloc,
+                sheet,
+                &near,
+                known,
+                found,
+                &intent,
+                from,
+                &mut forced,
+            )
         }
     }
 }
@@ -63,7 +72,16 @@ fn spread<const W: usize>(
         if let Some(child) = child_at(sheet, near, known, found, a, i, forced)? {
             let below = near_below(alloc, sheet, near, &child, i)?;
             let mut passed = passed_on(alloc, found, &child, forced)?;
-            spread(alloc, sheet, &below, known, found, &child, i + 1, &mut passed)?;
+            spread(
+                alloc,
+                sheet,
+                &below,
+                known,
+                found,
+                &child,
+                i + 1,
+                &mut passed,
+            )?;
         }
     }
     Ok(())

@@ -26,8 +26,11 @@ loop-k-smaller-in-Some-lacking g c =
     let missing : first_missing 0 c.loop-k.met c.loop-k.kept ≡ Some c.in-Some.k = sym c.first_missing.ensures ∙ c.in-Some.is in
     let R : Set = c.index-as_slice-place.result in
     let row : R ≡ get_or K.rows c.in-Some-lacking.place R = c.index-as_slice-place.is ∙ ap (λ (Rs : List Set). get_or Rs c.in-Some-lacking.place R) (c.as_slice.ensures.rows ∙ ap (λ (X : Context). X.rows) c.rows-rows.ensures) in
-    omega (arith, met_less K c.args.a.now c.args.i c.args.self.now c.requires.extent c.loop-k.met c.loop-k.kept v.met_wide v.kept_wide v.above v.below c.in-Some.k missing
-    c.in-Some-lacking.place c.in-Some-lacking.ensures.0 c.in-Some-lacking.ensures.1 c.in-Some-lacking.ensures.2 R c.meet-met.result row c.meet-met.ensures)
+    omega (
+      arith,
+      met_less K c.args.a.now c.args.i c.args.self.now c.requires.extent c.loop-k.met c.loop-k.kept v.met_wide v.kept_wide v.above v.below c.in-Some.k missing
+          c.in-Some-lacking.place c.in-Some-lacking.ensures.0 c.in-Some-lacking.ensures.1 c.in-Some-lacking.ensures.2 R c.meet-met.result row c.meet-met.ensures,
+    )
 
 pub loop-k-preserved-in-Some-lacking : goal.loop-k-preserved-in-Some-lacking
 loop-k-preserved-in-Some-lacking g c =
