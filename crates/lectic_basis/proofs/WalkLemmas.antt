@@ -13,7 +13,8 @@ use Rattle.fca_model.proofs.SetLemmas.{same-true, same_from, within_refl, within
 use Rattle.fca_model.proofs.ClosureLemmas.{length-closure, closure_extensive}
 use Rattle.implication_closure.specs.Closing.{RuleList, IsClosure}
 use Rattle.lectic_concepts.specs.Branches.{agree_before}
-use Rattle.lectic_concepts.proofs.BranchLemmas.{among, closure_among}
+use Rattle.extent_blocks.specs.Blocks.{Part, IsExtent, IsExtentWith}
+use Rattle.extent_blocks.proofs.ExtentLemmas.{extent_larger, extent_shared}
 use Rattle.lectic_basis.specs.Trees.{InFamily, IsLeastBehind, up_to, members_where, found_where}
 use Rattle.lectic_basis.specs.Walks.{IsVisit, IsBelow, IsTrying, HasFound, IsPart, IsPartBefore}
 use Rattle.lectic_basis.specs.Forced.{AreForced, IsLonger}
@@ -40,21 +41,6 @@ root_visit S K A F known a list filed good = record {
 module _ {S : List Rule} {K : Context} {A : Set} {from : ℕ} {F G : Watched} where
   pub part_before : HasFound S K A from (IsPart A) F G → HasFound S K A from (IsPartBefore A from) F G
   part_before x = record { found = x.found; filed = x.filed; kept = λ X h. x.kept X h.part }
-
--- the rows that contain A are enough
-pub near_below : {S : List Rule} {K L M : Context} {A : Set} {from : ℕ} {F : Watched} → IsBelow S K L A from F → M ≡ among L A → IsBelow S K M A from F
-near_below {L = L} {A = A} b m = record {
-  at = record {
-    holds = b.at.holds;
-    family = b.at.family;
-    inside = b.at.inside;
-    near = λ X h. ap (λ N. closure N X) m ∙ closure_among L A X h ∙ b.at.near X h;
-    filed = b.at.filed;
-    good = b.at.good;
-  };
-  least = b.least;
-  found = b.found;
-}
 
 -- ---- a visit
 
@@ -299,6 +285,27 @@ module _ {S : List Rule} {K L : Context} {A : Set} {i : ℕ} {G : Watched} (t : 
             → IfOk r (λ o. MatchOption o (HasFound S K C (i + 1) (IsPartBefore C (i + 1)) H I) (λ b. (J : Watched) → HasFound S K b (i + 1) (IsPart b) I J → HasFound S K C (i + 1) (IsPartBefore C (i + 1)) H J))
             → IfOk r (λ o. MatchOption o (HasFound S K A i (IsPart A) G I) (λ b. (J : Watched) → HasFound S K b (i + 1) (IsPart b) I J → HasFound S K A i (IsPart A) G J))
         below_told I r told = told_weaker r below_visited (λ b done J h. below_visited (done J h)) told
+
+        -- it lies within the closure of A with i, so both have the same rows
+        pub below_shared : within C (closure K (set A i true)) ≡ true
+        below_shared =
+            let wide : length (set A i true) ≡ K.width = length-set A i true ∙ t.at.family.wide in
+            let T = closure K (set A i true) in
+            let intent = closed_closure S K (set A i true) wide in
+            closed.least T (closure_extensive K (set A i true) wide) (closed_respects_where S K (up_to (suc i) A) T (family_of_closed S K t.at.holds T (length-closure K (set A i true)) intent) intent)
+
+        pub below_extent : (Ps : List Part) → IsExtent K A Ps → IsExtentWith K C i Ps
+        below_extent Ps extent = extent_larger K A C i Ps extent (omega (arith, inside, t.at.family.wide)) (within_set A i) closed.above below_shared
+
+        pub below_wide : length C ≡ K.width
+        below_wide = closed.wide ∙ length-set A i true ∙ t.at.family.wide
+
+-- what is told lies within the closure
+pub told_extent : {E : Type 0} (K : Context) (C : Set) (i : ℕ) (Ps : List Part) (r : Result (Option Set) E) → IsExtentWith K C i Ps → IfOk r (λ o. IfSome o (λ b. within C b ≡ true))
+    → IfOk r (λ o. IfSome o (λ b. within b (closure K C) ≡ true)) → IfOk r (λ o. IfSome o (λ b. IsExtentWith K b i Ps))
+told_extent K C i Ps (Err e) extent larger shared = larger
+told_extent K C i Ps (Ok None) extent larger shared = larger
+told_extent K C i Ps (Ok (Some b)) extent larger shared = extent_shared K C b i Ps extent larger shared
 
 -- where i is seen to force an attribute before it that A lacks, no member is left out
 pub below_forced : {S : List Rule} {K L : Context} {A : Set} {i : ℕ} {G : Watched} (w : ℕ) (ws : List ℕ) → IsTrying S K L A i G → get_or A i false ≡ false → AreForced G.list.members A ws → get_or ws i i ≡ w → w < i → get_or A w false ≡ false

@@ -11,7 +11,6 @@ ghost use Rattle.lectic_basis.specs.LevelWalks.{IsEntered, IsLeft, IsTrying, Has
 
 use crate::closing::close;
 use crate::narrow_list::rules_in_words;
-use crate::tree::{lacking, pays};
 use crate::watched_list::WatchedList;
 use attr_bits::{Attrs, Bits, WORDS};
 use derivation::{Rows, RowsOf};
@@ -19,6 +18,12 @@ use fca_model::{Implication, Memory};
 use implication_closure::ImplicationList;
 use lectic_concepts::{FOUR_WORDS, ONE_WORD};
 use std::alloc::Global;
+
+/// Rows are set apart where there are more of them than this.
+const FEW_ROWS: usize = 24;
+
+/// Rows are set apart where more attributes than this are left.
+const FEW_ATTRIBUTES: u32 = 3;
 
 /// A level of the basis: the size of its premises, and its members in lectic order, with sets of W words.
 #[derive(Drop)]
@@ -215,4 +220,21 @@ fn rows_near<const W: usize>(
     ensures { IfOk result (λ near. IsLeft rows.now near a.now from found.now level.now.size level.now.members.items) }
 {
     above.containing(alloc, a)
+}
+
+/// Whether it pays to set apart the rows that contain a set below which so many attributes are tried. What is found is the same either way, so no contract speaks
+/// of it.
+fn pays<const W: usize>(above: &RowsOf<W>, tried: u32) -> bool {
+    above.len() > FEW_ROWS && tried > FEW_ATTRIBUTES
+}
+
+/// How many attributes from this one on the set lacks.
+fn lacking<const W: usize>(a: &Bits<W>, from: u32) -> u32 {
+    let mut lacking = 0u32;
+    for i in from..a.width() {
+        if !a.has(i) {
+            lacking = lacking.saturating_add(1);
+        }
+    }
+    lacking
 }

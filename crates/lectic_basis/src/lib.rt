@@ -17,6 +17,7 @@ ghost use Rattle.fca_model.specs.Pseudo.{basis_known};
 
 use attr_bits::Attrs;
 use derivation::{Rows, RowsOf};
+use extent_blocks::Sheet;
 use fca_model::Memory;
 use implication_closure::ImplicationList;
 use lectic_concepts::{FOUR_WORDS, ONE_WORD};
@@ -39,27 +40,41 @@ pub fn basis_watched(
 {
     let width = rows.width();
     if width <= ONE_WORD {
-        return basis_of(alloc, &rows.resized::<1>(alloc)?, known);
+        return basis_of(alloc, rows.resized::<1>(alloc)?, known);
     }
     if width <= FOUR_WORDS {
-        return basis_of(alloc, &rows.resized::<4>(alloc)?, known);
+        return basis_of(alloc, rows.resized::<4>(alloc)?, known);
     }
-    basis_of(alloc, rows, known)
+    basis_of(alloc, rows.copy()?, known)
 }
 
 /// The same, with sets of the words that the rows have.
 fn basis_of<const W: usize>(
     alloc: Global,
-    rows: &RowsOf<W>,
+    rows: RowsOf<W>,
     known: &ImplicationList,
 ) -> Result<ImplicationList, Memory>
-    requires wide { known.now.width ≡ rows.now.width }
-    requires holds { list_all (holds rows.now) known.now.members ≡ true }
-    ensures { IfOk result (λ list. list ≡ record { width = rows.now.width; members = known.now.members ++ basis_known known.now.members rows.now }) }
+    requires wide { known.now.width ≡ rows.width }
+    requires holds { list_all (holds rows) known.now.members ≡ true }
+    ensures { IfOk result (λ list. list ≡ record { width = rows.entry.width; members = known.now.members ++ basis_known known.now.members rows.entry }) }
 {
-    let _width = rows.width();
+    let sheet = Sheet::new(alloc, rows)?;
+    basis_by(alloc, &sheet, known)
+}
+
+/// The same, where the columns are there.
+fn basis_by<const W: usize>(
+    alloc: Global,
+    sheet: &Sheet<W>,
+    known: &ImplicationList,
+) -> Result<ImplicationList, Memory>
+    requires wide { known.now.width ≡ sheet.now.width }
+    requires holds { list_all (holds sheet.now) known.now.members ≡ true }
+    ensures { IfOk result (λ list. list ≡ record { width = sheet.now.width; members = known.now.members ++ basis_known known.now.members sheet.now }) }
+{
+    let _width = sheet.rows().width();
     let least = known.naive_closure(&Attrs::empty(known.width()));
     let mut found = WatchedList::of(alloc, known, &least)?;
-    visit_all(alloc, rows, known, &mut found, &least.resized(), 0)?;
+    visit_all(alloc, sheet, known, &mut found, &least.resized(), 0)?;
     found.into_list(alloc)
 }

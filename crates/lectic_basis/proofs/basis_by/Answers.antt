@@ -1,35 +1,36 @@
 use Rattle.std.proofs.Common.{◌≡◌, ◌++◌, length, false, replicate, sym, ap, ◌∙◌, subst, arith}
 use Rattle.std.proofs.lemmas.Simd.{length-replicate}
 use Rattle.std.proofs.lemmas.Result.{IfOk-weaker}
+use Rattle.fca_model.specs.Context.{Context}
 use Rattle.fca_model.specs.Pseudo.{basis_known}
 use Rattle.implication_closure.specs.Closing.{RuleList, IsClosure}
 use Rattle.lectic_basis.specs.Walks.{IsVisit}
 use Rattle.lectic_basis.specs.Watches.{IsFiled, IsGood}
 use Rattle.lectic_basis.proofs.TreeLemmas.{where_every}
 use Rattle.lectic_basis.proofs.WalkLemmas.{root_visit}
-use Rattle.lectic_basis.proofs.basis_of.Goals as goal
+use Rattle.lectic_basis.proofs.basis_by.Goals as goal
 
 pub visit_all-requires : goal.visit_all-requires
 visit_all-requires g c =
     let L : RuleList = c.args.known.now in
     let A = c.naive_closure-least.result in
     let F = c.in_ok-found.found in
-    let is = root_visit L.members c.args.rows.now A F c.requires.holds
+    let is = root_visit L.members c.args.sheet.now A F c.requires.holds
     (subst (λ X. IsClosure L.members X A) (c.empty.ensures ∙ ap (λ n. replicate n false) (c.width.ensures.width ∙ c.requires.wide)) c.naive_closure-least.ensures)
     (c.in_ok-found.ensures.list ∙ ap (λ n. record { width = n; members = L.members }) c.requires.wide)
     (subst (λ (M : RuleList). IsFiled M.width M.members F.buckets) (sym c.in_ok-found.ensures.list) c.in_ok-found.ensures.filed)
     (subst (λ (M : RuleList). IsGood M.members F.buckets A) (sym c.in_ok-found.ensures.list) c.in_ok-found.ensures.good) in
-    (omega arith, (omega arith, (omega (arith, c.width-width.ensures.words), subst (λ X. IsVisit L.members c.args.rows.now c.args.rows.now X 0 F) (sym c.resized.ensures) is)))
+    (omega arith, (omega arith, (omega (arith, c.width-width.ensures.words), subst (λ X. IsVisit L.members c.args.sheet.now c.args.sheet.now X 0 F) (sym c.resized.ensures) is)))
 
 pub resized-requires : goal.resized-requires
 resized-requires g c =
     let L : RuleList = c.args.known.now in
     let wide : length c.naive_closure-least.result ≡ L.width = c.naive_closure-least.ensures.wide ∙ ap length c.empty.ensures ∙ length-replicate c.width.result false ∙ c.width.ensures.width in
-    (omega arith, (omega (arith, c.width-width.ensures.words), omega (arith, wide, c.requires.wide, c.width-width.ensures.width, c.width-width.ensures.narrow)))
+    (omega arith, (omega (arith, c.width-width.ensures.words), omega (arith, wide, c.requires.wide, ap (λ (X : Context). X.width) c.rows.ensures, c.width-width.ensures.width, c.width-width.ensures.narrow)))
 
 pub returns : goal.returns
 returns g c =
-    let K = c.args.rows.now in
+    let K = c.args.sheet.now in
     let J = c.args.known.now.members in
     IfOk-weaker c.into_list.result (λ (L : RuleList). L ≡ c.visit_all.new.found.list) (λ (L : RuleList). L ≡ record { width = K.width; members = J ++ basis_known J K })
     (λ L e. e ∙ c.in_ok-visit_all.ensures.found ∙ ap (λ Zs. record { width = K.width; members = Zs }) (where_every J K c.resized.result))

@@ -1,0 +1,4 @@
+mod BlockLemmas
+mod ColumnLemmas
+mod ClosureSteps
+pub mod ExtentLemmas

@@ -1,0 +1,179 @@
+//! The places of the rows that contain a set.
+
+ghost use Rattle.std.specs.Prelude.{◌≡◌, ◌≤◌, ◌<◌, ◌&&◌, ◌+◌, ◌*◌, ◌^◌, ℕ, IfOk, MatchOption, length, true, false};
+ghost use Rattle.std.specs.List.{list_any};
+ghost use Rattle.fca_model.specs.Context.{closure};
+ghost use Rattle.extent_blocks.specs.Blocks.{IsExtent, IsExtentWith, has_at, in_block, in_column, in_parts};
+
+use crate::sheet::{BLOCK, Objects, Sheet, places_above};
+use attr_bits::Bits;
+use fca_model::Memory;
+use std::alloc::Global;
+use std::marker::Model;
+
+/// Rows are met one by one where there are no more of them than this.
+const FEW_ROWS: usize = 24;
+
+/// Some places of the block of this number.
+#[derive(Clone, Copy)]
+struct Block {
+    number: usize,
+    objects: Objects,
+}
+
+/// Some places. Blocks without any are left out.
+#[derive(Drop)]
+pub struct Near {
+    blocks: Vec<Block>,
+}
+
+impl Model for Near {
+    ghost use Rattle.std.specs.Prelude.{List, map};
+    ghost use Rattle.extent_blocks.specs.Blocks.{Part};
+
+    ghost Value = { List Part };
+
+    ghost view = { λ n. map (λ x. record { number = x.number; objects = x.objects }) n.blocks.items };
+}
+
+impl Near {
+    /// The places of the rows that contain a.
+    pub fn of<const W: usize>(alloc: Global, sheet: &Sheet<W>, a: &Bits<W>) -> Result<Near, Memory>
+        ensures { IfOk result (λ near. IsExtent sheet.now a.now near) }
+    {
+        let column = places_above(alloc, sheet.rows(), a)?;
+        Ok(Near {
+            blocks: numbered(alloc, &column)?,
+        })
+    }
+
+    /// Those of the places whose rows have attribute i.
+    pub fn having<const W: usize>(
+        &self,
+        alloc: Global,
+        sheet: &Sheet<W>,
+        i: u32,
+    ) -> Result<Near, Memory>
+        requires { i < sheet.now.width }
+        ensures { IfOk result (λ near. (g : ℕ) → in_parts near g ≡ (in_parts self.now g && has_at sheet.now i g)) }
+    {
+        Ok(Near {
+            blocks: kept_in(alloc, &self.blocks, sheet.column(i))?,
+        })
+    }
+
+    /// The closure of a, where those of the places whose rows have attribute i are the places of the rows that contain a. What is met is the meet of some of these
+    /// rows; an attribute of it that none of them lacks is kept.
+    pub fn closure_with<const W: usize>(&self, sheet: &Sheet<W>, i: u32, a: &Bits<W>) -> Bits<W>
+        requires inside { i < sheet.now.width }
+        requires wide { length a.now ≡ sheet.now.width }
+        requires extent { IsExtentWith sheet.now a.now i self.now }
+        ensures { result ≡ closure sheet.now a.now }
+    {
+        let rows = sheet.rows();
+        if rows.len() <= FEW_ROWS {
+            return rows.closure(a);
+        }
+        let mut met = Bits::full(rows.width());
+        let mut kept = *a;
+        while let Some(k) = met.first_missing(&kept) {
+            match self.lacking(sheet, i, k) {
+                Some(place) => met = met.meet(&rows.as_slice()[place]),
+                None => kept.insert(k),
+            }
+        }
+        met
+    }
+
+    /// One of the places whose row has attribute i and lacks k, and none only where each that has i has k.
+    fn lacking<const W: usize>(&self, sheet: &Sheet<W>, i: u32, k: u32) -> Option<usize>
+        requires inside { i < sheet.now.width }
+        requires other { k < sheet.now.width }
+        ensures { MatchOption result
+            ((g : ℕ) → in_parts self.now g ≡ true → has_at sheet.now i g ≡ true → has_at sheet.now k g ≡ true)
+            (λ g. (in_parts self.now g ≡ true) × (has_at sheet.now i g ≡ true) × (has_at sheet.now k g ≡ false)) }
+    {
+        let _objects = sheet.rows().len();
+        first_lacking(&self.blocks, sheet.column(i), sheet.column(k))
+    }
+}
+
+impl Block {
+    /// Those of the places that are in the column, if there are any.
+    fn meet(&self, column: &[Objects]) -> Option<Block>
+        ensures { MatchOption result
+            ((g : ℕ) → (in_block self.now.number self.now.objects g && in_column column.now g) ≡ false)
+            (λ kept. (g : ℕ) → in_block kept.number kept.objects g ≡ (in_block self.now.number self.now.objects g && in_column column.now g)) }
+    {
+        let Some(part) = column.get(self.number) else {
+            return None;
+        };
+        let objects = self.objects.meet(part);
+        match objects.next_member(0) {
+            None => None,
+            Some(_) => Some(Block {
+                number: self.number,
+                objects,
+            }),
+        }
+    }
+
+    /// The first of the places that is in the one column and not in the other, counted in the block.
+    fn first_of(&self, having: &[Objects], lacking: &[Objects]) -> Option<u32>
+        requires { length lacking.now ≡ length having.now }
+        ensures { MatchOption result
+            ((g : ℕ) → in_block self.now.number self.now.objects g ≡ true → in_column having.now g ≡ true → in_column lacking.now g ≡ true)
+            (λ j. (j < 256) × (in_block self.now.number self.now.objects (self.now.number * 256 + j) ≡ true)
+            × (in_column having.now (self.now.number * 256 + j) ≡ true) × (in_column lacking.now (self.now.number * 256 + j) ≡ false)) }
+    {
+        let _width = self.objects.width();
+        let Some(with) = having.get(self.number) else {
+            return None;
+        };
+        self.objects.meet(with).first_missing(&lacking[self.number])
+    }
+}
+
+/// The blocks of a column with their numbers.
+fn numbered(alloc: Global, column: &[Objects]) -> Result<Vec<Block>, Memory>
+    ensures { IfOk result (λ blocks. (g : ℕ) → list_any (λ x. in_block x.number x.objects g) blocks.items ≡ in_column column.now g) }
+{
+    let mut blocks = Vec::with_capacity(alloc, column.len())?;
+    for (number, objects) in column.iter().enumerate() {
+        blocks.push(Block {
+            number,
+            objects: *objects,
+        })?;
+    }
+    Ok(blocks)
+}
+
+/// Those of the places of the blocks that are in the column.
+fn kept_in(alloc: Global, blocks: &[Block], column: &[Objects]) -> Result<Vec<Block>, Memory>
+    ensures { IfOk result (λ kept. (g : ℕ) → list_any (λ x. in_block x.number x.objects g) kept.items
+        ≡ (list_any (λ x. in_block x.number x.objects g) blocks.now && in_column column.now g)) }
+{
+    let mut kept = Vec::with_capacity(alloc, blocks.len())?;
+    for block in blocks {
+        if let Some(part) = block.meet(column) {
+            kept.push(part)?;
+        }
+    }
+    Ok(kept)
+}
+
+/// One of the places of the blocks that is in the one column and not in the other.
+fn first_lacking(blocks: &[Block], having: &[Objects], lacking: &[Objects]) -> Option<usize>
+    requires same { length lacking.now ≡ length having.now }
+    requires small { (g : ℕ) → in_column having.now g ≡ true → g < 2 ^ 64 }
+    ensures { MatchOption result
+        ((g : ℕ) → list_any (λ x. in_block x.number x.objects g) blocks.now ≡ true → in_column having.now g ≡ true → in_column lacking.now g ≡ true)
+        (λ g. (list_any (λ x. in_block x.number x.objects g) blocks.now ≡ true) × (in_column having.now g ≡ true) × (in_column lacking.now g ≡ false)) }
+{
+    for block in blocks {
+        if let Some(j) = block.first_of(having, lacking) {
+            return Some(block.number * BLOCK + j as usize);
+        }
+    }
+    None
+}
