@@ -40,7 +40,7 @@ pub(crate) fn closure_at<const W: usize>(
     let all = rows.as_slice();
     for place in places {
         met = met.meet(&all[*place]);
-        if met.within(least) {
+        if met == *least {
             return met;
         }
     }

@@ -4,3 +4,4 @@ pub mod CoverLemmas
 pub mod ChainLemmas
 pub mod PlaceLemmas
 pub mod Examples
+pub mod ObjectLemmas

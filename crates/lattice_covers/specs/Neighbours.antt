@@ -1,9 +1,12 @@
 -- The rows above an intent, what its closures have, and the places of its upper neighbours.
-use Rattle.std.specs.Prelude.{◌≡◌, ◌<◌, ℕ, true, false, List, length, slice_index_or, slice_set, map, filter, All}
+use Rattle.std.specs.Prelude.{◌≡◌, ◌<◌, ◌≤◌, ℕ, true, false, List, length, slice_index_or, slice_set, map, filter, All}
 use Rattle.std.specs.List.{prefix_len}
 use Rattle.std.specs.Ordering.{is_lt}
 use Rattle.fca_model.specs.Sets.{Set, within, lectic_cmp}
 use Rattle.fca_model.specs.Context.{Context, closure}
+use Rattle.lattice_covers.specs.Objects.{HasObjects}
+use Rattle.lattice_covers.specs.declared.chain.Above.{Above}
+use Rattle.lattice_covers.specs.declared.chain.Above.TheVariants.{Many, Few}
 use Rattle.lattice_covers.specs.declared.chain.Link.{Link}
 
 -- the context of the rows that contain A
@@ -15,9 +18,15 @@ pub record AreImplied (K : Context) (A : Set) (ws : List ℕ) : Type 0 where
   pub wide : length ws ≡ K.width
   pub member : (i : ℕ) → i < K.width → slice_index_or (closure K (slice_set A i true)) (slice_index_or ws i 0) false ≡ true
 
+-- the rows that contain A, or in a table of few objects these as a set
+abbrev pub IsAbove : Context → Set → {W : ℕ} → Above W → Type 0
+IsAbove K A (Many above) = above ≡ rows_above K A
+IsAbove K A (Few objects) = (length K.rows ≤ 512) × HasObjects K A objects
+
 -- the link has the rows that contain its intent, and members of closures above it
 pub record IsLink (K : Context) {W : ℕ} (link : Link W) : Type 0 where
-  pub above : link.above ≡ rows_above K link.intent
+  pub wide : length link.intent ≡ K.width
+  pub above : IsAbove K link.intent link.above
   pub implied : AreImplied K link.intent link.implied.items
 
 abbrev pub AreLinks : Context → {W : ℕ} → List (Link W) → Type 0

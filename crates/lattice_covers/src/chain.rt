@@ -1,20 +1,29 @@
 //! The intents below an intent, each with the rows that contain it and with what was seen of the closures above it.
 
-ghost use Rattle.std.specs.Prelude.{◌≡◌, ◌<◌, ℕ, true, false, length, slice_set, slice_index_or, MatchOption, IfOk};
+ghost use Rattle.std.specs.Prelude.{◌≡◌, ◌<◌, ◌≤◌, ℕ, true, false, length, slice_set, slice_index_or, MatchOption, IfOk};
 ghost use Rattle.fca_model.specs.Sets.{within};
 ghost use Rattle.fca_model.specs.Context.{closure};
-ghost use Rattle.lattice_covers.specs.Neighbours.{IsLink, AreLinks};
+ghost use Rattle.lattice_covers.specs.Objects.{AreColumns};
+ghost use Rattle.lattice_covers.specs.Neighbours.{IsAbove, IsLink, AreLinks};
 
+use crate::objects::{FEW_OBJECTS, ObjectSet, closure_of, objects_above, objects_of};
 use attr_bits::Bits;
 use derivation::RowsOf;
 use fca_model::Memory;
 use std::alloc::Global;
 
+/// The rows that contain an intent: set apart, or as a set of objects where the table has few.
+#[derive(Drop)]
+pub(crate) enum Above<const W: usize> {
+    Many(RowsOf<W>),
+    Few(ObjectSet),
+}
+
 /// An intent, the rows that contain it, and for each attribute a member of the closure of the intent with it.
 #[derive(Drop)]
 pub(crate) struct Link<const W: usize> {
     pub(crate) intent: Bits<W>,
-    pub(crate) above: RowsOf<W>,
+    pub(crate) above: Above<W>,
     pub(crate) implied: Vec<u32>,
 }
 
@@ -23,9 +32,11 @@ pub(crate) struct Link<const W: usize> {
 pub(crate) fn link_of<const W: usize>(
     alloc: Global,
     rows: &RowsOf<W>,
+    columns: &[ObjectSet],
     chain: &mut Vec<Link<W>>,
     a: &Bits<W>,
 ) -> Result<Link<W>, Memory>
+    requires columns { length rows.now.rows ≤ FEW_OBJECTS → AreColumns rows.now columns.now }
     requires wide { length a.now ≡ rows.now.width }
     requires links { AreLinks rows.now chain.old.items }
     ensures link { IfOk result (λ link. (link.intent ≡ a.now) × IsLink rows.now link) }
@@ -33,7 +44,7 @@ pub(crate) fn link_of<const W: usize>(
 {
     while let Some(link) = chain.last() {
         if link.intent.within(a) {
-            return next_link(alloc, rows, link, a);
+            return next_link(alloc, rows, columns, link, a);
         }
         chain.pop();
     }
@@ -44,9 +55,11 @@ pub(crate) fn link_of<const W: usize>(
 fn next_link<const W: usize>(
     alloc: Global,
     rows: &RowsOf<W>,
+    columns: &[ObjectSet],
     link: &Link<W>,
     a: &Bits<W>,
 ) -> Result<Link<W>, Memory>
+    requires columns { length rows.now.rows ≤ FEW_OBJECTS → AreColumns rows.now columns.now }
     requires wide { length a.now ≡ rows.now.width }
     requires link { IsLink rows.now link.now }
     requires larger { within link.now.intent a.now ≡ true }
@@ -54,7 +67,7 @@ fn next_link<const W: usize>(
 {
     Ok(Link {
         intent: *a,
-        above: link.above.containing(alloc, a)?,
+        above: narrowed(alloc, rows, columns, link, a)?,
         implied: Vec::from_slice(alloc, &link.implied)?,
     })
 }
@@ -74,18 +87,83 @@ fn first_link<const W: usize>(
     }
     Ok(Link {
         intent: *a,
-        above: rows.containing(alloc, a)?,
+        above: above_in_all(alloc, rows, a)?,
         implied,
     })
+}
+
+/// The rows that contain a, which are among those that contain the intent of the link.
+fn narrowed<const W: usize>(
+    alloc: Global,
+    rows: &RowsOf<W>,
+    columns: &[ObjectSet],
+    link: &Link<W>,
+    a: &Bits<W>,
+) -> Result<Above<W>, Memory>
+    requires columns { length rows.now.rows ≤ FEW_OBJECTS → AreColumns rows.now columns.now }
+    requires wide { length a.now ≡ rows.now.width }
+    requires link { IsLink rows.now link.now }
+    requires larger { within link.now.intent a.now ≡ true }
+    ensures { IfOk result (λ above. IsAbove rows.now a.now above) }
+{
+    let _width = rows.width();
+    match &link.above {
+        Above::Many(above) => Ok(Above::Many(above.containing(alloc, a)?)),
+        Above::Few(objects) => Ok(Above::Few(objects_above(
+            rows,
+            columns,
+            &link.intent,
+            objects,
+            a,
+        ))),
+    }
+}
+
+/// The rows that contain a, among all.
+fn above_in_all<const W: usize>(
+    alloc: Global,
+    rows: &RowsOf<W>,
+    a: &Bits<W>,
+) -> Result<Above<W>, Memory>
+    ensures { IfOk result (λ above. IsAbove rows.now a.now above) }
+{
+    let _width = rows.width();
+    if rows.len() <= FEW_OBJECTS {
+        return Ok(Above::Few(objects_of(rows, a)));
+    }
+    Ok(Above::Many(rows.containing(alloc, a)?))
+}
+
+/// The closure of the intent of the link with attribute i.
+fn closure_with<const W: usize>(
+    rows: &RowsOf<W>,
+    columns: &[ObjectSet],
+    link: &Link<W>,
+    i: u32,
+) -> Bits<W>
+    requires columns { length rows.now.rows ≤ FEW_OBJECTS → AreColumns rows.now columns.now }
+    requires wide { length link.now.intent ≡ rows.now.width }
+    requires link { IsLink rows.now link.now }
+    requires inside { i < rows.now.width }
+    ensures { result ≡ closure rows.now (slice_set link.now.intent i true) }
+{
+    let _width = rows.width();
+    let larger = link.intent.with(i);
+    match &link.above {
+        Above::Many(above) => above.closure(&larger),
+        Above::Few(objects) => { closure_of(rows, &objects.meet(&columns[i as usize]), &larger) }
+    }
 }
 
 /// The closure of the intent with attribute i, if all its members are allowed. Where that was seen to fail for a smaller intent, it is not computed.
 pub(crate) fn closure_if_allowed<const W: usize>(
     rows: &RowsOf<W>,
+    columns: &[ObjectSet],
     link: &mut Link<W>,
     i: u32,
     allowed: &Bits<W>,
 ) -> Option<Bits<W>>
+    requires columns { length rows.now.rows ≤ FEW_OBJECTS → AreColumns rows.now columns.now }
     requires wide { length link.old.intent ≡ rows.now.width }
     requires allowed { length allowed.now ≡ rows.now.width }
     requires link { IsLink rows.now link.old }
@@ -98,9 +176,7 @@ pub(crate) fn closure_if_allowed<const W: usize>(
     if !allowed.has(link.implied[i as usize]) {
         return None;
     }
-    let mut larger = link.intent;
-    larger.insert(i);
-    let closed = link.above.closure(&larger);
+    let closed = closure_with(rows, columns, link, i);
     match closed.first_missing(allowed) {
         None => Some(closed),
         Some(further) => {

@@ -1,7 +1,8 @@
-use Rattle.std.proofs.Common.{◌≡◌, ◌<◌, ◌+◌, ℕ, All, List, length, get_or, sym, ap, ap₂, ◌∙◌, subst, arith}
+use Rattle.std.proofs.Common.{◌≡◌, ◌<◌, ◌+◌, ℕ, true, All, List, length, get_or, sym, ap, ap₂, ◌∙◌, subst, arith}
 use Rattle.std.specs.Prelude.{fold}
-use Rattle.fca_model.specs.Sets.{Set, meet, full}
+use Rattle.fca_model.specs.Sets.{Set, meet, full, within}
 use Rattle.fca_model.specs.Context.{Context, closure, extent}
+use Rattle.fca_model.proofs.SetLemmas.{same-true, within_refl}
 use Rattle.concept_report.specs.Places.{rows_at}
 use Rattle.concept_report.proofs.PlaceLemmas.{extent_inside, rows_at-extent, met_more, met_enough}
 use Rattle.concept_report.proofs.places.closure_at.Goals as goal
@@ -27,13 +28,13 @@ bounds-all-place g c =
     let all : length c.as_slice-all.result.now ≡ length c.args.rows.now.rows = ap length c.as_slice-all.ensures.rows in
     omega arith
 
-pub returns-then-within : goal.returns-then-within
-returns-then-within g c =
+pub returns-then-eq : goal.returns-then-eq
+returns-then-eq g c =
     let K : Context = c.args.rows.now in
     let p : ℕ = get_or c.args.places.now c.loop-place.place-index 0 in
     let here : p < length K.rows = placed K c.args.least.now c.args.places.now c.loop-place.place-index c.requires c.loop-place-test.true in
     let row : c.index-all-place.result ≡ get_or K.rows p c.index-all-place.result = c.index-all-place.is ∙ ap (λ (Rs : List Set). get_or Rs p c.index-all-place.result) c.as_slice-all.ensures.rows in
-    met_enough K c.args.least.now c.args.places.now (c.loop-place.place-index + 1) c.meet-met.result (closure K c.args.least.now) c.requires (sym c.within.ensures ∙ c.if-within.true)
+    met_enough K c.args.least.now c.args.places.now (c.loop-place.place-index + 1) c.meet-met.result (closure K c.args.least.now) c.requires (subst (λ (A : Set). within c.meet-met.result A ≡ true) (same-true c.meet-met.result c.args.least.now (sym c.eq.ensures ∙ c.if-eq.true)) (within_refl c.meet-met.result))
     (met_more K.rows c.args.places.now c.loop-place.place-index c.loop-place.met c.meet-met.result c.index-all-place.result (closure K c.args.least.now) c.loop-place-test.true here row c.meet-met.ensures c.loop-place.invariant)
 
 pub loop-place-preserved : goal.loop-place-preserved

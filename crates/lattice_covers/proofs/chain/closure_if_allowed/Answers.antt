@@ -8,7 +8,7 @@ use Rattle.attr_bits.proofs.PlaceLemmas.{member_below}
 use Rattle.attr_bits.proofs.DifferenceLemmas.{first_missing-parts}
 use Rattle.std.proofs.lemmas.List.{get_or_default}
 use Rattle.lattice_covers.specs.Neighbours.{AreImplied}
-use Rattle.lattice_covers.proofs.ChainLemmas.{closure_above, implied_set}
+use Rattle.lattice_covers.proofs.ChainLemmas.{implied_set}
 use Rattle.lattice_covers.proofs.chain.closure_if_allowed.Goals as goal
 
 -- what was seen is a member of the closure
@@ -33,24 +33,25 @@ pub returns-in-None-clause-closed : goal.returns-in-None-clause-closed
 returns-in-None-clause-closed g c =
     let K : Context = c.args.rows.now in
     let A : Set = c.args.link.now.intent in
-    let closed : c.closure-closed.result ≡ closure K (set A c.args.i true) = c.closure-closed.ensures ∙ closure_above K A c.args.i (omega (arith, c.requires.wide, c.requires.inside)) c.insert.new.self c.insert.ensures c.args.link.now.above c.requires.link.above in
-    (closed, first_missing_none 0 c.closure-closed.result c.args.allowed.now (sym c.first_missing.ensures ∙ c.in-None.is))
+    let closed : c.closure_with-closed.result ≡ closure K (set A c.args.i true) = c.closure_with-closed.ensures in
+    (closed, first_missing_none 0 c.closure_with-closed.result c.args.allowed.now (sym c.first_missing.ensures ∙ c.in-None.is))
 
 pub returns-in-Some-clause-closed : goal.returns-in-Some-clause-closed
 returns-in-Some-clause-closed g c =
     let K : Context = c.args.rows.now in
     let A : Set = c.args.link.now.intent in
-    let closed : c.closure-closed.result ≡ closure K (set A c.args.i true) = c.closure-closed.ensures ∙ closure_above K A c.args.i (omega (arith, c.requires.wide, c.requires.inside)) c.insert.new.self c.insert.ensures c.args.link.now.above c.requires.link.above in
-    let further = first_missing-parts c.closure-closed.result c.args.allowed.now c.in-Some.further (sym c.first_missing.ensures ∙ c.in-Some.is) in
+    let closed : c.closure_with-closed.result ≡ closure K (set A c.args.i true) = c.closure_with-closed.ensures in
+    let further = first_missing-parts c.closure_with-closed.result c.args.allowed.now c.in-Some.further (sym c.first_missing.ensures ∙ c.in-Some.is) in
     not_within_at (closure K (set A c.args.i true)) c.args.allowed.now c.in-Some.further (subst (λ (D : Set). get_or D c.in-Some.further false ≡ true) closed further.0) further.1
 
 pub returns-in-Some-clause-link : goal.returns-in-Some-clause-link
 returns-in-Some-clause-link g c =
     let K : Context = c.args.rows.now in
     let A : Set = c.args.link.now.intent in
-    let closed : c.closure-closed.result ≡ closure K (set A c.args.i true) = c.closure-closed.ensures ∙ closure_above K A c.args.i (omega (arith, c.requires.wide, c.requires.inside)) c.insert.new.self c.insert.ensures c.args.link.now.above c.requires.link.above in
-    let further = first_missing-parts c.closure-closed.result c.args.allowed.now c.in-Some.further (sym c.first_missing.ensures ∙ c.in-Some.is) in
+    let closed : c.closure_with-closed.result ≡ closure K (set A c.args.i true) = c.closure_with-closed.ensures in
+    let further = first_missing-parts c.closure_with-closed.result c.args.allowed.now c.in-Some.further (sym c.first_missing.ensures ∙ c.in-Some.is) in
     record {
+      wide = c.requires.link.wide;
       above = c.requires.link.above;
       implied = implied_set K A c.args.link.now.implied.items c.args.i c.in-Some.further c.requires.inside c.requires.link.implied (subst (λ (D : Set). get_or D c.in-Some.further false ≡ true) closed further.0);
     }

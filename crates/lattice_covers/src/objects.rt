@@ -1,0 +1,104 @@
+//! Sets of objects, where a table has few: the extent of an intent is such a set, and so are the objects of an attribute.
+
+ghost use Rattle.std.specs.Prelude.{◌≡◌, ◌≤◌, ◌<◌, true, length, IfOk};
+ghost use Rattle.fca_model.specs.Sets.{within};
+ghost use Rattle.fca_model.specs.Context.{closure};
+ghost use Rattle.lattice_covers.specs.Objects.{AreColumns, HasObjects};
+
+use attr_bits::Bits;
+use derivation::RowsOf;
+use fca_model::Memory;
+use std::alloc::Global;
+
+/// How many objects are few.
+pub(crate) const FEW_OBJECTS: usize = 512;
+
+/// How many words a set of few objects has.
+const OBJECT_WORDS: usize = FEW_OBJECTS / 64;
+
+/// A set of few objects.
+pub(crate) type ObjectSet = Bits<OBJECT_WORDS>;
+
+/// The objects whose rows contain a.
+pub(crate) fn objects_of<const W: usize>(rows: &RowsOf<W>, a: &Bits<W>) -> ObjectSet
+    requires { length rows.now.rows ≤ FEW_OBJECTS }
+    ensures { HasObjects rows.now a.now result }
+{
+    let _width = rows.width();
+    let all = rows.as_slice();
+    let mut objects = Bits::empty(all.len() as u32);
+    for (object, row) in all.iter().enumerate() {
+        if a.within(row) {
+            objects.insert(object as u32);
+        }
+    }
+    objects
+}
+
+/// The objects of each attribute, in the order of those. Where the objects are not few, there are no such sets.
+pub(crate) fn columns_of<const W: usize>(
+    alloc: Global,
+    rows: &RowsOf<W>,
+) -> Result<Vec<ObjectSet>, Memory>
+    ensures { IfOk result (λ columns. length rows.now.rows ≤ FEW_OBJECTS → AreColumns rows.now columns.items) }
+{
+    let mut columns = Vec::new(alloc);
+    if FEW_OBJECTS < rows.len() {
+        return Ok(columns);
+    }
+    let width = rows.width();
+    for attribute in 0..width {
+        columns.push(objects_of(rows, &Bits::empty(width).with(attribute)))?;
+    }
+    Ok(columns)
+}
+
+/// The objects of a, which contains the other set, whose objects are given.
+pub(crate) fn objects_above<const W: usize>(
+    rows: &RowsOf<W>,
+    columns: &[ObjectSet],
+    smaller: &Bits<W>,
+    objects: &ObjectSet,
+    a: &Bits<W>,
+) -> ObjectSet
+    requires columns { AreColumns rows.now columns.now }
+    requires objects { HasObjects rows.now smaller.now objects.now }
+    requires larger { within smaller.now a.now ≡ true }
+    requires wide { length smaller.now ≡ rows.now.width }
+    requires even { length a.now ≡ rows.now.width }
+    ensures { HasObjects rows.now a.now result }
+{
+    let mut grown = *smaller;
+    let mut having = *objects;
+    for attribute in 0..rows.width() {
+        if a.has(attribute) && !grown.has(attribute) {
+            grown.insert(attribute);
+            having = having.meet(&columns[attribute as usize]);
+        }
+    }
+    having
+}
+
+/// The closure of `least`, whose objects are given: the meet of their rows. Once it is `least`, the rows that are left change nothing.
+pub(crate) fn closure_of<const W: usize>(
+    rows: &RowsOf<W>,
+    objects: &ObjectSet,
+    least: &Bits<W>,
+) -> Bits<W>
+    requires objects { HasObjects rows.now least.now objects.now }
+    requires wide { length least.now ≡ rows.now.width }
+    ensures { result ≡ closure rows.now least.now }
+{
+    let _objects = objects.width();
+    let all = rows.as_slice();
+    let mut met = Bits::full(rows.width());
+    let mut from = 0;
+    while let Some(object) = objects.next_member(from) {
+        met = met.meet(&all[object as usize]);
+        if met == *least {
+            return met;
+        }
+        from = object + 1;
+    }
+    met
+}
