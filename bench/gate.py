@@ -55,8 +55,8 @@ def look(root, seconds, shares, ended):
     """Looks at the processes until the run has ended."""
     while not ended.is_set():
         for pid, took in descendants(root).items():
-            if pid not in shares:
-                shares[pid] = share_of(pid)
+            # a process that is no prover's yet may become one's
+            shares[pid] = shares.get(pid) or share_of(pid)
             if shares[pid]:
                 seconds[pid] = max(seconds.get(pid, 0), took)
         ended.wait(0.5)
