@@ -2,8 +2,9 @@
 -- a row.
 use Rattle.std.proofs.Common.{◌≡◌, ℕ, zero, suc, ◌+◌, ◌<◌, ◌≤◌, ◌-◌, Bool, true, false, not, ◌&&◌, cond, Some, List, [], ◌∷◌, ◌++◌, map, length, get_or, set, take, drop, refl, sym, ap, ap₂, ◌∙◌, subst, arith, inl, inr, ltb, lt-ltb, ltb-true, Ordering, Less, Equal, Greater}
 use Rattle.std.proofs.lemmas.Bool.{false≢true, and_parts, and_from, cases_Bool, cases_lt, cases_eq, not-true, false_from_ne_true}
-use Rattle.std.proofs.lemmas.List.{take_more, take_more_set, drop_more, drop-drop, drop_at, drop-append-le, drop-set-lt, drop-take, length-take-le, length-set, length-drop, append-nil, append_assoc, get_or_default, map-append, take_all}
+use Rattle.std.proofs.lemmas.List.{get_or-drop, take_more, take_more_set, drop_more, drop-drop, drop_at, drop-append-le, drop-set-lt, drop-take, take-set-le, length-take-le, length-set, length-drop, append-nil, append_assoc, get_or_default, map-append, take_all}
 use Rattle.std.proofs.lemmas.List.Elements.{filter-append}
+use Rattle.std.proofs.lemmas.List.Folds.{list_all_at}
 use Rattle.std.proofs.lemmas.List.Sums.{AllPass-from_list_all, list_all-from_AllPass}
 use Rattle.std.proofs.lemmas.Option.{slice_get-get_or}
 use Rattle.std.specs.List.{list_all, list_any, slice_get, remove, copy_within, AllWithin}
@@ -14,7 +15,7 @@ use Rattle.fca_model.specs.Sets.{Set, same, increasing, lectic_cmp}
 use Rattle.fca_model.specs.Implications.{Rule, rule, premises}
 use Rattle.fca_model.specs.Invariant.{Among}
 use Rattle.fca_model.proofs.SetLemmas.{same_refl, same-true, lectic_refl}
-use Rattle.level_queue.specs.Queue.{narrowed, still_open, is_left, is_rule}
+use Rattle.level_queue.specs.Queue.{narrowed, is_open, still_open, is_left, is_rule}
 use Rattle.level_queue.proofs.NarrowLemmas.{left_some, left_none}
 
 -- ---- a search
@@ -103,28 +104,28 @@ taken_out xs first i le l =
 
 -- ---- the list is met with a row
 
-pub not_false : (b : Bool) → not b ≡ false → b ≡ true
-not_false true h = refl
-not_false false h = absurd (false≢true (sym h))
-
--- ys began as xs. Of those from `first` on that stood before place i, what is left stands in the first k places of ys, and from i on ys is as it was
+-- ys began as xs. Of those from `first` on that stood before place i, what is left stands in ys from `first` up to k, and from i on ys is as it was
 pub record IsNarrowing (r : Set) (first : ℕ) (xs ys : List Rule) (k i : ℕ) : Type 0 where
-  pub front : take k ys ≡ still_open (map (narrowed r) (drop first (take i xs)))
+  pub front : drop first (take k ys) ≡ still_open (map (narrowed r) (drop first (take i xs)))
   pub rest : drop i ys ≡ drop i xs
+  pub begins : first ≤ k
   pub behind : k ≤ i
-  pub from : first ≤ i
   pub long : length ys ≡ length xs
 
-pub narrowing_start : (r : Set) (first : ℕ) (xs : List Rule) → IsNarrowing r first xs xs 0 first
+pub narrowing_start : (r : Set) (first : ℕ) (xs : List Rule) → IsNarrowing r first xs xs first first
 narrowing_start r first xs = record {
-  front = sym (ap (λ ys. still_open (map (narrowed r) ys)) (ap (λ n. drop first (take n xs)) (omega arith) ∙ drop-take first 0 xs));
+  front = nothing ∙ sym (ap (λ ys. still_open (map (narrowed r) ys)) nothing);
   rest = refl;
+  begins = omega arith;
   behind = omega arith;
-  from = omega arith;
   long = refl;
 }
+  where
+    nothing : drop first (take first xs) ≡ []
+    nothing = ap (λ n. drop first (take n xs)) (omega arith) ∙ drop-take first 0 xs
 
-pub narrowing_end : {r : Set} {first : ℕ} {xs ys : List Rule} {k i : ℕ} → IsNarrowing r first xs ys k i → length xs ≤ i → take k ys ≡ still_open (map (narrowed r) (drop first xs))
+pub narrowing_end : {r : Set} {first : ℕ} {xs ys : List Rule} {k i : ℕ} → IsNarrowing r first xs ys k i → length xs ≤ i
+    → drop first (take k ys) ≡ still_open (map (narrowed r) (drop first xs))
 narrowing_end {r = r} {first = first} {xs = xs} {i = i} n all = n.front ∙ ap (λ zs. still_open (map (narrowed r) (drop first zs))) (take_all i xs all)
 
 module _ {r : Set} {first : ℕ} {xs ys : List Rule} {k i : ℕ} (n : IsNarrowing r first xs ys k i) (l : i < length ys) (q : Rule) (at : q ≡ get_or ys i q) where
@@ -135,34 +136,57 @@ module _ {r : Set} {first : ℕ} {xs ys : List Rule} {k i : ℕ} (n : IsNarrowin
       heads : (x y : Rule) (vs ws : List Rule) → x ∷ vs ≡ y ∷ ws → x ≡ y
       heads x y vs ws e = cc
 
-  rest_more : drop (i + 1) ys ≡ drop (i + 1) xs
-  rest_more = ap (λ m. drop m ys) (omega arith) ∙ sym (drop-drop 1 i ys) ∙ ap (drop 1) n.rest ∙ drop-drop 1 i xs ∙ ap (λ m. drop m xs) (omega arith)
+  -- it was open
+  pub narrowing_open : list_all is_open (drop first xs) ≡ true → is_open q ≡ true
+  narrowing_open all = elim (cases_Bool (is_open q)) [
+    | inl t ↦ t
+    | inr f ↦ absurd (false≢true (sym (list_all_at is_open (drop first xs) (i - first) q inside (ap is_open (sym here) ∙ f)) ∙ all))
+  ]
+    where
+      here : q ≡ get_or (drop first xs) (i - first) q
+      here = was ∙ ap (λ m. get_or xs m q) (let b = n.begins in let h = n.behind in omega (arith, b, h)) ∙ sym (get_or-drop first xs (i - first) q)
+
+      inside : i - first < length (drop first xs)
+      inside = let e = n.long in let b = n.begins in let h = n.behind in let w = length-drop first xs in omega (arith, l, e, b, h, w)
+
+  rest_more : drop (i + 1) (set ys i (narrowed r q)) ≡ drop (i + 1) xs
+  rest_more = drop-set-lt (i + 1) ys i (narrowed r q) (omega arith) ∙ ap (λ m. drop m ys) (omega arith) ∙ sym (drop-drop 1 i ys) ∙ ap (drop 1) n.rest ∙ drop-drop 1 i xs
+      ∙ ap (λ m. drop m xs) (omega arith)
 
   reached : drop first (take (i + 1) xs) ≡ drop first (take i xs) ++ q ∷ []
   reached =
       let e = n.long in
       ap (drop first) (take_more xs i q (omega (arith, l, e)) ∙ ap (λ x. take i xs ++ x ∷ []) (sym was))
-      ∙ drop-append-le first (take i xs) (q ∷ []) (let w = length-take-le i xs (omega (arith, l, e)) in let f = n.from in omega (arith, w, f))
+      ∙ drop-append-le first (take i xs) (q ∷ []) (let w = length-take-le i xs (omega (arith, l, e)) in let f = n.begins in let b = n.behind in omega (arith, w, f, b))
 
-  more : still_open (map (narrowed r) (drop first (take (i + 1) xs))) ≡ still_open (map (narrowed r) (drop first (take i xs))) ++ still_open (narrowed r q ∷ [])
-  more = ap (λ zs. still_open (map (narrowed r) zs)) reached ∙ ap still_open (map-append (narrowed r) (drop first (take i xs)) (q ∷ [])) ∙ filter-append (λ j. not (same j.premise j.conclusion)) (map (narrowed r) (drop first (take i xs))) (narrowed r q ∷ [])
+  -- what is left of those up to this one
+  more : drop first (take k ys) ++ cond (is_open (narrowed r q)) (narrowed r q ∷ []) [] ≡ still_open (map (narrowed r) (drop first (take (i + 1) xs)))
+  more = ap (λ zs. zs ++ still_open (narrowed r q ∷ [])) n.front
+      ∙ sym (ap (λ zs. still_open (map (narrowed r) zs)) reached ∙ ap still_open (map-append (narrowed r) (drop first (take i xs)) (q ∷ []))
+      ∙ filter-append is_open (map (narrowed r) (drop first (take i xs))) (narrowed r q ∷ []))
 
-  pub narrowing_drops : same (narrowed r q).premise (narrowed r q).conclusion ≡ true → IsNarrowing r first xs ys k (i + 1)
-  narrowing_drops t = record {
-    front = n.front ∙ sym (append-nil (still_open (map (narrowed r) (drop first (take i xs))))) ∙ ap (λ zs. still_open (map (narrowed r) (drop first (take i xs))) ++ zs) (sym (ap (λ b. cond (not b) (narrowed r q ∷ []) []) t)) ∙ sym more;
+  kept : take k (set ys i (narrowed r q)) ≡ take k ys
+  kept = take-set-le k ys i (narrowed r q) n.behind
+
+  pub narrowing_drops : is_open (narrowed r q) ≡ false → IsNarrowing r first xs (set ys i (narrowed r q)) k (i + 1)
+  narrowing_drops f = record {
+    front = ap (drop first) kept ∙ sym (append-nil (drop first (take k ys))) ∙ ap (λ b. drop first (take k ys) ++ cond b (narrowed r q ∷ []) []) (sym f) ∙ more;
     rest = rest_more;
+    begins = n.begins;
     behind = let b = n.behind in omega (arith, b);
-    from = let f = n.from in omega (arith, f);
-    long = n.long;
+    long = length-set ys i (narrowed r q) ∙ n.long;
   }
 
-  pub narrowing_keeps : same (narrowed r q).premise (narrowed r q).conclusion ≡ false → IsNarrowing r first xs (set ys k (narrowed r q)) (k + 1) (i + 1)
-  narrowing_keeps f = record {
-    front = take_more_set ys k (narrowed r q) (let b = n.behind in omega (arith, b, l)) ∙ ap (λ zs. zs ++ narrowed r q ∷ []) n.front ∙ ap (λ zs. still_open (map (narrowed r) (drop first (take i xs))) ++ zs) (sym (ap (λ b. cond (not b) (narrowed r q ∷ []) []) f)) ∙ sym more;
-    rest = drop-set-lt (i + 1) ys k (narrowed r q) (let b = n.behind in omega (arith, b)) ∙ rest_more;
+  pub narrowing_keeps : is_open (narrowed r q) ≡ true → IsNarrowing r first xs (set (set ys i (narrowed r q)) k (narrowed r q)) (k + 1) (i + 1)
+  narrowing_keeps t = record {
+    front = ap (drop first) (take_more_set (set ys i (narrowed r q)) k (narrowed r q) (let b = n.behind in let s = length-set ys i (narrowed r q) in omega (arith, b, l, s))
+        ∙ ap (λ zs. zs ++ narrowed r q ∷ []) kept)
+        ∙ drop-append-le first (take k ys) (narrowed r q ∷ []) (let b = n.behind in let w = length-take-le k ys (omega (arith, b, l)) in let f = n.begins in omega (arith, w, f))
+        ∙ ap (λ b. drop first (take k ys) ++ cond b (narrowed r q ∷ []) []) (sym t) ∙ more;
+    rest = drop-set-lt (i + 1) (set ys i (narrowed r q)) k (narrowed r q) (let b = n.behind in omega (arith, b)) ∙ rest_more;
+    begins = let f = n.begins in omega (arith, f);
     behind = let b = n.behind in omega (arith, b);
-    from = let f₁ = n.from in omega (arith, f₁);
-    long = length-set ys k (narrowed r q) ∙ n.long;
+    long = length-set (set ys i (narrowed r q)) k (narrowed r q) ∙ length-set ys i (narrowed r q) ∙ n.long;
   }
 
 -- ---- what a row leaves

@@ -1,12 +1,12 @@
 //! The open questions in lectic order, which change where they stand: one is taken out, or all are met with a row.
 
-ghost use Rattle.std.specs.Prelude.{◌≡◌, ◌<◌, ◌≤◌, length, map, drop, take, true, false, slice_get, slice_index_or, nat_lt, not, ◌&&◌, Some, IfSome, IsSome};
-ghost use Rattle.std.specs.List.{list_any, remove, AllWithin};
+ghost use Rattle.std.specs.Prelude.{◌≡◌, ◌<◌, ◌≤◌, length, map, drop, take, true, false, slice_get, slice_index_or, slice_set, nat_lt, not, ◌&&◌, Some, IfSome, IsSome};
+ghost use Rattle.std.specs.List.{list_all, list_any, remove, AllWithin};
 ghost use Rattle.std.specs.Ordering.{is_lt};
 ghost use Rattle.fca_model.specs.Sets.{increasing, lectic_cmp};
-ghost use Rattle.fca_model.specs.Implications.{premises};
+ghost use Rattle.fca_model.specs.Implications.{Rule, premises};
 ghost use Rattle.fca_model.specs.Invariant.{Among};
-ghost use Rattle.level_queue.specs.Queue.{narrowed, still_open, is_left, is_rule};
+ghost use Rattle.level_queue.specs.Queue.{narrowed, is_open, still_open, is_left, is_rule};
 
 use attr_bits::Attrs;
 use implication_closure::{Implication, Question};
@@ -68,29 +68,58 @@ impl OpenQuestions {
 
     /// Meets the questions with a row. Those that are closed then are dropped.
     pub(crate) fn narrow(&mut self, row: &Attrs)
+        requires { list_all is_open self.old ≡ true }
         ensures { self.new ≡ still_open (map (narrowed row.now) self.old) }
     {
-        let kept = narrow_from(&mut self.questions, self.first, row);
-        self.questions.truncate(kept);
-        self.first = 0;
+        let end = narrow_from(&mut self.questions, self.first, row);
+        self.questions.truncate(end);
     }
 }
 
-/// Meets the questions from a place on with a row, and moves those that are not closed then to the front. How many these are.
+/// Meets the questions from a place on with a row. Those that are still open are moved together, and it is told where they end. Of a question whose premise
+/// the row lacks nothing but the premise is looked at.
 fn narrow_from(questions: &mut [Question], first: usize, row: &Attrs) -> usize
-    requires { first ≤ length questions.old }
+    requires begins { first ≤ length questions.old }
+    requires open { list_all is_open (drop first questions.old) ≡ true }
+    ensures begins { first ≤ result }
     ensures inside { result ≤ length questions.new }
-    ensures narrowed { take result questions.new ≡ still_open (map (narrowed row.now) (drop first questions.old)) }
+    ensures narrowed { drop first (take result questions.new) ≡ still_open (map (narrowed row.now) (drop first questions.old)) }
 {
-    let mut kept = 0;
+    let mut end = first;
     for place in first..questions.len() {
-        let question = narrowed(row, &questions[place]);
-        if question.premise != question.conclusion {
-            questions[kept] = question;
-            kept += 1;
+        if stays_open(questions, place, row) {
+            move_down(questions, place, end);
+            end += 1;
         }
     }
-    kept
+    end
+}
+
+/// Meets the open question at the place with a row. Whether it is still open.
+fn stays_open(questions: &mut [Question], place: usize, row: &Attrs) -> bool
+    requires inside { place < length questions.old }
+    ensures narrowed { (question : Rule) → question ≡ slice_index_or questions.old place question
+        → questions.new ≡ slice_set questions.old place (narrowed row.now question) }
+    ensures open { (question : Rule) → question ≡ slice_index_or questions.old place question
+        → is_open question ≡ true → result ≡ is_open (narrowed row.now question) }
+{
+    let question = &mut questions[place];
+    if !question.premise.within(row) {
+        return true;
+    }
+    question.conclusion = question.conclusion.meet(row);
+    question.premise != question.conclusion
+}
+
+/// Puts the question also to a place that is not behind its own.
+fn move_down(questions: &mut [Question], place: usize, to: usize)
+    requires inside { place < length questions.old }
+    requires before { to ≤ place }
+    ensures { (question : Rule) → question ≡ slice_index_or questions.old place question → questions.new ≡ slice_set questions.old to question }
+{
+    if to < place {
+        questions[to] = questions[place];
+    }
 }
 
 /// The question once there is this row too: where the row has the premise, the conclusion loses what the row lacks.
