@@ -7,6 +7,4 @@ pub mod EntryLemmas
 pub mod WatchLemmas
 pub mod WaitLemmas
 pub mod WalkLemmas
-pub mod NextLevelLemmas
-pub mod LevelWalkLemmas
 pub mod ForcedLemmas

@@ -2,6 +2,4 @@ pub mod Entries
 pub mod Trees
 pub mod Walks
 pub mod Watches
-pub mod NextLevel
-pub mod LevelWalks
 pub mod Forced

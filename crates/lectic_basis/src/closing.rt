@@ -13,7 +13,7 @@ use fca_model::Memory;
 
 /// Closes the set, which contains `done`, under the members. Whether the closure agrees with `done` before the limit; where it does not, the set is a part of it
 /// that differs there. Members that wait for an attribute of the closure wait for another from then on.
-pub(crate) fn close<const W: usize>(
+pub fn close<const W: usize>(
     found: &mut WatchedList<W>,
     done: &Bits<W>,
     closed: &mut Bits<W>,

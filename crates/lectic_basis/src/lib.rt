@@ -3,7 +3,6 @@
 #![tactic(auto)]
 
 mod closing;
-mod levels;
 mod narrow_list;
 #[cfg(test)]
 mod tests;
@@ -16,15 +15,16 @@ ghost use Rattle.fca_model.specs.Implications.{holds};
 ghost use Rattle.fca_model.specs.Pseudo.{basis_known};
 
 use attr_bits::Attrs;
+pub use closing::close;
 use derivation::{Rows, RowsOf};
 use extent_blocks::Sheet;
 use fca_model::Memory;
 use implication_closure::ImplicationList;
 use lectic_concepts::{FOUR_WORDS, ONE_WORD};
-pub use levels::{Level, LevelOf, next_level};
+pub use narrow_list::rules_in_words;
 use std::alloc::Global;
 use tree::visit_all;
-use watched_list::WatchedList;
+pub use watched_list::WatchedList;
 
 /// The known implications, and behind them the basis relative to them, in lectic order of the premises. It is found in sets as narrow as the table. (Ganter, "Two
 /// basic algorithms in concept analysis", 1984, for the order; Janostik, Konecny and Krajca, "LinCbO", 2021, for the tree; Moskewicz and others, "Chaff", 2001,

@@ -96,7 +96,7 @@ fn in_words<const W: usize, const V: usize>(i: &Implication<Bits<W>>) -> Implica
 }
 
 /// The same implications in another number of words.
-pub(crate) fn rules_in_words<const W: usize, const V: usize>(
+pub fn rules_in_words<const W: usize, const V: usize>(
     alloc: Global,
     width: u32,
     rules: &[Implication<Bits<W>>],

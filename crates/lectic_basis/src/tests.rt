@@ -1,10 +1,10 @@
 //! Worked examples.
 
-use crate::{basis_watched, next_level};
+use crate::basis_watched;
 use attr_bits::Attrs;
 use derivation::Rows;
 use fca_model::Memory;
-use implication_closure::{Implication, ImplicationList};
+use implication_closure::ImplicationList;
 use std::rt::HostRuntime;
 
 // Three attributes, and one object that has the last alone.
@@ -24,25 +24,6 @@ fn one_object_with_the_last_attribute(rt: HostRuntime) -> Result<(), Memory> {
     Ok(())
 }
 
-// The same table: the level of size 0, and when its member is accepted that of size 2.
-#[test]
-fn two_levels(rt: HostRuntime) -> Result<(), Memory> {
-    let none = Attrs::empty(3);
-    let mut rows = Rows::new(rt.alloc(), 3)?;
-    rows.push(none.with(2))?;
-    let mut rules = ImplicationList::new(rt.alloc(), 3)?;
-    let first = next_level(rt.alloc(), &rows, &rules)?;
-    assert!(&rt; first.size == 0 && first.members.len() == 1);
-    rules.push(Implication {
-        premise: none,
-        conclusion: none.with(2),
-    })?;
-    let second = next_level(rt.alloc(), &rows, &rules)?;
-    assert!(&rt; second.size == 2 && second.members.len() == 2);
-    assert!(&rt; second.members[1].premise == none.with(0).with(2));
-    Ok(())
-}
-
 // Seventy attributes, which take more than one word, and one object that has the last alone.
 #[test]
 fn more_than_one_word(rt: HostRuntime) -> Result<(), Memory> {
@@ -55,7 +36,5 @@ fn more_than_one_word(rt: HostRuntime) -> Result<(), Memory> {
     assert!(&rt; members.len() == 70);
     assert!(&rt; members[69].premise == none.with(0).with(69));
     assert!(&rt; members[69].conclusion == Attrs::full(70));
-    let level = next_level(rt.alloc(), &rows, &known)?;
-    assert!(&rt; level.size == 0 && level.members.len() == 1);
     Ok(())
 }

@@ -21,7 +21,7 @@ struct Entry<const W: usize> {
 
 /// The list, and for each attribute the members that wait for it.
 #[derive(Drop)]
-pub(crate) struct WatchedList<const W: usize> {
+pub struct WatchedList<const W: usize> {
     list: NarrowList<W>,
     buckets: Vec<Vec<Entry<W>>>,
 }
@@ -40,11 +40,7 @@ impl<const W: usize> Model for WatchedList<W> {
 
 impl<const W: usize> WatchedList<W> {
     /// The same implications. Each waits for an attribute outside x, or has its conclusion within x.
-    pub(crate) fn of(
-        alloc: Global,
-        list: &ImplicationList,
-        x: &Attrs,
-    ) -> Result<WatchedList<W>, Memory>
+    pub fn of(alloc: Global, list: &ImplicationList, x: &Attrs) -> Result<WatchedList<W>, Memory>
         requires words { W ≤ 1024 }
         requires fits { list.now.width ≤ 64 * W }
         requires wide { length x.now ≡ list.now.width }
@@ -78,7 +74,7 @@ impl<const W: usize> WatchedList<W> {
     }
 
     /// The number of attributes.
-    pub(crate) fn width(&self) -> u32
+    pub fn width(&self) -> u32
         ensures width { result ≡ self.now.list.width }
         ensures even { HaveWidth self.now.list.width self.now.list.members }
         ensures words { W ≤ 1024 }

@@ -16,7 +16,7 @@ use Rattle.fca_model.specs.Invariant.{Among}
 use Rattle.fca_model.proofs.ListLemmas.{list_all_from, list_all-filter_kept, filter-filter, filter_passes, filter_agree_on, filter_all}
 use Rattle.fca_model.proofs.SetLemmas.{same_refl, same-true, same_from, lectic_refl}
 use Rattle.fca_model.proofs.ClosureLemmas.{length-closure}
-use Rattle.lectic_basis.proofs.NextLevelLemmas.{level_all}
+use Rattle.next_level.proofs.NextLevelLemmas.{level_all}
 use Rattle.level_queue.specs.Queue.{Base, HasPart, IsQueue}
 use Rattle.level_queue.specs.Rules.{RuleParts}
 use Rattle.level_queue.proofs.RowLemmas.{questions_all}

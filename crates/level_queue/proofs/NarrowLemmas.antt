@@ -10,7 +10,7 @@ use Rattle.fca_model.specs.Context.{Context, closure, with_row}
 use Rattle.fca_model.specs.Implications.{Rule, rule}
 use Rattle.fca_model.proofs.PseudoLemmas.{pseudo_parts}
 use Rattle.fca_model.proofs.SetLemmas.{same_refl, same-true}
-use Rattle.lectic_basis.proofs.NextLevelLemmas.{level_all}
+use Rattle.next_level.proofs.NextLevelLemmas.{level_all}
 use Rattle.level_queue.specs.Queue.{IsQueue, narrowed, renewed, is_open, still_open, is_left}
 use Rattle.level_queue.proofs.RowLemmas.{questions_all}
 

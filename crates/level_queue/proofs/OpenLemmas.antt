@@ -22,8 +22,8 @@ use Rattle.fca_model.proofs.SortedLemmas.{increasing-filter}
 use Rattle.fca_model.proofs.DoneLemmas.{basis_increasing}
 use Rattle.fca_model.proofs.QuestionLemmas.{open_none}
 use Rattle.fca_model.proofs.LevelLemmas.{level_waiting, none_waits, smallest_is}
-use Rattle.lectic_basis.specs.NextLevel.{IsNextLevel}
-use Rattle.lectic_basis.proofs.NextLevelLemmas.{level_all}
+use Rattle.next_level.specs.NextLevel.{IsNextLevel}
+use Rattle.next_level.proofs.NextLevelLemmas.{level_all}
 use Rattle.level_queue.specs.Queue.{HasPart, IsQueue, IsKept, narrowed, still_open}
 use Rattle.level_queue.proofs.RowLemmas.{questions_all, row_keeps_queue}
 use Rattle.level_queue.proofs.NarrowLemmas.{closure-with_row, narrowed_in}

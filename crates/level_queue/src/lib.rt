@@ -19,7 +19,7 @@ use attr_bits::Attrs;
 use derivation::Rows;
 use fca_model::Memory;
 use implication_closure::{ImplicationList, Question};
-use lectic_basis::next_level;
+use next_level::next_level;
 use questions::{OpenQuestions, are_settled, place_of};
 use rules::Rules;
 use std::alloc::Global;

@@ -1,6 +1,6 @@
 -- The steps of the walk for the next level. A set that is larger than the bound, or closed and as large, has nothing below it that is looked for; one that is
 -- not closed joins the level, or becomes its first member; below another intent each attribute that it lacks is tried, the last first.
-use Rattle.std.proofs.Common.{◌≡◌, ℕ, suc, ◌+◌, ◌-◌, ◌<◌, ◌≤◌, true, false, List, [], ◌∷◌, ◌++◌, length, get_or, set, replicate, length-set, refl, sym, ap, ◌∙◌, subst, arith}
+use Rattle.std.proofs.Common.{◌≡◌, ℕ, suc, ◌+◌, ◌<◌, ◌≤◌, true, false, List, [], ◌∷◌, ◌++◌, length, get_or, set, replicate, length-set, refl, sym, ap, ◌∙◌, subst, arith}
 use Rattle.std.proofs.lemmas.Bool.{false≢true, false_from_ne_true}
 use Rattle.std.proofs.lemmas.Simd.{length-replicate}
 use Rattle.fca_model.specs.Sets.{Set, same, size, within}
@@ -11,12 +11,12 @@ use Rattle.implication_closure.specs.Closing.{RuleList, IsClosure}
 use Rattle.lectic_concepts.specs.Branches.{agree_before}
 use Rattle.lectic_concepts.proofs.BranchLemmas.{among, closure_among}
 use Rattle.lectic_basis.specs.Trees.{before, up_to}
-use Rattle.lectic_basis.specs.NextLevel.{IsLeastUnder, IsLeastLevel}
-use Rattle.lectic_basis.specs.LevelWalks.{IsEntered, IsLeft, IsTrying, HasLevel}
+use Rattle.next_level.specs.NextLevel.{IsLeastUnder, IsLeastLevel}
+use Rattle.next_level.specs.LevelWalks.{IsEntered, IsLeft, IsTrying, HasLevel}
 use Rattle.lectic_basis.specs.Watches.{Watched, IsFiled, IsGood, CanClose, HasMoved, IsClosedBefore, Differs}
 use Rattle.lectic_basis.proofs.PlaceLemmas.{within_set, agree_with, agree_less}
 use Rattle.lectic_basis.proofs.TreeLemmas.{root_least}
-use Rattle.lectic_basis.proofs.NextLevelLemmas as bound
+use Rattle.next_level.proofs.NextLevelLemmas as bound
 use Rattle.lectic_basis.proofs.WaitLemmas.{kept_good, good_covers}
 
 -- ---- the start

@@ -1,6 +1,6 @@
 use Rattle.std.proofs.Common.{◌≤◌, ◌-◌}
-use Rattle.lectic_basis.specs.LevelWalks.{HasLevel}
-use Rattle.lectic_basis.proofs.levels.+try_each.Given as goal
+use Rattle.next_level.specs.LevelWalks.{HasLevel}
+use Rattle.next_level.proofs.walk.+try_each.Given as goal
 
 abbrev pub decreases-try_each : goal.decreases-try_each
 decreases-try_each g l = l.rows.now.width - l.from

@@ -19,7 +19,7 @@ use Rattle.implication_closure.specs.Closing.{IsClosure, HaveWidth, has_width}
 use Rattle.lectic_concepts.specs.Branches.{agree_before}
 use Rattle.lectic_concepts.proofs.BranchLemmas.{agree_at}
 use Rattle.lectic_basis.specs.Trees.{before, up_to}
-use Rattle.lectic_basis.specs.NextLevel.{is_open, open_where, IsOpen, IsLeastUnder, IsLeastLevel, IsNextLevel}
+use Rattle.next_level.specs.NextLevel.{is_open, open_where, IsOpen, IsLeastUnder, IsLeastLevel, IsNextLevel}
 use Rattle.lectic_basis.proofs.PlaceLemmas as places
 use Rattle.lectic_basis.proofs.ListingLemmas.{same_listed, listed_push}
 

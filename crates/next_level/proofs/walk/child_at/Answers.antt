@@ -1,6 +1,6 @@
 use Rattle.std.proofs.Common.{sym, ◌∙◌, arith}
-use Rattle.lectic_basis.proofs.LevelWalkLemmas.{left_member, left_can_close, left_none, left_entered, left_done}
-use Rattle.lectic_basis.proofs.levels.child_at.Goals as goal
+use Rattle.next_level.proofs.LevelWalkLemmas.{left_member, left_can_close, left_none, left_entered, left_done}
+use Rattle.next_level.proofs.walk.child_at.Goals as goal
 
 pub returns-then-has-clause-done : goal.returns-then-has-clause-done
 returns-then-has-clause-done g c = left_member c.requires (sym c.has.ensures ∙ c.if-has.true)

@@ -1,13 +1,13 @@
 use Rattle.std.proofs.Common.{◌≡◌, ◌+◌, length, false, replicate, sym, ap, ◌∙◌, subst, arith}
 use Rattle.std.proofs.lemmas.Simd.{length-replicate}
 use Rattle.implication_closure.specs.Closing.{RuleList, IsClosure}
-use Rattle.lectic_basis.specs.NextLevel.{IsLeastLevel}
+use Rattle.next_level.specs.NextLevel.{IsLeastLevel}
 use Rattle.lectic_basis.specs.Trees.{up_to}
-use Rattle.lectic_basis.specs.LevelWalks.{IsEntered}
+use Rattle.next_level.specs.LevelWalks.{IsEntered}
 use Rattle.lectic_basis.specs.Watches.{IsFiled, IsGood}
-use Rattle.lectic_basis.proofs.LevelWalkLemmas.{root_entered}
-use Rattle.lectic_basis.proofs.NextLevelLemmas.{next_is, level_wide}
-use Rattle.lectic_basis.proofs.levels.level_of.Goals as goal
+use Rattle.next_level.proofs.LevelWalkLemmas.{root_entered}
+use Rattle.next_level.proofs.NextLevelLemmas.{next_is, level_wide}
+use Rattle.next_level.proofs.level_of.Goals as goal
 
 pub enter_all-requires : goal.enter_all-requires
 enter_all-requires g c =

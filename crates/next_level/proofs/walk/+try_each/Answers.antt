@@ -1,6 +1,6 @@
 use Rattle.std.proofs.Common.{arith}
-use Rattle.lectic_basis.proofs.LevelWalkLemmas.{trying, level_then}
-use Rattle.lectic_basis.proofs.levels.+try_each.Goals as goal
+use Rattle.next_level.proofs.LevelWalkLemmas.{trying, level_then}
+use Rattle.next_level.proofs.walk.+try_each.Goals as goal
 
 pub child_at-requires : goal.child_at-requires
 child_at-requires g t c = (omega arith, (omega arith, (omega arith, (omega (arith, c.width-i.ensures.words), trying c.requires c.loop-i.invariant.inside c.loop-i.invariant.found (omega (arith, c.loop-i-test.true)) (omega (arith, c.loop-i-test.true))))))

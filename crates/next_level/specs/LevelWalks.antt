@@ -8,7 +8,7 @@ use Rattle.fca_model.specs.Context.{Context}
 use Rattle.fca_model.specs.Implications.{Rule, respects_all}
 use Rattle.lectic_basis.specs.Trees.{ClosesAlike, before, up_to}
 use Rattle.lectic_basis.specs.Watches.{Watched, IsFiled, IsGood}
-use Rattle.lectic_basis.specs.NextLevel.{IsLeastUnder, IsLeastLevel}
+use Rattle.next_level.specs.NextLevel.{IsLeastUnder, IsLeastLevel}
 
 -- A respects the list, all that are looked at contain it, the rows of L are enough for their closures, and what does not concern A waits
 pub record IsInside (K L : Context) (A : Set) (from : ℕ) (F : Watched) : Type 0 where

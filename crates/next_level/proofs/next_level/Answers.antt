@@ -1,8 +1,8 @@
 use Rattle.std.proofs.Common.{◌≡◌}
 use Rattle.std.proofs.lemmas.Result.{IfOk-weaker}
-use Rattle.lectic_basis.specs.NextLevel.{IsNextLevel}
-use Rattle.lectic_basis.proofs.NextLevelLemmas.{next_told}
-use Rattle.lectic_basis.proofs.levels.next_level.Goals as goal
+use Rattle.next_level.specs.NextLevel.{IsNextLevel}
+use Rattle.next_level.proofs.NextLevelLemmas.{next_told}
+use Rattle.next_level.proofs.next_level.Goals as goal
 
 pub returns-then-width-le-ONE_WORD : goal.returns-then-width-le-ONE_WORD
 returns-then-width-le-ONE_WORD c known found reached is below bounded =

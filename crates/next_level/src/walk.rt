@@ -1,22 +1,15 @@
-//! The next level of the basis that has a member, by a walk that keeps nothing but its path. The sets that respect a list are visited in lectic order, and none
-//! that is larger than the least open one seen so far.
+//! The walk through the sets that respect a list, in lectic order. None that is larger than the least open one seen so far is entered.
 
-ghost use Rattle.std.specs.Prelude.{◌≡◌, ◌≤◌, ◌+◌, ◌++◌, ℕ, List, OnOk, IfOk, IfSome, MatchOption, true, false};
+ghost use Rattle.std.specs.Prelude.{◌≡◌, ◌+◌, ℕ, List, OnOk, IfOk, IfSome, MatchOption, true, false};
 ghost use Rattle.fca_model.specs.Implications.{Rule};
-ghost use Rattle.fca_model.specs.Levels.{HasBelow};
-ghost use Rattle.implication_closure.specs.Closing.{HaveWidth};
 ghost use Rattle.lectic_basis.specs.Watches.{Watched};
-ghost use Rattle.lectic_basis.specs.NextLevel.{IsNextLevel};
-ghost use Rattle.lectic_basis.specs.LevelWalks.{IsEntered, IsLeft, IsTrying, HasLevel};
+ghost use Rattle.next_level.specs.LevelWalks.{IsEntered, IsLeft, IsTrying, HasLevel};
 
-use crate::closing::close;
-use crate::narrow_list::rules_in_words;
-use crate::watched_list::WatchedList;
-use attr_bits::{Attrs, Bits, WORDS};
-use derivation::{Rows, RowsOf};
+use crate::LevelOf;
+use attr_bits::Bits;
+use derivation::RowsOf;
 use fca_model::{Implication, Memory};
-use implication_closure::ImplicationList;
-use lectic_concepts::{FOUR_WORDS, ONE_WORD};
+use lectic_basis::{WatchedList, close};
 use std::alloc::Global;
 
 /// Rows are set apart where there are more of them than this.
@@ -25,77 +18,8 @@ const FEW_ROWS: usize = 24;
 /// Rows are set apart where more attributes than this are left.
 const FEW_ATTRIBUTES: u32 = 3;
 
-/// A level of the basis: the size of its premises, and its members in lectic order, with sets of W words.
-#[derive(Drop)]
-pub struct LevelOf<const W: usize> {
-    pub size: u32,
-    pub members: Vec<Implication<Bits<W>>>,
-}
-
-/// A level of the basis of any table.
-pub type Level = LevelOf<WORDS>;
-
-/// The next level that has a member, past the width where there is none. The rules are the known implications and, behind them, the members of the basis below a
-/// size. It is found in sets as narrow as the table. (Kuznetsov, "A fast algorithm for computing all intersections of objects in a finite semi-lattice", 1993,
-/// for the tree.)
-pub fn next_level(alloc: Global, rows: &Rows, rules: &ImplicationList) -> Result<Level, Memory>
-    requires wide { rules.now.width ≡ rows.now.width }
-    ensures { (known found : List Rule) (reached : ℕ) → rules.now.members ≡ known ++ found → HasBelow known rows.now reached found → reached ≤ rows.now.width + 1
-        → IfOk result (λ level. IsNextLevel known rows.now found level.size level.members.items) }
-{
-    let width = rows.width();
-    if width <= ONE_WORD {
-        let found = level_of(alloc, &rows.resized::<1>(alloc)?, rules)?;
-        return in_all_words(alloc, width, &found);
-    }
-    if width <= FOUR_WORDS {
-        let found = level_of(alloc, &rows.resized::<4>(alloc)?, rules)?;
-        return in_all_words(alloc, width, &found);
-    }
-    level_of(alloc, rows, rules)
-}
-
-/// The same level in all words.
-fn in_all_words<const W: usize>(
-    alloc: Global,
-    width: u32,
-    level: &LevelOf<W>,
-) -> Result<Level, Memory>
-    requires words { W ≤ 1024 }
-    requires fits { width ≤ 1024 }
-    requires even { HaveWidth width level.now.members.items }
-    ensures { IfOk result (λ wide. (wide.size ≡ level.now.size) × (wide.members.items ≡ level.now.members.items)) }
-{
-    Ok(LevelOf {
-        size: level.size,
-        members: rules_in_words(alloc, width, &level.members)?,
-    })
-}
-
-/// The next level, with sets of the words that the rows have.
-fn level_of<const W: usize>(
-    alloc: Global,
-    rows: &RowsOf<W>,
-    rules: &ImplicationList,
-) -> Result<LevelOf<W>, Memory>
-    requires wide { rules.now.width ≡ rows.now.width }
-    ensures next { (known found : List Rule) (reached : ℕ) → rules.now.members ≡ known ++ found → HasBelow known rows.now reached found → reached ≤ rows.now.width + 1
-        → IfOk result (λ level. IsNextLevel known rows.now found level.size level.members.items) }
-    ensures even { IfOk result (λ level. HaveWidth rows.now.width level.members.items) }
-{
-    let width = rows.width();
-    let least = rules.naive_closure(&Attrs::empty(rules.width()));
-    let mut found = WatchedList::of(alloc, rules, &least)?;
-    let mut level = LevelOf {
-        size: width + 1,
-        members: Vec::new(alloc),
-    };
-    enter_all(alloc, rows, &mut found, &mut level, &least.resized(), 0)?;
-    Ok(level)
-}
-
 /// Visits a, and then all that agree with it before attribute `from`.
-fn enter_all<const W: usize>(
+pub(crate) fn enter_all<const W: usize>(
     alloc: Global,
     rows: &RowsOf<W>,
     found: &mut WatchedList<W>,

@@ -1,8 +1,8 @@
 use Rattle.std.proofs.Common.{◌≤◌, ◌++◌, ◌∷◌, [], ap, sym, ◌∙◌, arith}
 use Rattle.std.proofs.lemmas.Bool.{ltb-false}
 use Rattle.fca_model.specs.Implications.{rule}
-use Rattle.lectic_basis.proofs.LevelWalkLemmas.{enter_larger, enter_as_large, enter_left, enter_joins, enter_lowers}
-use Rattle.lectic_basis.proofs.levels.enter.Goals as goal
+use Rattle.next_level.proofs.LevelWalkLemmas.{enter_larger, enter_as_large, enter_left, enter_joins, enter_lowers}
+use Rattle.next_level.proofs.walk.enter.Goals as goal
 
 pub returns-then-count-level-clause-done : goal.returns-then-count-level-clause-done
 returns-then-count-level-clause-done g c = λ e. enter_larger c.requires (omega (arith, c.size-count.ensures.size, c.if-count-level.true))

@@ -1,0 +1,2 @@
+pub mod NextLevelLemmas
+pub mod LevelWalkLemmas

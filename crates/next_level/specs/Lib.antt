@@ -1,0 +1,2 @@
+pub mod NextLevel
+pub mod LevelWalks
