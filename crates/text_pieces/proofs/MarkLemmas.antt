@@ -1,16 +1,16 @@
 -- How marks are read and written. The crosses of a block of bytes become the bits of a number, and these are put into the set at their
 -- places; marks are filled in place by place. What is written of a set marks it.
-use Rattle.std.proofs.Common.{◌≡◌, ◌∙◌, ◌<◌, ◌≤◌, ◌+◌, ◌-◌, ◌^◌, ◌∷◌, [], ℕ, suc, Bool, true, false, ◌&&◌, ◌||◌, cond, eqb, nat_le, map, length, drop, take, get_or, replicate, refl, ap, ap₂, inl, inr, add-one, arith, min}
+use Rattle.std.proofs.Common.{◌≡◌, ◌∙◌, ◌<◌, ◌≤◌, ◌+◌, ◌-◌, ◌^◌, ◌∷◌, [], List, ℕ, suc, Bool, true, false, ◌&&◌, ◌||◌, cond, eqb, nat_le, map, length, drop, take, get_or, replicate, refl, ap, ap₂, inl, inr, arith, min}
 use Rattle.std.specs.Int.{bit_at}
 use Rattle.std.specs.List.{list_all, list_any}
 use Rattle.std.proofs.lemmas.Bool.{cases_lt, le-leb, lt-leb}
 use Rattle.std.proofs.Math.Bool.{or-false, and-false}
 use Rattle.std.proofs.lemmas.List.{get_or-replicate, length-replicate, get_or-take, get_or-drop, length-take-le, length-drop}
 use Rattle.std.proofs.lemmas.Nat.Bits.{bit_at_above}
+use Rattle.std.proofs.lemmas.Simd.{bit_mask_l}
+use Rattle.std.specs.Simd.Lanes.{mask_l}
 use Rattle.fca_model.specs.Sets.{Set}
 use Rattle.fca_model.specs.Tables.{Text}
-use Rattle.attr_bits.specs.Words.{number_of}
-use Rattle.attr_bits.specs.WordLaws.{bit_at-number_of}
 use Rattle.text_pieces.specs.Marks.{is_cross, is_mark, mark_of, marks_of}
 use Rattle.text_pieces.specs.Words.{is_space}
 use Rattle.text_pieces.proofs.LineLemmas.{IsLine, IsLine-nil, IsLine-more}
@@ -21,15 +21,9 @@ use Rattle.text_pieces.proofs.LineLemmas.{IsLine, IsLine-nil, IsLine-more}
 abbrev pub cross_at : Text → ℕ → Bool
 cross_at cells k = is_cross (get_or cells k 0)
 
--- one byte more
-pub crosses-more : (cells : Text) (j : ℕ) → number_of (cross_at cells) (j + 1) ≡ number_of (cross_at cells) j + cond (cross_at cells j) (2 ^ j) 0
-unfolding number_of
-crosses-more cells j = ap (number_of (cross_at cells)) (add-one j)
-
--- the crosses, as a number by its bits
-pub crosses-number : (cells : Text) (bits : ℕ) → bits ≡ number_of (cross_at cells) (length cells) → (k : ℕ) → k < length cells → eqb (bit_at bits k) 1 ≡ cross_at cells k
-crosses-number cells bits is k lt =
-    ap (λ x. eqb (bit_at x k) 1) is ∙ ap (λ x. eqb x 1) (bit_at-number_of (cross_at cells) (length cells) k lt) ∙ one (cross_at cells k)
+-- one bit of the mask of some lanes
+pub is_set-mask_l : (lanes : List Bool) (j : ℕ) → eqb (bit_at (mask_l lanes) j) 1 ≡ get_or lanes j false
+is_set-mask_l lanes j = ap (λ x. eqb x 1) (bit_mask_l lanes j) ∙ one (get_or lanes j false)
   where
     one : (b : Bool) → eqb (cond b 1 0) 1 ≡ b
     one true = refl

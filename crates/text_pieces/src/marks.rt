@@ -8,6 +8,7 @@ ghost use Rattle.text_pieces.specs.Marks as mark;
 
 use attr_bits::Attrs;
 use fca_model::MAX_ATTRIBUTES;
+use std::simd::prelude::*;
 
 /// How many marks are taken at once.
 const BLOCK: u32 = 64;
@@ -28,11 +29,15 @@ pub fn is_mark(byte: u8) -> bool
     is_cross(byte) || byte == b'.'
 }
 
-/// Whether each byte is a mark.
+/// Whether each byte is a mark. It does not stop at the first that is none, so that many are compared at once.
 pub fn are_marks(cells: &[u8]) -> bool
     ensures { result ≡ list_all mark.is_mark cells.now }
 {
-    cells.iter().all(|byte| is_mark(*byte))
+    let mut all = true;
+    for byte in cells {
+        all &= is_mark(*byte);
+    }
+    all
 }
 
 /// The set of the places that have a cross.
@@ -55,13 +60,25 @@ fn crosses_of(cells: &[u8]) -> u64
     requires { length cells.now ≤ 64 }
     ensures { (j : ℕ) → j < length cells.now → (bit_at result j == 1) ≡ mark.is_cross (slice_index cells.now j) }
 {
-    let mut crosses = 0;
-    for j in 0..cells.len() {
-        if is_cross(cells[j]) {
-            crosses += 1u64 << j;
-        }
-    }
-    crosses
+    let lanes = lanes_of(cells);
+    places_of(b'X', lanes) | places_of(b'x', lanes)
+}
+
+/// The bytes as lanes, with nothing meant from their end on.
+fn lanes_of(cells: &[u8]) -> u8x64
+    requires { length cells.now ≤ 64 }
+    ensures { take (length cells.now) result ≡ cells.now }
+{
+    let mut bytes = [0; 64];
+    bytes[..cells.len()].copy_from_slice(cells);
+    u8x64::from_array(bytes)
+}
+
+/// The lanes with this byte as bits, from the lowest on.
+fn places_of(byte: u8, lanes: u8x64) -> u64
+    ensures { (j : ℕ) → j < 64 → (bit_at result j == 1) ≡ (slice_index lanes j == byte) }
+{
+    lanes.simd_eq(u8x64::splat(byte)).to_bitmask()
 }
 
 /// The marks of the places from `from` to `end`, with nothing meant from there on.
