@@ -1,4 +1,4 @@
-use Rattle.std.proofs.Common.{◌≡◌, ◌&&◌, ◌∙◌, ℕ, Bool, List, sym, ap, ap₂}
+use Rattle.std.proofs.Common.{◌&&◌, ◌∙◌, List, sym, ap, ap₂}
 use Rattle.std.specs.List.{list_any}
 use Rattle.extent_blocks.specs.Blocks.{Part, in_block, in_parts}
 use Rattle.extent_blocks.proofs.BlockLemmas.{parts_of}
