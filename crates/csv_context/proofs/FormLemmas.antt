@@ -1,6 +1,6 @@
 -- One field, and one record, more. What is left of a record after a field is one field shorter, and the form goes on from there with what
 -- the field says.
-use Rattle.std.proofs.Common.{◌≡◌, ◌∙◌, ◌<◌, ◌+◌, ◌-◌, ◌++◌, ◌∷◌, [], ℕ, zero, suc, Bool, true, false, List, Some, None, Result, Ok, Err, drop, length, replicate, set, slice_get, bytes_eq, inl, inr, refl, sym, ap, subst, length-append, append_assoc, arith}
+use Rattle.std.proofs.Common.{◌≡◌, ◌∙◌, ◌<◌, ◌+◌, ◌-◌, ◌++◌, ◌∷◌, [], ℕ, zero, suc, Bool, true, false, cond, List, Some, None, Result, Ok, Err, drop, length, replicate, set, slice_get, bytes_eq, inl, inr, refl, sym, ap, subst, length-append, append_assoc, arith}
 use Rattle.std.specs.Prelude.{◌⊎◌, IsErr, IsErrAnd}
 use Rattle.fca_model.specs.Sets.{Set}
 use Rattle.fca_model.specs.Tables.{Text}
@@ -12,6 +12,7 @@ use Rattle.context_table.specs.Table.{first_repeat, repeat_from}
 use Rattle.cxt_format.proofs.TextLemmas.{drop-item}
 use Rattle.csv_context.specs.Records.{Record}
 use Rattle.csv_context.specs.Form.{TellsBy, then, attribute_form, attributes_form, cell_form, row_form}
+use Rattle.csv_context.specs.Cells.{ReadTo}
 use Rattle.csv_context.specs.declared.CsvFault.{CsvFault}
 use Rattle.csv_context.specs.declared.CsvFault.TheVariants as fault
 
@@ -62,49 +63,37 @@ set-front front i k placed =
 
 -- ---- the cells of an object
 
--- the cells before this place were read into the row
-pub record ReadTo (i width : ℕ) (fields : Record) (row : Set) (place : ℕ) : Type 0 where
-  pub front : Set
-  pub placed : length front ≡ place
-  pub filled : row ≡ front ++ replicate (width - place) false
-  pub says : row_form i 2 [] (drop 1 fields) ≡ row_form i (place + 2) front (drop (place + 1) fields)
-
-pub ReadTo-zero : (i width : ℕ) (fields : Record) → ReadTo i width fields (replicate width false) 0
-ReadTo-zero i width fields =
+pub ReadTo-zero : (i width : ℕ) (cells : Record) → ReadTo i width cells (replicate width false) 0
+ReadTo-zero i width cells =
     let all : width - 0 ≡ width = omega arith in
     record { front = []; placed = refl; filled = rw all refl; says = refl }
 
-module _ (i width : ℕ) (fields : Record) (row : Set) (place : ℕ) (field : Text) (at : Some field ≡ slice_get fields (place + 1)) (r : ReadTo i width fields row place) where
-  says-next : row_form i 2 [] (drop 1 fields) ≡ then (cell_form i (place + 2) field) (λ mark. row_form i (place + 2 + 1) (r.front ++ mark ∷ []) (drop (place + 1 + 1) fields))
-  says-next = r.says ∙ rw (drop-item fields (place + 1) field (sym at)) refl
+module _ (i width : ℕ) (cells : Record) (row : Set) (place : ℕ) (field : Text) (at : Some field ≡ slice_get cells place) (r : ReadTo i width cells row place) where
+  says-next : row_form i 2 [] cells ≡ then (cell_form i (place + 2) field) (λ mark. row_form i (place + 2 + 1) (r.front ++ mark ∷ []) (drop (place + 1) cells))
+  says-next = r.says ∙ rw (drop-item cells place field (sym at)) refl
 
-  says-more : (mark : Bool) → cell_form i (place + 2) field ≡ Ok mark
-      → row_form i 2 [] (drop 1 fields) ≡ row_form i (place + 1 + 2) (r.front ++ mark ∷ []) (drop (place + 1 + 1) fields)
+  says-more : (mark : Bool) → cell_form i (place + 2) field ≡ Ok mark → row_form i 2 [] cells ≡ row_form i (place + 1 + 2) (r.front ++ mark ∷ []) (drop (place + 1) cells)
   says-more mark is =
       let next : place + 2 + 1 ≡ place + 1 + 2 = omega arith in
       says-next ∙ rw (is, next) refl
 
-  pub ReadTo-cross : place < width → cell_form i (place + 2) field ≡ Ok true → ReadTo i width fields (set row place true) (place + 1)
-  ReadTo-cross below is =
+  filled-more : place < width → (mark : Bool) → cond mark (set row place true) row ≡ r.front ++ mark ∷ [] ++ replicate (width - (place + 1)) false
+  filled-more below true =
       let one : width - place ≡ suc (width - (place + 1)) = omega arith in
-      record {
-        front = r.front ++ true ∷ [];
-        placed = length-append r.front (true ∷ []) ∙ ap (λ (n : ℕ). n + 1) r.placed;
-        filled = ap (λ (x : Set). set x place true) r.filled ∙ rw one (set-front r.front place (width - (place + 1)) r.placed);
-        says = says-more true is;
-      }
-
-  pub ReadTo-none : place < width → cell_form i (place + 2) field ≡ Ok false → ReadTo i width fields row (place + 1)
-  ReadTo-none below is =
+      ap (λ (x : Set). set x place true) r.filled ∙ rw one (set-front r.front place (width - (place + 1)) r.placed)
+  filled-more below false =
       let one : width - place ≡ suc (width - (place + 1)) = omega arith in
-      record {
-        front = r.front ++ false ∷ [];
-        placed = length-append r.front (false ∷ []) ∙ ap (λ (n : ℕ). n + 1) r.placed;
-        filled = r.filled ∙ rw one (sym (append_assoc r.front (false ∷ []) (replicate (width - (place + 1)) false)));
-        says = says-more false is;
-      }
+      r.filled ∙ rw one (sym (append_assoc r.front (false ∷ []) (replicate (width - (place + 1)) false)))
 
-  pub row_form-Err : (e : CsvFault) → cell_form i (place + 2) field ≡ Err e → row_form i 2 [] (drop 1 fields) ≡ Err e
+  pub ReadTo-more : (mark : Bool) → place < width → cell_form i (place + 2) field ≡ Ok mark → ReadTo i width cells (cond mark (set row place true) row) (place + 1)
+  ReadTo-more mark below is = record {
+    front = r.front ++ mark ∷ [];
+    placed = length-append r.front (mark ∷ []) ∙ ap (λ (n : ℕ). n + 1) r.placed;
+    filled = filled-more below mark;
+    says = says-more mark is;
+  }
+
+  pub row_form-Err : (e : CsvFault) → cell_form i (place + 2) field ≡ Err e → row_form i 2 [] cells ≡ Err e
   row_form-Err e is = says-next ∙ rw is refl
 
 -- ---- fields that are left
@@ -117,3 +106,11 @@ left-field (f ∷ fields) zero field more left = (cc, cc)
 left-field (f ∷ fields) (suc place) field more left =
     let one : suc place + 1 ≡ suc (place + 1) = omega arith in
     rw one (left-field fields place field more left)
+
+-- the fields behind the first
+pub slice_get-behind : (fields : Record) (place : ℕ) → slice_get (drop 1 fields) place ≡ slice_get fields (place + 1)
+slice_get-behind [] zero = refl
+slice_get-behind [] (suc place) = refl
+slice_get-behind (f ∷ fields) place =
+    let one : place + 1 ≡ suc place = omega arith in
+    rw one refl

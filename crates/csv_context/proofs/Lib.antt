@@ -3,6 +3,7 @@ pub mod FieldLemmas
 pub mod FormLemmas
 pub mod RecordLemmas
 pub mod LineLemmas
+pub mod CellLemmas
 pub mod WriteLemmas
 pub mod WrittenTexts
 pub mod ReadBack

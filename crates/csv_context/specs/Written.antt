@@ -1,5 +1,5 @@
 -- The written CSV form of a table.
-use Rattle.std.specs.Prelude.{◌≡◌, ℕ, Bool, false, Vec, cond, List, [], ◌∷◌, ◌++◌, None, map, codes}
+use Rattle.std.specs.Prelude.{ℕ, Bool, cond, List, [], ◌∷◌, ◌++◌, None, map, codes}
 use Rattle.fca_model.specs.Sets.{Set}
 use Rattle.fca_model.specs.Tables.{Text, NamedContext}
 use Rattle.csv.specs.Writing.{default_writer, fields_text, row_text}

@@ -8,6 +8,7 @@ ghost use Rattle.csv_context.specs.Form as form;
 ghost use Rattle.csv_context.specs.Form.{Tells};
 
 use crate::CsvFault;
+use crate::cells::{begin_row, put_mark};
 use crate::lines::next_field;
 use attr_bits::Attrs;
 use csv::ByteRecord;
@@ -98,15 +99,28 @@ pub fn row_in(width: u32, i: usize, line: &[u8]) -> Result<Attrs, CsvFault>
     ensures form { result ≡ form.row_form i 2 [] (drop 1 (fields_in line.now)) }
     ensures wide { IfOk result (λ row. length row ≡ width) }
 {
-    let mut row = Attrs::empty(width);
-    let (_, mut left) = next_field(line);
-    for place in 0..width {
+    let (_, behind) = next_field(line);
+    match behind {
+        Some(cells) => row_of_cells(width, i, cells),
+        None => Ok(Attrs::empty(width)),
+    }
+}
+
+/// The row in cells of record `i`.
+fn row_of_cells(width: u32, i: usize, cells: &[u8]) -> Result<Attrs, CsvFault>
+    requires narrow { width ≤ MAX_ATTRIBUTES }
+    requires whole { length (fields_in cells.now) ≡ width }
+    ensures form { result ≡ form.row_form i 2 [] (fields_in cells.now) }
+    ensures wide { IfOk result (λ row. length row ≡ width) }
+{
+    let begun = begin_row(width, cells);
+    let mut row = begun.row;
+    let mut left = Some(begun.left);
+    for place in begun.place..width {
         let Some(rest) = left else { unreachable!() };
         let (field, behind) = next_field(rest);
         let cross = cell_of(i, place as usize + 2, field)?;
-        if cross {
-            row.insert(place);
-        }
+        put_mark(&mut row, place, cross);
         left = behind;
     }
     Ok(row)
@@ -123,9 +137,7 @@ pub fn row_of(width: u32, i: usize, fields: &ByteRecord) -> Result<Attrs, CsvFau
     for place in 0..width {
         let field = field_at(fields, place as usize + 1);
         let cross = cell_of(i, place as usize + 2, field)?;
-        if cross {
-            row.insert(place);
-        }
+        put_mark(&mut row, place, cross);
     }
     Ok(row)
 }

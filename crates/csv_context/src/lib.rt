@@ -3,6 +3,7 @@
 
 ghost use Rattle.std.specs.Prelude.{◌≡◌};
 
+mod cells;
 mod fields;
 mod lines;
 mod read;

@@ -1,4 +1,4 @@
-use Rattle.std.proofs.Common.{◌≡◌, ◌∙◌, ◌<◌, ◌≤◌, ◌+◌, ◌-◌, ◌*◌, ◌++◌, ◌∷◌, [], ℕ, Bool, true, false, List, cond, drop, get_or, get_or-drop, length, length-drop, length-set, set, take, sym, ap, refl, arith}
+use Rattle.std.proofs.Common.{◌≡◌, ◌∙◌, ◌<◌, ◌≤◌, ◌+◌, ◌++◌, ◌∷◌, [], ℕ, Bool, false, List, cond, drop, get_or-drop, length, length-drop, length-set, set, take, sym, ap, refl, arith}
 use Rattle.std.proofs.lemmas.List.{take_more}
 use Rattle.fca_model.specs.Sets.{Set}
 use Rattle.csv_context.specs.Written.{cells_text}

@@ -1,4 +1,4 @@
-use Rattle.std.proofs.Common.{◌≡◌, ◌∙◌, ◌≤◌, ◌++◌, codes, length, ap, subst, sym, arith}
+use Rattle.std.proofs.Common.{◌≡◌, ◌≤◌, ◌++◌, codes, length, ap, subst, arith}
 use Rattle.csv.specs.Writing.{default_writer, fields_text}
 use Rattle.fca_model.specs.Context.{Context}
 use Rattle.csv_context.proofs.WriteLemmas.{EachName-more, header-done, header-more}

@@ -1,0 +1,10 @@
+use Rattle.std.proofs.Common.{◌∙◌, ◌==◌, ℕ, List, get_or, sym}
+use Rattle.csv_context.proofs.CellLemmas.{TakesCell-first, both}
+use Rattle.csv_context.proofs.cells.first_cell.Goals as goal
+
+pub returns-clause-cell : goal.returns-clause-cell
+returns-clause-cell c h =
+    let cells : List ℕ = c.args.cells.now in
+    let size : ℕ = c.from-size.result in
+    let short = both c.is_short.result (get_or cells size 0 == 44) h in
+    rw c.is_cross.ensures (TakesCell-first cells size c.requires c.from-size.ensures (sym c.is_short.ensures ∙ short.0) short.1)

@@ -1,0 +1,29 @@
+-- Cells behind the name of an object: one that is taken off the front, and a row that is read up to a place.
+use Rattle.std.specs.Prelude.{◌≡◌, ℕ, ◌+◌, ◌-◌, ◌==◌, ◌||◌, Bool, false, [], ◌∷◌, ◌++◌, Some, drop, length, replicate}
+use Rattle.fca_model.specs.Sets.{Set}
+use Rattle.fca_model.specs.Tables.{Text}
+use Rattle.text_pieces.specs.Blanks.{trimmed}
+use Rattle.csv_context.specs.Records.{Record}
+use Rattle.csv_context.specs.Lines.{fields_in, is_comma}
+use Rattle.csv_context.specs.Form.{mark_of, row_form}
+
+-- a byte that alone is a cross
+abbrev pub is_cross : ℕ → Bool
+is_cross b = (b == 88) || (b == 120) || (b == 49)
+
+-- a byte that alone is a cell, or the comma behind an empty one
+abbrev pub is_short : ℕ → Bool
+is_short b = is_cross b || (b == 46) || (b == 48) || is_comma b
+
+-- the first cell of some has this mark, and others are behind its comma
+pub record TakesCell (cells : Text) (mark : Bool) (behind : Text) : Type 0 where
+  pub field : Text
+  pub fields : fields_in cells ≡ field ∷ fields_in behind
+  pub says : mark_of (trimmed field) ≡ Some mark
+
+-- the cells of record i before this place are read into the row
+pub record ReadTo (i width : ℕ) (cells : Record) (row : Set) (place : ℕ) : Type 0 where
+  pub front : Set
+  pub placed : length front ≡ place
+  pub filled : row ≡ front ++ replicate (width - place) false
+  pub says : row_form i 2 [] cells ≡ row_form i (place + 2) front (drop place cells)
