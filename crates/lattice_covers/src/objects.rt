@@ -1,4 +1,4 @@
-//! Sets of objects, where a table has few: the extent of an intent is such a set, and so are the objects of an attribute.
+//! Sets of few objects: the extent of an intent is such a set where it is small, and so are the objects of an attribute among those.
 
 ghost use Rattle.std.specs.Prelude.{◌≡◌, ◌≤◌, ◌<◌, true, length, IfOk};
 ghost use Rattle.fca_model.specs.Sets.{within};
@@ -10,14 +10,11 @@ use derivation::RowsOf;
 use fca_model::Memory;
 use std::alloc::Global;
 
-/// How many objects are few.
-pub(crate) const FEW_OBJECTS: usize = 512;
-
-/// How many words a set of few objects has.
-const OBJECT_WORDS: usize = FEW_OBJECTS / 64;
+/// How many objects are few: as many as one word holds.
+pub(crate) const FEW_OBJECTS: usize = 64;
 
 /// A set of few objects.
-pub(crate) type ObjectSet = Bits<OBJECT_WORDS>;
+pub(crate) type ObjectSet = Bits<1>;
 
 /// The objects whose rows contain a.
 pub(crate) fn objects_of<const W: usize>(rows: &RowsOf<W>, a: &Bits<W>) -> ObjectSet
@@ -35,18 +32,16 @@ pub(crate) fn objects_of<const W: usize>(rows: &RowsOf<W>, a: &Bits<W>) -> Objec
     objects
 }
 
-/// The objects of each attribute, in the order of those. Where the objects are not few, there are no such sets.
+/// The objects of each attribute, in the order of those.
 pub(crate) fn columns_of<const W: usize>(
     alloc: Global,
     rows: &RowsOf<W>,
 ) -> Result<Vec<ObjectSet>, Memory>
-    ensures { IfOk result (λ columns. length rows.now.rows ≤ FEW_OBJECTS → AreColumns rows.now columns.items) }
+    requires { length rows.now.rows ≤ FEW_OBJECTS }
+    ensures { IfOk result (λ columns. AreColumns rows.now columns.items) }
 {
-    let mut columns = Vec::new(alloc);
-    if FEW_OBJECTS < rows.len() {
-        return Ok(columns);
-    }
     let width = rows.width();
+    let mut columns = Vec::with_capacity(alloc, width as usize)?;
     for attribute in 0..width {
         columns.push(objects_of(rows, &Bits::empty(width).with(attribute)))?;
     }
