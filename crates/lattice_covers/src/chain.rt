@@ -5,7 +5,8 @@ ghost use Rattle.fca_model.specs.Sets.{within};
 ghost use Rattle.fca_model.specs.Context.{closure};
 ghost use Rattle.lattice_covers.specs.Neighbours.{IsAbove, IsLink, AreLinks, rows_above};
 
-use crate::objects::{FEW_OBJECTS, ObjectSet, closure_of, columns_of, objects_above, objects_of};
+use crate::members::{has, with};
+use crate::objects::{FEW_OBJECTS, ObjectSet, closure_of, columns_of, objects_above};
 use attr_bits::Bits;
 use derivation::RowsOf;
 use fca_model::Memory;
@@ -140,10 +141,11 @@ fn above_of<const W: usize>(
     ensures { IfOk result (λ above. IsAbove rows.now a.now above) }
 {
     let _width = rows.width();
-    if FEW_OBJECTS < above.len() {
+    let count = above.len();
+    if FEW_OBJECTS < count {
         return Ok(Above::Many(above));
     }
-    let objects = objects_of(&above, a);
+    let objects = Bits::full(count as u32);
     let columns = columns_of(alloc, &above)?;
     let sheet = Rc::new(
         alloc,
@@ -163,7 +165,7 @@ fn closure_with<const W: usize>(rows: &RowsOf<W>, link: &Link<W>, i: u32) -> Bit
     ensures { result ≡ closure rows.now (slice_set link.now.intent i true) }
 {
     let _width = rows.width();
-    let larger = link.intent.with(i);
+    let larger = with(&link.intent, i);
     match &link.above {
         Above::Many(above) => above.closure(&larger),
         Above::Few(sheet, objects) => closure_of(
@@ -190,7 +192,7 @@ pub(crate) fn closure_if_allowed<const W: usize>(
     ensures link { IsLink rows.now link.new }
     ensures intent { link.new.intent ≡ link.old.intent }
 {
-    if !allowed.has(link.implied[i as usize]) {
+    if !has(allowed, link.implied[i as usize]) {
         return None;
     }
     let closed = closure_with(rows, link, i);

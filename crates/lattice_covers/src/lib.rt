@@ -2,6 +2,7 @@
 #![tactic(auto)]
 
 mod chain;
+mod members;
 mod objects;
 mod places;
 
@@ -15,6 +16,7 @@ use chain::{Link, closure_if_allowed, link_of};
 use derivation::{Rows, RowsOf};
 use fca_model::Memory;
 use lectic_concepts::{FOUR_WORDS, ONE_WORD, in_words};
+use members::{has, insert};
 use places::place_in;
 use std::alloc::Global;
 
@@ -77,13 +79,13 @@ fn find_neighbours<const W: usize>(
     let mut settled = link.intent;
     let mut allowed = link.intent;
     for i in (0..rows.width()).rev() {
-        if !link.intent.has(i) {
-            allowed.insert(i);
+        if !has(&link.intent, i) {
+            insert(&mut allowed, i);
             if let Some(closed) = closure_if_allowed(rows, link, i, &allowed) {
                 neighbours.push(closed)?;
                 allowed = settled;
             } else {
-                settled.insert(i);
+                insert(&mut settled, i);
             }
         }
     }

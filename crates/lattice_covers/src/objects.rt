@@ -3,8 +3,9 @@
 ghost use Rattle.std.specs.Prelude.{◌≡◌, ◌≤◌, ◌<◌, true, length, IfOk};
 ghost use Rattle.fca_model.specs.Sets.{within};
 ghost use Rattle.fca_model.specs.Context.{closure};
-ghost use Rattle.lattice_covers.specs.Objects.{AreColumns, HasObjects};
+ghost use Rattle.lattice_covers.specs.Objects.{AreColumns, HasObjects, alone};
 
+use crate::members::{has, insert, without};
 use attr_bits::Bits;
 use derivation::RowsOf;
 use fca_model::Memory;
@@ -15,22 +16,6 @@ pub(crate) const FEW_OBJECTS: usize = 64;
 
 /// A set of few objects.
 pub(crate) type ObjectSet = Bits<1>;
-
-/// The objects whose rows contain a.
-pub(crate) fn objects_of<const W: usize>(rows: &RowsOf<W>, a: &Bits<W>) -> ObjectSet
-    requires { length rows.now.rows ≤ FEW_OBJECTS }
-    ensures { HasObjects rows.now a.now result }
-{
-    let _width = rows.width();
-    let all = rows.as_slice();
-    let mut objects = Bits::empty(all.len() as u32);
-    for (object, row) in all.iter().enumerate() {
-        if a.within(row) {
-            objects.insert(object as u32);
-        }
-    }
-    objects
-}
 
 /// The objects of each attribute, in the order of those.
 pub(crate) fn columns_of<const W: usize>(
@@ -43,9 +28,26 @@ pub(crate) fn columns_of<const W: usize>(
     let width = rows.width();
     let mut columns = Vec::with_capacity(alloc, width as usize)?;
     for attribute in 0..width {
-        columns.push(objects_of(rows, &Bits::empty(width).with(attribute)))?;
+        columns.push(column_of(rows, attribute))?;
     }
     Ok(columns)
+}
+
+/// The objects that have the attribute.
+fn column_of<const W: usize>(rows: &RowsOf<W>, attribute: u32) -> ObjectSet
+    requires few { length rows.now.rows ≤ FEW_OBJECTS }
+    requires inside { attribute < rows.now.width }
+    ensures { HasObjects rows.now (alone rows.now attribute) result }
+{
+    let _width = rows.width();
+    let all = rows.as_slice();
+    let mut having = Bits::empty(all.len() as u32);
+    for (object, row) in all.iter().enumerate() {
+        if has(row, attribute) {
+            insert(&mut having, object as u32);
+        }
+    }
+    having
 }
 
 /// The objects of a, which contains the other set, whose objects are given.
@@ -66,8 +68,8 @@ pub(crate) fn objects_above<const W: usize>(
     let mut grown = *smaller;
     let mut having = *objects;
     for attribute in 0..rows.width() {
-        if a.has(attribute) && !grown.has(attribute) {
-            grown.insert(attribute);
+        if has(a, attribute) && !has(&grown, attribute) {
+            insert(&mut grown, attribute);
             having = having.meet(&columns[attribute as usize]);
         }
     }
@@ -87,13 +89,13 @@ pub(crate) fn closure_of<const W: usize>(
     let _objects = objects.width();
     let all = rows.as_slice();
     let mut met = Bits::full(rows.width());
-    let mut from = 0;
-    while let Some(object) = objects.next_member(from) {
+    let mut rest = *objects;
+    while let Some(object) = rest.next_member(0) {
         met = met.meet(&all[object as usize]);
         if met == *least {
             return met;
         }
-        from = object + 1;
+        rest = without(&rest, object);
     }
     met
 }
