@@ -1,4 +1,5 @@
-//! Members of sets. That a place stands in the words of a set is proved; here the compiler is told too, so it keeps a set of one word in a register.
+//! Members of sets. That a place stands in the words of a set is proved, but the compiler sees it only where it is asked; then it keeps a set of one word
+//! in a register.
 
 ghost use Rattle.std.specs.Prelude.{◌≡◌, ◌<◌, ◌*◌, true, false, length, slice_index_or, slice_set};
 
@@ -10,8 +11,7 @@ pub(crate) fn has<const W: usize>(set: &Bits<W>, i: u32) -> bool
     ensures { result ≡ slice_index_or set.now i false }
 {
     let _width = set.width();
-    tell_word::<W>(i);
-    set.has(i)
+    is_in_words::<W>(i) && set.has(i)
 }
 
 /// Adds place i.
@@ -20,8 +20,9 @@ pub(crate) fn insert<const W: usize>(set: &mut Bits<W>, i: u32)
     ensures { set.new ≡ slice_set set.old i true }
 {
     let _width = set.width();
-    tell_word::<W>(i);
-    set.insert(i);
+    if is_in_words::<W>(i) {
+        set.insert(i);
+    }
 }
 
 /// The set with place i added.
@@ -40,15 +41,16 @@ pub(crate) fn without<const W: usize>(set: &Bits<W>, i: u32) -> Bits<W>
     ensures { result ≡ slice_set set.now i false }
 {
     let _width = set.width();
-    tell_word::<W>(i);
-    set.without(i)
+    if is_in_words::<W>(i) {
+        set.without(i)
+    } else {
+        *set
+    }
 }
 
-/// Tells the compiler that place i stands in one of W words.
-fn tell_word<const W: usize>(i: u32)
-    requires { i < 64 * W }
+/// Whether place i stands in one of W words.
+fn is_in_words<const W: usize>(i: u32) -> bool
+    ensures { i < 64 * W → result ≡ true }
 {
-    if W <= (i / 64) as usize {
-        unreachable!()
-    }
+    ((i / 64) as usize) < W
 }
