@@ -1,5 +1,5 @@
 -- Sets of objects, and the closure as the meet of the rows of an extent.
-use Rattle.std.proofs.Common.{◌≡◌, ℕ, zero, suc, ◌+◌, ◌<◌, ◌≤◌, Bool, true, false, not, ◌&&◌, ◌||◌, List, [], ◌∷◌, ◌++◌, filter, length, get_or, set, replicate, refl, sym, ap, ap₂, ◌∙◌, subst, arith, inl, inr, get_or-set_same, get_or-set_other, length-set, length-append}
+use Rattle.std.proofs.Common.{◌≡◌, ℕ, zero, suc, ◌+◌, ◌-◌, ◌<◌, ◌≤◌, Bool, true, false, not, ◌&&◌, ◌||◌, List, [], ◌∷◌, ◌++◌, filter, length, get_or, set, replicate, refl, sym, ap, ap₂, ◌∙◌, subst, arith, inl, inr, get_or-set_same, get_or-set_other, length-set, length-append}
 use Rattle.std.proofs.Math.ListN.{get_or-append}
 use Rattle.std.proofs.Math.Seq.{get_or-append_seam}
 use Rattle.std.proofs.lemmas.Bool.{and_parts, and_from, cases_eq, cases_lt, cases_Bool, false≢true}
@@ -9,7 +9,7 @@ use Rattle.std.specs.List.{list_all}
 use Rattle.fca_model.specs.Sets.{Set, within, meet, size, full, IsNextMember}
 use Rattle.fca_model.specs.Context.{Context, closure}
 use Rattle.fca_model.specs.Implications.{rule, respects}
-use Rattle.fca_model.proofs.SetLemmas.{within_refl, within_trans, within_full, length-full, within_antisymm, within-meet, length-meet, get_or-meet, within_at_place, within_from_places, set_within, get_or-full, size_strict, strictly_from}
+use Rattle.fca_model.proofs.SetLemmas.{within_refl, within_trans, within_full, length-full, within_antisymm, within-meet, length-meet, get_or-meet, within_at_place, within_from_places, set_within, get_or-full, size_strict, size-set, size_le, strictly_from}
 use Rattle.fca_model.proofs.ListLemmas.{bool_iff, list_all-filter}
 use Rattle.fca_model.proofs.ClosureLemmas.{within-closure, length-closure, closure_in_rows, closure_extensive, respects_from, respects_at}
 use Rattle.lattice_covers.specs.Objects.{HasObjects, alone}
@@ -212,36 +212,22 @@ columns_more K Cs C more each next i l = elim (cases_lt i (length Cs)) [
 
 -- ---- a set that grows to a larger one
 
--- G is a part of A that has each attribute of A before the place, and S are its objects
-pub record IsGrown (K : Context) (A G S : Set) (i : ℕ) : Type 0 where
+-- G is a part of A, and S are its objects
+pub record IsGrown (K : Context) (A G S : Set) : Type 0 where
   pub wide : length G ≡ K.width
   pub objects : HasObjects K G S
   pub part : within G A ≡ true
-  pub reached : (j : ℕ) → j < i → get_or A j false ≡ true → get_or G j false ≡ true
 
-pub grown_more : (K : Context) (A G S C : Set) (i : ℕ) → i < K.width → IsGrown K A G S i → get_or A i false ≡ true → HasObjects K (alone K i) C → IsGrown K A (set G i true) (meet S C) (i + 1)
+pub grown_more : (K : Context) (A G S C : Set) (i : ℕ) → i < K.width → IsGrown K A G S → get_or A i false ≡ true → HasObjects K (alone K i) C → IsGrown K A (set G i true) (meet S C)
 grown_more K A G S C i inside g has c = record {
   wide = length-set G i true ∙ g.wide;
   objects = objects_with K G S C i inside g.wide g.objects c;
   part = set_within G A i g.part has;
-  reached = λ j l t. elim (cases_eq j i) [
-    | inl here ↦ ap (λ k. get_or (set G i true) k false) here ∙ get_or-set_same G i true false (omega (arith, inside, g.wide))
-    | inr other ↦ get_or-set_other G i j true false other ∙ g.reached j (omega (arith, l, other)) t
-  ];
 }
 
-pub grown_same : (K : Context) (A G S : Set) (i : ℕ) → IsGrown K A G S i → (get_or A i false ≡ true → get_or G i false ≡ true) → IsGrown K A G S (i + 1)
-grown_same K A G S i g h = record {
-  wide = g.wide;
-  objects = g.objects;
-  part = g.part;
-  reached = λ j l t. elim (cases_eq j i) [
-    | inl here ↦ subst (λ k. get_or G k false ≡ true) (sym here) (h (ap (λ k. get_or A k false) (sym here) ∙ t))
-    | inr other ↦ g.reached j (omega (arith, l, other)) t
-  ];
-}
+pub grown_whole : (K : Context) (A G S : Set) → length A ≡ K.width → within A G ≡ true → IsGrown K A G S → HasObjects K A S
+grown_whole K A G S wide all g = subst (λ X. HasObjects K X S) (within_antisymm G A (g.wide ∙ sym wide) g.part all) g.objects
 
-pub grown_whole : (K : Context) (A G S : Set) (i : ℕ) → length A ≡ K.width → K.width ≤ i → IsGrown K A G S i → HasObjects K A S
-grown_whole K A G S i wide all g =
-    let whole : G ≡ A = within_antisymm G A (g.wide ∙ sym wide) g.part (within_from_places A G (λ j l t. g.reached j (omega (arith, l, wide, all)) t)) in
-    subst (λ X. HasObjects K X S) whole g.objects
+-- less is lacking
+pub less_lacking : (G : Set) (i : ℕ) → i < length G → get_or G i false ≡ false → length (set G i true) - size (set G i true) < length G - size G
+less_lacking G i inside lacks = omega (arith, length-set G i true, size-set G i inside lacks, size_le (set G i true))

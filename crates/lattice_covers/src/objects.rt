@@ -65,13 +65,12 @@ pub(crate) fn objects_above<const W: usize>(
     requires even { length a.now ≡ rows.now.width }
     ensures { HasObjects rows.now a.now result }
 {
+    let _width = rows.width();
     let mut grown = *smaller;
     let mut having = *objects;
-    for attribute in 0..rows.width() {
-        if has(a, attribute) && !has(&grown, attribute) {
-            insert(&mut grown, attribute);
-            having = having.meet(&columns[attribute as usize]);
-        }
+    while let Some(attribute) = a.first_missing(&grown) {
+        insert(&mut grown, attribute);
+        having = having.meet(&columns[attribute as usize]);
     }
     having
 }
