@@ -52,10 +52,11 @@ implied_set K A ws i w inside m h = record {
   ];
 }
 
--- the rows that contain A give its closures with one attribute more
-pub closure_above : (K : Context) (A : Set) (i : ℕ) → i < length A → (B : Set) → B ≡ set A i true → (above : Context) → above ≡ rows_above K A → closure above B ≡ closure K (set A i true)
-closure_above K A i inside B b above is =
-    ap (λ X. closure X B) is ∙ closure_among K A B (subst (λ X. within A X ≡ true) (sym b) (within_from_places A (set A i true) (λ j l t. elim (cases_eq j i) [
+-- the rows that contain a part L of A give the closures of A with one attribute more
+pub closure_above : (K : Context) (L A : Set) (i : ℕ) → within L A ≡ true → i < length A → (B : Set) → B ≡ set A i true → (above : Context) → above ≡ rows_above K L
+    → closure above B ≡ closure K (set A i true)
+closure_above K L A i part inside B b above is =
+    ap (λ X. closure X B) is ∙ closure_among K L B (subst (λ X. within L X ≡ true) (sym b) (within_trans L A (set A i true) part (within_from_places A (set A i true) (λ j l t. elim (cases_eq j i) [
       | inl here ↦ ap (λ x. get_or (set A i true) x false) here ∙ get_or-set_same A i true false inside
       | inr other ↦ get_or-set_other A i j true false other ∙ t
-    ]))) ∙ ap (closure K) b
+    ])))) ∙ ap (closure K) b

@@ -1,16 +1,16 @@
 -- Sets of objects, and the closure as the meet of the rows of an extent.
-use Rattle.std.proofs.Common.{◌≡◌, ℕ, zero, suc, ◌+◌, ◌<◌, ◌≤◌, Bool, true, false, ◌&&◌, List, [], ◌∷◌, ◌++◌, length, get_or, set, replicate, refl, sym, ap, ap₂, ◌∙◌, subst, arith, inl, inr, get_or-set_same, get_or-set_other, length-set, length-append}
+use Rattle.std.proofs.Common.{◌≡◌, ℕ, zero, suc, ◌+◌, ◌-◌, ◌<◌, ◌≤◌, Bool, true, false, not, ◌&&◌, ◌||◌, List, [], ◌∷◌, ◌++◌, filter, length, get_or, set, replicate, refl, sym, ap, ap₂, ◌∙◌, subst, arith, inl, inr, get_or-set_same, get_or-set_other, length-set, length-append}
 use Rattle.std.proofs.Math.ListN.{get_or-append}
 use Rattle.std.proofs.Math.Seq.{get_or-append_seam}
 use Rattle.std.proofs.lemmas.Bool.{and_parts, and_from, cases_eq, cases_lt, cases_Bool, false≢true}
 use Rattle.std.proofs.lemmas.List.{length-replicate}
 use Rattle.std.proofs.lemmas.List.Folds.{list_all_at}
 use Rattle.std.specs.List.{list_all}
-use Rattle.fca_model.specs.Sets.{Set, within, meet, full, IsNextMember}
+use Rattle.fca_model.specs.Sets.{Set, within, meet, size, full, IsNextMember}
 use Rattle.fca_model.specs.Context.{Context, closure}
 use Rattle.fca_model.specs.Implications.{rule, respects}
-use Rattle.fca_model.proofs.SetLemmas.{within_refl, within_trans, within_full, length-full, within_antisymm, within-meet, length-meet, get_or-meet, within_at_place, within_from_places, set_within}
-use Rattle.fca_model.proofs.ListLemmas.{bool_iff}
+use Rattle.fca_model.proofs.SetLemmas.{within_refl, within_trans, within_full, length-full, within_antisymm, within-meet, length-meet, get_or-meet, within_at_place, within_from_places, set_within, get_or-full, size_strict, size-set, size_le, strictly_from}
+use Rattle.fca_model.proofs.ListLemmas.{bool_iff, list_all-filter}
 use Rattle.fca_model.proofs.ClosureLemmas.{within-closure, length-closure, closure_in_rows, closure_extensive, respects_from, respects_at}
 use Rattle.lattice_covers.specs.Objects.{HasObjects, alone}
 
@@ -21,6 +21,19 @@ none_at : (n j : ℕ) → get_or (replicate n false) j false ≡ false
 none_at zero j = refl
 none_at (suc n) zero = refl
 none_at (suc n) (suc j) = none_at n j
+
+-- ---- one attribute alone
+
+only_it : (K : Context) (i j : ℕ) → get_or (alone K i) j false ≡ true → j ≡ i
+only_it K i j t = elim (cases_eq j i) [
+  | inl here ↦ here
+  | inr other ↦ absurd (false≢true (sym (none_at K.width j) ∙ sym (get_or-set_other (replicate K.width false) i j true false other) ∙ t))
+]
+
+pub within-alone : (K : Context) (i : ℕ) (R : Set) → i < K.width → within (alone K i) R ≡ get_or R i false
+within-alone K i R inside = bool_iff (within (alone K i) R) (get_or R i false)
+    (λ t. within_at_place (alone K i) R t i (get_or-set_same (replicate K.width false) i true false (omega (arith, inside, length-replicate K.width false))))
+    (λ t. within_from_places (alone K i) R (λ j l has. ap (λ k. get_or R k false) (only_it K i j has) ∙ t))
 
 -- ---- the objects of a set
 
@@ -60,7 +73,7 @@ so_far_without K A S m s h = record {
 pub so_far_all : (K : Context) (A S : Set) (m : ℕ) → SoFar K A S m → length K.rows ≤ m → HasObjects K A S
 so_far_all K A S m s all = record { long = s.long; each = λ k l. s.before k (omega (arith, l, all)) }
 
--- ---- the closure by the rows
+-- ---- all objects
 
 passes : (p : Set → Bool) (Xs : List Set) (i : ℕ) → i < length Xs → list_all p Xs ≡ true → p (get_or Xs i []) ≡ true
 passes p Xs i inside all = elim (cases_Bool (p (get_or Xs i []))) [
@@ -71,6 +84,26 @@ passes p Xs i inside all = elim (cases_Bool (p (get_or Xs i []))) [
 all_pass : (p : Set → Bool) (Xs : List Set) → ((i : ℕ) → i < length Xs → p (get_or Xs i []) ≡ true) → list_all p Xs ≡ true
 all_pass p [] h = refl
 all_pass p (X ∷ Xs) h = and_from (p X) (list_all p Xs) (h 0 (omega arith)) (all_pass p Xs (λ i l. h (suc i) (omega (arith, l))))
+
+pub all_kept : (p : Set → Bool) (Xs : List Set) → list_all p (filter p Xs) ≡ true
+all_kept p Xs = list_all-filter p p Xs ∙ either Xs
+  where
+    one : (b : Bool) → (not b || b) ≡ true
+    one true = refl
+    one false = refl
+
+    either : (Xs : List Set) → list_all (λ X. not (p X) || p X) Xs ≡ true
+    either [] = refl
+    either (X ∷ Xs) = and_from (not (p X) || p X) (list_all (λ X. not (p X) || p X) Xs) (one (p X)) (either Xs)
+
+-- where each row contains A, all objects are those of A
+pub has_all : (K : Context) (A S : Set) → list_all (within A) K.rows ≡ true → S ≡ full (length K.rows) → HasObjects K A S
+has_all K A S each is = record {
+  long = ap length is ∙ length-full (length K.rows);
+  each = λ g l. ap (λ (X : Set). get_or X g false) is ∙ get_or-full (length K.rows) g l ∙ sym (passes (within A) K.rows g l each);
+}
+
+-- ---- the closure by the rows
 
 -- the closure lies within each row that contains A
 pub closure_in_row : (K : Context) (A : Set) (g : ℕ) → g < length K.rows → within A (row K g) ≡ true → within (closure K A) (row K g) ≡ true
@@ -83,60 +116,66 @@ in_closure K A M wide h = within-closure K A M wide ∙ all_pass (λ R. respects
 closure_is : (K : Context) (A M : Set) → length M ≡ K.width → within (closure K A) M ≡ true → within M (closure K A) ≡ true → M ≡ closure K A
 closure_is K A M wide above below = within_antisymm M (closure K A) (wide ∙ sym (length-closure K A)) below above
 
--- M is between the closure of A and each row before the place whose object is in S
-pub record IsMet (K : Context) (A S M : Set) (from : ℕ) : Type 0 where
+-- M is between the closure of A and each row whose object is in S and no more in T
+pub record IsMet (K : Context) (A S M T : Set) : Type 0 where
   pub wide : length M ≡ K.width
   pub above : within (closure K A) M ≡ true
-  pub below : (g : ℕ) → g < from → get_or S g false ≡ true → within M (row K g) ≡ true
+  pub long : length T ≡ length S
+  pub part : (g : ℕ) → get_or T g false ≡ true → get_or S g false ≡ true
+  pub below : (g : ℕ) → get_or S g false ≡ true → get_or T g false ≡ false → within M (row K g) ≡ true
 
-pub met_none : (K : Context) (A S M : Set) → M ≡ full K.width → IsMet K A S M 0
+pub met_none : (K : Context) (A S M : Set) → M ≡ full K.width → IsMet K A S M S
 met_none K A S M is = record {
   wide = ap length is ∙ length-full K.width;
   above = ap (within (closure K A)) is ∙ within_full K.width (closure K A) (length-closure K A);
-  below = λ g l. absurd (omega (arith, l));
+  long = refl;
+  part = λ g t. t;
+  below = λ g t f. absurd (false≢true (sym f ∙ t));
 }
 
 -- one row more
-pub met_more : (K : Context) (A S M : Set) (from m : ℕ) (R : Set) → HasObjects K A S → IsMet K A S M from → IsNextMember S from m → R ≡ row K m → IsMet K A S (meet M R) (m + 1)
-met_more K A S M from m R has met next is =
-    let inside : m < length K.rows = omega (arith, next.in_range, has.long) in
+pub met_more : (K : Context) (A S M T : Set) (m : ℕ) (R : Set) → HasObjects K A S → IsMet K A S M T → IsNextMember T 0 m → R ≡ row K m → IsMet K A S (meet M R) (set T m false)
+met_more K A S M T m R has met next is =
+    let inside : m < length K.rows = omega (arith, next.in_range, met.long, has.long) in
     let both = and_parts (within (meet M R) M) (within (meet M R) R) (sym (within-meet (meet M R) M R) ∙ within_refl (meet M R)) in
-    let contains : within A (row K m) ≡ true = sym (has.each m inside) ∙ next.member in
+    let contains : within A (row K m) ≡ true = sym (has.each m inside) ∙ met.part m next.member in
     record {
       wide = length-meet M R ∙ met.wide;
       above = within-meet (closure K A) M R ∙ and_from (within (closure K A) M) (within (closure K A) R) met.above (ap (within (closure K A)) is ∙ closure_in_row K A m inside contains);
-      below = λ g l t. elim (cases_eq g m) [
+      long = length-set T m false ∙ met.long;
+      part = λ g t. elim (cases_eq g m) [
+        | inl here ↦ absurd (false≢true (sym (ap (λ k. get_or (set T m false) k false) here ∙ get_or-set_same T m false false next.in_range) ∙ t))
+        | inr other ↦ met.part g (sym (get_or-set_other T m g false false other) ∙ t)
+      ];
+      below = λ g t f. elim (cases_eq g m) [
         | inl here ↦ subst (λ k. within (meet M R) (row K k) ≡ true) (sym here) (ap (within (meet M R)) (sym is) ∙ both.1)
-        | inr other ↦ elim (cases_lt g from) [
-          | inl early ↦ within_trans (meet M R) M (row K g) both.0 (met.below g early t)
-          | inr late ↦ absurd (false≢true (sym (next.least g late (omega (arith, l, other))) ∙ t))
-        ]
+        | inr other ↦ within_trans (meet M R) M (row K g) both.0 (met.below g t (sym (get_or-set_other T m g false false other) ∙ f))
       ];
     }
 
+-- fewer are left
+pub fewer_left : (T : Set) (m : ℕ) → IsNextMember T 0 m → size (set T m false) < size T
+fewer_left T m next = size_strict (set T m false) T (length-set T m false) (strictly_from (set T m false) T
+    (within_from_places (set T m false) T (λ j l t. elim (cases_eq j m) [
+      | inl here ↦ ap (λ k. get_or T k false) here ∙ next.member
+      | inr other ↦ sym (get_or-set_other T m j false false other) ∙ t
+    ]))
+    (λ same. false≢true (sym (get_or-set_same T m false false next.in_range) ∙ ap (λ (X : Set). get_or X m false) same ∙ next.member)))
+
 -- once M lies within A it is the closure
-pub met_enough : (K : Context) (A S M : Set) (from : ℕ) → length A ≡ K.width → IsMet K A S M from → within M A ≡ true → M ≡ closure K A
-met_enough K A S M from wide met small = closure_is K A M met.wide met.above (within_trans M A (closure K A) small (closure_extensive K A wide))
+pub met_enough : (K : Context) (A S M T : Set) → length A ≡ K.width → IsMet K A S M T → within M A ≡ true → M ≡ closure K A
+met_enough K A S M T wide met small = closure_is K A M met.wide met.above (within_trans M A (closure K A) small (closure_extensive K A wide))
 
 -- and where no object is left
-pub met_all : (K : Context) (A S M : Set) (from : ℕ) → HasObjects K A S → IsMet K A S M from → ((i : ℕ) → from ≤ i → i < length S → get_or S i false ≡ false) → M ≡ closure K A
-met_all K A S M from has met none =
-    closure_is K A M met.wide met.above (in_closure K A M met.wide (λ g l h. elim (cases_lt g from) [
-      | inl early ↦ met.below g early (has.each g l ∙ h)
-      | inr late ↦ absurd (false≢true (sym (none g late (omega (arith, l, has.long))) ∙ has.each g l ∙ h))
-    ]))
+pub met_all : (K : Context) (A S M T : Set) → HasObjects K A S → IsMet K A S M T → ((i : ℕ) → 0 ≤ i → i < length T → get_or T i false ≡ false) → M ≡ closure K A
+met_all K A S M T has met none =
+    closure_is K A M met.wide met.above (in_closure K A M met.wide (λ g l h. met.below g (has.each g l ∙ h) (none g (omega arith) (omega (arith, l, has.long, met.long)))))
 
 -- ---- one attribute more
 
 with_attribute : (K : Context) (A R : Set) (i : ℕ) → i < K.width → length A ≡ K.width → (within A R && within (alone K i) R) ≡ within (set A i true) R
 with_attribute K A R i inside wide = bool_iff (within A R && within (alone K i) R) (within (set A i true) R) both each
   where
-    only : (j : ℕ) → get_or (alone K i) j false ≡ true → j ≡ i
-    only j t = elim (cases_eq j i) [
-      | inl here ↦ here
-      | inr other ↦ absurd (false≢true (sym (none_at K.width j) ∙ sym (get_or-set_other (replicate K.width false) i j true false other) ∙ t))
-    ]
-
     both : within A R && within (alone K i) R ≡ true → within (set A i true) R ≡ true
     both t =
         let parts = and_parts (within A R) (within (alone K i) R) t in
@@ -151,7 +190,7 @@ with_attribute K A R i inside wide = bool_iff (within A R && within (alone K i) 
           | inl here ↦ ap (λ k. get_or (set A i true) k false) here ∙ get_or-set_same A i true false (omega (arith, inside, wide))
           | inr other ↦ get_or-set_other A i j true false other ∙ has
         ])))
-        (within_from_places (alone K i) R (λ j l has. within_at_place (set A i true) R t j (ap (λ k. get_or (set A i true) k false) (only j has) ∙ get_or-set_same A i true false (omega (arith, inside, wide)))))
+        (within_from_places (alone K i) R (λ j l has. within_at_place (set A i true) R t j (ap (λ k. get_or (set A i true) k false) (only_it K i j has) ∙ get_or-set_same A i true false (omega (arith, inside, wide)))))
 
 -- the objects of A with i
 pub objects_with : (K : Context) (A S C : Set) (i : ℕ) → i < K.width → length A ≡ K.width → HasObjects K A S → HasObjects K (alone K i) C → HasObjects K (set A i true) (meet S C)
@@ -173,36 +212,22 @@ columns_more K Cs C more each next i l = elim (cases_lt i (length Cs)) [
 
 -- ---- a set that grows to a larger one
 
--- G is a part of A that has each attribute of A before the place, and S are its objects
-pub record IsGrown (K : Context) (A G S : Set) (i : ℕ) : Type 0 where
+-- G is a part of A, and S are its objects
+pub record IsGrown (K : Context) (A G S : Set) : Type 0 where
   pub wide : length G ≡ K.width
   pub objects : HasObjects K G S
   pub part : within G A ≡ true
-  pub reached : (j : ℕ) → j < i → get_or A j false ≡ true → get_or G j false ≡ true
 
-pub grown_more : (K : Context) (A G S C : Set) (i : ℕ) → i < K.width → IsGrown K A G S i → get_or A i false ≡ true → HasObjects K (alone K i) C → IsGrown K A (set G i true) (meet S C) (i + 1)
+pub grown_more : (K : Context) (A G S C : Set) (i : ℕ) → i < K.width → IsGrown K A G S → get_or A i false ≡ true → HasObjects K (alone K i) C → IsGrown K A (set G i true) (meet S C)
 grown_more K A G S C i inside g has c = record {
   wide = length-set G i true ∙ g.wide;
   objects = objects_with K G S C i inside g.wide g.objects c;
   part = set_within G A i g.part has;
-  reached = λ j l t. elim (cases_eq j i) [
-    | inl here ↦ ap (λ k. get_or (set G i true) k false) here ∙ get_or-set_same G i true false (omega (arith, inside, g.wide))
-    | inr other ↦ get_or-set_other G i j true false other ∙ g.reached j (omega (arith, l, other)) t
-  ];
 }
 
-pub grown_same : (K : Context) (A G S : Set) (i : ℕ) → IsGrown K A G S i → (get_or A i false ≡ true → get_or G i false ≡ true) → IsGrown K A G S (i + 1)
-grown_same K A G S i g h = record {
-  wide = g.wide;
-  objects = g.objects;
-  part = g.part;
-  reached = λ j l t. elim (cases_eq j i) [
-    | inl here ↦ subst (λ k. get_or G k false ≡ true) (sym here) (h (ap (λ k. get_or A k false) (sym here) ∙ t))
-    | inr other ↦ g.reached j (omega (arith, l, other)) t
-  ];
-}
+pub grown_whole : (K : Context) (A G S : Set) → length A ≡ K.width → within A G ≡ true → IsGrown K A G S → HasObjects K A S
+grown_whole K A G S wide all g = subst (λ X. HasObjects K X S) (within_antisymm G A (g.wide ∙ sym wide) g.part all) g.objects
 
-pub grown_whole : (K : Context) (A G S : Set) (i : ℕ) → length A ≡ K.width → K.width ≤ i → IsGrown K A G S i → HasObjects K A S
-grown_whole K A G S i wide all g =
-    let whole : G ≡ A = within_antisymm G A (g.wide ∙ sym wide) g.part (within_from_places A G (λ j l t. g.reached j (omega (arith, l, wide, all)) t)) in
-    subst (λ X. HasObjects K X S) whole g.objects
+-- less is lacking
+pub less_lacking : (G : Set) (i : ℕ) → i < length G → get_or G i false ≡ false → length (set G i true) - size (set G i true) < length G - size G
+less_lacking G i inside lacks = omega (arith, length-set G i true, size-set G i inside lacks, size_le (set G i true))

@@ -4,7 +4,8 @@ use Rattle.std.specs.List.{prefix_len}
 use Rattle.std.specs.Ordering.{is_lt}
 use Rattle.fca_model.specs.Sets.{Set, within, lectic_cmp}
 use Rattle.fca_model.specs.Context.{Context, closure}
-use Rattle.lattice_covers.specs.Objects.{HasObjects}
+use Rattle.lattice_covers.specs.Objects.{HasObjects, AreColumns}
+use Rattle.lattice_covers.specs.declared.chain.Sheet.{Sheet}
 use Rattle.lattice_covers.specs.declared.chain.Above.{Above}
 use Rattle.lattice_covers.specs.declared.chain.Above.TheVariants.{Many, Few}
 use Rattle.lattice_covers.specs.declared.chain.Link.{Link}
@@ -18,10 +19,19 @@ pub record AreImplied (K : Context) (A : Set) (ws : List ℕ) : Type 0 where
   pub wide : length ws ≡ K.width
   pub member : (i : ℕ) → i < K.width → slice_index_or (closure K (slice_set A i true)) (slice_index_or ws i 0) false ≡ true
 
--- the rows that contain A, or in a table of few objects these as a set
+-- few rows contain a part of A, the sheet has these, and S those of them that contain A
+pub record IsOnSheet (K : Context) (A : Set) {W : ℕ} (sheet : Sheet W) (S : Set) : Type 0 where
+  pub least : Set
+  pub part : within least A ≡ true
+  pub rows : sheet.rows ≡ rows_above K least
+  pub few : length sheet.rows.rows ≤ 64
+  pub columns : AreColumns sheet.rows sheet.columns.items
+  pub objects : HasObjects sheet.rows A S
+
+-- the rows that contain A, or where they are few these on a sheet
 abbrev pub IsAbove : Context → Set → {W : ℕ} → Above W → Type 0
 IsAbove K A (Many above) = above ≡ rows_above K A
-IsAbove K A (Few objects) = (length K.rows ≤ 512) × HasObjects K A objects
+IsAbove K A (Few sheet objects) = IsOnSheet K A sheet.value objects
 
 -- the link has the rows that contain its intent, and members of closures above it
 pub record IsLink (K : Context) {W : ℕ} (link : Link W) : Type 0 where

@@ -3,20 +3,28 @@
 ghost use Rattle.std.specs.Prelude.{◌≡◌, ◌<◌, ◌≤◌, ℕ, true, false, length, slice_set, slice_index_or, MatchOption, IfOk};
 ghost use Rattle.fca_model.specs.Sets.{within};
 ghost use Rattle.fca_model.specs.Context.{closure};
-ghost use Rattle.lattice_covers.specs.Objects.{AreColumns};
-ghost use Rattle.lattice_covers.specs.Neighbours.{IsAbove, IsLink, AreLinks};
+ghost use Rattle.lattice_covers.specs.Neighbours.{IsAbove, IsLink, AreLinks, rows_above};
 
-use crate::objects::{FEW_OBJECTS, ObjectSet, closure_of, objects_above, objects_of};
+use crate::members::{has, with};
+use crate::objects::{FEW_OBJECTS, ObjectSet, closure_of, columns_of, objects_above};
 use attr_bits::Bits;
 use derivation::RowsOf;
 use fca_model::Memory;
 use std::alloc::Global;
+use std::rc::Rc;
 
-/// The rows that contain an intent: set apart, or as a set of objects where the table has few.
+/// Few rows, with the objects of each attribute.
+#[derive(Drop)]
+pub(crate) struct Sheet<const W: usize> {
+    pub(crate) rows: RowsOf<W>,
+    pub(crate) columns: Vec<ObjectSet>,
+}
+
+/// The rows that contain an intent, set apart. Where they are few, they stand on a sheet, and larger intents share that and have a set of its objects.
 #[derive(Drop)]
 pub(crate) enum Above<const W: usize> {
     Many(RowsOf<W>),
-    Few(ObjectSet),
+    Few(Rc<Sheet<W>>, ObjectSet),
 }
 
 /// An intent, the rows that contain it, and for each attribute a member of the closure of the intent with it.
@@ -32,11 +40,9 @@ pub(crate) struct Link<const W: usize> {
 pub(crate) fn link_of<const W: usize>(
     alloc: Global,
     rows: &RowsOf<W>,
-    columns: &[ObjectSet],
     chain: &mut Vec<Link<W>>,
     a: &Bits<W>,
 ) -> Result<Link<W>, Memory>
-    requires columns { length rows.now.rows ≤ FEW_OBJECTS → AreColumns rows.now columns.now }
     requires wide { length a.now ≡ rows.now.width }
     requires links { AreLinks rows.now chain.old.items }
     ensures link { IfOk result (λ link. (link.intent ≡ a.now) × IsLink rows.now link) }
@@ -44,7 +50,7 @@ pub(crate) fn link_of<const W: usize>(
 {
     while let Some(link) = chain.last() {
         if link.intent.within(a) {
-            return next_link(alloc, rows, columns, link, a);
+            return next_link(alloc, rows, link, a);
         }
         chain.pop();
     }
@@ -55,11 +61,9 @@ pub(crate) fn link_of<const W: usize>(
 fn next_link<const W: usize>(
     alloc: Global,
     rows: &RowsOf<W>,
-    columns: &[ObjectSet],
     link: &Link<W>,
     a: &Bits<W>,
 ) -> Result<Link<W>, Memory>
-    requires columns { length rows.now.rows ≤ FEW_OBJECTS → AreColumns rows.now columns.now }
     requires wide { length a.now ≡ rows.now.width }
     requires link { IsLink rows.now link.now }
     requires larger { within link.now.intent a.now ≡ true }
@@ -67,7 +71,7 @@ fn next_link<const W: usize>(
 {
     Ok(Link {
         intent: *a,
-        above: narrowed(alloc, rows, columns, link, a)?,
+        above: narrowed(alloc, rows, link, a)?,
         implied: Vec::from_slice(alloc, &link.implied)?,
     })
 }
@@ -96,11 +100,9 @@ fn first_link<const W: usize>(
 fn narrowed<const W: usize>(
     alloc: Global,
     rows: &RowsOf<W>,
-    columns: &[ObjectSet],
     link: &Link<W>,
     a: &Bits<W>,
 ) -> Result<Above<W>, Memory>
-    requires columns { length rows.now.rows ≤ FEW_OBJECTS → AreColumns rows.now columns.now }
     requires wide { length a.now ≡ rows.now.width }
     requires link { IsLink rows.now link.now }
     requires larger { within link.now.intent a.now ≡ true }
@@ -108,14 +110,11 @@ fn narrowed<const W: usize>(
 {
     let _width = rows.width();
     match &link.above {
-        Above::Many(above) => Ok(Above::Many(above.containing(alloc, a)?)),
-        Above::Few(objects) => Ok(Above::Few(objects_above(
-            rows,
-            columns,
-            &link.intent,
-            objects,
-            a,
-        ))),
+        Above::Many(above) => above_of(alloc, rows, above.containing(alloc, a)?, a),
+        Above::Few(sheet, objects) => {
+            let fewer = objects_above(&sheet.rows, &sheet.columns, &link.intent, objects, a);
+            Ok(Above::Few(sheet.clone()?, fewer))
+        }
     }
 }
 
@@ -128,42 +127,62 @@ fn above_in_all<const W: usize>(
     ensures { IfOk result (λ above. IsAbove rows.now a.now above) }
 {
     let _width = rows.width();
-    if rows.len() <= FEW_OBJECTS {
-        return Ok(Above::Few(objects_of(rows, a)));
+    above_of(alloc, rows, rows.containing(alloc, a)?, a)
+}
+
+/// The rows that contain a, on a sheet where they are few.
+fn above_of<const W: usize>(
+    alloc: Global,
+    rows: &RowsOf<W>,
+    above: RowsOf<W>,
+    a: &Bits<W>,
+) -> Result<Above<W>, Memory>
+    requires { above ≡ rows_above rows.now a.now }
+    ensures { IfOk result (λ above. IsAbove rows.now a.now above) }
+{
+    let _width = rows.width();
+    let count = above.len();
+    if FEW_OBJECTS < count {
+        return Ok(Above::Many(above));
     }
-    Ok(Above::Many(rows.containing(alloc, a)?))
+    let objects = Bits::full(count as u32);
+    let columns = columns_of(alloc, &above)?;
+    let sheet = Rc::new(
+        alloc,
+        Sheet {
+            rows: above,
+            columns,
+        },
+    )?;
+    Ok(Above::Few(sheet, objects))
 }
 
 /// The closure of the intent of the link with attribute i.
-fn closure_with<const W: usize>(
-    rows: &RowsOf<W>,
-    columns: &[ObjectSet],
-    link: &Link<W>,
-    i: u32,
-) -> Bits<W>
-    requires columns { length rows.now.rows ≤ FEW_OBJECTS → AreColumns rows.now columns.now }
+fn closure_with<const W: usize>(rows: &RowsOf<W>, link: &Link<W>, i: u32) -> Bits<W>
     requires wide { length link.now.intent ≡ rows.now.width }
     requires link { IsLink rows.now link.now }
     requires inside { i < rows.now.width }
     ensures { result ≡ closure rows.now (slice_set link.now.intent i true) }
 {
     let _width = rows.width();
-    let larger = link.intent.with(i);
+    let larger = with(&link.intent, i);
     match &link.above {
         Above::Many(above) => above.closure(&larger),
-        Above::Few(objects) => { closure_of(rows, &objects.meet(&columns[i as usize]), &larger) }
+        Above::Few(sheet, objects) => closure_of(
+            &sheet.rows,
+            &objects.meet(&sheet.columns[i as usize]),
+            &larger,
+        ),
     }
 }
 
 /// The closure of the intent with attribute i, if all its members are allowed. Where that was seen to fail for a smaller intent, it is not computed.
 pub(crate) fn closure_if_allowed<const W: usize>(
     rows: &RowsOf<W>,
-    columns: &[ObjectSet],
     link: &mut Link<W>,
     i: u32,
     allowed: &Bits<W>,
 ) -> Option<Bits<W>>
-    requires columns { length rows.now.rows ≤ FEW_OBJECTS → AreColumns rows.now columns.now }
     requires wide { length link.old.intent ≡ rows.now.width }
     requires allowed { length allowed.now ≡ rows.now.width }
     requires link { IsLink rows.now link.old }
@@ -173,10 +192,10 @@ pub(crate) fn closure_if_allowed<const W: usize>(
     ensures link { IsLink rows.now link.new }
     ensures intent { link.new.intent ≡ link.old.intent }
 {
-    if !allowed.has(link.implied[i as usize]) {
+    if !has(allowed, link.implied[i as usize]) {
         return None;
     }
-    let closed = closure_with(rows, columns, link, i);
+    let closed = closure_with(rows, link, i);
     match closed.first_missing(allowed) {
         None => Some(closed),
         Some(further) => {

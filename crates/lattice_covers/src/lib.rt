@@ -2,13 +2,13 @@
 #![tactic(auto)]
 
 mod chain;
+mod members;
 mod objects;
 mod places;
 
 ghost use Rattle.std.specs.Prelude.{◌≡◌, ◌++◌, ◌≤◌, true, filter, length, IfOk, OnOk};
 ghost use Rattle.fca_model.specs.Sets.{increasing};
 ghost use Rattle.fca_model.specs.Pseudo.{intents as closed_sets, covers, is_cover};
-ghost use Rattle.lattice_covers.specs.Objects.{AreColumns};
 ghost use Rattle.lattice_covers.specs.Neighbours.{IsLink, pairs_with};
 
 use attr_bits::{Attrs, Bits, WORDS};
@@ -16,7 +16,7 @@ use chain::{Link, closure_if_allowed, link_of};
 use derivation::{Rows, RowsOf};
 use fca_model::Memory;
 use lectic_concepts::{FOUR_WORDS, ONE_WORD, in_words};
-use objects::{FEW_OBJECTS, ObjectSet, columns_of};
+use members::{has, insert};
 use places::place_in;
 use std::alloc::Global;
 
@@ -47,15 +47,13 @@ pub fn covers_of<const W: usize>(
     requires { intents.now ≡ closed_sets rows.now }
     ensures { IfOk result (λ pairs. pairs.items ≡ covers rows.now) }
 {
-    let sets = columns_of(alloc, rows)?;
-    let columns = sets.as_slice();
     let mut latest = vec![in alloc; 0; rows.width() as usize]?;
     let mut chain = Vec::new(alloc);
     let mut neighbours = Vec::new(alloc);
     let mut pairs = Vec::new(alloc);
     for (i, a) in intents.iter().enumerate() {
-        let mut link = link_of(alloc, rows, columns, &mut chain, a)?;
-        find_neighbours(&mut neighbours, rows, columns, &mut link)?;
+        let mut link = link_of(alloc, rows, &mut chain, a)?;
+        find_neighbours(&mut neighbours, rows, &mut link)?;
         add_pairs(&mut pairs, intents, &mut latest, i, a, &neighbours)?;
         chain.push(link)?;
     }
@@ -68,10 +66,8 @@ pub fn covers_of<const W: usize>(
 fn find_neighbours<const W: usize>(
     neighbours: &mut Vec<Bits<W>>,
     rows: &RowsOf<W>,
-    columns: &[ObjectSet],
     link: &mut Link<W>,
 ) -> Result<(), Memory>
-    requires columns { length rows.now.rows ≤ FEW_OBJECTS → AreColumns rows.now columns.now }
     requires wide { length link.old.intent ≡ rows.now.width }
     requires link { IsLink rows.now link.old }
     ensures found { OnOk result (neighbours.new.items
@@ -83,13 +79,13 @@ fn find_neighbours<const W: usize>(
     let mut settled = link.intent;
     let mut allowed = link.intent;
     for i in (0..rows.width()).rev() {
-        if !link.intent.has(i) {
-            allowed.insert(i);
-            if let Some(closed) = closure_if_allowed(rows, columns, link, i, &allowed) {
+        if !has(&link.intent, i) {
+            insert(&mut allowed, i);
+            if let Some(closed) = closure_if_allowed(rows, link, i, &allowed) {
                 neighbours.push(closed)?;
                 allowed = settled;
             } else {
-                settled.insert(i);
+                insert(&mut settled, i);
             }
         }
     }

@@ -1,56 +1,53 @@
-//! Sets of objects, where a table has few: the extent of an intent is such a set, and so are the objects of an attribute.
+//! Sets of few objects: the extent of an intent is such a set where it is small, and so are the objects of an attribute among those.
 
 ghost use Rattle.std.specs.Prelude.{◌≡◌, ◌≤◌, ◌<◌, true, length, IfOk};
 ghost use Rattle.fca_model.specs.Sets.{within};
 ghost use Rattle.fca_model.specs.Context.{closure};
-ghost use Rattle.lattice_covers.specs.Objects.{AreColumns, HasObjects};
+ghost use Rattle.lattice_covers.specs.Objects.{AreColumns, HasObjects, alone};
 
+use crate::members::{has, insert, without};
 use attr_bits::Bits;
 use derivation::RowsOf;
 use fca_model::Memory;
 use std::alloc::Global;
 
-/// How many objects are few.
-pub(crate) const FEW_OBJECTS: usize = 512;
-
-/// How many words a set of few objects has.
-const OBJECT_WORDS: usize = FEW_OBJECTS / 64;
+/// How many objects are few: as many as one word holds.
+pub(crate) const FEW_OBJECTS: usize = 64;
 
 /// A set of few objects.
-pub(crate) type ObjectSet = Bits<OBJECT_WORDS>;
+pub(crate) type ObjectSet = Bits<1>;
 
-/// The objects whose rows contain a.
-pub(crate) fn objects_of<const W: usize>(rows: &RowsOf<W>, a: &Bits<W>) -> ObjectSet
-    requires { length rows.now.rows ≤ FEW_OBJECTS }
-    ensures { HasObjects rows.now a.now result }
-{
-    let _width = rows.width();
-    let all = rows.as_slice();
-    let mut objects = Bits::empty(all.len() as u32);
-    for (object, row) in all.iter().enumerate() {
-        if a.within(row) {
-            objects.insert(object as u32);
-        }
-    }
-    objects
-}
-
-/// The objects of each attribute, in the order of those. Where the objects are not few, there are no such sets.
+/// The objects of each attribute, in the order of those.
 pub(crate) fn columns_of<const W: usize>(
     alloc: Global,
     rows: &RowsOf<W>,
 ) -> Result<Vec<ObjectSet>, Memory>
-    ensures { IfOk result (λ columns. length rows.now.rows ≤ FEW_OBJECTS → AreColumns rows.now columns.items) }
+    requires { length rows.now.rows ≤ FEW_OBJECTS }
+    ensures { IfOk result (λ columns. AreColumns rows.now columns.items) }
 {
-    let mut columns = Vec::new(alloc);
-    if FEW_OBJECTS < rows.len() {
-        return Ok(columns);
-    }
     let width = rows.width();
+    let mut columns = Vec::with_capacity(alloc, width as usize)?;
     for attribute in 0..width {
-        columns.push(objects_of(rows, &Bits::empty(width).with(attribute)))?;
+        columns.push(column_of(rows, attribute))?;
     }
     Ok(columns)
+}
+
+/// The objects that have the attribute.
+fn column_of<const W: usize>(rows: &RowsOf<W>, attribute: u32) -> ObjectSet
+    requires few { length rows.now.rows ≤ FEW_OBJECTS }
+    requires inside { attribute < rows.now.width }
+    ensures { HasObjects rows.now (alone rows.now attribute) result }
+{
+    let _width = rows.width();
+    let all = rows.as_slice();
+    let mut having = Bits::empty(all.len() as u32);
+    for (object, row) in all.iter().enumerate() {
+        if has(row, attribute) {
+            insert(&mut having, object as u32);
+        }
+    }
+    having
 }
 
 /// The objects of a, which contains the other set, whose objects are given.
@@ -68,13 +65,12 @@ pub(crate) fn objects_above<const W: usize>(
     requires even { length a.now ≡ rows.now.width }
     ensures { HasObjects rows.now a.now result }
 {
+    let _width = rows.width();
     let mut grown = *smaller;
     let mut having = *objects;
-    for attribute in 0..rows.width() {
-        if a.has(attribute) && !grown.has(attribute) {
-            grown.insert(attribute);
-            having = having.meet(&columns[attribute as usize]);
-        }
+    while let Some(attribute) = a.first_missing(&grown) {
+        insert(&mut grown, attribute);
+        having = having.meet(&columns[attribute as usize]);
     }
     having
 }
@@ -92,13 +88,13 @@ pub(crate) fn closure_of<const W: usize>(
     let _objects = objects.width();
     let all = rows.as_slice();
     let mut met = Bits::full(rows.width());
-    let mut from = 0;
-    while let Some(object) = objects.next_member(from) {
+    let mut rest = *objects;
+    while let Some(object) = rest.next_member(0) {
         met = met.meet(&all[object as usize]);
         if met == *least {
             return met;
         }
-        from = object + 1;
+        rest = without(&rest, object);
     }
     met
 }

@@ -7,7 +7,6 @@ use Rattle.fca_model.specs.Pseudo.{intents, covers, covers_of, is_cover}
 use Rattle.lectic_concepts.proofs.IntentLemmas.{of_intents, intents_increasing}
 use Rattle.std.proofs.lemmas.List.Elements.{All-push}
 use Rattle.lattice_covers.specs.declared.chain.Link.{Link}
-use Rattle.lattice_covers.specs.Objects.{AreColumns}
 use Rattle.lattice_covers.specs.Neighbours.{IsLink, AreLinks, pairs_with}
 use Rattle.lattice_covers.proofs.MemberLemmas.{in_at}
 use Rattle.lattice_covers.proofs.PlaceLemmas.{row_of, pairs_with-filter}
@@ -36,12 +35,12 @@ links_more K {W} old new link made h is = subst (AreLinks K) (sym made) (All-pus
 pub link_of-requires : goal.link_of-requires
 link_of-requires g c =
     let here : length c.index-intents-i.result ≡ c.args.rows.now.width = wide c.args.rows.now c.args.intents.now c.requires c.loop-i.i c.index-intents-i.result c.loop-i-test.true c.index-intents-i.is in
-    (omega arith, (omega (arith, c.width.ensures.words), (omega (arith, c.width.ensures.words), (λ few. subst (AreColumns c.args.rows.now) (sym c.as_slice-columns.ensures.value) (c.in_ok-sets.ensures few), (here, c.loop-i.invariant.links)))))
+    (omega arith, (omega (arith, c.width.ensures.words), (omega (arith, c.width.ensures.words), (here, c.loop-i.invariant.links))))
 
 pub find_neighbours-requires : goal.find_neighbours-requires
 find_neighbours-requires g c =
     let here : length c.index-intents-i.result ≡ c.args.rows.now.width = wide c.args.rows.now c.args.intents.now c.requires c.loop-i.i c.index-intents-i.result c.loop-i-test.true c.index-intents-i.is in
-    (omega (arith, c.width.ensures.words), (omega arith, (omega (arith, c.width.ensures.words), (λ few. subst (AreColumns c.args.rows.now) (sym c.as_slice-columns.ensures.value) (c.in_ok-sets.ensures few), (ap length c.in_ok-link.ensures.link.0 ∙ here, c.in_ok-link.ensures.link.1)))))
+    (omega (arith, c.width.ensures.words), (omega arith, (omega (arith, c.width.ensures.words), (ap length c.in_ok-link.ensures.link.0 ∙ here, c.in_ok-link.ensures.link.1))))
 
 pub add_pairs-requires : goal.add_pairs-requires
 add_pairs-requires g c = (omega (arith, c.width.ensures.words), subst (λ (Ys : List Set). increasing Ys ≡ true) (sym c.requires) (intents_increasing c.args.rows.now))

@@ -15,7 +15,7 @@ loop-i-preserved-in-Some g c =
     let same_intent : c.loop-i.link.intent ≡ A = c.loop-i.invariant.intent in
     let lacks : get_or A i false ≡ false = ap (λ (B : Set). get_or B i false) (sym same_intent) ∙ sym c.has.ensures ∙ c.if-not-has.true in
     let closed : c.in-Some.closed ≡ closure K (set A i true) = c.in-Some.ensures.closed.0 ∙ ap (λ (B : Set). closure K (set B i true)) same_intent in
-    let allowed : c.insert.new.self ≡ set L i true = c.insert.ensures ∙ ap (λ (B : Set). set B i true) c.loop-i.invariant.allowed in
+    let allowed : c.insert.new.set ≡ set L i true = c.insert.ensures ∙ ap (λ (B : Set). set B i true) c.loop-i.invariant.allowed in
     let settled : within c.in-Some.closed (set L i true) ≡ true = ap (within c.in-Some.closed) (sym allowed) ∙ c.in-Some.ensures.closed.1 in
     record {
       inside = omega (arith, c.loop-i.invariant.inside);
@@ -35,7 +35,7 @@ loop-i-preserved-in_default g c =
     let e : c.loop-i.i ≡ suc i = omega arith in
     let same_intent : c.loop-i.link.intent ≡ A = c.loop-i.invariant.intent in
     let lacks : get_or A i false ≡ false = ap (λ (B : Set). get_or B i false) (sym same_intent) ∙ sym c.has.ensures ∙ c.if-not-has.true in
-    let allowed : c.insert.new.self ≡ set L i true = c.insert.ensures ∙ ap (λ (B : Set). set B i true) c.loop-i.invariant.allowed in
+    let allowed : c.insert.new.set ≡ set L i true = c.insert.ensures ∙ ap (λ (B : Set). set B i true) c.loop-i.invariant.allowed in
     let other : within (closure K (set A i true)) (set L i true) ≡ false =
     ap (λ (B : Set). within (closure K (set B i true)) (set L i true)) (sym same_intent) ∙ ap (within (closure K (set c.loop-i.link.intent i true))) (sym allowed) ∙ c.in_default.ensures.closed in
     record {
