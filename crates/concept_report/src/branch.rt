@@ -25,7 +25,7 @@ struct Child<const W: usize> {
 /// What a step of the walk writes on: places that are found, and what it notes of closures. It is kept for the steps that follow.
 #[derive(Drop)]
 struct Desk {
-    found: Vec<usize>,
+    found: Vec<u32>,
     noted: Vec<u32>,
 }
 
@@ -39,19 +39,10 @@ pub(crate) fn write_all<const W: usize>(
 {
     let rows = sheet.rows();
     let least = rows.closure(&Bits::empty(rows.width()));
-    let places = rows.extent(alloc, &least)?;
+    let places = sheet.extent(alloc, &least)?;
     let seen = first_seen(alloc, sheet, &least)?;
     let mut desks = Vec::new(alloc);
-    write_branch(
-        alloc,
-        sheet,
-        page,
-        &least,
-        places.as_slice(),
-        0,
-        &seen,
-        &mut desks,
-    )
+    write_branch(alloc, sheet, page, &least, &places, 0, &seen, &mut desks)
 }
 
 /// Writes the lines of the intents that contain a and agree with it before attribute `from`. The extent of a child is found among that of a, and
@@ -61,7 +52,7 @@ fn write_branch<const W: usize>(
     sheet: &Sheet<'_, W>,
     page: &mut Page<W>,
     a: &Bits<W>,
-    places: &[usize],
+    places: &[u32],
     from: u32,
     seen: &[u32],
     desks: &mut Vec<Desk>,
@@ -118,7 +109,7 @@ fn taken(alloc: Global, desks: &mut Vec<Desk>) -> Desk
 fn child_at<const W: usize>(
     sheet: &Sheet<'_, W>,
     a: &Bits<W>,
-    places: &[usize],
+    places: &[u32],
     i: u32,
     seen: &[u32],
     desk: &mut Desk,
@@ -153,9 +144,9 @@ fn child_at<const W: usize>(
 fn narrowed<const W: usize>(
     sheet: &Sheet<'_, W>,
     a: &Bits<W>,
-    places: &[usize],
+    places: &[u32],
     i: u32,
-    found: &mut Vec<usize>,
+    found: &mut Vec<u32>,
 ) -> Child<W>
     requires wide { length a.now ≡ sheet.now.context.width }
     requires places { places.now ≡ extent sheet.now.context a.now }
@@ -173,7 +164,7 @@ fn narrowed<const W: usize>(
 }
 
 /// Makes the list at least so long.
-fn have_room(list: &mut Vec<usize>, len: usize) -> Result<(), Memory>
+fn have_room(list: &mut Vec<u32>, len: usize) -> Result<(), Memory>
     ensures { OnOk result (len ≤ length list.new.items) }
 {
     if list.len() < len {
@@ -186,8 +177,8 @@ fn have_room(list: &mut Vec<usize>, len: usize) -> Result<(), Memory>
 fn places_of<'a, const W: usize>(
     sheet: &Sheet<'_, W>,
     child: &Child<W>,
-    found: &'a Vec<usize>,
-) -> &'a [usize]
+    found: &'a Vec<u32>,
+) -> &'a [u32]
     requires places { take child.now.count found.now.items ≡ extent sheet.now.context child.now.intent }
     requires few { child.now.count ≤ length found.now.items }
     ensures { result.now ≡ extent sheet.now.context child.now.intent }

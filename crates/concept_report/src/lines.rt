@@ -62,7 +62,7 @@ impl Lines {
         &mut self,
         sheet: &Sheet<'_, W>,
         a: &Bits<W>,
-        places: &[usize],
+        places: &[u32],
     ) -> Result<(), Memory>
         requires wide { length a.now ≡ sheet.now.context.width }
         requires places { places.now ≡ extent sheet.now.context a.now }
@@ -149,7 +149,7 @@ fn add_line<const W: usize>(
     sheet: &Sheet<'_, W>,
     digits: &[u8],
     a: &Bits<W>,
-    places: &[usize],
+    places: &[u32],
 ) -> Result<usize, Memory>
     requires front { FRONT ≤ start }
     requires start { start ≤ length bytes.old.items }
@@ -173,7 +173,7 @@ fn append_line<const W: usize>(
     sheet: &Sheet<'_, W>,
     digits: &[u8],
     a: &Bits<W>,
-    places: &[usize],
+    places: &[u32],
 ) -> Result<usize, Memory>
     requires start { start ≤ length bytes.old.items }
     requires wide { length a.now ≡ sheet.now.context.width }
@@ -228,7 +228,7 @@ fn put_line<const W: usize>(
     sheet: &Sheet<'_, W>,
     digits: &[u8],
     a: &Bits<W>,
-    places: &[usize],
+    places: &[u32],
 ) -> usize
     requires wide { length a.now ≡ sheet.now.context.width }
     requires places { places.now ≡ extent sheet.now.context a.now }

@@ -37,7 +37,7 @@ impl<const W: usize> Page<W> {
         &mut self,
         sheet: &Sheet<'_, W>,
         a: &Bits<W>,
-        places: &[usize],
+        places: &[u32],
     ) -> Result<(), Memory>
         requires wide { length a.now ≡ sheet.now.context.width }
         requires places { places.now ≡ extent sheet.now.context a.now }

@@ -64,7 +64,8 @@ fn put_piece(block: &Block, tail: &Vec<u8>, text: &mut [u8], start: usize) -> us
     ensures ends { result ≤ start + PIECE_BYTES }
     ensures room { length text.new ≡ length text.old }
 {
-    text[start..start + HEAD].copy_from_slice(&block.bytes);
+    let bytes = block.bytes;
+    text[start..start + HEAD].copy_from_slice(&bytes);
     let filled = block.filled as usize;
     let end = start + filled;
     if filled < HEAD {

@@ -1,15 +1,35 @@
 //! The places of the objects that have an attribute, among some places, and what the rows at places share.
 
-ghost use Rattle.std.specs.Prelude.{◌≡◌, ◌≤◌, ◌<◌, false, All, length, take, filter, slice_index_or};
+ghost use Rattle.std.specs.Prelude.{◌≡◌, ◌≤◌, ◌<◌, false, All, IfOk, length, take, filter, slice_index_or};
 ghost use Rattle.fca_model.specs.Context.{closure, extent};
 
 use crate::columns::Objects;
 use attr_bits::Bits;
 use derivation::RowsOf;
+use fca_model::{MAX_OBJECTS, Memory};
+use std::alloc::Global;
+
+/// The places of the objects that have all of the set.
+pub(crate) fn places_having<const W: usize>(
+    alloc: Global,
+    rows: &RowsOf<W>,
+    set: &Bits<W>,
+) -> Result<Vec<u32>, Memory>
+    requires { length rows.now.rows ≤ MAX_OBJECTS }
+    ensures { IfOk result (λ places. places.items ≡ extent rows.now set.now) }
+{
+    let extent = rows.extent(alloc, set)?;
+    let all = extent.as_slice();
+    let mut places = Vec::with_capacity(alloc, all.len())?;
+    for place in all {
+        places.push(*place as u32)?;
+    }
+    Ok(places)
+}
 
 /// Puts those of the places that are in the column into the front of `found`, and tells how many they are. Each place is put down, and the next one
 /// comes behind it only if it stays, so no step waits for a test.
-pub(crate) fn keep_having(column: &Objects, places: &[usize], found: &mut [usize]) -> usize
+pub(crate) fn keep_having(column: &Objects, places: &[u32], found: &mut [u32]) -> usize
     requires inside { All (λ p. p < length column.now) places.now }
     requires room { length places.now ≤ length found.old }
     ensures found { take result found.new ≡ filter (λ p. slice_index_or column.now p false) places.now }
@@ -20,7 +40,7 @@ pub(crate) fn keep_having(column: &Objects, places: &[usize], found: &mut [usize
     let mut count = 0;
     for place in places {
         found[count] = *place;
-        if column.has(*place as u32) {
+        if column.has(*place) {
             count += 1;
         }
     }
@@ -30,7 +50,7 @@ pub(crate) fn keep_having(column: &Objects, places: &[usize], found: &mut [usize
 /// The closure of `least`, whose extent the places are: the meet of their rows. Once it is `least`, the rows that are left change nothing.
 pub(crate) fn closure_at<const W: usize>(
     rows: &RowsOf<W>,
-    places: &[usize],
+    places: &[u32],
     least: &Bits<W>,
 ) -> Bits<W>
     requires { places.now ≡ extent rows.now least.now }
@@ -39,7 +59,7 @@ pub(crate) fn closure_at<const W: usize>(
     let mut met = Bits::full(rows.width());
     let all = rows.as_slice();
     for place in places {
-        met = met.meet(&all[*place]);
+        met = met.meet(&all[*place as usize]);
         if met == *least {
             return met;
         }

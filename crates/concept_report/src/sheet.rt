@@ -2,6 +2,7 @@
 
 ghost use Rattle.std.specs.Prelude.{◌≡◌, ◌+◌, ◌-◌, ◌*◌, ◌≤◌, ◌<◌, ◌++◌, All, IfOk, length, take, cond, nat_lt};
 ghost use Rattle.std.specs.List.{concat};
+ghost use Rattle.fca_model.specs.Context.{extent};
 ghost use Rattle.expert_wire.specs.Texts.{listed, names_of};
 ghost use Rattle.basis_report.specs.Reports.{names_at};
 ghost use Rattle.concept_report.specs.Places.{column};
@@ -9,6 +10,7 @@ ghost use Rattle.concept_report.specs.Places.{column};
 use crate::columns::{Objects, columns_of};
 use crate::names::{attribute_pieces, object_pieces};
 use crate::pieces::{PIECE_BYTES, PIECE_ROOM, Pieces};
+use crate::places::places_having;
 use attr_bits::Bits;
 use context_table::Table;
 use derivation::RowsOf;
@@ -82,6 +84,15 @@ impl<'a, const W: usize> Sheet<'a, W> {
         &self.columns[i as usize]
     }
 
+    /// The places of the objects that have all of the set.
+    pub(crate) fn extent(&self, alloc: Global, set: &Bits<W>) -> Result<Vec<u32>, Memory>
+        ensures { IfOk result (λ places. places.items ≡ extent self.now.context set.now) }
+    {
+        let _table = self.table.rows();
+        let _width = self.rows.width();
+        places_having(alloc, self.rows, set)
+    }
+
     /// Puts the names of the attributes in the set down, and tells where they end.
     pub(crate) fn put_intent(&self, text: &mut [u8], start: usize, set: &Bits<W>) -> usize
         requires wide { length set.now ≡ self.now.context.width }
@@ -97,7 +108,7 @@ impl<'a, const W: usize> Sheet<'a, W> {
     }
 
     /// Puts the names of the objects at these places down, and tells where they end.
-    pub(crate) fn put_extent(&self, text: &mut [u8], start: usize, places: &[usize]) -> usize
+    pub(crate) fn put_extent(&self, text: &mut [u8], start: usize, places: &[u32]) -> usize
         requires inside { All (λ p. p < length self.now.context.rows) places.now }
         requires room { start + PIECE_ROOM * length places.now ≤ length text.old }
         ensures text { take result text.new ≡ take start text.old ++ listed (names_at self.now.objects places.now) }
@@ -134,7 +145,7 @@ fn put_members<const W: usize>(
 }
 
 /// Puts the pieces at these places down, and tells where they end.
-fn put_places(pieces: &Pieces, text: &mut [u8], start: usize, places: &[usize]) -> usize
+fn put_places(pieces: &Pieces, text: &mut [u8], start: usize, places: &[u32]) -> usize
     requires inside { All (λ p. p < length pieces.now) places.now }
     requires room { start + PIECE_ROOM * length places.now ≤ length text.old }
     ensures text { take result text.new ≡ take start text.old ++ concat (names_at pieces.now places.now) }
@@ -144,7 +155,7 @@ fn put_places(pieces: &Pieces, text: &mut [u8], start: usize, places: &[usize]) 
 {
     let mut end = start;
     for place in places {
-        end = pieces.put(*place, text, end);
+        end = pieces.put(*place as usize, text, end);
     }
     end
 }

@@ -2,7 +2,7 @@ use Rattle.std.proofs.Common.{◌≡◌, ◌∙◌, ℕ, List, false, replicate,
 use Rattle.std.proofs.lemmas.Simd.{length-replicate}
 use Rattle.std.proofs.lemmas.Result.{on_ok_weaker}
 use Rattle.fca_model.specs.Sets.{Set}
-use Rattle.fca_model.specs.Context.{Context, closure, extent}
+use Rattle.fca_model.specs.Context.{Context, closure}
 use Rattle.lectic_concepts.specs.Branches.{branch, AreSeen}
 use Rattle.lectic_concepts.proofs.IntentLemmas.{IsIntent, closed-closure}
 use Rattle.lectic_concepts.proofs.BranchLemmas.{branch_start}
@@ -30,7 +30,7 @@ write_branch-requires g c =
     let D : Set = c.closure-least.result in
     let is = least K c.rows-rows.result.now c.width.result c.empty.result D c.rows-rows.ensures c.width.ensures.width c.empty.ensures c.closure-least.ensures in
     let i = is_intent K D is in
-    (omega arith, (omega (arith, c.width.ensures.words), (omega (arith, c.width.ensures.words), (i.wide, (i.closed, (c.as_slice.ensures ∙ c.in_ok-places.ensures ∙ ap (λ (J : Context). extent J D) c.rows-rows.ensures, (omega arith, subst (AreSeen K D) (sym c.deref.ensures.value) c.in_ok-seen.ensures)))))))
+    (omega arith, (omega (arith, c.width.ensures.words), (omega (arith, c.width.ensures.words), (i.wide, (i.closed, (c.deref.ensures.value ∙ c.in_ok-places.ensures, (omega arith, subst (AreSeen K D) (sym c.deref-2.ensures.value) c.in_ok-seen.ensures)))))))
 
 pub returns : goal.returns
 returns g c =
