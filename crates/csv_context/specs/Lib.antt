@@ -2,3 +2,4 @@ pub mod Records
 pub mod Lines
 pub mod Form
 pub mod Written
+pub mod Faults
