@@ -5,15 +5,16 @@
 use Rattle.std.specs.Prelude.{ℕ, decimal, codes, Option, None, Some, List, [], ◌∷◌, slice_get, unwrap_or}
 use Rattle.std.specs.List.{concat}
 use Rattle.fca_model.specs.Tables.{Text}
-use Rattle.cxt_format.specs.declared.CxtFault.{CxtFault}
-use Rattle.cxt_format.specs.declared.CxtFault.TheVariants as cxt
-use Rattle.csv_context.specs.declared.CsvFault.{CsvFault}
-use Rattle.csv_context.specs.declared.CsvFault.TheVariants as csv
+use Rattle.text_pieces.specs.Faults.{told_text}
+use Rattle.text_pieces.specs.declared.faults.TheConstants.{NO_MEMORY}
+use Rattle.text_pieces.specs.declared.faults.Place.{Place}
+use Rattle.text_pieces.specs.declared.faults.Place.TheVariants.{Whole}
+use Rattle.cxt_format.specs.Faults as cxt
+use Rattle.csv_context.specs.Faults as csv
+use Rattle.known_rules.specs.Faults as rules
+use Rattle.expert_scripts.specs.Faults as script
 use Rattle.expert_wire.specs.Texts.{line_end, ordinal}
-use Rattle.expert_scripts.specs.declared.fault.ScriptFault.{ScriptFault}
-use Rattle.expert_scripts.specs.declared.fault.ScriptFault.TheVariants as script
-use Rattle.known_rules.specs.declared.fault.KnownFault.{KnownFault}
-use Rattle.known_rules.specs.declared.fault.KnownFault.TheVariants as rules
+use Rattle.command_io.specs.declared.err_line.TheConstants.{NO_SUCH_COMMAND, TOO_LONG, BAD_VALUES, BAD_PLAN, UNKNOWN_ATTRIBUTE, ATTRIBUTES_DIFFER, READ_FAULT, LISTENER_FAULT, WRITE_FAULT, TURNS_SPENT, INPUT}
 use Rattle.command_io.specs.declared.answer.Ending.{Ending}
 use Rattle.command_io.specs.declared.answer.Ending.TheVariants.{Finished, Open, Spent}
 use Rattle.command_io.specs.Endings.{Outcome}
@@ -22,8 +23,6 @@ use Rattle.command_io.specs.declared.stop.Origin.{Origin}
 use Rattle.command_io.specs.declared.stop.Origin.TheVariants.{File, Known, Later, Input}
 use Rattle.command_io.specs.declared.stop.Stop.{Stop}
 use Rattle.command_io.specs.declared.stop.Stop.TheVariants.{NoCommand, TooLong, NoTable, NoCsv, BadValues, BadPlan, NoKnown, RowBreaks, NoScript, UnknownAttribute, OtherAttributes, Fault, Listener, Memory}
-use Rattle.command_io.specs.declared.err_line.Place.{Place}
-use Rattle.command_io.specs.declared.err_line.Place.TheVariants.{Whole, Byte, Line, Record, Field}
 
 -- ---- the form of a line
 
@@ -31,71 +30,17 @@ use Rattle.command_io.specs.declared.err_line.Place.TheVariants.{Whole, Byte, Li
 abbrev pub plain_line : Text → Text
 plain_line words = concat (codes "fca: " ∷ words ∷ line_end ∷ [])
 
--- a line of these words on a place of this kind, which has this number
-abbrev pub numbered_line : Text → Text → Text → Text → Text
-numbered_line name kind number words = concat (codes "fca: " ∷ name ∷ kind ∷ number ∷ codes ": " ∷ words ∷ line_end ∷ [])
+-- a line of what is told of a fault of what has this name
+abbrev pub placed_line : Text → Place × Text → Text
+placed_line name told = concat (codes "fca: " ∷ name ∷ codes ": " ∷ told_text told ∷ line_end ∷ [])
 
--- a line of these words on a field of a record
-abbrev pub field_line : Text → Text → Text → Text → Text
-field_line name number field words =
-    concat (codes "fca: " ∷ name ∷ codes ": record " ∷ number ∷ codes ": field " ∷ field ∷ codes ": " ∷ words ∷ line_end ∷ [])
+-- a line of these words on the place of this kind, which has this number
+abbrev pub numbered_line : Text → Text → ℕ → Text → Text
+numbered_line name kind number words = concat (codes "fca: " ∷ name ∷ codes ": " ∷ kind ∷ decimal number ∷ codes ": " ∷ words ∷ line_end ∷ [])
 
--- a line on the row of what has this name that breaks one of the known implications, by the digits of their numbers
-abbrev pub broken_line : Text → Text → Text → Text
-broken_line name row rule = concat (codes "fca: " ∷ name ∷ codes ": row " ∷ row ∷ codes " breaks known " ∷ rule ∷ line_end ∷ [])
-
--- the same line, by their places
+-- a line on the row of what has this name that breaks one of the known implications, by their places
 abbrev pub breaks_line : Text → ℕ → ℕ → Text
-breaks_line name row rule = broken_line name (ordinal row) (ordinal rule)
-
--- a line of these words on a place of what has this name
-abbrev pub placed_line : Text → Place → Text → Text
-placed_line name Whole words = concat (codes "fca: " ∷ name ∷ codes ": " ∷ words ∷ line_end ∷ [])
-placed_line name (Byte n) words = numbered_line name (codes ": byte ") (decimal n) words
-placed_line name (Line n) words = numbered_line name (codes ": line ") (decimal n) words
-placed_line name (Record n) words = numbered_line name (codes ": record ") (decimal n) words
-placed_line name (Field n k) words = field_line name (decimal n) (decimal k) words
-
--- ---- what is told of each fault: its place, and the words
-
-abbrev pub cxt_told : CxtFault → Place × Text
-cxt_told (cxt.NotUtf8 at) = (Byte at, codes "not UTF-8")
-cxt_told cxt.NotB = (Line 1, codes "not B")
-cxt_told (cxt.BadCount line) = (Line line, codes "bad count")
-cxt_told (cxt.TooMany line) = (Line line, codes "too many")
-cxt_told (cxt.Ended line) = (Line line, codes "ended")
-cxt_told (cxt.EmptyName line) = (Line line, codes "empty name")
-cxt_told (cxt.LongName line) = (Line line, codes "long name")
-cxt_told (cxt.BadName line) = (Line line, codes "bad name")
-cxt_told (cxt.DuplicateAttribute line) = (Line line, codes "duplicate attribute")
-cxt_told (cxt.BadRow line) = (Line line, codes "bad row")
-cxt_told (cxt.Trailing line) = (Line line, codes "trailing text")
-cxt_told cxt.Memory = (Whole, codes "no memory")
-
-abbrev pub csv_told : CsvFault → Place × Text
-csv_told (csv.NotUtf8 at) = (Byte at, codes "not UTF-8")
-csv_told csv.NoHeader = (Whole, codes "no header")
-csv_told (csv.RaggedRecord n) = (Record n, codes "ragged")
-csv_told (csv.BadCell n field) = (Field n field, codes "bad cell")
-csv_told (csv.EmptyName n field) = (Field n field, codes "empty name")
-csv_told (csv.LongName n field) = (Field n field, codes "long name")
-csv_told (csv.BadName n field) = (Field n field, codes "bad name")
-csv_told (csv.DuplicateAttribute field) = (Field 1 field, codes "duplicate attribute")
-csv_told csv.TooManyAttributes = (Whole, codes "too many attributes")
-csv_told csv.TooManyObjects = (Whole, codes "too many objects")
-csv_told csv.Memory = (Whole, codes "no memory")
-
-abbrev pub script_told : ScriptFault → Place × Text
-script_told (script.BadLine line) = (Line line, codes "bad line")
-script_told (script.BadExpert line) = (Line line, codes "bad expert")
-script_told (script.BadWidth line) = (Line line, codes "bad width")
-script_told (script.BadHolders line) = (Line line, codes "bad holders")
-script_told script.Memory = (Whole, codes "no memory")
-
-abbrev pub known_told : KnownFault → Place × Text
-known_told (rules.BadLine line) = (Line line, codes "bad line")
-known_told (rules.BadWidth line) = (Line line, codes "bad width")
-known_told rules.Memory = (Whole, codes "no memory")
+breaks_line name row rule = concat (codes "fca: " ∷ name ∷ codes ": row " ∷ ordinal row ∷ codes " breaks known " ∷ ordinal rule ∷ line_end ∷ [])
 
 -- ---- the line of a stop
 
@@ -104,32 +49,32 @@ abbrev pub name_of : Text → Origin → Text
 name_of file File = file
 name_of file Known = file
 name_of file (Later place) = file
-name_of file Input = codes "input"
+name_of file Input = INPUT.now
 
 -- the line of a stop, where a file at fault has the name `file`
 abbrev pub stop_line : Text → Stop → Text
-stop_line file NoCommand = plain_line (codes "no such command")
-stop_line file (TooLong origin) = placed_line (name_of file origin) Whole (codes "too long")
-stop_line file (NoTable origin fault) = placed_line (name_of file origin) (cxt_told fault).0 (cxt_told fault).1
-stop_line file (NoCsv origin fault) = placed_line (name_of file origin) (csv_told fault).0 (csv_told fault).1
-stop_line file (BadValues origin fault) = placed_line (name_of file origin) Whole (codes "bad values")
-stop_line file (BadPlan origin fault) = placed_line (name_of file origin) Whole (codes "bad plan")
-stop_line file (NoKnown fault) = placed_line (name_of file Known) (known_told fault).0 (known_told fault).1
+stop_line file NoCommand = plain_line NO_SUCH_COMMAND.now
+stop_line file (TooLong origin) = placed_line (name_of file origin) (Whole, TOO_LONG.now)
+stop_line file (NoTable origin fault) = placed_line (name_of file origin) (cxt.told fault)
+stop_line file (NoCsv origin fault) = placed_line (name_of file origin) (csv.told fault)
+stop_line file (BadValues origin fault) = placed_line (name_of file origin) (Whole, BAD_VALUES.now)
+stop_line file (BadPlan origin fault) = placed_line (name_of file origin) (Whole, BAD_PLAN.now)
+stop_line file (NoKnown fault) = placed_line (name_of file Known) (rules.told fault)
 stop_line file (RowBreaks origin row rule) = breaks_line (name_of file origin) row rule
-stop_line file (NoScript fault) = placed_line (codes "input") (script_told fault).0 (script_told fault).1
-stop_line file UnknownAttribute = plain_line (codes "unknown attribute")
-stop_line file (OtherAttributes origin) = placed_line (name_of file origin) Whole (codes "attributes differ")
-stop_line file (Fault origin) = placed_line (name_of file origin) Whole (codes "read fault")
-stop_line file Listener = plain_line (codes "listener fault")
-stop_line file Memory = plain_line (codes "no memory")
+stop_line file (NoScript fault) = placed_line INPUT.now (script.told fault)
+stop_line file UnknownAttribute = plain_line UNKNOWN_ATTRIBUTE.now
+stop_line file (OtherAttributes origin) = placed_line (name_of file origin) (Whole, ATTRIBUTES_DIFFER.now)
+stop_line file (Fault origin) = placed_line (name_of file origin) (Whole, READ_FAULT.now)
+stop_line file Listener = plain_line LISTENER_FAULT.now
+stop_line file Memory = plain_line NO_MEMORY.now
 
 -- where out failed
 abbrev pub write_fault_line : Text
-write_fault_line = plain_line (codes "write fault")
+write_fault_line = plain_line WRITE_FAULT.now
 
 -- where an expert took all turns before it was done
 abbrev pub turns_spent_line : Text
-turns_spent_line = plain_line (codes "turns spent")
+turns_spent_line = plain_line TURNS_SPENT.now
 
 -- what is at fault, which is the first file where it is nothing else
 abbrev pub stop_origin : Stop → Origin

@@ -6,14 +6,14 @@ ghost use Rattle.command_io.specs.Endings.{finished, ending_of, ending_status};
 ghost use Rattle.command_io.specs.ErrLines.{ending_line};
 ghost use Rattle.command_io.specs.Streams.{moment, GainsLine, HasConcluded};
 
-use crate::err_line::{report, report_plain};
+use crate::err_line::{TURNS_SPENT, WRITE_FAULT, report, report_plain};
 use crate::stop::Stop;
 use explore_state::Explore;
 use fca_io::{Sink, write_text};
 use std::marker::Model;
 
 /// The status where a fault of out cut off the text.
-const WRITE_FAULT: u8 = 4;
+const CUT_OFF: u8 = 4;
 
 /// How a whole text ends.
 #[derive(Clone, Copy)]
@@ -90,8 +90,8 @@ pub fn conclude<K: Sink, E: Sink>(
     match answer {
         Ok(answer) => {
             if write_text(out, &answer.text).is_err() {
-                report_plain(err, b"write fault");
-                return WRITE_FAULT;
+                report_plain(err, WRITE_FAULT);
+                return CUT_OFF;
             }
             tell_ending(err, answer.ending);
             answer.ending.status()
@@ -109,6 +109,6 @@ fn tell_ending<E: Sink>(err: &mut E, ending: Ending)
 {
     match ending {
         Ending::Finished | Ending::Open => {}
-        Ending::Spent => report_plain(err, b"turns spent"),
+        Ending::Spent => report_plain(err, TURNS_SPENT),
     }
 }

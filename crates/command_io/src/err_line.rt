@@ -3,26 +3,37 @@
 ghost use Rattle.std.specs.Prelude.{◌≡◌, Some};
 ghost use Rattle.std.specs.List.{flat_map};
 ghost use Rattle.expert_wire.specs.Parts.{Writes};
-ghost use Rattle.command_io.specs.ErrLines.{plain_line, numbered_line, field_line, broken_line, breaks_line, placed_line, cxt_told, csv_told, known_told, script_told, name_of, stop_line};
+ghost use Rattle.text_pieces.specs.declared.faults.Place.TheVariants.{Whole, Field};
+ghost use Rattle.command_io.specs.ErrLines.{plain_line, placed_line, numbered_line, breaks_line, name_of, stop_line};
 ghost use Rattle.command_io.specs.Streams.{moment, GainsLine};
 
 use crate::stop::{Origin, Stop};
-use csv_context::CsvFault;
-use cxt_format::CxtFault;
-use expert_scripts::ScriptFault;
 use fca_io::{Put, Sink, write_text};
 use itoa::Buffer;
-use known_rules::KnownFault;
+use text_pieces::faults::{NO_MEMORY, Place, Told};
 
-/// Where in a file or a script a fault is.
-#[derive(Clone, Copy)]
-pub enum Place {
-    Whole,
-    Byte(usize),
-    Line(usize),
-    Record(usize),
-    Field(usize, usize),
-}
+const NO_SUCH_COMMAND: &str = "no such command";
+
+const TOO_LONG: &str = "too long";
+
+const BAD_VALUES: &str = "bad values";
+
+const BAD_PLAN: &str = "bad plan";
+
+const UNKNOWN_ATTRIBUTE: &str = "unknown attribute";
+
+const ATTRIBUTES_DIFFER: &str = "attributes differ";
+
+const READ_FAULT: &str = "read fault";
+
+const LISTENER_FAULT: &str = "listener fault";
+
+pub(crate) const WRITE_FAULT: &str = "write fault";
+
+pub(crate) const TURNS_SPENT: &str = "turns spent";
+
+/// The name under which lines speak of the input.
+const INPUT: &str = "input";
 
 /// Tells why there is no text: `file` is the name of the file that is at fault, if one is. What err refuses is lost.
 pub fn report<E: Sink>(err: &mut E, file: &[u8], stop: &Stop)
@@ -32,7 +43,7 @@ pub fn report<E: Sink>(err: &mut E, file: &[u8], stop: &Stop)
 }
 
 /// Tells in these words what went wrong.
-pub(crate) fn report_plain<E: Sink>(err: &mut E, words: &[u8])
+pub(crate) fn report_plain<E: Sink>(err: &mut E, words: &str)
     ensures { GainsLine (Some (plain_line words.now)) (moment E.held E.faults err.old) (moment E.held E.faults err.new) }
 {
     let _ = write_plain(err, words);
@@ -43,47 +54,29 @@ fn write_stop<E: Sink>(err: &mut E, file: &[u8], stop: &Stop) -> Result<(), Put>
         (E.faults_beside err.old) (E.faults_beside err.new) (stop_line file.now stop.now) result }
 {
     match stop {
-        Stop::NoCommand => write_plain(err, b"no such command"),
-        Stop::TooLong(origin) => {
-            write_placed(err, name_of(file, *origin), Place::Whole, b"too long")
-        }
-        Stop::NoTable(origin, fault) => {
-            let (place, words) = table_fault(fault);
-            write_placed(err, name_of(file, *origin), place, words)
-        }
-        Stop::NoCsv(origin, fault) => {
-            let (place, words) = csv_fault(fault);
-            write_placed(err, name_of(file, *origin), place, words)
-        }
-        Stop::BadValues(origin, _) => {
-            write_placed(err, name_of(file, *origin), Place::Whole, b"bad values")
-        }
-        Stop::BadPlan(origin, _) => {
-            write_placed(err, name_of(file, *origin), Place::Whole, b"bad plan")
-        }
-        Stop::NoKnown(fault) => write_known(err, file, fault),
+        Stop::NoCommand => write_plain(err, NO_SUCH_COMMAND),
+        Stop::TooLong(origin) => write_whole(err, name_of(file, *origin), TOO_LONG),
+        Stop::NoTable(origin, fault) => write_placed(err, name_of(file, *origin), &fault.told()),
+        Stop::NoCsv(origin, fault) => write_placed(err, name_of(file, *origin), &fault.told()),
+        Stop::BadValues(origin, _) => write_whole(err, name_of(file, *origin), BAD_VALUES),
+        Stop::BadPlan(origin, _) => write_whole(err, name_of(file, *origin), BAD_PLAN),
+        Stop::NoKnown(fault) => write_placed(err, file, &fault.told()),
         Stop::RowBreaks(origin, row, rule) => write_breaks(
             err,
             name_of(file, *origin),
             *row,
             *rule,
         ),
-        Stop::NoScript(fault) => {
-            let (place, words) = script_fault(fault);
-            write_placed(err, b"input", place, words)
-        }
-        Stop::UnknownAttribute => write_plain(err, b"unknown attribute"),
-        Stop::OtherAttributes(origin) => write_placed(
+        Stop::NoScript(fault) => write_placed(err, INPUT.as_bytes(), &fault.told()),
+        Stop::UnknownAttribute => write_plain(err, UNKNOWN_ATTRIBUTE),
+        Stop::OtherAttributes(origin) => write_whole(
             err,
             name_of(file, *origin),
-            Place::Whole,
-            b"attributes differ",
+            ATTRIBUTES_DIFFER,
         ),
-        Stop::Fault(origin) => {
-            write_placed(err, name_of(file, *origin), Place::Whole, b"read fault")
-        }
-        Stop::Listener => write_plain(err, b"listener fault"),
-        Stop::Memory => write_plain(err, b"no memory"),
+        Stop::Fault(origin) => write_whole(err, name_of(file, *origin), READ_FAULT),
+        Stop::Listener => write_plain(err, LISTENER_FAULT),
+        Stop::Memory => write_plain(err, NO_MEMORY),
     }
 }
 
@@ -93,102 +86,91 @@ fn name_of(file: &[u8], origin: Origin) -> &[u8]
 {
     match origin {
         Origin::File | Origin::Known | Origin::Later(_) => file,
-        Origin::Input => b"input",
+        Origin::Input => INPUT.as_bytes(),
     }
 }
 
 /// A line of these words alone.
-fn write_plain<E: Sink>(err: &mut E, words: &[u8]) -> Result<(), Put>
+fn write_plain<E: Sink>(err: &mut E, words: &str) -> Result<(), Put>
     ensures { Writes (E.held err.old) (E.held err.new) (E.faults err.old) (E.faults err.new) (E.beside err.old) (E.beside err.new)
         (E.faults_beside err.old) (E.faults_beside err.new) (plain_line words.now) result }
 {
-    write_parts(err, &[b"fca: ", words, b"\n"])
+    write_parts(err, &[b"fca: ", words.as_bytes(), b"\n"])
 }
 
-/// A line of these words on a place of what has this name.
-fn write_placed<E: Sink>(err: &mut E, name: &[u8], place: Place, words: &[u8]) -> Result<(), Put>
+/// A line of these words on the whole of what has this name.
+fn write_whole<E: Sink>(err: &mut E, name: &[u8], words: &str) -> Result<(), Put>
     ensures { Writes (E.held err.old) (E.held err.new) (E.faults err.old) (E.faults err.new) (E.beside err.old) (E.beside err.new)
-        (E.faults_beside err.old) (E.faults_beside err.new) (placed_line name.now place words.now) result }
+        (E.faults_beside err.old) (E.faults_beside err.new) (placed_line name.now (Whole, words.now)) result }
 {
-    match place {
-        Place::Whole => write_parts(err, &[b"fca: ", name, b": ", words, b"\n"]),
-        Place::Byte(at) => write_numbered(
-            err,
-            name,
-            b": byte ",
-            Buffer::new().format(at).as_bytes(),
-            words,
-        ),
-        Place::Line(at) => write_numbered(
-            err,
-            name,
-            b": line ",
-            Buffer::new().format(at).as_bytes(),
-            words,
-        ),
-        Place::Record(at) => write_numbered(
-            err,
-            name,
-            b": record ",
-            Buffer::new().format(at).as_bytes(),
-            words,
-        ),
-        Place::Field(at, field) => write_field(
-            err,
-            name,
-            Buffer::new().format(at).as_bytes(),
-            Buffer::new().format(field).as_bytes(),
-            words,
-        ),
+    write_parts(err, &[b"fca: ", name, b": ", words.as_bytes(), b"\n"])
+}
+
+/// A line of what is told of a fault of what has this name.
+fn write_placed<E: Sink>(err: &mut E, name: &[u8], told: &Told) -> Result<(), Put>
+    ensures { Writes (E.held err.old) (E.held err.new) (E.faults err.old) (E.faults err.new) (E.beside err.old) (E.beside err.new)
+        (E.faults_beside err.old) (E.faults_beside err.new) (placed_line name.now told.now) result }
+{
+    match told.place {
+        Place::Whole => write_whole(err, name, told.words),
+        Place::Byte(at) => write_numbered(err, name, "byte ", at, told.words),
+        Place::Line(at) => write_numbered(err, name, "line ", at, told.words),
+        Place::Record(at) => write_numbered(err, name, "record ", at, told.words),
+        Place::Field(at, field) => write_field(err, name, at, field, told.words),
     }
 }
 
 /// A line of these words on the place of this kind, which has this number.
-fn write_numbered<E: Sink>(
+fn write_numbered<'a, E: Sink>(
     err: &mut E,
-    name: &[u8],
-    kind: &[u8],
-    number: &[u8],
-    words: &[u8],
+    name: &'a [u8],
+    kind: &'a str,
+    number: usize,
+    words: &'a str,
 ) -> Result<(), Put>
     ensures { Writes (E.held err.old) (E.held err.new) (E.faults err.old) (E.faults err.new) (E.beside err.old) (E.beside err.new)
-        (E.faults_beside err.old) (E.faults_beside err.new) (numbered_line name.now kind.now number.now words.now) result }
+        (E.faults_beside err.old) (E.faults_beside err.new) (numbered_line name.now kind.now number words.now) result }
 {
-    write_parts(err, &[b"fca: ", name, kind, number, b": ", words, b"\n"])
+    write_parts(
+        err,
+        &[
+            b"fca: ",
+            name,
+            b": ",
+            kind.as_bytes(),
+            Buffer::new().format(number).as_bytes(),
+            b": ",
+            words.as_bytes(),
+            b"\n",
+        ],
+    )
 }
 
 /// A line of these words on a field of a record.
 fn write_field<E: Sink>(
     err: &mut E,
     name: &[u8],
-    number: &[u8],
-    field: &[u8],
-    words: &[u8],
+    number: usize,
+    field: usize,
+    words: &str,
 ) -> Result<(), Put>
     ensures { Writes (E.held err.old) (E.held err.new) (E.faults err.old) (E.faults err.new) (E.beside err.old) (E.beside err.new)
-        (E.faults_beside err.old) (E.faults_beside err.new) (field_line name.now number.now field.now words.now) result }
+        (E.faults_beside err.old) (E.faults_beside err.new) (placed_line name.now (Field number field, words.now)) result }
 {
-    let parts: [&[u8]; 9] = [
-        b"fca: ",
-        name,
-        b": record ",
-        number,
-        b": field ",
-        field,
-        b": ",
-        words,
-        b"\n",
-    ];
-    write_parts(err, &parts)
-}
-
-/// A line on what is at fault in a file of what is known.
-fn write_known<E: Sink>(err: &mut E, name: &[u8], fault: &KnownFault) -> Result<(), Put>
-    ensures { Writes (E.held err.old) (E.held err.new) (E.faults err.old) (E.faults err.new) (E.beside err.old) (E.beside err.new)
-        (E.faults_beside err.old) (E.faults_beside err.new) (placed_line name.now (known_told fault.now).0 (known_told fault.now).1) result }
-{
-    let (place, words) = known_fault(fault);
-    write_placed(err, name, place, words)
+    write_parts(
+        err,
+        &[
+            b"fca: ",
+            name,
+            b": record ",
+            Buffer::new().format(number).as_bytes(),
+            b": field ",
+            Buffer::new().format(field).as_bytes(),
+            b": ",
+            words.as_bytes(),
+            b"\n",
+        ],
+    )
 }
 
 /// A line on the row that breaks one of the known implications, by their places.
@@ -196,29 +178,18 @@ fn write_breaks<E: Sink>(err: &mut E, name: &[u8], row: usize, rule: usize) -> R
     ensures { Writes (E.held err.old) (E.held err.new) (E.faults err.old) (E.faults err.new) (E.beside err.old) (E.beside err.new)
         (E.faults_beside err.old) (E.faults_beside err.new) (breaks_line name.now row rule) result }
 {
-    write_broken(
+    write_parts(
         err,
-        name,
-        Buffer::new().format(row as u128 + 1).as_bytes(),
-        Buffer::new().format(rule as u128 + 1).as_bytes(),
+        &[
+            b"fca: ",
+            name,
+            b": row ",
+            Buffer::new().format(row as u128 + 1).as_bytes(),
+            b" breaks known ",
+            Buffer::new().format(rule as u128 + 1).as_bytes(),
+            b"\n",
+        ],
     )
-}
-
-/// The same line, by the digits of the numbers.
-fn write_broken<E: Sink>(err: &mut E, name: &[u8], row: &[u8], rule: &[u8]) -> Result<(), Put>
-    ensures { Writes (E.held err.old) (E.held err.new) (E.faults err.old) (E.faults err.new) (E.beside err.old) (E.beside err.new)
-        (E.faults_beside err.old) (E.faults_beside err.new) (broken_line name.now row.now rule.now) result }
-{
-    let parts: [&[u8]; 7] = [
-        b"fca: ",
-        name,
-        b": row ",
-        row,
-        b" breaks known ",
-        rule,
-        b"\n",
-    ];
-    write_parts(err, &parts)
 }
 
 /// The parts, one behind the other.
@@ -237,67 +208,4 @@ fn write_part<E: Sink>(err: &mut E, part: &[u8]) -> Result<(), Put>
         (E.faults_beside err.old) (E.faults_beside err.new) part.now result }
 {
     write_text(err, part)
-}
-
-fn table_fault(fault: &CxtFault) -> (Place, &'static [u8])
-    ensures place { result.0 ≡ (cxt_told fault.now).0 }
-    ensures words { result.1.now ≡ (cxt_told fault.now).1 }
-{
-    match fault {
-        CxtFault::NotUtf8(at) => (Place::Byte(*at), b"not UTF-8"),
-        CxtFault::NotB => (Place::Line(1), b"not B"),
-        CxtFault::BadCount(line) => (Place::Line(*line), b"bad count"),
-        CxtFault::TooMany(line) => (Place::Line(*line), b"too many"),
-        CxtFault::Ended(line) => (Place::Line(*line), b"ended"),
-        CxtFault::EmptyName(line) => (Place::Line(*line), b"empty name"),
-        CxtFault::LongName(line) => (Place::Line(*line), b"long name"),
-        CxtFault::BadName(line) => (Place::Line(*line), b"bad name"),
-        CxtFault::DuplicateAttribute(line) => (Place::Line(*line), b"duplicate attribute"),
-        CxtFault::BadRow(line) => (Place::Line(*line), b"bad row"),
-        CxtFault::Trailing(line) => (Place::Line(*line), b"trailing text"),
-        CxtFault::Memory => (Place::Whole, b"no memory"),
-    }
-}
-
-fn csv_fault(fault: &CsvFault) -> (Place, &'static [u8])
-    ensures place { result.0 ≡ (csv_told fault.now).0 }
-    ensures words { result.1.now ≡ (csv_told fault.now).1 }
-{
-    match fault {
-        CsvFault::NotUtf8(at) => (Place::Byte(*at), b"not UTF-8"),
-        CsvFault::NoHeader => (Place::Whole, b"no header"),
-        CsvFault::RaggedRecord(record) => (Place::Record(*record), b"ragged"),
-        CsvFault::BadCell(record, field) => (Place::Field(*record, *field), b"bad cell"),
-        CsvFault::EmptyName(record, field) => (Place::Field(*record, *field), b"empty name"),
-        CsvFault::LongName(record, field) => (Place::Field(*record, *field), b"long name"),
-        CsvFault::BadName(record, field) => (Place::Field(*record, *field), b"bad name"),
-        CsvFault::DuplicateAttribute(field) => (Place::Field(1, *field), b"duplicate attribute"),
-        CsvFault::TooManyAttributes => (Place::Whole, b"too many attributes"),
-        CsvFault::TooManyObjects => (Place::Whole, b"too many objects"),
-        CsvFault::Memory => (Place::Whole, b"no memory"),
-    }
-}
-
-fn known_fault(fault: &KnownFault) -> (Place, &'static [u8])
-    ensures place { result.0 ≡ (known_told fault.now).0 }
-    ensures words { result.1.now ≡ (known_told fault.now).1 }
-{
-    match fault {
-        KnownFault::BadLine(line) => (Place::Line(*line), b"bad line"),
-        KnownFault::BadWidth(line) => (Place::Line(*line), b"bad width"),
-        KnownFault::Memory => (Place::Whole, b"no memory"),
-    }
-}
-
-fn script_fault(fault: &ScriptFault) -> (Place, &'static [u8])
-    ensures place { result.0 ≡ (script_told fault.now).0 }
-    ensures words { result.1.now ≡ (script_told fault.now).1 }
-{
-    match fault {
-        ScriptFault::BadLine(line) => (Place::Line(*line), b"bad line"),
-        ScriptFault::BadExpert(line) => (Place::Line(*line), b"bad expert"),
-        ScriptFault::BadWidth(line) => (Place::Line(*line), b"bad width"),
-        ScriptFault::BadHolders(line) => (Place::Line(*line), b"bad holders"),
-        ScriptFault::Memory => (Place::Whole, b"no memory"),
-    }
 }

@@ -3,3 +3,4 @@ pub mod Lines
 pub mod Form
 pub mod Written
 pub mod Cells
+pub mod Faults

@@ -16,36 +16,77 @@ pub use lines::{next_field, next_line, read_fields, unquoted};
 pub use read::read_csv;
 pub use records::{next_record, open};
 use std::alloc::{AllocError, AllocFailed};
-use thiserror::Error;
+use std::error::Error;
+use std::fmt;
+use text_pieces::faults::{
+    BAD_NAME, DUPLICATE_ATTRIBUTE, EMPTY_NAME, LONG_NAME, NO_MEMORY, NOT_UTF8, Place, Told,
+};
 pub use write::write_csv;
 
+const NO_HEADER: &str = "no header";
+
+const RAGGED: &str = "ragged";
+
+const BAD_CELL: &str = "bad cell";
+
+const TOO_MANY_ATTRIBUTES: &str = "too many attributes";
+
+const TOO_MANY_OBJECTS: &str = "too many objects";
+
 /// Why bytes are no table in the CSV form. Records and fields are numbered from 1.
-#[derive(Debug, Drop, Error)]
+#[derive(Debug, Drop)]
 pub enum CsvFault {
     /// The number of bytes before the first that begins no whole character.
-    #[error("byte {0}: not UTF-8")]
     NotUtf8(usize),
-    #[error("no header")]
     NoHeader,
-    #[error("record {0}: ragged")]
     RaggedRecord(usize),
-    #[error("record {0}: field {1}: bad cell")]
     BadCell(usize, usize),
-    #[error("record {0}: field {1}: empty name")]
     EmptyName(usize, usize),
-    #[error("record {0}: field {1}: long name")]
     LongName(usize, usize),
-    #[error("record {0}: field {1}: bad name")]
     BadName(usize, usize),
-    #[error("record 1: field {0}: duplicate attribute")]
     DuplicateAttribute(usize),
-    #[error("too many attributes")]
     TooManyAttributes,
-    #[error("too many objects")]
     TooManyObjects,
-    #[error("no memory")]
     Memory,
 }
+
+impl CsvFault {
+    ghost use Rattle.csv_context.specs.Faults.{told};
+
+    /// Where the fault is, and in which words it is told.
+    pub fn told(&self) -> Told
+        ensures { result ≡ told self.now }
+    {
+        let (place, words) = match self {
+            CsvFault::NotUtf8(at) => (Place::Byte(*at), NOT_UTF8),
+            CsvFault::NoHeader => (Place::Whole, NO_HEADER),
+            CsvFault::RaggedRecord(record) => (Place::Record(*record), RAGGED),
+            CsvFault::BadCell(record, field) => (Place::Field(*record, *field), BAD_CELL),
+            CsvFault::EmptyName(record, field) => (Place::Field(*record, *field), EMPTY_NAME),
+            CsvFault::LongName(record, field) => (Place::Field(*record, *field), LONG_NAME),
+            CsvFault::BadName(record, field) => (Place::Field(*record, *field), BAD_NAME),
+            CsvFault::DuplicateAttribute(field) => (Place::Field(1, *field), DUPLICATE_ATTRIBUTE),
+            CsvFault::TooManyAttributes => (Place::Whole, TOO_MANY_ATTRIBUTES),
+            CsvFault::TooManyObjects => (Place::Whole, TOO_MANY_OBJECTS),
+            CsvFault::Memory => (Place::Whole, NO_MEMORY),
+        };
+        Told { place, words }
+    }
+}
+
+impl fmt::Display for CsvFault {
+    ghost use Rattle.std.specs.Prelude.{Some};
+    ghost use Rattle.text_pieces.specs.Faults.{told_text};
+    ghost use Rattle.csv_context.specs.Faults.{told};
+
+    ghost output = { λ fault. Some (told_text (told fault)) };
+
+    fn fmt<W: fmt::Write>(&self, f: &mut fmt::Formatter<W>) -> fmt::Result {
+        self.told().fmt(f)
+    }
+}
+
+impl Error for CsvFault {}
 
 impl From<AllocError> for CsvFault {
     ghost use Rattle.csv_context.specs.declared.CsvFault.TheVariants as fault;

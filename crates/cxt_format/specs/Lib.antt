@@ -1,3 +1,4 @@
 pub mod Words
 pub mod Form
 pub mod Written
+pub mod Faults

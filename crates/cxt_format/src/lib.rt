@@ -10,38 +10,81 @@ mod write;
 use fca_model::Memory;
 pub use read::read_cxt;
 use std::alloc::{AllocError, AllocFailed};
-use thiserror::Error;
+use std::error::Error;
+use std::fmt;
+use text_pieces::faults::{
+    BAD_NAME, DUPLICATE_ATTRIBUTE, EMPTY_NAME, LONG_NAME, NO_MEMORY, NOT_UTF8, Place, Told,
+};
 pub use write::write_cxt;
 
+const NOT_B: &str = "not B";
+
+const BAD_COUNT: &str = "bad count";
+
+const TOO_MANY: &str = "too many";
+
+const ENDED: &str = "ended";
+
+const BAD_ROW: &str = "bad row";
+
+const TRAILING_TEXT: &str = "trailing text";
+
 /// Why bytes are no table in the Burmeister form. Lines are numbered from 1.
-#[derive(Debug, Drop, Error)]
+#[derive(Debug, Drop)]
 pub enum CxtFault {
     /// The number of bytes before the first that begins no whole character.
-    #[error("byte {0}: not UTF-8")]
     NotUtf8(usize),
-    #[error("line 1: not B")]
     NotB,
-    #[error("line {0}: bad count")]
     BadCount(usize),
-    #[error("line {0}: too many")]
     TooMany(usize),
-    #[error("line {0}: ended")]
     Ended(usize),
-    #[error("line {0}: empty name")]
     EmptyName(usize),
-    #[error("line {0}: long name")]
     LongName(usize),
-    #[error("line {0}: bad name")]
     BadName(usize),
-    #[error("line {0}: duplicate attribute")]
     DuplicateAttribute(usize),
-    #[error("line {0}: bad row")]
     BadRow(usize),
-    #[error("line {0}: trailing text")]
     Trailing(usize),
-    #[error("no memory")]
     Memory,
 }
+
+impl CxtFault {
+    ghost use Rattle.cxt_format.specs.Faults.{told};
+
+    /// Where the fault is, and in which words it is told.
+    pub fn told(&self) -> Told
+        ensures { result ≡ told self.now }
+    {
+        let (place, words) = match self {
+            CxtFault::NotUtf8(at) => (Place::Byte(*at), NOT_UTF8),
+            CxtFault::NotB => (Place::Line(1), NOT_B),
+            CxtFault::BadCount(line) => (Place::Line(*line), BAD_COUNT),
+            CxtFault::TooMany(line) => (Place::Line(*line), TOO_MANY),
+            CxtFault::Ended(line) => (Place::Line(*line), ENDED),
+            CxtFault::EmptyName(line) => (Place::Line(*line), EMPTY_NAME),
+            CxtFault::LongName(line) => (Place::Line(*line), LONG_NAME),
+            CxtFault::BadName(line) => (Place::Line(*line), BAD_NAME),
+            CxtFault::DuplicateAttribute(line) => (Place::Line(*line), DUPLICATE_ATTRIBUTE),
+            CxtFault::BadRow(line) => (Place::Line(*line), BAD_ROW),
+            CxtFault::Trailing(line) => (Place::Line(*line), TRAILING_TEXT),
+            CxtFault::Memory => (Place::Whole, NO_MEMORY),
+        };
+        Told { place, words }
+    }
+}
+
+impl fmt::Display for CxtFault {
+    ghost use Rattle.std.specs.Prelude.{Some};
+    ghost use Rattle.text_pieces.specs.Faults.{told_text};
+    ghost use Rattle.cxt_format.specs.Faults.{told};
+
+    ghost output = { λ fault. Some (told_text (told fault)) };
+
+    fn fmt<W: fmt::Write>(&self, f: &mut fmt::Formatter<W>) -> fmt::Result {
+        self.told().fmt(f)
+    }
+}
+
+impl Error for CxtFault {}
 
 impl From<AllocError> for CxtFault {
     ghost use Rattle.cxt_format.specs.declared.CxtFault.TheVariants as fault;

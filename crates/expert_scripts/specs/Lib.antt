@@ -1,3 +1,4 @@
 pub mod Scripts
 pub mod Stages
 pub mod Transcripts
+pub mod Faults

@@ -3,22 +3,60 @@
 use fca_model::Memory;
 use known_rules::KnownFault;
 use std::alloc::AllocFailed;
-use thiserror::Error;
+use std::error::Error;
+use std::fmt;
+use text_pieces::faults::{BAD_LINE, BAD_WIDTH, NO_MEMORY, Place, Told};
+
+const BAD_EXPERT: &str = "bad expert";
+
+const BAD_HOLDERS: &str = "bad holders";
 
 /// Lines are numbered from 1, and the first line at fault is told.
-#[derive(Debug, Drop, Error)]
+#[derive(Debug, Drop)]
 pub enum ScriptFault {
-    #[error("line {0} has the shape of no line of a script")]
+    /// It has the shape of no line of a script.
     BadLine(usize),
-    #[error("line {0} has another expert than 1 to 64, or names one again")]
+    /// It has another expert than 1 to 64, or names one again.
     BadExpert(usize),
-    #[error("line {0} has a pattern of another width")]
+    /// It has a pattern of another width.
     BadWidth(usize),
-    #[error("line {0} has another number of holders than 1 to 64, or tells it again")]
+    /// It has another number of holders than 1 to 64, or tells it again.
     BadHolders(usize),
-    #[error("memory was refused")]
     Memory,
 }
+
+impl ScriptFault {
+    ghost use Rattle.expert_scripts.specs.Faults.{told};
+    ghost use Rattle.std.specs.Prelude.{◌≡◌};
+
+    /// Where the fault is, and in which words it is told.
+    pub fn told(&self) -> Told
+        ensures { result ≡ told self.now }
+    {
+        let (place, words) = match self {
+            ScriptFault::BadLine(line) => (Place::Line(*line), BAD_LINE),
+            ScriptFault::BadExpert(line) => (Place::Line(*line), BAD_EXPERT),
+            ScriptFault::BadWidth(line) => (Place::Line(*line), BAD_WIDTH),
+            ScriptFault::BadHolders(line) => (Place::Line(*line), BAD_HOLDERS),
+            ScriptFault::Memory => (Place::Whole, NO_MEMORY),
+        };
+        Told { place, words }
+    }
+}
+
+impl fmt::Display for ScriptFault {
+    ghost use Rattle.std.specs.Prelude.{Some};
+    ghost use Rattle.text_pieces.specs.Faults.{told_text};
+    ghost use Rattle.expert_scripts.specs.Faults.{told};
+
+    ghost output = { λ fault. Some (told_text (told fault)) };
+
+    fn fmt<W: fmt::Write>(&self, f: &mut fmt::Formatter<W>) -> fmt::Result {
+        self.told().fmt(f)
+    }
+}
+
+impl Error for ScriptFault {}
 
 impl<T: Drop> From<AllocFailed<T>> for ScriptFault {
     ghost use Rattle.expert_scripts.specs.declared.fault.ScriptFault.TheVariants as fault;

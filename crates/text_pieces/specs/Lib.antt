@@ -4,3 +4,4 @@ pub mod Left
 pub mod Words
 pub mod Numerals
 pub mod Marks
+pub mod Faults

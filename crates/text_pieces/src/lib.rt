@@ -3,6 +3,7 @@
 
 mod blanks;
 pub mod bytes;
+pub mod faults;
 mod lines;
 mod marks;
 mod numerals;

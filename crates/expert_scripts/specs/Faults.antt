@@ -1,0 +1,16 @@
+-- What is told of each fault of a script.
+use Rattle.fca_model.specs.Tables.{Text}
+use Rattle.text_pieces.specs.declared.faults.TheConstants.{BAD_LINE, BAD_WIDTH, NO_MEMORY}
+use Rattle.text_pieces.specs.declared.faults.Place.{Place}
+use Rattle.text_pieces.specs.declared.faults.Place.TheVariants.{Whole, Line}
+use Rattle.expert_scripts.specs.declared.fault.TheConstants.{BAD_EXPERT, BAD_HOLDERS}
+use Rattle.expert_scripts.specs.declared.fault.ScriptFault.{ScriptFault}
+use Rattle.expert_scripts.specs.declared.fault.ScriptFault.TheVariants as fault
+
+-- where the fault is, and in which words it is told
+abbrev pub told : ScriptFault → Place × Text
+told (fault.BadLine line) = (Line line, BAD_LINE.now)
+told (fault.BadExpert line) = (Line line, BAD_EXPERT.now)
+told (fault.BadWidth line) = (Line line, BAD_WIDTH.now)
+told (fault.BadHolders line) = (Line line, BAD_HOLDERS.now)
+told fault.Memory = (Whole, NO_MEMORY.now)

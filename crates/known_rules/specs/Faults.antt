@@ -1,0 +1,13 @@
+-- What is told of each fault of a known file.
+use Rattle.fca_model.specs.Tables.{Text}
+use Rattle.text_pieces.specs.declared.faults.TheConstants.{BAD_LINE, BAD_WIDTH, NO_MEMORY}
+use Rattle.text_pieces.specs.declared.faults.Place.{Place}
+use Rattle.text_pieces.specs.declared.faults.Place.TheVariants.{Whole, Line}
+use Rattle.known_rules.specs.declared.fault.KnownFault.{KnownFault}
+use Rattle.known_rules.specs.declared.fault.KnownFault.TheVariants as fault
+
+-- where the fault is, and in which words it is told
+abbrev pub told : KnownFault → Place × Text
+told (fault.BadLine line) = (Line line, BAD_LINE.now)
+told (fault.BadWidth line) = (Line line, BAD_WIDTH.now)
+told fault.Memory = (Whole, NO_MEMORY.now)
