@@ -1,6 +1,6 @@
 //! The places of the rows that contain a set.
 
-ghost use Rattle.std.specs.Prelude.{◌≡◌, ◌≤◌, ◌<◌, ◌&&◌, ◌+◌, ◌*◌, ◌^◌, ℕ, IfOk, MatchOption, length, true, false};
+ghost use Rattle.std.specs.Prelude.{◌≡◌, ◌≤◌, ◌<◌, ◌&&◌, ◌+◌, ◌*◌, ◌^◌, ℕ, [], IfOk, OnOk, MatchOption, length, true, false};
 ghost use Rattle.std.specs.List.{list_any};
 ghost use Rattle.fca_model.specs.Sets.{within};
 ghost use Rattle.fca_model.specs.Context.{closure};
@@ -49,19 +49,26 @@ impl Near {
         })
     }
 
-    /// Those of the places whose rows have attribute i.
-    pub fn having<const W: usize>(
-        &self,
-        alloc: Global,
+    /// No places.
+    pub fn new(alloc: Global) -> Near
+        ensures { result ≡ [] }
+    {
+        Near {
+            blocks: Vec::new(alloc),
+        }
+    }
+
+    /// Puts those of the places above whose rows have attribute i in the place of what it had, whose room is used again.
+    pub fn set_having<const W: usize>(
+        &mut self,
+        above: &Near,
         sheet: &Sheet<W>,
         i: u32,
-    ) -> Result<Near, Memory>
+    ) -> Result<(), Memory>
         requires { i < sheet.now.width }
-        ensures { IfOk result (λ near. (g : ℕ) → in_parts near g ≡ (in_parts self.now g && has_at sheet.now i g)) }
+        ensures { OnOk result ((g : ℕ) → in_parts self.new g ≡ (in_parts above.now g && has_at sheet.now i g)) }
     {
-        Ok(Near {
-            blocks: kept_in(alloc, &self.blocks, sheet.column(i))?,
-        })
+        keep_in(&above.blocks, sheet.column(i), &mut self.blocks)
     }
 
     /// The closure of a, where those of the places whose rows have attribute i are the places of the rows that contain a.
@@ -221,18 +228,18 @@ fn numbered(alloc: Global, column: &[Objects]) -> Result<Vec<Block>, Memory>
     Ok(blocks)
 }
 
-/// Those of the places of the blocks that are in the column.
-fn kept_in(alloc: Global, blocks: &[Block], column: &[Objects]) -> Result<Vec<Block>, Memory>
-    ensures { IfOk result (λ kept. (g : ℕ) → list_any (λ x. in_block x.number x.objects g) kept.items
+/// Puts those of the places of the blocks that are in the column in the place of what was kept.
+fn keep_in(blocks: &[Block], column: &[Objects], kept: &mut Vec<Block>) -> Result<(), Memory>
+    ensures { OnOk result ((g : ℕ) → list_any (λ x. in_block x.number x.objects g) kept.new.items
         ≡ (list_any (λ x. in_block x.number x.objects g) blocks.now && in_column column.now g)) }
 {
-    let mut kept = Vec::with_capacity(alloc, blocks.len())?;
+    kept.clear();
     for block in blocks {
         if let Some(part) = block.meet(column) {
             kept.push(part)?;
         }
     }
-    Ok(kept)
+    Ok(())
 }
 
 /// One of the places of the blocks that is in the one column and not in the other.
