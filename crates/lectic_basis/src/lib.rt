@@ -5,8 +5,6 @@
 mod closing;
 mod levels;
 mod narrow_list;
-#[cfg(test)]
-mod tests;
 mod tree;
 mod watched_list;
 
