@@ -5,8 +5,6 @@
 mod derivations;
 mod ordering;
 mod reducing;
-#[cfg(test)]
-mod tests;
 
 ghost use Rattle.std.specs.Prelude.{◌≡◌, IfOk, true};
 ghost use Rattle.fca_model.specs.Implications.{equivalent};

@@ -63,6 +63,3 @@ pub fn irreducible(alloc: Global, table: &Table) -> Result<Kept, Memory>
         attributes: irreducible_columns(alloc, rows, &order, &attributes)?,
     })
 }
-
-#[cfg(test)]
-mod tests;

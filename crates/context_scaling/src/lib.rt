@@ -71,6 +71,3 @@ impl From<Memory> for PlanFault {
         PlanFault::Memory
     }
 }
-
-#[cfg(test)]
-mod tests;

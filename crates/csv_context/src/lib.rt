@@ -117,30 +117,3 @@ impl From<Memory> for CsvFault {
         CsvFault::Memory
     }
 }
-
-#[cfg(test)]
-mod tests {
-    use super::{CsvFault, read_csv, write_csv};
-    use std::rt::HostRuntime;
-
-    #[test]
-    fn a_table_is_written_in_its_form(rt: HostRuntime) -> Result<(), CsvFault> {
-        let read = read_csv(rt.alloc(), b"\xEF\xBB\xBF,a,\"b,c\"\r\ng, x ,\r\nh,0,1")?;
-        let text = write_csv(rt.alloc(), &read)?;
-        assert!(&rt; text.as_slice() == b"object,a,\"b,c\"\ng,X,\nh,,X\n".as_slice());
-        Ok(())
-    }
-
-    #[test]
-    fn the_first_fault_is_told(rt: HostRuntime) {
-        let alloc = rt.alloc();
-        let ragged = read_csv(alloc, b",a,b\ng,X\n");
-        assert!(&rt; matches!(ragged, Err(CsvFault::RaggedRecord(2))));
-        let cell = read_csv(alloc, b",a,b\ng,X,?\n");
-        assert!(&rt; matches!(cell, Err(CsvFault::BadCell(2, 3))));
-        let duplicate = read_csv(alloc, b",a,a\n");
-        assert!(&rt; matches!(duplicate, Err(CsvFault::DuplicateAttribute(3))));
-        let empty = read_csv(alloc, b"");
-        assert!(&rt; matches!(empty, Err(CsvFault::NoHeader)));
-    }
-}

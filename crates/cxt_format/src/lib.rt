@@ -115,32 +115,3 @@ impl From<Memory> for CxtFault {
         CxtFault::Memory
     }
 }
-
-#[cfg(test)]
-mod tests {
-    use super::{CxtFault, read_cxt, write_cxt};
-    use std::rt::HostRuntime;
-
-    #[test]
-    fn a_table_is_written_in_its_form(rt: HostRuntime) -> Result<(), CxtFault> {
-        let read = read_cxt(rt.alloc(), b"B\r\n\r\n1\r\n2\r\ng\r\na\r\nb\r\nx.")?;
-        let text = write_cxt(rt.alloc(), &read)?;
-        assert!(&rt; text.as_slice() == b"B\n\n1\n2\n\ng\na\nb\nX.\n".as_slice());
-        Ok(())
-    }
-
-    #[test]
-    fn the_first_fault_is_told(rt: HostRuntime) {
-        let alloc = rt.alloc();
-        let ended = read_cxt(alloc, b"B\n\n2\n2\n\ng\nh\na\nb\nX.\n");
-        assert!(&rt; matches!(ended, Err(CxtFault::Ended(11))));
-        let row = read_cxt(alloc, b"B\n\n2\n2\n\ng\nh\na\nb\nX\n.X\n");
-        assert!(&rt; matches!(row, Err(CxtFault::BadRow(10))));
-        let trailing = read_cxt(alloc, b"B\n\n2\n2\n\ng\nh\na\nb\nX.\n.X\ntail\n");
-        assert!(&rt; matches!(trailing, Err(CxtFault::Trailing(12))));
-        let duplicate = read_cxt(alloc, b"B\n\n2\n2\n\ng\nh\na\na\nX.\n.X\n");
-        assert!(&rt; matches!(duplicate, Err(CxtFault::DuplicateAttribute(9))));
-        let count = read_cxt(alloc, b"B\n\ntwo\n2\n\ng\nh\na\nb\nX.\n.X\n");
-        assert!(&rt; matches!(count, Err(CxtFault::BadCount(3))));
-    }
-}

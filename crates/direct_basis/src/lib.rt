@@ -3,8 +3,6 @@
 
 mod levels;
 mod passing;
-#[cfg(test)]
-mod tests;
 
 ghost use Rattle.std.specs.Prelude.{◌≡◌, ◌≤◌, IfOk, All, length, map, true};
 ghost use Rattle.std.specs.List.{list_all};

@@ -12,6 +12,3 @@ pub use memory::{MemoryEnd, MemoryLink, MemoryShelf, MemorySink, MemorySource, S
 pub use outside::{Failed, Put, Shelf, Sink, Source, Taken};
 pub use steps::Steps;
 pub use transfer::{read_all, write_text};
-
-#[cfg(test)]
-mod tests;

@@ -41,30 +41,3 @@ impl<L: Ledger> Steps<L> {
         self.book.add(&mut self.share, 1);
     }
 }
-
-#[cfg(test)]
-mod tests {
-    use super::Steps;
-    use std::marker::Brand;
-    use std::sync::ledger::{Blank, Ledger};
-    use std::test::Fail;
-
-    /// Two steps over a ledger of its own.
-    fn two_steps<L: Ledger>(blank: Blank) -> u32
-        requires name { blank.name ≡ L.name }
-        requires parts { blank.parts ≡ L.parts }
-        requires some { 0 < blank.parts }
-        ensures { result ≡ 2 }
-    {
-        let mut steps: Steps<L> = Steps::open(blank);
-        steps.tick();
-        steps.tick();
-        2
-    }
-
-    #[test]
-    fn counts_from_nothing(rt: HostRuntime) -> Result<(), Fail> {
-        assert_eq!(rt; two_steps::<Brand>(Blank::new(1)), 2);
-        Ok(())
-    }
-}

@@ -4,8 +4,6 @@
 
 mod closing;
 mod narrow_list;
-#[cfg(test)]
-mod tests;
 mod tree;
 mod watched_list;
 

@@ -68,6 +68,3 @@ impl From<Memory> for ValuesFault {
         ValuesFault::Memory
     }
 }
-
-#[cfg(test)]
-mod tests;

@@ -1,5 +1,5 @@
 -- The ledger is the one that the blank stands for.
-use Rattle.fca_io.proofs.steps.tests.counts_from_nothing.Given as goal
+use Rattle.core_tests.proofs.fca_io_tests.steps_are_counted_from_nothing.Given as goal
 
 abbrev pub ghosts-two_steps : goal.ghosts-two_steps
 ghosts-two_steps g a = record { name = a.blank.name; parts = a.blank.parts }

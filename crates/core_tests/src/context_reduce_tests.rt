@@ -1,13 +1,12 @@
-//! A worked example. What is reduced, and the arrows, the program's tests show.
+//! The generated table with the rows XX and .X, which has nothing to clarify.
 
-use crate::clarify;
+use context_reduce::clarify;
 use context_table::Table;
 use fca_model::Memory;
 use std::rt::HostRuntime;
 
-// The generated table with the rows XX and .X.
 #[test]
-fn keeps_rows_and_columns_that_differ(rt: HostRuntime) -> Result<(), Memory> {
+fn rows_and_columns_that_differ_are_kept(rt: HostRuntime) -> Result<(), Memory> {
     let table = Table::make(rt.alloc(), 0, 2, 2, 4)?;
     let kept = clarify(rt.alloc(), &table)?;
     assert!(&rt; kept.objects.as_slice() == [0, 1].as_slice());

@@ -1,12 +1,14 @@
-use super::{Back, PlanFault, read_back, read_plan, scale};
+//! Two people with their age and size.
+
 use attr_bits::Attrs;
+use context_scaling::{Back, PlanFault, read_back, read_plan, scale};
 use std::alloc::Global;
 use std::rt::HostRuntime;
 use value_tables::{Values, read_values};
 
 const PEOPLE: &[u8] = b"x,age,size\ntim,21,s\nann,35,l\n";
 
-// Two people with their age and size.
+/// The table of both.
 fn people(alloc: Global) -> Result<Values, PlanFault> {
     match read_values(alloc, PEOPLE) {
         Ok(values) => Ok(values),

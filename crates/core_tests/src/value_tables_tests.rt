@@ -1,8 +1,10 @@
-use super::{ValuesFault, number_of, read_values};
+//! Tables of values that are read, and their faults.
+
 use std::rt::HostRuntime;
+use value_tables::{ValuesFault, number_of, read_values};
 
 #[test]
-fn a_table_has_its_names_and_values(rt: HostRuntime) -> Result<(), ValuesFault> {
+fn a_table_of_values_has_its_names_and_values(rt: HostRuntime) -> Result<(), ValuesFault> {
     let values = read_values(rt.alloc(), b"x,age,size\ntim,21,s\nann,,l\n")?;
     assert!(&rt; values.len() == 2 && values.width() == 2);
     assert!(&rt; values.attribute_name(1).bytes() == b"size".as_slice());
@@ -13,7 +15,7 @@ fn a_table_has_its_names_and_values(rt: HostRuntime) -> Result<(), ValuesFault> 
 }
 
 #[test]
-fn the_first_fault_is_told(rt: HostRuntime) {
+fn the_first_fault_of_a_table_of_values_is_told(rt: HostRuntime) {
     let alloc = rt.alloc();
     assert!(&rt; matches!(read_values(alloc, b""), Err(ValuesFault::NoHeader)));
     let ragged = read_values(alloc, b",a\ng,1\nh\n");

@@ -1,17 +1,15 @@
-//! Whole transfers over streams in memory, ends that are accepted and given back, and the calls that fail where their list
-//! says so.
+//! Whole texts that are read, ends that are accepted and given back, and the counter of steps.
 
-ghost use Rattle.std.specs.Prelude.{◌≡◌, ◌≤◌, ◌<◌, ◌∷◌, ◌++◌, [], ℕ, true, false, length, Option, Some, None, Result, OnOk, OnErr, IfOk, IfSome};
-ghost use Rattle.std.specs.Io.KnownBytes.{Appends, Consumes};
-ghost use Rattle.fca_io.specs.Faults.{Rose};
-ghost use Rattle.fca_io.specs.Links.{Ends};
+ghost use Rattle.std.specs.Prelude.{◌≡◌, ◌<◌, ◌∷◌, ◌++◌, [], ℕ, false, length, Some, OnOk, IfOk, IfSome};
 
-use crate::{
-    Duplex, Failed, Listener, MemoryEnd, MemoryLink, MemoryShelf, MemorySink, MemorySource, Put,
-    Shelf, Sink, Source, SureSource, Taken, read_all, write_text,
+use fca_io::{
+    Duplex, Failed, Listener, MemoryEnd, MemoryLink, MemorySource, Sink, Source, Steps, SureSource,
+    Taken, read_all,
 };
 use fca_model::Memory;
 use std::alloc::Global;
+use std::marker::Brand;
+use std::sync::ledger::{Blank, Ledger};
 use std::test::Fail;
 
 /// The bytes of a table with three attributes and no objects.
@@ -37,28 +35,6 @@ fn reads_all_to_the_limit(rt: HostRuntime) -> Result<(), Fail> {
 fn reads_what_never_fails(rt: HostRuntime) -> Result<(), Fail> {
     let mut source = SureSource::new(rt.alloc(), TABLE)?;
     assert_eq!(rt; read_all(rt.alloc(), &mut source, 14)?.as_slice(), TABLE);
-    Ok(())
-}
-
-#[test]
-fn writes_a_front_up_to_a_fault(rt: HostRuntime) -> Result<(), Fail> {
-    for (room, fails, want) in [(14, &[][..], 14), (14, &[2][..], 10), (3, &[][..], 3)] {
-        let mut sink = MemorySink::new(rt.alloc(), room, fails, 10)?;
-        let put = write_text(&mut sink, TABLE);
-        assert_eq!(rt; matches!(put, Err(Put::Failed)), want < 14);
-        assert_eq!(rt; sink.written(), &TABLE[..want]);
-    }
-    Ok(())
-}
-
-#[test]
-fn fetches_what_was_put(rt: HostRuntime) -> Result<(), Fail> {
-    let mut shelf = MemoryShelf::new(rt.alloc(), &[2])?;
-    shelf.put(b"K3", b"B")?;
-    shelf.put(b"K3", TABLE)?;
-    assert_eq!(rt; shelf.fetch(rt.alloc(), b"K3", 14)?.as_slice(), TABLE);
-    assert!(rt; matches!(shelf.fetch(rt.alloc(), b"K3", 14), Err(Taken::Failed)));
-    assert!(rt; matches!(shelf.fetch(rt.alloc(), b"K2", 14), Err(Taken::Failed)));
     Ok(())
 }
 
@@ -113,5 +89,26 @@ fn listens_at_its_address_alone(rt: HostRuntime) -> Result<(), Fail> {
     let mut link = linked(rt.alloc(), &[2])?;
     assert!(rt; echo_at(&mut link, b"x").is_err());
     assert_eq!(rt; link.given().len(), 0);
+    Ok(())
+}
+
+// ---- the counter
+
+/// Two steps over a ledger of its own.
+fn two_steps<L: Ledger>(blank: Blank) -> u32
+    requires name { blank.name ≡ L.name }
+    requires parts { blank.parts ≡ L.parts }
+    requires some { 0 < blank.parts }
+    ensures { result ≡ 2 }
+{
+    let mut steps: Steps<L> = Steps::open(blank);
+    steps.tick();
+    steps.tick();
+    2
+}
+
+#[test]
+fn steps_are_counted_from_nothing(rt: HostRuntime) -> Result<(), Fail> {
+    assert_eq!(rt; two_steps::<Brand>(Blank::new(1)), 2);
     Ok(())
 }
