@@ -1,6 +1,6 @@
 -- One row more lessens the closure of a set that the row contains: it is met with the row. So the questions with their closures in the
 -- rows before, each met with the row where that has its premise, are the questions with their closures in the rows now.
-use Rattle.std.proofs.Common.{◌≡◌, ℕ, Bool, true, false, not, ◌||◌, cond, List, [], ◌∷◌, map, filter, refl, sym, ap, ap₂, ◌∙◌}
+use Rattle.std.proofs.Common.{◌≡◌, ℕ, Bool, true, false, ◌||◌, cond, List, [], ◌∷◌, map, filter, refl, sym, ap, ap₂, ◌∙◌}
 use Rattle.std.proofs.lemmas.Bool.{false≢true, and_parts}
 use Rattle.std.proofs.lemmas.List.Elements.{filter-append}
 use Rattle.std.proofs.lemmas.List.Sums.{fold-append}
@@ -8,10 +8,9 @@ use Rattle.std.specs.List.{list_all, list_any, fold}
 use Rattle.fca_model.specs.Sets.{Set, within, meet, full, same}
 use Rattle.fca_model.specs.Context.{Context, closure, with_row}
 use Rattle.fca_model.specs.Implications.{Rule, rule}
-use Rattle.fca_model.proofs.PseudoLemmas.{pseudo_parts}
 use Rattle.fca_model.proofs.SetLemmas.{same_refl, same-true}
 use Rattle.next_level.proofs.NextLevelLemmas.{level_all}
-use Rattle.level_queue.specs.Queue.{IsQueue, narrowed, renewed, is_open, still_open, is_left}
+use Rattle.level_queue.specs.Queue.{IsQueue, narrowed, renewed, still_open, is_left}
 use Rattle.level_queue.proofs.RowLemmas.{questions_all}
 
 pub closure-with_row : (K : Context) (r A : Set) → closure (with_row K r) A ≡ cond (within A r) (meet (closure K A) r) (closure K A)
@@ -47,11 +46,6 @@ map-narrowed K r (i ∷ is) h =
 pub narrowed_in : (S : List Rule) (K : Context) (r : Set) (k : ℕ) (acc questions : List Rule) → IsQueue S K k acc questions → map (narrowed r) questions ≡ map (renewed (with_row K r)) questions
 unfolding closes
 narrowed_in S K r k acc questions queue = map-narrowed K r questions (questions_all S K k acc questions (closes K) queue (level_all S K k (closes K) (λ P _ _ _. same_refl (closure K P))))
-
--- each of them is open
-pub open_in : (S : List Rule) (K : Context) (k : ℕ) (acc questions : List Rule) → IsQueue S K k acc questions → list_all is_open questions ≡ true
-open_in S K k acc questions queue =
-    questions_all S K k acc questions is_open queue (level_all S K k is_open (λ P e q _. ap not (pseudo_parts S K P e q).not_closed))
 
 -- what is left once there is the row
 pub left_some : (r : Set) (questions : List Rule) → list_any (is_left r) questions ≡ true → still_open (map (narrowed r) questions) ≡ [] → ⊥

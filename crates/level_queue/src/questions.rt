@@ -1,12 +1,12 @@
 //! The open questions in lectic order, which change where they stand: one is taken out, or all are met with a row.
 
-ghost use Rattle.std.specs.Prelude.{◌≡◌, ◌<◌, ◌≤◌, length, map, drop, take, true, false, slice_get, slice_index_or, slice_set, nat_lt, not, ◌&&◌, Some, IfSome, IsSome};
-ghost use Rattle.std.specs.List.{list_all, list_any, remove, AllWithin};
+ghost use Rattle.std.specs.Prelude.{◌≡◌, ◌<◌, ◌≤◌, length, map, drop, true, false, slice_get, slice_index_or, slice_set, nat_lt, not, ◌&&◌, Some, IfSome, IsSome};
+ghost use Rattle.std.specs.List.{list_any, remove, AllWithin};
 ghost use Rattle.std.specs.Ordering.{is_lt};
 ghost use Rattle.fca_model.specs.Sets.{increasing, lectic_cmp};
 ghost use Rattle.fca_model.specs.Implications.{Rule, premises};
 ghost use Rattle.fca_model.specs.Invariant.{Among};
-ghost use Rattle.level_queue.specs.Queue.{narrowed, is_open, still_open, is_left, is_rule};
+ghost use Rattle.level_queue.specs.Queue.{narrowed, still_open, is_left, is_rule};
 
 use attr_bits::Attrs;
 use implication_closure::{Implication, Question};
@@ -68,57 +68,37 @@ impl OpenQuestions {
 
     /// Meets the questions with a row. Those that are closed then are dropped.
     pub(crate) fn narrow(&mut self, row: &Attrs)
-        requires { list_all is_open self.old ≡ true }
         ensures { self.new ≡ still_open (map (narrowed row.now) self.old) }
     {
-        let end = narrow_from(&mut self.questions, self.first, row);
-        self.questions.truncate(end);
+        self.first = narrow_from(&mut self.questions, self.first, row);
     }
 }
 
-/// Meets the questions from a place on with a row. Those that are still open are moved together, and it is told where they end. Of a question whose premise
-/// the row lacks nothing but the premise is looked at.
+/// Meets the questions from a place on with a row. Those that are not closed then move to the end, where they stand from the place on that is told: so only those
+/// before one that is dropped move.
 fn narrow_from(questions: &mut [Question], first: usize, row: &Attrs) -> usize
-    requires begins { first ≤ length questions.old }
-    requires open { list_all is_open (drop first questions.old) ≡ true }
-    ensures begins { first ≤ result }
+    requires { first ≤ length questions.old }
     ensures inside { result ≤ length questions.new }
-    ensures narrowed { drop first (take result questions.new) ≡ still_open (map (narrowed row.now) (drop first questions.old)) }
+    ensures narrowed { drop result questions.new ≡ still_open (map (narrowed row.now) (drop first questions.old)) }
 {
-    let mut end = first;
-    for place in first..questions.len() {
-        if stays_open(questions, place, row) {
-            move_down(questions, place, end);
-            end += 1;
+    let mut kept = questions.len();
+    for place in (first..questions.len()).rev() {
+        if is_left(&questions[place], row) {
+            kept -= 1;
+            put_narrowed(questions, place, kept, row);
         }
     }
-    end
+    kept
 }
 
-/// Meets the open question at the place with a row. Whether it is still open.
-fn stays_open(questions: &mut [Question], place: usize, row: &Attrs) -> bool
+/// Puts the question at a place, met with a row, at another place. Most stay as they are.
+fn put_narrowed(questions: &mut [Question], place: usize, other: usize, row: &Attrs)
     requires inside { place < length questions.old }
-    ensures narrowed { (question : Rule) → question ≡ slice_index_or questions.old place question
-        → questions.new ≡ slice_set questions.old place (narrowed row.now question) }
-    ensures open { (question : Rule) → question ≡ slice_index_or questions.old place question
-        → is_open question ≡ true → result ≡ is_open (narrowed row.now question) }
+    requires other_inside { other < length questions.old }
+    ensures { (question : Rule) → question ≡ slice_index_or questions.old place question → questions.new ≡ slice_set questions.old other (narrowed row.now question) }
 {
-    let question = &mut questions[place];
-    if !question.premise.within(row) {
-        return true;
-    }
-    question.conclusion = question.conclusion.meet(row);
-    question.premise != question.conclusion
-}
-
-/// Puts the question also to a place that is not behind its own.
-fn move_down(questions: &mut [Question], place: usize, to: usize)
-    requires inside { place < length questions.old }
-    requires before { to ≤ place }
-    ensures { (question : Rule) → question ≡ slice_index_or questions.old place question → questions.new ≡ slice_set questions.old to question }
-{
-    if to < place {
-        questions[to] = questions[place];
+    if place != other || questions[place].premise.within(row) {
+        questions[other] = narrowed(row, &questions[place]);
     }
 }
 
@@ -154,8 +134,11 @@ fn is_any_left(questions: &[Question], row: &Attrs) -> bool
 fn is_left(question: &Question, row: &Attrs) -> bool
     ensures { result ≡ is_left row.now question.now }
 {
-    let question = narrowed(row, question);
-    question.premise != question.conclusion
+    if question.premise.within(row) {
+        question.premise != question.conclusion.meet(row)
+    } else {
+        question.premise != question.conclusion
+    }
 }
 
 /// The place of the question, found by its premise.

@@ -5,13 +5,9 @@ use Rattle.fca_model.specs.Implications.{holds, respects_all}
 use Rattle.fca_model.specs.Levels.{HasBelow}
 use Rattle.implication_closure.specs.Closing.{RuleList}
 use Rattle.level_queue.specs.Queue.{Base, IsKept, narrowed, still_open}
-use Rattle.level_queue.proofs.NarrowLemmas.{open_in}
 use Rattle.level_queue.proofs.OpenLemmas.{row_kept, row_hold, row_below, row_bounded, opened_kept}
 use Rattle.level_queue.proofs.PlaceLemmas.{settles, settled, not_settled}
 use Rattle.level_queue.proofs.LevelQueue.take_row.Goals as goal
-
-pub narrow-requires : goal.narrow-requires
-narrow-requires c = let a = c.self.inside in open_in a.rules.known a.rows a.level a.rules.accepted a.questions c.self.invariant.kept.queue
 
 pub invariant_of-self-then-not-are_settled : goal.invariant_of-self-then-not-are_settled
 invariant_of-self-then-not-are_settled c =
