@@ -23,6 +23,8 @@ mod lattice_covers_tests;
 #[cfg(test)]
 mod lectic_concepts_tests;
 #[cfg(test)]
+mod next_level_tests;
+#[cfg(test)]
 mod pseudo_levels_tests;
 #[cfg(test)]
 mod value_tables_tests;

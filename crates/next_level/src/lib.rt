@@ -1,8 +1,6 @@
 //! The next level of the basis that has a member, by a walk that keeps nothing but its path.
 #![tactic(auto)]
 
-#[cfg(test)]
-mod tests;
 mod walk;
 
 ghost use Rattle.std.specs.Prelude.{◌≡◌, ◌≤◌, ◌+◌, ◌++◌, ℕ, List, IfOk};

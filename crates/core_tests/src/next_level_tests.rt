@@ -1,10 +1,10 @@
-//! Worked examples.
+//! The next level of the basis.
 
-use crate::next_level;
 use attr_bits::Attrs;
 use derivation::Rows;
 use fca_model::Memory;
 use implication_closure::{Implication, ImplicationList};
+use next_level::next_level;
 use std::rt::HostRuntime;
 
 // Three attributes, and one object that has the last alone: the level of size 0, and when its member is accepted that of size 2.
