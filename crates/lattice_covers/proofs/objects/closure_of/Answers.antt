@@ -1,6 +1,6 @@
 use Rattle.std.proofs.Common.{◌≡◌, true, false, ◌∙◌, ◌<◌, List, [], length, get_or, set, sym, ap, subst, arith}
 use Rattle.std.proofs.lemmas.List.{get_or_default}
-use Rattle.fca_model.specs.Sets.{Set, full, meet, size, within}
+use Rattle.fca_model.specs.Sets.{Set, full, size, within}
 use Rattle.fca_model.specs.Context.{Context}
 use Rattle.fca_model.proofs.SetLemmas.{same-true, within_refl}
 use Rattle.lattice_covers.proofs.ObjectLemmas.{IsMet, met_none, met_more, met_enough, met_all, fewer_left}
