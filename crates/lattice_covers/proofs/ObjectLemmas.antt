@@ -6,10 +6,10 @@ use Rattle.std.proofs.lemmas.Bool.{and_parts, and_from, cases_eq, cases_lt, case
 use Rattle.std.proofs.lemmas.List.{length-replicate}
 use Rattle.std.proofs.lemmas.List.Folds.{list_all_at}
 use Rattle.std.specs.List.{list_all}
-use Rattle.fca_model.specs.Sets.{Set, within, meet, size, full, IsNextMember}
+use Rattle.fca_model.specs.Sets.{Set, within, same, meet, size, full, IsNextMember}
 use Rattle.fca_model.specs.Context.{Context, closure}
 use Rattle.fca_model.specs.Implications.{rule, respects}
-use Rattle.fca_model.proofs.SetLemmas.{within_refl, within_trans, within_full, length-full, within_antisymm, within-meet, length-meet, get_or-meet, within_at_place, within_from_places, set_within, get_or-full, size_strict, size-set, size_le, strictly_from}
+use Rattle.fca_model.proofs.SetLemmas.{within_refl, within_trans, within_full, length-full, within_antisymm, within-meet, length-meet, get_or-meet, within_at_place, within_from_places, set_within, get_or-full, size_strict, size-set, size_le, strictly_from, same-true, same_from}
 use Rattle.fca_model.proofs.ListLemmas.{bool_iff, list_all-filter}
 use Rattle.fca_model.proofs.ClosureLemmas.{within-closure, length-closure, closure_in_rows, closure_extensive, respects_from, respects_at}
 use Rattle.lattice_covers.specs.Objects.{HasObjects, alone}
@@ -35,43 +35,48 @@ within-alone K i R inside = bool_iff (within (alone K i) R) (get_or R i false)
     (λ t. within_at_place (alone K i) R t i (get_or-set_same (replicate K.width false) i true false (omega (arith, inside, length-replicate K.width false))))
     (λ t. within_from_places (alone K i) R (λ j l has. ap (λ k. get_or R k false) (only_it K i j has) ∙ t))
 
--- ---- the objects of a set
+-- ---- a set that is filled place by place
 
--- S has the objects of A before a place, and none from there on
-pub record SoFar (K : Context) (A S : Set) (m : ℕ) : Type 0 where
-  pub long : length S ≡ length K.rows
-  pub before : (k : ℕ) → k < m → get_or S k false ≡ within A (row K k)
-  pub behind : (k : ℕ) → m ≤ k → get_or S k false ≡ false
+-- M has the places that pass the test before a place, and none from there on
+pub record IsUpTo (n : ℕ) (b : ℕ → Bool) (M : Set) (i : ℕ) : Type 0 where
+  pub long : length M ≡ n
+  pub before : (k : ℕ) → k < i → get_or M k false ≡ b k
+  pub behind : (k : ℕ) → i ≤ k → get_or M k false ≡ false
 
-pub so_far_none : (K : Context) (A S : Set) → S ≡ replicate (length K.rows) false → SoFar K A S 0
-so_far_none K A S is = record {
-  long = ap length is ∙ length-replicate (length K.rows) false;
+pub up_to_none : (n : ℕ) (b : ℕ → Bool) (M : Set) → M ≡ replicate n false → IsUpTo n b M 0
+up_to_none n b M is = record {
+  long = ap length is ∙ length-replicate n false;
   before = λ k l. absurd (omega (arith, l));
-  behind = λ k l. ap (λ (X : Set). get_or X k false) is ∙ none_at (length K.rows) k;
+  behind = λ k l. ap (λ (X : Set). get_or X k false) is ∙ none_at n k;
 }
 
-pub so_far_with : (K : Context) (A S T : Set) (m : ℕ) → m < length K.rows → SoFar K A S m → within A (row K m) ≡ true → T ≡ set S m true → SoFar K A T (m + 1)
-so_far_with K A S T m inside s h is = record {
-  long = ap length is ∙ length-set S m true ∙ s.long;
-  before = λ k l. ap (λ (X : Set). get_or X k false) is ∙ elim (cases_eq k m) [
-    | inl here ↦ ap (λ j. get_or (set S m true) j false) here ∙ get_or-set_same S m true false (omega (arith, inside, s.long)) ∙ sym (ap (λ j. within A (row K j)) here ∙ h)
-    | inr other ↦ get_or-set_other S m k true false other ∙ s.before k (omega (arith, l, other))
+pub up_to_with : (n : ℕ) (b : ℕ → Bool) (M : Set) (i : ℕ) → i < n → IsUpTo n b M i → b i ≡ true → IsUpTo n b (set M i true) (i + 1)
+up_to_with n b M i inside s h = record {
+  long = length-set M i true ∙ s.long;
+  before = λ k l. elim (cases_eq k i) [
+    | inl here ↦ ap (λ j. get_or (set M i true) j false) here ∙ get_or-set_same M i true false (omega (arith, inside, s.long)) ∙ sym (ap b here ∙ h)
+    | inr other ↦ get_or-set_other M i k true false other ∙ s.before k (omega (arith, l, other))
   ];
-  behind = λ k l. ap (λ (X : Set). get_or X k false) is ∙ get_or-set_other S m k true false (λ here. absurd (omega (arith, l, here))) ∙ s.behind k (omega (arith, l));
+  behind = λ k l. get_or-set_other M i k true false (λ here. absurd (omega (arith, l, here))) ∙ s.behind k (omega (arith, l));
 }
 
-pub so_far_without : (K : Context) (A S : Set) (m : ℕ) → SoFar K A S m → within A (row K m) ≡ false → SoFar K A S (m + 1)
-so_far_without K A S m s h = record {
+pub up_to_without : (n : ℕ) (b : ℕ → Bool) (M : Set) (i : ℕ) → IsUpTo n b M i → b i ≡ false → IsUpTo n b M (i + 1)
+up_to_without n b M i s h = record {
   long = s.long;
-  before = λ k l. elim (cases_eq k m) [
-    | inl here ↦ s.behind k (omega (arith, here)) ∙ sym (ap (λ j. within A (row K j)) here ∙ h)
+  before = λ k l. elim (cases_eq k i) [
+    | inl here ↦ s.behind k (omega (arith, here)) ∙ sym (ap b here ∙ h)
     | inr other ↦ s.before k (omega (arith, l, other))
   ];
   behind = λ k l. s.behind k (omega (arith, l));
 }
 
-pub so_far_all : (K : Context) (A S : Set) (m : ℕ) → SoFar K A S m → length K.rows ≤ m → HasObjects K A S
-so_far_all K A S m s all = record { long = s.long; each = λ k l. s.before k (omega (arith, l, all)) }
+-- ---- the objects of a set
+
+abbrev pub contains : Context → Set → ℕ → Bool
+contains K A g = within A (row K g)
+
+pub all_objects : (K : Context) (A S : Set) (m : ℕ) → IsUpTo (length K.rows) (contains K A) S m → length K.rows ≤ m → HasObjects K A S
+all_objects K A S m s all = record { long = s.long; each = λ k l. s.before k (omega (arith, l, all)) }
 
 -- ---- all objects
 
@@ -170,6 +175,34 @@ met_enough K A S M T wide met small = closure_is K A M met.wide met.above (withi
 pub met_all : (K : Context) (A S M T : Set) → HasObjects K A S → IsMet K A S M T → ((i : ℕ) → 0 ≤ i → i < length T → get_or T i false ≡ false) → M ≡ closure K A
 met_all K A S M T has met none =
     closure_is K A M met.wide met.above (in_closure K A M met.wide (λ g l h. met.below g (has.each g l ∙ h) (none g (omega arith) (omega (arith, l, has.long, met.long)))))
+
+-- ---- the closure by the columns
+
+abbrev pub in_closure_of : Context → Set → ℕ → Bool
+in_closure_of K A i = get_or (closure K A) i false
+
+-- an attribute is in the closure exactly where all objects of the set have it
+pub within-column : (K : Context) (A S C : Set) (i : ℕ) → i < K.width → HasObjects K A S → HasObjects K (alone K i) C → within S C ≡ in_closure_of K A i
+within-column K A S C i inside s c = bool_iff (within S C) (in_closure_of K A i)
+    (λ t. sym (within-alone K i (closure K A) inside) ∙ in_closure K A (alone K i) (length-set (replicate K.width false) i true ∙ length-replicate K.width false)
+    (λ g l h. sym (c.each g l) ∙ within_at_place S C t g (s.each g l ∙ h)))
+    (λ t. within_from_places S C (λ g l h.
+    let inside_rows : g < length K.rows = omega (arith, l, s.long) in
+    let in_row : within (closure K A) (row K g) ≡ true = closure_in_row K A g inside_rows (sym (s.each g inside_rows) ∙ h) in
+    c.each g inside_rows ∙ within-alone K i (row K g) inside ∙ within_at_place (closure K A) (row K g) in_row i t))
+
+pub all_common : (K : Context) (A M : Set) (i : ℕ) → IsUpTo K.width (in_closure_of K A) M i → K.width ≤ i → M ≡ closure K A
+all_common K A M i s all = within_antisymm M (closure K A) (s.long ∙ sym (length-closure K A))
+    (within_from_places M (closure K A) (λ j l t. sym (s.before j (omega (arith, l, s.long, all))) ∙ t))
+    (within_from_places (closure K A) M (λ j l t. s.before j (omega (arith, l, length-closure K A, all)) ∙ t))
+
+-- S lies within C where their meet is S
+pub same-meet : (S C : Set) → same (meet S C) S ≡ within S C
+same-meet S C = bool_iff (same (meet S C) S) (within S C)
+    (λ t. (and_parts (within S S) (within S C) (sym (within-meet S S C) ∙ subst (λ X. within S X ≡ true) (sym (same-true (meet S C) S t)) (within_refl S))).1)
+    (λ t. same_from (meet S C) S (within_antisymm (meet S C) S (length-meet S C)
+    (and_parts (within (meet S C) S) (within (meet S C) C) (sym (within-meet (meet S C) S C) ∙ within_refl (meet S C))).0
+    (within-meet S S C ∙ and_from (within S S) (within S C) (within_refl S) t)))
 
 -- ---- one attribute more
 

@@ -168,11 +168,11 @@ fn closure_with<const W: usize>(rows: &RowsOf<W>, link: &Link<W>, i: u32) -> Bit
     let larger = with(&link.intent, i);
     match &link.above {
         Above::Many(above) => above.closure(&larger),
-        Above::Few(sheet, objects) => closure_of(
-            &sheet.rows,
-            &objects.meet(&sheet.columns[i as usize]),
-            &larger,
-        ),
+        Above::Few(shared, objects) => {
+            let sheet = shared.as_ref();
+            let having = objects.meet(&sheet.columns[i as usize]);
+            closure_of(&sheet.rows, &sheet.columns, &having, &larger)
+        }
     }
 }
 

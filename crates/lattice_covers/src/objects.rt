@@ -14,6 +14,9 @@ use std::alloc::Global;
 /// How many objects are few: as many as one word holds.
 pub(crate) const FEW_OBJECTS: usize = 64;
 
+/// How many attributes are few: with so many a closure by columns takes less time than one by rows.
+const FEW_ATTRIBUTES: u32 = 24;
+
 /// A set of few objects.
 pub(crate) type ObjectSet = Bits<1>;
 
@@ -75,12 +78,54 @@ pub(crate) fn objects_above<const W: usize>(
     having
 }
 
-/// The closure of `least`, whose objects are given: the meet of their rows. Once it is `least`, the rows that are left change nothing.
+/// The closure of `least`, whose objects are given: by columns where there are few of those, and else by rows.
 pub(crate) fn closure_of<const W: usize>(
     rows: &RowsOf<W>,
+    columns: &[ObjectSet],
     objects: &ObjectSet,
     least: &Bits<W>,
 ) -> Bits<W>
+    requires columns { AreColumns rows.now columns.now }
+    requires objects { HasObjects rows.now least.now objects.now }
+    requires wide { length least.now ≡ rows.now.width }
+    ensures { result ≡ closure rows.now least.now }
+{
+    if rows.width() <= FEW_ATTRIBUTES {
+        return common_of(rows, columns, objects, least);
+    }
+    meet_of(rows, objects, least)
+}
+
+/// The closure of `least`, whose objects are given: the attributes that all of them have.
+fn common_of<const W: usize>(
+    rows: &RowsOf<W>,
+    columns: &[ObjectSet],
+    objects: &ObjectSet,
+    least: &Bits<W>,
+) -> Bits<W>
+    requires columns { AreColumns rows.now columns.now }
+    requires objects { HasObjects rows.now least.now objects.now }
+    ensures { result ≡ closure rows.now least.now }
+{
+    let width = rows.width();
+    let mut common = Bits::empty(width);
+    for attribute in 0..width {
+        if have_all(objects, &columns[attribute as usize]) {
+            insert(&mut common, attribute);
+        }
+    }
+    common
+}
+
+/// Whether all of the objects are in the column.
+fn have_all(objects: &ObjectSet, column: &ObjectSet) -> bool
+    ensures { result ≡ within objects.now column.now }
+{
+    objects.meet(column) == *objects
+}
+
+/// The closure of `least`, whose objects are given: the meet of their rows. Once it is `least`, the rows that are left change nothing.
+fn meet_of<const W: usize>(rows: &RowsOf<W>, objects: &ObjectSet, least: &Bits<W>) -> Bits<W>
     requires objects { HasObjects rows.now least.now objects.now }
     requires wide { length least.now ≡ rows.now.width }
     ensures { result ≡ closure rows.now least.now }

@@ -1,4 +1,4 @@
-use Rattle.std.proofs.Common.{◌≡◌, ◌∙◌, sym, ap, subst, arith}
+use Rattle.std.proofs.Common.{◌∙◌, sym, ap, subst, arith}
 use Rattle.std.specs.List.{list_all}
 use Rattle.fca_model.specs.Sets.{Set, within, full}
 use Rattle.fca_model.specs.Context.{Context}

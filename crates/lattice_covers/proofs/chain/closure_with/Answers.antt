@@ -3,7 +3,7 @@ use Rattle.std.proofs.lemmas.List.{get_or_default}
 use Rattle.fca_model.specs.Sets.{Set, meet}
 use Rattle.fca_model.specs.Context.{Context}
 use Rattle.fca_model.proofs.SetLemmas.{within_refl}
-use Rattle.lattice_covers.specs.Objects.{HasObjects, alone}
+use Rattle.lattice_covers.specs.Objects.{HasObjects, AreColumns, alone}
 use Rattle.lattice_covers.specs.declared.chain.Sheet.{Sheet}
 use Rattle.lattice_covers.specs.declared.chain.Above.{Above}
 use Rattle.lattice_covers.specs.Neighbours.{IsAbove, IsOnSheet}
@@ -22,23 +22,24 @@ closure_of-requires g c =
     let K : Context = c.args.rows.now in
     let A : Set = c.args.link.now.intent in
     let i = c.args.i in
-    let sheet : Sheet g.row.W = c.in-Few.sheet.value in
-    let there : IsOnSheet K A sheet c.in-Few.objects = subst (λ (X : Above g.row.W). IsAbove K A X) c.in-Few.is c.requires.link.above in
+    let sheet : Sheet g.row.W = c.as_ref-sheet.result.now in
+    let there : IsOnSheet K A sheet c.in-Few.objects =
+    subst (λ (s : Sheet g.row.W). IsOnSheet K A s c.in-Few.objects) (sym c.as_ref-sheet.ensures) (subst (λ (X : Above g.row.W). IsAbove K A X) c.in-Few.is c.requires.link.above) in
     let width : sheet.rows.width ≡ K.width = ap (λ (X : Context). X.width) there.rows in
     let inside : i < sheet.rows.width = omega (arith, width, c.requires.inside) in
     let wide : length A ≡ sheet.rows.width = c.requires.wide ∙ sym width in
     let column : c.index.result.now ≡ get_or sheet.columns.items i [] =
-    c.index.ensures ∙ ap (λ (s : Sheet g.row.W). get_or s.columns.items i c.index.result.now) c.deref-in-Few.ensures ∙ get_or_default sheet.columns.items i c.index.result.now [] (omega (arith, inside, there.columns.wide)) in
-    let objects : HasObjects sheet.rows c.with-larger.result c.meet.result =
-    subst (λ (S : Set). HasObjects sheet.rows c.with-larger.result S) (sym c.meet.ensures)
+    c.index.ensures ∙ get_or_default sheet.columns.items i c.index.result.now [] (omega (arith, inside, there.columns.wide)) in
+    let objects : HasObjects sheet.rows c.with-larger.result c.meet-having.result =
+    subst (λ (S : Set). HasObjects sheet.rows c.with-larger.result S) (sym c.meet-having.ensures)
     (subst (λ (B : Set). HasObjects sheet.rows B (meet c.in-Few.objects c.index.result.now)) (sym c.with-larger.ensures)
     (objects_with sheet.rows A c.in-Few.objects c.index.result.now i inside wide there.objects (subst (HasObjects sheet.rows (alone sheet.rows i)) (sym column) (there.columns.each i inside)))) in (
       omega arith,
       (
         omega (arith, c.width-width.ensures.words),
         (
-          subst (λ (s : Sheet g.row.W). HasObjects s.rows c.with-larger.result c.meet.result) (sym c.deref.ensures) objects,
-          ap length c.with-larger.ensures ∙ length-set A i true ∙ wide ∙ ap (λ (s : Sheet g.row.W). s.rows.width) (sym c.deref.ensures),
+          subst (AreColumns sheet.rows) (sym c.deref.ensures.value) there.columns,
+          (objects, ap length c.with-larger.ensures ∙ length-set A i true ∙ wide),
         ),
       ),
     )
@@ -47,6 +48,6 @@ pub returns-in-Few : goal.returns-in-Few
 returns-in-Few g c =
     let K : Context = c.args.rows.now in
     let A : Set = c.args.link.now.intent in
-    let there : IsOnSheet K A c.in-Few.sheet.value c.in-Few.objects = subst (λ (X : Above g.row.W). IsAbove K A X) c.in-Few.is c.requires.link.above in
-    c.closure_of.ensures ∙ closure_above K there.least A c.args.i there.part (omega (arith, c.requires.wide, c.requires.inside)) c.with-larger.result c.with-larger.ensures c.deref.result.now.rows
-    (ap (λ (s : Sheet g.row.W). s.rows) c.deref.ensures ∙ there.rows)
+    let there : IsOnSheet K A c.in-Few.shared.value c.in-Few.objects = subst (λ (X : Above g.row.W). IsAbove K A X) c.in-Few.is c.requires.link.above in
+    c.closure_of.ensures ∙ closure_above K there.least A c.args.i there.part (omega (arith, c.requires.wide, c.requires.inside)) c.with-larger.result c.with-larger.ensures c.as_ref-sheet.result.now.rows
+    (ap (λ (s : Sheet g.row.W). s.rows) c.as_ref-sheet.ensures ∙ there.rows)

@@ -1,10 +1,10 @@
 use Rattle.std.proofs.Common.{◌≡◌, true, false, ◌∙◌, ◌<◌, List, [], length, get_or, set, sym, ap, subst, arith}
 use Rattle.std.proofs.lemmas.List.{get_or_default}
-use Rattle.fca_model.specs.Sets.{Set, full, meet, size, within}
+use Rattle.fca_model.specs.Sets.{Set, full, size, within}
 use Rattle.fca_model.specs.Context.{Context}
 use Rattle.fca_model.proofs.SetLemmas.{same-true, within_refl}
 use Rattle.lattice_covers.proofs.ObjectLemmas.{IsMet, met_none, met_more, met_enough, met_all, fewer_left}
-use Rattle.lattice_covers.proofs.objects.closure_of.Goals as goal
+use Rattle.lattice_covers.proofs.objects.meet_of.Goals as goal
 
 pub loop-object-init : goal.loop-object-init
 loop-object-init g c = met_none c.args.rows.now c.args.least.now c.args.objects.now c.full-met.result (c.full-met.ensures ∙ ap full c.width.ensures.width)
