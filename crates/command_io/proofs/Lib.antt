@@ -2,3 +2,4 @@ pub mod CourseLemmas
 pub mod ErrLemmas
 pub mod ReadingLemmas
 pub mod KnownLemmas
+mod Examples

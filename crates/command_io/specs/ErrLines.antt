@@ -14,7 +14,8 @@ use Rattle.csv_context.specs.Faults as csv
 use Rattle.known_rules.specs.Faults as rules
 use Rattle.expert_scripts.specs.Faults as script
 use Rattle.expert_wire.specs.Texts.{line_end, ordinal}
-use Rattle.command_io.specs.declared.err_line.TheConstants.{NO_SUCH_COMMAND, TOO_LONG, BAD_VALUES, BAD_PLAN, UNKNOWN_ATTRIBUTE, ATTRIBUTES_DIFFER, READ_FAULT, LISTENER_FAULT, WRITE_FAULT, TURNS_SPENT, INPUT}
+use Rattle.command_io.specs.declared.err_line.TheConstants.{NO_SUCH_COMMAND, TOO_LONG, BAD_VALUES, BAD_PLAN, UNKNOWN_ATTRIBUTE}
+use Rattle.command_io.specs.declared.err_line.TheConstants.{ATTRIBUTES_DIFFER, READ_FAULT, LISTENER_FAULT, WRITE_FAULT, TURNS_SPENT, INPUT}
 use Rattle.command_io.specs.declared.answer.Ending.{Ending}
 use Rattle.command_io.specs.declared.answer.Ending.TheVariants.{Finished, Open, Spent}
 use Rattle.command_io.specs.Endings.{Outcome}
