@@ -24,7 +24,7 @@ struct FirstCell<'a> {
     behind: &'a [u8],
 }
 
-/// Reads the cells before the last bytes where each has at most one byte, and none where one of them is longer.
+/// Reads cells as long as each has at most one byte and bytes are behind it.
 pub fn begin_row(width: u32, cells: &[u8]) -> Begun<'_>
     requires { width ≤ MAX_ATTRIBUTES }
     ensures read { (i : ℕ) → ReadTo i width (fields_in cells.now) result.row result.place }
@@ -35,23 +35,16 @@ pub fn begin_row(width: u32, cells: &[u8]) -> Begun<'_>
     let mut row = Attrs::empty(width);
     let mut place = 0;
     let mut left = cells;
-    let mut are_short = true;
     while left.len() > 1 && place < width {
         let cell = first_cell(left);
-        are_short &= cell.is_short;
+        if !cell.is_short {
+            break;
+        }
         put_mark(&mut row, place, cell.is_cross);
         left = cell.behind;
         place += 1;
     }
-    if are_short {
-        Begun { row, place, left }
-    } else {
-        Begun {
-            row: Attrs::empty(width),
-            place: 0,
-            left: cells,
-        }
-    }
+    Begun { row, place, left }
 }
 
 /// Adds the attribute at this place where the cell is a cross.

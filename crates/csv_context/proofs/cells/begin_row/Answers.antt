@@ -5,7 +5,6 @@ use Rattle.csv_context.specs.Form.{cell_by, cell_form}
 use Rattle.csv_context.specs.Lines.{fields_in}
 use Rattle.csv_context.specs.Cells.{ReadTo}
 use Rattle.csv_context.proofs.FormLemmas.{ReadTo-zero, ReadTo-more, left-field}
-use Rattle.csv_context.proofs.CellLemmas.{both}
 use Rattle.csv_context.proofs.cells.begin_row.Goals as goal
 
 pub loop-left-init : goal.loop-left-init
@@ -14,8 +13,8 @@ loop-left-init c =
     record {
       wide = ap length c.empty-row.ensures ∙ length-replicate width false;
       within = omega arith;
-      read = λ _ i. subst (λ (row : Set). ReadTo i width (fields_in c.args.cells.now) row 0) (sym c.empty-row.ensures) (ReadTo-zero i width (fields_in c.args.cells.now));
-      left = λ _. refl;
+      read = λ i. subst (λ (row : Set). ReadTo i width (fields_in c.args.cells.now) row 0) (sym c.empty-row.ensures) (ReadTo-zero i width (fields_in c.args.cells.now));
+      left = refl;
     }
 
 pub put_mark-requires : goal.put_mark-requires
@@ -27,34 +26,18 @@ loop-left-preserved c =
     let cell = c.first_cell-cell in
     let width : ℕ = c.args.width in
     let cells = fields_in c.args.cells.now in
+    let takes = cell.ensures.cell c.if-not-cell.false in
+    let found = left-field cells loop.place takes.field (fields_in cell.result.behind.now) (loop.invariant.left ∙ takes.fields) in
     record {
       wide = ap length c.put_mark.ensures ∙ length-marked loop.row loop.place cell.result.is_cross ∙ loop.invariant.wide;
       within = omega (arith, c.if-place-width.true);
-      read = λ h i.
-          let parts = both loop.are_short cell.result.is_short h in
-          let takes = cell.ensures.cell parts.1 in
-          let found = left-field cells loop.place takes.field (fields_in cell.result.behind.now) (loop.invariant.left parts.0 ∙ takes.fields) in
+      read = λ i.
           let says : cell_form i (loop.place + 2) takes.field ≡ Ok cell.result.is_cross = ap (cell_by i (loop.place + 2)) takes.says in
           subst (λ (row : Set). ReadTo i width cells row (loop.place + 1)) (sym c.put_mark.ensures)
-          (ReadTo-more i width cells loop.row loop.place takes.field found.0 (loop.invariant.read parts.0 i) cell.result.is_cross c.if-place-width.true says);
-      left = λ h.
-          let parts = both loop.are_short cell.result.is_short h in
-          let takes = cell.ensures.cell parts.1 in
-          (left-field cells loop.place takes.field (fields_in cell.result.behind.now) (loop.invariant.left parts.0 ∙ takes.fields)).1;
+          (ReadTo-more i width cells loop.row loop.place takes.field found.0 (loop.invariant.read i) cell.result.is_cross c.if-place-width.true says);
+      left = found.1;
     }
   where
     length-marked : (row : Set) (place : ℕ) (mark : Bool) → length (cond mark (set row place true) row) ≡ length row
     length-marked row place true = length-set row place true
     length-marked row place false = refl
-
-pub returns-then-are_short-clause-read : goal.returns-then-are_short-clause-read
-returns-then-are_short-clause-read c = c.loop-left.invariant.read c.if-are_short.true
-
-pub returns-then-are_short-clause-left : goal.returns-then-are_short-clause-left
-returns-then-are_short-clause-left c = c.loop-left.invariant.left c.if-are_short.true
-
-pub returns-then-are_short-clause-wide : goal.returns-then-are_short-clause-wide
-returns-then-are_short-clause-wide c = c.loop-left.invariant.wide
-
-pub returns-then-are_short-clause-within : goal.returns-then-are_short-clause-within
-returns-then-are_short-clause-within c = c.loop-left.invariant.within
