@@ -10,8 +10,6 @@ pub mod laws;
 mod names;
 mod sessions;
 mod surveys;
-#[cfg(test)]
-mod tests;
 mod verdicts;
 
 pub use concepts::{concepts_text, lattice_text};

@@ -6,8 +6,6 @@ mod gate;
 mod seated;
 mod shared;
 mod solo;
-#[cfg(test)]
-mod tests;
 
 pub use desk::{Desk, Wide};
 pub use gate::{ExpertPass, Gate};

@@ -12,6 +12,3 @@ pub use end::SeatEnd;
 pub use explored::{Explored, explore_with_oracles};
 pub use panel::run_panel;
 pub use seat::{Seat, seated};
-
-#[cfg(test)]
-mod tests;

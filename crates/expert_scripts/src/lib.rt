@@ -6,8 +6,6 @@ mod fault;
 pub mod laws;
 mod reading;
 mod scripts;
-#[cfg(test)]
-mod tests;
 mod told;
 mod transcript;
 

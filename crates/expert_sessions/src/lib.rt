@@ -13,6 +13,3 @@ pub use ended::Ended;
 pub use seats::Seat;
 pub use serving::{Served, Unserved, serve_ends};
 pub use talk::session;
-
-#[cfg(test)]
-mod tests;

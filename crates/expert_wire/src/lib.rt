@@ -7,8 +7,6 @@ mod lines;
 mod parts;
 mod replies;
 mod requests;
-#[cfg(test)]
-mod tests;
 mod words;
 
 pub use draft::Draft;

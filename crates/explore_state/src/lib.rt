@@ -22,8 +22,6 @@ mod holds;
 mod names;
 mod replies;
 mod settings;
-#[cfg(test)]
-mod tests;
 
 use crate::changes::change;
 pub use crate::fault::{OpenFault, first_break};

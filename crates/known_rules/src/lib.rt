@@ -4,8 +4,6 @@
 mod fault;
 pub mod laws;
 mod read;
-#[cfg(test)]
-mod tests;
 
 pub use fault::KnownFault;
 pub use read::{read_known, read_rule};

@@ -4,8 +4,6 @@
 
 mod questions;
 mod rules;
-#[cfg(test)]
-mod tests;
 
 ghost use Rattle.std.specs.Prelude.{◌≡◌, ◌<◌, ◌++◌, ◌∷◌, ◌↔◌, [], OnOk, OnErr, IfOk, IsNone, IsSome, IfSome, length, true, false, ◌==◌, slice_get, Some};
 ghost use Rattle.std.specs.List.{list_all};

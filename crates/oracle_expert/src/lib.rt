@@ -7,6 +7,3 @@ mod oracle;
 
 pub use expert::{Answer, Expert};
 pub use oracle::Oracle;
-
-#[cfg(test)]
-mod tests;

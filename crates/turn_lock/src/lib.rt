@@ -11,8 +11,6 @@ mod logged;
 mod pass;
 mod queue;
 mod rule;
-#[cfg(test)]
-mod tests;
 mod turn;
 mod view;
 

@@ -4,12 +4,12 @@ ghost use Rattle.std.specs.Prelude.{◌≡◌, All, map};
 ghost use Rattle.std.specs.Thread.{IsSync};
 ghost use Rattle.turn_lock.specs.Passes.{badge, Belongs};
 
-use crate::{Logged, Pass, TurnFault, TurnLock};
 use fca_model::Memory;
 use std::alloc::Global;
 use std::sync::Wait;
 use std::test::Fail;
 use std::thread::{Threads, join_mut};
+use turn_lock::{Logged, Pass, TurnFault, TurnLock};
 
 /// Who signed, each with the number of signatures before.
 #[derive(Drop)]

@@ -1,13 +1,12 @@
-//! Two seats at once, over the attributes a and b.
+//! Two seats at once.
 
 ghost use Rattle.std.specs.Prelude.{◌≡◌, [], IfOk};
 
-use crate::{SeatEnd, run_panel, seated};
-use context_table::Table;
-use derivation::Rows;
+use crate::tables::opened;
 use expert_gate::Gate;
-use explore_state::{Explore, Question, Reply};
-use fca_model::{Memory, Name};
+use expert_panel::{SeatEnd, run_panel, seated};
+use explore_state::{Question, Reply};
+use fca_model::Memory;
 use oracle_expert::{Answer, Expert};
 use std::alloc::Global;
 use std::hint;
@@ -18,21 +17,6 @@ use std::thread::Threads;
 
 /// How often an expert looks whether the other was asked, before it gives up.
 const LOOKS: u64 = 500_000_000;
-
-fn named(alloc: Global, text: &str) -> Result<Name, Memory> {
-    Name::new(alloc, text).map_err(|_| Memory)
-}
-
-/// No object.
-fn bare(alloc: Global) -> Result<Table, Memory>
-    ensures { IfOk result (λ table. table.context.width ≡ 2) }
-{
-    let mut attributes = Vec::new(alloc);
-    attributes.push(named(alloc, "a")?)?;
-    attributes.push(named(alloc, "b")?)?;
-    let rows = Rows::new(alloc, 2)?;
-    Table::new(alloc, None, Vec::new(alloc), attributes, rows).map_err(|_| Memory)
-}
 
 /// Confirms, and holds each answer until the other expert was asked.
 #[derive(Drop)]
@@ -68,16 +52,9 @@ impl Expert for Meeting<'_> {
     fn told(&mut self, _reply: &Reply) {}
 }
 
-fn opened(alloc: Global) -> Result<Explore, Memory>
-    ensures journal { IfOk result (λ explore. explore.journal ≡ []) }
-    ensures width { IfOk result (λ explore. explore.opening.table.context.width ≡ 2) }
-{
-    Explore::open(alloc, bare(alloc)?, 2).map_err(|_| Memory)
-}
-
 /// Whether each of two experts was asked while the other held its answer.
 fn meet<R: Threads + Wait + Sync>(rt: &R, alloc: Global) -> Result<bool, Memory> {
-    let (gate, passes) = Gate::open(alloc, opened(alloc)?, 1 << 48)?;
+    let (gate, passes) = Gate::open(alloc, opened(alloc, 2)?, 1 << 48)?;
     let flags = [AtomicU64::new(0), AtomicU64::new(0)];
     let mut experts = Vec::new(alloc);
     experts.push(Meeting {

@@ -1,10 +1,10 @@
 use Rattle.std.proofs.Common.{◌≡◌, ◌∙◌, ℕ, All, sym, ap, subst}
 use Rattle.explore_state.specs.History.{Opening}
 use Rattle.turn_lock.specs.Passes.{Belongs}
-use Rattle.expert_panel.specs.declared.tests.Meeting.{Meeting}
+use Rattle.exploration_tests.specs.declared.expert_panel_tests.Meeting.{Meeting}
 use Rattle.expert_panel.specs.Seats.{IsSeatOf}
 use Rattle.expert_panel.proofs.EndingLemmas.{seats_of}
-use Rattle.expert_panel.proofs.tests.meet.Goals as goal
+use Rattle.exploration_tests.proofs.expert_panel_tests.meet.Goals as goal
 
 abbrev two : Meeting → ℕ
 two meeting = 2
