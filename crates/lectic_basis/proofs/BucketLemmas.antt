@@ -1,7 +1,7 @@
 -- Buckets after one was put into a bucket or moved to another, and buckets of images.
-use Rattle.std.proofs.Common.{◌≡◌, ◌≢◌, ℕ, zero, suc, ◌-◌, ◌<◌, Bool, true, false, not, ◌&&◌, ◌||◌, List, [], ◌∷◌, ◌++◌, length, map, get_or, set, take, refl, sym, ap, ◌∙◌, subst, arith, inl, inr, get_or-set_same, get_or-set_other, length-set}
+use Rattle.std.proofs.Common.{◌≡◌, ◌≢◌, ℕ, zero, suc, ◌-◌, ◌<◌, Bool, true, false, not, ◌&&◌, ◌||◌, List, [], ◌∷◌, ◌++◌, length, map, get_or, set, take, refl, sym, ap, ap₂, ◌∙◌, subst, arith, inl, inr, get_or-set_same, get_or-set_other, length-set}
 use Rattle.std.proofs.lemmas.Bool.{and_parts, and_from, cases_eq}
-use Rattle.std.proofs.lemmas.List.{map-append, map-set, length-map, get_or-map, take-map, take-take, take-set, length-take-le}
+use Rattle.std.proofs.lemmas.List.{map-append, map-set, length-map, get_or-map, get_or_default, take-map, take-take, take-set, length-take-le}
 use Rattle.std.proofs.lemmas.List.Folds.{list_all-append, list_all-map}
 use Rattle.std.proofs.lemmas.List.Sorted.{IsPermutation-swap_remove, list_any-IsPermutation}
 use Rattle.std.specs.List.{list_all, list_any, swap_remove}
@@ -58,45 +58,41 @@ module _ {V X : Type 0} (f : V → List X) where
     elsewhere = λ n other. bucket_set_other vs w n u other;
   }
 
-  -- i was taken out of bucket z
-  module _ (vs : List V) (z k : ℕ) (vz wz : V) (i : X) (inside : z < length vs) (there : k < length (bucket z (map f vs)))
-      (vz_is : vz ≡ get_or vs z vz) (i_is : i ≡ get_or (f vz) k i) (wz_is : f wz ≡ swap_remove (f vz) k i) where
+  pub still_is : (vs : List V) (z o : ℕ) (w v : V) → z < length vs → o ≢ z → v ≡ get_or (set vs o w) z v → f v ≡ bucket z (map f vs)
+  still_is vs z o w v lt other at = bucket_is (set vs o w) z v (omega (arith, lt, length-set vs o w)) at ∙ bucket_set_other vs o z w (λ e. other (sym e))
+
+  -- i was read, put last into bucket o, and then taken out of bucket z as r
+  module _ (vs : List V) (z k o : ℕ) (u vo wo vz wz : V) (i r : X)
+      (inside : z < length vs) (o_inside : o < length vs) (there : k < length (bucket z (map f vs))) (other : o ≢ z)
+      (u_is : u ≡ get_or vs z u) (i_is : i ≡ get_or (f u) k i) (vo_is : vo ≡ get_or vs o vo) (wo_is : f wo ≡ f vo ++ i ∷ [])
+      (vz_is : vz ≡ get_or (set vs o wo) z vz) (r_is : r ≡ get_or (f vz) k r) (wz_is : f wz ≡ swap_remove (f vz) k r) where
     abbrev old : List X
     old = bucket z (map f vs)
 
     fz : f vz ≡ old
-    fz = bucket_is vs z vz inside vz_is
+    fz = still_is vs z o wo vz inside other vz_is
+
+    r_at : r ≡ get_or old k r
+    r_at = r_is ∙ ap (λ is. get_or is k r) fz
 
     i_at : i ≡ get_or old k i
-    i_at = i_is ∙ ap (λ is. get_or is k i) fz
+    i_at = i_is ∙ ap (λ is. get_or is k i) (bucket_is vs z u inside u_is)
 
-    taken_out : bucket z (map f (set vs z wz)) ≡ swap_remove old k i
-    taken_out = bucket_set_same vs z wz inside ∙ wz_is ∙ ap (λ is. swap_remove is k i) fz
+    one : r ≡ i
+    one = r_at ∙ get_or_default old k r i there ∙ sym i_at
 
-    pub taken_all : (p : X → Bool) → InBuckets p (map f vs) → InBuckets p (map f (set vs z wz))
-    taken_all p h w = elim (cases_eq w z) [
-      | inl e ↦ subst (λ u. list_all p (bucket u (map f (set vs z wz))) ≡ true) (sym e)
-          (ap (list_all p) taken_out ∙ (and_parts (p i) (list_all p (swap_remove old k i)) (sym (swap_all p old k i there i_at) ∙ h z)).1)
-      | inr other ↦ ap (list_all p) (bucket_set_other vs z w wz other) ∙ h w
-    ]
+    new_z : bucket z (map f (set (set vs o wo) z wz)) ≡ swap_remove old k i
+    new_z = bucket_set_same (set vs o wo) z wz (omega (arith, inside, length-set vs o wo)) ∙ wz_is ∙ ap₂ (λ is x. swap_remove is k x) fz one
 
-    -- and put last into bucket o
-    module _ (o : ℕ) (vo wo : V) (o_inside : o < length vs) (other : o ≢ z) (vo_is : vo ≡ get_or (set vs z wz) o vo) (wo_is : f wo ≡ f vo ++ i ∷ []) where
-      o_still : o < length (set vs z wz)
-      o_still = omega (arith, o_inside, length-set vs z wz)
-
-      new_z : bucket z (map f (set (set vs z wz) o wo)) ≡ swap_remove old k i
-      new_z = bucket_set_other (set vs z wz) o z wo (λ e. other (sym e)) ∙ taken_out
-
-      pub moved_is : IsMoved (map f vs) (map f (set (set vs z wz) o wo)) z k o i
-      moved_is = record {
-        room = length_set (set vs z wz) o wo ∙ length_set vs z wz;
-        out = λ p. swap_all p old k i there i_at ∙ ap (λ is. p i && list_all p is) (sym new_z);
-        into = bucket_set_same (set vs z wz) o wo o_still ∙ wo_is ∙ ap (λ is. is ++ i ∷ []) (bucket_is (set vs z wz) o vo o_still vo_is ∙ bucket_set_other vs z o wz other);
-        elsewhere = λ w not_z not_o. bucket_set_other (set vs z wz) o w wo not_o ∙ bucket_set_other vs z w wz not_z;
-        front = ap (take k) new_z ∙ swap_front old k i there;
-        fewer = subst (λ is. length is < length old) (sym new_z) (swap_fewer old k i there);
-      }
+    pub moved_is : IsMoved (map f vs) (map f (set (set vs o wo) z wz)) z k o i
+    moved_is = record {
+      room = length_set (set vs o wo) z wz ∙ length_set vs o wo;
+      out = λ p. swap_all p old k i there i_at ∙ ap (λ is. p i && list_all p is) (sym new_z);
+      into = bucket_set_other (set vs o wo) z o wz other ∙ bucket_set_same vs o wo o_inside ∙ wo_is ∙ ap (λ is. is ++ i ∷ []) (bucket_is vs o vo o_inside vo_is);
+      elsewhere = λ w not_z not_o. bucket_set_other (set vs o wo) z w wz not_z ∙ bucket_set_other vs o w wo not_o;
+      front = ap (take k) new_z ∙ swap_front old k i there;
+      fewer = subst (λ is. length is < length old) (sym new_z) (swap_fewer old k i there);
+    }
 
 -- ---- what all in buckets pass
 

@@ -75,11 +75,6 @@ module _ {X : Type 0} (premise : X → Set) (place : X → ℕ) where
 same_set : {V X : Type 0} (f : V → List X) (vs : List V) (n : ℕ) (v u : V) → n < length vs → v ≡ get_or vs n v → f u ≡ f v → map f (set vs n u) ≡ map f vs
 same_set f vs n v u lt is same = map-set f vs n u ∙ ap (set (map f vs) n) (same ∙ bucket_is f vs n v lt is) ∙ set-get_or (map f vs) n []
 
--- a bucket that holds what it held
-pub same_entries : {V X : Type 0} (f : V → List X) (premise : X → Set) (place : X → ℕ) (J : List Rule) (vs : List V) (n : ℕ) (v u : V) → n < length vs → v ≡ get_or vs n v → f u ≡ f v
-    → HaveEntries premise place J (map f vs) → HaveEntries premise place J (map f (set vs n u))
-same_entries f premise place J vs n v u lt is same h = subst (λ Es. HaveEntries premise place J Es) (sym (same_set f vs n v u lt is same)) h
-
 module _ {V X : Type 0} (f : V → List X) (premise : X → Set) (place : X → ℕ) (L : RuleList) (vs : List V) (W : Watched) where
   abbrev pub Stored : Type 0
   Stored = (record { list = L; buckets = map (map (member_of place L.members)) (map f vs) } ≡ W) × HaveEntries premise place L.members (map f vs)
@@ -144,4 +139,4 @@ module _ {V X : Type 0} (f : V → List X) (premise : X → Set) (place : X → 
           (entry_from premise place L.members e (stored_inside (place e) lt) mine) s.1
 
       pub stored_same_entries : {u : V} → f u ≡ f v → HaveEntries premise place L.members (map f (set vs w u))
-      stored_same_entries {u = u} same = same_entries f premise place L.members vs w v u (omega (arith, inside, stored_room)) is same s.1
+      stored_same_entries {u = u} same = subst (λ Es. HaveEntries premise place L.members Es) (sym (same_set f vs w v u (omega (arith, inside, stored_room)) is same)) s.1

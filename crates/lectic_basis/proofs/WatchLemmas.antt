@@ -1,25 +1,26 @@
 -- The closure under members that wait. A member of the bucket of an attribute z of the set has either an attribute of its premise outside the set, and waits
 -- for that from now on; or its premise lies within the set, and its conclusion is joined. Once each attribute of the set was looked through, the premise of
 -- each member that still waits for an attribute outside does not lie within the set.
-use Rattle.std.proofs.Common.{◌≡◌, ℕ, ◌+◌, ◌-◌, ◌<◌, ◌≤◌, Bool, true, false, not, ◌&&◌, ◌||◌, Option, Some, None, MatchOption, IfSome, List, [], ◌∷◌, ◌++◌, length, get_or, set, take, refl, sym, ap, ◌∙◌, subst, arith, inl, inr, get_or-set_same, get_or-set_other, length-set, eqb, eqb-true}
+use Rattle.std.proofs.Common.{◌≡◌, ℕ, ◌+◌, ◌-◌, ◌<◌, ◌≤◌, Bool, true, false, not, ◌&&◌, ◌||◌, Some, None, List, [], ◌∷◌, ◌++◌, length, get_or, set, take, refl, sym, ap, ◌∙◌, subst, arith, inl, inr, get_or-set_same, get_or-set_other, length-set, eqb, eqb-true}
 use Rattle.std.proofs.lemmas.Bool.{false≢true, and_parts, and_from, cases_Bool, cases_eq, or_left, or_right, false_from_ne_true}
 use Rattle.std.proofs.lemmas.List.{take_more, get_or_default}
 use Rattle.std.proofs.lemmas.List.Sums.{AllPass-from_list_all}
 use Rattle.std.proofs.lemmas.List.Folds.{list_all-append}
 use Rattle.std.specs.List.{list_all}
-use Rattle.fca_model.specs.Sets.{Set, within, join, size, IsNextMember}
+use Rattle.fca_model.specs.Sets.{Set, within, join, size}
 use Rattle.fca_model.specs.Implications.{Rule, rule, respects, respects_all}
+use Rattle.fca_model.specs.Exploration.{first_missing}
 use Rattle.fca_model.proofs.SetLemmas.{within_refl, within_trans, within_antisymm, within_from_places, within_at_place, not_within_at, set_within, length-join, within-join, within-join_right, join_within, size-set, size_le}
 use Rattle.fca_model.proofs.ClosureLemmas.{respects_at}
+use Rattle.fca_model.proofs.StepLemmas.{first_missing_none}
 use Rattle.fca_model.proofs.ListLemmas.{list_all-mono, bool_iff}
-use Rattle.attr_bits.specs.Difference.{minus}
-use Rattle.attr_bits.proofs.DifferenceLemmas.{get_or-minus}
+use Rattle.attr_bits.proofs.DifferenceLemmas.{first_missing-parts}
 use Rattle.attr_bits.proofs.PlaceLemmas.{member_below}
 use Rattle.implication_closure.specs.Closing.{RuleList, has_width, HaveWidth}
 use Rattle.lectic_concepts.specs.Branches.{agree_before}
 use Rattle.lectic_concepts.proofs.BranchLemmas.{agree_at, agree_from}
 use Rattle.lectic_basis.proofs.BucketLemmas.{moved_all}
-use Rattle.lectic_basis.specs.Watches.{AreLeft, Watched, CanClose, HasMoved, bucket, waiting_at, Outside, Covers, IsGood, HasKept, IsSorted, IsFiled, IsMoved, IsSettling, IsClosedBefore, Differs, IsBounded}
+use Rattle.lectic_basis.specs.Watches.{Watched, CanClose, HasMoved, bucket, waiting_at, Outside, Covers, IsGood, HasKept, IsSorted, IsFiled, IsMoved, IsSettling, IsClosedBefore, Differs, IsBounded}
 
 -- a set between two that agree
 pub agree_between : (k : ℕ) (A D T : Set) → within A D ≡ true → within D T ≡ true → agree_before k A T ≡ true → agree_before k A D ≡ true
@@ -139,42 +140,6 @@ module _ {z k : ℕ} {C D : Set} {old mid : List (List Rule)} (s : IsSettling z 
               (and_from (within i.conclusion E) true mine refl);
         }
 
--- ---- what is left to look at
-
-module _ (D P L : Set) (l : L ≡ minus D P) where
-  left_at : (i : ℕ) → get_or L i false ≡ (get_or D i false && not (get_or P i false))
-  left_at i = ap (λ X. get_or X i false) l ∙ get_or-minus D P i
-
-  pub left_start : AreLeft D P 0 L
-  left_start i on t = let q = and_parts (get_or D i false) (not (get_or P i false)) (sym (left_at i) ∙ t) in (q.0, opposite (get_or P i false) q.1)
-    where
-      opposite : (b : Bool) → not b ≡ true → b ≡ false
-      opposite true e = absurd (false≢true e)
-      opposite false e = refl
-
-  none_left : ((i : ℕ) → 0 ≤ i → i < length L → get_or L i false ≡ false) → within D P ≡ true
-  none_left none = within_from_places D P (λ i lt t. elim (cases_Bool (get_or P i false)) [
-    | inl seen ↦ seen
-    | inr f ↦
-        let here : get_or L i false ≡ true = left_at i ∙ and_from (get_or D i false) (not (get_or P i false)) t (ap not f) in
-        absurd (false≢true (sym (none i (omega arith) (member_below L i here)) ∙ here))
-  ])
-
-  pub left_told : (o : Option ℕ) → MatchOption o ((i : ℕ) → 0 ≤ i → i < length L → get_or L i false ≡ false) (IsNextMember L 0)
-      → MatchOption o (within D P ≡ true) (λ z. (get_or D z false ≡ true) × (get_or P z false ≡ false))
-  left_told None h = none_left h
-  left_told (Some z) h = left_start z h.at_least h.member
-
-  pub left_more : (o : Option ℕ) → IfSome o (λ z. AreLeft D P (z + 1) L)
-  left_more None = tt
-  left_more (Some z) = λ i on t. left_start i (omega arith) t
-
--- when the next one was looked at
-pub left_next : (D E P Q L : Set) (z : ℕ) → within D E ≡ true → Q ≡ set P z true → AreLeft D P (z + 1) L → AreLeft E Q (z + 1) L
-left_next D E P Q L z up q left i on t =
-    let here = left i on t in
-    (within_at_place D E up i here.0, ap (λ X. get_or X i false) q ∙ get_or-set_other P z i true false (λ e. absurd (omega (arith, on, e))) ∙ here.1)
-
 -- ---- all buckets
 
 -- on the way from X to its closure: P are the attributes that were looked through, and D is what came in so far
@@ -216,12 +181,12 @@ module _ {n : ℕ} {J : List Rule} {limit : ℕ} {A X : Set} {old : List (List R
     pub begun_within : within A D ≡ true
     begun_within = within_trans A P D c.begun c.part
 
-    module _ {z : ℕ} (left : (get_or D z false ≡ true) × (get_or P z false ≡ false)) {E : Set} {new : List (List Rule)} (s : IsSettling z 0 D E mid new) where
+    module _ {z : ℕ} (missing : first_missing 0 D P ≡ Some z) {E : Set} {new : List (List Rule)} (s : IsSettling z 0 D E mid new) where
       z_has : get_or D z false ≡ true
-      z_has = left.0
+      z_has = (first_missing-parts D P z missing).0
 
       z_lacks : get_or P z false ≡ false
-      z_lacks = left.1
+      z_lacks = (first_missing-parts D P z missing).1
 
       lacks_z : (Y : Set) → within Y P ≡ true → get_or Y z false ≡ false
       lacks_z Y h = false_from_ne_true (get_or Y z false) (λ t. false≢true (sym z_lacks ∙ within_at_place Y P h z t))
@@ -299,9 +264,9 @@ module _ {n : ℕ} {J : List Rule} {limit : ℕ} {A X : Set} {old : List (List R
             omega (arith, grown, same_size, bound, w)
 
     -- all attributes of the set were looked through
-    pub closing_end : length X ≡ n → within D P ≡ true → IsClosedBefore J mid limit A X D
-    closing_end x_wide all =
-        let one : P ≡ D = within_antisymm P D (c.p_wide ∙ sym c.d_wide) c.part all in
+    pub closing_end : length X ≡ n → first_missing 0 D P ≡ None → IsClosedBefore J mid limit A X D
+    closing_end x_wide none =
+        let one : P ≡ D = within_antisymm P D (c.p_wide ∙ sym c.d_wide) c.part (first_missing_none 0 D P none) in
         let good : IsGood J mid D = subst (λ R. Covers J mid R D) one c.covers in
         record {
           closure = record {

@@ -4,7 +4,7 @@
 -- need not be looked at. A member in no bucket, or in the bucket of an attribute of the set, has to have its conclusion within the set.
 --
 -- Where {a, b} -> {c} waits for b, a set without b need not look at it. For {b} it is looked at, and waits for a from then on, which is as good for {}.
-use Rattle.std.specs.Prelude.{◌≡◌, ◌≢◌, ℕ, zero, suc, ◌<◌, ◌≤◌, ◌++◌, ◌∷◌, length, Bool, true, false, ◌&&◌, ◌||◌, List, [], take, slice_index_or}
+use Rattle.std.specs.Prelude.{◌≡◌, ◌≢◌, ℕ, zero, suc, ◌<◌, ◌++◌, ◌∷◌, length, Bool, true, false, ◌&&◌, ◌||◌, List, [], take, slice_index_or}
 use Rattle.std.specs.List.{list_all}
 use Rattle.fca_model.specs.Sets.{Set, within}
 use Rattle.fca_model.specs.Implications.{Rule, rule, respects, respects_all}
@@ -89,10 +89,6 @@ pub record IsSettling (z k : ℕ) (C D : Set) (old new : List (List Rule)) : Typ
   pub kept : (X : Set) → within X C ≡ true → slice_index_or X z false ≡ false → HasKept X old new
   pub bounded : (T : Set) → within C T ≡ true → InBuckets (respects T) old → within D T ≡ true
   pub taken : list_all (λ i. within i.conclusion D) (take k (bucket z new)) ≡ true
-
--- the members of L from a place on are members of D that were not seen
-abbrev pub AreLeft : Set → Set → ℕ → Set → Type 0
-AreLeft D seen from L = (i : ℕ) → from ≤ i → slice_index_or L i false ≡ true → (slice_index_or D i false ≡ true) × (slice_index_or seen i false ≡ false)
 
 -- the closure of X may be looked for: each member waits for an attribute outside A, or has its conclusion within X, which agrees with A before an attribute
 pub record CanClose (F : Watched) (limit : ℕ) (A X : Set) : Type 0 where

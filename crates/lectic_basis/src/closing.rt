@@ -1,11 +1,11 @@
 //! The closure under the members of a list, each of which waits for one attribute of its premise.
 
-ghost use Rattle.std.specs.Prelude.{◌≡◌, ◌≤◌, ◌<◌, ◌+◌, ℕ, true, false, length, slice_index_or, OnOk, IfOk, IfSome, MatchOption};
+ghost use Rattle.std.specs.Prelude.{◌≡◌, ℕ, true, false, length, slice_index_or, OnOk, IfOk};
 ghost use Rattle.std.specs.List.{list_all};
 ghost use Rattle.fca_model.specs.Sets.{within};
 ghost use Rattle.implication_closure.specs.Closing.{HaveWidth};
 ghost use Rattle.lectic_concepts.specs.Branches.{agree_before};
-ghost use Rattle.lectic_basis.specs.Watches.{AreLeft, bucket, CanClose, Differs, IsBounded, HasMoved, IsClosedBefore, IsSettling, IsSorted};
+ghost use Rattle.lectic_basis.specs.Watches.{bucket, CanClose, Differs, IsBounded, HasMoved, IsClosedBefore, IsSettling, IsSorted};
 
 use crate::watched_list::WatchedList;
 use attr_bits::Bits;
@@ -27,37 +27,13 @@ pub fn close<const W: usize>(
 {
     let _width = found.width();
     let mut seen = *done;
-    let mut left = closed.minus(done);
-    let mut from = 0;
-    while let Some(z) = next_left(closed, &seen, &mut left, from) {
+    while let Some(z) = closed.first_missing(&seen) {
         if !settle(found, z, done, limit, closed)? {
             return Ok(false);
         }
         seen.insert(z);
-        from = z + 1;
     }
     Ok(true)
-}
-
-/// An attribute of the set that was not seen, and none only where each was. Those that are left are known from `from` on; where there are none, they are looked for
-/// anew.
-fn next_left<const W: usize>(
-    closed: &Bits<W>,
-    seen: &Bits<W>,
-    left: &mut Bits<W>,
-    from: u32,
-) -> Option<u32>
-    requires inside { from ≤ length left.old }
-    requires left { AreLeft closed.now seen.now from left.old }
-    ensures told { MatchOption result (within closed.now seen.now ≡ true) (λ z. slice_index_or closed.now z false ≡ true × slice_index_or seen.now z false ≡ false) }
-    ensures left { IfSome result (λ z. AreLeft closed.now seen.now (z + 1) left.new) }
-    ensures inside { IfSome result (λ z. z < length left.new) }
-{
-    if let Some(z) = left.next_member(from) {
-        return Some(z);
-    }
-    *left = closed.minus(seen);
-    left.next_member(0)
 }
 
 /// Looks through the bucket of attribute z of the set, which takes in conclusions. Whether it still agrees with `done` before the limit; if not, the rest of

@@ -138,8 +138,9 @@ impl<const W: usize> WatchedList<W> {
         ensures list { self.new.list ≡ self.old.list }
         ensures moved { OnOk result (IsMoved self.old.buckets self.new.buckets w k other (waiting_at w k self.old.buckets)) }
     {
-        let entry = self.buckets[w as usize].swap_remove(k);
+        let entry = self.buckets[w as usize][k];
         self.buckets[other as usize].push(entry)?;
+        self.buckets[w as usize].swap_remove(k);
         Ok(())
     }
 

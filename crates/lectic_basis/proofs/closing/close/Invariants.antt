@@ -1,6 +1,5 @@
-use Rattle.std.proofs.Common.{◌≡◌, ◌≤◌, ◌-◌, length}
+use Rattle.std.proofs.Common.{◌≡◌, ◌-◌}
 use Rattle.fca_model.specs.Sets.{size}
-use Rattle.lectic_basis.specs.Watches.{AreLeft}
 use Rattle.lectic_basis.proofs.WatchLemmas.{IsClosing}
 use Rattle.lectic_basis.proofs.closing.close.Given as goal
 
@@ -8,8 +7,6 @@ abbrev pub invariant-loop-z : goal.invariant-loop-z
 invariant-loop-z g l = record {
   list : l.found.list ≡ l.fn.found.list;
   closing : IsClosing l.fn.found.list.width l.fn.found.list.members l.limit l.done l.fn.closed l.seen l.closed l.fn.found.buckets l.found.buckets;
-  inside : l.from ≤ length l.left;
-  left : AreLeft l.closed l.seen l.from l.left;
 }
 
 abbrev pub decreases-loop-z : goal.decreases-loop-z
