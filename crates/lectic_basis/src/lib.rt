@@ -24,6 +24,9 @@ use std::alloc::Global;
 use tree::visit_all;
 pub use watched_list::WatchedList;
 
+/// How many attributes two words hold.
+const TWO_WORDS: u32 = 128;
+
 /// The known implications, and behind them the basis relative to them, in lectic order of the premises. It is found in sets as narrow as the table. (Ganter, "Two
 /// basic algorithms in concept analysis", 1984, for the order; Janostik, Konecny and Krajca, "LinCbO", 2021, for the tree; Moskewicz and others, "Chaff", 2001,
 /// for what waits.)
@@ -39,6 +42,9 @@ pub fn basis_watched(
     let width = rows.width();
     if width <= ONE_WORD {
         return basis_of(alloc, rows.resized::<1>(alloc)?, known);
+    }
+    if width <= TWO_WORDS {
+        return basis_of(alloc, rows.resized::<2>(alloc)?, known);
     }
     if width <= FOUR_WORDS {
         return basis_of(alloc, rows.resized::<4>(alloc)?, known);
