@@ -1,15 +1,17 @@
 -- The steps of the walk for the next level. A set that is larger than the bound, or closed and as large, has nothing below it that is looked for; one that is
 -- not closed joins the level, or becomes its first member; below another intent each attribute that it lacks is tried, the last first.
-use Rattle.std.proofs.Common.{◌≡◌, ℕ, suc, ◌+◌, ◌<◌, ◌≤◌, true, false, List, [], ◌∷◌, ◌++◌, length, get_or, set, replicate, length-set, refl, sym, ap, ◌∙◌, subst, arith}
+use Rattle.std.proofs.Common.{◌≡◌, ℕ, suc, ◌+◌, ◌<◌, ◌≤◌, true, false, ◌&&◌, List, [], ◌∷◌, ◌++◌, length, get_or, set, replicate, length-set, refl, sym, ap, ◌∙◌, subst, arith}
 use Rattle.std.proofs.lemmas.Bool.{false≢true, false_from_ne_true}
 use Rattle.std.proofs.lemmas.Simd.{length-replicate}
 use Rattle.fca_model.specs.Sets.{Set, same, size, within}
 use Rattle.fca_model.specs.Context.{Context, closure, is_closed}
 use Rattle.fca_model.specs.Implications.{Rule, rule, respects_all}
-use Rattle.fca_model.proofs.SetLemmas.{same-true, same_from, within_refl, within_trans}
+use Rattle.fca_model.proofs.SetLemmas.{same-true, same_from, within_refl, within_trans, within_antisymm}
+use Rattle.fca_model.proofs.ClosureLemmas.{length-closure, closure_extensive, closure_monotone, closure_idempotent}
 use Rattle.implication_closure.specs.Closing.{RuleList, IsClosure}
 use Rattle.lectic_concepts.specs.Branches.{agree_before}
-use Rattle.lectic_concepts.proofs.BranchLemmas.{among, closure_among}
+use Rattle.extent_blocks.specs.Blocks.{Part, IsExtent, IsExtentWith, in_parts, has_at}
+use Rattle.extent_blocks.proofs.ExtentLemmas.{extent_larger, extent_left}
 use Rattle.lectic_basis.specs.Trees.{before, up_to}
 use Rattle.next_level.specs.NextLevel.{IsLeastUnder, IsLeastLevel}
 use Rattle.next_level.specs.LevelWalks.{IsEntered, IsLeft, IsTrying, HasLevel}
@@ -22,7 +24,7 @@ use Rattle.lectic_basis.proofs.WaitLemmas.{kept_good, good_covers}
 -- ---- the start
 
 pub root_entered : (K : Context) (A : Set) (F : Watched) (Ls : List Rule) (b : ℕ) → F.list.width ≡ K.width → IsClosure F.list.members (replicate K.width false) A
-    → IsFiled F.list.width F.list.members F.buckets → IsGood F.list.members F.buckets A → Ls ≡ [] → b ≡ suc K.width → IsEntered K K A 0 F b Ls
+    → IsFiled F.list.width F.list.members F.buckets → IsGood F.list.members F.buckets A → Ls ≡ [] → b ≡ suc K.width → IsEntered K A 0 F b Ls
 root_entered K A F Ls b width a filed good none past = record {
   at = record {
     width = width;
@@ -30,42 +32,22 @@ root_entered K A F Ls b width a filed good none past = record {
     respecting = a.respecting;
     least = λ X e r h. root_least F.list.members K A a X r;
     inside = omega arith;
-    near = λ X h. refl;
-    filed = filed;
+      filed = filed;
     good = good;
   };
   level = bound.nothing_seen F.list.members K A Ls b none past;
 }
 
--- the rows that contain A are enough
-pub near_left : {K L M : Context} {A : Set} {from : ℕ} {F : Watched} {b : ℕ} {Ls : List Rule} → IsLeft K L A from F b Ls → M ≡ among L A → IsLeft K M A from F b Ls
-near_left {L = L} {A = A} l m = record {
-  at = record {
-    width = l.at.width;
-    wide = l.at.wide;
-    respecting = l.at.respecting;
-    least = l.at.least;
-    inside = l.at.inside;
-    near = λ X h. ap (λ N. closure N X) m ∙ closure_among L A X h ∙ l.at.near X h;
-    filed = l.at.filed;
-    good = l.at.good;
-  };
-  level = l.level;
-}
-
 -- ---- a visit
 
-module _ {K L : Context} {A : Set} {from : ℕ} {F : Watched} {b : ℕ} {Ls : List Rule} (e : IsEntered K L A from F b Ls) where
+module _ {K : Context} {A : Set} {from : ℕ} {F : Watched} {b : ℕ} {Ls : List Rule} (e : IsEntered K A from F b Ls) where
   ends : {c : ℕ} {Ms : List Rule} → IsLeastLevel F.list.members K c (up_to from A) Ms → HasLevel K A from F F c Ms
   ends l = record { list = refl; level = l; filed = e.at.filed; kept = λ X h good. good }
 
   pub enter_larger : b < size A → HasLevel K A from F F b Ls
   enter_larger lt = ends (bound.cut_larger F.list.members K A e.at.wide from e.at.inside e.at.least b Ls e.level lt)
 
-  module _ {B : Set} (closes : B ≡ closure L A) where
-    closure_is : B ≡ closure K A
-    closure_is = closes ∙ e.at.near A (within_refl A)
-
+  module _ {B : Set} (closure_is : B ≡ closure K A) where
     -- an intent
     module _ (one : same B A ≡ true) where
       closed : is_closed K A ≡ true
@@ -74,7 +56,7 @@ module _ {K L : Context} {A : Set} {from : ℕ} {F : Watched} {b : ℕ} {Ls : Li
       pub enter_as_large : size A ≡ b → HasLevel K A from F F b Ls
       enter_as_large as_large = ends (bound.cut_closed F.list.members K A e.at.wide from e.at.inside e.at.least b Ls e.level as_large closed)
 
-      pub enter_left : IsLeft K L A from F b Ls
+      pub enter_left : IsLeft K A from F b Ls
       enter_left = record { at = e.at; level = bound.start_closed F.list.members K A e.at.wide from e.at.inside e.at.least b Ls e.level closed }
 
     -- a set that is not closed
@@ -94,7 +76,7 @@ module _ {K L : Context} {A : Set} {from : ℕ} {F : Watched} {b : ℕ} {Ls : Li
 -- ---- below an intent
 
 -- all behind attribute j - 1 were visited
-pub trying : {K L : Context} {A : Set} {from j i : ℕ} {F G : Watched} {b₀ b : ℕ} {Ls₀ Ls : List Rule} → IsLeft K L A from F b₀ Ls₀ → j ≤ K.width → HasLevel K A j F G b Ls → j ≡ suc i → from ≤ i → IsTrying K L A i G b Ls
+pub trying : {K : Context} {A : Set} {from j i : ℕ} {F G : Watched} {b₀ b : ℕ} {Ls₀ Ls : List Rule} → IsLeft K A from F b₀ Ls₀ → j ≤ K.width → HasLevel K A j F G b Ls → j ≡ suc i → from ≤ i → IsTrying K A i G b Ls
 trying {K = K} {A = A} {from = from} {i = i} {F = F} {G = G} {b = b} {Ls = Ls} l le g e on =
     record {
       at = record {
@@ -103,7 +85,6 @@ trying {K = K} {A = A} {from = from} {i = i} {F = F} {G = G} {b = b} {Ls = Ls} l
         respecting = subst (λ (M : RuleList). respects_all M.members A ≡ true) (sym g.list) l.at.respecting;
         least = λ X w r agree. l.at.least X w (subst (λ (M : RuleList). respects_all M.members X ≡ true) g.list r) (agree_less from i A X on agree);
         inside = omega (arith, le, e);
-        near = l.at.near;
         filed = g.filed;
         good = g.kept A (within_refl A) l.at.good;
       };
@@ -111,14 +92,14 @@ trying {K = K} {A = A} {from = from} {i = i} {F = F} {G = G} {b = b} {Ls = Ls} l
       inside = omega (arith, le, e);
     }
 
-pub left_start : {K L : Context} {A : Set} {from : ℕ} {F : Watched} {b : ℕ} {Ls : List Rule} → IsLeft K L A from F b Ls → HasLevel K A K.width F F b Ls
+pub left_start : {K : Context} {A : Set} {from : ℕ} {F : Watched} {b : ℕ} {Ls : List Rule} → IsLeft K A from F b Ls → HasLevel K A K.width F F b Ls
 left_start l = record { list = refl; level = l.level; filed = l.at.filed; kept = λ X h good. good }
 
 -- one attribute after the other
 pub level_then : {K : Context} {A : Set} {j i : ℕ} {F G H : Watched} {b₀ b : ℕ} {Ls₀ Ls : List Rule} → HasLevel K A j F G b₀ Ls₀ → HasLevel K A i G H b Ls → HasLevel K A i F H b Ls
 level_then x y = record { list = y.list ∙ x.list; level = y.level; filed = y.filed; kept = λ X h good. y.kept X h (x.kept X h good) }
 
-module _ {K L : Context} {A : Set} {i : ℕ} {G : Watched} {b : ℕ} {Ls : List Rule} (t : IsTrying K L A i G b Ls) where
+module _ {K : Context} {A : Set} {i : ℕ} {G : Watched} {b : ℕ} {Ls : List Rule} (t : IsTrying K A i G b Ls) where
   abbrev inside : i < K.width
   inside = t.inside
 
@@ -167,18 +148,23 @@ module _ {K L : Context} {A : Set} {i : ℕ} {G : Watched} {b : ℕ} {Ls : List 
         has_c : get_or C i false ≡ true
         has_c = bound.closure_has G.list.members K.width A t.at.wide i inside C closure_c
 
-        up_c : within A C ≡ true
-        up_c = within_trans A (set A i true) C (within_set A i) closure_c.above
+        pub left_above : within (set A i true) C ≡ true
+        left_above = closure_c.above
 
-        pub left_entered : IsEntered K L C (i + 1) H b Ls
-        left_entered = subst (λ k. IsEntered K L C k H b Ls) next (record {
+        pub left_wide : length C ≡ K.width
+        left_wide = bound.closure_wide G.list.members K.width A t.at.wide i inside C closure_c
+
+        up_c : within A C ≡ true
+        up_c = within_trans A (set A i true) C (within_set A i) left_above
+
+        pub left_entered : IsEntered K C (i + 1) H b Ls
+        left_entered = subst (λ k. IsEntered K C k H b Ls) next (record {
           at = record {
             width = ap (λ (M : RuleList). M.width) m.list ∙ t.at.width;
-            wide = bound.closure_wide G.list.members K.width A t.at.wide i inside C closure_c;
+            wide = left_wide;
             respecting = subst (λ (M : RuleList). respects_all M.members C ≡ true) (sym m.list) closure_c.respecting;
             least = subst (λ (M : RuleList). IsLeastUnder M.members K.width C (suc i)) (sym m.list) (bound.closure_least G.list.members K.width A t.at.wide i i on inside t.at.least C closure_c c.agree);
             inside = omega (arith, inside);
-            near = λ Y h. t.at.near Y (within_trans A C Y up_c h);
             filed = m.filed;
             good = subst (λ (M : RuleList). IsGood M.members H.buckets C) (sym m.list) c.good;
           };
@@ -195,3 +181,23 @@ module _ {K L : Context} {A : Set} {i : ℕ} {G : Watched} {b : ℕ} {Ls : List 
               filed = done.filed;
               kept = λ Y h good. done.kept Y (within_trans Y A C h up_c) (good_moved Y h good);
             }
+
+-- ---- the rows near a set
+
+-- one attribute more
+pub extent_tried : (K : Context) (A : Set) (i : ℕ) (Ps : List Part) → IsExtent K A Ps → length A ≡ K.width → i < K.width → (X : Set) → X ≡ set A i true → IsExtentWith K X i Ps
+extent_tried K A i Ps extent wide inside X x = subst (λ Y. IsExtentWith K Y i Ps) (sym x)
+    (extent_larger K A (set A i true) i Ps extent (omega (arith, wide, inside)) (within_set A i) (within_refl (set A i true)) (closure_extensive K (set A i true) (length-set A i true ∙ wide)))
+
+-- a set between another and its closure has that closure
+pub closure_between : (K : Context) (X D : Set) → length X ≡ K.width → within X D ≡ true → within D (closure K X) ≡ true → closure K X ≡ closure K D
+closure_between K X D wide up shared = within_antisymm (closure K X) (closure K D) (length-closure K X ∙ sym (length-closure K D)) (closure_monotone K X D up)
+    (subst (λ Y. within (closure K D) Y ≡ true) (closure_idempotent K X wide) (closure_monotone K D (closure K X) shared))
+
+module _ (K : Context) (A : Set) (i : ℕ) (D X : Set) (wide : length A ≡ K.width) (above : within (set A i true) D ≡ true) (x : X ≡ set A i true) where
+  pub closure_shared : (C : Set) → C ≡ closure K X → within D C ≡ true → C ≡ closure K D
+  closure_shared C closes shared = closes ∙ closure_between K X D (ap length x ∙ length-set A i true ∙ wide) (subst (λ Y. within Y D ≡ true) (sym x) above) (subst (λ Y. within D Y ≡ true) closes shared)
+
+  pub extent_below : (Ps Qs : List Part) → IsExtent K A Ps → i < K.width → (C : Set) → C ≡ closure K X → within D C ≡ true → ((g : ℕ) → in_parts Qs g ≡ (in_parts Ps g && has_at K i g)) → IsExtent K D Qs
+  extent_below Ps Qs extent in_width C closes shared left = extent_left K D i Ps Qs
+      (extent_larger K A D i Ps extent (omega (arith, wide, in_width)) (within_set A i) above (subst (λ Y. within D Y ≡ true) (closes ∙ ap (closure K) x) shared)) left

@@ -6,34 +6,33 @@ use Rattle.std.specs.Prelude.{◌≡◌, ℕ, suc, ◌<◌, ◌≤◌, true, len
 use Rattle.fca_model.specs.Sets.{Set, within}
 use Rattle.fca_model.specs.Context.{Context}
 use Rattle.fca_model.specs.Implications.{Rule, respects_all}
-use Rattle.lectic_basis.specs.Trees.{ClosesAlike, before, up_to}
+use Rattle.lectic_basis.specs.Trees.{before, up_to}
 use Rattle.lectic_basis.specs.Watches.{Watched, IsFiled, IsGood}
 use Rattle.next_level.specs.NextLevel.{IsLeastUnder, IsLeastLevel}
 
--- A respects the list, all that are looked at contain it, the rows of L are enough for their closures, and what does not concern A waits
-pub record IsInside (K L : Context) (A : Set) (from : ℕ) (F : Watched) : Type 0 where
+-- A respects the list, all that are looked at contain it, and what does not concern A waits
+pub record IsInside (K : Context) (A : Set) (from : ℕ) (F : Watched) : Type 0 where
   pub width : F.list.width ≡ K.width
   pub wide : length A ≡ K.width
   pub respecting : respects_all F.list.members A ≡ true
   pub least : IsLeastUnder F.list.members K.width A from
   pub inside : from ≤ K.width
-  pub near : ClosesAlike K L A
   pub filed : IsFiled F.list.width F.list.members F.buckets
   pub good : IsGood F.list.members F.buckets A
 
 -- A is to be visited, and then all that agree with it before attribute `from`
-pub record IsEntered (K L : Context) (A : Set) (from : ℕ) (F : Watched) (b : ℕ) (Ls : List Rule) : Type 0 where
-  pub at : IsInside K L A from F
+pub record IsEntered (K : Context) (A : Set) (from : ℕ) (F : Watched) (b : ℕ) (Ls : List Rule) : Type 0 where
+  pub at : IsInside K A from F
   pub level : IsLeastLevel F.list.members K b (before from A) Ls
 
 -- the intent A was visited, and what agrees with it before attribute `from` and comes behind it is left
-pub record IsLeft (K L : Context) (A : Set) (from : ℕ) (F : Watched) (b : ℕ) (Ls : List Rule) : Type 0 where
-  pub at : IsInside K L A from F
+pub record IsLeft (K : Context) (A : Set) (from : ℕ) (F : Watched) (b : ℕ) (Ls : List Rule) : Type 0 where
+  pub at : IsInside K A from F
   pub level : IsLeastLevel F.list.members K b (up_to K.width A) Ls
 
 -- attribute i is to be tried below the intent A, and all behind it were
-pub record IsTrying (K L : Context) (A : Set) (i : ℕ) (F : Watched) (b : ℕ) (Ls : List Rule) : Type 0 where
-  pub at : IsInside K L A i F
+pub record IsTrying (K : Context) (A : Set) (i : ℕ) (F : Watched) (b : ℕ) (Ls : List Rule) : Type 0 where
+  pub at : IsInside K A i F
   pub level : IsLeastLevel F.list.members K b (up_to (suc i) A) Ls
   pub inside : i < K.width
 

@@ -13,6 +13,7 @@ ghost use Rattle.next_level.specs.NextLevel.{IsNextLevel};
 
 use attr_bits::{Attrs, Bits, WORDS};
 use derivation::{Rows, RowsOf};
+use extent_blocks::Sheet;
 use fca_model::{Implication, Memory};
 use implication_closure::ImplicationList;
 use lectic_basis::{WatchedList, rules_in_words};
@@ -40,14 +41,14 @@ pub fn next_level(alloc: Global, rows: &Rows, rules: &ImplicationList) -> Result
 {
     let width = rows.width();
     if width <= ONE_WORD {
-        let found = level_of(alloc, &rows.resized::<1>(alloc)?, rules)?;
+        let found = level_of(alloc, rows.resized::<1>(alloc)?, rules)?;
         return in_all_words(alloc, width, &found);
     }
     if width <= FOUR_WORDS {
-        let found = level_of(alloc, &rows.resized::<4>(alloc)?, rules)?;
+        let found = level_of(alloc, rows.resized::<4>(alloc)?, rules)?;
         return in_all_words(alloc, width, &found);
     }
-    level_of(alloc, rows, rules)
+    level_of(alloc, rows.copy()?, rules)
 }
 
 /// The same level in all words.
@@ -70,21 +71,36 @@ fn in_all_words<const W: usize>(
 /// The next level, with sets of the words that the rows have.
 fn level_of<const W: usize>(
     alloc: Global,
-    rows: &RowsOf<W>,
+    rows: RowsOf<W>,
     rules: &ImplicationList,
 ) -> Result<LevelOf<W>, Memory>
-    requires wide { rules.now.width ≡ rows.now.width }
-    ensures next { (known found : List Rule) (reached : ℕ) → rules.now.members ≡ known ++ found → HasBelow known rows.now reached found → reached ≤ rows.now.width + 1
-        → IfOk result (λ level. IsNextLevel known rows.now found level.size level.members.items) }
-    ensures even { IfOk result (λ level. HaveWidth rows.now.width level.members.items) }
+    requires wide { rules.now.width ≡ rows.width }
+    ensures next { (known found : List Rule) (reached : ℕ) → rules.now.members ≡ known ++ found → HasBelow known rows.entry reached found → reached ≤ rows.entry.width + 1
+        → IfOk result (λ level. IsNextLevel known rows.entry found level.size level.members.items) }
+    ensures even { IfOk result (λ level. HaveWidth rows.entry.width level.members.items) }
 {
-    let width = rows.width();
+    let sheet = Sheet::new(alloc, rows)?;
+    level_by(alloc, &sheet, rules)
+}
+
+/// The same, where the columns are there.
+fn level_by<const W: usize>(
+    alloc: Global,
+    sheet: &Sheet<W>,
+    rules: &ImplicationList,
+) -> Result<LevelOf<W>, Memory>
+    requires wide { rules.now.width ≡ sheet.now.width }
+    ensures next { (known found : List Rule) (reached : ℕ) → rules.now.members ≡ known ++ found → HasBelow known sheet.now reached found → reached ≤ sheet.now.width + 1
+        → IfOk result (λ level. IsNextLevel known sheet.now found level.size level.members.items) }
+    ensures even { IfOk result (λ level. HaveWidth sheet.now.width level.members.items) }
+{
+    let width = sheet.rows().width();
     let least = rules.naive_closure(&Attrs::empty(rules.width()));
     let mut found = WatchedList::of(alloc, rules, &least)?;
     let mut level = LevelOf {
         size: width + 1,
         members: Vec::new(alloc),
     };
-    enter_all(alloc, rows, &mut found, &mut level, &least.resized(), 0)?;
+    enter_all(alloc, sheet, &mut found, &mut level, &least.resized(), 0)?;
     Ok(level)
 }
