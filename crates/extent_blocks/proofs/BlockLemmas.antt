@@ -1,17 +1,16 @@
 -- Places in blocks: those of a block that are in a column, and what is seen of a column block by block.
-use Rattle.std.proofs.Common.{◌≡◌, ◌≢◌, ℕ, zero, suc, ◌+◌, ◌*◌, ◌/◌, ◌%◌, ◌<◌, ◌≤◌, Bool, true, false, ◌&&◌, ◌||◌, Option, Some, None, MatchOption, List, [], ◌∷◌, ◌++◌, All, length, get_or, set, map, replicate, refl, sym, ap, ap₂, ◌∙◌, subst, arith, eqb, eqb-true, ltb, inl, inr}
-use Rattle.std.proofs.lemmas.Bool.{false≢true, and_parts, and_from, eq-eqb, cases_eq, cases_Bool, false_from_ne_true, lt-ltb, ltb-true, le-ltb, or_left, or_right}
-use Rattle.std.proofs.lemmas.List.{get_or_past, get_or_default, get_or-set_same, get_or-set_other, get_or-replicate, length-set}
+use Rattle.std.proofs.Common.{◌≡◌, ℕ, ◌+◌, ◌*◌, ◌/◌, ◌%◌, ◌<◌, ◌≤◌, Bool, true, false, ◌&&◌, Option, Some, None, MatchOption, List, [], length, get_or, map, sym, ap, ◌∙◌, arith, eqb, eqb-true}
+use Rattle.std.proofs.lemmas.Bool.{false≢true, and_parts, and_from, eq-eqb, false_from_ne_true}
+use Rattle.std.proofs.lemmas.List.{get_or_past, get_or_default}
 use Rattle.std.specs.List.{list_any}
-use Rattle.fca_model.specs.Sets.{Set, within, meet}
-use Rattle.fca_model.specs.Context.{Context}
+use Rattle.fca_model.specs.Sets.{Set, meet}
 use Rattle.fca_model.specs.Exploration.{first_missing}
 use Rattle.fca_model.proofs.ListLemmas.{bool_iff, list_any-map}
 use Rattle.fca_model.proofs.SetLemmas.{get_or-meet, within_at_place}
 use Rattle.fca_model.proofs.StepLemmas.{first_missing_none}
 use Rattle.attr_bits.proofs.DifferenceLemmas.{first_missing-parts}
 use Rattle.attr_bits.proofs.PlaceLemmas.{member_below}
-use Rattle.extent_blocks.specs.Blocks.{in_block, in_column, in_parts, Part, row_at, contains_at, has_at}
+use Rattle.extent_blocks.specs.Blocks.{in_block, in_column, in_parts, Part}
 
 module _ (n : ℕ) (O : Set) (g : ℕ) where
   abbrev here : Bool

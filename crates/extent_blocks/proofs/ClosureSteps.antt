@@ -1,5 +1,5 @@
 -- A closure by the rows at places. The closure lies within what is met, and what is kept lies within the closure.
-use Rattle.std.proofs.Common.{◌≡◌, ◌≢◌, ℕ, zero, suc, ◌+◌, ◌-◌, ◌<◌, ◌≤◌, Bool, true, false, ◌&&◌, Some, None, List, [], ◌∷◌, length, get_or, set, length-set, refl, sym, ap, ◌∙◌, subst, arith, ltb}
+use Rattle.std.proofs.Common.{◌≡◌, ℕ, zero, suc, ◌+◌, ◌<◌, ◌≤◌, Bool, true, false, ◌&&◌, Some, None, List, [], ◌∷◌, length, get_or, set, length-set, refl, sym, ap, ◌∙◌, subst, arith, ltb}
 use Rattle.std.proofs.lemmas.Bool.{false≢true, and_parts, and_from, lt-ltb, ltb-true}
 use Rattle.std.proofs.lemmas.List.{get_or_read}
 use Rattle.std.specs.List.{list_all}
@@ -9,7 +9,7 @@ use Rattle.fca_model.specs.Implications.{rule, respects}
 use Rattle.fca_model.specs.Exploration.{first_missing}
 use Rattle.fca_model.proofs.SetLemmas.{within_refl, within_trans, within_antisymm, within-meet, within_full, length-full, length-meet, get_or-meet, set_within, size-set, size_le, size_strict, strictly_from}
 use Rattle.fca_model.proofs.StepLemmas.{first_missing_none}
-use Rattle.fca_model.proofs.ClosureLemmas.{length-closure, within-closure, closure_extensive, closure_in_rows, respects_from, respects_at}
+use Rattle.fca_model.proofs.ClosureLemmas.{length-closure, within-closure, closure_in_rows, respects_from, respects_at}
 use Rattle.attr_bits.proofs.DifferenceLemmas.{first_missing-parts}
 use Rattle.attr_bits.proofs.PlaceLemmas.{member_below}
 use Rattle.extent_blocks.specs.Blocks.{Part, IsExtentWith, in_parts, row_at, contains_at, has_at}

@@ -1,13 +1,13 @@
 -- Columns, place by place.
-use Rattle.std.proofs.Common.{◌≡◌, ◌≢◌, ℕ, zero, suc, ◌+◌, ◌/◌, ◌%◌, ◌<◌, ◌≤◌, Bool, true, false, ◌&&◌, List, [], ◌∷◌, ◌++◌, All, length, get_or, set, map, replicate, refl, sym, ap, ap₂, ◌∙◌, subst, arith, eqb, ltb, inl, inr}
-use Rattle.std.proofs.lemmas.Bool.{false≢true, and_parts, and_from, cases_eq, cases_lt, false_from_ne_true, lt-ltb, ltb-true}
-use Rattle.std.proofs.lemmas.List.{get_or_past, get_or_default, get_or-set_same, get_or-set_other, get_or-replicate, length-replicate, length-map, get_or_push, get_or_append_left, map-append, length-set}
+use Rattle.std.proofs.Common.{◌≡◌, ◌≢◌, ℕ, zero, suc, ◌+◌, ◌/◌, ◌%◌, ◌<◌, Bool, true, false, ◌&&◌, List, [], ◌∷◌, ◌++◌, All, length, get_or, set, map, replicate, refl, sym, ap, ◌∙◌, subst, arith, ltb, inl, inr}
+use Rattle.std.proofs.lemmas.Bool.{false≢true, and_parts, and_from, cases_eq, cases_lt, lt-ltb, ltb-true}
+use Rattle.std.proofs.lemmas.List.{get_or_past, get_or-set_same, get_or-set_other, length-replicate, length-map, get_or_push, get_or_append_left, map-append, length-set}
 use Rattle.std.proofs.lemmas.List.Elements.{All-get_or, All-from_get_or}
 use Rattle.fca_model.specs.Sets.{Set, within}
 use Rattle.fca_model.specs.Context.{Context}
 use Rattle.fca_model.proofs.ListLemmas.{bool_iff}
 use Rattle.fca_model.proofs.SetLemmas.{within_at_place, set_within, within_from_places}
-use Rattle.extent_blocks.specs.Blocks.{IsColumn, in_column, row_at, contains_at, has_at}
+use Rattle.extent_blocks.specs.Blocks.{in_column, row_at, contains_at, has_at}
 
 -- ---- no places
 

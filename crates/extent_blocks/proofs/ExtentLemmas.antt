@@ -1,5 +1,5 @@
 -- Extents of larger sets: sets between a set and its closure have the same rows.
-use Rattle.std.proofs.Common.{◌≡◌, ℕ, ◌<◌, Bool, true, false, ◌&&◌, List, length, get_or, set, sym, ap, ap₂, ◌∙◌, ltb}
+use Rattle.std.proofs.Common.{◌≡◌, ℕ, ◌<◌, true, false, ◌&&◌, List, length, set, ap, ◌∙◌, ltb}
 use Rattle.std.proofs.lemmas.Bool.{and_parts, and_from}
 use Rattle.std.proofs.lemmas.List.{get_or-set_same}
 use Rattle.fca_model.specs.Sets.{Set, within}

@@ -1,4 +1,5 @@
 mod BlockLemmas
 mod ColumnLemmas
 mod ClosureSteps
+mod RowLemmas
 pub mod ExtentLemmas

@@ -2,11 +2,11 @@
 --
 -- Place g is the one of number g % 256 in block g / 256. Of the rows {a, b}, {b} the column of a is the set with place 0 alone, and the extent of {b} has
 -- both places: those of it that have a are the extent of {a, b}.
-use Rattle.std.specs.Prelude.{◌≡◌, ◌==◌, ◌<◌, ◌&&◌, ◌/◌, ◌%◌, ℕ, Bool, false, List, [], length, nat_lt, slice_index_or}
+use Rattle.std.specs.Prelude.{◌≡◌, ◌==◌, ◌<◌, ◌&&◌, ◌/◌, ◌%◌, ℕ, Bool, true, false, List, [], length, nat_lt, slice_index_or}
 use Rattle.std.specs.Int.{div_ceil}
 use Rattle.std.specs.List.{list_any}
 use Rattle.fca_model.specs.Sets.{Set, within}
-use Rattle.fca_model.specs.Context.{Context}
+use Rattle.fca_model.specs.Context.{Context, closure}
 
 -- row g, and no members where there is none
 abbrev pub row_at : Context → ℕ → Set
@@ -53,3 +53,12 @@ IsExtent K A Ps = (g : ℕ) → in_parts Ps g ≡ contains_at K A g
 -- those of these whose rows have attribute i are the places of the rows that contain A
 abbrev pub IsExtentWith : Context → Set → ℕ → List Part → Type 0
 IsExtentWith K A i Ps = (g : ℕ) → (in_parts Ps g && has_at K i g) ≡ contains_at K A g
+
+-- M is a set on the way from all attributes down to the closure of A
+pub record IsMeeting (K : Context) (A M : Set) : Type 0 where
+  pub wide : length M ≡ K.width
+  pub above : within (closure K A) M ≡ true
+
+-- the rows at the places that pass the test are met: M lies within each of them
+abbrev pub IsMet : Context → (ℕ → Bool) → Set → Type 0
+IsMet K p M = (g : ℕ) → p g ≡ true → within M (row_at K g) ≡ true

@@ -1,18 +1,20 @@
 //! The places of the rows that contain a set.
 
-ghost use Rattle.std.specs.Prelude.{◌≡◌, ◌≤◌, ◌<◌, ◌&&◌, ◌+◌, ◌*◌, ◌^◌, ℕ, IfOk, MatchOption, length, true, false};
+ghost use Rattle.std.specs.Prelude.{◌≡◌, ◌≤◌, ◌<◌, ◌&&◌, ◌+◌, ◌*◌, ◌^◌, ℕ, [], IfOk, OnOk, MatchOption, length, true, false};
 ghost use Rattle.std.specs.List.{list_any};
+ghost use Rattle.fca_model.specs.Sets.{within};
 ghost use Rattle.fca_model.specs.Context.{closure};
-ghost use Rattle.extent_blocks.specs.Blocks.{IsExtent, IsExtentWith, has_at, in_block, in_column, in_parts};
+ghost use Rattle.extent_blocks.specs.Blocks.{IsExtent, IsExtentWith, IsMeeting, IsMet, contains_at, has_at, in_block, in_column, in_parts};
 
 use crate::sheet::{BLOCK, Objects, Sheet, places_above};
 use attr_bits::Bits;
+use derivation::RowsOf;
 use fca_model::Memory;
 use std::alloc::Global;
 use std::marker::Model;
 
-/// Rows are met one by one where there are no more of them than this.
-const FEW_ROWS: usize = 24;
+/// Rows are met one after another where their places are in no more blocks than this.
+const FEW_BLOCKS: usize = 8;
 
 /// Some places of the block of this number.
 #[derive(Clone, Copy)]
@@ -47,33 +49,61 @@ impl Near {
         })
     }
 
-    /// Those of the places whose rows have attribute i.
-    pub fn having<const W: usize>(
-        &self,
-        alloc: Global,
-        sheet: &Sheet<W>,
-        i: u32,
-    ) -> Result<Near, Memory>
-        requires { i < sheet.now.width }
-        ensures { IfOk result (λ near. (g : ℕ) → in_parts near g ≡ (in_parts self.now g && has_at sheet.now i g)) }
+    /// No places.
+    pub fn new(alloc: Global) -> Near
+        ensures { result ≡ [] }
     {
-        Ok(Near {
-            blocks: kept_in(alloc, &self.blocks, sheet.column(i))?,
-        })
+        Near {
+            blocks: Vec::new(alloc),
+        }
     }
 
-    /// The closure of a, where those of the places whose rows have attribute i are the places of the rows that contain a. What is met is the meet of some of these
-    /// rows; an attribute of it that none of them lacks is kept.
+    /// Puts those of the places above whose rows have attribute i in the place of what it had, whose room is used again.
+    pub fn set_having<const W: usize>(
+        &mut self,
+        above: &Near,
+        sheet: &Sheet<W>,
+        i: u32,
+    ) -> Result<(), Memory>
+        requires { i < sheet.now.width }
+        ensures { OnOk result ((g : ℕ) → in_parts self.new g ≡ (in_parts above.now g && has_at sheet.now i g)) }
+    {
+        keep_in(&above.blocks, sheet.column(i), &mut self.blocks)
+    }
+
+    /// The closure of a, where those of the places whose rows have attribute i are the places of the rows that contain a.
     pub fn closure_with<const W: usize>(&self, sheet: &Sheet<W>, i: u32, a: &Bits<W>) -> Bits<W>
         requires inside { i < sheet.now.width }
         requires wide { length a.now ≡ sheet.now.width }
         requires extent { IsExtentWith sheet.now a.now i self.now }
         ensures { result ≡ closure sheet.now a.now }
     {
-        let rows = sheet.rows();
-        if rows.len() <= FEW_ROWS {
-            return rows.closure(a);
+        let _width = sheet.rows().width();
+        if self.blocks.len() <= FEW_BLOCKS {
+            return self.closure_by_rows(sheet, i, a);
         }
+        self.closure_by_columns(sheet, i, a)
+    }
+
+    /// The same, as the meet of these rows one after another.
+    fn closure_by_rows<const W: usize>(&self, sheet: &Sheet<W>, i: u32, a: &Bits<W>) -> Bits<W>
+        requires inside { i < sheet.now.width }
+        requires wide { length a.now ≡ sheet.now.width }
+        requires extent { IsExtentWith sheet.now a.now i self.now }
+        ensures { result ≡ closure sheet.now a.now }
+    {
+        let _width = sheet.rows().width();
+        meet_of_rows(&self.blocks, sheet.column(i), sheet.rows(), a)
+    }
+
+    /// The same. What is met is the meet of some of these rows; an attribute of it that none of them lacks is kept.
+    fn closure_by_columns<const W: usize>(&self, sheet: &Sheet<W>, i: u32, a: &Bits<W>) -> Bits<W>
+        requires inside { i < sheet.now.width }
+        requires wide { length a.now ≡ sheet.now.width }
+        requires extent { IsExtentWith sheet.now a.now i self.now }
+        ensures { result ≡ closure sheet.now a.now }
+    {
+        let rows = sheet.rows();
         let mut met = Bits::full(rows.width());
         let mut kept = *a;
         while let Some(k) = met.first_missing(&kept) {
@@ -132,6 +162,56 @@ impl Block {
         };
         self.objects.meet(with).first_missing(&lacking[self.number])
     }
+
+    /// The meet of the set and the rows at those of the places that are in the column. All of them contain a, so once it lies within a, the rows that are left
+    /// change nothing.
+    fn meet_rows<const W: usize>(
+        &self,
+        column: &[Objects],
+        rows: &RowsOf<W>,
+        a: &Bits<W>,
+        start: &Bits<W>,
+    ) -> Bits<W>
+        requires start { IsMeeting rows.now a.now start.now }
+        requires containing { (g : ℕ) → (in_block self.now.number self.now.objects g && in_column column.now g) ≡ true → contains_at rows.now a.now g ≡ true }
+        ensures meeting { IsMeeting rows.now a.now result }
+        ensures less { within result start.now ≡ true }
+        ensures below { IsMet rows.now (λ g. in_block self.now.number self.now.objects g && in_column column.now g) result }
+    {
+        let _places = (self.objects.width(), rows.len());
+        let Some(having) = column.get(self.number) else {
+            return *start;
+        };
+        let left = self.objects.meet(having);
+        let mut met = *start;
+        let mut from = 0;
+        while let Some(j) = left.next_member(from) {
+            met = met.meet(&rows.as_slice()[self.number * BLOCK + j as usize]);
+            if met.within(a) {
+                return met;
+            }
+            from = j + 1;
+        }
+        met
+    }
+}
+
+/// The meet of the rows at those of the places of the blocks that are in the column, where these are the rows that contain a.
+fn meet_of_rows<const W: usize>(
+    blocks: &[Block],
+    column: &[Objects],
+    rows: &RowsOf<W>,
+    a: &Bits<W>,
+) -> Bits<W>
+    requires wide { length a.now ≡ rows.now.width }
+    requires extent { (g : ℕ) → (list_any (λ x. in_block x.number x.objects g) blocks.now && in_column column.now g) ≡ contains_at rows.now a.now g }
+    ensures { result ≡ closure rows.now a.now }
+{
+    let mut met = Bits::full(rows.width());
+    for block in blocks {
+        met = block.meet_rows(column, rows, a, &met);
+    }
+    met
 }
 
 /// The blocks of a column with their numbers.
@@ -148,18 +228,18 @@ fn numbered(alloc: Global, column: &[Objects]) -> Result<Vec<Block>, Memory>
     Ok(blocks)
 }
 
-/// Those of the places of the blocks that are in the column.
-fn kept_in(alloc: Global, blocks: &[Block], column: &[Objects]) -> Result<Vec<Block>, Memory>
-    ensures { IfOk result (λ kept. (g : ℕ) → list_any (λ x. in_block x.number x.objects g) kept.items
+/// Puts those of the places of the blocks that are in the column in the place of what was kept.
+fn keep_in(blocks: &[Block], column: &[Objects], kept: &mut Vec<Block>) -> Result<(), Memory>
+    ensures { OnOk result ((g : ℕ) → list_any (λ x. in_block x.number x.objects g) kept.new.items
         ≡ (list_any (λ x. in_block x.number x.objects g) blocks.now && in_column column.now g)) }
 {
-    let mut kept = Vec::with_capacity(alloc, blocks.len())?;
+    kept.clear();
     for block in blocks {
         if let Some(part) = block.meet(column) {
             kept.push(part)?;
         }
     }
-    Ok(kept)
+    Ok(())
 }
 
 /// One of the places of the blocks that is in the one column and not in the other.

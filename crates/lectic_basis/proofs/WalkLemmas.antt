@@ -1,11 +1,12 @@
 -- The steps of the walk. At a set that is no intent a member is pushed, and the walk goes on with its closure, or ends where that differs before the
 -- attribute by which the set was entered. Below an intent each attribute that it lacks is tried, the last first; what was found at attribute i is what stands up
 -- to place i of the intent.
-use Rattle.std.proofs.Common.{◌≡◌, ℕ, suc, ◌+◌, ◌<◌, ◌≤◌, Bool, true, false, Option, Some, None, MatchOption, IfSome, Result, Ok, Err, IfOk, OnOk, List, [], ◌∷◌, ◌++◌, length, get_or, set, replicate, length-set, refl, sym, ap, ◌∙◌, subst, arith}
-use Rattle.std.proofs.lemmas.Bool.{false≢true, and_parts, false_from_ne_true}
+use Rattle.std.proofs.Common.{◌≡◌, ℕ, zero, suc, ◌+◌, ◌-◌, ◌<◌, ◌≤◌, Bool, true, false, not, ◌&&◌, ◌||◌, ◌⊎◌, inl, inr, leb, Option, Some, None, MatchOption, IfSome, Result, Ok, Err, IfOk, OnOk, List, [], ◌∷◌, ◌++◌, length, get_or, set, replicate, length-set, refl, sym, ap, ◌∙◌, subst, arith}
+use Rattle.std.proofs.lemmas.Bool.{false≢true, and_parts, false_from_ne_true, leb-false}
 use Rattle.std.proofs.lemmas.List.Folds.{list_all-append}
 use Rattle.std.proofs.lemmas.Result.{IfOk-weaker}
 use Rattle.std.specs.List.{list_all}
+use Rattle.std.specs.Option.{is_some}
 use Rattle.fca_model.specs.Sets.{Set, same, within}
 use Rattle.fca_model.specs.Context.{Context, closure, is_closed}
 use Rattle.fca_model.specs.Implications.{Rule, rule, respects, respects_all, holds}
@@ -17,7 +18,7 @@ use Rattle.extent_blocks.specs.Blocks.{Part, IsExtent, IsExtentWith}
 use Rattle.extent_blocks.proofs.ExtentLemmas.{extent_larger, extent_shared}
 use Rattle.lectic_basis.specs.Trees.{InFamily, IsLeastBehind, up_to, members_where, found_where}
 use Rattle.lectic_basis.specs.Walks.{IsVisit, IsBelow, IsTrying, HasFound, IsPart, IsPartBefore}
-use Rattle.lectic_basis.specs.Forced.{AreForced, IsLonger}
+use Rattle.lectic_basis.specs.Forced.{AreForced, IsLastTried, IsLonger, NoneTried, is_tried}
 use Rattle.lectic_basis.specs.Watches.{Watched, IsFiled, IsGood, CanClose, HasMoved, IsClosedBefore, Differs, IsPutBefore, Covers}
 use Rattle.lectic_basis.proofs.PlaceLemmas.{up_to_member, within_set, agree_with, agree_less, up_to_less}
 use Rattle.lectic_basis.proofs.FamilyLemmas.{family_of_closed, closed_closure, same_where, where_all, where_at, where_known, closed_respects_where}
@@ -311,6 +312,45 @@ told_extent K C i Ps (Ok (Some b)) extent larger shared = extent_shared K C b i 
 pub below_forced : {S : List Rule} {K L : Context} {A : Set} {i : ℕ} {G : Watched} (w : ℕ) (ws : List ℕ) → IsTrying S K L A i G → get_or A i false ≡ false → AreForced G.list.members A ws → get_or ws i i ≡ w → w < i → get_or A w false ≡ false
     → HasFound S K A i (IsPart A) G G
 below_forced {A = A} {i = i} {G = G} w ws t lacks f is lt missing = below_none t lacks refl (record { list = refl; filed = t.at.filed; kept = λ Y h p o. o }) (forced_differs G.list.members A ws i w (omega (arith, t.inside, t.at.family.wide)) f is lt missing)
+
+tried_parts : (a l b : Bool) → (not a && (l || b)) ≡ false → (a ≡ true) ⊎ ((a ≡ false) × (l ≡ false) × (b ≡ false))
+tried_parts true l b e = inl refl
+tried_parts false false false e = inr (refl, refl, refl)
+tried_parts false true b e = absurd (false≢true (sym e))
+tried_parts false false true e = absurd (false≢true (sym e))
+
+-- where none of some attributes is tried, no member is left out
+pub none_found : {S : List Rule} {K L : Context} {A : Set} {from : ℕ} {F G : Watched} (ws : List ℕ) → IsBelow S K L A from F → AreForced G.list.members A ws → (d j i : ℕ) → j ≡ d + i → from ≤ i → j ≤ K.width
+    → HasFound S K A j (IsPart A) F G → NoneTried A ws i j → HasFound S K A i (IsPart A) F G
+none_found {S = S} {K = K} {A = A} {F = F} {G = G} ws b f zero j i e least le h none = let same : j ≡ i = omega (arith, e) in subst (λ k. HasFound S K A k (IsPart A) F G) same h
+none_found {S = S} {K = K} {L = L} {A = A} {F = F} {G = G} ws b f (suc d) j i e least le h none =
+    let k : ℕ = d + i in
+    let t : IsTrying S K L A k G = trying b le h (omega (arith, e)) (omega (arith, least)) in
+    let step : HasFound S K A k (IsPart A) G G = elim (tried_parts (get_or A k false) (leb k (get_or ws k k)) (get_or A (get_or ws k k) false) (none k (omega arith) (omega (arith, e)))) [
+      | inl has ↦ below_member t has
+      | inr (lacks, less, missing) ↦ below_forced (get_or ws k k) ws t lacks f refl (leb-false k (get_or ws k k) less) missing
+    ] in
+    none_found ws b f d k i refl least (omega (arith, le, e)) (found_then h step) (λ m l u. none m l (omega (arith, u, e)))
+
+-- the last attribute that is tried
+pub last_found : {S : List Rule} {K L : Context} {A : Set} {from before i : ℕ} {F G : Watched} (ws : List ℕ) → IsBelow S K L A from F → AreForced G.list.members A ws → before ≤ K.width
+    → HasFound S K A before (IsPart A) F G → IsLastTried A ws from before i → HasFound S K A (i + 1) (IsPart A) F G
+last_found {before = before} {i = i} ws b f le h t =
+    let inside : i < before = t.in_range in
+    let least = t.at_least in
+    none_found ws b f (before - (i + 1)) before (i + 1) (omega (arith, inside)) (omega (arith, least)) le h t.last
+
+pub tried_lacks : (A : Set) (ws : List ℕ) (i : ℕ) → is_tried A ws i ≡ true → get_or A i false ≡ false
+tried_lacks A ws i t = lacking (get_or A i false) (and_parts (not (get_or A i false)) (leb i (get_or ws i i) || get_or A (get_or ws i i) false) t).0
+  where
+    lacking : (a : Bool) → not a ≡ true → a ≡ false
+    lacking true e = absurd (false≢true e)
+    lacking false e = refl
+
+-- where nothing is told, nothing is tried
+pub none_told : (A : Set) (ws : List ℕ) (from before : ℕ) (o : Option ℕ) → is_some o ≡ false → MatchOption o (NoneTried A ws from before) (IsLastTried A ws from before) → NoneTried A ws from before
+none_told A ws from before None e h = h
+none_told A ws from before (Some i) e h = absurd (false≢true (sym e))
 
 pub below_up : (A X C : Set) (i : ℕ) (J : List Rule) → X ≡ set A i true → IsClosure J X C → within A C ≡ true
 below_up A X C i J x c = within_trans A (set A i true) C (within_set A i) (subst (λ Y. within Y C ≡ true) x c.above)

@@ -5,7 +5,7 @@
 -- the tree; LinCbO with pruning does so too.)
 --
 -- Under {a} -> {c} each set that contains {b} and has a has c, and so each that contains {b, d}.
-use Rattle.std.specs.Prelude.{◌≡◌, ℕ, true, false, List, slice_index_or}
+use Rattle.std.specs.Prelude.{◌≡◌, ℕ, ◌<◌, ◌≤◌, ◌+◌, Bool, true, false, not, ◌&&◌, ◌||◌, List, nat_le, slice_index_or}
 use Rattle.fca_model.specs.Sets.{Set, within}
 use Rattle.fca_model.specs.Implications.{Rule, respects_all}
 
@@ -16,3 +16,18 @@ IsLonger J M = (T : Set) → respects_all M T ≡ true → respects_all J T ≡ 
 -- each set that contains A, has i and respects J has the attribute at place i; where none stands there, that is i itself
 abbrev pub AreForced : List Rule → Set → List ℕ → Type 0
 AreForced J A ws = (i : ℕ) (T : Set) → within A T ≡ true → slice_index_or T i false ≡ true → respects_all J T ≡ true → slice_index_or T (slice_index_or ws i i) false ≡ true
+
+-- attribute i is tried below A: A lacks it, and what it forces is not before it, or A has that
+abbrev pub is_tried : Set → List ℕ → ℕ → Bool
+is_tried A ws i = not (slice_index_or A i false) && (nat_le i (slice_index_or ws i i) || slice_index_or A (slice_index_or ws i i) false)
+
+-- none of these attributes is tried
+abbrev pub NoneTried : Set → List ℕ → ℕ → ℕ → Type 0
+NoneTried A ws from before = (j : ℕ) → from ≤ j → j < before → is_tried A ws j ≡ false
+
+-- i is the last of these attributes that is tried
+pub record IsLastTried (A : Set) (ws : List ℕ) (from before i : ℕ) : Type 0 where
+  pub at_least : from ≤ i
+  pub in_range : i < before
+  pub tried : is_tried A ws i ≡ true
+  pub last : NoneTried A ws (i + 1) before

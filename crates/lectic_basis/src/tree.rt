@@ -1,12 +1,12 @@
 //! The walk through the tree. Below a set of the family are, for each later attribute that it lacks, the sets that agree with it before that attribute and
 //! have it. Found members that wait for an attribute outside a set still do so when all below it was visited.
 
-ghost use Rattle.std.specs.Prelude.{◌≡◌, ◌<◌, ◌+◌, true, List, OnOk, IfOk, IfSome, MatchOption, slice_set};
+ghost use Rattle.std.specs.Prelude.{◌≡◌, ◌<◌, ◌≤◌, ◌+◌, true, false, List, OnOk, IfOk, IfSome, MatchOption, length, slice_index_or, slice_set};
 ghost use Rattle.fca_model.specs.Sets.{within};
 ghost use Rattle.fca_model.specs.Context.{closure};
 ghost use Rattle.fca_model.specs.Implications.{Rule};
 ghost use Rattle.extent_blocks.specs.Blocks.{IsExtent, IsExtentWith};
-ghost use Rattle.lectic_basis.specs.Forced.{AreForced, IsLonger};
+ghost use Rattle.lectic_basis.specs.Forced.{AreForced, IsLastTried, IsLonger, NoneTried, is_tried};
 ghost use Rattle.lectic_basis.specs.Watches.{Watched, IsBounded};
 ghost use Rattle.lectic_basis.specs.Walks.{IsVisit, IsBelow, IsTrying, HasFound, IsPart, IsPartBefore};
 
@@ -17,6 +17,13 @@ use extent_blocks::{Near, Sheet};
 use fca_model::{Implication, Memory};
 use implication_closure::ImplicationList;
 use std::alloc::Global;
+
+/// What goes down the tree with an intent: the places of the rows that contain it, and what attributes force. The lists of a step are used again by later ones.
+#[derive(Drop)]
+struct Desk {
+    near: Near,
+    forced: Vec<u32>,
+}
 
 /// Visits a, and then all that agree with it before attribute `from`.
 pub(crate) fn visit_all<const W: usize>(
@@ -35,60 +42,100 @@ pub(crate) fn visit_all<const W: usize>(
     match visit(sheet, known, found, a, &closed, from)? {
         None => Ok(()),
         Some(intent) => {
-            let near = Near::of(alloc, sheet, &intent)?;
-            let mut forced = first_forced(alloc, found, &intent)?;
+            let mut desk = first_desk(alloc, sheet, found, &intent)?;
+            let mut desks = Vec::new(alloc);
             spread(
-                alloc,
-                sheet,
-                &near,
-                known,
-                found,
-                &intent,
-                from,
-                &mut forced,
+                alloc, sheet, known, found, &intent, from, &mut desk, &mut desks,
             )
         }
     }
 }
 
-/// Visits all that agree with the intent a before attribute `from` and come behind it. The rows near by are those that contain a. What attributes force goes down
-/// to the children.
+/// Visits all that agree with the intent a before attribute `from` and come behind it.
+#[cycle(spread)]
 fn spread<const W: usize>(
     alloc: Global,
     sheet: &Sheet<W>,
-    near: &Near,
     known: &ImplicationList,
     found: &mut WatchedList<W>,
     a: &Bits<W>,
     from: u32,
-    forced: &mut Vec<u32>,
+    desk: &mut Desk,
+    desks: &mut Vec<Desk>,
 ) -> Result<(), Memory>
     requires below { IsBelow known.now.members sheet.now sheet.now a.now from found.old }
-    requires near { IsExtent sheet.now a.now near.now }
-    requires forced { AreForced found.old.list.members a.now forced.old.items }
+    requires near { IsExtent sheet.now a.now desk.old.near }
+    requires forced { AreForced found.old.list.members a.now desk.old.forced.items }
     ensures { OnOk result (HasFound known.now.members sheet.now a.now from (IsPart a.now) found.old found.new) }
 {
-    for i in (from..sheet.rows().width()).rev() {
-        if let Some(child) = child_at(sheet, near, known, found, a, i, forced)? {
-            let below = near_below(alloc, sheet, near, &child, i)?;
-            let mut passed = passed_on(alloc, found, &child, forced)?;
-            spread(
-                alloc,
-                sheet,
-                &below,
-                known,
-                found,
-                &child,
-                i + 1,
-                &mut passed,
-            )?;
+    let mut before = sheet.rows().width();
+    while let Some(i) = last_tried(a, &desk.forced, from, before) {
+        if let Some(child) = child_at(sheet, &desk.near, known, found, a, i, &mut desk.forced)? {
+            spread_below(alloc, sheet, known, found, &child, i, desk, desks)?;
         }
+        before = i;
     }
     Ok(())
 }
 
-/// Visits the least set of the family that contains a and attribute i, if a lacks i and the set agrees with a before it. Where more is left there, it is
-/// behind the intent that is told. Where attribute i is seen to force another one before it that a lacks, the closure is not looked for.
+/// Visits all that agree with the intent a before attribute i + 1 and come behind it, where attribute i was tried at the desk above. Where none of them is to be
+/// tried, no rows are looked for.
+#[cycle(spread)]
+fn spread_below<const W: usize>(
+    alloc: Global,
+    sheet: &Sheet<W>,
+    known: &ImplicationList,
+    found: &mut WatchedList<W>,
+    a: &Bits<W>,
+    i: u32,
+    above: &Desk,
+    desks: &mut Vec<Desk>,
+) -> Result<(), Memory>
+    requires inside { i < sheet.now.width }
+    requires below { IsBelow known.now.members sheet.now sheet.now a.now (i + 1) found.old }
+    requires near { IsExtentWith sheet.now a.now i above.now.near }
+    requires forced { AreForced found.old.list.members a.now above.now.forced.items }
+    ensures { OnOk result (HasFound known.now.members sheet.now a.now (i + 1) (IsPart a.now) found.old found.new) }
+{
+    let _width = found.width();
+    if last_tried(a, &above.forced, i + 1, sheet.rows().width()).is_none() {
+        return Ok(());
+    }
+    let mut desk = taken(alloc, desks);
+    fill(&mut desk, sheet, a, i, above)?;
+    spread(alloc, sheet, known, found, a, i + 1, &mut desk, desks)?;
+    desks.push(desk)?;
+    Ok(())
+}
+
+/// The last attribute of these that is tried below a.
+fn last_tried<const W: usize>(a: &Bits<W>, forced: &[u32], from: u32, before: u32) -> Option<u32>
+    requires order { from ≤ before }
+    requires inside { before ≤ length a.now }
+    ensures { MatchOption result (NoneTried a.now forced.now from before) (IsLastTried a.now forced.now from before) }
+{
+    for i in (from..before).rev() {
+        if tries(a, forced, i) {
+            return Some(i);
+        }
+    }
+    None
+}
+
+/// Whether attribute i is tried below a: a lacks it, and it is not seen to force one before it that a lacks.
+fn tries<const W: usize>(a: &Bits<W>, forced: &[u32], i: u32) -> bool
+    requires { i < length a.now }
+    ensures { result ≡ is_tried a.now forced.now i }
+{
+    if a.has(i) {
+        return false;
+    }
+    let member = forced.get(i as usize).copied().unwrap_or(i);
+    i <= member || a.has(member)
+}
+
+/// Visits the least set of the family that contains a and attribute i, which a lacks, if the set agrees with a before it. Where more is left there, it is behind
+/// the intent that is told.
 fn child_at<const W: usize>(
     sheet: &Sheet<W>,
     near: &Near,
@@ -99,6 +146,7 @@ fn child_at<const W: usize>(
     forced: &mut Vec<u32>,
 ) -> Result<Option<Bits<W>>, Memory>
     requires trying { IsTrying known.now.members sheet.now sheet.now a.now i found.old }
+    requires lacks { slice_index_or a.now i false ≡ false }
     requires near { IsExtent sheet.now a.now near.now }
     requires forced { AreForced found.old.list.members a.now forced.old.items }
     ensures below { IfOk result (λ child. IfSome child (λ b. IsBelow known.now.members sheet.now sheet.now b (i + 1) found.new)) }
@@ -110,13 +158,6 @@ fn child_at<const W: usize>(
     ensures passed { IfOk result (λ child. IfSome child (λ b. AreForced found.new.list.members b forced.new.items)) }
 {
     let _width = found.width();
-    if a.has(i) {
-        return Ok(None);
-    }
-    let member = forced.get(i as usize).copied().unwrap_or(i);
-    if member < i && !a.has(member) {
-        return Ok(None);
-    }
     let mut reached = a.with(i);
     if !close(found, a, &mut reached, i)? {
         note(forced, a, i, &reached);
@@ -163,19 +204,50 @@ fn visit<const W: usize>(
     Ok(Some(*closed))
 }
 
-/// The rows that contain the child, which are those near by that have attribute i.
-fn near_below<const W: usize>(
+/// The desk of the first intent.
+fn first_desk<const W: usize>(
     alloc: Global,
     sheet: &Sheet<W>,
-    near: &Near,
-    child: &Bits<W>,
-    i: u32,
-) -> Result<Near, Memory>
-    requires inside { i < sheet.now.width }
-    requires extent { IsExtentWith sheet.now child.now i near.now }
-    ensures { IfOk result (λ below. IsExtent sheet.now child.now below) }
+    found: &WatchedList<W>,
+    a: &Bits<W>,
+) -> Result<Desk, Memory>
+    ensures near { IfOk result (λ desk. IsExtent sheet.now a.now desk.near) }
+    ensures forced { IfOk result (λ desk. AreForced found.now.list.members a.now desk.forced.items) }
 {
-    near.having(alloc, sheet, i)
+    Ok(Desk {
+        near: Near::of(alloc, sheet, a)?,
+        forced: first_forced(alloc, found, a)?,
+    })
+}
+
+/// A desk that was used before, or a new one.
+fn taken(alloc: Global, desks: &mut Vec<Desk>) -> Desk {
+    match desks.pop() {
+        Some(desk) => desk,
+        None => Desk {
+            near: Near::new(alloc),
+            forced: Vec::new(alloc),
+        },
+    }
+}
+
+/// Puts on the desk the places of the rows that contain the child a, which are those above that have attribute i, and what attributes force.
+fn fill<const W: usize>(
+    desk: &mut Desk,
+    sheet: &Sheet<W>,
+    a: &Bits<W>,
+    i: u32,
+    above: &Desk,
+) -> Result<(), Memory>
+    requires inside { i < sheet.now.width }
+    requires extent { IsExtentWith sheet.now a.now i above.now.near }
+    ensures near { OnOk result (IsExtent sheet.now a.now desk.new.near) }
+    ensures forced { OnOk result (desk.new.forced.items ≡ above.now.forced.items) }
+{
+    desk.near.set_having(&above.near, sheet, i)?;
+    desk.forced.clear();
+    desk.forced.extend_from_slice(&above.forced)?;
+    Ok(())
 }
 
 /// Each attribute forces itself.
@@ -191,19 +263,6 @@ fn first_forced<const W: usize>(
         forced.push(i)?;
     }
     Ok(forced)
-}
-
-/// What attributes force, once more.
-fn passed_on<const W: usize>(
-    alloc: Global,
-    found: &WatchedList<W>,
-    a: &Bits<W>,
-    forced: &[u32],
-) -> Result<Vec<u32>, Memory>
-    requires { AreForced found.now.list.members a.now forced.now }
-    ensures { IfOk result (λ passed. AreForced found.now.list.members a.now passed.items) }
-{
-    Ok(Vec::from_slice(alloc, forced)?)
 }
 
 /// Notes that attribute i forces the first attribute of the set that a lacks.

@@ -173,7 +173,9 @@ fn near_below<const W: usize>(
     let tried = a.with(i);
     let shared = near.closure_with(sheet, i, &tried);
     if larger.within(&shared) {
-        return near.having(alloc, sheet, i);
+        let mut below = Near::new(alloc);
+        below.set_having(near, sheet, i)?;
+        return Ok(below);
     }
     Near::of(alloc, sheet, larger)
 }

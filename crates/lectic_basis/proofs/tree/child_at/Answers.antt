@@ -1,27 +1,16 @@
-use Rattle.std.proofs.Common.{◌≡◌, get_or, ap, sym, ◌∙◌, subst, arith}
-use Rattle.std.specs.Prelude.{unwrap_or}
+use Rattle.std.proofs.Common.{sym, subst, arith}
 use Rattle.std.proofs.lemmas.Result.{on_ok_weaker}
 use Rattle.implication_closure.specs.Closing.{RuleList}
 use Rattle.lectic_basis.specs.Forced.{AreForced}
 use Rattle.lectic_basis.specs.Watches.{IsBounded}
-use Rattle.lectic_basis.proofs.WalkLemmas.{below_member, below_can_close, below_none, below_visit, below_told, below_forced, below_up, told_forced, told_extent, below_extent, below_wide}
+use Rattle.lectic_basis.proofs.WalkLemmas.{below_can_close, below_none, below_visit, below_told, below_up, told_forced, told_extent, below_extent, below_wide}
 use Rattle.lectic_basis.proofs.tree.child_at.Goals as goal
 
-pub returns-then-has-clause-done : goal.returns-then-has-clause-done
-returns-then-has-clause-done g c = below_member c.requires.trying (sym c.has.ensures ∙ c.if-has.true)
-
-pub returns-then-not-has-clause-done : goal.returns-then-not-has-clause-done
-returns-then-not-has-clause-done g c =
-    let i = c.args.i in
-    let member : get_or c.args.forced.now.items i i ≡ c.unwrap_or-member.result =
-    sym (c.unwrap_or-member.ensures ∙ ap (λ o. unwrap_or o i) c.copied.ensures ∙ c.get.ensures.lookup.4 (omega arith) i ∙ ap (λ xs. get_or xs i i) c.deref.ensures.value) in
-    below_forced c.unwrap_or-member.result c.args.forced.now.items c.requires.trying (sym c.has.ensures ∙ c.if-has.false) c.requires.forced member c.if-member-i.true (sym c.has-then-member-i.ensures ∙ c.if-not-has.true)
-
 pub close-requires : goal.close-requires
-close-requires g c = (omega arith, (omega (arith, c.width-width.ensures.words), below_can_close c.requires.trying (sym c.has.ensures ∙ c.if-has.false) c.with-reached.ensures))
+close-requires g c = (omega arith, (omega (arith, c.width-width.ensures.words), below_can_close c.requires.trying c.requires.lacks c.with-reached.ensures))
 
 pub returns-then-not-branch-clause-done : goal.returns-then-not-branch-clause-done
-returns-then-not-branch-clause-done g c = below_none c.requires.trying (sym c.has.ensures ∙ c.if-has.false) c.with-reached.ensures c.in_ok-close.ensures.moved (c.in_ok-close.ensures.differs c.if-not-branch.true)
+returns-then-not-branch-clause-done g c = below_none c.requires.trying c.requires.lacks c.with-reached.ensures c.in_ok-close.ensures.moved (c.in_ok-close.ensures.differs c.if-not-branch.true)
 
 pub returns-then-not-branch-clause-kept : goal.returns-then-not-branch-clause-kept
 returns-then-not-branch-clause-kept g c = c.note.ensures c.args.found.now.list.members (subst (λ X. IsBounded c.args.found.now.list.members X c.close.new.closed) c.with-reached.ensures c.in_ok-close.ensures.bounded) c.requires.forced
@@ -29,21 +18,21 @@ returns-then-not-branch-clause-kept g c = c.note.ensures c.args.found.now.list.m
 pub closure_with-closed-requires : goal.closure_with-closed-requires
 closure_with-closed-requires g c =
     let closed = c.in_ok-close.ensures.closure c.if-not-branch.false in
-    let lacks = sym c.has.ensures ∙ c.if-has.false in
+    let lacks = c.requires.lacks in
     (omega arith, (omega (arith, c.width-width.ensures.words), (c.requires.trying.inside, (below_wide c.requires.trying lacks c.with-reached.ensures c.in_ok-close.ensures.moved closed, below_extent c.requires.trying lacks c.with-reached.ensures c.in_ok-close.ensures.moved closed c.args.near.now c.requires.near))))
 
 pub visit-requires : goal.visit-requires
-visit-requires g c = (omega arith, (omega arith, (omega (arith, c.width-width.ensures.words), (below_visit c.requires.trying (sym c.has.ensures ∙ c.if-has.false) c.with-reached.ensures c.in_ok-close.ensures.moved (c.in_ok-close.ensures.closure c.if-not-branch.false), c.closure_with-closed.ensures))))
+visit-requires g c = (omega arith, (omega arith, (omega (arith, c.width-width.ensures.words), (below_visit c.requires.trying c.requires.lacks c.with-reached.ensures c.in_ok-close.ensures.moved (c.in_ok-close.ensures.closure c.if-not-branch.false), c.closure_with-closed.ensures))))
 
 pub returns-clause-near : goal.returns-clause-near
 returns-clause-near g c =
     let closed = c.in_ok-close.ensures.closure c.if-not-branch.false in
-    let lacks = sym c.has.ensures ∙ c.if-has.false in
+    let lacks = c.requires.lacks in
     told_extent c.args.sheet.now c.close.new.closed c.args.i c.args.near.now c.visit.result
     (below_extent c.requires.trying lacks c.with-reached.ensures c.in_ok-close.ensures.moved closed c.args.near.now c.requires.near) c.visit.ensures.larger c.visit.ensures.shared
 
 pub returns-clause-done : goal.returns-clause-done
-returns-clause-done g c = below_told c.requires.trying (sym c.has.ensures ∙ c.if-has.false) c.with-reached.ensures c.in_ok-close.ensures.moved (c.in_ok-close.ensures.closure c.if-not-branch.false) _ c.visit.result c.visit.ensures.done
+returns-clause-done g c = below_told c.requires.trying c.requires.lacks c.with-reached.ensures c.in_ok-close.ensures.moved (c.in_ok-close.ensures.closure c.if-not-branch.false) _ c.visit.result c.visit.ensures.done
 
 pub returns-clause-passed : goal.returns-clause-passed
 returns-clause-passed g c =

@@ -1,4 +1,4 @@
-use Rattle.std.proofs.Common.{◌≡◌, ◌∙◌, ℕ, List, sym, ap}
+use Rattle.std.proofs.Common.{◌∙◌, List, ap}
 use Rattle.fca_model.specs.Sets.{Set}
 use Rattle.fca_model.specs.Context.{Context}
 use Rattle.extent_blocks.specs.Blocks.{in_column, contains_at}

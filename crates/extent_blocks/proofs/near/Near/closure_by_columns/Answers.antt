@@ -1,11 +1,10 @@
-use Rattle.std.proofs.Common.{◌≡◌, ◌∙◌, ℕ, Some, List, get_or, sym, ap, arith}
+use Rattle.std.proofs.Common.{◌≡◌, ◌∙◌, Some, List, get_or, sym, ap, arith}
 use Rattle.fca_model.specs.Sets.{Set}
 use Rattle.fca_model.specs.Context.{Context}
 use Rattle.fca_model.specs.Exploration.{first_missing}
 use Rattle.fca_model.proofs.ClosureLemmas.{closure_extensive}
-use Rattle.attr_bits.proofs.PlaceLemmas.{member_below}
 use Rattle.extent_blocks.proofs.ClosureSteps.{begins, missing_inside, met_wide, met_above, met_less, kept_wide, kept_below, kept_more, ends}
-use Rattle.extent_blocks.proofs.near.Near.closure_with.Goals as goal
+use Rattle.extent_blocks.proofs.near.Near.closure_by_columns.Goals as goal
 
 pub loop-k-init : goal.loop-k-init
 loop-k-init g c =

@@ -1,7 +1,7 @@
 use Rattle.std.proofs.Common.{◌≡◌, ◌+◌, ◌-◌, true, length}
 use Rattle.fca_model.specs.Sets.{within, size}
 use Rattle.fca_model.specs.Context.{closure}
-use Rattle.extent_blocks.proofs.near.Near.closure_with.Given as goal
+use Rattle.extent_blocks.proofs.near.Near.closure_by_columns.Given as goal
 
 abbrev pub invariant-loop-k : goal.invariant-loop-k
 invariant-loop-k g l = record {
