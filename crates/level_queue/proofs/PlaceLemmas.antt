@@ -2,8 +2,7 @@
 -- a row.
 use Rattle.std.proofs.Common.{◌≡◌, ℕ, zero, suc, ◌+◌, ◌<◌, ◌≤◌, ◌-◌, Bool, true, false, not, ◌&&◌, cond, Some, List, [], ◌∷◌, ◌++◌, map, length, get_or, set, take, drop, refl, sym, ap, ap₂, ◌∙◌, subst, arith, inl, inr, ltb, lt-ltb, ltb-true, Ordering, Less, Equal, Greater}
 use Rattle.std.proofs.lemmas.Bool.{false≢true, and_parts, and_from, cases_Bool, cases_lt, cases_eq, not-true, false_from_ne_true}
-use Rattle.std.proofs.lemmas.List.{take_more, take_more_set, drop_more, drop-drop, drop_at, drop-append-le, drop-set-lt, drop-take, length-take-le, length-set, length-drop, append-nil, append_assoc, get_or_default, map-append, take_all}
-use Rattle.std.proofs.lemmas.List.Elements.{filter-append}
+use Rattle.std.proofs.lemmas.List.{take-take, take-set-le, get_or-take, drop_more, drop_all, drop-drop, drop_at, drop-set, length-take-le, length-set, length-drop, append_assoc, get_or_default}
 use Rattle.std.proofs.lemmas.List.Sums.{AllPass-from_list_all, list_all-from_AllPass}
 use Rattle.std.proofs.lemmas.Option.{slice_get-get_or}
 use Rattle.std.specs.List.{list_all, list_any, slice_get, remove, copy_within, AllWithin}
@@ -107,62 +106,51 @@ pub not_false : (b : Bool) → not b ≡ false → b ≡ true
 not_false true h = refl
 not_false false h = absurd (false≢true (sym h))
 
--- ys began as xs. Of those from `first` on that stood before place i, what is left stands in the first k places of ys, and from i on ys is as it was
-pub record IsNarrowing (r : Set) (first : ℕ) (xs ys : List Rule) (k i : ℕ) : Type 0 where
-  pub front : take k ys ≡ still_open (map (narrowed r) (drop first (take i xs)))
-  pub rest : drop i ys ≡ drop i xs
-  pub behind : k ≤ i
-  pub from : first ≤ i
+-- ys began as xs. Of those that stood from place i on, what is left stands from place k on in ys, and before i ys is as it was
+pub record IsNarrowing (r : Set) (xs ys : List Rule) (k i : ℕ) : Type 0 where
+  pub back : drop k ys ≡ still_open (map (narrowed r) (drop i xs))
+  pub rest : take i ys ≡ take i xs
+  pub before : i ≤ k
+  pub inside : k ≤ length ys
   pub long : length ys ≡ length xs
 
-pub narrowing_start : (r : Set) (first : ℕ) (xs : List Rule) → IsNarrowing r first xs xs 0 first
-narrowing_start r first xs = record {
-  front = sym (ap (λ ys. still_open (map (narrowed r) ys)) (ap (λ n. drop first (take n xs)) (omega arith) ∙ drop-take first 0 xs));
+pub narrowing_start : (r : Set) (xs : List Rule) → IsNarrowing r xs xs (length xs) (length xs)
+narrowing_start r xs = record {
+  back = drop_all (length xs) xs (omega arith) ∙ sym (ap (λ ys. still_open (map (narrowed r) ys)) (drop_all (length xs) xs (omega arith)));
   rest = refl;
-  behind = omega arith;
-  from = omega arith;
+  before = omega arith;
+  inside = omega arith;
   long = refl;
 }
 
-pub narrowing_end : {r : Set} {first : ℕ} {xs ys : List Rule} {k i : ℕ} → IsNarrowing r first xs ys k i → length xs ≤ i → take k ys ≡ still_open (map (narrowed r) (drop first xs))
-narrowing_end {r = r} {first = first} {xs = xs} {i = i} n all = n.front ∙ ap (λ zs. still_open (map (narrowed r) (drop first zs))) (take_all i xs all)
-
-module _ {r : Set} {first : ℕ} {xs ys : List Rule} {k i : ℕ} (n : IsNarrowing r first xs ys k i) (l : i < length ys) (q : Rule) (at : q ≡ get_or ys i q) where
+module _ {r : Set} {xs ys : List Rule} {k j : ℕ} (n : IsNarrowing r xs ys k j) (i : ℕ) (next : j ≡ suc i) (l : i < length ys) (q : Rule) (at : q ≡ get_or ys i q) where
   -- what stood there in the beginning
   was : q ≡ get_or xs i q
-  was = at ∙ heads (get_or ys i q) (get_or xs i q) (drop (i + 1) ys) (drop (i + 1) xs) (sym (drop_more ys i q l) ∙ n.rest ∙ drop_more xs i q (let e = n.long in omega (arith, l, e)))
-    where
-      heads : (x y : Rule) (vs ws : List Rule) → x ∷ vs ≡ y ∷ ws → x ≡ y
-      heads x y vs ws e = cc
+  was = at ∙ sym (get_or-take j ys i q (omega (arith, next))) ∙ ap (λ zs. get_or zs i q) n.rest ∙ get_or-take j xs i q (omega (arith, next))
 
-  rest_more : drop (i + 1) ys ≡ drop (i + 1) xs
-  rest_more = ap (λ m. drop m ys) (omega arith) ∙ sym (drop-drop 1 i ys) ∙ ap (drop 1) n.rest ∙ drop-drop 1 i xs ∙ ap (λ m. drop m xs) (omega arith)
+  before_it : take i ys ≡ take i xs
+  before_it = sym (take-take i j ys (omega (arith, next))) ∙ ap (take i) n.rest ∙ take-take i j xs (omega (arith, next))
 
-  reached : drop first (take (i + 1) xs) ≡ drop first (take i xs) ++ q ∷ []
-  reached =
-      let e = n.long in
-      ap (drop first) (take_more xs i q (omega (arith, l, e)) ∙ ap (λ x. take i xs ++ x ∷ []) (sym was))
-      ∙ drop-append-le first (take i xs) (q ∷ []) (let w = length-take-le i xs (omega (arith, l, e)) in let f = n.from in omega (arith, w, f))
+  reached : drop i xs ≡ q ∷ drop j xs
+  reached = drop_more xs i q (let e = n.long in omega (arith, l, e)) ∙ ap₂ (λ x m. x ∷ drop m xs) (sym was) (omega (arith, next))
 
-  more : still_open (map (narrowed r) (drop first (take (i + 1) xs))) ≡ still_open (map (narrowed r) (drop first (take i xs))) ++ still_open (narrowed r q ∷ [])
-  more = ap (λ zs. still_open (map (narrowed r) zs)) reached ∙ ap still_open (map-append (narrowed r) (drop first (take i xs)) (q ∷ [])) ∙ filter-append (λ j. not (same j.premise j.conclusion)) (map (narrowed r) (drop first (take i xs))) (narrowed r q ∷ [])
-
-  pub narrowing_drops : same (narrowed r q).premise (narrowed r q).conclusion ≡ true → IsNarrowing r first xs ys k (i + 1)
-  narrowing_drops t = record {
-    front = n.front ∙ sym (append-nil (still_open (map (narrowed r) (drop first (take i xs))))) ∙ ap (λ zs. still_open (map (narrowed r) (drop first (take i xs))) ++ zs) (sym (ap (λ b. cond (not b) (narrowed r q ∷ []) []) t)) ∙ sym more;
-    rest = rest_more;
-    behind = let b = n.behind in omega (arith, b);
-    from = let f = n.from in omega (arith, f);
+  pub narrowing_drops : is_left r q ≡ false → IsNarrowing r xs ys k i
+  narrowing_drops f = record {
+    back = n.back ∙ sym (ap (λ b. cond b (narrowed r q ∷ still_open (map (narrowed r) (drop j xs))) (still_open (map (narrowed r) (drop j xs)))) f) ∙ sym (ap (λ zs. still_open (map (narrowed r) zs)) reached);
+    rest = before_it;
+    before = let b = n.before in omega (arith, b, next);
+    inside = n.inside;
     long = n.long;
   }
 
-  pub narrowing_keeps : same (narrowed r q).premise (narrowed r q).conclusion ≡ false → IsNarrowing r first xs (set ys k (narrowed r q)) (k + 1) (i + 1)
-  narrowing_keeps f = record {
-    front = take_more_set ys k (narrowed r q) (let b = n.behind in omega (arith, b, l)) ∙ ap (λ zs. zs ++ narrowed r q ∷ []) n.front ∙ ap (λ zs. still_open (map (narrowed r) (drop first (take i xs))) ++ zs) (sym (ap (λ b. cond (not b) (narrowed r q ∷ []) []) f)) ∙ sym more;
-    rest = drop-set-lt (i + 1) ys k (narrowed r q) (let b = n.behind in omega (arith, b)) ∙ rest_more;
-    behind = let b = n.behind in omega (arith, b);
-    from = let f₁ = n.from in omega (arith, f₁);
-    long = length-set ys k (narrowed r q) ∙ n.long;
+  pub narrowing_keeps : is_left r q ≡ true → (m : ℕ) → k ≡ m + 1 → IsNarrowing r xs (set ys m (narrowed r q)) m i
+  narrowing_keeps t m e = record {
+    back = drop-set ys m (narrowed r q) (let b = n.inside in omega (arith, b, e)) ∙ ap (λ zs. narrowed r q ∷ zs) (ap (λ a. drop a ys) (sym e) ∙ n.back)
+        ∙ sym (ap (λ b. cond b (narrowed r q ∷ still_open (map (narrowed r) (drop j xs))) (still_open (map (narrowed r) (drop j xs)))) t) ∙ sym (ap (λ zs. still_open (map (narrowed r) zs)) reached);
+    rest = take-set-le i ys m (narrowed r q) (let b = n.before in omega (arith, b, next, e)) ∙ before_it;
+    before = let b = n.before in omega (arith, b, next, e);
+    inside = let b = n.inside in omega (arith, b, e, length-set ys m (narrowed r q));
+    long = length-set ys m (narrowed r q) ∙ n.long;
   }
 
 -- ---- what a row leaves

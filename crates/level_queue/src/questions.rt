@@ -1,10 +1,10 @@
 //! The open questions in lectic order, which change where they stand: one is taken out, or all are met with a row.
 
-ghost use Rattle.std.specs.Prelude.{◌≡◌, ◌<◌, ◌≤◌, length, map, drop, take, true, false, slice_get, slice_index_or, nat_lt, not, ◌&&◌, Some, IfSome, IsSome};
+ghost use Rattle.std.specs.Prelude.{◌≡◌, ◌<◌, ◌≤◌, length, map, drop, true, false, slice_get, slice_index_or, slice_set, nat_lt, not, ◌&&◌, Some, IfSome, IsSome};
 ghost use Rattle.std.specs.List.{list_any, remove, AllWithin};
 ghost use Rattle.std.specs.Ordering.{is_lt};
 ghost use Rattle.fca_model.specs.Sets.{increasing, lectic_cmp};
-ghost use Rattle.fca_model.specs.Implications.{premises};
+ghost use Rattle.fca_model.specs.Implications.{Rule, premises};
 ghost use Rattle.fca_model.specs.Invariant.{Among};
 ghost use Rattle.level_queue.specs.Queue.{narrowed, still_open, is_left, is_rule};
 
@@ -70,27 +70,36 @@ impl OpenQuestions {
     pub(crate) fn narrow(&mut self, row: &Attrs)
         ensures { self.new ≡ still_open (map (narrowed row.now) self.old) }
     {
-        let kept = narrow_from(&mut self.questions, self.first, row);
-        self.questions.truncate(kept);
-        self.first = 0;
+        self.first = narrow_from(&mut self.questions, self.first, row);
     }
 }
 
-/// Meets the questions from a place on with a row, and moves those that are not closed then to the front. How many these are.
+/// Meets the questions from a place on with a row. Those that are not closed then move to the end, where they stand from the place on that is told: so only those
+/// before one that is dropped move.
 fn narrow_from(questions: &mut [Question], first: usize, row: &Attrs) -> usize
     requires { first ≤ length questions.old }
     ensures inside { result ≤ length questions.new }
-    ensures narrowed { take result questions.new ≡ still_open (map (narrowed row.now) (drop first questions.old)) }
+    ensures narrowed { drop result questions.new ≡ still_open (map (narrowed row.now) (drop first questions.old)) }
 {
-    let mut kept = 0;
-    for place in first..questions.len() {
-        let question = narrowed(row, &questions[place]);
-        if question.premise != question.conclusion {
-            questions[kept] = question;
-            kept += 1;
+    let mut kept = questions.len();
+    for place in (first..questions.len()).rev() {
+        if is_left(&questions[place], row) {
+            kept -= 1;
+            put_narrowed(questions, place, kept, row);
         }
     }
     kept
+}
+
+/// Puts the question at a place, met with a row, at another place. Most stay as they are.
+fn put_narrowed(questions: &mut [Question], place: usize, other: usize, row: &Attrs)
+    requires inside { place < length questions.old }
+    requires other_inside { other < length questions.old }
+    ensures { (question : Rule) → question ≡ slice_index_or questions.old place question → questions.new ≡ slice_set questions.old other (narrowed row.now question) }
+{
+    if place != other || questions[place].premise.within(row) {
+        questions[other] = narrowed(row, &questions[place]);
+    }
 }
 
 /// The question once there is this row too: where the row has the premise, the conclusion loses what the row lacks.
@@ -125,8 +134,11 @@ fn is_any_left(questions: &[Question], row: &Attrs) -> bool
 fn is_left(question: &Question, row: &Attrs) -> bool
     ensures { result ≡ is_left row.now question.now }
 {
-    let question = narrowed(row, question);
-    question.premise != question.conclusion
+    if question.premise.within(row) {
+        question.premise != question.conclusion.meet(row)
+    } else {
+        question.premise != question.conclusion
+    }
 }
 
 /// The place of the question, found by its premise.

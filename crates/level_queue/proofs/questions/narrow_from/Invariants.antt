@@ -1,7 +1,9 @@
+use Rattle.std.proofs.Common.{◌≤◌}
 use Rattle.level_queue.proofs.PlaceLemmas.{IsNarrowing}
 use Rattle.level_queue.proofs.questions.narrow_from.Given as goal
 
 abbrev pub invariant-loop-place : goal.invariant-loop-place
 invariant-loop-place l = record {
-  narrowing : IsNarrowing l.row l.fn.first l.fn.questions l.questions l.kept l.place;
+  from_on : l.fn.first ≤ l.place;
+  narrowing : IsNarrowing l.row l.fn.questions l.questions l.kept l.place;
 }
