@@ -32,7 +32,7 @@ root_entered K A F Ls b width a filed good none past = record {
     respecting = a.respecting;
     least = λ X e r h. root_least F.list.members K A a X r;
     inside = omega arith;
-      filed = filed;
+    filed = filed;
     good = good;
   };
   level = bound.nothing_seen F.list.members K A Ls b none past;

@@ -4,9 +4,19 @@ use Rattle.next_level.proofs.walk.near_below.Goals as goal
 
 pub closure_with-shared-requires : goal.closure_with-shared-requires
 closure_with-shared-requires g c =
-    let wide = c.requires.wide in
-    (omega arith, (omega (arith, c.width-width.ensures.words), (c.requires.inside, (ap length c.with-tried.ensures ∙ length-set c.args.a.now c.args.i true ∙ wide,
-    extent_tried c.args.sheet.now c.args.a.now c.args.i c.args.near.now c.requires.near wide c.requires.inside c.with-tried.result c.with-tried.ensures))))
+    let wide = c.requires.wide in (
+      omega arith,
+      (
+        omega (arith, c.width-width.ensures.words),
+        (
+          c.requires.inside,
+          (
+            ap length c.with-tried.ensures ∙ length-set c.args.a.now c.args.i true ∙ wide,
+            extent_tried c.args.sheet.now c.args.a.now c.args.i c.args.near.now c.requires.near wide c.requires.inside c.with-tried.result c.with-tried.ensures,
+          ),
+        ),
+      ),
+    )
 
 pub returns-then-within : goal.returns-then-within
 returns-then-within g c = extent_below c.args.sheet.now c.args.a.now c.args.i c.args.larger.now c.with-tried.result c.requires.wide c.requires.larger c.with-tried.ensures
