@@ -170,12 +170,32 @@ fn near_below<const W: usize>(
     ensures { IfOk result (λ below. IsExtent sheet.now larger.now below) }
 {
     let _width = sheet.rows().width();
-    let tried = a.with(i);
-    let shared = near.closure_with(sheet, i, &tried);
-    if larger.within(&shared) {
+    if is_shared(sheet, near, a, i, larger) {
         let mut below = Near::new(alloc);
         below.set_having(near, sheet, i)?;
         return Ok(below);
     }
     Near::of(alloc, sheet, larger)
+}
+
+/// Whether all rows that contain the intent a and have attribute i contain the set. Where it has nothing else, no row is looked at.
+fn is_shared<const W: usize>(
+    sheet: &Sheet<W>,
+    near: &Near,
+    a: &Bits<W>,
+    i: u32,
+    larger: &Bits<W>,
+) -> bool
+    requires inside { i < sheet.now.width }
+    requires wide { length a.now ≡ sheet.now.width }
+    requires near { IsExtent sheet.now a.now near.now }
+    ensures { result ≡ true → within larger.now (closure sheet.now (slice_set a.now i true)) ≡ true }
+{
+    let _width = sheet.rows().width();
+    let tried = a.with(i);
+    if larger.within(&tried) {
+        return true;
+    }
+    let shared = near.closure_with(sheet, i, &tried);
+    larger.within(&shared)
 }

@@ -1,4 +1,4 @@
-use Rattle.std.proofs.Common.{◌≡◌, ◌+◌, ◌≤◌, sym, subst}
+use Rattle.std.proofs.Common.{◌+◌, ◌≤◌, sym, subst}
 use Rattle.std.specs.Prelude.{IfOk}
 use Rattle.fca_model.specs.Context.{Context}
 use Rattle.fca_model.specs.Levels.{HasBelow}

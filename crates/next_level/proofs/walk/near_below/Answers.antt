@@ -1,23 +1,10 @@
-use Rattle.std.proofs.Common.{ap, length-set, ◌∙◌, length, true, sym, arith}
-use Rattle.next_level.proofs.LevelWalkLemmas.{extent_tried, extent_below}
+use Rattle.std.proofs.Common.{refl, set, true}
+use Rattle.fca_model.specs.Context.{closure}
+use Rattle.next_level.proofs.LevelWalkLemmas.{extent_below}
 use Rattle.next_level.proofs.walk.near_below.Goals as goal
 
-pub closure_with-shared-requires : goal.closure_with-shared-requires
-closure_with-shared-requires g c =
-    let wide = c.requires.wide in (
-      omega arith,
-      (
-        omega (arith, c.width-width.ensures.words),
-        (
-          c.requires.inside,
-          (
-            ap length c.with-tried.ensures ∙ length-set c.args.a.now c.args.i true ∙ wide,
-            extent_tried c.args.sheet.now c.args.a.now c.args.i c.args.near.now c.requires.near wide c.requires.inside c.with-tried.result c.with-tried.ensures,
-          ),
-        ),
-      ),
-    )
-
-pub returns-then-within : goal.returns-then-within
-returns-then-within g c = extent_below c.args.sheet.now c.args.a.now c.args.i c.args.larger.now c.with-tried.result c.requires.wide c.requires.larger c.with-tried.ensures
-    c.args.near.now c.set_having.new.self c.requires.near c.requires.inside c.closure_with-shared.result c.closure_with-shared.ensures (sym c.within.ensures ∙ c.if-within.true) c.in_ok-set_having.ensures
+pub returns-then-is_shared : goal.returns-then-is_shared
+returns-then-is_shared g c =
+    let X = set c.args.a.now c.args.i true in
+    extent_below c.args.sheet.now c.args.a.now c.args.i c.args.larger.now X c.requires.wide c.requires.larger refl
+    c.args.near.now c.set_having.new.self c.requires.near c.requires.inside (closure c.args.sheet.now X) refl (c.is_shared.ensures c.if-is_shared.true) c.in_ok-set_having.ensures

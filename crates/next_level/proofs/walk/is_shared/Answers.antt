@@ -1,0 +1,32 @@
+use Rattle.std.proofs.Common.{◌≡◌, ap, length-set, ◌∙◌, length, true, set, sym, subst, arith}
+use Rattle.fca_model.specs.Sets.{within}
+use Rattle.fca_model.specs.Context.{closure}
+use Rattle.fca_model.proofs.SetLemmas.{within_trans}
+use Rattle.fca_model.proofs.ClosureLemmas.{closure_extensive}
+use Rattle.next_level.proofs.LevelWalkLemmas.{extent_tried}
+use Rattle.next_level.proofs.walk.is_shared.Goals as goal
+
+pub closure_with-shared-requires : goal.closure_with-shared-requires
+closure_with-shared-requires g c =
+    let wide = c.requires.wide in (
+      omega arith,
+      (
+        omega (arith, c.width-width.ensures.words),
+        (
+          c.requires.inside,
+          (
+            ap length c.with-tried.ensures ∙ length-set c.args.a.now c.args.i true ∙ wide,
+            extent_tried c.args.sheet.now c.args.a.now c.args.i c.args.near.now c.requires.near wide c.requires.inside c.with-tried.result c.with-tried.ensures,
+          ),
+        ),
+      ),
+    )
+
+pub returns-then-within : goal.returns-then-within
+returns-then-within g c = λ _.
+    let X = set c.args.a.now c.args.i true in
+    within_trans c.args.larger.now X (closure c.args.sheet.now X) (subst (λ Y. within c.args.larger.now Y ≡ true) c.with-tried.ensures (sym c.within.ensures ∙ c.if-within.true))
+    (closure_extensive c.args.sheet.now X (length-set c.args.a.now c.args.i true ∙ c.requires.wide))
+
+pub returns : goal.returns
+returns g c = λ t. subst (λ Y. within c.args.larger.now Y ≡ true) (c.closure_with-shared.ensures ∙ ap (closure c.args.sheet.now) c.with-tried.ensures) (sym c.within-2.ensures ∙ t)
