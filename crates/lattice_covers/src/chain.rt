@@ -199,8 +199,29 @@ pub(crate) fn closure_if_allowed<const W: usize>(
     match closed.first_missing(allowed) {
         None => Some(closed),
         Some(further) => {
-            link.implied[i as usize] = further;
+            link.implied[i as usize] = later_missing(&closed, allowed, further, i);
             None
         }
     }
+}
+
+/// A member of the closure that is not allowed, where one is known: in wide sets about half the way from that to attribute i, if there is one. In scales where
+/// the closures have all attributes before i, the intents above reach it late.
+fn later_missing<const W: usize>(closed: &Bits<W>, allowed: &Bits<W>, known: u32, i: u32) -> u32
+    requires member { slice_index_or closed.now known false ≡ true }
+    requires lacks { slice_index_or allowed.now known false ≡ false }
+    requires inside { i < length closed.now }
+    ensures member { slice_index_or closed.now result false ≡ true }
+    ensures lacks { slice_index_or allowed.now result false ≡ false }
+{
+    if W <= 1 {
+        return known;
+    }
+    if known < i {
+        let half = known + (i - known) / 2;
+        if let Some(later) = closed.minus(allowed).next_member(half) {
+            return later;
+        }
+    }
+    known
 }

@@ -1,4 +1,4 @@
-use Rattle.std.proofs.Common.{◌≡◌, ◌<◌, ℕ, List, true, false, get_or, set, sym, ◌∙◌, subst, arith}
+use Rattle.std.proofs.Common.{◌≡◌, ◌<◌, ℕ, rules, List, true, false, length, get_or, set, sym, ap, ◌∙◌, subst, arith}
 use Rattle.fca_model.specs.Sets.{Set}
 use Rattle.fca_model.specs.Context.{Context, closure}
 use Rattle.fca_model.proofs.SetLemmas.{not_within_at}
@@ -36,22 +36,31 @@ returns-in-None-clause-closed g c =
     let closed : c.closure_with-closed.result ≡ closure K (set A c.args.i true) = c.closure_with-closed.ensures in
     (closed, first_missing_none 0 c.closure_with-closed.result c.args.allowed.now (sym c.first_missing.ensures ∙ c.in-None.is))
 
+pub later_missing-requires : goal.later_missing-requires
+later_missing-requires g c =
+    let K : Context = c.args.rows.now in
+    let A : Set = c.args.link.now.intent in
+    let closed : c.closure_with-closed.result ≡ closure K (set A c.args.i true) = c.closure_with-closed.ensures in
+    let wide : length c.closure_with-closed.result ≡ K.width = ap length closed ∙ length-closure K (set A c.args.i true) in
+    let further = first_missing-parts c.closure_with-closed.result c.args.allowed.now c.in-Some.further (sym c.first_missing.ensures ∙ c.in-Some.is) in
+    (search rules, (further.0, (further.1, omega (arith, wide, c.requires.inside))))
+
 pub returns-in-Some-clause-closed : goal.returns-in-Some-clause-closed
 returns-in-Some-clause-closed g c =
     let K : Context = c.args.rows.now in
     let A : Set = c.args.link.now.intent in
     let closed : c.closure_with-closed.result ≡ closure K (set A c.args.i true) = c.closure_with-closed.ensures in
-    let further = first_missing-parts c.closure_with-closed.result c.args.allowed.now c.in-Some.further (sym c.first_missing.ensures ∙ c.in-Some.is) in
-    not_within_at (closure K (set A c.args.i true)) c.args.allowed.now c.in-Some.further (subst (λ (D : Set). get_or D c.in-Some.further false ≡ true) closed further.0) further.1
+    let later = c.later_missing.result in
+    not_within_at (closure K (set A c.args.i true)) c.args.allowed.now later (subst (λ (D : Set). get_or D later false ≡ true) closed c.later_missing.ensures.member) c.later_missing.ensures.lacks
 
 pub returns-in-Some-clause-link : goal.returns-in-Some-clause-link
 returns-in-Some-clause-link g c =
     let K : Context = c.args.rows.now in
     let A : Set = c.args.link.now.intent in
     let closed : c.closure_with-closed.result ≡ closure K (set A c.args.i true) = c.closure_with-closed.ensures in
-    let further = first_missing-parts c.closure_with-closed.result c.args.allowed.now c.in-Some.further (sym c.first_missing.ensures ∙ c.in-Some.is) in
+    let later = c.later_missing.result in
     record {
       wide = c.requires.link.wide;
       above = c.requires.link.above;
-      implied = implied_set K A c.args.link.now.implied.items c.args.i c.in-Some.further c.requires.inside c.requires.link.implied (subst (λ (D : Set). get_or D c.in-Some.further false ≡ true) closed further.0);
+      implied = implied_set K A c.args.link.now.implied.items c.args.i later c.requires.inside c.requires.link.implied (subst (λ (D : Set). get_or D later false ≡ true) closed c.later_missing.ensures.member);
     }
