@@ -105,36 +105,3 @@ fn whole_page<const W: usize>(
     write_all(alloc, &sheet, &mut page)?;
     Ok(page)
 }
-
-#[cfg(test)]
-mod tests {
-    use super::{table_concepts_text, table_lattice_text};
-    use basis_report::{concepts_text, lattice_text};
-    use context_table::Table;
-    use fca_model::Memory;
-    use lattice_covers::covers;
-    use lectic_concepts::{all_concepts, all_intents};
-    use std::rt::HostRuntime;
-
-    #[test]
-    fn the_concepts_of_a_table(rt: HostRuntime) -> Result<(), Memory> {
-        let table = Table::make(rt.alloc(), 1, 6, 5, 4)?;
-        let concepts = all_concepts(rt.alloc(), table.rows())?;
-        let expected = concepts_text(rt.alloc(), &table, &concepts)?;
-        let text = table_concepts_text(rt.alloc(), &table)?;
-        assert!(&rt; text.as_slice() == expected.as_slice());
-        Ok(())
-    }
-
-    #[test]
-    fn the_lattice_of_a_table(rt: HostRuntime) -> Result<(), Memory> {
-        let table = Table::make(rt.alloc(), 2, 4, 70, 6)?;
-        let concepts = all_concepts(rt.alloc(), table.rows())?;
-        let intents = all_intents(rt.alloc(), table.rows())?;
-        let covers = covers(rt.alloc(), table.rows(), &intents)?;
-        let expected = lattice_text(rt.alloc(), &table, &concepts, &covers)?;
-        let text = table_lattice_text(rt.alloc(), &table)?;
-        assert!(&rt; text.as_slice() == expected.as_slice());
-        Ok(())
-    }
-}
