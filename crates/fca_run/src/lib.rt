@@ -7,6 +7,3 @@ mod reports;
 mod scaling;
 
 pub use call::{run, run_plain};
-
-#[cfg(test)]
-mod session_tests;
