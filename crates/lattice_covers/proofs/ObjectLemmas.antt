@@ -1,11 +1,13 @@
 -- Sets of objects, and the closure as the meet of the rows of an extent.
-use Rattle.std.proofs.Common.{◌≡◌, ℕ, zero, suc, ◌+◌, ◌-◌, ◌<◌, ◌≤◌, Bool, true, false, not, ◌&&◌, ◌||◌, List, [], ◌∷◌, ◌++◌, filter, length, get_or, set, replicate, refl, sym, ap, ap₂, ◌∙◌, subst, arith, inl, inr, get_or-set_same, get_or-set_other, length-set, length-append}
+use Rattle.std.proofs.Common.{◌≡◌, ℕ, zero, suc, ◌+◌, ◌-◌, ◌<◌, ◌≤◌, Bool, true, false, not, ◌&&◌, ◌||◌, cond, List, [], ◌∷◌, ◌++◌, filter, take, length, get_or, set, replicate, refl, sym, ap, ap₂, ◌∙◌, subst, arith, inl, inr, get_or-set_same, get_or-set_other, length-set, length-append}
 use Rattle.std.proofs.Math.ListN.{get_or-append}
 use Rattle.std.proofs.Math.Seq.{get_or-append_seam}
 use Rattle.std.proofs.lemmas.Bool.{and_parts, and_from, cases_eq, cases_lt, cases_Bool, false≢true}
-use Rattle.std.proofs.lemmas.List.{length-replicate}
+use Rattle.std.proofs.lemmas.List.{length-replicate, take_more}
+use Rattle.std.proofs.lemmas.List.Elements.{filter-append}
+use Rattle.std.proofs.lemmas.List.Sums.{fold-append}
 use Rattle.std.proofs.lemmas.List.Folds.{list_all_at}
-use Rattle.std.specs.List.{list_all}
+use Rattle.std.specs.List.{list_all, fold}
 use Rattle.fca_model.specs.Sets.{Set, within, same, meet, size, full, IsNextMember}
 use Rattle.fca_model.specs.Context.{Context, closure}
 use Rattle.fca_model.specs.Implications.{rule, respects}
@@ -231,6 +233,31 @@ objects_with K A S C i inside wide s c = record {
   long = length-meet S C ∙ s.long;
   each = λ g l. get_or-meet S C g ∙ ap₂ (λ x y. x && y) (s.each g l) (c.each g l) ∙ with_attribute K A (row K g) i inside wide;
 }
+
+-- of the rows that contain A, those with i contain A with i
+pub having_above : (K : Context) (A : Set) (i g : ℕ) → i < K.width → length A ≡ K.width → g < length (filter (within A) K.rows)
+    → within (set A i true) (get_or (filter (within A) K.rows) g []) ≡ get_or (get_or (filter (within A) K.rows) g []) i false
+having_above K A i g inside wide l =
+    let R = get_or (filter (within A) K.rows) g [] in
+    sym (with_attribute K A R i inside wide)
+    ∙ ap₂ (λ x y. x && y) (passes (within A) (filter (within A) K.rows) g l (all_kept (within A) K.rows)) (within-alone K i R inside)
+
+-- ---- the closure row by row
+
+pub met_next : (K : Context) (A : Set) (k : ℕ) (R : Set) (b : Bool) → k < length K.rows → R ≡ get_or K.rows k R → within A R ≡ b
+    → fold meet (full K.width) (filter (within A) (take (k + 1) K.rows))
+    ≡ cond b (meet (fold meet (full K.width) (filter (within A) (take k K.rows))) R) (fold meet (full K.width) (filter (within A) (take k K.rows)))
+met_next K A k R b l is t =
+    ap (λ Rs. fold meet (full K.width) (filter (within A) Rs)) (take_more K.rows k R l ∙ ap (λ X. take k K.rows ++ X ∷ []) (sym is))
+    ∙ ap (fold meet (full K.width)) (filter-append (within A) (take k K.rows) (R ∷ []))
+    ∙ fold-append meet (full K.width) (filter (within A) (take k K.rows)) (filter (within A) (R ∷ []))
+    ∙ ap (λ x. fold meet (fold meet (full K.width) (filter (within A) (take k K.rows))) (cond x (R ∷ []) [])) t
+    ∙ last b
+  where
+    last : (b : Bool) → fold meet (fold meet (full K.width) (filter (within A) (take k K.rows))) (cond b (R ∷ []) [])
+        ≡ cond b (meet (fold meet (full K.width) (filter (within A) (take k K.rows))) R) (fold meet (full K.width) (filter (within A) (take k K.rows)))
+    last true = refl
+    last false = refl
 
 -- ---- columns
 

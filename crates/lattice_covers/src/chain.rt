@@ -1,6 +1,6 @@
 //! The intents below an intent, each with the rows that contain it and with what was seen of the closures above it.
 
-ghost use Rattle.std.specs.Prelude.{◌≡◌, ◌<◌, ◌≤◌, ℕ, true, false, length, slice_set, slice_index_or, MatchOption, IfOk};
+ghost use Rattle.std.specs.Prelude.{◌≡◌, ◌<◌, ◌≤◌, ℕ, [], true, false, length, slice_set, slice_index_or, MatchOption, IfOk};
 ghost use Rattle.fca_model.specs.Sets.{within};
 ghost use Rattle.fca_model.specs.Context.{closure};
 ghost use Rattle.lattice_covers.specs.Neighbours.{IsAbove, IsLink, AreLinks, rows_above};
@@ -167,13 +167,43 @@ fn closure_with<const W: usize>(rows: &RowsOf<W>, link: &Link<W>, i: u32) -> Bit
     let _width = rows.width();
     let larger = with(&link.intent, i);
     match &link.above {
-        Above::Many(above) => above.closure(&larger),
+        Above::Many(above) => closure_in(above, i, &larger),
         Above::Few(shared, objects) => {
             let sheet = shared.as_ref();
             let having = objects.meet(&sheet.columns[i as usize]);
             closure_of(&sheet.rows, &sheet.columns, &having, &larger)
         }
     }
+}
+
+/// The closure of a, where the rows that have attribute i are those that contain a. In sets of one word that is as soon asked of the whole set.
+fn closure_in<const W: usize>(rows: &RowsOf<W>, i: u32, a: &Bits<W>) -> Bits<W>
+    requires inside { i < rows.now.width }
+    requires having { (g : ℕ) → g < length rows.now.rows
+        → within a.now (slice_index_or rows.now.rows g []) ≡ slice_index_or (slice_index_or rows.now.rows g []) i false }
+    ensures { result ≡ closure rows.now a.now }
+{
+    if W <= 1 {
+        return rows.closure(a);
+    }
+    meet_having(rows, i, a)
+}
+
+/// The same, for sets of any number of words.
+fn meet_having<const W: usize>(rows: &RowsOf<W>, i: u32, a: &Bits<W>) -> Bits<W>
+    requires inside { i < rows.now.width }
+    requires having { (g : ℕ) → g < length rows.now.rows
+        → within a.now (slice_index_or rows.now.rows g []) ≡ slice_index_or (slice_index_or rows.now.rows g []) i false }
+    ensures { result ≡ closure rows.now a.now }
+{
+    let _width = a.width();
+    let mut met = Bits::full(rows.width());
+    for row in rows.as_slice() {
+        if has(row, i) {
+            met = met.meet(row);
+        }
+    }
+    met
 }
 
 /// The closure of the intent with attribute i, if all its members are allowed. Where that was seen to fail for a smaller intent, it is not computed.

@@ -1,21 +1,21 @@
-use Rattle.std.proofs.Common.{◌≡◌, ◌<◌, ◌∙◌, [], true, length, get_or, sym, ap, subst, length-set, arith}
+use Rattle.std.proofs.Common.{◌≡◌, ℕ, ◌<◌, ◌∙◌, [], true, false, length, get_or, set, sym, ap, subst, length-set, arith}
 use Rattle.std.proofs.lemmas.List.{get_or_default}
-use Rattle.fca_model.specs.Sets.{Set, meet}
+use Rattle.fca_model.specs.Sets.{Set, meet, within}
 use Rattle.fca_model.specs.Context.{Context}
 use Rattle.fca_model.proofs.SetLemmas.{within_refl}
 use Rattle.lattice_covers.specs.Objects.{HasObjects, AreColumns, alone}
 use Rattle.lattice_covers.specs.declared.chain.Sheet.{Sheet}
 use Rattle.lattice_covers.specs.declared.chain.Above.{Above}
-use Rattle.lattice_covers.specs.Neighbours.{IsAbove, IsOnSheet}
+use Rattle.lattice_covers.specs.Neighbours.{IsAbove, IsOnSheet, rows_above}
 use Rattle.lattice_covers.proofs.ChainLemmas.{closure_above}
-use Rattle.lattice_covers.proofs.ObjectLemmas.{objects_with}
+use Rattle.lattice_covers.proofs.ObjectLemmas.{objects_with, having_above}
 use Rattle.lattice_covers.proofs.chain.closure_with.Goals as goal
 
 pub returns-in-Many : goal.returns-in-Many
 returns-in-Many g c =
     let K : Context = c.args.rows.now in
     let A : Set = c.args.link.now.intent in
-    c.closure.ensures ∙ closure_above K A A c.args.i (within_refl A) (omega (arith, c.requires.wide, c.requires.inside)) c.with-larger.result c.with-larger.ensures c.in-Many.above (subst (λ (X : Above g.row.W). IsAbove K A X) c.in-Many.is c.requires.link.above)
+    c.closure_in.ensures ∙ closure_above K A A c.args.i (within_refl A) (omega (arith, c.requires.wide, c.requires.inside)) c.with-larger.result c.with-larger.ensures c.in-Many.above (subst (λ (X : Above g.row.W). IsAbove K A X) c.in-Many.is c.requires.link.above)
 
 pub closure_of-requires : goal.closure_of-requires
 closure_of-requires g c =
@@ -51,3 +51,22 @@ returns-in-Few g c =
     let there : IsOnSheet K A c.in-Few.shared.value c.in-Few.objects = subst (λ (X : Above g.row.W). IsAbove K A X) c.in-Few.is c.requires.link.above in
     c.closure_of.ensures ∙ closure_above K there.least A c.args.i there.part (omega (arith, c.requires.wide, c.requires.inside)) c.with-larger.result c.with-larger.ensures c.as_ref-sheet.result.now.rows
     (ap (λ (s : Sheet g.row.W). s.rows) c.as_ref-sheet.ensures ∙ there.rows)
+
+pub closure_in-requires : goal.closure_in-requires
+closure_in-requires g c =
+    let K : Context = c.args.rows.now in
+    let A : Set = c.args.link.now.intent in
+    let i = c.args.i in
+    let above : c.in-Many.above ≡ rows_above K A = subst (λ (X : Above g.row.W). IsAbove K A X) c.in-Many.is c.requires.link.above in
+    let width : c.in-Many.above.width ≡ K.width = ap (λ (X : Context). X.width) above in (
+      omega arith,
+      (
+        omega (arith, c.width-width.ensures.words),
+        (
+          omega (arith, width, c.requires.inside),
+          subst (λ (B : Set). (k : ℕ) → k < length c.in-Many.above.rows → within B (get_or c.in-Many.above.rows k []) ≡ get_or (get_or c.in-Many.above.rows k []) i false) (sym c.with-larger.ensures)
+              (subst (λ (X : Context). (k : ℕ) → k < length X.rows → within (set A i true) (get_or X.rows k []) ≡ get_or (get_or X.rows k []) i false) (sym above)
+              (λ k l. having_above K A i k c.requires.inside c.requires.wide l)),
+        ),
+      ),
+    )
