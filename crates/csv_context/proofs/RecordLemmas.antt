@@ -1,13 +1,16 @@
 -- The records that are left. Once a record has ended, the machine stands between two records: the end of the text ends no record there
 -- (`ends-between`). So each record takes a byte at least, and the records of a text are the same for any bound on their number that is
 -- above the number of bytes (`records_from-bound`). A read then takes the first of the records left (`Reads-found`).
-use Rattle.std.specs.Prelude.{Result, Ok, Err, IfOk, OnOk, MatchResult, is_ok}
+use Rattle.std.specs.Prelude.{Result, Ok, Err, IfOk, IfErr, OnOk, OnErr, MatchResult, is_ok}
 use Rattle.std.proofs.Common.{Bor, ◌≡◌, ◌∙◌, ◌<◌, ◌≤◌, ◌+◌, ◌==◌, ◌||◌, ◌∷◌, ◌++◌, [], ℕ, zero, suc, Bool, true, false, List, Option, Some, None, cond, length, refl, sym, ap, subst, inl, inr, arith}
 use Rattle.std.proofs.lemmas.Bool.{cases_Bool}
 use Rattle.std.specs.Str.{IsUtf8}
 use Rattle.csv.specs.Machine.{Read, next_record, step, in_field, start_field, start_record, is_end, ends_at_end, fields_after}
-use Rattle.csv.specs.Reading.{Ready, ReadRecord, Reached, default_config, reader_state, reader_trim, records_from, records_next, took_first}
+use Rattle.csv.specs.Reading.{ExplainsRead, Ready, ReadRecord, Reached, default_config, error_kind, has_failed, is_flexible, reader_state, reader_trim, records_from, records_next, stops_reader, took_first, unread_of}
 use Rattle.csv.specs.Records.{AllText}
+use Rattle.csv.specs.declared.error.Error.{Error}
+use Rattle.csv.specs.declared.error.ErrorKind.{ErrorKind}
+use Rattle.csv.specs.declared.error.ErrorKind.TheVariants as kind
 use Rattle.csv.specs.declared.parser.Action.{Action}
 use Rattle.csv.specs.declared.parser.Action.TheVariants as act
 use Rattle.csv.specs.declared.parser.State.{State}
@@ -15,7 +18,7 @@ use Rattle.csv.specs.declared.parser.State.TheVariants as st
 use Rattle.csv.specs.declared.reader.Reader.{Reader}
 use Rattle.csv.specs.declared.reader.Trim.TheVariants as trim
 use Rattle.csv.proofs.ReadFacts.{rows-end, rows-more}
-use Rattle.csv_context.specs.Records.{Record, IsOpen, IsText, Reads, records_by, unread}
+use Rattle.csv_context.specs.Records.{Record, IsOpen, IsText, Reads, records_by, records_left, unread}
 use Rattle.csv_context.proofs.Texts.{GivesText, next_record-text}
 
 -- ---- where a record ends
@@ -192,3 +195,20 @@ Reads-told Q a b fields (Ok found) answer open' begun reads cases variant =
     rw cases (Reads-record a b found fields open' (begun open'.plain) (reads open'.plain open'.ready))
 Reads-told Q a b fields (Err e) (Ok found) open' begun reads cases variant = cc
 Reads-told Q a b fields (Err e) (Err d) open' begun reads cases variant = tt
+
+-- a reader that takes records of any length fails only for good, so it has no record left
+failed-none : (a b : Reader (Bor (List ℕ))) (why : ErrorKind) → is_flexible a ≡ true → has_failed b ≡ stops_reader why → ExplainsRead bytes_of a b false why → records_left b ≡ []
+failed-none a b (kind.Io e) flexible fails why = ap (λ stopped. records_by (reader_state b) (cond stopped None (unread_of bytes_of b))) fails
+failed-none a b kind.OutOfMemory flexible fails why = ap (λ stopped. records_by (reader_state b) (cond stopped None (unread_of bytes_of b))) fails
+failed-none a b (kind.UnequalLengths pos expected len) flexible fails why = let strict = why.0 in cc
+failed-none a b (kind.Utf8 pos err) flexible fails why = let text = why.0 in cc
+failed-none a b (kind.Serialize text) flexible fails why = absurd why
+failed-none a b (kind.Deserialize pos err) flexible fails why = absurd why
+
+pub records_left-failed : {D : Type 0} (a b : Reader (Bor (List ℕ))) (told : Result Bool Error) (answer : Result Bool D) → IsOpen a → is_flexible a ≡ true
+    → IfErr told (λ e. has_failed b ≡ stops_reader (error_kind e)) → IfErr told (λ e. Ready a → ExplainsRead bytes_of a b false (error_kind e)) → is_ok answer ≡ is_ok told
+    → OnErr answer (records_left b ≡ [])
+records_left-failed a b (Ok found) (Ok x) open' flexible fails why variant = tt
+records_left-failed a b (Err e) (Ok x) open' flexible fails why variant = tt
+records_left-failed a b (Ok found) (Err d) open' flexible fails why variant = cc
+records_left-failed a b (Err e) (Err d) open' flexible fails why variant = failed-none a b (error_kind e) flexible fails (why open'.ready)

@@ -1,6 +1,6 @@
 -- Records without quotes. Each is a line, and its fields are the pieces between commas; an empty line is no record. A carriage return ends a line, and so does a
 -- line feed.
-use Rattle.std.specs.Prelude.{◌≡◌, ◌<◌, ℕ, ◌==◌, Bool, false, cond, List, [], ◌∷◌, Option, Some, None, length, IsUtf8}
+use Rattle.std.specs.Prelude.{◌≡◌, ◌<◌, ℕ, ◌==◌, Bool, false, cond, List, [], ◌∷◌, ◌++◌, Option, Some, None, length, IsUtf8}
 use Rattle.std.proofs.Common.{Bor}
 use Rattle.std.specs.List.{list_any}
 use Rattle.fca_model.specs.Tables.{Text}
@@ -53,3 +53,7 @@ pub record TakesLine (bytes line rest : List ℕ) : Type 0 where
   pub unbroken : list_any is_line_break line ≡ false
   pub unquoted : IsUnquoted rest
   pub shorter : length rest < length bytes
+
+-- the first of some fields
+abbrev pub AreFirst : List Text → List Text → Type 0
+AreFirst fields all = (rest : List Text) × (fields ++ rest ≡ all)

@@ -4,7 +4,7 @@ ghost use Rattle.std.specs.Prelude.{◌≡◌, ◌+◌, ◌∷◌, [], IfSome, M
 ghost use Rattle.csv.specs.Reading.{is_bom, strip_bom};
 ghost use Rattle.csv.specs.Records.{fields_of};
 ghost use Rattle.fca_model.specs.Names as name;
-ghost use Rattle.csv_context.specs.Lines.{IsUnquoted, TakesLine, fields_behind, fields_in, records_in, without_ends};
+ghost use Rattle.csv_context.specs.Lines.{AreFirst, IsUnquoted, TakesLine, fields_behind, fields_in, records_in, without_ends};
 ghost use Rattle.csv_context.specs.Records.{csv_records};
 
 use csv::ByteRecord;
@@ -116,9 +116,10 @@ fn long_field(line: &[u8]) -> (&[u8], Option<&[u8]>)
     }
 }
 
-/// Makes the fields of the line those of a record.
+/// Makes the fields of the line those of a record. After an `Err` it has the first of them.
 pub fn read_fields(fields: &mut ByteRecord, line: &[u8]) -> Result<(), Memory>
-    ensures { OnOk result (fields_of fields.new ≡ fields_in line.now) }
+    ensures whole { OnOk result (fields_of fields.new ≡ fields_in line.now) }
+    ensures front { AreFirst (fields_of fields.new) (fields_in line.now) }
 {
     fields.clear();
     let mut rest = Some(line);

@@ -1,6 +1,7 @@
 //! The records of a text, one after the other.
 
-ghost use Rattle.std.specs.Prelude.{◌≡◌, IfOk};
+ghost use Rattle.std.specs.Prelude.{◌≡◌, [], true, IfOk, OnOk, OnErr};
+ghost use Rattle.csv.specs.Reading.{is_flexible};
 ghost use Rattle.csv.specs.Records.{fields_of};
 ghost use Rattle.csv_context.specs.Records.{IsOpen, Reads, csv_records, records_left};
 
@@ -12,6 +13,7 @@ use std::alloc::Global;
 pub fn open<'a>(alloc: Global, text: &'a str) -> Reader<&'a [u8]>
     ensures open { IsOpen result }
     ensures records { records_left result ≡ csv_records text.now }
+    ensures flexible { is_flexible result ≡ true }
 {
     ReaderBuilder::new()
         .has_headers(false)
@@ -19,10 +21,13 @@ pub fn open<'a>(alloc: Global, text: &'a str) -> Reader<&'a [u8]>
         .from_reader(alloc, text.as_bytes())
 }
 
-/// Reads the next record, and says whether there was one.
+/// Reads the next record, and says whether there was one. After an `Err` the reader has no record left, and nothing is said of
+/// the fields.
 pub fn next_record(reader: &mut Reader<&[u8]>, fields: &mut ByteRecord) -> Result<bool, Memory>
     requires { IsOpen reader.old }
-    ensures { IfOk result (λ found. Reads reader.old reader.new found (fields_of fields.new)) }
+    ensures read { IfOk result (λ found. Reads reader.old reader.new found (fields_of fields.new)) }
+    ensures flexible { OnOk result (is_flexible reader.new ≡ is_flexible reader.old) }
+    ensures failed { is_flexible reader.old ≡ true → OnErr result (records_left reader.new ≡ []) }
 {
     reader.read_byte_record(fields).map_err(|_| Memory)
 }

@@ -1,13 +1,21 @@
--- Bytes that are text, and the numbers of experts.
-use Rattle.std.proofs.Common.{◌≡◌, ◌≤◌, ◌^◌, ℕ, true, false, cond, List, Some, None, Result, Ok, Err, refl, inl, inr, arith, nat_le}
+-- Bytes that are text, the numbers of experts, and rows whose names are names.
+use Rattle.std.proofs.Common.{◌≡◌, ◌≢◌, ◌≤◌, ◌^◌, ◌∙◌, ◌==◌, ℕ, Bool, true, false, cond, length, nat_lt, List, Some, None, Result, Ok, Err, refl, sym, ap, ap₂, inl, inr, arith, nat_le}
 use Rattle.std.proofs.lemmas.Bool.{and_parts, cases_Bool, leb-true}
 use Rattle.std.specs.Borrow.{Bor}
-use Rattle.std.specs.Prelude.{MatchResult, MatchOption, IsUtf8}
+use Rattle.std.specs.Prelude.{MatchResult, MatchOption, IsUtf8, is_none}
+use Rattle.std.specs.List.{list_any}
 use Rattle.std.specs.Result.{result_ok}
 use Rattle.std.specs.Str.{is_utf8}
 use Rattle.std.proofs.lemmas.Str.{is_utf8-from_IsUtf8, IsUtf8-from_is_utf8}
-use Rattle.fca_model.specs.declared.TheConstants.{MAX_EXPERTS}
+use Rattle.fca_model.specs.declared.TheConstants.{MAX_EXPERTS, MAX_NAME_BYTES}
+use Rattle.fca_model.specs.declared.names.NameFault.TheVariants as name
+use Rattle.fca_model.specs.Names.{is_line_break, name_fault}
+use Rattle.fca_model.specs.Sets.{Set}
+use Rattle.fca_model.specs.Tables.{Text}
 use Rattle.fca_model.specs.Exploration.{is_expert}
+use Rattle.text_pieces.specs.Words.{first_word, later_words}
+use Rattle.expert_wire.specs.declared.requests.RequestFault.TheVariants.{Line, Width}
+use Rattle.expert_wire.specs.Words.{is_name, named_row, row_of_width, set_marked}
 
 -- a number of more than 64 bits is no expert's
 pub no_expert : (n : ℕ) → 2 ^ 64 ≤ n → None ≡ cond (is_expert n) (Some n) None
@@ -27,3 +35,34 @@ utf8_ok Q bs (Err e) h = elim (cases_Bool (is_utf8 bs)) [
   | inl t ↦ absurd (h.0 (IsUtf8-from_is_utf8 bs t))
   | inr f ↦ f
 ]
+
+-- ---- rows
+
+-- a text that has none of the faults is a name
+pub is_name-faultless : (text : Text) → name_fault text ≢ Some name.Empty → name_fault text ≢ Some name.Long → name_fault text ≢ Some name.Line → is_name text ≡ true
+unfolding name_fault
+is_name-faultless text = by (length text == 0) (nat_lt MAX_NAME_BYTES (length text)) (list_any is_line_break text)
+  where
+    by : (a b c : Bool) → cond a (Some name.Empty) (cond b (Some name.Long) (cond c (Some name.Line) None)) ≢ Some name.Empty
+        → cond a (Some name.Empty) (cond b (Some name.Long) (cond c (Some name.Line) None)) ≢ Some name.Long
+        → cond a (Some name.Empty) (cond b (Some name.Long) (cond c (Some name.Line) None)) ≢ Some name.Line
+        → is_none (cond a (Some name.Empty) (cond b (Some name.Long) (cond c (Some name.Line) None))) ≡ true
+    by true b c some few unbroken = absurd (some refl)
+    by false true c some few unbroken = absurd (few refl)
+    by false false true some few unbroken = absurd (unbroken refl)
+    by false false false some few unbroken = refl
+
+row_of_width-shaped : (n : ℕ) (text : Text) (r : Set) → row_of_width n text (Some r) ≢ Err Line
+row_of_width-shaped n text r = by (length r == n)
+  where
+    by : (wide : Bool) → cond wide (Ok (text, r)) (Err Width) ≢ Err Line
+    by true = λ e. cc e
+    by false = λ e. cc e
+
+-- marks with a name behind them have the shape of a row
+pub named_row-shaped : (n : ℕ) (text word later : Text) (r : Set) → word ≡ first_word text → later ≡ later_words text → set_marked word ≡ Some r → is_name later ≡ true → named_row n text ≢ Err Line
+named_row-shaped n text word later r first behind marked named =
+    let shape : named_row n text ≡ row_of_width n later (Some r) =
+    ap₂ (λ w t. cond (is_name t) (row_of_width n t (set_marked w)) (Err Line)) (sym first) (sym behind)
+    ∙ ap₂ (λ b m. cond b (row_of_width n later m) (Err Line)) named marked in
+    λ e. row_of_width-shaped n later r (sym shape ∙ e)

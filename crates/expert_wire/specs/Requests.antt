@@ -1,5 +1,5 @@
 -- The lines of a session: what each of them asks for.
-use Rattle.std.specs.Prelude.{ℕ, cond, Result, Ok, Err, bytes_eq, codes}
+use Rattle.std.specs.Prelude.{⊤, ℕ, cond, Result, Ok, Err, bytes_eq, codes}
 use Rattle.std.specs.Str.{is_utf8}
 use Rattle.std.specs.Str.Lines.{strip_carriage_return}
 use Rattle.fca_model.specs.Sets.{Set}
@@ -29,3 +29,10 @@ request_of n text =
 abbrev pub request_form : Text → ℕ → Result Request RequestFault
 request_form line n =
     cond (is_utf8 (strip_carriage_return line)) (request_of n (strip_carriage_return line)) (Err Line)
+
+-- to read it takes memory: that of the name, where the line is a row
+abbrev pub TakesMemory : Result Request RequestFault → Type 0
+TakesMemory (Ok (Row name row)) = ⊤
+TakesMemory (Ok request) = ⊥
+TakesMemory (Err Line) = ⊥
+TakesMemory (Err fault) = ⊤

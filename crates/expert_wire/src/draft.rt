@@ -3,6 +3,7 @@
 ghost use Rattle.std.specs.Prelude.{◌≡◌, ◌<◌, ◌≤◌, ◌++◌, [], length, Some, OnOk, OnErr, IfOk};
 ghost use Rattle.std.specs.Io.KnownBytes.{WriteAppends};
 ghost use Rattle.fca_io.specs.Faults.{Rose};
+ghost use Rattle.fca_io.specs.Transfers.{AppendsFront};
 ghost use Rattle.expert_wire.specs.Parts.{parts_text};
 ghost use Rattle.expert_wire.specs.Texts.{line_end, ordinal, full_text};
 ghost use Rattle.expert_wire.specs.Replies.{reply_line, numbered_rule};
@@ -17,7 +18,7 @@ use itoa::Buffer;
 use std::alloc::Global;
 use std::marker::Model;
 
-/// A text that is written line by line; contracts see its bytes.
+/// A text that is written line by line; contracts see its bytes. After an `Err` it holds a front of what was to be appended.
 #[derive(Drop)]
 pub struct Draft {
     sink: Growing,
@@ -53,7 +54,8 @@ impl Draft {
 
     /// Appends the bytes.
     pub fn bytes(&mut self, bytes: &[u8]) -> Result<(), Memory>
-        ensures { OnOk result (self.new ≡ self.old ++ bytes.now) }
+        ensures whole { OnOk result (self.new ≡ self.old ++ bytes.now) }
+        ensures front { AppendsFront (Some self.old) (Some self.new) bytes.now }
     {
         self.sink.bytes.extend_from_slice(bytes)?;
         Ok(())
@@ -61,7 +63,8 @@ impl Draft {
 
     /// Appends the number, from 1 on, of what stands at the place.
     pub fn ordinal(&mut self, place: usize) -> Result<(), Memory>
-        ensures { OnOk result (self.new ≡ self.old ++ ordinal place) }
+        ensures whole { OnOk result (self.new ≡ self.old ++ ordinal place) }
+        ensures front { AppendsFront (Some self.old) (Some self.new) (ordinal place) }
     {
         match place.checked_add(1) {
             Some(number) => self.bytes(Buffer::new().format(number).as_bytes()),
@@ -71,7 +74,8 @@ impl Draft {
 
     /// Appends the parts.
     pub fn parts(&mut self, table: &Table, parts: &[Part<'_>]) -> Result<(), Memory>
-        ensures { OnOk result (self.new ≡ self.old ++ parts_text table.now.attributes parts.now) }
+        ensures whole { OnOk result (self.new ≡ self.old ++ parts_text table.now.attributes parts.now) }
+        ensures front { AppendsFront (Some self.old) (Some self.new) (parts_text table.now.attributes parts.now) }
     {
         match write_parts(&mut self.sink, table, parts) {
             Ok(()) => Ok(()),
@@ -81,7 +85,8 @@ impl Draft {
 
     /// Appends the line of the reply.
     pub fn reply(&mut self, table: &Table, reply: &Reply) -> Result<(), Memory>
-        ensures { OnOk result (self.new ≡ self.old ++ reply_line table.now.attributes reply.now) }
+        ensures whole { OnOk result (self.new ≡ self.old ++ reply_line table.now.attributes reply.now) }
+        ensures front { AppendsFront (Some self.old) (Some self.new) (reply_line table.now.attributes reply.now) }
     {
         match write_reply(&mut self.sink, table, reply) {
             Ok(()) => Ok(()),
@@ -96,7 +101,8 @@ impl Draft {
         words: &[u8],
         question: &Implication,
     ) -> Result<(), Memory>
-        ensures { OnOk result (self.new ≡ self.old ++ ((words.now ++ full_text table.now.attributes question.now) ++ line_end)) }
+        ensures whole { OnOk result (self.new ≡ self.old ++ ((words.now ++ full_text table.now.attributes question.now) ++ line_end)) }
+        ensures front { AppendsFront (Some self.old) (Some self.new) ((words.now ++ full_text table.now.attributes question.now) ++ line_end) }
     {
         match write_question(&mut self.sink, table, words, question) {
             Ok(()) => Ok(()),
@@ -112,7 +118,8 @@ impl Draft {
         place: usize,
         rule: &Implication,
     ) -> Result<(), Memory>
-        ensures { OnOk result (self.new ≡ self.old ++ ((words.now ++ numbered_rule table.now.attributes place rule.now) ++ line_end)) }
+        ensures whole { OnOk result (self.new ≡ self.old ++ ((words.now ++ numbered_rule table.now.attributes place rule.now) ++ line_end)) }
+        ensures front { AppendsFront (Some self.old) (Some self.new) ((words.now ++ numbered_rule table.now.attributes place rule.now) ++ line_end) }
     {
         match write_rule(&mut self.sink, table, words, place, rule) {
             Ok(()) => Ok(()),

@@ -1,8 +1,8 @@
 //! The request of a line of a session.
 
-ghost use Rattle.std.specs.Prelude.{◌≡◌, ◌≤◌, ◌⊎◌, Ok, Err, IsOk, IfOk, IfErr};
+ghost use Rattle.std.specs.Prelude.{◌≡◌, ◌≤◌, ◌⊎◌, Ok, Err, IfOk, IfErr, IsErrOf};
 ghost use Rattle.fca_model.specs.declared.TheConstants.{MAX_ATTRIBUTES};
-ghost use Rattle.expert_wire.specs.Requests.{request_form, request_of};
+ghost use Rattle.expert_wire.specs.Requests.{TakesMemory, request_form, request_of};
 
 use crate::words::{read_row, text_of};
 use attr_bits::Attrs;
@@ -38,7 +38,7 @@ pub fn read_request(alloc: Global, line: &[u8], n: u32) -> Result<Request, Reque
     requires { n ≤ MAX_ATTRIBUTES }
     ensures ok { IfOk result (λ request. request_form line.now n ≡ Ok request) }
     ensures refused { IfErr result (λ e. (e ≡ RequestFault.Memory) ⊎ (request_form line.now n ≡ Err e)) }
-    ensures quit { request_form line.now n ≡ Ok Request.Quit → IsOk result }
+    ensures memory { IsErrOf result RequestFault.Memory → TakesMemory (request_form line.now n) }
 {
     match text_of(without_return(line)) {
         Some(text) => request_of(alloc, text, n),
@@ -50,7 +50,7 @@ fn request_of(alloc: Global, text: &str, n: u32) -> Result<Request, RequestFault
     requires { n ≤ MAX_ATTRIBUTES }
     ensures ok { IfOk result (λ request. request_of n text.now ≡ Ok request) }
     ensures refused { IfErr result (λ e. (e ≡ RequestFault.Memory) ⊎ (request_of n text.now ≡ Err e)) }
-    ensures quit { request_of n text.now ≡ Ok Request.Quit → IsOk result }
+    ensures memory { IsErrOf result RequestFault.Memory → TakesMemory (request_of n text.now) }
 {
     match text {
         "draw" => Ok(Request::Draw),

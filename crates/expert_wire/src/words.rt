@@ -1,6 +1,6 @@
 //! The words of a line.
 
-ghost use Rattle.std.specs.Prelude.{◌≡◌, ◌≤◌, ◌⊎◌, true, false, cond, Some, None, Ok, Err, IfOk, IfErr, MatchOption, map};
+ghost use Rattle.std.specs.Prelude.{◌≡◌, ◌≢◌, ◌≤◌, ◌⊎◌, true, false, cond, Some, None, Ok, Err, IfOk, IfErr, IsErrOf, MatchOption, map};
 ghost use Rattle.std.specs.Str.{is_utf8};
 ghost use Rattle.fca_model.specs.declared.TheConstants.{MAX_ATTRIBUTES};
 ghost use Rattle.fca_model.specs.Exploration.{is_expert};
@@ -60,6 +60,7 @@ pub fn read_row(alloc: Global, text: &str, n: u32) -> Result<(Name, Attrs), Requ
     requires { n ≤ MAX_ATTRIBUTES }
     ensures ok { IfOk result (λ x. named_row n text.now ≡ Ok x) }
     ensures refused { IfErr result (λ e. (e ≡ RequestFault.Memory) ⊎ (named_row n text.now ≡ Err e)) }
+    ensures memory { IsErrOf result RequestFault.Memory → named_row n text.now ≢ Err RequestFault.Line }
 {
     let (word, name) = split_word(text);
     let Some(marks) = marks(word.as_bytes()) else {
