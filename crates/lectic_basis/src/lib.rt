@@ -19,17 +19,15 @@ use extent_blocks::Sheet;
 use fca_model::Memory;
 use implication_closure::ImplicationList;
 use lectic_concepts::{FOUR_WORDS, ONE_WORD};
-pub use narrow_list::rules_in_words;
+pub use narrow_list::{NarrowList, rules_in_words};
 use std::alloc::Global;
 use tree::visit_all;
 pub use watched_list::WatchedList;
 
 /// How many attributes two words hold.
-const TWO_WORDS: u32 = 128;
+pub const TWO_WORDS: u32 = 128;
 
-/// The known implications, and behind them the basis relative to them, in lectic order of the premises. It is found in sets as narrow as the table. (Ganter, "Two
-/// basic algorithms in concept analysis", 1984, for the order; Janostik, Konecny and Krajca, "LinCbO", 2021, for the tree; Moskewicz and others, "Chaff", 2001,
-/// for what waits.)
+/// The known implications, and behind them the basis relative to them, in lectic order of the premises. It is found in sets as narrow as the table.
 pub fn basis_watched(
     alloc: Global,
     rows: &Rows,
@@ -41,23 +39,38 @@ pub fn basis_watched(
 {
     let width = rows.width();
     if width <= ONE_WORD {
-        return basis_of(alloc, rows.resized::<1>(alloc)?, known);
+        return widened(alloc, rows.resized::<1>(alloc)?, known);
     }
     if width <= TWO_WORDS {
-        return basis_of(alloc, rows.resized::<2>(alloc)?, known);
+        return widened(alloc, rows.resized::<2>(alloc)?, known);
     }
     if width <= FOUR_WORDS {
-        return basis_of(alloc, rows.resized::<4>(alloc)?, known);
+        return widened(alloc, rows.resized::<4>(alloc)?, known);
     }
-    basis_of(alloc, rows.copy()?, known)
+    widened(alloc, rows.copy()?, known)
 }
 
-/// The same, with sets of the words that the rows have.
-fn basis_of<const W: usize>(
+/// The same, found in sets of the words that the rows have.
+fn widened<const W: usize>(
     alloc: Global,
     rows: RowsOf<W>,
     known: &ImplicationList,
 ) -> Result<ImplicationList, Memory>
+    requires wide { known.now.width ≡ rows.width }
+    requires holds { list_all (holds rows) known.now.members ≡ true }
+    ensures { IfOk result (λ list. list ≡ record { width = rows.entry.width; members = known.now.members ++ basis_known known.now.members rows.entry }) }
+{
+    basis_in_words(alloc, rows, known)?.widened(alloc)
+}
+
+/// The known implications, and behind them the basis relative to them, in lectic order of the premises, in sets of the words that the rows have. (Ganter, "Two
+/// basic algorithms in concept analysis", 1984, for the order; Janostik, Konecny and Krajca, "LinCbO", 2021, for the tree; Moskewicz and others, "Chaff", 2001,
+/// for what waits.)
+pub fn basis_in_words<const W: usize>(
+    alloc: Global,
+    rows: RowsOf<W>,
+    known: &ImplicationList,
+) -> Result<NarrowList<W>, Memory>
     requires wide { known.now.width ≡ rows.width }
     requires holds { list_all (holds rows) known.now.members ≡ true }
     ensures { IfOk result (λ list. list ≡ record { width = rows.entry.width; members = known.now.members ++ basis_known known.now.members rows.entry }) }
@@ -71,7 +84,7 @@ fn basis_by<const W: usize>(
     alloc: Global,
     sheet: &Sheet<W>,
     known: &ImplicationList,
-) -> Result<ImplicationList, Memory>
+) -> Result<NarrowList<W>, Memory>
     requires wide { known.now.width ≡ sheet.now.width }
     requires holds { list_all (holds sheet.now) known.now.members ≡ true }
     ensures { IfOk result (λ list. list ≡ record { width = sheet.now.width; members = known.now.members ++ basis_known known.now.members sheet.now }) }
@@ -80,5 +93,5 @@ fn basis_by<const W: usize>(
     let least = known.naive_closure(&Attrs::empty(known.width()));
     let mut found = WatchedList::of(alloc, known, &least)?;
     visit_all(alloc, sheet, known, &mut found, &least.resized(), 0)?;
-    found.into_list(alloc)
+    Ok(found.into_list())
 }

@@ -11,7 +11,7 @@ use std::marker::Model;
 
 /// Implications of one width, in the order in which they were pushed, with sets of W words.
 #[derive(Drop)]
-pub(crate) struct NarrowList<const W: usize> {
+pub struct NarrowList<const W: usize> {
     members: Vec<Implication<Bits<W>>>,
     width: u32,
 }
@@ -54,7 +54,7 @@ impl<const W: usize> NarrowList<W> {
     }
 
     /// The implications.
-    pub(crate) fn as_slice(&self) -> &[Implication<Bits<W>>]
+    pub fn as_slice(&self) -> &[Implication<Bits<W>>]
         ensures members { result.now ≡ self.now.members }
         ensures even { HaveWidth self.now.width result.now }
         ensures words { W ≤ 1024 }
@@ -63,7 +63,7 @@ impl<const W: usize> NarrowList<W> {
     }
 
     /// The number of attributes.
-    pub(crate) fn width(&self) -> u32
+    pub fn width(&self) -> u32
         ensures width { result ≡ self.now.width }
         ensures even { HaveWidth self.now.width self.now.members }
         ensures words { W ≤ 1024 }
@@ -72,7 +72,7 @@ impl<const W: usize> NarrowList<W> {
     }
 
     /// The implications in all words.
-    pub(crate) fn widened(&self, alloc: Global) -> Result<ImplicationList, Memory>
+    pub fn widened(&self, alloc: Global) -> Result<ImplicationList, Memory>
         ensures { IfOk result (λ list. list ≡ self.now) }
     {
         let mut list = ImplicationList::new(alloc, self.width)?;

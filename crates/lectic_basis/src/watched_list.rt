@@ -83,10 +83,10 @@ impl<const W: usize> WatchedList<W> {
     }
 
     /// The list, with nothing that waits.
-    pub(crate) fn into_list(self, alloc: Global) -> Result<ImplicationList, Memory>
-        ensures { IfOk result (λ list. list ≡ self.entry.list) }
+    pub(crate) fn into_list(self) -> NarrowList<W>
+        ensures { result ≡ self.entry.list }
     {
-        self.list.widened(alloc)
+        self.list
     }
 
     /// How many members wait for attribute w.

@@ -1,6 +1,5 @@
 use Rattle.std.proofs.Common.{◌≡◌, ◌++◌, length, false, replicate, sym, ap, ◌∙◌, subst, arith}
 use Rattle.std.proofs.lemmas.Simd.{length-replicate}
-use Rattle.std.proofs.lemmas.Result.{IfOk-weaker}
 use Rattle.fca_model.specs.Context.{Context}
 use Rattle.fca_model.specs.Pseudo.{basis_known}
 use Rattle.implication_closure.specs.Closing.{RuleList, IsClosure}
@@ -32,6 +31,4 @@ pub returns : goal.returns
 returns g c =
     let K = c.args.sheet.now in
     let J = c.args.known.now.members in
-    IfOk-weaker c.into_list.result (λ (L : RuleList). L ≡ c.visit_all.new.found.list) (λ (L : RuleList). L ≡ record { width = K.width; members = J ++ basis_known J K })
-    (λ L e. e ∙ c.in_ok-visit_all.ensures.found ∙ ap (λ Zs. record { width = K.width; members = Zs }) (where_every J K c.resized.result))
-    c.into_list.ensures
+    c.into_list.ensures ∙ c.in_ok-visit_all.ensures.found ∙ ap (λ Zs. record { width = K.width; members = Zs }) (where_every J K c.resized.result)
