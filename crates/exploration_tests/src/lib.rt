@@ -11,6 +11,8 @@ mod expert_sessions_tests;
 #[cfg(test)]
 mod explore_state_tests;
 #[cfg(test)]
+mod real_ends_tests;
+#[cfg(test)]
 mod serve_command_tests;
 #[cfg(test)]
 mod tables;

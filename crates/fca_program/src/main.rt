@@ -1,18 +1,10 @@
 //! A workbench for formal concepts: commands over tables, and explorations by scripts.
 #![tactic(auto)]
 
-ghost use Rattle.std.specs.Prelude.{◌≡◌, IfErr};
-
-mod ends;
-mod link;
-
-use crate::ends::{FileShelf, StdFault, StdInput, StdOutput};
-use crate::link::TcpLink;
 use command_io::{Stop, conclude};
-use fca_model::Word;
 use fca_run::run;
-use std::alloc::Global;
-use std::env::{self, Args};
+use real_ends::{FileShelf, StdFault, StdInput, StdOutput, TcpLink, words_of};
+use std::env;
 use std::io::{Error, ErrorKind};
 use std::process::ExitCode;
 
@@ -23,7 +15,7 @@ fn main(rt: HostRuntime) -> ExitCode {
     let mut err = StdFault::new(rt.stderr());
     let mut link = TcpLink::new(&rt);
     let words = match env::args(&rt) {
-        Ok(arguments) => words_of(rt.alloc(), arguments),
+        Ok(arguments) => words_of(rt.alloc(), arguments).map_err(Stop::from),
         Err(error) => Err(wordless(&error)),
     };
     let status = match words {
@@ -49,17 +41,3 @@ fn wordless(error: &Error) -> Stop {
         _ => Stop::Memory,
     }
 }
-
-/// The words behind the program's name.
-fn words_of(alloc: Global, arguments: Args) -> Result<Vec<Word>, Stop>
-    ensures { IfErr result (λ stop. stop ≡ Stop.Memory) }
-{
-    let mut words = Vec::new(alloc);
-    for argument in arguments.skip(1) {
-        words.push(Word::new(alloc, argument.as_bytes())?)?;
-    }
-    Ok(words)
-}
-
-#[cfg(test)]
-mod socket_tests;

@@ -2,13 +2,11 @@
 
 ghost use Rattle.std.specs.Prelude.{◌≡◌, true, false, IfSome};
 
-use crate::link::TcpLink;
-use context_table::Table;
-use derivation::Rows;
+use crate::tables::opened;
 use expert_sessions::{Ended, serve_ends};
-use explore_state::Explore;
 use fca_io::{Duplex, Listener};
-use fca_model::{Memory, Name};
+use fca_model::Memory;
+use real_ends::TcpLink;
 use std::alloc::Global;
 use std::io::{self, Read, Write};
 use std::net::TcpStream;
@@ -38,32 +36,15 @@ fn draw_and_quit(alloc: Global, mut stream: TcpStream) -> io::Result<Vec<u8>> {
     Ok(got)
 }
 
-fn named(alloc: Global, text: &str) -> Result<Name, Memory> {
-    match Name::new(alloc, text) {
-        Ok(name) => Ok(name),
-        Err(_) => Err(Memory),
-    }
-}
-
 /// How the session over the end was ended, which is closed then.
 fn serve_one<R: Threads + Wait + Sync, E: Duplex + Send + Drop>(
     rt: &R,
     alloc: Global,
     end: E,
 ) -> Result<Ended, Memory> {
-    let mut attributes = Vec::new(alloc);
-    attributes.push(named(alloc, "a")?)?;
-    attributes.push(named(alloc, "b")?)?;
-    let rows = Rows::new(alloc, 2)?;
-    let Ok(table) = Table::new(alloc, None, Vec::new(alloc), attributes, rows) else {
-        return Err(Memory);
-    };
     let mut ends = Vec::new(alloc);
     ends.push(end)?;
-    let Ok(explore) = Explore::open(alloc, table, 1) else {
-        return Err(Memory);
-    };
-    match serve_ends(rt, alloc, explore, ends, 9, 99) {
+    match serve_ends(rt, alloc, opened(alloc, 1)?, ends, 9, 99) {
         Ok(served) => served.endings.first().copied().ok_or(Memory),
         Err(_) => Err(Memory),
     }

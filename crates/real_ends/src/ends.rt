@@ -1,4 +1,4 @@
-//! The real ends: the files and the standard streams of the system. They tell nothing of what they hold.
+//! The files and the standard streams of the system.
 
 ghost use Rattle.std.specs.Prelude.{◌≡◌, ◌≤◌};
 ghost use Rattle.fca_io.specs.Faults.{one_more};
@@ -7,18 +7,27 @@ use fca_io::{Failed, Shelf, Sink, Source, Taken, read_all};
 use std::alloc::Global;
 use std::fs;
 use std::io::{Read, Write};
+use std::marker::Model;
 use std::rt::Files;
 
-/// What is read of the system.
+/// What is read of the system. Contracts see its count of faults.
 #[derive(Drop)]
 pub struct StdInput<T> {
     inner: T,
     faults: u64,
 }
 
+impl<T> Model for StdInput<T> {
+    ghost use Rattle.std.specs.Prelude.{ℕ};
+
+    ghost Value = { ℕ };
+
+    ghost view = { λ s. s.faults };
+}
+
 impl<T> StdInput<T> {
     pub fn new(inner: T) -> StdInput<T>
-        ensures { result.faults ≡ 0 }
+        ensures { result ≡ 0 }
     {
         StdInput { inner, faults: 0 }
     }
@@ -29,7 +38,7 @@ impl<T: Read> Source for StdInput<T> {
 
     ghost left = { λ _. None };
 
-    ghost faults = { λ s. s.faults };
+    ghost faults = { λ count. count };
 
     ghost beside = { λ _. None };
 
@@ -46,11 +55,19 @@ impl<T: Read> Source for StdInput<T> {
     }
 }
 
-/// What is written to the system. A write that takes nothing is a fault.
+/// What is written to the system. A write that takes nothing is a fault. Contracts see its count of faults.
 #[derive(Drop)]
 pub struct StdOutput<T> {
     inner: T,
     faults: u64,
+}
+
+impl<T> Model for StdOutput<T> {
+    ghost use Rattle.std.specs.Prelude.{ℕ};
+
+    ghost Value = { ℕ };
+
+    ghost view = { λ s. s.faults };
 }
 
 /// What is written to the error stream of the system.
@@ -58,7 +75,7 @@ pub type StdFault<T> = StdOutput<T>;
 
 impl<T> StdOutput<T> {
     pub fn new(inner: T) -> StdOutput<T>
-        ensures { result.faults ≡ 0 }
+        ensures { result ≡ 0 }
     {
         StdOutput { inner, faults: 0 }
     }
@@ -69,7 +86,7 @@ impl<T: Write> Sink for StdOutput<T> {
 
     ghost held = { λ _. None };
 
-    ghost faults = { λ s. s.faults };
+    ghost faults = { λ count. count };
 
     ghost beside = { λ _. None };
 
@@ -86,24 +103,32 @@ impl<T: Write> Sink for StdOutput<T> {
     }
 }
 
-/// The files of the system.
+/// The files of the system. Contracts see the count of faults, which is one for all names.
 #[derive(Drop)]
 pub struct FileShelf<'a, R: Files> {
     rt: &'a R,
     faults: u64,
 }
 
+impl<'a, R: Files> Model for FileShelf<'a, R> {
+    ghost use Rattle.std.specs.Prelude.{ℕ};
+
+    ghost Value = { ℕ };
+
+    ghost view = { λ s. s.faults };
+}
+
 impl<'a, R: Files> FileShelf<'a, R> {
     pub fn new(rt: &'a R) -> FileShelf<'a, R>
-        ensures { result.faults ≡ 0 }
+        ensures { result ≡ 0 }
     {
         FileShelf { rt, faults: 0 }
     }
 
     fn count_fault(&mut self) -> Taken
         ensures fault { result ≡ Taken.Failed }
-        ensures counted { self.new.faults ≡ one_more self.old.faults }
-        ensures later { self.old.faults ≤ self.new.faults }
+        ensures counted { self.new ≡ one_more self.old }
+        ensures later { self.old ≤ self.new }
     {
         self.faults = self.faults.saturating_add(1);
         Taken::Failed
@@ -115,7 +140,7 @@ impl<'a, R: Files> Shelf for FileShelf<'a, R> {
 
     ghost tells = { λ _ _. None };
 
-    ghost faults = { λ s _. s.faults };
+    ghost faults = { λ count _. count };
 
     fn fetch(&mut self, alloc: Global, name: &[u8], limit: usize) -> Result<Vec<u8>, Taken> {
         let Ok(path) = str::from_utf8(name) else {

@@ -1,10 +1,11 @@
-//! The real ends of `serve`: sockets of the system. They tell nothing of what they hold.
+//! The sockets of the system.
 
 ghost use Rattle.std.specs.Prelude.{◌≡◌, ◌≤◌, true, false};
 ghost use Rattle.fca_io.specs.Faults.{one_more};
 
 use fca_io::{Duplex, Failed, Listener, Sink, Source};
 use std::io::{Read, Write};
+use std::marker::Model;
 use std::net::{Net, OpenListener, TcpListener, TcpStream};
 
 /// A socket that was accepted. A write that takes nothing is a fault.
@@ -79,11 +80,18 @@ pub struct TcpLink<'a, R: Net<Listener = TcpListener, Stream = TcpStream>> {
     faults: u64,
 }
 
-impl<'a, R: Net<Listener = TcpListener, Stream = TcpStream>> TcpLink<'a, R> {
-    ghost use Rattle.std.specs.Prelude.{None};
+impl<'a, R: Net<Listener = TcpListener, Stream = TcpStream>> Model for TcpLink<'a, R> {
+    ghost use Rattle.std.specs.Prelude.{is_some};
+    ghost use Rattle.real_ends.specs.Sockets.{Listening};
 
+    ghost Value = { Listening };
+
+    ghost view = { λ l. record { listens = is_some l.listener; faults = l.faults } };
+}
+
+impl<'a, R: Net<Listener = TcpListener, Stream = TcpStream>> TcpLink<'a, R> {
     pub fn new(rt: &'a R) -> TcpLink<'a, R>
-        ensures closed { result.listener ≡ None }
+        ensures closed { result.listens ≡ false }
         ensures faultless { result.faults ≡ 0 }
     {
         TcpLink {
@@ -96,7 +104,7 @@ impl<'a, R: Net<Listener = TcpListener, Stream = TcpStream>> TcpLink<'a, R> {
     fn count_fault(&mut self) -> Failed
         ensures counted { self.new.faults ≡ one_more self.old.faults }
         ensures later { self.old.faults ≤ self.new.faults }
-        ensures same { self.new.listener ≡ self.old.listener }
+        ensures same { self.new.listens ≡ self.old.listens }
     {
         self.faults = self.faults.saturating_add(1);
         Failed
@@ -106,9 +114,9 @@ impl<'a, R: Net<Listener = TcpListener, Stream = TcpStream>> TcpLink<'a, R> {
 impl<'a, R: Net<Listener = TcpListener, Stream = TcpStream>> Listener for TcpLink<'a, R> {
     type End = TcpEnd;
 
-    ghost use Rattle.std.specs.Prelude.{None, is_some};
+    ghost use Rattle.std.specs.Prelude.{None};
 
-    ghost listens = { λ l. is_some l.listener };
+    ghost listens = { λ l. l.listens };
 
     ghost listens_at = { λ _. None };
 
