@@ -9,7 +9,9 @@ use Rattle.fca_model.proofs.ListLemmas.{bool_iff, filter-filter}
 use Rattle.attr_bits.specs.Difference.{minus}
 use Rattle.attr_bits.proofs.DifferenceLemmas.{get_or-minus}
 use Rattle.lectic_concepts.proofs.BranchLemmas.{closure_among}
-use Rattle.lattice_covers.specs.Neighbours.{rows_above, AreImplied}
+use Rattle.lattice_covers.specs.Objects.{AreColumns, HasObjects}
+use Rattle.lattice_covers.specs.declared.chain.Sheet.{Sheet}
+use Rattle.lattice_covers.specs.Neighbours.{rows_above, AreImplied, IsOnSheet}
 
 pub rows_above-rows_above : (K : Context) (L A : Set) → within L A ≡ true → rows_above (rows_above K L) A ≡ rows_above K A
 rows_above-rows_above K L A h = ap (λ (Rs : List Set). record { width = K.width; rows = Rs }) (filter-filter (within A) (within L) K.rows ∙ same_rows K.rows)
@@ -71,3 +73,12 @@ closure_above K L A i part inside B b above is =
       | inl here ↦ ap (λ x. get_or (set A i true) x false) here ∙ get_or-set_same A i true false inside
       | inr other ↦ get_or-set_other A i j true false other ∙ t
     ])))) ∙ ap (closure K) b
+
+-- ---- a sheet
+
+-- what is asked where the objects of A with i are looked for
+pub with_on_sheet : (K : Context) (A : Set) {W : ℕ} (sheet : Sheet W) (S : Set) (i : ℕ) → IsOnSheet K A sheet S → length A ≡ K.width → i < K.width → (Cs : List Set) → Cs ≡ sheet.columns.items
+    → AreColumns sheet.rows Cs × (HasObjects sheet.rows A S × ((length A ≡ sheet.rows.width) × (i < sheet.rows.width)))
+with_on_sheet K A sheet S i there wide inside Cs is =
+    let width : sheet.rows.width ≡ K.width = ap (λ (X : Context). X.width) there.rows in
+    (subst (AreColumns sheet.rows) (sym is) there.columns, (there.objects, (wide ∙ sym width, omega (arith, width, inside))))

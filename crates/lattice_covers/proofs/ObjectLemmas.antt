@@ -3,7 +3,7 @@ use Rattle.std.proofs.Common.{◌≡◌, ℕ, zero, suc, ◌+◌, ◌-◌, ◌<�
 use Rattle.std.proofs.Math.ListN.{get_or-append}
 use Rattle.std.proofs.Math.Seq.{get_or-append_seam}
 use Rattle.std.proofs.lemmas.Bool.{and_parts, and_from, cases_eq, cases_lt, cases_Bool, false≢true}
-use Rattle.std.proofs.lemmas.List.{length-replicate, take_more}
+use Rattle.std.proofs.lemmas.List.{length-replicate, take_more, append-nil}
 use Rattle.std.proofs.lemmas.List.Elements.{filter-append}
 use Rattle.std.proofs.lemmas.List.Sums.{fold-append}
 use Rattle.std.proofs.lemmas.List.Folds.{list_all_at}
@@ -183,11 +183,15 @@ met_all K A S M T has met none =
 abbrev pub in_closure_of : Context → Set → ℕ → Bool
 in_closure_of K A i = get_or (closure K A) i false
 
+-- an attribute that each row with A has is in the closure of A
+pub closure_has : (K : Context) (A : Set) (i : ℕ) → i < K.width → ((g : ℕ) → g < length K.rows → within A (row K g) ≡ true → get_or (row K g) i false ≡ true) → in_closure_of K A i ≡ true
+closure_has K A i inside each = sym (within-alone K i (closure K A) inside)
+    ∙ in_closure K A (alone K i) (length-set (replicate K.width false) i true ∙ length-replicate K.width false) (λ g l h. within-alone K i (row K g) inside ∙ each g l h)
+
 -- an attribute is in the closure exactly where all objects of the set have it
 pub within-column : (K : Context) (A S C : Set) (i : ℕ) → i < K.width → HasObjects K A S → HasObjects K (alone K i) C → within S C ≡ in_closure_of K A i
 within-column K A S C i inside s c = bool_iff (within S C) (in_closure_of K A i)
-    (λ t. sym (within-alone K i (closure K A) inside) ∙ in_closure K A (alone K i) (length-set (replicate K.width false) i true ∙ length-replicate K.width false)
-    (λ g l h. sym (c.each g l) ∙ within_at_place S C t g (s.each g l ∙ h)))
+    (λ t. closure_has K A i inside (λ g l h. sym (within-alone K i (row K g) inside) ∙ sym (c.each g l) ∙ within_at_place S C t g (s.each g l ∙ h)))
     (λ t. within_from_places S C (λ g l h.
     let inside_rows : g < length K.rows = omega (arith, l, s.long) in
     let in_row : within (closure K A) (row K g) ≡ true = closure_in_row K A g inside_rows (sym (s.each g inside_rows) ∙ h) in
@@ -244,19 +248,27 @@ having_above K A i g inside wide l =
 
 -- ---- the closure row by row
 
+-- one row more of which some are kept
+pub filter_next : (p : Set → Bool) (Rs : List Set) (k : ℕ) (R : Set) (b : Bool) → k < length Rs → R ≡ get_or Rs k R → p R ≡ b
+    → filter p (take (k + 1) Rs) ≡ cond b (filter p (take k Rs) ++ R ∷ []) (filter p (take k Rs))
+filter_next p Rs k R b l is t =
+    ap (filter p) (take_more Rs k R l ∙ ap (λ X. take k Rs ++ X ∷ []) (sym is)) ∙ filter-append p (take k Rs) (R ∷ [])
+    ∙ ap (λ x. filter p (take k Rs) ++ cond x (R ∷ []) []) t ∙ last b
+  where
+    last : (b : Bool) → filter p (take k Rs) ++ cond b (R ∷ []) [] ≡ cond b (filter p (take k Rs) ++ R ∷ []) (filter p (take k Rs))
+    last true = refl
+    last false = append-nil (filter p (take k Rs))
+
 pub met_next : (K : Context) (A : Set) (k : ℕ) (R : Set) (b : Bool) → k < length K.rows → R ≡ get_or K.rows k R → within A R ≡ b
     → fold meet (full K.width) (filter (within A) (take (k + 1) K.rows))
     ≡ cond b (meet (fold meet (full K.width) (filter (within A) (take k K.rows))) R) (fold meet (full K.width) (filter (within A) (take k K.rows)))
-met_next K A k R b l is t =
-    ap (λ Rs. fold meet (full K.width) (filter (within A) Rs)) (take_more K.rows k R l ∙ ap (λ X. take k K.rows ++ X ∷ []) (sym is))
-    ∙ ap (fold meet (full K.width)) (filter-append (within A) (take k K.rows) (R ∷ []))
-    ∙ fold-append meet (full K.width) (filter (within A) (take k K.rows)) (filter (within A) (R ∷ []))
-    ∙ ap (λ x. fold meet (fold meet (full K.width) (filter (within A) (take k K.rows))) (cond x (R ∷ []) [])) t
-    ∙ last b
+met_next K A k R b l is t = ap (fold meet (full K.width)) (filter_next (within A) K.rows k R b l is t) ∙ last b
   where
-    last : (b : Bool) → fold meet (fold meet (full K.width) (filter (within A) (take k K.rows))) (cond b (R ∷ []) [])
-        ≡ cond b (meet (fold meet (full K.width) (filter (within A) (take k K.rows))) R) (fold meet (full K.width) (filter (within A) (take k K.rows)))
-    last true = refl
+    kept : List Set
+    kept = filter (within A) (take k K.rows)
+
+    last : (b : Bool) → fold meet (full K.width) (cond b (kept ++ R ∷ []) kept) ≡ cond b (meet (fold meet (full K.width) kept) R) (fold meet (full K.width) kept)
+    last true = fold-append meet (full K.width) kept (R ∷ [])
     last false = refl
 
 -- ---- columns

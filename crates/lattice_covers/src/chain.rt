@@ -1,12 +1,14 @@
 //! The intents below an intent, each with the rows that contain it and with what was seen of the closures above it.
 
-ghost use Rattle.std.specs.Prelude.{◌≡◌, ◌<◌, ◌≤◌, ℕ, [], true, false, length, slice_set, slice_index_or, MatchOption, IfOk};
+ghost use Rattle.std.specs.Prelude.{◌≡◌, ◌<◌, ◌≤◌, ℕ, [], true, false, not, ◌||◌, length, slice_set, slice_index_or, MatchOption, IfOk};
 ghost use Rattle.fca_model.specs.Sets.{within};
 ghost use Rattle.fca_model.specs.Context.{closure};
 ghost use Rattle.lattice_covers.specs.Neighbours.{IsAbove, IsLink, AreLinks, rows_above};
 
-use crate::members::{has, with};
-use crate::objects::{FEW_OBJECTS, ObjectSet, closure_of, columns_of, objects_above};
+use crate::members::{has, lacks, with};
+use crate::objects::{
+    FEW_OBJECTS, ObjectSet, closure_of, columns_of, have_all, objects_above, objects_with,
+};
 use attr_bits::Bits;
 use derivation::RowsOf;
 use fca_model::Memory;
@@ -27,12 +29,13 @@ pub(crate) enum Above<const W: usize> {
     Few(Rc<Sheet<W>>, ObjectSet),
 }
 
-/// An intent, the rows that contain it, and for each attribute a member of the closure of the intent with it.
+/// An intent, the rows that contain it, for each attribute a member of the closure of the intent with it, and one of the last of these that failed.
 #[derive(Drop)]
 pub(crate) struct Link<const W: usize> {
     pub(crate) intent: Bits<W>,
     pub(crate) above: Above<W>,
     pub(crate) implied: Vec<u32>,
+    pub(crate) further: u32,
 }
 
 /// The link of a. Links whose intents a does not contain are dropped from the end; the rows of the last one that is left are looked through, and what
@@ -73,6 +76,7 @@ fn next_link<const W: usize>(
         intent: *a,
         above: narrowed(alloc, rows, link, a)?,
         implied: Vec::from_slice(alloc, &link.implied)?,
+        further: rows.width(),
     })
 }
 
@@ -93,6 +97,7 @@ fn first_link<const W: usize>(
         intent: *a,
         above: above_in_all(alloc, rows, a)?,
         implied,
+        further: rows.width(),
     })
 }
 
@@ -110,12 +115,58 @@ fn narrowed<const W: usize>(
 {
     let _width = rows.width();
     match &link.above {
-        Above::Many(above) => above_of(alloc, rows, above.containing(alloc, a)?, a),
+        Above::Many(above) => above_of(alloc, rows, containing(alloc, above, &link.intent, a)?, a),
         Above::Few(sheet, objects) => {
             let fewer = objects_above(&sheet.rows, &sheet.columns, &link.intent, objects, a);
             Ok(Above::Few(sheet.clone()?, fewer))
         }
     }
+}
+
+/// The rows that contain a. They are asked first for an attribute that the smaller set lacks.
+fn containing<const W: usize>(
+    alloc: Global,
+    rows: &RowsOf<W>,
+    smaller: &Bits<W>,
+    a: &Bits<W>,
+) -> Result<RowsOf<W>, Memory>
+    requires { length a.now ≡ rows.now.width }
+    ensures { IfOk result (λ above. above ≡ rows_above rows.now a.now) }
+{
+    let _width = rows.width();
+    match a.first_missing(smaller) {
+        None => rows.containing(alloc, a),
+        Some(new) => containing_with(alloc, rows, new, a),
+    }
+}
+
+/// The rows that contain a, of which i is a member.
+fn containing_with<const W: usize>(
+    alloc: Global,
+    rows: &RowsOf<W>,
+    i: u32,
+    a: &Bits<W>,
+) -> Result<RowsOf<W>, Memory>
+    requires inside { i < rows.now.width }
+    requires member { slice_index_or a.now i false ≡ true }
+    ensures { IfOk result (λ above. above ≡ rows_above rows.now a.now) }
+{
+    let mut above = RowsOf::new(alloc, rows.width())?;
+    for row in rows.as_slice() {
+        if contains(row, i, a) {
+            above.push(*row)?;
+        }
+    }
+    Ok(above)
+}
+
+/// Whether the row contains a, of which i is a member.
+fn contains<const W: usize>(row: &Bits<W>, i: u32, a: &Bits<W>) -> bool
+    requires inside { i < length row.now }
+    requires member { slice_index_or a.now i false ≡ true }
+    ensures { result ≡ within a.now row.now }
+{
+    has(row, i) && a.within(row)
 }
 
 /// The rows that contain a, among all.
@@ -170,7 +221,7 @@ fn closure_with<const W: usize>(rows: &RowsOf<W>, link: &Link<W>, i: u32) -> Bit
         Above::Many(above) => closure_in(above, i, &larger),
         Above::Few(shared, objects) => {
             let sheet = shared.as_ref();
-            let having = objects.meet(&sheet.columns[i as usize]);
+            let having = objects_with(&sheet.rows, &sheet.columns, &link.intent, objects, i);
             closure_of(&sheet.rows, &sheet.columns, &having, &larger)
         }
     }
@@ -206,7 +257,52 @@ fn meet_having<const W: usize>(rows: &RowsOf<W>, i: u32, a: &Bits<W>) -> Bits<W>
     met
 }
 
-/// The closure of the intent with attribute i, if all its members are allowed. Where that was seen to fail for a smaller intent, it is not computed.
+/// Whether the closure of the intent of the link with attribute i is seen to have attribute j.
+fn implies<const W: usize>(rows: &RowsOf<W>, link: &Link<W>, i: u32, j: u32) -> bool
+    requires wide { length link.now.intent ≡ rows.now.width }
+    requires link { IsLink rows.now link.now }
+    requires premise { i < rows.now.width }
+    requires conclusion { j < rows.now.width }
+    ensures { result ≡ true → slice_index_or (closure rows.now (slice_set link.now.intent i true)) j false ≡ true }
+{
+    let _width = rows.width();
+    match &link.above {
+        Above::Many(above) => all_imply(above, i, j),
+        Above::Few(shared, objects) => {
+            let sheet = shared.as_ref();
+            let having = objects_with(&sheet.rows, &sheet.columns, &link.intent, objects, i);
+            have_all(&having, &sheet.columns[j as usize])
+        }
+    }
+}
+
+/// Whether each row that has attribute i has attribute j too.
+fn all_imply<const W: usize>(rows: &RowsOf<W>, i: u32, j: u32) -> bool
+    requires premise { i < rows.now.width }
+    requires conclusion { j < rows.now.width }
+    ensures { result ≡ true → (g : ℕ) → g < length rows.now.rows
+        → slice_index_or (slice_index_or rows.now.rows g []) i false ≡ true → slice_index_or (slice_index_or rows.now.rows g []) j false ≡ true }
+{
+    let _width = rows.width();
+    for row in rows.as_slice() {
+        if !has_if(row, i, j) {
+            return false;
+        }
+    }
+    true
+}
+
+/// Whether the row has attribute j if it has attribute i.
+fn has_if<const W: usize>(row: &Bits<W>, i: u32, j: u32) -> bool
+    requires premise { i < length row.now }
+    requires conclusion { j < length row.now }
+    ensures { result ≡ (not (slice_index_or row.now i false) || slice_index_or row.now j false) }
+{
+    !has(row, i) || has(row, j)
+}
+
+/// The closure of the intent with attribute i, if all its members are allowed. It is not computed where that was seen to fail for a smaller intent, or where
+/// what made the last closure fail is a member of this one as well.
 pub(crate) fn closure_if_allowed<const W: usize>(
     rows: &RowsOf<W>,
     link: &mut Link<W>,
@@ -225,11 +321,18 @@ pub(crate) fn closure_if_allowed<const W: usize>(
     if !has(allowed, link.implied[i as usize]) {
         return None;
     }
+    let further = link.further;
+    if lacks(allowed, further) && implies(rows, link, i, further) {
+        link.implied[i as usize] = further;
+        return None;
+    }
     let closed = closure_with(rows, link, i);
     match closed.first_missing(allowed) {
         None => Some(closed),
-        Some(further) => {
-            link.implied[i as usize] = later_missing(&closed, allowed, further, i);
+        Some(known) => {
+            let later = later_missing(&closed, allowed, known, i);
+            link.implied[i as usize] = later;
+            link.further = later;
             None
         }
     }

@@ -14,6 +14,14 @@ pub(crate) fn has<const W: usize>(set: &Bits<W>, i: u32) -> bool
     is_in_words::<W>(i) && set.has(i)
 }
 
+/// Whether i is a place that is no member.
+pub(crate) fn lacks<const W: usize>(set: &Bits<W>, i: u32) -> bool
+    ensures inside { result ≡ true → i < length set.now }
+    ensures lacks { result ≡ true → slice_index_or set.now i false ≡ false }
+{
+    i < set.width() && !has(set, i)
+}
+
 /// Adds place i.
 pub(crate) fn insert<const W: usize>(set: &mut Bits<W>, i: u32)
     requires { i < length set.old }

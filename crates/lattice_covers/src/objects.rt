@@ -1,6 +1,6 @@
 //! Sets of few objects: the extent of an intent is such a set where it is small, and so are the objects of an attribute among those.
 
-ghost use Rattle.std.specs.Prelude.{◌≡◌, ◌≤◌, ◌<◌, true, length, IfOk};
+ghost use Rattle.std.specs.Prelude.{◌≡◌, ◌≤◌, ◌<◌, true, length, slice_set, IfOk};
 ghost use Rattle.fca_model.specs.Sets.{within};
 ghost use Rattle.fca_model.specs.Context.{closure};
 ghost use Rattle.lattice_covers.specs.Objects.{AreColumns, HasObjects, alone};
@@ -78,6 +78,24 @@ pub(crate) fn objects_above<const W: usize>(
     having
 }
 
+/// The objects of a with attribute i, where those of a are given.
+pub(crate) fn objects_with<const W: usize>(
+    rows: &RowsOf<W>,
+    columns: &[ObjectSet],
+    a: &Bits<W>,
+    objects: &ObjectSet,
+    i: u32,
+) -> ObjectSet
+    requires columns { AreColumns rows.now columns.now }
+    requires objects { HasObjects rows.now a.now objects.now }
+    requires wide { length a.now ≡ rows.now.width }
+    requires inside { i < rows.now.width }
+    ensures { HasObjects rows.now (slice_set a.now i true) result }
+{
+    let _width = rows.width();
+    objects.meet(&columns[i as usize])
+}
+
 /// The closure of `least`, whose objects are given: by columns where there are few of those, and else by rows.
 pub(crate) fn closure_of<const W: usize>(
     rows: &RowsOf<W>,
@@ -118,7 +136,7 @@ fn common_of<const W: usize>(
 }
 
 /// Whether all of the objects are in the column.
-fn have_all(objects: &ObjectSet, column: &ObjectSet) -> bool
+pub(crate) fn have_all(objects: &ObjectSet, column: &ObjectSet) -> bool
     ensures { result ≡ within objects.now column.now }
 {
     objects.meet(column) == *objects

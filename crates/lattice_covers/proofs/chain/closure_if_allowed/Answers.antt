@@ -29,6 +29,10 @@ returns-then-not-has-clause-closed g c =
     not_within_at (closure K (set A c.args.i true)) c.args.allowed.now c.index.result.now
     (seen K A c.args.link.now.implied.items c.args.i c.index.result.now c.requires.link.implied c.requires.inside c.index.ensures) (sym c.has.ensures ∙ c.if-not-has.true)
 
+pub returns-then-implies-clause-closed : goal.returns-then-implies-clause-closed
+returns-then-implies-clause-closed g c =
+    not_within_at (closure c.args.rows.now (set c.args.link.now.intent c.args.i true)) c.args.allowed.now c.args.link.now.further (c.implies.ensures c.if-implies.true) (c.lacks.ensures.lacks c.if-lacks.true)
+
 pub returns-in-None-clause-closed : goal.returns-in-None-clause-closed
 returns-in-None-clause-closed g c =
     let K : Context = c.args.rows.now in
@@ -36,13 +40,13 @@ returns-in-None-clause-closed g c =
     let closed : c.closure_with-closed.result ≡ closure K (set A c.args.i true) = c.closure_with-closed.ensures in
     (closed, first_missing_none 0 c.closure_with-closed.result c.args.allowed.now (sym c.first_missing.ensures ∙ c.in-None.is))
 
-pub later_missing-requires : goal.later_missing-requires
-later_missing-requires g c =
+pub later_missing-later-requires : goal.later_missing-later-requires
+later_missing-later-requires g c =
     let K : Context = c.args.rows.now in
     let A : Set = c.args.link.now.intent in
     let closed : c.closure_with-closed.result ≡ closure K (set A c.args.i true) = c.closure_with-closed.ensures in
     let wide : length c.closure_with-closed.result ≡ K.width = ap length closed ∙ length-closure K (set A c.args.i true) in
-    let further = first_missing-parts c.closure_with-closed.result c.args.allowed.now c.in-Some.further (sym c.first_missing.ensures ∙ c.in-Some.is) in
+    let further = first_missing-parts c.closure_with-closed.result c.args.allowed.now c.in-Some.known (sym c.first_missing.ensures ∙ c.in-Some.is) in
     (search rules, (further.0, (further.1, omega (arith, wide, c.requires.inside))))
 
 pub returns-in-Some-clause-closed : goal.returns-in-Some-clause-closed
@@ -50,17 +54,17 @@ returns-in-Some-clause-closed g c =
     let K : Context = c.args.rows.now in
     let A : Set = c.args.link.now.intent in
     let closed : c.closure_with-closed.result ≡ closure K (set A c.args.i true) = c.closure_with-closed.ensures in
-    let later = c.later_missing.result in
-    not_within_at (closure K (set A c.args.i true)) c.args.allowed.now later (subst (λ (D : Set). get_or D later false ≡ true) closed c.later_missing.ensures.member) c.later_missing.ensures.lacks
+    let later = c.later_missing-later.result in
+    not_within_at (closure K (set A c.args.i true)) c.args.allowed.now later (subst (λ (D : Set). get_or D later false ≡ true) closed c.later_missing-later.ensures.member) c.later_missing-later.ensures.lacks
 
 pub returns-in-Some-clause-link : goal.returns-in-Some-clause-link
 returns-in-Some-clause-link g c =
     let K : Context = c.args.rows.now in
     let A : Set = c.args.link.now.intent in
     let closed : c.closure_with-closed.result ≡ closure K (set A c.args.i true) = c.closure_with-closed.ensures in
-    let later = c.later_missing.result in
+    let later = c.later_missing-later.result in
     record {
       wide = c.requires.link.wide;
       above = c.requires.link.above;
-      implied = implied_set K A c.args.link.now.implied.items c.args.i later c.requires.inside c.requires.link.implied (subst (λ (D : Set). get_or D later false ≡ true) closed c.later_missing.ensures.member);
+      implied = implied_set K A c.args.link.now.implied.items c.args.i later c.requires.inside c.requires.link.implied (subst (λ (D : Set). get_or D later false ≡ true) closed c.later_missing-later.ensures.member);
     }

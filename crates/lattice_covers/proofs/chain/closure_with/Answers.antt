@@ -1,14 +1,13 @@
 use Rattle.std.proofs.Common.{◌≡◌, ℕ, ◌<◌, ◌∙◌, [], true, false, length, get_or, set, sym, ap, subst, length-set, arith}
-use Rattle.std.proofs.lemmas.List.{get_or_default}
-use Rattle.fca_model.specs.Sets.{Set, meet, within}
+use Rattle.fca_model.specs.Sets.{Set, within}
 use Rattle.fca_model.specs.Context.{Context}
 use Rattle.fca_model.proofs.SetLemmas.{within_refl}
-use Rattle.lattice_covers.specs.Objects.{HasObjects, AreColumns, alone}
+use Rattle.lattice_covers.specs.Objects.{HasObjects, AreColumns}
 use Rattle.lattice_covers.specs.declared.chain.Sheet.{Sheet}
 use Rattle.lattice_covers.specs.declared.chain.Above.{Above}
 use Rattle.lattice_covers.specs.Neighbours.{IsAbove, IsOnSheet, rows_above}
-use Rattle.lattice_covers.proofs.ChainLemmas.{closure_above}
-use Rattle.lattice_covers.proofs.ObjectLemmas.{objects_with, having_above}
+use Rattle.lattice_covers.proofs.ChainLemmas.{closure_above, with_on_sheet}
+use Rattle.lattice_covers.proofs.ObjectLemmas.{having_above}
 use Rattle.lattice_covers.proofs.chain.closure_with.Goals as goal
 
 pub returns-in-Many : goal.returns-in-Many
@@ -17,29 +16,32 @@ returns-in-Many g c =
     let A : Set = c.args.link.now.intent in
     c.closure_in.ensures ∙ closure_above K A A c.args.i (within_refl A) (omega (arith, c.requires.wide, c.requires.inside)) c.with-larger.result c.with-larger.ensures c.in-Many.above (subst (λ (X : Above g.row.W). IsAbove K A X) c.in-Many.is c.requires.link.above)
 
+pub objects_with-having-requires : goal.objects_with-having-requires
+objects_with-having-requires g c =
+    let K : Context = c.args.rows.now in
+    let A : Set = c.args.link.now.intent in
+    let sheet : Sheet g.row.W = c.as_ref-sheet.result.now in
+    let there : IsOnSheet K A sheet c.in-Few.objects =
+    subst (λ (s : Sheet g.row.W). IsOnSheet K A s c.in-Few.objects) (sym c.as_ref-sheet.ensures) (subst (λ (X : Above g.row.W). IsAbove K A X) c.in-Few.is c.requires.link.above) in
+    (omega arith, (omega (arith, c.width-width.ensures.words), with_on_sheet K A sheet c.in-Few.objects c.args.i there c.requires.wide c.requires.inside c.deref.result.now c.deref.ensures.value))
+
 pub closure_of-requires : goal.closure_of-requires
 closure_of-requires g c =
     let K : Context = c.args.rows.now in
     let A : Set = c.args.link.now.intent in
-    let i = c.args.i in
     let sheet : Sheet g.row.W = c.as_ref-sheet.result.now in
     let there : IsOnSheet K A sheet c.in-Few.objects =
     subst (λ (s : Sheet g.row.W). IsOnSheet K A s c.in-Few.objects) (sym c.as_ref-sheet.ensures) (subst (λ (X : Above g.row.W). IsAbove K A X) c.in-Few.is c.requires.link.above) in
-    let width : sheet.rows.width ≡ K.width = ap (λ (X : Context). X.width) there.rows in
-    let inside : i < sheet.rows.width = omega (arith, width, c.requires.inside) in
-    let wide : length A ≡ sheet.rows.width = c.requires.wide ∙ sym width in
-    let column : c.index.result.now ≡ get_or sheet.columns.items i [] =
-    c.index.ensures ∙ get_or_default sheet.columns.items i c.index.result.now [] (omega (arith, inside, there.columns.wide)) in
-    let objects : HasObjects sheet.rows c.with-larger.result c.meet-having.result =
-    subst (λ (S : Set). HasObjects sheet.rows c.with-larger.result S) (sym c.meet-having.ensures)
-    (subst (λ (B : Set). HasObjects sheet.rows B (meet c.in-Few.objects c.index.result.now)) (sym c.with-larger.ensures)
-    (objects_with sheet.rows A c.in-Few.objects c.index.result.now i inside wide there.objects (subst (HasObjects sheet.rows (alone sheet.rows i)) (sym column) (there.columns.each i inside)))) in (
+    let width : sheet.rows.width ≡ K.width = ap (λ (X : Context). X.width) there.rows in (
       omega arith,
       (
         omega (arith, c.width-width.ensures.words),
         (
-          subst (AreColumns sheet.rows) (sym c.deref.ensures.value) there.columns,
-          (objects, ap length c.with-larger.ensures ∙ length-set A i true ∙ wide),
+          subst (AreColumns sheet.rows) (sym c.deref-in-Few.ensures.value) there.columns,
+          (
+            subst (λ (B : Set). HasObjects sheet.rows B c.objects_with-having.result) (sym c.with-larger.ensures) c.objects_with-having.ensures,
+            ap length c.with-larger.ensures ∙ length-set A c.args.i true ∙ (c.requires.wide ∙ sym width),
+          ),
         ),
       ),
     )
