@@ -53,11 +53,11 @@ is_name-faultless text = by (length text == 0) (nat_lt MAX_NAME_BYTES (length te
     by false false false some few unbroken = refl
 
 row_of_width-shaped : (n : ℕ) (text : Text) (r : Set) → row_of_width n text (Some r) ≢ Err Line
-row_of_width-shaped n text r = by (length r == n)
+row_of_width-shaped n text r = by (text, r) (length r == n)
   where
-    by : (wide : Bool) → cond wide (Ok (text, r)) (Err Width) ≢ Err Line
-    by true = λ e. cc e
-    by false = λ e. cc e
+    by : (row : Text × Set) (wide : Bool) → cond wide (Ok row) (Err Width) ≢ Err Line
+    by row true = λ e. cc e
+    by row false = λ e. cc e
 
 -- marks with a name behind them have the shape of a row
 pub named_row-shaped : (n : ℕ) (text word later : Text) (r : Set) → word ≡ first_word text → later ≡ later_words text → set_marked word ≡ Some r → is_name later ≡ true → named_row n text ≢ Err Line
