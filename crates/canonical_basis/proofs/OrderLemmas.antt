@@ -119,6 +119,10 @@ module _ (K : Context) (J Js : List Rule) (Ps Qs : List Set) (h : SameMembers J 
   pub closing_is : (list : RuleList) → list ≡ rule_list K.width (map (λ P. rule P (closure K P)) Qs) → list ≡ rule_list K.width (basis_known [] K)
   closing_is list e = e ∙ ap (rule_list K.width) (ap (map (λ P. rule P (closure K P))) copy ∙ in_order_is_basis K J Ps h up all_there)
 
+-- beside nothing
+pub of_nothing : (K : Context) (list nothing : RuleList) → nothing ≡ rule_list K.width [] → list ≡ rule_list K.width (nothing.members ++ basis_known nothing.members K) → list ≡ rule_list K.width (basis_known [] K)
+of_nothing K list nothing n e = e ∙ ap (λ (L : RuleList). rule_list K.width (L.members ++ basis_known L.members K)) n
+
 -- the basis is a least basis
 pub basis_is_least : (K : Context) (list : RuleList) → list ≡ rule_list K.width (basis_known [] K) → IsLeastBasis K list.members
 basis_is_least K list e = subst (λ ms. IsLeastBasis K ms) (sym (ap (λ (l : RuleList). l.members) e)) (least_from_members K (basis_known [] K) (λ p. refl) refl)

@@ -6,17 +6,17 @@ mod derivations;
 mod ordering;
 mod reducing;
 
-ghost use Rattle.std.specs.Prelude.{◌≡◌, IfOk, true};
+ghost use Rattle.std.specs.Prelude.{◌≡◌, ◌≤◌, IfOk, true};
 ghost use Rattle.fca_model.specs.Implications.{equivalent};
 ghost use Rattle.fca_model.specs.Pseudo.{basis};
 ghost use Rattle.pseudo_levels.specs.LeastBasis.{IsLeastBasis};
 ghost use Rattle.canonical_basis.specs.Reduced.{context_of};
 
-use derivation::Rows;
+use derivation::{Rows, RowsOf};
 pub use derivations::{Derivation, check, derive};
-use fca_model::Memory;
+use fca_model::{MAX_ATTRIBUTES, Memory};
 use implication_closure::ImplicationList;
-use lectic_basis::basis_watched;
+use lectic_basis::{NarrowList, basis_watched};
 use ordering::{close_in_list, premises_in_order};
 use reducing::reduce_list;
 use std::alloc::Global;
@@ -33,6 +33,19 @@ pub fn basis<R: Threads + Sync>(
 {
     let nothing = ImplicationList::new(alloc, rows.width())?;
     basis_watched(alloc, rows, &nothing)
+}
+
+/// The same, in sets of the words that the rows have.
+pub fn basis_in_words<const W: usize>(
+    alloc: Global,
+    rows: RowsOf<W>,
+) -> Result<NarrowList<W>, Memory>
+    requires { rows.width ≤ MAX_ATTRIBUTES }
+    ensures members { IfOk result (λ list. list ≡ record { width = rows.entry.width; members = basis rows.entry }) }
+    ensures least { IfOk result (λ list. IsLeastBasis rows.entry list.members) }
+{
+    let nothing = ImplicationList::new(alloc, rows.width())?;
+    lectic_basis::basis_in_words(alloc, rows, &nothing)
 }
 
 /// The Duquenne-Guigues basis of the context whose rows are all sets that respect the list, in

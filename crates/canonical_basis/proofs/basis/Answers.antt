@@ -5,7 +5,7 @@ use Rattle.fca_model.specs.Implications.{holds}
 use Rattle.fca_model.specs.Pseudo.{basis_known}
 use Rattle.implication_closure.specs.Closing.{RuleList}
 use Rattle.pseudo_levels.specs.LeastBasis.{IsLeastBasis}
-use Rattle.canonical_basis.proofs.OrderLemmas.{rule_list, basis_is_least}
+use Rattle.canonical_basis.proofs.OrderLemmas.{rule_list, basis_is_least, of_nothing}
 use Rattle.canonical_basis.proofs.basis.Goals as goal
 
 pub basis_watched-requires-clause-wide : goal.basis_watched-requires-clause-wide
@@ -17,8 +17,9 @@ basis_watched-requires-clause-holds g c = subst (λ (L : RuleList). list_all (ho
 pub returns-clause-members : goal.returns-clause-members
 returns-clause-members g c =
     let K = c.args.rows.now in
-    IfOk-weaker c.basis_watched.result (λ list. list ≡ rule_list K.width (c.in_ok-nothing.nothing.members ++ basis_known c.in_ok-nothing.nothing.members K)) (λ list. list ≡ rule_list K.width (basis_known [] K))
-    (λ list e. e ∙ ap (λ (L : RuleList). rule_list K.width (L.members ++ basis_known L.members K)) c.in_ok-nothing.ensures) c.basis_watched.ensures
+    let nothing : RuleList = c.in_ok-nothing.nothing in
+    IfOk-weaker c.basis_watched.result (λ list. list ≡ rule_list K.width (nothing.members ++ basis_known nothing.members K)) (λ list. list ≡ rule_list K.width (basis_known [] K))
+    (λ list e. of_nothing K list nothing (c.in_ok-nothing.ensures ∙ ap (λ n. rule_list n []) c.width.ensures.width) e) c.basis_watched.ensures
 
 pub returns-clause-least : goal.returns-clause-least
 returns-clause-least g c =
