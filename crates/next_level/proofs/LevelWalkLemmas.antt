@@ -14,7 +14,7 @@ use Rattle.extent_blocks.specs.Blocks.{Part, IsExtent, IsExtentWith, in_parts, h
 use Rattle.extent_blocks.proofs.ExtentLemmas.{extent_larger, extent_left}
 use Rattle.lectic_basis.specs.Trees.{before, up_to}
 use Rattle.next_level.specs.NextLevel.{IsLeastUnder, IsLeastLevel}
-use Rattle.next_level.specs.LevelWalks.{IsEntered, IsLeft, IsTrying, HasLevel}
+use Rattle.next_level.specs.LevelWalks.{IsEntered, IsLeft, IsTrying, HasLevel, IsSteady}
 use Rattle.lectic_basis.specs.Watches.{Watched, IsFiled, IsGood, CanClose, HasMoved, IsClosedBefore, Differs}
 use Rattle.lectic_basis.proofs.PlaceLemmas.{within_set, agree_with, agree_less}
 use Rattle.lectic_basis.proofs.TreeLemmas.{root_least}
@@ -24,8 +24,8 @@ use Rattle.lectic_basis.proofs.WaitLemmas.{kept_good, good_covers}
 -- ---- the start
 
 pub root_entered : (K : Context) (A : Set) (F : Watched) (Ls : List Rule) (b : ℕ) → F.list.width ≡ K.width → IsClosure F.list.members (replicate K.width false) A
-    → IsFiled F.list.width F.list.members F.buckets → IsGood F.list.members F.buckets A → Ls ≡ [] → b ≡ suc K.width → IsEntered K A 0 F b Ls
-root_entered K A F Ls b width a filed good none past = record {
+    → IsFiled F.list.width F.list.members F.buckets → IsGood F.list.members F.buckets A → Ls ≡ [] → IsEntered K A 0 F b Ls
+root_entered K A F Ls b width a filed good none = record {
   at = record {
     width = width;
     wide = a.wide ∙ length-replicate K.width false;
@@ -35,7 +35,7 @@ root_entered K A F Ls b width a filed good none past = record {
     filed = filed;
     good = good;
   };
-  level = bound.nothing_seen F.list.members K A Ls b none past;
+  level = bound.nothing_seen F.list.members K A Ls b none;
 }
 
 -- ---- a visit
@@ -181,6 +181,21 @@ module _ {K : Context} {A : Set} {i : ℕ} {G : Watched} {b : ℕ} {Ls : List Ru
               filed = done.filed;
               kept = λ Y h good. done.kept Y (within_trans Y A C h up_c) (good_moved Y h good);
             }
+
+-- ---- while nothing is listed
+
+pub steady_same : {b : ℕ} {Ls : List Rule} → IsSteady b Ls b Ls
+steady_same = record { empty = λ e. e; bound = λ e. refl }
+
+pub steady_then : {b c d : ℕ} {Ls Ms Ns : List Rule} → IsSteady b Ls c Ms → IsSteady c Ms d Ns → IsSteady b Ls d Ns
+steady_then x y = record { empty = λ e. x.empty (y.empty e); bound = λ e. y.bound e ∙ x.bound (y.empty e) }
+
+push_some : (Ls : List Rule) (i : Rule) → Ls ++ i ∷ [] ≡ [] → ⊥
+push_some [] i e = cc
+push_some (l ∷ Ls) i e = cc
+
+pub steady_push : {b c : ℕ} {Ks Ms : List Rule} (Ls : List Rule) (i : Rule) → Ms ≡ Ls ++ i ∷ [] → IsSteady b Ks c Ms
+steady_push Ls i is = record { empty = λ e. absurd (push_some Ls i (sym is ∙ e)); bound = λ e. absurd (push_some Ls i (sym is ∙ e)) }
 
 -- ---- the rows near a set
 

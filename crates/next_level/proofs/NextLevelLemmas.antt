@@ -54,7 +54,7 @@ module _ (J : List Rule) (K : Context) where
     least = λ X x. l.least X (record { wide = x.wide; respecting = x.respecting; not_closed = x.not_closed; passes = h X x.wide x.respecting x.not_closed ∙ x.passes });
     listed = l.listed ∙ same_open b p q (λ X e r n s. h X e r n);
     witness = elim l.witness [
-      | inl past ↦ inl past
+      | inl none ↦ inl none
       | inr w ↦ inr (w.0, record { wide = w.1.wide; respecting = w.1.respecting; not_closed = w.1.not_closed; passes = sym (h w.0 w.1.wide w.1.respecting w.1.not_closed) ∙ w.1.passes }, w.2)
     ];
   }
@@ -109,7 +109,7 @@ module _ (J : List Rule) (K : Context) where
             | inr new ↦ elim (more X x new.1) [ inl lt ↦ absurd (omega (arith, lt, s)) | inr w ↦ absurd w.1 ]
           ]));
       witness = elim l.witness [
-        | inl past ↦ inl past
+        | inl none ↦ inl none
         | inr w ↦ inr (w.0, record { wide = w.1.wide; respecting = w.1.respecting; not_closed = w.1.not_closed; passes = places.before_up_to from from A w.0 (omega arith) w.1.passes }, w.2)
       ];
     }
@@ -212,7 +212,7 @@ all_pass : (Xs : List Set) → filter (λ X. true) Xs ≡ Xs
 all_pass [] = refl
 all_pass (X ∷ Xs) = ap (λ Zs. X ∷ Zs) (all_pass Xs)
 
-module _ (S : List Rule) (K : Context) (k : ℕ) (found J : List Rule) (is : J ≡ S ++ found) (below : HasBelow S K k found) (bounded : k ≤ K.width + 1) (A : Set) (b : ℕ) (L : List Rule) (l : IsLeastLevel J K b (up_to 0 A) L) where
+module _ (S : List Rule) (K : Context) (k : ℕ) (found J : List Rule) (is : J ≡ S ++ found) (below : HasBelow S K k found) (bounded : k ≤ K.width + 1) (A : Set) (b : ℕ) (L : List Rule) (l : IsLeastLevel J K b (up_to 0 A) L) (ends : L ≡ [] → b ≡ suc K.width) where
   respects_both : (X : Set) → respects_all J X ≡ true → (respects_all S X ≡ true) × (respects_all found X ≡ true)
   respects_both X r = and_parts (respects_all S X) (respects_all found X) (sym (list_all-append (respects X) S found) ∙ sym (ap (λ Zs. respects_all Zs X) is) ∙ r)
 
@@ -247,7 +247,7 @@ module _ (S : List Rule) (K : Context) (k : ℕ) (found J : List Rule) (is : J �
 
   reached_before : k ≤ b
   reached_before = elim l.witness [
-    | inl past ↦ omega (arith, bounded, past)
+    | inl none ↦ let past : b ≡ suc K.width = ends none in omega (arith, bounded, past)
     | inr w ↦ elim (cases_lt b k) [
       | inl lt ↦
           let X : Set = w.0 in
@@ -261,7 +261,7 @@ module _ (S : List Rule) (K : Context) (k : ℕ) (found J : List Rule) (is : J �
 
   next_bounded : b ≤ K.width + 1
   next_bounded = elim l.witness [
-    | inl past ↦ omega (arith, past)
+    | inl none ↦ let past : b ≡ suc K.width = ends none in omega (arith, past)
     | inr w ↦ let le : size w.0 ≤ length w.0 = size_le w.0 in let e : length w.0 ≡ K.width = w.1.wide in let s : size w.0 ≡ b = w.2 in omega (arith, le, e, s)
   ]
 
@@ -300,7 +300,7 @@ module _ (S : List Rule) (K : Context) (k : ℕ) (found J : List Rule) (is : J �
   next_none : L ≡ [] → b ≡ K.width + 1
   unfolding open_where
   next_none e = elim l.witness [
-    | inl past ↦ omega (arith, past)
+    | inl none ↦ let past : b ≡ suc K.width = ends none in omega (arith, past)
     | inr w ↦
         let X : Set = w.0 in
         let one : is_open J K b X ≡ true = and_from (respects_all J X && not (is_closed K X)) (eqb (size X) b) (and_from (respects_all J X) (not (is_closed K X)) w.1.respecting (ap not w.1.not_closed)) (eq-eqb (size X) b w.2) in
@@ -317,12 +317,12 @@ module _ (S : List Rule) (K : Context) (k : ℕ) (found J : List Rule) (is : J �
   next_is = record { bounded = next_bounded; below = next_below; members = next_members; wide = next_wide; none = next_none }
 
 -- before anything was seen
-pub nothing_seen : (J : List Rule) (K : Context) (A : Set) (L : List Rule) (b : ℕ) → L ≡ [] → b ≡ suc K.width → IsLeastLevel J K b (before 0 A) L
+pub nothing_seen : (J : List Rule) (K : Context) (A : Set) (L : List Rule) (b : ℕ) → L ≡ [] → IsLeastLevel J K b (before 0 A) L
 unfolding open_where
-nothing_seen J K A L b e past = record {
+nothing_seen J K A L b e = record {
   least = λ X x. absurd (false≢true x.passes);
   listed = e ∙ sym (ap (map (λ P. rule P (closure K P))) (none_pass (filter (is_open J K b) (all_sets K.width))));
-  witness = inl past;
+  witness = inl e;
 }
 
 -- all that are listed have the width of the context

@@ -2,7 +2,7 @@
 --
 -- The walk looks at the sets that respect the list and agree with A before an attribute. It keeps the least size of those seen so far that are not closed, and
 -- the sets of that size: a branch whose sets are larger is not entered.
-use Rattle.std.specs.Prelude.{◌≡◌, ℕ, suc, ◌<◌, ◌≤◌, true, length, List}
+use Rattle.std.specs.Prelude.{◌≡◌, ℕ, suc, ◌<◌, ◌≤◌, true, length, List, []}
 use Rattle.fca_model.specs.Sets.{Set, within}
 use Rattle.fca_model.specs.Context.{Context}
 use Rattle.fca_model.specs.Implications.{Rule, respects_all}
@@ -42,3 +42,8 @@ pub record HasLevel (K : Context) (A : Set) (i : ℕ) (old new : Watched) (b : �
   pub level : IsLeastLevel new.list.members K b (up_to i A) Ls
   pub filed : IsFiled new.list.width new.list.members new.buckets
   pub kept : (X : Set) → within X A ≡ true → IsGood old.list.members old.buckets X → IsGood new.list.members new.buckets X
+
+-- while nothing is listed, nothing was before, and the bound stays
+pub record IsSteady (b : ℕ) (Ls : List Rule) (c : ℕ) (Ms : List Rule) : Type 0 where
+  pub empty : Ms ≡ [] → Ls ≡ []
+  pub bound : Ms ≡ [] → c ≡ b

@@ -5,7 +5,7 @@
 --
 -- Of the rows {a}, {b}, {c} over a, b, c, with nothing known and nothing accepted, the sets that are not closed are {b, c}, {a, c} and {a, b}, all of size 2:
 -- the next level is that of size 2, and has all three members.
-use Rattle.std.specs.Prelude.{◌≡◌, ℕ, suc, ◌≤◌, ◌+◌, ◌==◌, ◌⊎◌, length, Bool, true, false, not, ◌&&◌, List, [], filter, map}
+use Rattle.std.specs.Prelude.{◌≡◌, ℕ, ◌≤◌, ◌+◌, ◌==◌, ◌⊎◌, length, Bool, true, false, not, ◌&&◌, List, [], filter, map}
 use Rattle.fca_model.specs.Sets.{Set, within, size, all_sets}
 use Rattle.fca_model.specs.Context.{Context, closure, is_closed}
 use Rattle.fca_model.specs.Implications.{Rule, rule, respects_all}
@@ -40,8 +40,8 @@ pub record IsOpen (J : List Rule) (K : Context) (p : Set → Bool) (X : Set) : T
   pub not_closed : is_closed K X ≡ false
   pub passes : p X ≡ true
 
--- of these sets none has fewer than b members, L are those of b members, and there is one, or b is past the width
+-- of these sets none has fewer than b members, L are those of b members, and there is one, or nothing is listed
 pub record IsLeastLevel (J : List Rule) (K : Context) (b : ℕ) (p : Set → Bool) (L : List Rule) : Type 0 where
   pub least : (X : Set) → IsOpen J K p X → b ≤ size X
   pub listed : L ≡ open_where J K b p
-  pub witness : (b ≡ suc K.width) ⊎ ((X : Set) × IsOpen J K p X × (size X ≡ b))
+  pub witness : (L ≡ []) ⊎ ((X : Set) × IsOpen J K p X × (size X ≡ b))

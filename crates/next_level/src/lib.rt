@@ -3,7 +3,7 @@
 
 mod walk;
 
-ghost use Rattle.std.specs.Prelude.{◌≡◌, ◌≤◌, ◌+◌, ◌++◌, ℕ, List, IfOk};
+ghost use Rattle.std.specs.Prelude.{◌≡◌, ◌≤◌, ◌+◌, ◌++◌, ℕ, List, [], IfOk};
 ghost use Rattle.fca_model.specs.Implications.{Rule};
 ghost use Rattle.fca_model.specs.Levels.{HasBelow};
 ghost use Rattle.implication_closure.specs.Closing.{HaveWidth};
@@ -81,7 +81,7 @@ fn level_of<const W: usize>(
     level_by(alloc, &sheet, rules)
 }
 
-/// The same, where the columns are there.
+/// The same, where the columns are there. Sizes are looked at in turn first, so that no larger sets are met where a smaller one is open.
 fn level_by<const W: usize>(
     alloc: Global,
     sheet: &Sheet<W>,
@@ -92,11 +92,43 @@ fn level_by<const W: usize>(
         → IfOk result (λ level. IsNextLevel known sheet.now found level.size level.members.items) }
     ensures even { IfOk result (λ level. HaveWidth sheet.now.width level.members.items) }
 {
-    let width = sheet.rows().width();
+    for size in 0..sizes_in_turn(rules) {
+        let level = level_up_to(alloc, sheet, rules, size)?;
+        if !level.members.is_empty() {
+            return Ok(level);
+        }
+    }
+    level_up_to(alloc, sheet, rules, sheet.rows().width() + 1)
+}
+
+/// How many sizes are looked at in turn, the least first. Without rules all sets are met, of each size up to a third of the attributes at least twice as many as of
+/// the one before: so to begin anew for each size costs no more than the last of them.
+fn sizes_in_turn(rules: &ImplicationList) -> u32
+{
+    if rules.as_slice().is_empty() {
+        rules.width() / 3
+    } else {
+        0
+    }
+}
+
+/// The next level, if it has a member and is of no larger size than the bound. Past the width nothing is left out.
+fn level_up_to<const W: usize>(
+    alloc: Global,
+    sheet: &Sheet<W>,
+    rules: &ImplicationList,
+    bound: u32,
+) -> Result<LevelOf<W>, Memory>
+    requires wide { rules.now.width ≡ sheet.now.width }
+    ensures next { (known found : List Rule) (reached : ℕ) → rules.now.members ≡ known ++ found → HasBelow known sheet.now reached found → reached ≤ sheet.now.width + 1
+        → IfOk result (λ level. (level.members.items ≡ [] → bound ≡ sheet.now.width + 1) → IsNextLevel known sheet.now found level.size level.members.items) }
+    ensures even { IfOk result (λ level. HaveWidth sheet.now.width level.members.items) }
+{
+    let _width = sheet.rows().width();
     let least = rules.naive_closure(&Attrs::empty(rules.width()));
     let mut found = WatchedList::of(alloc, rules, &least)?;
     let mut level = LevelOf {
-        size: width + 1,
+        size: bound.max(least.size()),
         members: Vec::new(alloc),
     };
     enter_all(alloc, sheet, &mut found, &mut level, &least.resized(), 0)?;

@@ -6,7 +6,7 @@ ghost use Rattle.fca_model.specs.Context.{closure};
 ghost use Rattle.fca_model.specs.Implications.{Rule};
 ghost use Rattle.extent_blocks.specs.Blocks.{IsExtent};
 ghost use Rattle.lectic_basis.specs.Watches.{Watched};
-ghost use Rattle.next_level.specs.LevelWalks.{IsEntered, IsLeft, IsTrying, HasLevel};
+ghost use Rattle.next_level.specs.LevelWalks.{IsEntered, IsLeft, IsTrying, HasLevel, IsSteady};
 
 use crate::LevelOf;
 use attr_bits::Bits;
@@ -26,7 +26,8 @@ pub(crate) fn enter_all<const W: usize>(
 ) -> Result<(), Memory>
     requires entered { IsEntered sheet.now a.now from found.old level.old.size level.old.members.items }
     requires small { size a.now ≤ level.old.size }
-    ensures { OnOk result (HasLevel sheet.now a.now from found.old found.new level.new.size level.new.members.items) }
+    ensures level { OnOk result (HasLevel sheet.now a.now from found.old found.new level.new.size level.new.members.items) }
+    ensures steady { OnOk result (IsSteady level.old.size level.old.members.items level.new.size level.new.members.items) }
 {
     let _width = found.width();
     let closed = sheet.rows().closure(a);
@@ -49,7 +50,8 @@ fn try_each<const W: usize>(
 ) -> Result<(), Memory>
     requires left { IsLeft sheet.now a.now from found.old level.old.size level.old.members.items }
     requires near { IsExtent sheet.now a.now near.now }
-    ensures { OnOk result (HasLevel sheet.now a.now from found.old found.new level.new.size level.new.members.items) }
+    ensures level { OnOk result (HasLevel sheet.now a.now from found.old found.new level.new.size level.new.members.items) }
+    ensures steady { OnOk result (IsSteady level.old.size level.old.members.items level.new.size level.new.members.items) }
 {
     for i in (from..sheet.rows().width()).rev() {
         if let Some(child) = child_at(sheet, near, found, level, a, i)? {
@@ -77,6 +79,7 @@ fn child_at<const W: usize>(
     ensures done { IfOk result (λ child. MatchOption child
         (HasLevel sheet.now a.now i found.old found.new level.new.size level.new.members.items)
         (λ b. (new : Watched) (size : ℕ) (members : List Rule) → HasLevel sheet.now b (i + 1) found.new new size members → HasLevel sheet.now a.now i found.old new size members)) }
+    ensures steady { OnOk result (IsSteady level.old.size level.old.members.items level.new.size level.new.members.items) }
 {
     let _width = found.width();
     if a.has(i) {
@@ -110,6 +113,7 @@ fn enter<const W: usize>(
     requires closed { closed.now ≡ closure sheet.now a.now }
     ensures left { IfOk result (λ left. left ≡ true → IsLeft sheet.now a.now from found.now level.new.size level.new.members.items) }
     ensures done { IfOk result (λ left. left ≡ false → HasLevel sheet.now a.now from found.now found.now level.new.size level.new.members.items) }
+    ensures steady { OnOk result (IsSteady level.old.size level.old.members.items level.new.size level.new.members.items) }
 {
     let _width = found.width();
     let count = a.size();

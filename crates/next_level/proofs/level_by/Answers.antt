@@ -1,49 +1,19 @@
-use Rattle.std.proofs.Common.{◌≡◌, ◌+◌, ◌≤◌, length, false, replicate, sym, ap, ◌∙◌, subst, arith}
-use Rattle.std.proofs.lemmas.Simd.{length-replicate}
-use Rattle.fca_model.specs.Sets.{size}
+use Rattle.std.proofs.Common.{◌≡◌, ◌+◌, [], length, vec_len, eq-eqb, sym, ap, ◌∙◌, arith}
+use Rattle.std.proofs.lemmas.Bool.{false≢true}
+use Rattle.std.proofs.lemmas.Result.{IfOk-weaker}
 use Rattle.fca_model.specs.Context.{Context}
-use Rattle.fca_model.proofs.SetLemmas.{size_le}
-use Rattle.implication_closure.specs.Closing.{RuleList, IsClosure}
-use Rattle.next_level.specs.NextLevel.{IsLeastLevel}
-use Rattle.lectic_basis.specs.Trees.{up_to}
-use Rattle.next_level.specs.LevelWalks.{IsEntered}
-use Rattle.lectic_basis.specs.Watches.{IsFiled, IsGood}
-use Rattle.next_level.proofs.LevelWalkLemmas.{root_entered}
-use Rattle.next_level.proofs.NextLevelLemmas.{next_is, level_wide}
+use Rattle.next_level.specs.NextLevel.{IsNextLevel}
 use Rattle.next_level.proofs.level_by.Goals as goal
 
-pub enter_all-requires : goal.enter_all-requires
-enter_all-requires g c =
-    let K = c.args.sheet.now in
-    let J : RuleList = c.args.rules.now in
-    let A = c.naive_closure-least.result in
-    let n : c.width-width.result ≡ K.width = c.width-width.ensures.width ∙ ap (λ (X : Context). X.width) c.rows.ensures in
-    let wide : length A ≡ J.width = c.naive_closure-least.ensures.wide ∙ ap length c.empty.ensures ∙ length-replicate c.width.result false ∙ c.width.ensures.width in
-    let F = c.in_ok-found.found in
-    let is = root_entered K A F c.new.result.items (c.width-width.result + 1)
-    (ap (λ (L : RuleList). L.width) c.in_ok-found.ensures.list ∙ c.requires.wide)
-    (subst (λ (M : RuleList). IsClosure M.members (replicate K.width false) A) (sym c.in_ok-found.ensures.list) (subst (λ X. IsClosure J.members X A) (c.empty.ensures ∙ ap (λ n. replicate n false) (c.width.ensures.width ∙ c.requires.wide)) c.naive_closure-least.ensures))
-    (subst (λ (M : RuleList). IsFiled M.width M.members F.buckets) (sym c.in_ok-found.ensures.list) c.in_ok-found.ensures.filed)
-    (subst (λ (M : RuleList). IsGood M.members F.buckets A) (sym c.in_ok-found.ensures.list) c.in_ok-found.ensures.good)
-    c.new.ensures.items
-    (omega (arith, n)) in
-    (omega arith, (omega arith, (omega arith, (omega (arith, c.width-width.ensures.words), (subst (λ X. IsEntered K X 0 F (c.width-width.result + 1) c.new.result.items) (sym c.resized.ensures) is, subst (λ X. size X ≤ c.width-width.result + 1) (sym c.resized.ensures) (omega (arith, size_le A, wide, c.requires.wide, n)))))))
-
-pub resized-requires : goal.resized-requires
-resized-requires g c =
-    let J : RuleList = c.args.rules.now in
-    let n : c.width-width.result ≡ c.args.sheet.now.width = c.width-width.ensures.width ∙ ap (λ (X : Context). X.width) c.rows.ensures in
-    let wide : length c.naive_closure-least.result ≡ J.width = c.naive_closure-least.ensures.wide ∙ ap length c.empty.ensures ∙ length-replicate c.width.result false ∙ c.width.ensures.width in
-    (omega arith, (omega (arith, c.width-width.ensures.words), omega (arith, wide, c.requires.wide, n, c.width-width.ensures.narrow)))
+pub returns-then-not-is_empty-clause-next : goal.returns-then-not-is_empty-clause-next
+returns-then-not-is_empty-clause-next g c known found reached is below bounded =
+    let members = c.in_ok-level.level.members in
+    c.in_ok-level.ensures.next known found reached is below bounded
+    (λ e. absurd (false≢true (sym c.if-not-is_empty.true ∙ c.is_empty.ensures ∙ eq-eqb (vec_len members) 0 (omega (arith, members.ok.0, ap length e)))))
 
 pub returns-clause-next : goal.returns-clause-next
-returns-clause-next g c known members reached is below bounded =
+returns-clause-next g c known found reached is below bounded =
     let K = c.args.sheet.now in
-    let A = c.resized.result in
-    let size = c.enter_all.new.level.size in
-    let Ls = c.enter_all.new.level.members.items in
-    next_is known K reached members c.args.rules.now.members is below bounded A size Ls
-    (subst (λ (M : RuleList). IsLeastLevel M.members K size (up_to 0 A) Ls) (c.in_ok-enter_all.ensures.list ∙ c.in_ok-found.ensures.list) c.in_ok-enter_all.ensures.level)
-
-pub returns-clause-even : goal.returns-clause-even
-returns-clause-even g c = level_wide c.in_ok-enter_all.ensures.level
+    let n : c.width.result ≡ K.width = c.width.ensures.width ∙ ap (λ (X : Context). X.width) c.rows.ensures in
+    IfOk-weaker c.level_up_to-2.result (λ w. (w.members.items ≡ [] → c.width.result + 1 ≡ K.width + 1) → IsNextLevel known K found w.size w.members.items) (λ w. IsNextLevel known K found w.size w.members.items)
+    (λ w h. h (λ e. omega (arith, n))) (c.level_up_to-2.ensures.next known found reached is below bounded)

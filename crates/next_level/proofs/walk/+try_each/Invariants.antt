@@ -1,5 +1,5 @@
 use Rattle.std.proofs.Common.{◌≤◌, ◌-◌}
-use Rattle.next_level.specs.LevelWalks.{HasLevel}
+use Rattle.next_level.specs.LevelWalks.{HasLevel, IsSteady}
 use Rattle.next_level.proofs.walk.+try_each.Given as goal
 
 abbrev pub decreases-try_each : goal.decreases-try_each
@@ -10,4 +10,5 @@ invariant-loop-i g l = record {
   from_on : l.fn.from ≤ l.i;
   inside : l.i ≤ l.sheet.width;
   found : HasLevel l.sheet l.a l.i l.fn.found l.found l.level.size l.level.members.items;
+  steady : IsSteady l.fn.level.size l.fn.level.members.items l.level.size l.level.members.items;
 }

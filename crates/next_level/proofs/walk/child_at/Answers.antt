@@ -1,5 +1,5 @@
 use Rattle.std.proofs.Common.{sym, ◌∙◌, arith}
-use Rattle.next_level.proofs.LevelWalkLemmas.{left_member, left_can_close, left_none, left_above, left_wide, left_entered, left_done, enter_larger}
+use Rattle.next_level.proofs.LevelWalkLemmas.{left_member, left_can_close, left_none, left_above, left_wide, left_entered, left_done, enter_larger, steady_same}
 use Rattle.next_level.proofs.walk.child_at.Goals as goal
 
 pub returns-then-has-clause-done : goal.returns-then-has-clause-done
@@ -31,3 +31,18 @@ returns-then-branch-clause-done g c = λ new size members h. left_done c.require
 
 pub returns-clause-done : goal.returns-clause-done
 returns-clause-done g c = left_done c.requires.trying (sym c.has.ensures ∙ c.if-has.false) c.with-reached.ensures c.in_ok-close.ensures.moved (c.in_ok-close.ensures.closure c.if-not-branch.false) (c.in_ok-enter.ensures.done c.if-branch.false)
+
+pub returns-then-has-clause-steady : goal.returns-then-has-clause-steady
+returns-then-has-clause-steady g c = steady_same
+
+pub returns-then-not-branch-clause-steady : goal.returns-then-not-branch-clause-steady
+returns-then-not-branch-clause-steady g c = steady_same
+
+pub returns-then-size-level-clause-steady : goal.returns-then-size-level-clause-steady
+returns-then-size-level-clause-steady g c = steady_same
+
+pub returns-then-branch-clause-steady : goal.returns-then-branch-clause-steady
+returns-then-branch-clause-steady g c = c.in_ok-enter.ensures.steady
+
+pub returns-clause-steady : goal.returns-clause-steady
+returns-clause-steady g c = c.in_ok-enter.ensures.steady

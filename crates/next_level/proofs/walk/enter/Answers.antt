@@ -1,7 +1,7 @@
 use Rattle.std.proofs.Common.{◌≤◌, ◌++◌, ◌∷◌, [], ap, sym, ◌∙◌, arith}
 use Rattle.std.proofs.lemmas.Bool.{ltb-false}
 use Rattle.fca_model.specs.Implications.{rule}
-use Rattle.next_level.proofs.LevelWalkLemmas.{enter_as_large, enter_left, enter_joins, enter_lowers}
+use Rattle.next_level.proofs.LevelWalkLemmas.{enter_as_large, enter_left, enter_joins, enter_lowers, steady_same, steady_push}
 use Rattle.next_level.proofs.walk.enter.Goals as goal
 
 pub returns-then-eq-clause-left : goal.returns-then-eq-clause-left
@@ -16,3 +16,12 @@ returns-then-count-level-clause-done g c = λ e. enter_joins c.requires.entered 
 
 pub returns-clause-done : goal.returns-clause-done
 returns-clause-done g c = λ e. enter_lowers c.requires.entered c.requires.closed (sym c.eq.ensures ∙ c.if-eq.false) (omega (arith, c.size-count.ensures.size, c.requires.small, c.if-count-level.false)) c.size-count.ensures.size (c.in_ok-push-2.ensures.items ∙ ap (λ Zs. Zs ++ rule c.args.a.now c.args.closed.now ∷ []) c.clear.ensures.items)
+
+pub returns-then-eq-clause-steady : goal.returns-then-eq-clause-steady
+returns-then-eq-clause-steady g c = steady_same
+
+pub returns-then-count-level-clause-steady : goal.returns-then-count-level-clause-steady
+returns-then-count-level-clause-steady g c = steady_push _ _ c.in_ok-push.ensures.items
+
+pub returns-clause-steady : goal.returns-clause-steady
+returns-clause-steady g c = steady_push _ _ c.in_ok-push-2.ensures.items
