@@ -3,3 +3,4 @@ pub mod Pieces
 pub mod Lines
 pub mod Places
 pub mod Pages
+pub mod Numerals

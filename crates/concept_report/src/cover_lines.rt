@@ -1,16 +1,27 @@
 //! The lines of covers.
 
-ghost use Rattle.std.specs.Prelude.{◌≡◌, ◌+◌, ◌≤◌, ◌++◌, IfOk, length, take, codes};
+ghost use Rattle.std.specs.Prelude.{◌≡◌, ◌+◌, ◌≤◌, ◌<◌, ◌++◌, IfOk, OnOk, length, take, codes};
 ghost use Rattle.std.specs.List.{flat_map};
 ghost use Rattle.basis_report.specs.Reports.{counted, cover_line};
+ghost use Rattle.concept_report.specs.Numerals.{AreNumerals};
 
+use crate::block::{Block, HEAD, put_block};
 use crate::lines::make_room;
+use crate::numerals::count_up_to;
 use crate::pieces::put_bytes;
 use fca_model::Memory;
 use itoa::Buffer;
+use std::alloc::Global;
 
-/// The text with the number of the covers and their lines behind it.
-pub(crate) fn with_covers(text: Vec<u8>, covers: &[(usize, usize)]) -> Result<Vec<u8>, Memory>
+/// How many bytes have to be free where a line is put down: two numerals, and what stands behind each.
+const LINE_ROOM: usize = 2 * HEAD + 2;
+
+/// The text with the number of the covers and their lines behind it. Each numeral is written once, and put down where it stands.
+pub(crate) fn with_covers(
+    alloc: Global,
+    text: Vec<u8>,
+    covers: &[(usize, usize)],
+) -> Result<Vec<u8>, Memory>
     ensures { IfOk result (λ v. v.items ≡ text.items ++ (counted (codes "covers ") (length covers.now) ++ flat_map cover_line covers.now)) }
 {
     let mut bytes = text;
@@ -18,49 +29,60 @@ pub(crate) fn with_covers(text: Vec<u8>, covers: &[(usize, usize)]) -> Result<Ve
     bytes.extend_from_slice(Buffer::new().format(covers.len()).as_bytes())?;
     bytes.extend_from_slice(b"\n")?;
     let mut end = bytes.len();
+    let mut numerals = Vec::new(alloc);
     for pair in covers {
-        end = add_cover(&mut bytes, end, pair.0, pair.1)?;
+        end = add_cover(&mut bytes, end, &mut numerals, pair.0, pair.1)?;
     }
     bytes.truncate(end);
     Ok(bytes)
 }
 
 /// Puts the line down from that place on, where there is room for it or room is made, and tells where it ends.
-fn add_cover(bytes: &mut Vec<u8>, start: usize, upper: usize, lower: usize) -> Result<usize, Memory>
-    requires { start ≤ length bytes.old.items }
+fn add_cover(
+    bytes: &mut Vec<u8>,
+    start: usize,
+    numerals: &mut Vec<Block>,
+    upper: usize,
+    lower: usize,
+) -> Result<usize, Memory>
+    requires start { start ≤ length bytes.old.items }
+    requires numerals { AreNumerals numerals.old.items }
     ensures text { IfOk result (λ end. take end bytes.new.items ≡ take start bytes.old.items ++ cover_line (upper, lower)) }
     ensures ends { IfOk result (λ end. end ≤ length bytes.new.items) }
+    ensures numerals { AreNumerals numerals.new.items }
 {
-    let Some(first) = upper.checked_add(1) else {
+    count_over(numerals, upper.max(lower))?;
+    make_room(bytes, start, LINE_ROOM)?;
+    Ok(put_cover(bytes, start, numerals, upper, lower))
+}
+
+/// Makes the list long enough for the numeral of the place.
+fn count_over(numerals: &mut Vec<Block>, place: usize) -> Result<(), Memory>
+    requires { AreNumerals numerals.old.items }
+    ensures numerals { AreNumerals numerals.new.items }
+    ensures inside { OnOk result (place < length numerals.new.items) }
+{
+    if place < numerals.len() {
+        return Ok(());
+    }
+    let Some(len) = place.checked_add(1) else {
         return Err(Memory);
     };
-    let Some(second) = lower.checked_add(1) else {
-        return Err(Memory);
-    };
-    let mut first_buffer = Buffer::new();
-    let mut second_buffer = Buffer::new();
-    let first_digits = first_buffer.format(first).as_bytes();
-    let second_digits = second_buffer.format(second).as_bytes();
-    make_room(
-        bytes,
-        start,
-        first_digits
-            .len()
-            .saturating_add(second_digits.len())
-            .saturating_add(2),
-    )?;
-    Ok(put_cover(bytes, start, first_digits, second_digits))
+    count_up_to(numerals, len)
 }
 
 /// Puts the line down from that place on, and tells where it ends.
-fn put_cover(text: &mut [u8], start: usize, first: &[u8], second: &[u8]) -> usize
-    requires { start + (length first.now + length second.now + 2) ≤ length text.old }
-    ensures text { take result text.new ≡ take start text.old ++ (first.now ++ (codes " " ++ (second.now ++ codes "\n"))) }
+fn put_cover(text: &mut [u8], start: usize, numerals: &[Block], upper: usize, lower: usize) -> usize
+    requires numerals { AreNumerals numerals.now }
+    requires upper { upper < length numerals.now }
+    requires lower { lower < length numerals.now }
+    requires room { start + LINE_ROOM ≤ length text.old }
+    ensures text { take result text.new ≡ take start text.old ++ cover_line (upper, lower) }
     ensures ends { result ≤ length text.new }
     ensures room { length text.new ≡ length text.old }
 {
-    let upper = put_bytes(text, start, first);
-    let parted = put_bytes(text, upper, b" ");
-    let lower = put_bytes(text, parted, second);
-    put_bytes(text, lower, b"\n")
+    let first = put_block(text, start, &numerals[upper]);
+    let parted = put_bytes(text, first, b" ");
+    let second = put_block(text, parted, &numerals[lower]);
+    put_bytes(text, second, b"\n")
 }

@@ -8,6 +8,7 @@ mod cover_lines;
 mod judge;
 mod lines;
 mod names;
+mod numerals;
 mod page;
 mod pieces;
 mod places;
@@ -86,7 +87,7 @@ fn lattice_in<const W: usize>(
     let page = whole_page(alloc, table, rows, true)?;
     let covers = covers_of(alloc, rows, &page.kept)?;
     let text = page.lines.headed(alloc, b"concepts ")?;
-    with_covers(text, &covers)
+    with_covers(alloc, text, &covers)
 }
 
 /// The lines of all concepts of the table's rows, and the intents if they are to be kept.

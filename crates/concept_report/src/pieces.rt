@@ -3,7 +3,7 @@
 ghost use Rattle.std.specs.Prelude.{◌≡◌, ◌+◌, ◌<◌, ◌≤◌, ◌++◌, [], min, IfOk, length, map, take, drop, slice_index_or};
 ghost use Rattle.concept_report.specs.Pieces.{IsPiece, ArePieces, piece_text, piece_texts};
 
-use crate::block::{Block, HEAD};
+use crate::block::{Block, HEAD, put_block};
 use fca_model::{MAX_NAME_BYTES, Memory};
 use std::alloc::Global;
 use std::marker::Model;
@@ -64,11 +64,8 @@ fn put_piece(block: &Block, tail: &Vec<u8>, text: &mut [u8], start: usize) -> us
     ensures ends { result ≤ start + PIECE_BYTES }
     ensures room { length text.new ≡ length text.old }
 {
-    let bytes = block.bytes;
-    text[start..start + HEAD].copy_from_slice(&bytes);
-    let filled = block.filled as usize;
-    let end = start + filled;
-    if filled < HEAD {
+    let end = put_block(text, start, block);
+    if (block.filled as usize) < HEAD {
         return end;
     }
     put_bytes(text, end, tail)
