@@ -1,5 +1,5 @@
 -- The last implication of a list, as it is taken away.
-use Rattle.std.proofs.Common.{◌≡◌, ◌≢◌, ℕ, List, [], ◌∷◌, ◌++◌, refl, sym, ap, ◌∙◌}
+use Rattle.std.proofs.Common.{◌≡◌, ◌≢◌, ℕ, true, List, [], ◌∷◌, ◌++◌, length, eqb, eqb-true, refl, sym, ap, ◌∙◌, arith}
 use Rattle.std.proofs.lemmas.List.{append_assoc}
 use Rattle.fca_model.specs.Implications.{Rule}
 use Rattle.implication_closure.specs.Closing.{RuleList}
@@ -17,29 +17,46 @@ split_last (x ∷ xs) ne = at xs (split_last xs)
     at [] rest = ([], x, refl)
     at (z ∷ zs) rest = let r = rest (λ e. cc) in (x ∷ r.0, r.1, ap (λ ws. x ∷ ws) r.2)
 
--- taken from both lists
-pub popped : (known old all new more : RuleList) → AreTogether known old all → old.members ≢ []
-    → ((J : RuleList) (i : Rule) → old ≡ record { width = J.width; members = J.members ++ i ∷ [] } → new ≡ J)
-    → ((J : RuleList) (i : Rule) → all ≡ record { width = J.width; members = J.members ++ i ∷ [] } → more ≡ J) → AreTogether known new more
-popped known old all new more t ne first second =
-    let r = split_last old.members ne in
-    let new_is : new ≡ record { width = old.width; members = r.0 } = first (record { width = old.width; members = r.0 }) r.1 (ap (λ Zs. record { width = old.width; members = Zs }) r.2) in
-    let more_is : more ≡ record { width = all.width; members = known.members ++ r.0 } = second (record { width = all.width; members = known.members ++ r.0 }) r.1
-    (ap (λ Zs. record { width = all.width; members = Zs }) (t.together ∙ ap (λ Zs. known.members ++ Zs) r.2 ∙ sym (append_assoc known.members r.0 (r.1 ∷ [])))) in
-    record {
-      known_wide = t.known_wide ∙ sym (ap (λ (J : RuleList). J.width) more_is);
-      accepted_wide = ap (λ (J : RuleList). J.width) new_is ∙ t.accepted_wide ∙ sym (ap (λ (J : RuleList). J.width) more_is);
-      together = ap (λ (J : RuleList). J.members) more_is ∙ ap (λ Zs. known.members ++ Zs) (sym (ap (λ (J : RuleList). J.members) new_is));
-    }
+-- one implication more
+abbrev more_by : RuleList → Rule → RuleList
+more_by J i = record { width = J.width; members = J.members ++ i ∷ [] }
 
-pub popped_is : (known old all new more : RuleList) (parts : RuleParts) (i : Rule) → AreTogether known old all → ◌≡◌ {A = RuleParts} (record { width = all.width; known = known.members; accepted = old.members }) (record { width = parts.width; known = parts.known; accepted = parts.accepted ++ i ∷ [] })
-    → ((J : RuleList) (i : Rule) → old ≡ record { width = J.width; members = J.members ++ i ∷ [] } → new ≡ J)
-    → ((J : RuleList) (i : Rule) → all ≡ record { width = J.width; members = J.members ++ i ∷ [] } → more ≡ J) → ◌≡◌ {A = RuleParts} (record { width = more.width; known = known.members; accepted = new.members }) parts
-popped_is known old all new more parts i t e first second =
-    let accepted_is : old.members ≡ parts.accepted ++ i ∷ [] = ap (λ (p : RuleParts). p.accepted) e in
-    let new_is : new ≡ record { width = old.width; members = parts.accepted } = first (record { width = old.width; members = parts.accepted }) i (ap (λ Zs. record { width = old.width; members = Zs }) accepted_is) in
-    let more_is : more ≡ record { width = all.width; members = known.members ++ parts.accepted } = second (record { width = all.width; members = known.members ++ parts.accepted }) i
-    (ap (λ Zs. record { width = all.width; members = Zs }) (t.together ∙ ap (λ Zs. known.members ++ Zs) accepted_is ∙ sym (append_assoc known.members parts.accepted (i ∷ [])))) in
-    ap (λ w. three w known.members new.members) (ap (λ (J : RuleList). J.width) more_is ∙ ap (λ (p : RuleParts). p.width) e)
-    ∙ ap (λ Zs. three parts.width Zs new.members) (ap (λ (p : RuleParts). p.known) e)
-    ∙ ap (λ Zs. three parts.width parts.known Zs) (ap (λ (J : RuleList). J.members) new_is)
+-- what is known, and the list behind it
+abbrev behind : List Rule → RuleList → RuleList
+behind known J = record { width = J.width; members = known ++ J.members }
+
+-- a list of no length
+pub no_length : (xs : List Rule) → eqb (length xs) 0 ≡ true → xs ≡ []
+no_length [] h = refl
+no_length (x ∷ xs) h = absurd (let e : length (x ∷ xs) ≡ 0 = eqb-true (length (x ∷ xs)) 0 h in omega (arith, e))
+
+still_alone : (known old all new more : RuleList) → AreTogether known old all → known.members ≡ [] → new.width ≡ old.width → AreTogether known new more
+still_alone known old all new more t none w = record { wide = t.wide ∙ sym w; together = λ ne. absurd (ne none) }
+
+-- taken from the accepted ones, and from all where anything is known
+module _ (known old all new : RuleList) (t : AreTogether known old all) (first : (J : RuleList) (i : Rule) → old ≡ more_by J i → new ≡ J) where
+  without : (r : List Rule) (i : Rule) → old.members ≡ r ++ i ∷ [] → new ≡ record { width = old.width; members = r }
+  without r i e = first (record { width = old.width; members = r }) i (ap (λ Zs. record { width = old.width; members = Zs }) e)
+
+  pub popped : (more : RuleList) → old.members ≢ [] → ((J : RuleList) (i : Rule) → all ≡ more_by J i → more ≡ J) → AreTogether known new more
+  popped more some second =
+      let r = split_last old.members some in
+      let new_is = without r.0 r.1 r.2 in
+      record {
+        wide = t.wide ∙ sym (ap (λ (J : RuleList). J.width) new_is);
+        together = λ ne. second (record { width = old.width; members = known.members ++ r.0 }) r.1
+            (t.together ne ∙ ap (λ Zs. record { width = old.width; members = Zs }) (ap (λ Zs. known.members ++ Zs) r.2 ∙ sym (append_assoc known.members r.0 (r.1 ∷ []))))
+            ∙ ap (behind known.members) (sym new_is);
+      }
+
+  pub popped_alone : known.members ≡ [] → old.members ≢ [] → AreTogether known new all
+  popped_alone none some =
+      let r = split_last old.members some in
+      still_alone known old all new all t none (ap (λ (J : RuleList). J.width) (without r.0 r.1 r.2))
+
+  pub popped_is : (parts : RuleParts) (i : Rule) → three old.width known.members old.members ≡ three parts.width parts.known (parts.accepted ++ i ∷ []) → three new.width known.members new.members ≡ parts
+  popped_is parts i e =
+      let new_is = without parts.accepted i (ap (λ (p : RuleParts). p.accepted) e) in
+      ap (λ (J : RuleList). three J.width known.members J.members) new_is
+      ∙ ap (λ w. three w known.members parts.accepted) (ap (λ (p : RuleParts). p.width) e)
+      ∙ ap (λ Zs. three parts.width Zs parts.accepted) (ap (λ (p : RuleParts). p.known) e)

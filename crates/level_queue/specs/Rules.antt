@@ -1,5 +1,5 @@
 -- The rules that a row has to respect: what is known, and behind it what was accepted.
-use Rattle.std.specs.Prelude.{◌≡◌, ℕ, List, ◌++◌}
+use Rattle.std.specs.Prelude.{◌≡◌, ◌≢◌, ℕ, List, [], ◌++◌}
 use Rattle.fca_model.specs.Implications.{Rule}
 use Rattle.implication_closure.specs.Closing.{RuleList}
 
@@ -9,8 +9,7 @@ pub record RuleParts : Type 0 where
   pub known : List Rule
   pub accepted : List Rule
 
--- the third list has those of the first and then those of the second
+-- where anything is known, the third list has those of the first and then those of the second
 pub record AreTogether (known accepted all : RuleList) : Type 0 where
-  pub known_wide : known.width ≡ all.width
-  pub accepted_wide : accepted.width ≡ all.width
-  pub together : all.members ≡ known.members ++ accepted.members
+  pub wide : known.width ≡ accepted.width
+  pub together : known.members ≢ [] → all ≡ record { width = accepted.width; members = known.members ++ accepted.members }

@@ -9,7 +9,7 @@ use implication_closure::{Implication, ImplicationList};
 use std::alloc::Global;
 use std::marker::Model;
 
-/// The known implications, the accepted ones, and all of them, the known ones first.
+/// The known implications, the accepted ones, and all of them, the known ones first. Where nothing is known, the accepted ones are all, and stand once.
 #[derive(Drop)]
 pub(crate) struct Rules {
     known: ImplicationList,
@@ -22,7 +22,7 @@ impl Model for Rules {
 
     ghost Value = { RuleParts };
 
-    ghost view = { λ a. record { width = a.all.width; known = a.known.members; accepted = a.accepted.members } };
+    ghost view = { λ a. record { width = a.accepted.width; known = a.known.members; accepted = a.accepted.members } };
 
     ghost invariant = { λ a. AreTogether a.known a.accepted a.all };
 }
@@ -50,7 +50,11 @@ impl Rules {
     pub(crate) fn all(&self) -> &ImplicationList
         ensures { result.now ≡ record { width = self.now.width; members = self.now.known ++ self.now.accepted } }
     {
-        &self.all
+        if self.known.as_slice().is_empty() {
+            &self.accepted
+        } else {
+            &self.all
+        }
     }
 
     /// Puts the implication last among the accepted ones.
@@ -60,9 +64,12 @@ impl Rules {
         ensures ok { OnOk result (self.new ≡ record { width = self.old.width; known = self.old.known; accepted = self.old.accepted ++ i.now ∷ [] }) }
         ensures err { OnErr result (self.new ≡ self.old) }
     {
-        self.all.push(*i)?;
-        if let Err(error) = self.accepted.push(*i) {
-            self.all.pop();
+        self.accepted.push(*i)?;
+        if self.known.as_slice().is_empty() {
+            return Ok(());
+        }
+        if let Err(error) = self.all.push(*i) {
+            self.accepted.pop();
             return Err(error);
         }
         Ok(())
@@ -74,7 +81,9 @@ impl Rules {
     {
         if !self.accepted.as_slice().is_empty() {
             self.accepted.pop();
-            self.all.pop();
+            if !self.known.as_slice().is_empty() {
+                self.all.pop();
+            }
         }
     }
 }

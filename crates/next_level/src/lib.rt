@@ -101,9 +101,10 @@ fn level_by<const W: usize>(
     level_up_to(alloc, sheet, rules, sheet.rows().width() + 1)
 }
 
-/// How many sizes are looked at in turn, the least first. Without rules all sets are met, of each size up to a third of the attributes at least twice as many as of
-/// the one before: so to begin anew for each size costs no more than the last of them.
+/// How many sizes are looked at in turn, the least first. Without rules all sets are met, and of each size up to a third of the attributes there are at least twice as
+/// many as of the one before: what is met again is at most twice what the last walk meets.
 fn sizes_in_turn(rules: &ImplicationList) -> u32
+    ensures { result ≤ rules.now.width }
 {
     if rules.as_slice().is_empty() {
         rules.width() / 3
