@@ -4,3 +4,4 @@ pub mod FitLemmas
 pub mod EventLemmas
 pub mod TranscriptLemmas
 mod Examples
+pub mod DraftLemmas

@@ -1,7 +1,8 @@
 //! The transcript of an exploration.
 
-ghost use Rattle.std.specs.Prelude.{◌≡◌, ◌++◌, ◌≤◌, codes, decimal, IfOk, OnOk};
+ghost use Rattle.std.specs.Prelude.{◌≡◌, ◌++◌, ◌≤◌, Some, codes, decimal, IfOk, OnOk};
 ghost use Rattle.std.specs.List.{flat_map};
+ghost use Rattle.fca_io.specs.Transfers.{AppendsFront};
 ghost use Rattle.explore_state.specs.Settings.{settings_of, name_of};
 ghost use Rattle.expert_wire.specs.Texts.{line_end};
 ghost use Rattle.fca_model.specs.Exploration.{is_expert};
@@ -27,14 +28,15 @@ pub fn transcript_text(
     Ok(draft.into_bytes())
 }
 
-/// Appends the transcript of the journal of an exploration under the settings.
+/// Appends the transcript of the journal of an exploration under the settings. After an `Err` the draft holds a front of it.
 pub fn write_transcript(
     draft: &mut Draft,
     table: &Table,
     settings: &Settings,
     journal: &[Entry],
 ) -> Result<(), Memory>
-    ensures { OnOk result (draft.new ≡ draft.old ++ transcript table.now.attributes (settings_of settings.now) journal.now) }
+    ensures whole { OnOk result (draft.new ≡ draft.old ++ transcript table.now.attributes (settings_of settings.now) journal.now) }
+    ensures front { AppendsFront (Some draft.old) (Some draft.new) (transcript table.now.attributes (settings_of settings.now) journal.now) }
 {
     write_opening(draft, table, settings)?;
     write_entries(draft, table, journal)
@@ -42,7 +44,8 @@ pub fn write_transcript(
 
 /// The heading, and the settings where they are not plain.
 fn write_opening(draft: &mut Draft, table: &Table, settings: &Settings) -> Result<(), Memory>
-    ensures { OnOk result (draft.new ≡ draft.old ++ opening_text table.now.attributes (settings_of settings.now)) }
+    ensures whole { OnOk result (draft.new ≡ draft.old ++ opening_text table.now.attributes (settings_of settings.now)) }
+    ensures front { AppendsFront (Some draft.old) (Some draft.new) (opening_text table.now.attributes (settings_of settings.now)) }
 {
     if settings.is_plain() {
         return draft.parts(table, &[Part::Bytes(b"exploration 1\n")]);
@@ -52,7 +55,8 @@ fn write_opening(draft: &mut Draft, table: &Table, settings: &Settings) -> Resul
 }
 
 fn write_settings(draft: &mut Draft, table: &Table, settings: &Settings) -> Result<(), Memory>
-    ensures { OnOk result (draft.new ≡ draft.old ++ settings_text table.now.attributes (settings_of settings.now)) }
+    ensures whole { OnOk result (draft.new ≡ draft.old ++ settings_text table.now.attributes (settings_of settings.now)) }
+    ensures front { AppendsFront (Some draft.old) (Some draft.new) (settings_text table.now.attributes (settings_of settings.now)) }
 {
     let holders = u64::from(settings.holders);
     draft.parts(
@@ -68,7 +72,8 @@ fn write_settings(draft: &mut Draft, table: &Table, settings: &Settings) -> Resu
 }
 
 fn write_known(draft: &mut Draft, table: &Table, known: &[Implication]) -> Result<(), Memory>
-    ensures { OnOk result (draft.new ≡ draft.old ++ flat_map (known_line table.now.attributes) known.now) }
+    ensures whole { OnOk result (draft.new ≡ draft.old ++ flat_map (known_line table.now.attributes) known.now) }
+    ensures front { AppendsFront (Some draft.old) (Some draft.new) (flat_map (known_line table.now.attributes) known.now) }
 {
     for implication in known {
         draft.question(table, b"known ", implication)?;
@@ -77,7 +82,8 @@ fn write_known(draft: &mut Draft, table: &Table, known: &[Implication]) -> Resul
 }
 
 fn write_names(draft: &mut Draft, table: &Table, names: &ExpertNames) -> Result<(), Memory>
-    ensures { OnOk result (draft.new ≡ draft.old ++ names_text names.now) }
+    ensures whole { OnOk result (draft.new ≡ draft.old ++ names_text names.now) }
+    ensures front { AppendsFront (Some draft.old) (Some draft.new) (names_text names.now) }
 {
     for expert in 1..MAX_EXPERTS + 1 {
         write_name(draft, table, names, expert)?;
@@ -92,7 +98,8 @@ fn write_name(
     names: &ExpertNames,
     expert: u8,
 ) -> Result<(), Memory>
-    ensures { OnOk result (draft.new ≡ draft.old ++ line_named expert (name_of expert names.now)) }
+    ensures whole { OnOk result (draft.new ≡ draft.old ++ line_named expert (name_of expert names.now)) }
+    ensures front { AppendsFront (Some draft.old) (Some draft.new) (line_named expert (name_of expert names.now)) }
 {
     match names.get(expert) {
         Some(name) => draft.parts(
@@ -110,7 +117,8 @@ fn write_name(
 }
 
 fn write_entries(draft: &mut Draft, table: &Table, journal: &[Entry]) -> Result<(), Memory>
-    ensures { OnOk result (draft.new ≡ draft.old ++ entries_text table.now.attributes journal.now) }
+    ensures whole { OnOk result (draft.new ≡ draft.old ++ entries_text table.now.attributes journal.now) }
+    ensures front { AppendsFront (Some draft.old) (Some draft.new) (entries_text table.now.attributes journal.now) }
 {
     for entry in journal {
         write_entry(draft, table, entry)?;
@@ -119,7 +127,8 @@ fn write_entries(draft: &mut Draft, table: &Table, journal: &[Entry]) -> Result<
 }
 
 fn write_entry(draft: &mut Draft, table: &Table, entry: &Entry) -> Result<(), Memory>
-    ensures { OnOk result (draft.new ≡ draft.old ++ entry_lines table.now.attributes entry.now) }
+    ensures whole { OnOk result (draft.new ≡ draft.old ++ entry_lines table.now.attributes entry.now) }
+    ensures front { AppendsFront (Some draft.old) (Some draft.new) (entry_lines table.now.attributes entry.now) }
 {
     write_event(draft, table, &entry.event)?;
     draft.parts(table, &[Part::Bytes(b"# ")])?;
@@ -127,7 +136,8 @@ fn write_entry(draft: &mut Draft, table: &Table, entry: &Entry) -> Result<(), Me
 }
 
 fn write_event(draft: &mut Draft, table: &Table, event: &Event) -> Result<(), Memory>
-    ensures { OnOk result (draft.new ≡ draft.old ++ (event_text event.now ++ line_end)) }
+    ensures whole { OnOk result (draft.new ≡ draft.old ++ (event_text event.now ++ line_end)) }
+    ensures front { AppendsFront (Some draft.old) (Some draft.new) (event_text event.now ++ line_end) }
 {
     match event {
         Event::Draw { expert } => write_expert(draft, table, b"draw ", *expert),
@@ -149,7 +159,8 @@ fn write_event(draft: &mut Draft, table: &Table, event: &Event) -> Result<(), Me
 }
 
 fn write_expert(draft: &mut Draft, table: &Table, words: &[u8], expert: u8) -> Result<(), Memory>
-    ensures { OnOk result (draft.new ≡ draft.old ++ ((words.now ++ decimal expert) ++ line_end)) }
+    ensures whole { OnOk result (draft.new ≡ draft.old ++ ((words.now ++ decimal expert) ++ line_end)) }
+    ensures front { AppendsFront (Some draft.old) (Some draft.new) ((words.now ++ decimal expert) ++ line_end) }
 {
     draft.parts(
         table,

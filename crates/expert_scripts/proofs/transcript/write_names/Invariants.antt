@@ -1,7 +1,7 @@
-use Rattle.std.proofs.Common.{◌≡◌, ◌++◌}
 use Rattle.expert_scripts.specs.Transcripts.{names_text}
 use Rattle.expert_scripts.proofs.NamedLemmas.{names_left}
+use Rattle.expert_scripts.proofs.DraftLemmas.{Drafting}
 use Rattle.expert_scripts.proofs.transcript.write_names.Given as goal
 
 abbrev pub invariant-loop-expert : goal.invariant-loop-expert
-invariant-loop-expert l = l.draft ++ names_left l.names l.expert ≡ l.fn.draft ++ names_text l.names
+invariant-loop-expert l = Drafting l.fn.draft l.draft (names_text l.names) (names_left l.names l.expert)
