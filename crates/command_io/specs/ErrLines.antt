@@ -5,8 +5,10 @@
 use Rattle.std.specs.Prelude.{ℕ, decimal, codes, Option, None, Some, List, [], ◌∷◌, slice_get, unwrap_or}
 use Rattle.std.specs.List.{concat}
 use Rattle.fca_model.specs.Tables.{Text}
+use Rattle.fca_model.specs.declared.TheConstants.{NO_MEMORY}
+use Rattle.fca_io.specs.declared.outside.TheConstants.{READ_FAULT, TOO_LONG, WRITE_FAULT}
 use Rattle.text_pieces.specs.Faults.{told_text}
-use Rattle.text_pieces.specs.declared.faults.TheConstants.{NO_MEMORY}
+use Rattle.text_pieces.specs.declared.faults.TheConstants.{UNKNOWN_ATTRIBUTE}
 use Rattle.text_pieces.specs.declared.faults.Place.{Place}
 use Rattle.text_pieces.specs.declared.faults.Place.TheVariants.{Whole}
 use Rattle.cxt_format.specs.Faults as cxt
@@ -14,8 +16,7 @@ use Rattle.csv_context.specs.Faults as csv
 use Rattle.known_rules.specs.Faults as rules
 use Rattle.expert_scripts.specs.Faults as script
 use Rattle.expert_wire.specs.Texts.{line_end, ordinal}
-use Rattle.command_io.specs.declared.err_line.TheConstants.{NO_SUCH_COMMAND, TOO_LONG, BAD_VALUES, BAD_PLAN, UNKNOWN_ATTRIBUTE}
-use Rattle.command_io.specs.declared.err_line.TheConstants.{ATTRIBUTES_DIFFER, READ_FAULT, LISTENER_FAULT, WRITE_FAULT, TURNS_SPENT, INPUT}
+use Rattle.command_io.specs.declared.err_line.TheConstants.{NO_SUCH_COMMAND, BAD_VALUES, BAD_PLAN, ATTRIBUTES_DIFFER, LISTENER_FAULT, TURNS_SPENT, INPUT}
 use Rattle.command_io.specs.declared.answer.Ending.{Ending}
 use Rattle.command_io.specs.declared.answer.Ending.TheVariants.{Finished, Open, Spent}
 use Rattle.command_io.specs.Endings.{Outcome}

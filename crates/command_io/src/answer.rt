@@ -6,10 +6,10 @@ ghost use Rattle.command_io.specs.Endings.{finished, ending_of, ending_status};
 ghost use Rattle.command_io.specs.ErrLines.{ending_line};
 ghost use Rattle.command_io.specs.Streams.{moment, GainsLine, HasConcluded};
 
-use crate::err_line::{TURNS_SPENT, WRITE_FAULT, report, report_plain};
+use crate::err_line::{TURNS_SPENT, report, report_plain};
 use crate::stop::Stop;
 use explore_state::Explore;
-use fca_io::{Sink, write_text};
+use fca_io::{Sink, WRITE_FAULT, write_text};
 use std::marker::Model;
 
 /// The status where a fault of out cut off the text.

@@ -8,27 +8,20 @@ ghost use Rattle.command_io.specs.ErrLines.{plain_line, placed_line, numbered_li
 ghost use Rattle.command_io.specs.Streams.{moment, GainsLine};
 
 use crate::stop::{Origin, Stop};
-use fca_io::{Put, Sink, write_text};
+use fca_io::{Put, READ_FAULT, Sink, TOO_LONG, write_text};
+use fca_model::NO_MEMORY;
 use itoa::Buffer;
-use text_pieces::faults::{NO_MEMORY, Place, Told};
+use text_pieces::faults::{Place, Told, UNKNOWN_ATTRIBUTE};
 
 const NO_SUCH_COMMAND: &str = "no such command";
-
-const TOO_LONG: &str = "too long";
 
 const BAD_VALUES: &str = "bad values";
 
 const BAD_PLAN: &str = "bad plan";
 
-const UNKNOWN_ATTRIBUTE: &str = "unknown attribute";
-
 const ATTRIBUTES_DIFFER: &str = "attributes differ";
 
-const READ_FAULT: &str = "read fault";
-
 const LISTENER_FAULT: &str = "listener fault";
-
-pub(crate) const WRITE_FAULT: &str = "write fault";
 
 pub(crate) const TURNS_SPENT: &str = "turns spent";
 

@@ -12,33 +12,34 @@ mod scales;
 mod scaling;
 
 pub use back::{Back, read_back};
-use fca_model::Memory;
+use fca_model::{Memory, NO_MEMORY};
 pub use plan::{Plan, PlanRecord};
 pub use read::read_plan;
 pub use scales::{Kind, Relation, ScaleValue};
 pub use scaling::scale;
 use std::alloc::{AllocError, AllocFailed};
+use text_pieces::faults::{BAD_NAME, NOT_UTF8, TOO_MANY_ATTRIBUTES, UNKNOWN_ATTRIBUTE};
 use thiserror::Error;
 
 /// Why bytes are no plan for a table of values. Records and fields are numbered from 1, objects from 0.
 #[derive(Debug, Drop, Error)]
 pub enum PlanFault {
     /// The number of bytes before the first that begins no whole character.
-    #[error("byte {0}: not UTF-8")]
+    #[error("byte {0}: {NOT_UTF8}")]
     NotUtf8(usize),
     #[error("record {0}: bad kind")]
     BadKind(usize),
-    #[error("record {0}: unknown attribute")]
+    #[error("record {0}: {UNKNOWN_ATTRIBUTE}")]
     UnknownAttribute(usize),
     #[error("record {0}: field {1}: bad scale value")]
     BadScale(usize, usize),
     #[error("record {0}: the value of object {1} is no number")]
     BadValue(usize, usize),
-    #[error("record {0}: field {1}: bad name")]
+    #[error("record {0}: field {1}: {BAD_NAME}")]
     BadName(usize, usize),
-    #[error("record {0}: too many attributes")]
+    #[error("record {0}: {TOO_MANY_ATTRIBUTES}")]
     TooMany(usize),
-    #[error("no memory")]
+    #[error("{NO_MEMORY}")]
     Memory,
 }
 

@@ -8,7 +8,7 @@ ghost use Rattle.context_table.specs.Generated.{made_table};
 mod generated;
 
 use derivation::Rows;
-use fca_model::{MAX_ATTRIBUTES, MAX_OBJECTS, Memory, Name};
+use fca_model::{MAX_ATTRIBUTES, MAX_OBJECTS, Memory, NO_MEMORY, Name};
 use generated::{Cells, numbered};
 use indexmap::IndexSet;
 use std::alloc::{AllocError, AllocFailed, Global};
@@ -23,7 +23,7 @@ pub enum TableFault {
     /// The place of the attribute, counted from 0.
     #[error("attribute {0} has the name of an earlier one")]
     DuplicateAttribute(u32),
-    #[error("no memory")]
+    #[error("{NO_MEMORY}")]
     Memory,
 }
 

@@ -1,10 +1,11 @@
 -- What is told of each fault of a file in the CSV form. A third field of the second record that is neither a cross nor a dot:
 -- record 2 and field 3, `bad cell`.
 use Rattle.fca_model.specs.Tables.{Text}
-use Rattle.text_pieces.specs.declared.faults.TheConstants.{NOT_UTF8, EMPTY_NAME, LONG_NAME, BAD_NAME, DUPLICATE_ATTRIBUTE, NO_MEMORY}
+use Rattle.fca_model.specs.declared.TheConstants.{NO_MEMORY}
+use Rattle.text_pieces.specs.declared.faults.TheConstants.{NOT_UTF8, EMPTY_NAME, LONG_NAME, BAD_NAME, DUPLICATE_ATTRIBUTE, NO_HEADER, RAGGED, TOO_MANY_ATTRIBUTES}
 use Rattle.text_pieces.specs.declared.faults.Place.{Place}
 use Rattle.text_pieces.specs.declared.faults.Place.TheVariants.{Whole, Byte, Record, Field}
-use Rattle.csv_context.specs.declared.TheConstants.{NO_HEADER, RAGGED, BAD_CELL, TOO_MANY_ATTRIBUTES, TOO_MANY_OBJECTS}
+use Rattle.csv_context.specs.declared.TheConstants.{BAD_CELL, TOO_MANY_OBJECTS}
 use Rattle.csv_context.specs.declared.CsvFault.{CsvFault}
 use Rattle.csv_context.specs.declared.CsvFault.TheVariants as fault
 

@@ -10,7 +10,7 @@ mod read;
 mod records;
 mod write;
 
-use fca_model::Memory;
+use fca_model::{Memory, NO_MEMORY};
 pub use fields::{field_at, text_of};
 pub use lines::{next_field, next_line, read_fields, unquoted};
 pub use read::read_csv;
@@ -19,17 +19,12 @@ use std::alloc::{AllocError, AllocFailed};
 use std::error::Error;
 use std::fmt;
 use text_pieces::faults::{
-    BAD_NAME, DUPLICATE_ATTRIBUTE, EMPTY_NAME, LONG_NAME, NO_MEMORY, NOT_UTF8, Place, Told,
+    BAD_NAME, DUPLICATE_ATTRIBUTE, EMPTY_NAME, LONG_NAME, NO_HEADER, NOT_UTF8, Place, RAGGED,
+    TOO_MANY_ATTRIBUTES, Told,
 };
 pub use write::write_csv;
 
-const NO_HEADER: &str = "no header";
-
-const RAGGED: &str = "ragged";
-
 const BAD_CELL: &str = "bad cell";
-
-const TOO_MANY_ATTRIBUTES: &str = "too many attributes";
 
 const TOO_MANY_OBJECTS: &str = "too many objects";
 

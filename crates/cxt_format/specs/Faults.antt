@@ -1,9 +1,10 @@
 -- What is told of each fault of a file in the Burmeister form. A row that is too short, in line 9: line 9, `bad row`.
 use Rattle.fca_model.specs.Tables.{Text}
-use Rattle.text_pieces.specs.declared.faults.TheConstants.{NOT_UTF8, EMPTY_NAME, LONG_NAME, BAD_NAME, DUPLICATE_ATTRIBUTE, NO_MEMORY}
+use Rattle.fca_model.specs.declared.TheConstants.{NO_MEMORY}
+use Rattle.text_pieces.specs.declared.faults.TheConstants.{NOT_UTF8, EMPTY_NAME, LONG_NAME, BAD_NAME, DUPLICATE_ATTRIBUTE, TOO_MANY}
 use Rattle.text_pieces.specs.declared.faults.Place.{Place}
 use Rattle.text_pieces.specs.declared.faults.Place.TheVariants.{Whole, Byte, Line}
-use Rattle.cxt_format.specs.declared.TheConstants.{NOT_B, BAD_COUNT, TOO_MANY, ENDED, BAD_ROW, TRAILING_TEXT}
+use Rattle.cxt_format.specs.declared.TheConstants.{NOT_B, BAD_COUNT, ENDED, BAD_ROW, TRAILING_TEXT}
 use Rattle.cxt_format.specs.declared.CxtFault.{CxtFault}
 use Rattle.cxt_format.specs.declared.CxtFault.TheVariants as fault
 

@@ -7,21 +7,19 @@ mod read;
 mod words;
 mod write;
 
-use fca_model::Memory;
+use fca_model::{Memory, NO_MEMORY};
 pub use read::read_cxt;
 use std::alloc::{AllocError, AllocFailed};
 use std::error::Error;
 use std::fmt;
 use text_pieces::faults::{
-    BAD_NAME, DUPLICATE_ATTRIBUTE, EMPTY_NAME, LONG_NAME, NO_MEMORY, NOT_UTF8, Place, Told,
+    BAD_NAME, DUPLICATE_ATTRIBUTE, EMPTY_NAME, LONG_NAME, NOT_UTF8, Place, TOO_MANY, Told,
 };
 pub use write::write_cxt;
 
 const NOT_B: &str = "not B";
 
 const BAD_COUNT: &str = "bad count";
-
-const TOO_MANY: &str = "too many";
 
 const ENDED: &str = "ended";
 

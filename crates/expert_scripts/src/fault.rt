@@ -1,11 +1,11 @@
 //! Why a text is no script.
 
-use fca_model::Memory;
+use fca_model::{Memory, NO_MEMORY};
 use known_rules::KnownFault;
 use std::alloc::AllocFailed;
 use std::error::Error;
 use std::fmt;
-use text_pieces::faults::{BAD_LINE, BAD_WIDTH, NO_MEMORY, Place, Told};
+use text_pieces::faults::{BAD_LINE, BAD_WIDTH, Place, Told};
 
 const BAD_EXPERT: &str = "bad expert";
 

@@ -8,7 +8,7 @@ ghost use Rattle.explore_state.specs.Faults.{open_fault, first_break};
 use crate::settings::Settings;
 use attr_bits::Attrs;
 use context_table::Table;
-use fca_model::{MAX_EXPERTS, Memory};
+use fca_model::{MAX_EXPERTS, Memory, NO_MEMORY};
 use implication_closure::ImplicationList;
 use std::alloc::AllocError;
 use thiserror::Error;
@@ -22,7 +22,7 @@ pub enum OpenFault {
     RowBreaks(usize, usize),
     #[error("{0} holders of one question, where there may be 1 to 64")]
     BadHolders(u8),
-    #[error("no memory")]
+    #[error("{NO_MEMORY}")]
     Memory,
 }
 

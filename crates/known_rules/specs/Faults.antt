@@ -1,6 +1,7 @@
 -- What is told of each fault of a known file.
 use Rattle.fca_model.specs.Tables.{Text}
-use Rattle.text_pieces.specs.declared.faults.TheConstants.{BAD_LINE, BAD_WIDTH, NO_MEMORY}
+use Rattle.fca_model.specs.declared.TheConstants.{NO_MEMORY}
+use Rattle.text_pieces.specs.declared.faults.TheConstants.{BAD_LINE, BAD_WIDTH}
 use Rattle.text_pieces.specs.declared.faults.Place.{Place}
 use Rattle.text_pieces.specs.declared.faults.Place.TheVariants.{Whole, Line}
 use Rattle.known_rules.specs.declared.fault.KnownFault.{KnownFault}

@@ -1,9 +1,9 @@
 //! Why a text is no known file.
 
-use fca_model::Memory;
+use fca_model::{Memory, NO_MEMORY};
 use std::error::Error;
 use std::fmt;
-use text_pieces::faults::{BAD_LINE, BAD_WIDTH, NO_MEMORY, Place, Told};
+use text_pieces::faults::{BAD_LINE, BAD_WIDTH, Place, Told};
 
 /// Lines are numbered from 1, and the first line at fault is told.
 #[derive(Debug, Drop)]

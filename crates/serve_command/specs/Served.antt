@@ -2,9 +2,11 @@
 --
 -- Where the first of two experts quits at once and the second goes at the end of its input, the text ends with the lines `# sessions 2`, `# 1 quit` and
 -- `# 2 end of input`.
-use Rattle.std.specs.Prelude.{◌≡◌, ◌⊎◌, ◌<◌, ◌≤◌, ℕ, Option, List, [], ◌++◌, map, length, codes}
+use Rattle.std.specs.Prelude.{◌≡◌, ◌⊎◌, ◌<◌, ◌≤◌, ℕ, Option, List, [], ◌++◌, map, length}
 use Rattle.fca_model.specs.Tables.{Text, NamedContext}
 use Rattle.fca_model.specs.Exploration.{SetEntry, own}
+use Rattle.fca_model.specs.declared.TheConstants.{NO_MEMORY}
+use Rattle.fca_io.specs.declared.outside.TheConstants.{READ_FAULT, WRITE_FAULT}
 use Rattle.fca_io.specs.Links.{Ends}
 use Rattle.expert_sessions.specs.Serving.{EachTalks}
 use Rattle.expert_sessions.specs.declared.ended.Ended.{Ended}
@@ -22,6 +24,7 @@ use Rattle.command_io.specs.declared.answer.Ending.{Ending}
 use Rattle.command_io.specs.Explorations.{Recorded, open_at, IsExplored}
 use Rattle.serve_command.specs.Accepted.{TookAndGave, GaveBack, HasRoomFor}
 use Rattle.serve_command.specs.Openings.{opened_by}
+use Rattle.serve_command.specs.declared.endings.TheConstants.{QUIT, END_OF_INPUT, LONG_LINE, LIMIT, SPENT}
 
 -- the most lines that a session may have
 abbrev pub lines : ℕ
@@ -29,14 +32,14 @@ lines = 1000000
 
 -- the words for an ending
 abbrev pub words_of : Ended → Text
-words_of Quit = codes "quit"
-words_of EndOfInput = codes "end of input"
-words_of ReadFault = codes "read fault"
-words_of WriteFault = codes "write fault"
-words_of LongLine = codes "long line"
-words_of Limit = codes "limit"
-words_of Spent = codes "spent"
-words_of Memory = codes "no memory"
+words_of Quit = QUIT.now
+words_of EndOfInput = END_OF_INPUT.now
+words_of ReadFault = READ_FAULT.now
+words_of WriteFault = WRITE_FAULT.now
+words_of LongLine = LONG_LINE.now
+words_of Limit = LIMIT.now
+words_of Spent = SPENT.now
+words_of Memory = NO_MEMORY.now
 
 -- the exploration that was opened so and has this history
 abbrev pub served : Opening → List SetEntry → Recorded

@@ -4,8 +4,19 @@ ghost use Rattle.std.specs.Prelude.{◌≡◌, map, IfOk};
 ghost use Rattle.serve_command.specs.Served.{words_of};
 
 use expert_sessions::Ended;
-use fca_model::Memory;
+use fca_io::{READ_FAULT, WRITE_FAULT};
+use fca_model::{Memory, NO_MEMORY};
 use std::alloc::Global;
+
+const QUIT: &str = "quit";
+
+const END_OF_INPUT: &str = "end of input";
+
+const LONG_LINE: &str = "long line";
+
+const LIMIT: &str = "limit";
+
+const SPENT: &str = "spent";
 
 /// The words for each ending.
 pub fn words_of_all(alloc: Global, endings: &[Ended]) -> Result<Vec<&'static str>, Memory>
@@ -23,13 +34,13 @@ fn words_of(ended: Ended) -> &'static str
     ensures { result.now ≡ words_of ended }
 {
     match ended {
-        Ended::Quit => "quit",
-        Ended::EndOfInput => "end of input",
-        Ended::ReadFault => "read fault",
-        Ended::WriteFault => "write fault",
-        Ended::LongLine => "long line",
-        Ended::Limit => "limit",
-        Ended::Spent => "spent",
-        Ended::Memory => "no memory",
+        Ended::Quit => QUIT,
+        Ended::EndOfInput => END_OF_INPUT,
+        Ended::ReadFault => READ_FAULT,
+        Ended::WriteFault => WRITE_FAULT,
+        Ended::LongLine => LONG_LINE,
+        Ended::Limit => LIMIT,
+        Ended::Spent => SPENT,
+        Ended::Memory => NO_MEMORY,
     }
 }

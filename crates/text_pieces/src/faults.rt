@@ -18,7 +18,15 @@ pub const BAD_LINE: &str = "bad line";
 
 pub const BAD_WIDTH: &str = "bad width";
 
-pub const NO_MEMORY: &str = "no memory";
+pub const NO_HEADER: &str = "no header";
+
+pub const RAGGED: &str = "ragged";
+
+pub const TOO_MANY: &str = "too many";
+
+pub const TOO_MANY_ATTRIBUTES: &str = "too many attributes";
+
+pub const UNKNOWN_ATTRIBUTE: &str = "unknown attribute";
 
 /// Where in a text a fault is. Lines, records and fields are numbered from 1.
 #[derive(Clone, Copy, Debug)]

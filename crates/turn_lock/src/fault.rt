@@ -2,7 +2,7 @@
 
 ghost use Rattle.std.specs.Prelude.{◌≡◌};
 
-use fca_model::Memory;
+use fca_model::{Memory, NO_MEMORY};
 use thiserror::Error;
 
 #[derive(Clone, Copy, Debug, Error)]
@@ -12,7 +12,7 @@ pub enum TurnFault {
     Spent,
 
     /// The turn was made, and no event was logged.
-    #[error("no memory")]
+    #[error("{NO_MEMORY}")]
     Memory,
 }
 

@@ -11,11 +11,12 @@ mod pieces;
 mod read;
 mod values;
 
-use fca_model::Memory;
+use fca_model::{Memory, NO_MEMORY};
 pub use fields::{FieldKind, first_bad, name_at};
 pub use numbers::number_of;
 pub use read::read_values;
 use std::alloc::{AllocError, AllocFailed};
+use text_pieces::faults::{DUPLICATE_ATTRIBUTE, NO_HEADER, NOT_UTF8, RAGGED, TOO_MANY};
 use thiserror::Error;
 pub use values::Values;
 
@@ -23,19 +24,19 @@ pub use values::Values;
 #[derive(Debug, Drop, Error)]
 pub enum ValuesFault {
     /// The number of bytes before the first that begins no whole character.
-    #[error("byte {0}: not UTF-8")]
+    #[error("byte {0}: {NOT_UTF8}")]
     NotUtf8(usize),
-    #[error("no header")]
+    #[error("{NO_HEADER}")]
     NoHeader,
-    #[error("record {0}: too many")]
+    #[error("record {0}: {TOO_MANY}")]
     TooMany(usize),
-    #[error("record {0}: ragged")]
+    #[error("record {0}: {RAGGED}")]
     RaggedRecord(usize),
     #[error("record {0}: field {1}: bad field")]
     BadField(usize, usize),
-    #[error("record 1: field {0}: duplicate attribute")]
+    #[error("record 1: field {0}: {DUPLICATE_ATTRIBUTE}")]
     DuplicateAttribute(usize),
-    #[error("no memory")]
+    #[error("{NO_MEMORY}")]
     Memory,
 }
 
