@@ -90,9 +90,9 @@ write_rose (Err x) w e = w.failed
 
 -- a call that writes leaves alone what stands beside a sink: at an end that is what is left to read
 pub writes-from : (a b : Wire) (text : Text) (r : Result (Unit {0}) Put) (other other' : Option Text) (aside aside' : ℕ)
-    → OnOk r (Appends a.held b.held text) → AppendsFront a.held b.held text → OnErr r (Rose a.writes b.writes) → a.writes ≤ b.writes → Keeps other other' → aside ≤ aside'
+    → OnOk r (Appends a.held b.held text) → AppendsFront a.held b.held text → OnErr r (Rose a.writes b.writes) → a.writes ≤ b.writes → Keeps other other' → aside' ≡ aside
     → other ≡ a.left → other' ≡ b.left → aside ≡ a.reads → aside' ≡ b.reads → Writes a b text r
-writes-from a b text (Ok u) other other' aside aside' whole front failed later keeps later' p q u' v = record {
+writes-from a b text (Ok u) other other' aside aside' whole front failed later keeps same p q u' v = record {
   sent = text;
   unsent = [];
   split = sym (append-nil text);
@@ -100,7 +100,7 @@ writes-from a b text (Ok u) other other' aside aside' whole front failed later k
   whole = refl;
   failed = tt;
 }
-writes-from a b text (Err e) other other' aside aside' whole front failed later keeps later' p q u' v = record {
+writes-from a b text (Err e) other other' aside aside' whole front failed later keeps same p q u' v = record {
   sent = front.front;
   unsent = front.rest;
   split = front.whole;

@@ -18,10 +18,11 @@ pub Writes-nothing : (held : Option Text) (faults : ℕ) (other : Option Text) (
 Writes-nothing held faults other aside = record {
   whole = Appends-nil held;
   front = record { front = []; rest = []; whole = refl; gained = Appends-nil held };
+  quiet = refl;
   failed = tt;
   later = omega arith;
   beside = Keeps-refl other;
-  later_beside = omega arith;
+  same_beside = refl;
 }
 
 Rose-later : (a b c : ℕ) → a ≤ b → Rose b c → Rose a c
@@ -41,15 +42,20 @@ Writes-then {h0} {h1} {h2} {f0} {f1} {f2} {o0} {o1} {o2} {a0} {a1} {a2} {s} {t} 
     whole = ap (λ z. s ++ z) y.front.whole ∙ sym (append_assoc s y.front.front y.front.rest);
     gained = Appends-trans _ _ _ _ _ x.whole y.front.gained;
   };
+  quiet = quiet r y.quiet;
   failed = failed r y.failed;
   later = let p = x.later in let q = y.later in omega arith;
   beside = Keeps-trans _ _ _ x.beside y.beside;
-  later_beside = let p = x.later_beside in let q = y.later_beside in omega arith;
+  same_beside = y.same_beside ∙ x.same_beside;
 }
   where
     whole : (r : Result (Unit {0}) Put) → OnOk r (Appends h1 h2 t) → OnOk r (Appends h0 h2 (s ++ t))
     whole (Ok u) h = Appends-trans _ _ _ _ _ x.whole h
     whole (Err e) h = tt
+
+    quiet : (r : Result (Unit {0}) Put) → OnOk r (f2 ≡ f1) → OnOk r (f2 ≡ f0)
+    quiet (Ok u) h = h ∙ x.quiet
+    quiet (Err e) h = tt
 
     failed : (r : Result (Unit {0}) Put) → OnErr r (Rose f1 f2) → OnErr r (Rose f0 f2)
     failed (Ok u) h = tt
@@ -65,10 +71,11 @@ Writes-front {s = s} t e x = record {
     whole = ap (λ z. z ++ t) x.front.whole ∙ append_assoc x.front.front x.front.rest t;
     gained = x.front.gained;
   };
+  quiet = tt;
   failed = x.failed;
   later = x.later;
   beside = x.beside;
-  later_beside = x.later_beside;
+  same_beside = x.same_beside;
 }
 
 pub Writes-equal : {h h' : Option Text} {f f' : ℕ} {o o' : Option Text} {a a' : ℕ} {s t : Text} {r : Result (Unit {0}) Put}

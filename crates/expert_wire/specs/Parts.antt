@@ -1,5 +1,5 @@
 -- The parts of a line, and what a call that writes a text does to a sink.
-use Rattle.std.specs.Prelude.{◌≤◌, ℕ, Option, Result, List, decimal, OnOk, OnErr}
+use Rattle.std.specs.Prelude.{◌≡◌, ◌≤◌, ℕ, Option, Result, List, decimal, OnOk, OnErr}
 use Rattle.std.specs.List.{flat_map}
 use Rattle.std.specs.Io.KnownBytes.{Appends, Keeps}
 use Rattle.fca_io.specs.Faults.{Rose}
@@ -22,11 +22,12 @@ part_text attributes (Braces A) = braces_text attributes A
 abbrev pub parts_text : List Text → List Part → Text
 parts_text attributes parts = flat_map (part_text attributes) parts
 
--- what a call that writes a text leaves of a sink: all of the text where it succeeds, else a front of it and one fault more
+-- what a call that writes a text leaves of a sink: all of the text and its count of faults where it succeeds, else a front of it and one fault more
 pub record Writes (held held' : Option Text) (faults faults' : ℕ) (other other' : Option Text) (aside aside' : ℕ) (text : Text) (result : Result (Unit {0}) Put) : Type 0 where
   pub whole : OnOk result (Appends held held' text)
   pub front : AppendsFront held held' text
+  pub quiet : OnOk result (faults' ≡ faults)
   pub failed : OnErr result (Rose faults faults')
   pub later : faults ≤ faults'
   pub beside : Keeps other other'
-  pub later_beside : aside ≤ aside'
+  pub same_beside : aside' ≡ aside

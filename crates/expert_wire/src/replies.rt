@@ -19,11 +19,12 @@ pub fn write_reply<K: Sink>(sink: &mut K, table: &Table, reply: &Reply) -> Resul
     ensures whole { OnOk result (Appends (K.held sink.old) (K.held sink.new) (reply_line table.now.attributes reply.now)) }
     ensures front { AppendsFront (K.held sink.old) (K.held sink.new) (reply_line table.now.attributes reply.now) }
 
+    ensures quiet { OnOk result (K.faults sink.new ≡ K.faults sink.old) }
     ensures failed { OnErr result (Rose (K.faults sink.old) (K.faults sink.new)) }
     ensures later { K.faults sink.old ≤ K.faults sink.new }
 
     ensures beside { Keeps (K.beside sink.old) (K.beside sink.new) }
-    ensures later_beside { K.faults_beside sink.old ≤ K.faults_beside sink.new }
+    ensures same_beside { K.faults_beside sink.new ≡ K.faults_beside sink.old }
 {
     match reply {
         Reply::Ask(question) => write_question(sink, table, b"ask ", question),

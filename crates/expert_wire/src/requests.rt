@@ -6,7 +6,7 @@ ghost use Rattle.expert_wire.specs.Requests.{TakesMemory, request_form, request_
 
 use crate::words::{read_row, text_of};
 use attr_bits::Attrs;
-use fca_model::Name;
+use fca_model::{NO_MEMORY, Name};
 use std::alloc::Global;
 use text_pieces::bytes::without_return;
 use text_pieces::split_word;
@@ -29,7 +29,7 @@ pub enum RequestFault {
     Line,
     #[error("the pattern has another width")]
     Width,
-    #[error("memory was refused")]
+    #[error("{NO_MEMORY}")]
     Memory,
 }
 

@@ -1,5 +1,5 @@
 -- What a loop of reads, or of writes, has done so far to a stream that may tell what it holds. One more read or write joins
--- on behind what was moved before, and a count that never falls in one call never falls in many.
+-- on behind what was moved before, and counts that one call leaves as they were are left so by many.
 use Rattle.std.proofs.Common.{◌≡◌, ◌≤◌, ◌<◌, ◌+◌, ◌-◌, ◌++◌, ℕ, List, [], length, take, drop, sym, ap, ◌∙◌, append_assoc, take-append-drop, length-append, length-drop, subst, arith}
 use Rattle.std.proofs.lemmas.List.{take_all}
 use Rattle.std.specs.Prelude.{Option, Result, Err, IsErrAnd}
@@ -7,11 +7,11 @@ use Rattle.std.specs.Io.KnownBytes.{Keeps}
 use Rattle.fca_io.specs.declared.outside.Taken.{Taken}
 use Rattle.fca_io.specs.declared.outside.Taken.TheVariants.{Long, Memory}
 
--- what stands beside a stream, and both counts, after some calls
+-- what stands beside a stream, and both counts, after some calls that succeeded
 pub record Settled (faults faults' : ℕ) (other other' : Option (List ℕ)) (aside aside' : ℕ) : Type 0 where
-  pub later : faults ≤ faults'
+  pub quiet : faults' ≡ faults
   pub beside : Keeps other other'
-  pub later_beside : aside ≤ aside'
+  pub same_beside : aside' ≡ aside
 
 -- a text is what was moved of it, then the first bytes of the rest, and then the rest of the rest
 pub split-front : (text front rest : List ℕ) (count total : ℕ) → text ≡ front ++ rest → total ≡ length rest → count ≤ length rest

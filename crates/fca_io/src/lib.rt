@@ -9,6 +9,6 @@ mod transfer;
 
 pub use listener::{Duplex, Listener};
 pub use memory::{MemoryEnd, MemoryLink, MemoryShelf, MemorySink, MemorySource, SureSource};
-pub use outside::{Failed, Put, Shelf, Sink, Source, Taken};
+pub use outside::{Failed, Put, READ_FAULT, Shelf, Sink, Source, TOO_LONG, Taken, WRITE_FAULT};
 pub use steps::Steps;
 pub use transfer::{read_all, write_text};

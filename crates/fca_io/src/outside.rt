@@ -1,13 +1,21 @@
 //! The outside: sources, sinks and shelves, which may fail and count their faults.
 
-ghost use Rattle.std.specs.Prelude.{◌≡◌, ◌<◌, ◌≤◌, ℕ, List, length, vec_len, Option, Result, OnErr, IfOk, IsErrOf};
+ghost use Rattle.std.specs.Prelude.{◌≡◌, ◌<◌, ◌≤◌, ℕ, List, length, vec_len, Option, Result, OnOk, OnErr, IfOk, IsErrOf};
 ghost use Rattle.std.specs.Io.{ReadsAtMost};
 ghost use Rattle.std.specs.Io.KnownBytes.{Keeps, ReadConsumes, WriteAppends};
 ghost use Rattle.fca_io.specs.Faults.{Rose};
 ghost use Rattle.fca_io.specs.Shelves.{Told, MayHold, MayExceed};
 
+use fca_model::NO_MEMORY;
 use std::alloc::{AllocError, Global};
 use thiserror::Error;
+
+// The words that tell of the outside.
+pub const READ_FAULT: &str = "read fault";
+
+pub const TOO_LONG: &str = "too long";
+
+pub const WRITE_FAULT: &str = "write fault";
 
 /// A call of the outside failed.
 #[derive(Clone, Copy, Debug)]
@@ -16,11 +24,11 @@ pub struct Failed;
 /// Why bytes were not taken.
 #[derive(Clone, Copy, Debug, Error)]
 pub enum Taken {
-    #[error("read fault")]
+    #[error("{READ_FAULT}")]
     Failed,
-    #[error("too long")]
+    #[error("{TOO_LONG}")]
     Long,
-    #[error("no memory")]
+    #[error("{NO_MEMORY}")]
     Memory,
 }
 
@@ -47,7 +55,7 @@ impl From<AllocError> for Taken {
 /// Why a text was not written whole.
 #[derive(Clone, Copy, Debug, Error)]
 pub enum Put {
-    #[error("write fault")]
+    #[error("{WRITE_FAULT}")]
     Failed,
 }
 
@@ -77,11 +85,12 @@ pub trait Source {
         ensures bound { ReadsAtMost result into.new }
         ensures bytes { ReadConsumes (left self.old) (left self.new) result into.new }
 
+        ensures quiet { OnOk result (faults self.new ≡ faults self.old) }
         ensures failed { OnErr result (Rose (faults self.old) (faults self.new)) }
         ensures later { faults self.old ≤ faults self.new }
 
         ensures beside { Keeps (beside self.old) (beside self.new) }
-        ensures later_beside { faults_beside self.old ≤ faults_beside self.new };
+        ensures same_beside { faults_beside self.new ≡ faults_beside self.old };
 }
 
 /// A stream of bytes to write.
@@ -105,11 +114,12 @@ pub trait Sink {
         ensures bound { IfOk result (λ count. count ≤ length from.now) }
         ensures bytes { WriteAppends (held self.old) (held self.new) result from.now }
 
+        ensures quiet { OnOk result (faults self.new ≡ faults self.old) }
         ensures failed { OnErr result (Rose (faults self.old) (faults self.new)) }
         ensures later { faults self.old ≤ faults self.new }
 
         ensures beside { Keeps (beside self.old) (beside self.new) }
-        ensures later_beside { faults_beside self.old ≤ faults_beside self.new };
+        ensures same_beside { faults_beside self.new ≡ faults_beside self.old };
 }
 
 /// Files by their names.

@@ -18,11 +18,12 @@ pub fn read_all<S: Source>(alloc: Global, source: &mut S, limit: usize) -> Resul
     ensures end { OnOk result (IsAtEnd (S.left source.new)) }
     ensures taken { Takes (S.left source.old) (S.left source.new) limit (IsErrOf result Taken.Long) }
 
+    ensures quiet { OnOk result (S.faults source.new ≡ S.faults source.old) }
     ensures failed { IsErrOf result Taken.Failed → Rose (S.faults source.old) (S.faults source.new) }
     ensures later { S.faults source.old ≤ S.faults source.new }
 
     ensures beside { Keeps (S.beside source.old) (S.beside source.new) }
-    ensures later_beside { S.faults_beside source.old ≤ S.faults_beside source.new }
+    ensures same_beside { S.faults_beside source.new ≡ S.faults_beside source.old }
 {
     let mut bytes = Vec::new(alloc);
     let mut chunk = [0u8; CHUNK];
@@ -44,11 +45,12 @@ pub fn write_text<K: Sink>(sink: &mut K, text: &[u8]) -> Result<(), Put>
     ensures front { AppendsFront (K.held sink.old) (K.held sink.new) text.now }
     ensures none { text.now ≡ [] → sink.new ≡ sink.old }
 
+    ensures quiet { OnOk result (K.faults sink.new ≡ K.faults sink.old) }
     ensures failed { OnErr result (Rose (K.faults sink.old) (K.faults sink.new)) }
     ensures later { K.faults sink.old ≤ K.faults sink.new }
 
     ensures beside { Keeps (K.beside sink.old) (K.beside sink.new) }
-    ensures later_beside { K.faults_beside sink.old ≤ K.faults_beside sink.new }
+    ensures same_beside { K.faults_beside sink.new ≡ K.faults_beside sink.old }
 {
     let mut rest = text;
     while !rest.is_empty() {

@@ -10,7 +10,7 @@ ghost use Rattle.std.proofs.Common.{refl};
 ghost use Rattle.std.specs.List.{list_any};
 ghost use Rattle.fca_model.specs.Names.{IsName, is_line_break, name_fault};
 
-use crate::{MAX_NAME_BYTES, Memory};
+use crate::{MAX_NAME_BYTES, Memory, NO_MEMORY};
 use std::alloc::{AllocError, Global};
 use std::cmp::Ordering;
 use std::hash::{Hash, Hasher};
@@ -26,7 +26,7 @@ pub enum NameFault {
     Long,
     #[error("the name has a line break")]
     Line,
-    #[error("memory was refused")]
+    #[error("{NO_MEMORY}")]
     Memory,
 }
 

@@ -1,6 +1,6 @@
 //! An end in memory.
 
-ghost use Rattle.std.specs.Prelude.{◌≡◌, ◌≤◌, ◌<◌, ◌-◌, ◌↔◌, ◌⊎◌, [], length, min, Some, Result, IfOk, IsErr, IsTrue, OnErr};
+ghost use Rattle.std.specs.Prelude.{◌≡◌, ◌≤◌, ◌<◌, ◌-◌, ◌↔◌, ◌⊎◌, [], length, min, Some, Result, IfOk, IsErr, IsTrue, OnOk, OnErr};
 ghost use Rattle.std.specs.Io.{ReadsAtMost};
 ghost use Rattle.std.specs.Io.KnownBytes.{ReadConsumes, WriteAppends, Keeps};
 ghost use Rattle.fca_io.specs.Faults.{Rose};
@@ -78,6 +78,7 @@ impl Source for MemoryEnd {
 
         ensures bound { ReadsAtMost result into.new }
         ensures bytes { ReadConsumes (Some self.old.incoming.bytes) (Some self.new.incoming.bytes) result into.new }
+        ensures quiet { OnOk result (self.new.incoming.plan.faults ≡ self.old.incoming.plan.faults) }
         ensures failed { OnErr result (Rose self.old.incoming.plan.faults self.new.incoming.plan.faults) }
         ensures later { self.old.incoming.plan.faults ≤ self.new.incoming.plan.faults }
 
@@ -108,6 +109,7 @@ impl Sink for MemoryEnd {
         ensures some { IfOk result (λ count. 0 < count) }
         ensures bound { IfOk result (λ count. count ≤ length from.now) }
         ensures bytes { WriteAppends (Some self.old.outgoing.bytes) (Some self.new.outgoing.bytes) result from.now }
+        ensures quiet { OnOk result (self.new.outgoing.plan.faults ≡ self.old.outgoing.plan.faults) }
         ensures failed { OnErr result (Rose self.old.outgoing.plan.faults self.new.outgoing.plan.faults) }
         ensures later { self.old.outgoing.plan.faults ≤ self.new.outgoing.plan.faults }
 
