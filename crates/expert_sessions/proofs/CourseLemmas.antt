@@ -1,28 +1,60 @@
 -- A session goes line by line. `Goes` says what stands after k lines that were served and are not `quit`; one more such line keeps it;
 -- and where no line is served any more, what stands is what the session has served.
 use Rattle.std.proofs.Common.{◌≡◌, ◌≢◌, ◌≤◌, ◌<◌, ℕ, ◌+◌, List, [], ◌∷◌, ◌++◌, take, drop, length, Some, Result, refl, sym, ap, ◌∙◌, subst, append_assoc, append-nil, length-append, arith, inl, inr, ◌⊎◌}
-use Rattle.std.specs.Prelude.{All, is_err, false, true}
+use Rattle.std.specs.Prelude.{All, is_err, false, true, Ok, Err, IfOk, IfErr, OnErr, IsErrOf}
 use Rattle.std.proofs.lemmas.List.Elements.{All-nil, All-append}
 use Rattle.fca_io.specs.Faults.{Rose}
 use Rattle.fca_io.specs.declared.outside.Put.{Put}
 use Rattle.fca_model.specs.Tables.{Text, NamedContext}
 use Rattle.fca_model.specs.declared.TheConstants.{LINE_BYTES}
-use Rattle.fca_model.specs.Exploration.{SetEntry}
+use Rattle.fca_model.specs.Exploration.{SetEvent, SetReply, SetEntry}
+use Rattle.turn_lock.specs.declared.fault.TurnFault.{TurnFault}
+use Rattle.turn_lock.specs.declared.fault.TurnFault.TheVariants.{Spent as NoTurn, Memory as NoTurnMemory}
 use Rattle.expert_wire.specs.Texts.{line_end}
 use Rattle.expert_wire.specs.Greetings.{greeting}
 use Rattle.expert_wire.specs.Requests.{request_form}
+use Rattle.expert_wire.specs.declared.requests.Request.{Request}
+use Rattle.expert_wire.specs.declared.requests.RequestFault.{RequestFault}
+use Rattle.expert_gate.specs.Desks.{one_less}
 use Rattle.expert_sessions.specs.declared.said.Said.{Said}
 use Rattle.expert_sessions.specs.declared.said.Said.TheVariants.{Bye}
 use Rattle.expert_sessions.specs.declared.ended.Ended.{Ended}
 use Rattle.expert_sessions.specs.declared.ended.Ended.TheVariants.{Quit, EndOfInput, ReadFault, WriteFault, LongLine, Limit, Spent, Memory}
-use Rattle.expert_sessions.specs.Lines.{Answers, Exchange, IsExchange, IsQuit, IsNotQuit, lines_of, replies_of, entries_of, said_line, before_last}
+use Rattle.expert_sessions.specs.Lines.{Asks, Answers, Exchange, IsExchange, IsQuit, IsNotQuit, lines_of, replies_of, entries_of, turns_of, said_line, before_last}
 use Rattle.expert_sessions.specs.Talks.{GoesOn, HasQuit, LacksLastAnswer}
-use Rattle.expert_sessions.specs.Moves.{Wire, Moves, Place, Enters}
-use Rattle.expert_sessions.specs.Courses.{Writes, Reads, HasFeedAt, LacksLine, Serves, HaltsAt, Halts, Goes, Closes, HasServed}
-use Rattle.expert_sessions.proofs.MoveLemmas.{Rose-later, Moves-trans, Moves-equal, Enters-nil, Enters-trans, Enters-equal}
-use Rattle.expert_sessions.proofs.LineLemmas.{not_bye, bye_quits, is-exchange, lines_of-append, replies_of-append, entries_of-append, before_last-snoc, before_last-All, All-one, sent_whole, write_rose}
+use Rattle.expert_sessions.specs.Moves.{Wire, Moves, IsQuiet, Place, Enters}
+use Rattle.expert_sessions.specs.Courses.{said_of, Writes, Reads, HasFeedAt, LacksLine, Serves, HaltsAt, Halts, Goes, Closes, HasServed}
+use Rattle.expert_sessions.proofs.MoveLemmas.{Rose-later, Moves-trans, Moves-equal, IsQuiet-trans, Enters-nil, Enters-trans, Enters-equal, one_less-taken, one_less-none}
+use Rattle.expert_sessions.proofs.LineLemmas.{not_bye, bye_quits, is-exchange, lines_of-append, replies_of-append, entries_of-append, turns_of-append, before_last-snoc, before_last-All, All-one, sent_whole, sent_quiet, write_rose}
 
 -- ---- one line
+
+-- what a turn is answered, what it enters, and that it is taken; or that none is left
+module _ (e : ℕ) (form : Result Request RequestFault) (event : SetEvent) (c d : Place) (asks : Asks e form event) (left : d.turns ≡ one_less c.turns) where
+  pub turn-answered : (turn : Result SetReply TurnFault) → IfOk turn (λ reply. d.entries ≡ c.entries ++ record { event = event; reply = reply } ∷ []) → OnErr turn (d.entries ≡ c.entries)
+      → (IsErrOf turn NoTurn → c.turns ≡ Some 0) × (c.turns ≡ Some 0 → IsErrOf turn NoTurn)
+      → IfOk (said_of turn) (λ said. (made : List SetEntry) × (turns : ℕ) × Answers e form said made turns × Enters c d made turns)
+  turn-answered (Ok reply) entered same spent = (
+    record { event = event; reply = reply } ∷ [],
+    1,
+    (event, asks, refl, refl),
+    record { added = entered; turns = one_less-taken c.turns d.turns left (λ none. let told = spent.1 none in cc) },
+  )
+  turn-answered (Err NoTurnMemory) entered same spent = (
+    [],
+    1,
+    (inl (event, asks, refl), refl),
+    record { added = same ∙ sym (append-nil c.entries); turns = one_less-taken c.turns d.turns left (λ none. let told = spent.1 none in cc) },
+  )
+  turn-answered (Err NoTurn) entered same spent = tt
+
+  pub turn-refused : (turn : Result SetReply TurnFault) → OnErr turn (d.entries ≡ c.entries) → (IsErrOf turn NoTurn → c.turns ≡ Some 0) × (c.turns ≡ Some 0 → IsErrOf turn NoTurn)
+      → IfErr (said_of turn) (λ ended. (ended ≡ Spent) × (d.turns ≡ Some 0) × Enters c d [] 0)
+  turn-refused (Ok reply) same spent = tt
+  turn-refused (Err NoTurnMemory) same spent = tt
+  turn-refused (Err NoTurn) same spent =
+      let none = one_less-none c.turns d.turns left (spent.0 refl) in
+      (refl, none.0, record { added = same ∙ sym (append-nil c.entries); turns = none.1 })
 
 -- no whole line was read
 pub unread : (t : NamedContext) (e : ℕ) (a b : Wire) (c : Place) (ahead ahead' : Text) (ended : Ended) → Reads a b ahead ahead' → LacksLine a b ahead' ended → Halts t e a b c c ahead ended
@@ -34,16 +66,16 @@ unread t e a b c ahead ahead' ended r h = record {
   unsent = [];
   each = All-nil (IsExchange t.context.width e);
   moves = r.moves;
-  enters = Enters-nil c 1;
+  enters = Enters-nil c;
   read = sym r.joined;
   said = refl;
   halts = at ended h;
 }
   where
     at : (ended : Ended) → LacksLine a b ahead' ended → HaltsAt t.context.width a b c ended [] ahead' []
-    at EndOfInput h = (refl, refl, h.0, h.1)
-    at ReadFault h = (refl, refl, h.0, h.1)
-    at LongLine h = (refl, refl, h)
+    at EndOfInput h = (refl, refl, h.0, h.1, record { reads = h.2; writes = r.writes })
+    at ReadFault h = (refl, refl, h.0, h.1, r.writes)
+    at LongLine h = (refl, refl, h.0, record { reads = h.1; writes = r.writes })
     at Quit h = absurd h
     at WriteFault h = absurd h
     at Limit h = absurd h
@@ -51,9 +83,9 @@ unread t e a b c ahead ahead' ended r h = record {
     at Memory h = absurd h
 
 -- the line was read, and no turn was left for it
-pub unturned : (t : NamedContext) (e : ℕ) (a b : Wire) (c d : Place) (ahead ahead' : Text) (ended : Ended) → Reads a b ahead ahead' → ended ≡ Spent → d.turns ≡ Some 0 → Enters c d [] 1
+pub unturned : (t : NamedContext) (e : ℕ) (a b : Wire) (c d : Place) (ahead ahead' : Text) (ended : Ended) → Reads a b ahead ahead' → b.reads ≡ a.reads → ended ≡ Spent → d.turns ≡ Some 0 → Enters c d [] 0
     → Halts t e a b c d ahead ended
-unturned t e a b c d ahead ahead' ended r s none enters = record {
+unturned t e a b c d ahead ahead' ended r quiet s none enters = record {
   more = [];
   rest = ahead';
   taken = r.taken;
@@ -64,58 +96,65 @@ unturned t e a b c d ahead ahead' ended r s none enters = record {
   enters = enters;
   read = sym r.joined;
   said = refl;
-  halts = subst (λ x. HaltsAt t.context.width a b d x [] ahead' []) (sym s) (refl, refl, none);
+  halts = subst (λ x. HaltsAt t.context.width a b d x [] ahead' []) (sym s) (refl, refl, none, record { reads = quiet; writes = r.writes });
 }
 
+one_turn : (turns : ℕ) → turns ≡ turns + 0
+one_turn turns = omega arith
+
 -- the line was read, and answered; then what was read is the line, and what stands ahead now
-module _ (t : NamedContext) (e : ℕ) (a b b' : Wire) (c d : Place) (ahead ahead' ahead'' : Text) (at : ℕ) (said : Said) (made : List SetEntry)
-    (r : Reads a b ahead ahead') (feed : HasFeedAt ahead' at) (few : at ≤ LINE_BYTES) (answered : Answers e (request_form (take at ahead') t.context.width) said made)
-    (enters : Enters c d made 1) (gone : ahead'' ≡ drop (at + 1) ahead') where
-  exchange : Exchange
-  exchange = record { line = take at ahead'; said = said; made = made }
+module _ (t : NamedContext) (e : ℕ) (a b b' : Wire) (c d : Place) (ahead ahead' ahead'' : Text) (at : ℕ) (said : Said) (made : List SetEntry) (turns : ℕ)
+    (r : Reads a b ahead ahead') (still : b.reads ≡ a.reads) (feed : HasFeedAt ahead' at) (few : at ≤ LINE_BYTES) (answered : Answers e (request_form (take at ahead') t.context.width) said made turns)
+    (enters : Enters c d made turns) (gone : ahead'' ≡ drop (at + 1) ahead') where
+  abbrev exchange : Exchange
+  exchange = record { line = take at ahead'; said = said; made = made; turns = turns }
+
+  read_quiet : IsQuiet a b
+  read_quiet = record { reads = still; writes = r.writes }
 
   line_read : ahead ++ r.taken ≡ (take at ahead' ++ line_end) ++ ahead''
   line_read = sym r.joined ∙ feed.split ∙ ap (λ z. (take at ahead' ++ line_end) ++ z) (sym gone)
 
-  pub line-served : Moves b b' [] (said_line t.attributes said) → said ≢ Bye → Serves t e a b' c d ahead ahead''
-  line-served moves asks = record {
-    exchange = record { line = take at ahead'; said = said; made = made };
-    is = is-exchange t.context.width e ahead' at said made feed few answered;
-    asking = not_bye e (request_form (take at ahead') t.context.width) said made answered asks;
+  pub line-served : Moves b b' [] (said_line t.attributes said) → IsQuiet b b' → said ≢ Bye → Serves t e a b' c d ahead ahead''
+  line-served moves quiet asks = record {
+    exchange = exchange;
+    is = is-exchange t.context.width e ahead' at said made turns feed few answered;
+    asking = not_bye e (request_form (take at ahead') t.context.width) said made turns answered asks;
     taken = r.taken ++ [];
     moves = Moves-trans r.moves moves;
     enters = enters;
+    quiet = IsQuiet-trans read_quiet quiet;
     read = ap (λ z. ahead ++ z) (append-nil r.taken) ∙ line_read;
   }
 
-  pub line-quits : Moves b b' [] (said_line t.attributes said) → said ≡ Bye → Halts t e a b' c d ahead Quit
-  line-quits moves bye = record {
-    more = record { line = take at ahead'; said = said; made = made } ∷ [];
+  pub line-quits : Moves b b' [] (said_line t.attributes said) → IsQuiet b b' → said ≡ Bye → Halts t e a b' c d ahead Quit
+  line-quits moves quiet bye = record {
+    more = exchange ∷ [];
     rest = ahead'';
     taken = r.taken ++ [];
     sent = said_line t.attributes said;
     unsent = [];
-    each = All-one (IsExchange t.context.width e) _ (is-exchange t.context.width e ahead' at said made feed few answered);
+    each = All-one (IsExchange t.context.width e) _ (is-exchange t.context.width e ahead' at said made turns feed few answered);
     moves = Moves-trans r.moves moves;
-    enters = Enters-equal (sym (append-nil made)) (omega arith) enters;
+    enters = Enters-equal (sym (append-nil made)) (one_turn turns) enters;
     read = ap (λ z. ahead ++ z) (append-nil r.taken) ∙ line_read ∙ ap (λ z. z ++ ahead'') (sym (append-nil (take at ahead' ++ line_end)));
     said = refl;
-    halts = (record { line = take at ahead'; said = said; made = made }, refl, bye_quits e (request_form (take at ahead') t.context.width) said made answered bye, refl);
+    halts = (exchange, refl, bye_quits e (request_form (take at ahead') t.context.width) said made turns answered bye, refl, IsQuiet-trans read_quiet quiet);
   }
 
   pub line-unanswered : (result : Result (Unit {0}) Put) → Writes b b' (said_line t.attributes said) result → is_err result ≡ true → Halts t e a b' c d ahead WriteFault
   line-unanswered result w failed = record {
-    more = record { line = take at ahead'; said = said; made = made } ∷ [];
+    more = exchange ∷ [];
     rest = ahead'';
     taken = r.taken ++ [];
     sent = w.sent;
     unsent = w.unsent;
-    each = All-one (IsExchange t.context.width e) _ (is-exchange t.context.width e ahead' at said made feed few answered);
+    each = All-one (IsExchange t.context.width e) _ (is-exchange t.context.width e ahead' at said made turns feed few answered);
     moves = Moves-trans r.moves w.moves;
-    enters = Enters-equal (sym (append-nil made)) (omega arith) enters;
+    enters = Enters-equal (sym (append-nil made)) (one_turn turns) enters;
     read = ap (λ z. ahead ++ z) (append-nil r.taken) ∙ line_read ∙ ap (λ z. z ++ ahead'') (sym (append-nil (take at ahead' ++ line_end)));
     said = append-nil (said_line t.attributes said) ∙ w.split;
-    halts = (record { line = take at ahead'; said = said; made = made }, refl, Rose-later a.writes b.writes b'.writes r.moves.writes (write_rose result w failed));
+    halts = (exchange, refl, Rose-later a.writes b.writes b'.writes r.moves.writes (write_rose result w failed), w.reads ∙ still);
   }
 
 -- ---- all lines
@@ -128,7 +167,8 @@ greeted t e a b c result w ok = record {
   count = refl;
   taken = [];
   moves = Moves-equal refl (sym (append-nil (greeting t e))) (sent_whole result w ok);
-  enters = Enters-nil c 0;
+  enters = Enters-nil c;
+  quiet = sent_quiet result w ok;
   read = refl;
 }
 
@@ -149,8 +189,8 @@ ungreeted t e lines a b c result w failed = record {
     answers_sent = append-nil (greeting t e) ∙ w.split;
     whole = inr (write_rose result w failed);
   };
-  enters = Enters-nil c lines;
-  closes = (write_rose result w failed, tt);
+  enters = Enters-nil c;
+  closes = (write_rose result w failed, tt, w.reads);
 }
 
 pub one_more_line : (t : NamedContext) (e : ℕ) (a b b' : Wire) (c d d' : Place) (ahead ahead' : Text) (k : ℕ) → Goes t e a b c d ahead k → Serves t e b b' d d' ahead ahead'
@@ -165,6 +205,7 @@ one_more_line t e a b b' c d d' ahead ahead' k x y =
     let lines : lines_of x.served ++ (y.exchange.line ++ line_end) ≡ lines_of all =
     ap (λ z. lines_of x.served ++ z) (sym (append-nil (y.exchange.line ++ line_end))) ∙ sym (lines_of-append x.served (y.exchange ∷ [])) in
     let number = length-append x.served (y.exchange ∷ []) in
+    let turns = turns_of-append x.served (y.exchange ∷ []) in
     let before = x.count in
     record {
       served = all;
@@ -174,6 +215,7 @@ one_more_line t e a b b' c d d' ahead ahead' k x y =
       taken = x.taken ++ y.taken;
       moves = Moves-equal refl replies (Moves-trans x.moves y.moves);
       enters = Enters-equal entries (omega arith) (Enters-trans x.enters y.enters);
+      quiet = IsQuiet-trans x.quiet y.quiet;
       read = ap (λ z. z ++ y.taken) x.read ∙ append_assoc (lines_of x.served) ahead y.taken ∙ ap (λ z. lines_of x.served ++ z) y.read
           ∙ sym (append_assoc (lines_of x.served) (y.exchange.line ++ line_end) ahead') ∙ ap (λ z. z ++ ahead') lines;
     }
@@ -195,7 +237,7 @@ limited t e lines a b c d ahead x = record {
     whole = inl refl;
   };
   enters = x.enters;
-  closes = (x.asking, x.count, refl);
+  closes = (x.asking, x.count, refl, x.quiet);
 }
 
 -- ---- the last line
@@ -254,17 +296,17 @@ lacks_last t e xs x (y ∷ ys) sent part split all =
     let front : before_last (y ∷ ys) ≡ xs = ap before_last split ∙ before_last-snoc xs x in
     (part, all ∙ ap (λ z. (greeting t e ++ replies_of t.attributes z) ++ part) (sym front))
 
-closing : (t : NamedContext) (e lines : ℕ) (a b b' : Wire) (d : Place) (xs more : List Exchange) (rest sent unsent : Text) → Last t e lines xs more sent → a.reads ≤ b.reads → a.writes ≤ b.writes
+closing : (t : NamedContext) (e lines : ℕ) (a b b' : Wire) (d : Place) (xs more : List Exchange) (rest sent unsent : Text) → Last t e lines xs more sent → IsQuiet a b
     → (ended : Ended) → HaltsAt t.context.width b b' d ended more rest unsent → Closes t e lines a b' d ended (xs ++ more) rest sent unsent
-closing t e lines a b b' d xs more rest sent unsent l reads writes Quit h = (has_quit t.context.width xs more h.0 h.1 h.2, h.3)
-closing t e lines a b b' d xs more rest sent unsent l reads writes EndOfInput h = (goes_on t.context.width lines xs more l.asking l.fewer h.0, h.2, h.3, h.1)
-closing t e lines a b b' d xs more rest sent unsent l reads writes ReadFault h = (goes_on t.context.width lines xs more l.asking l.fewer h.0, Rose-later a.reads b.reads b'.reads reads h.2, h.3, h.1)
-closing t e lines a b b' d xs more rest sent unsent l reads writes LongLine h = (goes_on t.context.width lines xs more l.asking l.fewer h.0, h.2, h.1)
-closing t e lines a b b' d xs more rest sent unsent l reads writes WriteFault h =
-    (Rose-later a.writes b.writes b'.writes writes h.2, lacks_last t e xs h.0 (xs ++ more) sent l.part (ap (λ z. xs ++ z) h.1) l.split)
-closing t e lines a b b' d xs more rest sent unsent l reads writes Spent h = h.2
-closing t e lines a b b' d xs more rest sent unsent l reads writes Limit h = absurd h
-closing t e lines a b b' d xs more rest sent unsent l reads writes Memory h = absurd h
+closing t e lines a b b' d xs more rest sent unsent l quiet Quit h = (has_quit t.context.width xs more h.0 h.1 h.2, h.3, IsQuiet-trans quiet h.4)
+closing t e lines a b b' d xs more rest sent unsent l quiet EndOfInput h = (goes_on t.context.width lines xs more l.asking l.fewer h.0, h.2, h.3, h.1, IsQuiet-trans quiet h.4)
+closing t e lines a b b' d xs more rest sent unsent l quiet ReadFault h = (goes_on t.context.width lines xs more l.asking l.fewer h.0, subst (λ n. Rose n b'.reads) quiet.reads h.2, h.3, h.1, h.4 ∙ quiet.writes)
+closing t e lines a b b' d xs more rest sent unsent l quiet LongLine h = (goes_on t.context.width lines xs more l.asking l.fewer h.0, h.2, h.1, IsQuiet-trans quiet h.3)
+closing t e lines a b b' d xs more rest sent unsent l quiet WriteFault h =
+    (subst (λ n. Rose n b'.writes) quiet.writes h.2, lacks_last t e xs h.0 (xs ++ more) sent l.part (ap (λ z. xs ++ z) h.1) l.split, h.3 ∙ quiet.reads)
+closing t e lines a b b' d xs more rest sent unsent l quiet Spent h = (h.2, goes_on t.context.width lines xs more l.asking l.fewer h.0, h.1, IsQuiet-trans quiet h.3)
+closing t e lines a b b' d xs more rest sent unsent l quiet Limit h = absurd h
+closing t e lines a b b' d xs more rest sent unsent l quiet Memory h = absurd h
 
 -- all that can be sent was sent, where no write failed
 whole_or_failed : (n : ℕ) (a b b' : Wire) (d : Place) (ended : Ended) (more : List Exchange) (rest unsent : Text) → a.writes ≤ b.writes → HaltsAt n b b' d ended more rest unsent
@@ -285,6 +327,7 @@ halted t e lines a b b' c d d' ahead k ended x below y =
     let before = x.count in
     let fewer : length x.served < lines = omega arith in
     let few = more-few t.context.width b b' d' ended y.more y.rest y.unsent y.halts in
+    let turns = turns_of-append x.served y.more in
     let sent = (greeting t e ++ replies_of t.attributes x.served) ++ y.sent in
     record {
       taken = x.taken ++ y.taken;
@@ -304,6 +347,6 @@ halted t e lines a b b' c d d' ahead k ended x below y =
             ∙ sym (append_assoc (greeting t e ++ replies_of t.attributes x.served) y.sent y.unsent);
         whole = whole_or_failed t.context.width a b b' d' ended y.more y.rest y.unsent x.moves.writes y.halts;
       };
-      enters = Enters-equal (sym (entries_of-append x.served y.more)) (omega arith) (Enters-trans x.enters y.enters);
-      closes = closing t e lines a b b' d' x.served y.more y.rest sent y.unsent (record { asking = x.asking; fewer = fewer; part = y.sent; split = refl }) x.moves.reads x.moves.writes ended y.halts;
+      enters = Enters-equal (sym (entries_of-append x.served y.more)) (sym turns) (Enters-trans x.enters y.enters);
+      closes = closing t e lines a b b' d' x.served y.more y.rest sent y.unsent (record { asking = x.asking; fewer = fewer; part = y.sent; split = refl }) x.quiet ended y.halts;
     }

@@ -1,6 +1,6 @@
 -- One line. Up to the first line feed the bytes are a line, if there are few enough. What it asks for decides what it may be
 -- answered: only `quit` gets `bye`, and gets nothing else.
-use Rattle.std.proofs.Common.{◌≡◌, ◌≢◌, ◌≤◌, ℕ, List, [], ◌∷◌, ◌++◌, take, length, Result, Ok, Err, refl, sym, ap, ◌∙◌, subst, append_assoc, append-nil, arith}
+use Rattle.std.proofs.Common.{inl, inr, ◌≡◌, ◌≢◌, ◌≤◌, ◌+◌, ℕ, zero, suc, Some, List, [], ◌∷◌, ◌++◌, take, length, Result, Ok, Err, refl, sym, ap, ◌∙◌, subst, append_assoc, append-nil, arith}
 use Rattle.std.specs.Io.KnownBytes.{Appends, Consumes, Keeps}
 use Rattle.std.proofs.KnownBytes.{Consumes-nil, Consumes-kept}
 use Rattle.fca_io.specs.Transfers.{AppendsFront}
@@ -14,14 +14,14 @@ use Rattle.fca_model.specs.Exploration.{SetEvent, SetEntry}
 use Rattle.fca_io.specs.declared.outside.Put.{Put}
 use Rattle.fca_io.specs.Faults.{Rose}
 use Rattle.expert_wire.specs.Texts.{line_end}
-use Rattle.expert_wire.specs.Requests.{request_form}
+use Rattle.expert_wire.specs.Requests.{TakesMemory, request_form}
 use Rattle.expert_wire.specs.declared.requests.Request.{Request}
 use Rattle.expert_wire.specs.declared.requests.Request.TheVariants.{Quit as QuitAsked}
 use Rattle.expert_wire.specs.declared.requests.RequestFault.{RequestFault}
 use Rattle.expert_sessions.specs.declared.said.Said.{Said}
 use Rattle.expert_sessions.specs.declared.said.Said.TheVariants.{Replied, Bye, BadLine, BadWidth, NoMemory}
-use Rattle.expert_sessions.specs.Lines.{Asks, Answers, Exchange, IsExchange, lines_of, replies_of, entries_of, said_line, before_last}
-use Rattle.expert_sessions.specs.Moves.{Wire, Moves}
+use Rattle.expert_sessions.specs.Lines.{Asks, LacksMemory, Answers, Exchange, IsExchange, lines_of, replies_of, entries_of, turns_of, said_line, before_last}
+use Rattle.expert_sessions.specs.Moves.{Wire, Moves, IsQuiet}
 use Rattle.expert_sessions.specs.Courses.{Writes, HasFeedAt}
 
 -- ---- answers
@@ -30,21 +30,49 @@ use Rattle.expert_sessions.specs.Courses.{Writes, HasFeedAt}
 asks-not_quit : (e : ℕ) (form : Result Request RequestFault) (event : SetEvent) → Asks e form event → form ≢ Ok QuitAsked
 asks-not_quit e form event h q = subst (λ f. Asks e f event) q h
 
--- only `quit` gets `bye`
-pub not_bye : (e : ℕ) (form : Result Request RequestFault) (said : Said) (made : List SetEntry) → Answers e form said made → said ≢ Bye → form ≢ Ok QuitAsked
-not_bye e form (Replied reply) made h n = asks-not_quit e form h.0 h.1
-not_bye e form Bye made h n = absurd (n refl)
-not_bye e form BadLine made h n = λ q. let p = h.0 in cc
-not_bye e form BadWidth made h n = λ q. let p = h.0 in cc
-not_bye e form NoMemory made h n = h.0
+-- `quit` takes no memory
+lacks-not_quit : (e : ℕ) (form : Result Request RequestFault) (turns : ℕ) → LacksMemory e form turns → form ≢ Ok QuitAsked
+lacks-not_quit e form turns h = elim h as (λ _. form ≢ Ok QuitAsked) [
+  | inl asked ↦ asks-not_quit e form asked.0 asked.1
+  | inr unread ↦ (λ q. subst TakesMemory q unread.0)
+]
 
-pub bye_quits : (e : ℕ) (form : Result Request RequestFault) (said : Said) (made : List SetEntry) → Answers e form said made → said ≡ Bye → form ≡ Ok QuitAsked
-bye_quits e form said made h b = let q : Answers e form Bye made = subst (λ s. Answers e form s made) b h in q.0
+-- only `quit` gets `bye`
+pub not_bye : (e : ℕ) (form : Result Request RequestFault) (said : Said) (made : List SetEntry) (turns : ℕ) → Answers e form said made turns → said ≢ Bye → form ≢ Ok QuitAsked
+not_bye e form (Replied reply) made turns h n = asks-not_quit e form h.0 h.1
+not_bye e form Bye made turns h n = absurd (n refl)
+not_bye e form BadLine made turns h n = λ q. let p = h.0 in cc
+not_bye e form BadWidth made turns h n = λ q. let p = h.0 in cc
+not_bye e form NoMemory made turns h n = lacks-not_quit e form turns h.0
+
+pub bye_quits : (e : ℕ) (form : Result Request RequestFault) (said : Said) (made : List SetEntry) (turns : ℕ) → Answers e form said made turns → said ≡ Bye → form ≡ Ok QuitAsked
+bye_quits e form said made turns h b = let q : Answers e form Bye made turns = subst (λ s. Answers e form s made turns) b h in q.0
+
+-- a line takes one turn at most
+lacks-few : (e : ℕ) (form : Result Request RequestFault) (turns : ℕ) → LacksMemory e form turns → turns ≤ 1
+lacks-few e form turns h = elim h as (λ _. turns ≤ 1) [
+  | inl asked ↦ (let one = asked.2 in omega arith)
+  | inr unread ↦ (let none = unread.1 in omega arith)
+]
+
+answers-few : (e : ℕ) (form : Result Request RequestFault) (said : Said) (made : List SetEntry) (turns : ℕ) → Answers e form said made turns → turns ≤ 1
+answers-few e form (Replied reply) made turns h = let one = h.3 in omega arith
+answers-few e form Bye made turns h = let none = h.2 in omega arith
+answers-few e form BadLine made turns h = let none = h.2 in omega arith
+answers-few e form BadWidth made turns h = let none = h.2 in omega arith
+answers-few e form NoMemory made turns h = lacks-few e form turns h.0
+
+pub turns_of-few : (n e : ℕ) (xs : List Exchange) → All (IsExchange n e) xs → turns_of xs ≤ length xs
+turns_of-few n e [] h = omega arith
+turns_of-few n e (x ∷ xs) h =
+    let first = answers-few e (request_form x.line n) x.said x.made x.turns (All-head (IsExchange n e) x xs h).answered in
+    let others = turns_of-few n e xs (All-tail (IsExchange n e) x xs h) in
+    omega arith
 
 -- the bytes before the first line feed are a line that was answered
-pub is-exchange : (n e : ℕ) (bytes : Text) (at : ℕ) (said : Said) (made : List SetEntry) → HasFeedAt bytes at → at ≤ LINE_BYTES → Answers e (request_form (take at bytes) n) said made
-    → IsExchange n e (record { line = take at bytes; said = said; made = made })
-is-exchange n e bytes at said made feed few answered = record {
+pub is-exchange : (n e : ℕ) (bytes : Text) (at : ℕ) (said : Said) (made : List SetEntry) (turns : ℕ) → HasFeedAt bytes at → at ≤ LINE_BYTES → Answers e (request_form (take at bytes) n) said made turns
+    → IsExchange n e (record { line = take at bytes; said = said; made = made; turns = turns })
+is-exchange n e bytes at said made turns feed few answered = record {
   short = let long = length-take at bytes in let low = min-le_left at (length bytes) in omega arith;
   unbroken = feed.unbroken;
   answered = answered;
@@ -63,6 +91,10 @@ replies_of-append attributes (x ∷ xs) ys = ap (λ z. said_line attributes x.sa
 pub entries_of-append : (xs ys : List Exchange) → entries_of (xs ++ ys) ≡ entries_of xs ++ entries_of ys
 entries_of-append [] ys = refl
 entries_of-append (x ∷ xs) ys = ap (λ z. x.made ++ z) (entries_of-append xs ys) ∙ sym (append_assoc x.made (entries_of xs) (entries_of ys))
+
+pub turns_of-append : (xs ys : List Exchange) → turns_of (xs ++ ys) ≡ turns_of xs + turns_of ys
+turns_of-append [] ys = omega arith
+turns_of-append (x ∷ xs) ys = let others = turns_of-append xs ys in omega arith
 
 pub before_last-snoc : (xs : List Exchange) (x : Exchange) → before_last (xs ++ x ∷ []) ≡ xs
 before_last-snoc [] x = refl
@@ -84,27 +116,35 @@ pub sent_whole : {a b : Wire} {text : Text} (r : Result (Unit {0}) Put) → Writ
 sent_whole {a} {b} {text} (Ok u) w e = subst (λ z. Moves a b [] z) (sym (w.split ∙ ap (λ z. w.sent ++ z) w.whole ∙ append-nil w.sent)) w.moves
 sent_whole (Err x) w e = cc
 
+pub sent_quiet : {a b : Wire} {text : Text} (r : Result (Unit {0}) Put) → Writes a b text r → is_err r ≡ false → IsQuiet a b
+sent_quiet (Ok u) w e = record { reads = w.reads; writes = w.quiet }
+sent_quiet (Err x) w e = cc
+
 pub write_rose : {a b : Wire} {text : Text} (r : Result (Unit {0}) Put) → Writes a b text r → is_err r ≡ true → Rose a.writes b.writes
 write_rose (Ok u) w e = cc
 write_rose (Err x) w e = w.failed
 
 -- a call that writes leaves alone what stands beside a sink: at an end that is what is left to read
 pub writes-from : (a b : Wire) (text : Text) (r : Result (Unit {0}) Put) (other other' : Option Text) (aside aside' : ℕ)
-    → OnOk r (Appends a.held b.held text) → AppendsFront a.held b.held text → OnErr r (Rose a.writes b.writes) → a.writes ≤ b.writes → Keeps other other' → aside' ≡ aside
+    → OnOk r (Appends a.held b.held text) → AppendsFront a.held b.held text → OnOk r (b.writes ≡ a.writes) → OnErr r (Rose a.writes b.writes) → a.writes ≤ b.writes → Keeps other other' → aside' ≡ aside
     → other ≡ a.left → other' ≡ b.left → aside ≡ a.reads → aside' ≡ b.reads → Writes a b text r
-writes-from a b text (Ok u) other other' aside aside' whole front failed later keeps same p q u' v = record {
+writes-from a b text (Ok u) other other' aside aside' whole front quiet failed later keeps same p q u' v = record {
   sent = text;
   unsent = [];
   split = sym (append-nil text);
   moves = record { lost = subst (λ z. Consumes a.left z []) q (subst (λ z. Consumes z other' []) p (Consumes-kept other other other' [] (Consumes-nil other) keeps)); gained = whole; reads = omega arith; writes = later };
   whole = refl;
+  quiet = quiet;
   failed = tt;
+  reads = sym v ∙ same ∙ u';
 }
-writes-from a b text (Err e) other other' aside aside' whole front failed later keeps same p q u' v = record {
+writes-from a b text (Err e) other other' aside aside' whole front quiet failed later keeps same p q u' v = record {
   sent = front.front;
   unsent = front.rest;
   split = front.whole;
   moves = record { lost = subst (λ z. Consumes a.left z []) q (subst (λ z. Consumes z other' []) p (Consumes-kept other other other' [] (Consumes-nil other) keeps)); gained = front.gained; reads = omega arith; writes = later };
   whole = tt;
+  quiet = tt;
   failed = failed;
+  reads = sym v ∙ same ∙ u';
 }

@@ -1,13 +1,14 @@
 -- Moves join on: what two calls took is the one behind the other, and so is what they sent; counts that never fall in one call
--- never fall in two; and the turns that two parts take are at most both numbers together.
-use Rattle.std.proofs.Common.{◌≡◌, ◌≤◌, ℕ, ◌+◌, ◌-◌, ◌^◌, List, [], ◌++◌, Option, Some, None, refl, sym, ap, ◌∙◌, subst, append_assoc, append-nil, arith}
+-- never fall in two, and those that one call leaves as they were two calls leave so; and the turns that two parts take are both
+-- numbers together.
+use Rattle.std.proofs.Common.{◌≡◌, ◌≢◌, ◌≤◌, ℕ, zero, suc, ◌+◌, ◌-◌, ◌^◌, List, [], ◌++◌, Option, Some, None, refl, sym, ap, ◌∙◌, subst, append_assoc, append-nil, arith}
 use Rattle.std.proofs.Math.Nat.{min-le_left, min-le_right, le-min}
 use Rattle.std.proofs.KnownBytes.{Appends-nil, Appends-trans, Consumes-nil, Consumes-trans}
 use Rattle.fca_io.specs.Faults.{Rose, one_more}
 use Rattle.fca_model.specs.Tables.{Text}
 use Rattle.fca_model.specs.Exploration.{SetEntry}
 use Rattle.expert_gate.specs.Desks.{one_less}
-use Rattle.expert_sessions.specs.Moves.{Wire, Moves, Place, Enters, TakesAtMost}
+use Rattle.expert_sessions.specs.Moves.{Wire, Moves, IsQuiet, Place, Enters, Takes, TakesAtMost}
 
 pub Rose-later : (a b c : ℕ) → a ≤ b → Rose b c → Rose a c
 Rose-later a b c h r =
@@ -30,34 +31,57 @@ Moves-trans x y = record {
 pub Moves-equal : {a b : Wire} {t t' s s' : Text} → t ≡ t' → s ≡ s' → Moves a b t s → Moves a b t' s'
 Moves-equal {a} {b} {t} {t'} {s} {s'} p q x = subst (λ z. Moves a b t' z) q (subst (λ z. Moves a b z s) p x)
 
-pub TakesAtMost-more : (k l : ℕ) (x y : Option ℕ) → k ≤ l → TakesAtMost k x y → TakesAtMost l x y
-TakesAtMost-more k l None y h p = p
-TakesAtMost-more k l (Some n) y h p = let q = p.2 in (p.0, p.1, omega arith)
+pub IsQuiet-nil : (a : Wire) → IsQuiet a a
+IsQuiet-nil a = record { reads = refl; writes = refl }
 
-pub TakesAtMost-trans : (k l : ℕ) (x y z : Option ℕ) → TakesAtMost k x y → TakesAtMost l y z → TakesAtMost (k + l) x z
-TakesAtMost-trans k l None y z p q = subst (λ o. TakesAtMost l o z) p q
-TakesAtMost-trans k l (Some n) y z p q =
-    let r : TakesAtMost l (Some p.0) z = subst (λ o. TakesAtMost l o z) p.1 q in
+pub IsQuiet-trans : {a b c : Wire} → IsQuiet a b → IsQuiet b c → IsQuiet a c
+IsQuiet-trans x y = record { reads = y.reads ∙ x.reads; writes = y.writes ∙ x.writes }
+
+-- ---- turns
+
+pub Takes-nil : (x : Option ℕ) → Takes 0 x x
+Takes-nil None = refl
+Takes-nil (Some n) = (n, refl, omega arith)
+
+pub Takes-trans : (k l : ℕ) (x y z : Option ℕ) → Takes k x y → Takes l y z → Takes (k + l) x z
+Takes-trans k l None y z p q = subst (λ o. Takes l o z) p q
+Takes-trans k l (Some n) y z p q =
+    let r : Takes l (Some p.0) z = subst (λ o. Takes l o z) p.1 q in
     let first = p.2 in
     let second = r.2 in
     (r.0, r.1, omega arith)
 
-pub one_less-taken : (x y : Option ℕ) → y ≡ one_less x → TakesAtMost 1 x y
-one_less-taken None y e = e
-one_less-taken (Some n) y e = (n - 1, e, omega arith)
+pub Takes-few : (k l : ℕ) (x y : Option ℕ) → Takes k x y → k ≤ l → TakesAtMost l x y
+Takes-few k l None y p h = p
+Takes-few k l (Some n) y p h = let all = p.2 in (p.0, p.1, omega arith)
 
-pub Enters-nil : (c : Place) (k : ℕ) → Enters c c [] k
-Enters-nil c k = record { added = sym (append-nil c.entries); turns = stays c.turns }
-  where
-    stays : (x : Option ℕ) → TakesAtMost k x x
-    stays None = refl
-    stays (Some n) = (n, refl, omega arith)
+-- a turn that was left
+pub one_less-taken : (x y : Option ℕ) → y ≡ one_less x → x ≢ Some 0 → Takes 1 x y
+one_less-taken None y e some = e
+one_less-taken (Some zero) y e some = absurd (some refl)
+one_less-taken (Some (suc n)) y e some = let one : suc n - 1 ≡ n = omega arith in (n, e ∙ ap Some one, omega arith)
+
+-- where none was left
+pub one_less-none : (x y : Option ℕ) → y ≡ one_less x → x ≡ Some 0 → (y ≡ Some 0) × Takes 0 x y
+one_less-none x y e none =
+    let still : y ≡ Some 0 = e ∙ ap one_less none in
+    (still, subst (λ o. Takes 0 x o) (none ∙ sym still) (Takes-nil x))
+
+-- a call more takes at most one more
+pub leave-few : (x y z : Option ℕ) (k : ℕ) → TakesAtMost k x y → z ≡ one_less y → TakesAtMost (k + 1) x z
+leave-few None y z k p e = e ∙ ap one_less p
+leave-few (Some n) y z k p e =
+    let bound = p.2 in
+    (p.0 - 1, e ∙ ap one_less p.1, omega arith)
+
+pub Enters-nil : (c : Place) → Enters c c [] 0
+Enters-nil c = record { added = sym (append-nil c.entries); turns = Takes-nil c.turns }
 
 pub Enters-trans : {c d f : Place} {m m' : List SetEntry} {k l : ℕ} → Enters c d m k → Enters d f m' l → Enters c f (m ++ m') (k + l)
 Enters-trans {c} {d} {f} {m} {m'} {k} {l} x y = record {
   added = y.added ∙ ap (λ z. z ++ m') x.added ∙ append_assoc c.entries m m';
-  turns = TakesAtMost-trans k l c.turns d.turns f.turns x.turns y.turns;
+  turns = Takes-trans k l c.turns d.turns f.turns x.turns y.turns;
 }
 
-pub Enters-equal : {c d : Place} {m m' : List SetEntry} {k l : ℕ} → m ≡ m' → k ≤ l → Enters c d m k → Enters c d m' l
-Enters-equal {c} {d} {m} {m'} {k} {l} e h x = record { added = x.added ∙ ap (λ z. c.entries ++ z) e; turns = TakesAtMost-more k l c.turns d.turns h x.turns }
+pub Enters-equal : {c d : Place} {m m' : List SetEntry} {k l : ℕ} → m ≡ m' → k ≡ l → Enters c d m k → Enters c d m' l
+Enters-equal {c} {d} {m} {m'} {k} {l} e h x = subst (Enters c d m') h (subst (λ z. Enters c d z k) e x)

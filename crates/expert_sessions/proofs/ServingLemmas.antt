@@ -11,31 +11,32 @@ use Rattle.explore_state.specs.History.{Opening}
 use Rattle.turn_lock.specs.Passes.{Known, Badge, Lock, Belongs, IsFresh, TableId, badge, badges, roll}
 use Rattle.expert_gate.specs.Turns.{HasClosed}
 use Rattle.expert_sessions.specs.declared.ended.Ended.{Ended}
-use Rattle.expert_sessions.specs.Moves.{Wire, TakesAtMost, HasTalked}
-use Rattle.expert_sessions.specs.Serving.{IsReady, EachSeat, HasSat, EachTalks}
+use Rattle.expert_sessions.specs.Moves.{Wire, Place, TakesAtMost}
+use Rattle.expert_sessions.specs.Talks.{HasTalked}
+use Rattle.expert_sessions.specs.Serving.{IsReady, EachSeat, HasSat, EachTalks, entered}
 use Rattle.expert_sessions.specs.declared.seats.Seat.{Seat}
-use Rattle.expert_sessions.proofs.TalkLemmas.{never_spent}
+use Rattle.expert_sessions.proofs.TalkLemmas.{untold}
 
 -- ---- one session
 
 pub at_pass : (t : NamedContext) (e lines : ℕ) (a b : Wire) (p q r : Known Opening SetEntry) (gate : Lock Opening) (ended : Ended)
-    → HasTalked t e lines a b p.own q.own ended (Some (q.turns - q.made) ≡ Some 0) → TakesAtMost (lines + 1) (Some (p.turns - p.made)) (Some (q.turns - q.made))
-    → Belongs gate p → IsFresh p → Some (badge q) ≡ Some (badge p) → e ≡ p.number → lines + 1 < gate.turns → r ≡ q → HasTalked t r.number lines a b [] r.own ended ⊥
+    → HasTalked t e lines a b (record { entries = p.own; turns = Some (p.turns - p.made) }) (record { entries = q.own; turns = Some (q.turns - q.made) }) ended → TakesAtMost (lines + 1) (Some (p.turns - p.made)) (Some (q.turns - q.made))
+    → Belongs gate p → IsFresh p → Some (badge q) ≡ Some (badge p) → e ≡ p.number → lines + 1 < gate.turns → r ≡ q → HasTalked t r.number lines a b (entered []) (entered r.own) ended
 at_pass t e lines a b p q r gate ended x taken belongs fresh same number few is =
     let number_is : e ≡ r.number = number ∙ sym (let badges : badge q ≡ badge p = cc in ap (λ (k : Badge Opening). k.number) badges) ∙ sym (ap (λ (k : Known Opening SetEntry). k.number) is) in
     let own_is : q.own ≡ r.own = sym (ap (λ (k : Known Opening SetEntry). k.own) is) in
     let none : p.own ≡ [] = fresh.1 in
-    let y : HasTalked t r.number lines a b [] r.own ended (Some (q.turns - q.made) ≡ Some 0) =
-    subst (λ n. HasTalked t n lines a b [] r.own ended (Some (q.turns - q.made) ≡ Some 0)) number_is
-    (subst (λ es. HasTalked t e lines a b es r.own ended (Some (q.turns - q.made) ≡ Some 0)) none
-    (subst (λ es. HasTalked t e lines a b p.own es ended (Some (q.turns - q.made) ≡ Some 0)) own_is x)) in
-    never_spent t r.number lines a b [] r.own ended (Some (q.turns - q.made) ≡ Some 0) y
+    let y : HasTalked t e lines a b (entered p.own) (entered q.own) ended =
+    untold t e lines a b (record { entries = p.own; turns = Some (p.turns - p.made) }) (record { entries = q.own; turns = Some (q.turns - q.made) }) ended x
     (λ spent.
     let left : taken.0 ≡ 0 = (let was = taken.1 in cc) in
     let turns = belongs.turns in
     let made = fresh.2 in
     let most = taken.2 in
-    absurd (omega arith))
+    absurd (omega arith)) in
+    subst (λ n. HasTalked t n lines a b (entered []) (entered r.own) ended) number_is
+    (subst (λ es. HasTalked t e lines a b (entered es) (entered r.own) ended) none
+    (subst (λ es. HasTalked t e lines a b (entered p.own) (entered es) ended) own_is y))
 
 -- ---- all sessions
 
@@ -93,7 +94,7 @@ module _ {E : Type 0} (left held : E → Option Text) (reads writes : E → ℕ)
   each_talks H k (old ∷ olds) [] numbers own_is h = absurd h
   each_talks H k (old ∷ olds) (new ∷ news) numbers own_is h =
       let entries : new.pass.own ≡ own H k = sym (All-head (λ p. own H p.number ≡ p.own) new.pass (passes news) own_is) ∙ ap (own H) numbers.0 in (
-        subst (λ es. HasTalked t k lines (wire old.end) (wire new.end) [] es new.ended ⊥) entries (subst (λ n. HasTalked t n lines (wire old.end) (wire new.end) [] new.pass.own new.ended ⊥) numbers.0 h.0.talk),
+        subst (λ es. HasTalked t k lines (wire old.end) (wire new.end) (entered []) (entered es) new.ended) entries (subst (λ n. HasTalked t n lines (wire old.end) (wire new.end) (entered []) (entered new.pass.own) new.ended) numbers.0 h.0.talk),
         each_talks H (suc k) olds news numbers.1 (All-tail (λ p. own H p.number ≡ p.own) new.pass (passes news) own_is) h.1,
       )
 

@@ -1,44 +1,52 @@
 -- A session whose lines are served leaves its desk. With the leave, or where memory or turns are wanting without it, what was taken,
 -- made and sent is a talk.
-use Rattle.std.proofs.Common.{◌≡◌, ◌≢◌, ℕ, List, [], ◌∷◌, ◌++◌, Some, refl, sym, ap, ◌∙◌, subst, append_assoc, append-nil, inl, inr}
-use Rattle.std.specs.Io.KnownBytes.{IsAtEnd}
-use Rattle.fca_io.specs.Faults.{Rose}
+use Rattle.std.proofs.Common.{◌≡◌, ◌≢◌, ◌≤◌, ℕ, ◌+◌, List, [], ◌∷◌, ◌++◌, Some, None, refl, sym, ap, ◌∙◌, subst, append-nil, inl, inr, arith}
 use Rattle.fca_model.specs.Tables.{Text, NamedContext}
 use Rattle.fca_model.specs.declared.Event.TheVariants.{Leave}
 use Rattle.fca_model.specs.Exploration.{SetReply, SetEntry}
 use Rattle.expert_sessions.specs.declared.ended.Ended.{Ended}
 use Rattle.expert_sessions.specs.declared.ended.Ended.TheVariants.{Quit, EndOfInput, ReadFault, WriteFault, LongLine, Limit, Spent, Memory}
-use Rattle.expert_sessions.specs.Lines.{Exchange, entries_of}
-use Rattle.expert_sessions.specs.Talks.{Stops, Ends, AndLeaves, Makes, Talk}
-use Rattle.expert_sessions.specs.Moves.{Wire, Place, HasTalked}
+use Rattle.expert_sessions.specs.Lines.{Exchange, entries_of, turns_of}
+use Rattle.expert_sessions.specs.Talks.{Stops, Ends, AndLeaves, Makes, Talk, HasTalked}
+use Rattle.expert_sessions.specs.Moves.{Wire, Place, Enters, Takes, TakesAtMost}
 use Rattle.expert_sessions.specs.Courses.{Closes, HasServed}
-use Rattle.expert_sessions.proofs.MoveLemmas.{Moves-nil}
+use Rattle.expert_sessions.proofs.MoveLemmas.{Moves-nil, IsQuiet-nil, Enters-nil, Takes-few, Enters-trans, Enters-equal}
+use Rattle.expert_sessions.proofs.LineLemmas.{turns_of-few}
 
 -- there was no room for a line
-pub refused : (t : NamedContext) (e lines : ℕ) (a : Wire) (c : Place) (spent : Type 0) → HasTalked t e lines a a c.entries c.entries Memory spent
-refused t e lines a c spent = record {
+pub refused : (t : NamedContext) (e lines : ℕ) (a : Wire) (c : Place) → HasTalked t e lines a a c c Memory
+refused t e lines a c = record {
   taken = [];
   made = [];
+  turns = 0;
   sent = [];
   moves = Moves-nil a;
-  entries = sym (append-nil c.entries);
-  talk = inl (record { nothing_taken = refl; nothing_made = refl; nothing_sent = refl; ending = refl });
+  enters = Enters-nil c;
+  talk = inl (record { nothing_taken = refl; nothing_made = refl; no_turn = refl; nothing_sent = refl; quiet = IsQuiet-nil a; ending = refl });
 }
 
 -- no turn was left for a line
-pub spent_early : (t : NamedContext) (e lines : ℕ) (a b : Wire) (c d : Place) (ended : Ended) → HasServed t e lines a b c d ended → ended ≡ Spent → HasTalked t e lines a b c.entries d.entries Spent (d.turns ≡ Some 0)
+pub spent_early : (t : NamedContext) (e lines : ℕ) (a b : Wire) (c d : Place) (ended : Ended) → HasServed t e lines a b c d ended → ended ≡ Spent → HasTalked t e lines a b c d Spent
 spent_early t e lines a b c d ended y is = let x : HasServed t e lines a b c d Spent = subst (λ z. HasServed t e lines a b c d z) is y in record {
   taken = x.taken;
   made = entries_of x.course.served;
+  turns = turns_of x.course.served;
   sent = x.sent;
   moves = x.moves;
-  entries = x.enters.added;
-  talk = inr (record { course = x.course; entries = refl; ending = x.closes });
+  enters = x.enters;
+  talk = inr (record { course = x.course; entries = (refl, refl); ending = (x.closes.0, inl (x.closes.1, x.closes.2, x.closes.3)) });
 }
+
+-- a line takes one turn at most
+pub served-few : {t : NamedContext} {e lines : ℕ} {a b : Wire} {c d : Place} {ended : Ended} (k : ℕ) → lines ≤ k → HasServed t e lines a b c d ended → TakesAtMost k c.turns d.turns
+served-few {t} {e} {lines} {a} {b} {c} {d} k h x =
+    let each = turns_of-few t.context.width e x.course.served x.course.each in
+    let few = x.course.few in
+    Takes-few (turns_of x.course.served) k c.turns d.turns x.enters.turns (omega arith)
 
 -- the reason lies not in the desk
 stops : (t : NamedContext) (e lines : ℕ) (a b : Wire) (d : Place) (ended : Ended) (served : List Exchange) (rest sent unsent : Text) → ended ≢ Spent
-    → Closes t e lines a b d ended served rest sent unsent → Stops t e lines (IsAtEnd b.left) (Rose a.reads b.reads) (Rose a.writes b.writes) ended served rest sent unsent
+    → Closes t e lines a b d ended served rest sent unsent → Stops t e lines a b ended served rest sent unsent
 stops t e lines a b d Quit served rest sent unsent n h = h
 stops t e lines a b d EndOfInput served rest sent unsent n h = h
 stops t e lines a b d ReadFault served rest sent unsent n h = h
@@ -48,88 +56,100 @@ stops t e lines a b d Limit served rest sent unsent n h = h
 stops t e lines a b d Spent served rest sent unsent n h = absurd (n refl)
 stops t e lines a b d Memory served rest sent unsent n h = h
 
-module _ (t : NamedContext) (e lines : ℕ) (at_end read_failed write_failed spent : Type 0) where
-  ends : (ended : Ended) (served : List Exchange) (rest sent unsent : Text) → Stops t e lines at_end read_failed write_failed ended served rest sent unsent
-      → Ends t e lines at_end read_failed write_failed spent ended served rest sent unsent
-  ends Quit served rest sent unsent h = h
-  ends EndOfInput served rest sent unsent h = h
-  ends ReadFault served rest sent unsent h = h
-  ends WriteFault served rest sent unsent h = h
-  ends LongLine served rest sent unsent h = h
-  ends Limit served rest sent unsent h = h
-  ends Spent served rest sent unsent h = absurd h
-  ends Memory served rest sent unsent h = absurd h
+module _ (t : NamedContext) (e lines : ℕ) (a b : Wire) where
+  ends : (d : Place) (ended : Ended) (served : List Exchange) (rest sent unsent : Text) → Stops t e lines a b ended served rest sent unsent → Ends t e lines a b d ended served rest sent unsent
+  ends d Quit served rest sent unsent h = h
+  ends d EndOfInput served rest sent unsent h = h
+  ends d ReadFault served rest sent unsent h = h
+  ends d WriteFault served rest sent unsent h = h
+  ends d LongLine served rest sent unsent h = h
+  ends d Limit served rest sent unsent h = h
+  ends d Spent served rest sent unsent h = absurd h
+  ends d Memory served rest sent unsent h = absurd h
 
-  makes : (ended : Ended) (served : List Exchange) (rest sent unsent : Text) (made entries : List SetEntry) → Stops t e lines at_end read_failed write_failed ended served rest sent unsent
-      → AndLeaves e entries made → Makes e ended entries made
-  makes Quit served rest sent unsent made entries h l = l
-  makes EndOfInput served rest sent unsent made entries h l = l
-  makes ReadFault served rest sent unsent made entries h l = l
-  makes WriteFault served rest sent unsent made entries h l = l
-  makes LongLine served rest sent unsent made entries h l = l
-  makes Limit served rest sent unsent made entries h l = l
-  makes Spent served rest sent unsent made entries h l = absurd h
-  makes Memory served rest sent unsent made entries h l = absurd h
+  makes : (ended : Ended) (served : List Exchange) (rest sent unsent : Text) (entries made : List SetEntry) (k : ℕ) → Stops t e lines a b ended served rest sent unsent
+      → AndLeaves e entries made → Makes e ended entries k made (k + 1)
+  makes Quit served rest sent unsent entries made k h l = (l, refl)
+  makes EndOfInput served rest sent unsent entries made k h l = (l, refl)
+  makes ReadFault served rest sent unsent entries made k h l = (l, refl)
+  makes WriteFault served rest sent unsent entries made k h l = (l, refl)
+  makes LongLine served rest sent unsent entries made k h l = (l, refl)
+  makes Limit served rest sent unsent entries made k h l = (l, refl)
+  makes Spent served rest sent unsent entries made k h l = absurd h
+  makes Memory served rest sent unsent entries made k h l = absurd h
 
 -- the expert left
-pub left : (t : NamedContext) (e lines : ℕ) (a b : Wire) (c d d' : Place) (ended : Ended) (reply : SetReply) (spent : Type 0) (n : ℕ) → n ≡ e → HasServed t e lines a b c d ended → ended ≢ Spent
-    → d'.entries ≡ d.entries ++ record { event = Leave n; reply = reply } ∷ [] → HasTalked t e lines a b c.entries d'.entries ended spent
-left t e lines a b c d d' ended reply spent number same x n added' =
+pub left : (t : NamedContext) (e lines : ℕ) (a b : Wire) (c d d' : Place) (ended : Ended) (reply : SetReply) (n : ℕ) → n ≡ e → HasServed t e lines a b c d ended → ended ≢ Spent
+    → d'.entries ≡ d.entries ++ record { event = Leave n; reply = reply } ∷ [] → Takes 1 d.turns d'.turns → HasTalked t e lines a b c d' ended
+left t e lines a b c d d' ended reply n same x unspent added' turn =
     let entries = entries_of x.course.served in
-    let why = stops t e lines a b d ended x.course.served x.course.rest x.sent x.course.unsent n x.closes in
+    let why = stops t e lines a b d ended x.course.served x.course.rest x.sent x.course.unsent unspent x.closes in
     let leave : SetEntry = record { event = Leave e; reply = reply } in
     let added : d'.entries ≡ d.entries ++ leave ∷ [] = added' ∙ ap (λ (m : ℕ). d.entries ++ record { event = Leave m; reply = reply } ∷ []) same in
+    let leaves : Enters d d' (leave ∷ []) 1 = record { added = added; turns = turn } in
     record {
       taken = x.taken;
       made = entries ++ leave ∷ [];
+      turns = turns_of x.course.served + 1;
       sent = x.sent;
       moves = x.moves;
-      entries = added ∙ ap (λ z. z ++ leave ∷ []) x.enters.added ∙ append_assoc c.entries entries (leave ∷ []);
+      enters = Enters-trans x.enters leaves;
       talk = inr (record {
         course = x.course;
-        entries = makes t e lines (IsAtEnd b.left) (Rose a.reads b.reads) (Rose a.writes b.writes) spent ended x.course.served x.course.rest x.sent x.course.unsent (entries ++ leave ∷ []) entries why (reply, refl);
-        ending = ends t e lines (IsAtEnd b.left) (Rose a.reads b.reads) (Rose a.writes b.writes) spent ended x.course.served x.course.rest x.sent x.course.unsent why;
+        entries = makes t e lines a b ended x.course.served x.course.rest x.sent x.course.unsent entries (entries ++ leave ∷ []) (turns_of x.course.served) why (reply, refl);
+        ending = ends t e lines a b d' ended x.course.served x.course.rest x.sent x.course.unsent why;
       });
     }
 
 -- no turn was left to leave
-pub spent_late : (t : NamedContext) (e lines : ℕ) (a b : Wire) (c d d' : Place) (ended : Ended) (spent : Type 0) → HasServed t e lines a b c d ended → d'.entries ≡ d.entries → spent
-    → HasTalked t e lines a b c.entries d'.entries Spent spent
-spent_late t e lines a b c d d' ended spent x same s = record {
-  taken = x.taken;
-  made = entries_of x.course.served;
-  sent = x.sent;
-  moves = x.moves;
-  entries = same ∙ x.enters.added;
-  talk = inr (record { course = x.course; entries = refl; ending = s });
-}
+pub spent_late : (t : NamedContext) (e lines : ℕ) (a b : Wire) (c d d' : Place) (ended : Ended) → HasServed t e lines a b c d ended → ended ≢ Spent → d'.entries ≡ d.entries
+    → (d'.turns ≡ Some 0) × Takes 0 d.turns d'.turns → HasTalked t e lines a b c d' Spent
+spent_late t e lines a b c d d' ended x unspent same none =
+    let nothing : Enters d d' [] 0 = record { added = same ∙ sym (append-nil d.entries); turns = none.1 } in
+    record {
+      taken = x.taken;
+      made = entries_of x.course.served;
+      turns = turns_of x.course.served;
+      sent = x.sent;
+      moves = x.moves;
+      enters = Enters-equal (append-nil (entries_of x.course.served)) (omega arith) (Enters-trans x.enters nothing);
+      talk = inr (record {
+        course = x.course;
+        entries = (refl, refl);
+        ending = (none.0, inr (ended, stops t e lines a b d ended x.course.served x.course.rest x.sent x.course.unsent unspent x.closes));
+      });
+    }
 
 -- there was no memory to leave
-pub unremembered : (t : NamedContext) (e lines : ℕ) (a b : Wire) (c d d' : Place) (ended : Ended) (spent : Type 0) → HasServed t e lines a b c d ended → ended ≢ Spent → d'.entries ≡ d.entries
-    → HasTalked t e lines a b c.entries d'.entries Memory spent
-unremembered t e lines a b c d d' ended spent x n same = record {
-  taken = x.taken;
-  made = entries_of x.course.served;
-  sent = x.sent;
-  moves = x.moves;
-  entries = same ∙ x.enters.added;
-  talk = inr (record {
-    course = x.course;
-    entries = refl;
-    ending = (ended, stops t e lines a b d ended x.course.served x.course.rest x.sent x.course.unsent n x.closes);
-  });
-}
+pub unremembered : (t : NamedContext) (e lines : ℕ) (a b : Wire) (c d d' : Place) (ended : Ended) → HasServed t e lines a b c d ended → ended ≢ Spent → d'.entries ≡ d.entries
+    → Takes 1 d.turns d'.turns → HasTalked t e lines a b c d' Memory
+unremembered t e lines a b c d d' ended x unspent same turn =
+    let nothing : Enters d d' [] 1 = record { added = same ∙ sym (append-nil d.entries); turns = turn } in
+    record {
+      taken = x.taken;
+      made = entries_of x.course.served;
+      turns = turns_of x.course.served + 1;
+      sent = x.sent;
+      moves = x.moves;
+      enters = Enters-equal (append-nil (entries_of x.course.served)) refl (Enters-trans x.enters nothing);
+      talk = inr (record {
+        course = x.course;
+        entries = (refl, refl);
+        ending = (ended, stops t e lines a b d ended x.course.served x.course.rest x.sent x.course.unsent unspent x.closes);
+      });
+    }
 
--- where turns are never wanting, no talk ends for want of them
-pub never_spent : (t : NamedContext) (e lines : ℕ) (a b : Wire) (old new : List SetEntry) (ended : Ended) (spent : Type 0) → HasTalked t e lines a b old new ended spent → (spent → ⊥)
-    → HasTalked t e lines a b old new ended ⊥
-never_spent t e lines a b old new ended spent x never = record {
+-- where turns are not told, and were never wanting, no talk ends for want of them
+pub untold : (t : NamedContext) (e lines : ℕ) (a b : Wire) (c d : Place) (ended : Ended) → HasTalked t e lines a b c d ended → (d.turns ≡ Some 0 → ⊥)
+    → HasTalked t e lines a b (record { entries = c.entries; turns = None }) (record { entries = d.entries; turns = None }) ended
+untold t e lines a b c d ended x never = record {
   taken = x.taken;
   made = x.made;
+  turns = x.turns;
   sent = x.sent;
   moves = x.moves;
-  entries = x.entries;
-  talk = elim x.talk as (λ _. Talk t e lines x.taken x.made x.sent ended (IsAtEnd b.left) (Rose a.reads b.reads) (Rose a.writes b.writes) ⊥) [
+  enters = record { added = x.enters.added; turns = refl };
+  talk = elim x.talk as (λ _. Talk t e lines a b (record { entries = d.entries; turns = None }) x.taken x.made x.turns x.sent ended) [
     | inl none ↦ inl none
     | inr served ↦ inr (record {
       course = served.course;
@@ -139,13 +159,13 @@ never_spent t e lines a b old new ended spent x never = record {
   ];
 }
   where
-    kept : (ended : Ended) (served : List Exchange) (rest sent unsent : Text) → Ends t e lines (IsAtEnd b.left) (Rose a.reads b.reads) (Rose a.writes b.writes) spent ended served rest sent unsent
-        → Ends t e lines (IsAtEnd b.left) (Rose a.reads b.reads) (Rose a.writes b.writes) ⊥ ended served rest sent unsent
+    kept : (ended : Ended) (served : List Exchange) (rest sent unsent : Text) → Ends t e lines a b d ended served rest sent unsent
+        → Ends t e lines a b (record { entries = d.entries; turns = None }) ended served rest sent unsent
     kept Quit served rest sent unsent h = h
     kept EndOfInput served rest sent unsent h = h
     kept ReadFault served rest sent unsent h = h
     kept WriteFault served rest sent unsent h = h
     kept LongLine served rest sent unsent h = h
     kept Limit served rest sent unsent h = h
-    kept Spent served rest sent unsent h = never h
+    kept Spent served rest sent unsent h = absurd (never h.0)
     kept Memory served rest sent unsent h = h

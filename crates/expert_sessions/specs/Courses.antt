@@ -9,9 +9,9 @@ use Rattle.turn_lock.specs.declared.fault.TurnFault.{TurnFault}
 use Rattle.turn_lock.specs.declared.fault.TurnFault.TheVariants.{Spent as NoTurn, Memory as NoTurnMemory}
 use Rattle.expert_wire.specs.Texts.{line_end}
 use Rattle.expert_wire.specs.Greetings.{greeting}
-use Rattle.expert_sessions.specs.Lines.{HasNoFeed, Exchange, IsExchange, IsQuit, IsNotQuit, lines_of, replies_of, entries_of, said_line}
-use Rattle.expert_sessions.specs.Talks.{Course, IsPartOfLine, IsTooLong, Stops}
-use Rattle.expert_sessions.specs.Moves.{Wire, Moves, Place, Enters}
+use Rattle.expert_sessions.specs.Lines.{HasNoFeed, Exchange, IsExchange, IsQuit, IsNotQuit, lines_of, replies_of, entries_of, turns_of, said_line}
+use Rattle.expert_sessions.specs.Talks.{Course, GoesOn, IsPartOfLine, IsTooLong, Stops}
+use Rattle.expert_sessions.specs.Moves.{Wire, Moves, IsQuiet, Place, Enters}
 use Rattle.expert_sessions.specs.declared.said.Said.{Said}
 use Rattle.expert_sessions.specs.declared.said.Said.TheVariants.{Replied, NoMemory}
 use Rattle.expert_sessions.specs.declared.ended.Ended.{Ended}
@@ -26,13 +26,16 @@ pub record Writes (a b : Wire) (text : Text) (result : Result (Unit {0}) Put) : 
   pub split : text ≡ sent ++ unsent
   pub moves : Moves a b [] sent
   pub whole : OnOk result (unsent ≡ [])
+  pub quiet : OnOk result (b.writes ≡ a.writes)
   pub failed : OnErr result (Rose a.writes b.writes)
+  pub reads : b.reads ≡ a.reads
 
 -- what was taken stands behind the bytes that were read ahead
 pub record Reads (a b : Wire) (ahead ahead' : Text) : Type 0 where
   pub taken : Text
   pub moves : Moves a b taken []
   pub joined : ahead' ≡ ahead ++ taken
+  pub writes : b.writes ≡ a.writes
 
 -- the first line feed stands at this place
 pub record HasFeedAt (bytes : Text) (at : ℕ) : Type 0 where
@@ -42,9 +45,9 @@ pub record HasFeedAt (bytes : Text) (at : ℕ) : Type 0 where
 
 -- why no whole line was read
 abbrev pub LacksLine : Wire → Wire → Text → Ended → Type 0
-LacksLine a b ahead EndOfInput = IsAtEnd b.left × IsPartOfLine ahead
+LacksLine a b ahead EndOfInput = IsAtEnd b.left × IsPartOfLine ahead × (b.reads ≡ a.reads)
 LacksLine a b ahead ReadFault = Rose a.reads b.reads × IsPartOfLine ahead
-LacksLine a b ahead LongLine = IsTooLong ahead
+LacksLine a b ahead LongLine = IsTooLong ahead × (b.reads ≡ a.reads)
 LacksLine a b ahead ended = ⊥
 
 -- ---- one line
@@ -62,17 +65,18 @@ pub record Serves (t : NamedContext) (e : ℕ) (a b : Wire) (c d : Place) (ahead
   pub asking : IsNotQuit t.context.width exchange
   pub taken : Text
   pub moves : Moves a b taken (said_line t.attributes exchange.said)
-  pub enters : Enters c d exchange.made 1
+  pub enters : Enters c d exchange.made exchange.turns
+  pub quiet : IsQuiet a b
   pub read : ahead ++ taken ≡ (exchange.line ++ line_end) ++ ahead'
 
 -- why no line is served after these, of which there is at most one
 abbrev pub HaltsAt : ℕ → Wire → Wire → Place → Ended → List Exchange → Text → Text → Type 0
-HaltsAt n a b d Quit more rest unsent = (x : Exchange) × (more ≡ x ∷ []) × IsQuit n x × (unsent ≡ [])
-HaltsAt n a b d WriteFault more rest unsent = (x : Exchange) × (more ≡ x ∷ []) × Rose a.writes b.writes
-HaltsAt n a b d EndOfInput more rest unsent = (more ≡ []) × (unsent ≡ []) × IsAtEnd b.left × IsPartOfLine rest
-HaltsAt n a b d ReadFault more rest unsent = (more ≡ []) × (unsent ≡ []) × Rose a.reads b.reads × IsPartOfLine rest
-HaltsAt n a b d LongLine more rest unsent = (more ≡ []) × (unsent ≡ []) × IsTooLong rest
-HaltsAt n a b d Spent more rest unsent = (more ≡ []) × (unsent ≡ []) × (d.turns ≡ Some 0)
+HaltsAt n a b d Quit more rest unsent = (x : Exchange) × (more ≡ x ∷ []) × IsQuit n x × (unsent ≡ []) × IsQuiet a b
+HaltsAt n a b d WriteFault more rest unsent = (x : Exchange) × (more ≡ x ∷ []) × Rose a.writes b.writes × (b.reads ≡ a.reads)
+HaltsAt n a b d EndOfInput more rest unsent = (more ≡ []) × (unsent ≡ []) × IsAtEnd b.left × IsPartOfLine rest × IsQuiet a b
+HaltsAt n a b d ReadFault more rest unsent = (more ≡ []) × (unsent ≡ []) × Rose a.reads b.reads × IsPartOfLine rest × (b.writes ≡ a.writes)
+HaltsAt n a b d LongLine more rest unsent = (more ≡ []) × (unsent ≡ []) × IsTooLong rest × IsQuiet a b
+HaltsAt n a b d Spent more rest unsent = (more ≡ []) × (unsent ≡ []) × (d.turns ≡ Some 0) × IsQuiet a b
 HaltsAt n a b d ended more rest unsent = ⊥
 
 -- no line is served after this one
@@ -84,7 +88,7 @@ pub record Halts (t : NamedContext) (e : ℕ) (a b : Wire) (c d : Place) (ahead 
   pub unsent : Text
   pub each : All (IsExchange t.context.width e) more
   pub moves : Moves a b taken sent
-  pub enters : Enters c d (entries_of more) 1
+  pub enters : Enters c d (entries_of more) (turns_of more)
   pub read : ahead ++ taken ≡ lines_of more ++ rest
   pub said : replies_of t.attributes more ≡ sent ++ unsent
   pub halts : HaltsAt t.context.width a b d ended more rest unsent
@@ -99,13 +103,14 @@ pub record Goes (t : NamedContext) (e : ℕ) (a b : Wire) (c d : Place) (ahead :
   pub count : length served ≡ k
   pub taken : Text
   pub moves : Moves a b taken (greeting t e ++ replies_of t.attributes served)
-  pub enters : Enters c d (entries_of served) k
+  pub enters : Enters c d (entries_of served) (turns_of served)
+  pub quiet : IsQuiet a b
   pub read : taken ≡ lines_of served ++ ahead
 
 -- why no line is served any more: no turn is left, or a reason that lies not in the desk
 abbrev pub Closes : (t : NamedContext) (e lines : ℕ) → Wire → Wire → Place → Ended → List Exchange → Text → Text → Text → Type 0
-Closes t e lines a b d Spent served rest sent unsent = d.turns ≡ Some 0
-Closes t e lines a b d ended served rest sent unsent = Stops t e lines (IsAtEnd b.left) (Rose a.reads b.reads) (Rose a.writes b.writes) ended served rest sent unsent
+Closes t e lines a b d Spent served rest sent unsent = (d.turns ≡ Some 0) × GoesOn t.context.width lines served × (unsent ≡ []) × IsQuiet a b
+Closes t e lines a b d ended served rest sent unsent = Stops t e lines a b ended served rest sent unsent
 
 -- all lines were served, before the expert leaves
 pub record HasServed (t : NamedContext) (e lines : ℕ) (a b : Wire) (c d : Place) (ended : Ended) : Type 0 where
@@ -113,5 +118,5 @@ pub record HasServed (t : NamedContext) (e lines : ℕ) (a b : Wire) (c d : Plac
   pub sent : Text
   pub moves : Moves a b taken sent
   pub course : Course t e lines taken sent (Rose a.writes b.writes)
-  pub enters : Enters c d (entries_of course.served) lines
+  pub enters : Enters c d (entries_of course.served) (turns_of course.served)
   pub closes : Closes t e lines a b d ended course.served course.rest sent course.unsent

@@ -1,8 +1,8 @@
--- The lines of a session: what was asked in each, how it was answered, and the entry that it made.
+-- The lines of a session: what was asked in each, how it was answered, the entry that it made, and the turn that it took.
 --
--- Over the attributes a and b, with no row, `draw` is answered by `ask .. XX {} -> {a, b}` and makes that entry; `drew` is answered
--- by `bad line` and makes none.
-use Rattle.std.specs.Prelude.{◌≡◌, ◌≢◌, ◌≤◌, ℕ, false, List, [], ◌∷◌, ◌++◌, Result, Ok, Err, length, codes}
+-- Over the attributes a and b, with no row, `draw` is answered by `ask .. XX {} -> {a, b}`, makes that entry and takes a turn;
+-- `drew` is answered by `bad line`, makes none and takes none.
+use Rattle.std.specs.Prelude.{◌≡◌, ◌≢◌, ◌≤◌, ◌+◌, ◌⊎◌, ℕ, false, List, [], ◌∷◌, ◌++◌, Result, Ok, Err, length, codes}
 use Rattle.std.specs.List.{list_any}
 use Rattle.fca_model.specs.Tables.{Text}
 use Rattle.fca_model.specs.declared.TheConstants.{LINE_BYTES}
@@ -10,7 +10,7 @@ use Rattle.fca_model.specs.declared.Event.TheVariants.{Draw, Confirm, Row, Leave
 use Rattle.fca_model.specs.Exploration.{SetEvent, SetEntry}
 use Rattle.expert_wire.specs.Texts.{line_end}
 use Rattle.expert_wire.specs.Replies.{reply_line}
-use Rattle.expert_wire.specs.Requests.{request_form}
+use Rattle.expert_wire.specs.Requests.{TakesMemory, request_form}
 use Rattle.text_pieces.specs.Lines.{is_line_feed}
 use Rattle.expert_wire.specs.declared.requests.Request.{Request}
 use Rattle.expert_wire.specs.declared.requests.Request.TheVariants.{Draw as DrawAsked, Confirm as ConfirmAsked, Row as RowAsked, Leave as LeaveAsked, Quit}
@@ -34,13 +34,17 @@ Asks e (Ok LeaveAsked) event = event ≡ Leave e
 Asks e (Ok Quit) event = ⊥
 Asks e (Err fault) event = ⊥
 
--- what was read is answered so, and these entries are made
-abbrev pub Answers : ℕ → Result Request RequestFault → Said → List SetEntry → Type 0
-Answers e form (Replied reply) made = (event : SetEvent) × Asks e form event × (made ≡ record { event = event; reply = reply } ∷ [])
-Answers e form Bye made = (form ≡ Ok Quit) × (made ≡ [])
-Answers e form BadLine made = (form ≡ Err Line) × (made ≡ [])
-Answers e form BadWidth made = (form ≡ Err Width) × (made ≡ [])
-Answers e form NoMemory made = (form ≢ Ok Quit) × (made ≡ [])
+-- memory was wanting: for the turn that was asked for, or to read what was asked
+abbrev pub LacksMemory : ℕ → Result Request RequestFault → ℕ → Type 0
+LacksMemory e form turns = ((event : SetEvent) × Asks e form event × (turns ≡ 1)) ⊎ (TakesMemory form × (turns ≡ 0))
+
+-- what was read is answered so, and these entries are made, in so many turns
+abbrev pub Answers : ℕ → Result Request RequestFault → Said → List SetEntry → ℕ → Type 0
+Answers e form (Replied reply) made turns = (event : SetEvent) × Asks e form event × (made ≡ record { event = event; reply = reply } ∷ []) × (turns ≡ 1)
+Answers e form Bye made turns = (form ≡ Ok Quit) × (made ≡ []) × (turns ≡ 0)
+Answers e form BadLine made turns = (form ≡ Err Line) × (made ≡ []) × (turns ≡ 0)
+Answers e form BadWidth made turns = (form ≡ Err Width) × (made ≡ []) × (turns ≡ 0)
+Answers e form NoMemory made turns = LacksMemory e form turns × (made ≡ [])
 
 -- the line of an answer, where the attributes have these names
 abbrev pub said_line : List Text → Said → Text
@@ -50,17 +54,18 @@ said_line attributes BadLine = codes "bad line\n"
 said_line attributes BadWidth = codes "bad width\n"
 said_line attributes NoMemory = codes "no memory\n"
 
--- a line that was served: its bytes before the line feed, its answer, and the entries that it made
+-- a line that was served: its bytes before the line feed, its answer, the entries that it made, and the turns that it took
 pub record Exchange : Type 0 where
   pub line : Text
   pub said : Said
   pub made : List SetEntry
+  pub turns : ℕ
 
 -- expert e was served, where rows have width n
 pub record IsExchange (n e : ℕ) (x : Exchange) : Type 0 where
   pub short : length x.line ≤ LINE_BYTES
   pub unbroken : HasNoFeed x.line
-  pub answered : Answers e (request_form x.line n) x.said x.made
+  pub answered : Answers e (request_form x.line n) x.said x.made x.turns
 
 abbrev pub IsQuit : ℕ → Exchange → Type 0
 IsQuit n x = request_form x.line n ≡ Ok Quit
@@ -84,6 +89,11 @@ replies_of attributes (x ∷ xs) = said_line attributes x.said ++ replies_of att
 abbrev pub entries_of : List Exchange → List SetEntry
 entries_of [] = []
 entries_of (x ∷ xs) = x.made ++ entries_of xs
+
+-- the turns that they took
+abbrev pub turns_of : List Exchange → ℕ
+turns_of [] = 0
+turns_of (x ∷ xs) = x.turns + turns_of xs
 
 -- all but the last
 abbrev pub before_last : List Exchange → List Exchange

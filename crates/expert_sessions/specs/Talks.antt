@@ -1,14 +1,18 @@
--- The talk of a session: the bytes that it took, the entries that it made, the bytes that it sent, and its ending.
+-- The talk of a session: the bytes that it took, the entries that it made and the turns that they took, the bytes that it sent, and
+-- its ending.
 --
--- Expert 2, who is given one line, and sends `draw` twice, is greeted, gets one reply, and makes two entries: the draw, and the
--- leave with which a session ends. The second line is not served, and the ending is the limit.
-use Rattle.std.specs.Prelude.{◌≡◌, ◌≤◌, ◌<◌, ◌+◌, ◌⊎◌, ⊤, ℕ, List, [], ◌∷◌, ◌++◌, length, All}
+-- Expert 2, who is given one line, and sends `draw` twice, is greeted, gets one reply, and makes two entries in two turns: the draw,
+-- and the leave with which a session ends. The second line is not served, and the ending is the limit.
+use Rattle.std.specs.Prelude.{◌≡◌, ◌≤◌, ◌<◌, ◌+◌, ◌⊎◌, ⊤, ℕ, Some, List, [], ◌∷◌, ◌++◌, length, All}
+use Rattle.std.specs.Io.KnownBytes.{IsAtEnd}
+use Rattle.fca_io.specs.Faults.{Rose}
 use Rattle.fca_model.specs.Tables.{Text, NamedContext}
 use Rattle.fca_model.specs.declared.TheConstants.{LINE_BYTES}
 use Rattle.fca_model.specs.declared.Event.TheVariants.{Leave}
 use Rattle.fca_model.specs.Exploration.{SetReply, SetEntry}
 use Rattle.expert_wire.specs.Greetings.{greeting}
-use Rattle.expert_sessions.specs.Lines.{HasNoFeed, Exchange, IsExchange, IsQuit, IsNotQuit, lines_of, replies_of, entries_of, before_last}
+use Rattle.expert_sessions.specs.Lines.{HasNoFeed, Exchange, IsExchange, IsQuit, IsNotQuit, lines_of, replies_of, entries_of, turns_of, before_last}
+use Rattle.expert_sessions.specs.Moves.{Wire, Moves, IsQuiet, Place, Enters}
 use Rattle.expert_sessions.specs.declared.ended.Ended.{Ended}
 use Rattle.expert_sessions.specs.declared.ended.Ended.TheVariants.{Quit, EndOfInput, ReadFault, WriteFault, LongLine, Limit, Spent, Memory}
 
@@ -58,49 +62,65 @@ abbrev pub LacksLastAnswer : NamedContext → ℕ → List Exchange → Text →
 LacksLastAnswer t e [] sent = ⊤
 LacksLastAnswer t e (x ∷ xs) sent = (part : Text) × (sent ≡ (greeting t e ++ replies_of t.attributes (before_last (x ∷ xs))) ++ part)
 
-module _ (t : NamedContext) (e lines : ℕ) (at_end read_failed write_failed : Type 0) where
-  -- why no further line was served, where turns and memory were not wanting
+module _ (t : NamedContext) (e lines : ℕ) (a b : Wire) where
+  -- why no further line was served, where turns and memory were not wanting: a call of the end failed only where this is the reason
   abbrev pub Stops : Ended → List Exchange → Text → Text → Text → Type 0
-  Stops Quit served rest sent unsent = HasQuit t.context.width served × (unsent ≡ [])
-  Stops EndOfInput served rest sent unsent = GoesOn t.context.width lines served × at_end × IsPartOfLine rest × (unsent ≡ [])
-  Stops ReadFault served rest sent unsent = GoesOn t.context.width lines served × read_failed × IsPartOfLine rest × (unsent ≡ [])
-  Stops LongLine served rest sent unsent = GoesOn t.context.width lines served × IsTooLong rest × (unsent ≡ [])
-  Stops Limit served rest sent unsent = All (IsNotQuit t.context.width) served × (length served ≡ lines) × (unsent ≡ [])
-  Stops WriteFault served rest sent unsent = write_failed × LacksLastAnswer t e served sent
+  Stops Quit served rest sent unsent = HasQuit t.context.width served × (unsent ≡ []) × IsQuiet a b
+  Stops EndOfInput served rest sent unsent = GoesOn t.context.width lines served × IsAtEnd b.left × IsPartOfLine rest × (unsent ≡ []) × IsQuiet a b
+  Stops ReadFault served rest sent unsent = GoesOn t.context.width lines served × Rose a.reads b.reads × IsPartOfLine rest × (unsent ≡ []) × (b.writes ≡ a.writes)
+  Stops LongLine served rest sent unsent = GoesOn t.context.width lines served × IsTooLong rest × (unsent ≡ []) × IsQuiet a b
+  Stops Limit served rest sent unsent = All (IsNotQuit t.context.width) served × (length served ≡ lines) × (unsent ≡ []) × IsQuiet a b
+  Stops WriteFault served rest sent unsent = Rose a.writes b.writes × LacksLastAnswer t e served sent × (b.reads ≡ a.reads)
   Stops Spent served rest sent unsent = ⊥
   Stops Memory served rest sent unsent = ⊥
 
+  -- why it stopped before the leave: no turn was left for a line, or another reason
+  abbrev pub Pauses : List Exchange → Text → Text → Text → Type 0
+  Pauses served rest sent unsent = (GoesOn t.context.width lines served × (unsent ≡ []) × IsQuiet a b) ⊎ ((reason : Ended) × Stops reason served rest sent unsent)
+
   -- the ending: where memory was wanting for the leave, the session stopped for another reason
-  abbrev pub Ends : Type 0 → Ended → List Exchange → Text → Text → Text → Type 0
-  Ends spent Spent served rest sent unsent = spent
-  Ends spent Memory served rest sent unsent = (reason : Ended) × Stops reason served rest sent unsent
-  Ends spent ended served rest sent unsent = Stops ended served rest sent unsent
+  abbrev pub Ends : Place → Ended → List Exchange → Text → Text → Text → Type 0
+  Ends d Spent served rest sent unsent = (d.turns ≡ Some 0) × Pauses served rest sent unsent
+  Ends d Memory served rest sent unsent = (reason : Ended) × Stops reason served rest sent unsent
+  Ends d ended served rest sent unsent = Stops ended served rest sent unsent
 
 -- an entry in which expert e leaves stands last
 abbrev pub AndLeaves : ℕ → List SetEntry → List SetEntry → Type 0
 AndLeaves e entries made = (reply : SetReply) × (made ≡ entries ++ record { event = Leave e; reply = reply } ∷ [])
 
--- the entries of the lines, and a leave, which is missing where turns or memory were wanting
-abbrev pub Makes : ℕ → Ended → List SetEntry → List SetEntry → Type 0
-Makes e Spent entries made = made ≡ entries
-Makes e Memory entries made = made ≡ entries
-Makes e ended entries made = AndLeaves e entries made
+-- the entries of the lines in their k turns, and a leave in one turn more: the entry is missing where turns or memory were wanting,
+-- and the turn where turns were
+abbrev pub Makes : ℕ → Ended → List SetEntry → ℕ → List SetEntry → ℕ → Type 0
+Makes e Spent entries k made turns = (made ≡ entries) × (turns ≡ k)
+Makes e Memory entries k made turns = (made ≡ entries) × (turns ≡ k + 1)
+Makes e ended entries k made turns = AndLeaves e entries made × (turns ≡ k + 1)
 
 -- a session that had room for a line
-pub record IsServed (t : NamedContext) (e lines : ℕ) (taken : Text) (made : List SetEntry) (sent : Text) (ended : Ended) (at_end read_failed write_failed spent : Type 0) : Type 0 where
-  pub course : Course t e lines taken sent write_failed
-  pub entries : Makes e ended (entries_of course.served) made
-  pub ending : Ends t e lines at_end read_failed write_failed spent ended course.served course.rest sent course.unsent
+pub record IsServed (t : NamedContext) (e lines : ℕ) (a b : Wire) (d : Place) (taken : Text) (made : List SetEntry) (turns : ℕ) (sent : Text) (ended : Ended) : Type 0 where
+  pub course : Course t e lines taken sent (Rose a.writes b.writes)
+  pub entries : Makes e ended (entries_of course.served) (turns_of course.served) made turns
+  pub ending : Ends t e lines a b d ended course.served course.rest sent course.unsent
 
 -- a session that had none
-pub record IsRefused (taken : Text) (made : List SetEntry) (sent : Text) (ended : Ended) : Type 0 where
+pub record IsRefused (a b : Wire) (taken : Text) (made : List SetEntry) (turns : ℕ) (sent : Text) (ended : Ended) : Type 0 where
   pub nothing_taken : taken ≡ []
   pub nothing_made : made ≡ []
+  pub no_turn : turns ≡ 0
   pub nothing_sent : sent ≡ []
+  pub quiet : IsQuiet a b
   pub ending : ended ≡ Memory
 
--- The talk of expert e, who may have this many lines served, over the table: whether the end had no byte left afterwards, whether
--- its counts of read and of write faults rose, and whether no turn was left are facts that it speaks of
-abbrev pub Talk : NamedContext → ℕ → ℕ → Text → List SetEntry → Text → Ended → (at_end read_failed write_failed spent : Type 0) → Type 0
-Talk t e lines taken made sent ended at_end read_failed write_failed spent =
-    IsRefused taken made sent ended ⊎ IsServed t e lines taken made sent ended at_end read_failed write_failed spent
+-- the talk of expert e, who may have this many lines served, over the table and between these two states of the end, which leaves
+-- the desk like d
+abbrev pub Talk : NamedContext → ℕ → ℕ → Wire → Wire → Place → Text → List SetEntry → ℕ → Text → Ended → Type 0
+Talk t e lines a b d taken made turns sent ended = IsRefused a b taken made turns sent ended ⊎ IsServed t e lines a b d taken made turns sent ended
+
+-- what the end lost, what was added to the entries of the desk in how many turns, and what the end gained is a talk
+pub record HasTalked (t : NamedContext) (e lines : ℕ) (a b : Wire) (c d : Place) (ended : Ended) : Type 0 where
+  pub taken : Text
+  pub made : List SetEntry
+  pub turns : ℕ
+  pub sent : Text
+  pub moves : Moves a b taken sent
+  pub enters : Enters c d made turns
+  pub talk : Talk t e lines a b d taken made turns sent ended

@@ -1,6 +1,6 @@
 //! Lines as they are read: the bytes that were read and not served yet.
 
-ghost use Rattle.std.specs.Prelude.{◌≡◌, ◌≤◌, ◌<◌, ◌↔◌, ◌+◌, [], IfOk, IfErr, OnErr, IsTrue, MatchOption, length, take, drop};
+ghost use Rattle.std.specs.Prelude.{◌≡◌, ◌≤◌, ◌<◌, ◌↔◌, ◌+◌, [], IfOk, IfErr, OnOk, OnErr, IsTrue, MatchOption, length, take, drop};
 ghost use Rattle.std.specs.Io.KnownBytes.{IsAtEnd};
 ghost use Rattle.fca_io.specs.Faults.{Rose};
 ghost use Rattle.fca_model.specs.declared.TheConstants.{LINE_BYTES};
@@ -50,6 +50,7 @@ impl Ahead {
             (record { left = E.Source.left end.new; held = E.Sink.held end.new; reads = E.Source.faults end.new; writes = E.Sink.faults end.new })
             self.old self.new }
         ensures line { IfOk result (HasFeedAt self.new) }
+        ensures quiet { OnOk result (E.Source.faults end.new ≡ E.Source.faults end.old) }
         ensures short { IfOk result (λ at. at ≤ LINE_BYTES) }
         ensures none { IfErr result (LacksLine
             (record { left = E.Source.left end.old; held = E.Sink.held end.old; reads = E.Source.faults end.old; writes = E.Sink.faults end.old })
@@ -113,6 +114,7 @@ impl Ahead {
             self.old self.new }
         ensures count { IfOk result (λ count. length self.new ≡ length self.old + count) }
         ensures end { IfOk result (λ count. count ≡ 0 → IsAtEnd (E.Source.left end.new)) }
+        ensures quiet { OnOk result (E.Source.faults end.new ≡ E.Source.faults end.old) }
         ensures failed { OnErr result ((self.new ≡ self.old) × Rose (E.Source.faults end.old) (E.Source.faults end.new)) }
     {
         let mut chunk = [0; MOST];

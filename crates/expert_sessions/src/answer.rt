@@ -1,6 +1,6 @@
 //! The answer to one line.
 
-ghost use Rattle.std.specs.Prelude.{◌≡◌, ◌≤◌, Some, [], List, IfOk, IfErr};
+ghost use Rattle.std.specs.Prelude.{◌≡◌, ◌≤◌, ℕ, Some, [], List, IfOk, IfErr};
 ghost use Rattle.fca_model.specs.declared.TheConstants.{MAX_ATTRIBUTES};
 ghost use Rattle.fca_model.specs.Exploration.{SetEntry};
 ghost use Rattle.expert_wire.specs.Requests.{request_form};
@@ -26,10 +26,10 @@ pub(crate) fn answer<D: Desk>(
 ) -> Result<Said, Ended>
     requires { D.attributes desk.old ≡ table.now.context.width }
     ensures same { (D.number desk.new ≡ D.number desk.old) × (D.lock desk.new ≡ D.lock desk.old) × (D.place desk.new ≡ D.place desk.old) × (D.attributes desk.new ≡ D.attributes desk.old) }
-    ensures answered { IfOk result (λ said. (made : List SetEntry) × Answers (D.number desk.old) (request_form line.now table.now.context.width) said made × Enters
-        (record { entries = D.entries desk.old; turns = D.left desk.old }) (record { entries = D.entries desk.new; turns = D.left desk.new }) made 1) }
+    ensures answered { IfOk result (λ said. (made : List SetEntry) × (turns : ℕ) × Answers (D.number desk.old) (request_form line.now table.now.context.width) said made turns × Enters
+        (record { entries = D.entries desk.old; turns = D.left desk.old }) (record { entries = D.entries desk.new; turns = D.left desk.new }) made turns) }
     ensures spent { IfErr result (λ ended. (ended ≡ Ended.Spent) × (D.left desk.new ≡ Some 0) × Enters
-        (record { entries = D.entries desk.old; turns = D.left desk.old }) (record { entries = D.entries desk.new; turns = D.left desk.new }) [] 1) }
+        (record { entries = D.entries desk.old; turns = D.left desk.old }) (record { entries = D.entries desk.new; turns = D.left desk.new }) [] 0) }
 {
     match read_request(alloc, line, table.rows().width()) {
         Ok(Request::Draw) => said(desk.draw()),

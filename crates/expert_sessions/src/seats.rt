@@ -3,8 +3,9 @@
 ghost use Rattle.std.specs.Prelude.{◌≡◌, ◌≤◌, ◌<◌, ◌+◌, [], All, map, vec_len, vec_capacity};
 ghost use Rattle.std.specs.Thread.{IsSync};
 ghost use Rattle.turn_lock.specs.Passes.{Belongs, IsFresh, badge};
-ghost use Rattle.expert_sessions.specs.Moves.{Wire, HasTalked};
-ghost use Rattle.expert_sessions.specs.Serving.{IsReady, EachSeat, HasSat};
+ghost use Rattle.expert_sessions.specs.Moves.{Wire, Place};
+ghost use Rattle.expert_sessions.specs.Talks.{HasTalked};
+ghost use Rattle.expert_sessions.specs.Serving.{IsReady, EachSeat, HasSat, entered};
 
 use crate::ended::Ended;
 use crate::talk::session;
@@ -115,7 +116,7 @@ fn serve_one<R: Wait, E: Duplex>(
     ensures talk { HasTalked terms.now.table pass.new.number terms.now.lines
         (record { left = E.Source.left end.old; held = E.Sink.held end.old; reads = E.Source.faults end.old; writes = E.Sink.faults end.old })
         (record { left = E.Source.left end.new; held = E.Sink.held end.new; reads = E.Source.faults end.new; writes = E.Sink.faults end.new })
-        [] pass.new.own result ⊥ }
+        (entered []) (entered pass.new.own) result }
 {
     let expert = pass.number();
     let mut desk = Seated { rt, gate, pass };

@@ -2,7 +2,8 @@
 
 ghost use Rattle.std.specs.Prelude.{◌≡◌, ◌≤◌, ◌+◌, [], Some, OnOk, IfErr};
 ghost use Rattle.fca_model.specs.declared.TheConstants.{MAX_ATTRIBUTES};
-ghost use Rattle.expert_sessions.specs.Moves.{Wire, Place, TakesAtMost, HasTalked};
+ghost use Rattle.expert_sessions.specs.Moves.{Wire, Place, TakesAtMost};
+ghost use Rattle.expert_sessions.specs.Talks.{HasTalked};
 ghost use Rattle.expert_sessions.specs.Courses.{Serves, Halts, HasServed};
 
 use crate::ahead::Ahead;
@@ -30,7 +31,7 @@ pub fn session<D: Desk, E: Duplex>(
     ensures talk { HasTalked table.now expert lines
         (record { left = E.Source.left end.old; held = E.Sink.held end.old; reads = E.Source.faults end.old; writes = E.Sink.faults end.old })
         (record { left = E.Source.left end.new; held = E.Sink.held end.new; reads = E.Source.faults end.new; writes = E.Sink.faults end.new })
-        (D.entries desk.old) (D.entries desk.new) result (D.left desk.new ≡ Some 0) }
+        (record { entries = D.entries desk.old; turns = D.left desk.old }) (record { entries = D.entries desk.new; turns = D.left desk.new }) result }
     ensures turns { TakesAtMost (lines + 1) (D.left desk.old) (D.left desk.new) }
     ensures same { (D.number desk.new ≡ D.number desk.old) × (D.lock desk.new ≡ D.lock desk.old) × (D.place desk.new ≡ D.place desk.old) × (D.attributes desk.new ≡ D.attributes desk.old) }
 {

@@ -55,7 +55,7 @@ impl Draft {
     /// Appends the bytes.
     pub fn bytes(&mut self, bytes: &[u8]) -> Result<(), Memory>
         ensures whole { OnOk result (self.new ≡ self.old ++ bytes.now) }
-        ensures front { AppendsFront (Some self.old) (Some self.new) bytes.now }
+        ensures kept { OnErr result (self.new ≡ self.old) }
     {
         self.sink.bytes.extend_from_slice(bytes)?;
         Ok(())
@@ -64,7 +64,7 @@ impl Draft {
     /// Appends the number, from 1 on, of what stands at the place.
     pub fn ordinal(&mut self, place: usize) -> Result<(), Memory>
         ensures whole { OnOk result (self.new ≡ self.old ++ ordinal place) }
-        ensures front { AppendsFront (Some self.old) (Some self.new) (ordinal place) }
+        ensures kept { OnErr result (self.new ≡ self.old) }
     {
         match place.checked_add(1) {
             Some(number) => self.bytes(Buffer::new().format(number).as_bytes()),

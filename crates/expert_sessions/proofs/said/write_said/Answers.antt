@@ -8,5 +8,5 @@ returns-in-Replied g c = rw c.in-Replied.is (writes-from
     (record { left = g.E.Source.left c.write_at_once.new.sink; held = g.E.Sink.held c.write_at_once.new.sink; reads = g.E.Source.faults c.write_at_once.new.sink; writes = g.E.Sink.faults c.write_at_once.new.sink })
     (reply_line c.args.table.now.attributes c.in-Replied.reply) c.write_at_once.result
     (g.E.Sink.beside c.args.end.now) (g.E.Sink.beside c.write_at_once.new.sink) (g.E.Sink.faults_beside c.args.end.now) (g.E.Sink.faults_beside c.write_at_once.new.sink)
-    c.write_at_once.ensures.whole c.write_at_once.ensures.front c.write_at_once.ensures.failed c.write_at_once.ensures.later c.write_at_once.ensures.beside c.write_at_once.ensures.same_beside
+    c.write_at_once.ensures.whole c.write_at_once.ensures.front c.write_at_once.ensures.quiet c.write_at_once.ensures.failed c.write_at_once.ensures.later c.write_at_once.ensures.beside c.write_at_once.ensures.same_beside
     (g.met.E.Duplex.left_beside c.args.end.now) (g.met.E.Duplex.left_beside c.write_at_once.new.sink) (g.met.E.Duplex.reads_beside c.args.end.now) (g.met.E.Duplex.reads_beside c.write_at_once.new.sink))

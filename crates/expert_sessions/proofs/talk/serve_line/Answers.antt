@@ -1,7 +1,7 @@
 use Rattle.std.proofs.Common.{◌≡◌, true, false}
 use Rattle.std.specs.Prelude.{is_err}
 use Rattle.std.proofs.lemmas.Result.{err_from_is_err_and}
-use Rattle.expert_sessions.proofs.LineLemmas.{sent_whole}
+use Rattle.expert_sessions.proofs.LineLemmas.{sent_whole, sent_quiet}
 use Rattle.expert_sessions.proofs.CourseLemmas.{unread, unturned, line-served, line-quits, line-unanswered}
 use Rattle.expert_sessions.proofs.talk.serve_line.Goals as goal
 
@@ -22,7 +22,7 @@ returns-in_err-said-clause-halted g c =
     (record { left = g.E.Source.left c.read_line.new.end; held = g.E.Sink.held c.read_line.new.end; reads = g.E.Source.faults c.read_line.new.end; writes = g.E.Sink.faults c.read_line.new.end })
     (record { entries = g.D.Desk.entries c.args.desk.now; turns = g.D.Desk.left c.args.desk.now })
     (record { entries = g.D.Desk.entries c.answer.new.desk; turns = g.D.Desk.left c.answer.new.desk })
-    c.args.ahead.now c.read_line.new.self _ c.read_line.ensures.read c.in_err-said.ensures.spent.0 c.in_err-said.ensures.spent.1 c.in_err-said.ensures.spent.2)
+    c.args.ahead.now c.read_line.new.self _ c.read_line.ensures.read c.in_ok-at.ensures.quiet c.in_err-said.ensures.spent.0 c.in_err-said.ensures.spent.1 c.in_err-said.ensures.spent.2)
 
 pub returns-then-is_err-clause-halted : goal.returns-then-is_err-clause-halted
 returns-then-is_err-clause-halted g c =
@@ -34,8 +34,8 @@ returns-then-is_err-clause-halted g c =
     (record { left = g.E.Source.left c.write_said.new.end; held = g.E.Sink.held c.write_said.new.end; reads = g.E.Source.faults c.write_said.new.end; writes = g.E.Sink.faults c.write_said.new.end })
     (record { entries = g.D.Desk.entries c.args.desk.now; turns = g.D.Desk.left c.args.desk.now })
     (record { entries = g.D.Desk.entries c.answer.new.desk; turns = g.D.Desk.left c.answer.new.desk })
-    c.args.ahead.now c.read_line.new.self c.forget.new.self c.in_ok-at.at c.in_ok-said.said answered.0
-    c.read_line.ensures.read c.in_ok-at.ensures.line c.in_ok-at.ensures.short answered.1 answered.2 c.forget.ensures
+    c.args.ahead.now c.read_line.new.self c.forget.new.self c.in_ok-at.at c.in_ok-said.said answered.0 answered.1
+    c.read_line.ensures.read c.in_ok-at.ensures.quiet c.in_ok-at.ensures.line c.in_ok-at.ensures.short answered.2 answered.3 c.forget.ensures
     c.write_said.result c.write_said.ensures failed
 
 pub returns-in-Bye-clause-halted : goal.returns-in-Bye-clause-halted
@@ -48,9 +48,9 @@ returns-in-Bye-clause-halted g c =
     (record { left = g.E.Source.left c.write_said.new.end; held = g.E.Sink.held c.write_said.new.end; reads = g.E.Source.faults c.write_said.new.end; writes = g.E.Sink.faults c.write_said.new.end })
     (record { entries = g.D.Desk.entries c.args.desk.now; turns = g.D.Desk.left c.args.desk.now })
     (record { entries = g.D.Desk.entries c.answer.new.desk; turns = g.D.Desk.left c.answer.new.desk })
-    c.args.ahead.now c.read_line.new.self c.forget.new.self c.in_ok-at.at c.in_ok-said.said answered.0
-    c.read_line.ensures.read c.in_ok-at.ensures.line c.in_ok-at.ensures.short answered.1 answered.2 c.forget.ensures
-    (sent_whole c.write_said.result c.write_said.ensures ok) c.in-Bye.is
+    c.args.ahead.now c.read_line.new.self c.forget.new.self c.in_ok-at.at c.in_ok-said.said answered.0 answered.1
+    c.read_line.ensures.read c.in_ok-at.ensures.quiet c.in_ok-at.ensures.line c.in_ok-at.ensures.short answered.2 answered.3 c.forget.ensures
+    (sent_whole c.write_said.result c.write_said.ensures ok) (sent_quiet c.write_said.result c.write_said.ensures ok) c.in-Bye.is
 
 pub returns-in_default-clause-served : goal.returns-in_default-clause-served
 returns-in_default-clause-served g c =
@@ -62,6 +62,6 @@ returns-in_default-clause-served g c =
     (record { left = g.E.Source.left c.write_said.new.end; held = g.E.Sink.held c.write_said.new.end; reads = g.E.Source.faults c.write_said.new.end; writes = g.E.Sink.faults c.write_said.new.end })
     (record { entries = g.D.Desk.entries c.args.desk.now; turns = g.D.Desk.left c.args.desk.now })
     (record { entries = g.D.Desk.entries c.answer.new.desk; turns = g.D.Desk.left c.answer.new.desk })
-    c.args.ahead.now c.read_line.new.self c.forget.new.self c.in_ok-at.at c.in_ok-said.said answered.0
-    c.read_line.ensures.read c.in_ok-at.ensures.line c.in_ok-at.ensures.short answered.1 answered.2 c.forget.ensures
-    (sent_whole c.write_said.result c.write_said.ensures ok) c.in_default.not-Bye
+    c.args.ahead.now c.read_line.new.self c.forget.new.self c.in_ok-at.at c.in_ok-said.said answered.0 answered.1
+    c.read_line.ensures.read c.in_ok-at.ensures.quiet c.in_ok-at.ensures.line c.in_ok-at.ensures.short answered.2 answered.3 c.forget.ensures
+    (sent_whole c.write_said.result c.write_said.ensures ok) (sent_quiet c.write_said.result c.write_said.ensures ok) c.in_default.not-Bye

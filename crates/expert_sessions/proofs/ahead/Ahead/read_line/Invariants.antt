@@ -1,14 +1,17 @@
--- What was read so far stands behind what was read ahead before. Each read that isn't the last one lengthens it.
-use Rattle.std.proofs.Common.{◌+◌, ◌-◌, length}
+-- What was read so far stands behind what was read ahead before, and no read failed. Each read that isn't the last one lengthens it.
+use Rattle.std.proofs.Common.{◌≡◌, ◌+◌, ◌-◌, length}
 use Rattle.fca_model.specs.declared.TheConstants.{LINE_BYTES}
 use Rattle.expert_sessions.specs.Courses.{Reads}
 use Rattle.expert_sessions.proofs.ahead.Ahead.read_line.Given as goal
 
 abbrev pub invariant-loop-at : goal.invariant-loop-at
-invariant-loop-at g l = Reads
-    (record { left = g.E.Source.left l.initial.end; held = g.E.Sink.held l.initial.end; reads = g.E.Source.faults l.initial.end; writes = g.E.Sink.faults l.initial.end })
-    (record { left = g.E.Source.left l.end; held = g.E.Sink.held l.end; reads = g.E.Source.faults l.end; writes = g.E.Sink.faults l.end })
-    l.initial.self l.self
+invariant-loop-at g l = record {
+  read : Reads
+      (record { left = g.E.Source.left l.initial.end; held = g.E.Sink.held l.initial.end; reads = g.E.Source.faults l.initial.end; writes = g.E.Sink.faults l.initial.end })
+      (record { left = g.E.Source.left l.end; held = g.E.Sink.held l.end; reads = g.E.Source.faults l.end; writes = g.E.Sink.faults l.end })
+      l.initial.self l.self;
+  quiet : g.E.Source.faults l.end ≡ g.E.Source.faults l.initial.end;
+}
 
 abbrev pub decreases-loop-at : goal.decreases-loop-at
 decreases-loop-at g l = LINE_BYTES + 1 - length l.self
