@@ -1,5 +1,4 @@
 use Rattle.std.proofs.Common.{◌≡◌, ◌∙◌, ◌<◌, ℕ, List, All, length, get_or, sym, subst, arith}
-use Rattle.fca_model.specs.Sets.{Set}
 use Rattle.fca_model.specs.Context.{Context, extent}
 use Rattle.concept_report.proofs.PlaceLemmas.{extent_inside}
 use Rattle.concept_report.proofs.places.places_having.Goals as goal
