@@ -6,8 +6,10 @@ use Rattle.std.specs.Prelude.{codes}
 use Rattle.fca_model.specs.Sets.{Set}
 use Rattle.fca_model.specs.Context.{extent}
 use Rattle.fca_model.specs.Tables.{Text, NamedContext}
+use Rattle.fca_model.specs.Implications.{Rule}
+use Rattle.attr_bits.specs.Difference.{minus}
 use Rattle.fca_model.specs.Pseudo.{intents}
-use Rattle.expert_wire.specs.Texts.{line_end, ordinal, listed, names_of, braced, braces_text}
+use Rattle.expert_wire.specs.Texts.{line_end, ordinal, listed, names_of, braced, braces_text, arrow_text}
 use Rattle.lectic_concepts.specs.Concepts.{concept_of, concepts}
 use Rattle.basis_report.specs.Reports.{counted, names_at, concept_line, concepts_text}
 use Rattle.concept_report.specs.Lines.{CountedText, line_of, lines_from, Adds}
@@ -51,6 +53,14 @@ line-concept t number A E = regroup number (listed (names_of t.attributes A)) (l
   where
     regroup : (n i e : Text) → n ++ (codes " {" ++ (i ++ (codes "} | {" ++ (e ++ codes "}\n")))) ≡ n ++ (codes " " ++ ((codes "{" ++ (i ++ codes "}")) ++ (codes " | " ++ ((codes "{" ++ (e ++ codes "}")) ++ line_end))))
     regroup n i e = simp append_assoc
+
+-- the line of an implication, as its parts were put down
+pub arrow-parts : (names : List Text) (old number : Text) (i : Rule) (G : Set) → G ≡ minus i.conclusion i.premise
+    → (((((old ++ number) ++ codes " {") ++ listed (names_of names i.premise)) ++ codes "} -> {") ++ listed (names_of names G)) ++ codes "}\n" ≡ old ++ (number ++ (codes " " ++ (arrow_text names i ++ line_end)))
+arrow-parts names old number i G is = regroup old number (listed (names_of names i.premise)) (listed (names_of names G)) ∙ ap (λ X. old ++ (number ++ (codes " " ++ ((braces_text names i.premise ++ (codes " -> " ++ braces_text names X)) ++ line_end)))) is
+  where
+    regroup : (o n p g : Text) → (((((o ++ n) ++ codes " {") ++ p) ++ codes "} -> {") ++ g) ++ codes "}\n" ≡ o ++ (n ++ (codes " " ++ (((codes "{" ++ (p ++ codes "}")) ++ (codes " -> " ++ (codes "{" ++ (g ++ codes "}")))) ++ line_end)))
+    regroup o n p g = simp append_assoc
 
 -- one line more
 pub Adds-line : (t : NamedContext) (a b : CountedText) (A : Set) (E : List ℕ) → E ≡ extent t.context A → b.text ≡ a.text ++ line_of t (ordinal a.count) A E → b.count ≡ a.count + 1 → Adds t a b (A ∷ [])

@@ -1,6 +1,7 @@
-//! The text of the concepts of a table, and of its lattice, written as the intents are met.
+//! The text of the concepts of a table and of its lattice, written as the intents are met, and that of its basis, in sets as narrow as the table.
 #![tactic(auto)]
 
+mod basis_lines;
 mod block;
 mod branch;
 mod columns;
@@ -15,16 +16,18 @@ mod places;
 mod sheet;
 
 ghost use Rattle.std.specs.Prelude.{◌≡◌, ◌++◌, true, codes, IfOk};
-ghost use Rattle.fca_model.specs.Pseudo.{covers, intents};
+ghost use Rattle.fca_model.specs.Pseudo.{basis, covers, intents};
 ghost use Rattle.lectic_concepts.specs.Concepts.{concepts};
-ghost use Rattle.basis_report.specs.Reports.{counted, concepts_text, lattice_text};
+ghost use Rattle.basis_report.specs.Reports.{counted, basis_text, concepts_text, lattice_text};
 
+use basis_lines::basis_in;
 use branch::write_all;
 use context_table::Table;
 use cover_lines::with_covers;
 use derivation::RowsOf;
 use fca_model::Memory;
 use lattice_covers::covers_of;
+use lectic_basis::TWO_WORDS;
 use lectic_concepts::{FOUR_WORDS, ONE_WORD};
 use page::Page;
 use sheet::Sheet;
@@ -58,6 +61,24 @@ pub fn table_lattice_text(alloc: Global, table: &Table) -> Result<Vec<u8>, Memor
         return lattice_in(alloc, table, &rows.resized::<4>(alloc)?);
     }
     lattice_in(alloc, table, rows)
+}
+
+/// The basis of the table, one member a line. It is found and written in sets as narrow as the table.
+pub fn table_basis_text(alloc: Global, table: &Table) -> Result<Vec<u8>, Memory>
+    ensures { IfOk result (λ v. v.items ≡ basis_text table.now.attributes (basis table.now.context)) }
+{
+    let rows = table.rows();
+    let width = rows.width();
+    if width <= ONE_WORD {
+        return basis_in(alloc, table, rows.resized::<1>(alloc)?);
+    }
+    if width <= TWO_WORDS {
+        return basis_in(alloc, table, rows.resized::<2>(alloc)?);
+    }
+    if width <= FOUR_WORDS {
+        return basis_in(alloc, table, rows.resized::<4>(alloc)?);
+    }
+    basis_in(alloc, table, rows.copy()?)
 }
 
 /// The concepts of the table's rows, in as many words as those have.

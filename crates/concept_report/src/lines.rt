@@ -13,8 +13,8 @@ use itoa::Buffer;
 use std::alloc::Global;
 use std::marker::Model;
 
-/// How many bytes stand in a line beside the number and the names.
-const MARKS: usize = 9;
+/// The most bytes that stand in a line beside the number and the names.
+pub(crate) const MARKS: usize = 10;
 
 /// The least number of bytes by which the text is grown.
 const STEP: usize = 65_536;
@@ -94,7 +94,7 @@ impl Lines {
 }
 
 /// The line that says in these words how many there are.
-fn head_of(alloc: Global, words: &[u8], count: usize) -> Result<Vec<u8>, Memory>
+pub(crate) fn head_of(alloc: Global, words: &[u8], count: usize) -> Result<Vec<u8>, Memory>
     ensures { IfOk result (λ head. head.items ≡ counted words.now count) }
 {
     let mut head = Vec::from_slice(alloc, words)?;
@@ -210,12 +210,12 @@ pub(crate) fn make_room(bytes: &mut Vec<u8>, end: usize, room: usize) -> Result<
     Ok(())
 }
 
-/// How many bytes are to be free for a line with so many digits, attributes and objects.
-fn room_of(digits: usize, attributes: usize, objects: usize) -> usize
-    ensures { (x : ℕ) → result ≤ x → x < 2 ^ 63 → digits + (MARKS + PIECE_ROOM * (attributes + objects)) ≤ x }
+/// How many bytes are to be free for a line with so many digits, and with so many names in its first braces and in its second.
+pub(crate) fn room_of(digits: usize, first: usize, second: usize) -> usize
+    ensures { (x : ℕ) → result ≤ x → x < 2 ^ 63 → digits + (MARKS + PIECE_ROOM * (first + second)) ≤ x }
 {
-    attributes
-        .saturating_add(objects)
+    first
+        .saturating_add(second)
         .saturating_mul(PIECE_ROOM)
         .saturating_add(digits)
         .saturating_add(MARKS)

@@ -1,10 +1,11 @@
 //! A table with what is needed to write the lines of its concepts.
 
-ghost use Rattle.std.specs.Prelude.{◌≡◌, ◌+◌, ◌-◌, ◌*◌, ◌≤◌, ◌<◌, ◌++◌, All, IfOk, length, take, cond, nat_lt};
+ghost use Rattle.std.specs.Prelude.{◌≡◌, ◌+◌, ◌-◌, ◌*◌, ◌≤◌, ◌<◌, ◌++◌, All, IfOk, length, map, take, cond, nat_lt};
 ghost use Rattle.std.specs.List.{concat};
 ghost use Rattle.fca_model.specs.Context.{extent};
 ghost use Rattle.expert_wire.specs.Texts.{listed, names_of};
 ghost use Rattle.basis_report.specs.Reports.{names_at};
+ghost use Rattle.concept_report.specs.Listing.{parted};
 ghost use Rattle.concept_report.specs.Places.{column};
 
 use crate::columns::{Objects, columns_of};
@@ -103,8 +104,7 @@ impl<'a, const W: usize> Sheet<'a, W> {
     {
         let _width = set.width();
         let _words = self.rows.width();
-        let end = put_members(&self.attributes, text, start, set);
-        without_comma(start, end)
+        put_attributes(self.table, &self.attributes, text, start, set)
     }
 
     /// Puts the names of the objects at these places down, and tells where they end.
@@ -118,6 +118,25 @@ impl<'a, const W: usize> Sheet<'a, W> {
         let end = put_places(&self.objects, text, start, places);
         without_comma(start, end)
     }
+}
+
+/// Puts the names of the attributes in the set down, and tells where they end.
+pub(crate) fn put_attributes<const W: usize>(
+    table: &Table,
+    names: &Pieces,
+    text: &mut [u8],
+    start: usize,
+    set: &Bits<W>,
+) -> usize
+    requires names { names.now ≡ map parted table.now.attributes }
+    requires few { length set.now ≤ length table.now.attributes }
+    requires room { start + PIECE_ROOM * length set.now ≤ length text.old }
+    ensures text { take result text.new ≡ take start text.old ++ listed (names_of table.now.attributes set.now) }
+    ensures ends { result ≤ start + PIECE_BYTES * length set.now }
+    ensures room { length text.new ≡ length text.old }
+{
+    let end = put_members(names, text, start, set);
+    without_comma(start, end)
 }
 
 /// Puts the pieces of the members down, and tells where they end.

@@ -10,10 +10,10 @@ ghost use Rattle.fca_run.specs.Reports.{attributes_read, table_concepts, table_b
 ghost use Rattle.fca_run.specs.Causes.{IsReportStop};
 
 use attr_bits::Attrs;
-use basis_report::{basis_json, basis_text, concepts_json, direct_text, verdict_text};
+use basis_report::{basis_json, concepts_json, direct_text, verdict_text};
 use canonical_basis::basis;
 use command_io::{Answer, Ending, Origin, Stop, table_under};
-use concept_report::{table_concepts_text, table_lattice_text};
+use concept_report::{table_basis_text, table_concepts_text, table_lattice_text};
 use context_reduce::{arrows, arrows_text, irreducible, part};
 use context_table::Table;
 use csv_context::write_csv;
@@ -95,11 +95,11 @@ fn table_basis<R: Threads + Sync>(
 ) -> Result<Vec<u8>, Memory>
     ensures { IfOk result (λ text. text.items ≡ table_basis json table.now) }
 {
-    let basis = basis(rt, alloc, table.rows())?;
     if json {
+        let basis = basis(rt, alloc, table.rows())?;
         basis_json(alloc, table, &basis)
     } else {
-        basis_text(alloc, table, &basis)
+        table_basis_text(alloc, table)
     }
 }
 
