@@ -157,9 +157,3 @@ column-places Rs i ps inside = agree (λ p. get_or (column Rs i) p false) (has_a
 pub column_kept : (K J : Context) (A C : Set) (i : ℕ) (places found : List ℕ) → J ≡ K → places ≡ extent K A → C ≡ column K.rows i → found ≡ filter (λ p. get_or C p false) places → found ≡ filter (has_at J.rows i) places
 column_kept K J A C i places found same is there kept =
     kept ∙ ap (λ (X : Set). filter (λ p. get_or X p false) places) there ∙ column-places K.rows i places (all_placed K K A places refl is) ∙ ap (λ (X : Context). filter (has_at X.rows i) places) (sym same)
-
-pub in_column : (K : Context) (A C : Set) (i : ℕ) (places : List ℕ) → places ≡ extent K A → C ≡ column K.rows i → All (λ p. p < length C) places
-in_column K A C i places is there = λ k d l.
-    let h = all_placed K K A places refl is k d l in
-    let n : length C ≡ length K.rows = ap length there ∙ length-map K.rows (λ X. get_or X i false) in
-    omega (arith, h, n)

@@ -9,7 +9,7 @@ ghost use Rattle.concept_report.specs.Pages.{Fills};
 
 use crate::judge::{first_seen, is_child, is_open, known, known_above};
 use crate::page::Page;
-use crate::places::{closure_at, keep_having};
+use crate::places::closure_at;
 use crate::sheet::Sheet;
 use attr_bits::Bits;
 use fca_model::Memory;
@@ -158,7 +158,7 @@ fn narrowed<const W: usize>(
 {
     let rows = sheet.rows();
     let _width = rows.width();
-    let count = keep_having(sheet.column(i), places, found);
+    let count = sheet.keep_having(i, places, found);
     let intent = closure_at(rows, &found[..count], &a.with(i));
     Child { intent, count }
 }

@@ -3,7 +3,6 @@
 ghost use Rattle.std.specs.Prelude.{◌≡◌, ◌≤◌, ◌<◌, false, All, IfOk, length, take, filter, slice_index_or};
 ghost use Rattle.fca_model.specs.Context.{closure, extent};
 
-use crate::columns::Objects;
 use attr_bits::Bits;
 use derivation::RowsOf;
 use fca_model::{MAX_OBJECTS, Memory};
@@ -29,7 +28,11 @@ pub(crate) fn places_having<const W: usize>(
 
 /// Puts those of the places that are in the column into the front of `found`, and tells how many they are. Each place is put down, and the next one
 /// comes behind it only if it stays, so no step waits for a test.
-pub(crate) fn keep_having(column: &Objects, places: &[u32], found: &mut [u32]) -> usize
+pub(crate) fn keep_having<const O: usize>(
+    column: &Bits<O>,
+    places: &[u32],
+    found: &mut [u32],
+) -> usize
     requires inside { All (λ p. p < length column.now) places.now }
     requires room { length places.now ≤ length found.old }
     ensures found { take result found.new ≡ filter (λ p. slice_index_or column.now p false) places.now }

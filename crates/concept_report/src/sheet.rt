@@ -1,6 +1,6 @@
 //! A table with what is needed to write the lines of its concepts.
 
-ghost use Rattle.std.specs.Prelude.{◌≡◌, ◌+◌, ◌-◌, ◌*◌, ◌≤◌, ◌<◌, ◌++◌, All, IfOk, length, map, take, cond, nat_lt};
+ghost use Rattle.std.specs.Prelude.{◌≡◌, ◌+◌, ◌-◌, ◌*◌, ◌≤◌, ◌<◌, ◌++◌, false, All, IfOk, length, map, take, filter, slice_index_or, cond, nat_lt};
 ghost use Rattle.std.specs.List.{concat};
 ghost use Rattle.fca_model.specs.Context.{extent};
 ghost use Rattle.expert_wire.specs.Texts.{listed, names_of};
@@ -8,7 +8,7 @@ ghost use Rattle.basis_report.specs.Reports.{names_at};
 ghost use Rattle.concept_report.specs.Listing.{parted};
 ghost use Rattle.concept_report.specs.Places.{column};
 
-use crate::columns::{Objects, columns_of};
+use crate::columns::Columns;
 use crate::names::{attribute_pieces, object_pieces};
 use crate::pieces::{PIECE_BYTES, PIECE_ROOM, Pieces};
 use crate::places::places_having;
@@ -24,7 +24,7 @@ use std::marker::Model;
 pub(crate) struct Sheet<'a, const W: usize> {
     table: &'a Table,
     rows: &'a RowsOf<W>,
-    columns: Vec<Objects>,
+    columns: Columns,
     attributes: Pieces,
     objects: Pieces,
 }
@@ -42,7 +42,7 @@ impl<'a, const W: usize> Model for Sheet<'a, W> {
 
     ghost invariant = { λ s. record {
       rows : s.rows.now ≡ s.table.now.context;
-      columns : s.columns.items ≡ map (column s.table.now.context.rows) (range_with_len 0 s.table.now.context.width);
+      columns : s.columns ≡ map (column s.table.now.context.rows) (range_with_len 0 s.table.now.context.width);
       attributes : s.attributes ≡ map parted s.table.now.attributes;
       objects : s.objects ≡ map parted s.table.now.objects;
       each_attribute : length s.table.now.attributes ≡ s.table.now.context.width;
@@ -64,7 +64,7 @@ impl<'a, const W: usize> Sheet<'a, W> {
         Ok(Sheet {
             table,
             rows,
-            columns: columns_of(alloc, rows)?,
+            columns: Columns::of(alloc, rows)?,
             attributes: attribute_pieces(alloc, table)?,
             objects: object_pieces(alloc, table)?,
         })
@@ -77,12 +77,16 @@ impl<'a, const W: usize> Sheet<'a, W> {
         self.rows
     }
 
-    /// The objects that have attribute i.
-    pub(crate) fn column(&self, i: u32) -> &Objects
-        requires { i < self.now.context.width }
-        ensures { result.now ≡ column self.now.context.rows i }
+    /// Puts those of the places whose objects have attribute i into the front of `found`, and tells how many they are.
+    pub(crate) fn keep_having(&self, i: u32, places: &[u32], found: &mut [u32]) -> usize
+        requires attribute { i < self.now.context.width }
+        requires inside { All (λ p. p < length self.now.context.rows) places.now }
+        requires room { length places.now ≤ length found.old }
+        ensures found { take result found.new ≡ filter (λ p. slice_index_or (column self.now.context.rows i) p false) places.now }
+        ensures few { result ≤ length places.now }
+        ensures room { length found.new ≡ length found.old }
     {
-        &self.columns[i as usize]
+        self.columns.keep_having(i, places, found)
     }
 
     /// The places of the objects that have all of the set.

@@ -3,7 +3,7 @@ use Rattle.std.specs.List.{range_with_len}
 use Rattle.std.proofs.lemmas.List.FromFn.{map-range_with_len_more}
 use Rattle.fca_model.specs.Sets.{Set}
 use Rattle.concept_report.specs.Places.{column}
-use Rattle.concept_report.proofs.columns.columns_of.Goals as goal
+use Rattle.concept_report.proofs.columns.columns_in.Goals as goal
 
 pub loop-attribute-preserved : goal.loop-attribute-preserved
 loop-attribute-preserved g c =
