@@ -44,14 +44,15 @@ pub(crate) fn visit_all<const W: usize>(
         Some(intent) => {
             let mut desk = first_desk(alloc, sheet, found, &intent)?;
             let mut desks = Vec::new(alloc);
+            let before = sheet.rows().width();
             spread(
-                alloc, sheet, known, found, &intent, from, &mut desk, &mut desks,
+                alloc, sheet, known, found, &intent, from, before, &mut desk, &mut desks,
             )
         }
     }
 }
 
-/// Visits all that agree with the intent a before attribute `from` and come behind it.
+/// Visits all that agree with the intent a before attribute `from` and come behind it. No attribute from `end` on is to be tried.
 #[cycle(spread)]
 fn spread<const W: usize>(
     alloc: Global,
@@ -60,15 +61,20 @@ fn spread<const W: usize>(
     found: &mut WatchedList<W>,
     a: &Bits<W>,
     from: u32,
+    end: u32,
     desk: &mut Desk,
     desks: &mut Vec<Desk>,
 ) -> Result<(), Memory>
     requires below { IsBelow known.now.members sheet.now sheet.now a.now from found.old }
     requires near { IsExtent sheet.now a.now desk.old.near }
     requires forced { AreForced found.old.list.members a.now desk.old.forced.items }
+    requires order { from ≤ end }
+    requires inside { end ≤ sheet.now.width }
+    requires none { NoneTried a.now desk.old.forced.items end sheet.now.width }
     ensures { OnOk result (HasFound known.now.members sheet.now a.now from (IsPart a.now) found.old found.new) }
 {
-    let mut before = sheet.rows().width();
+    let _width = sheet.rows().width();
+    let mut before = end;
     while let Some(i) = last_tried(a, &desk.forced, from, before) {
         if let Some(child) = child_at(sheet, &desk.near, known, found, a, i, &mut desk.forced)? {
             spread_below(alloc, sheet, known, found, &child, i, desk, desks)?;
@@ -98,12 +104,22 @@ fn spread_below<const W: usize>(
     ensures { OnOk result (HasFound known.now.members sheet.now a.now (i + 1) (IsPart a.now) found.old found.new) }
 {
     let _width = found.width();
-    if last_tried(a, &above.forced, i + 1, sheet.rows().width()).is_none() {
+    let Some(last) = last_tried(a, &above.forced, i + 1, sheet.rows().width()) else {
         return Ok(());
-    }
+    };
     let mut desk = taken(alloc, desks);
     fill(&mut desk, sheet, a, i, above)?;
-    spread(alloc, sheet, known, found, a, i + 1, &mut desk, desks)?;
+    spread(
+        alloc,
+        sheet,
+        known,
+        found,
+        a,
+        i + 1,
+        last + 1,
+        &mut desk,
+        desks,
+    )?;
     desks.push(desk)?;
     Ok(())
 }

@@ -5,6 +5,17 @@ use Rattle.lectic_basis.proofs.ForcedLemmas.{forced_more}
 use Rattle.lectic_basis.proofs.WalkLemmas.{trying, found_then, found_longer, below_start, none_found, last_found, tried_lacks, none_told}
 use Rattle.lectic_basis.proofs.tree.+spread.Goals as goal
 
+pub spread-loop-i-init : goal.spread-loop-i-init
+spread-loop-i-init g t c =
+    let K = c.args.sheet.now in
+    record {
+      from_on = c.requires.order;
+      inside = c.requires.inside;
+      found = none_found c.args.desk.now.forced.items c.requires.below c.requires.forced (K.width - c.args.end) K.width c.args.end (omega (arith, c.requires.inside)) c.requires.order (omega arith) (below_start c.requires.below) c.requires.none;
+      near = c.requires.near;
+      forced = c.requires.forced;
+    }
+
 pub spread-child_at-requires : goal.spread-child_at-requires
 spread-child_at-requires g t c =
     let ws : List ℕ = c.deref.result.now in
@@ -14,7 +25,7 @@ spread-child_at-requires g t c =
       (
         omega arith,
         (
-          omega (arith, c.width-before.ensures.words),
+          omega (arith, c.width-width.ensures.words),
           (
             trying c.requires.below (omega (arith, c.in-Some.ensures.in_range, c.loop-i.invariant.inside)) found (omega arith) c.in-Some.ensures.at_least,
             (tried_lacks c.args.a.now ws c.in-Some.i c.in-Some.ensures.tried, (c.loop-i.invariant.near, c.loop-i.invariant.forced)),
@@ -57,12 +68,11 @@ spread-returns g t c =
     let forced : AreForced c.loop-i.found.list.members c.args.a.now ws = subst (AreForced c.loop-i.found.list.members c.args.a.now) (sym c.deref.ensures.value) c.loop-i.invariant.forced in
     none_found ws c.requires.below forced (c.loop-i.before - c.args.from) c.loop-i.before c.args.from (omega (arith, c.loop-i.invariant.from_on)) (omega arith) c.loop-i.invariant.inside c.loop-i.invariant.found c.in_default.ensures
 
-pub spread_below-returns-then-is_none : goal.spread_below-returns-then-is_none
-spread_below-returns-then-is_none g t c =
+pub spread_below-returns-in_default : goal.spread_below-returns-in_default
+spread_below-returns-in_default g t c =
     let K = c.args.sheet.now in
     let ws : List ℕ = c.deref.result.now in
     let forced : AreForced c.args.found.now.list.members c.args.a.now ws = subst (AreForced c.args.found.now.list.members c.args.a.now) (sym c.deref.ensures.value) c.requires.forced in
     let all : c.width.result ≡ K.width = c.width.ensures.width ∙ ap (λ (X : Context). X.width) c.rows.ensures in
-    let none : NoneTried c.args.a.now ws (c.args.i + 1) K.width = subst (NoneTried c.args.a.now ws (c.args.i + 1)) all
-    (none_told c.args.a.now ws (c.args.i + 1) c.width.result c.last_tried.result (c.is_none.ensures ∙ ap not c.if-is_none.true) c.last_tried.ensures) in
+    let none : NoneTried c.args.a.now ws (c.args.i + 1) K.width = subst (NoneTried c.args.a.now ws (c.args.i + 1)) all c.in_default.ensures in
     none_found ws c.requires.below forced (K.width - (c.args.i + 1)) K.width (c.args.i + 1) (omega (arith, c.requires.inside)) (omega arith) (omega arith) (below_start c.requires.below) none
