@@ -71,6 +71,13 @@ returns-clause-others g c =
     IfOk-mono (λ r. HasEnded c.in_ok-gate.gate c.in_ok-oracles.oracles.items r.explore r.oracles.items r.spent) (λ r. (e : ℕ) → (e ≡ 0) ⊎ (vec_len c.args.experts < e) → own r.explore.journal e ≡ []) c.run_oracles.result
     (λ r ended. subst (λ (n : ℕ). (e : ℕ) → (e ≡ 0) ⊎ (n < e) → own r.explore.journal e ≡ []) many ended.others) c.run_oracles.ensures
 
+pub returns-clause-spent : goal.returns-clause-spent
+returns-clause-spent g c =
+    let many : length c.in_ok-oracles.oracles.items ≡ vec_len c.args.experts = ap length c.in_ok-oracles.ensures.untold ∙ length-map c.args.experts.items untold ∙ omega arith in
+    IfOk-mono (λ r. HasEnded c.in_ok-gate.gate c.in_ok-oracles.oracles.items r.explore r.oracles.items r.spent)
+    (λ r. (r.spent ≡ true) ↔ ((e : ℕ) × (1 ≤ e) × (e ≤ vec_len c.args.experts) × (ends_done (own r.explore.journal e) ≡ false))) c.run_oracles.result
+    (λ r ended. subst (λ (n : ℕ). (r.spent ≡ true) ↔ ((e : ℕ) × (1 ≤ e) × (e ≤ n) × (ends_done (own r.explore.journal e) ≡ false))) many ended.spent) c.run_oracles.ensures
+
 pub returns-clause-turns : goal.returns-clause-turns
 returns-clause-turns g c =
     let gate = c.in_ok-gate.gate in
