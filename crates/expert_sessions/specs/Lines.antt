@@ -2,7 +2,7 @@
 --
 -- Over the attributes a and b, with no row, `draw` is answered by `ask .. XX {} -> {a, b}`, makes that entry and takes a turn;
 -- `drew` is answered by `bad line`, makes none and takes none.
-use Rattle.std.specs.Prelude.{◌≡◌, ◌≢◌, ◌≤◌, ◌+◌, ◌⊎◌, ℕ, false, List, [], ◌∷◌, ◌++◌, Result, Ok, Err, length, codes}
+use Rattle.std.specs.Prelude.{◌≡◌, ◌≢◌, ◌≤◌, ◌+◌, ◌⊎◌, ℕ, false, List, [], ◌∷◌, ◌++◌, Result, Ok, Err, length}
 use Rattle.std.specs.List.{list_any}
 use Rattle.fca_model.specs.Tables.{Text}
 use Rattle.fca_model.specs.declared.TheConstants.{LINE_BYTES}
@@ -16,6 +16,7 @@ use Rattle.expert_wire.specs.declared.requests.Request.{Request}
 use Rattle.expert_wire.specs.declared.requests.Request.TheVariants.{Draw as DrawAsked, Confirm as ConfirmAsked, Row as RowAsked, Leave as LeaveAsked, Quit}
 use Rattle.expert_wire.specs.declared.requests.RequestFault.{RequestFault}
 use Rattle.expert_wire.specs.declared.requests.RequestFault.TheVariants.{Line, Width}
+use Rattle.expert_sessions.specs.declared.said.TheConstants.{BYE, BAD_LINE, BAD_WIDTH, NO_MEMORY}
 use Rattle.expert_sessions.specs.declared.said.Said.{Said}
 use Rattle.expert_sessions.specs.declared.said.Said.TheVariants.{Replied, Bye, BadLine, BadWidth, NoMemory}
 
@@ -49,10 +50,10 @@ Answers e form NoMemory made turns = LacksMemory e form turns × (made ≡ [])
 -- the line of an answer, where the attributes have these names
 abbrev pub said_line : List Text → Said → Text
 said_line attributes (Replied reply) = reply_line attributes reply
-said_line attributes Bye = codes "bye\n"
-said_line attributes BadLine = codes "bad line\n"
-said_line attributes BadWidth = codes "bad width\n"
-said_line attributes NoMemory = codes "no memory\n"
+said_line attributes Bye = BYE.now
+said_line attributes BadLine = BAD_LINE.now
+said_line attributes BadWidth = BAD_WIDTH.now
+said_line attributes NoMemory = NO_MEMORY.now
 
 -- a line that was served: its bytes before the line feed, its answer, the entries that it made, and the turns that it took
 pub record Exchange : Type 0 where

@@ -16,6 +16,15 @@ use explore_state::Reply;
 use fca_io::{Duplex, Put, Sink, write_text};
 use std::alloc::Global;
 
+// The lines of answers that are no reply.
+const BYE: &str = "bye\n";
+
+const BAD_LINE: &str = "bad line\n";
+
+const BAD_WIDTH: &str = "bad width\n";
+
+const NO_MEMORY: &str = "no memory\n";
+
 /// The answer to a line.
 #[derive(Drop)]
 pub enum Said {
@@ -53,10 +62,10 @@ pub(crate) fn write_said<E: Duplex>(
 {
     match said {
         Said::Replied(reply) => write_at_once(alloc, end, table, reply),
-        Said::Bye => write_text(end, b"bye\n"),
-        Said::BadLine => write_text(end, b"bad line\n"),
-        Said::BadWidth => write_text(end, b"bad width\n"),
-        Said::NoMemory => write_text(end, b"no memory\n"),
+        Said::Bye => write_text(end, BYE.as_bytes()),
+        Said::BadLine => write_text(end, BAD_LINE.as_bytes()),
+        Said::BadWidth => write_text(end, BAD_WIDTH.as_bytes()),
+        Said::NoMemory => write_text(end, NO_MEMORY.as_bytes()),
     }
 }
 
