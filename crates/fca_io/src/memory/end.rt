@@ -1,10 +1,10 @@
 //! An end in memory.
 
-ghost use Rattle.std.specs.Prelude.{◌≡◌, ◌≤◌, ◌<◌, ◌-◌, ◌↔◌, ◌⊎◌, [], length, min, Some, Result, IfOk, IsErr, IsTrue, OnOk, OnErr};
+ghost use Rattle.std.specs.Prelude.{◌≡◌, ◌≤◌, ◌<◌, ◌-◌, ◌↔◌, ◌⊎◌, [], false, length, min, Some, Result, IfOk, IsErr, IsTrue, OnOk, OnErr};
 ghost use Rattle.std.specs.Io.{ReadsAtMost};
 ghost use Rattle.std.specs.Io.KnownBytes.{ReadConsumes, WriteAppends, Keeps};
 ghost use Rattle.fca_io.specs.Faults.{Rose};
-ghost use Rattle.fca_io.specs.Forms.{planned, fails_next};
+ghost use Rattle.fca_io.specs.Forms.{planned, fails_next, called, with_fault};
 
 use super::sink::MemorySink;
 use super::source::MemorySource;
@@ -75,6 +75,7 @@ impl Source for MemoryEnd {
         // Which call fails, and how much each other call moves.
         ensures fails { IsErr result ↔ IsTrue (fails_next self.old.incoming.plan) }
         ensures count { IfOk result (λ count. count ≡ min (min (length into.old) self.old.incoming.most) (length self.old.incoming.bytes)) }
+        ensures plan { self.new.incoming.plan ≡ called self.old.incoming.plan }
 
         ensures bound { ReadsAtMost result into.new }
         ensures bytes { ReadConsumes (Some self.old.incoming.bytes) (Some self.new.incoming.bytes) result into.new }
@@ -105,6 +106,9 @@ impl Sink for MemoryEnd {
         // Which call fails, and how much each other call takes.
         ensures fails { IsErr result ↔ (IsTrue (fails_next self.old.outgoing.plan) ⊎ (self.old.outgoing.room ≡ length self.old.outgoing.bytes)) }
         ensures count { IfOk result (λ count. count ≡ min (min (length from.now) self.old.outgoing.most) (self.old.outgoing.room - length self.old.outgoing.bytes)) }
+        ensures plan { OnOk result (self.new.outgoing.plan ≡ called self.old.outgoing.plan) }
+        ensures failing { IsTrue (fails_next self.old.outgoing.plan) → self.new.outgoing.plan ≡ called self.old.outgoing.plan }
+        ensures full { fails_next self.old.outgoing.plan ≡ false → OnErr result (self.new.outgoing.plan ≡ with_fault (called self.old.outgoing.plan)) }
 
         ensures some { IfOk result (λ count. 0 < count) }
         ensures bound { IfOk result (λ count. count ≤ length from.now) }

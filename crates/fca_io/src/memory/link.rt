@@ -3,7 +3,7 @@
 ghost use Rattle.std.specs.Prelude.{◌≡◌, ◌≤◌, ◌↔◌, ◌⊎◌, ℕ, true, false, [], List, Some, Result, vec_len, IfOk, OnOk, OnErr, IsOk, IsErr, IsTrue};
 ghost use Rattle.std.specs.Option.{option_map};
 ghost use Rattle.fca_io.specs.Faults.{Rose};
-ghost use Rattle.fca_io.specs.Forms.{planned, fails_next};
+ghost use Rattle.fca_io.specs.Forms.{planned, fails_next, called, with_fault};
 ghost use Rattle.fca_io.specs.Links.{GivesFirst, with_given, IsWithinRoom};
 
 use super::end::MemoryEnd;
@@ -89,6 +89,9 @@ impl Listener for MemoryLink {
 
         // Which call succeeds.
         ensures succeeds { IsOk result ↔ ((fails_next self.old.plan ≡ false) × (self.old.address ≡ address.now)) }
+        ensures plan { OnOk result (self.new.plan ≡ called self.old.plan) }
+        ensures failing { IsTrue (fails_next self.old.plan) → self.new.plan ≡ called self.old.plan }
+        ensures another { fails_next self.old.plan ≡ false → OnErr result (self.new.plan ≡ with_fault (called self.old.plan)) }
 
         ensures opened { OnOk result ((self.new.listens ≡ true) × (self.new.address ≡ address.now)) }
         ensures closed { OnErr result ((self.new.listens ≡ false) × (self.new.address ≡ self.old.address)) }
@@ -113,6 +116,9 @@ impl Listener for MemoryLink {
 
         // Which call fails.
         ensures fails { IsErr result ↔ (IsTrue (fails_next self.old.plan) ⊎ (self.old.ends.to_come ≡ [])) }
+        ensures plan { OnOk result (self.new.plan ≡ called self.old.plan) }
+        ensures failing { IsTrue (fails_next self.old.plan) → self.new.plan ≡ called self.old.plan }
+        ensures no_more { fails_next self.old.plan ≡ false → OnErr result (self.new.plan ≡ with_fault (called self.old.plan)) }
 
         ensures first { IfOk result (λ end. GivesFirst (Some self.old.ends) (Some self.new.ends) end) }
         ensures none { OnErr result (self.new.ends ≡ self.old.ends) }

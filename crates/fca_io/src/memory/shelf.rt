@@ -1,10 +1,10 @@
 //! A shelf in memory.
 
-ghost use Rattle.std.specs.Prelude.{◌≡◌, ◌≢◌, ◌≤◌, ◌<◌, ◌∷◌, [], ℕ, List, length, vec_len, Some, None, Result, IfOk, OnOk, OnErr, IsErrOf};
+ghost use Rattle.std.specs.Prelude.{◌≡◌, ◌≢◌, ◌≤◌, ◌<◌, ◌↔◌, ◌⊎◌, ◌∷◌, [], ℕ, List, length, vec_len, false, Some, None, Result, IfOk, OnOk, OnErr, IsErrOf, IsTrue};
 ghost use Rattle.std.specs.Option.{option_copied};
 ghost use Rattle.fca_io.specs.Faults.{Rose};
 ghost use Rattle.fca_io.specs.Shelves.{MayHold, MayExceed, bytes_under};
-ghost use Rattle.fca_io.specs.Forms.{planned};
+ghost use Rattle.fca_io.specs.Forms.{planned, fails_next, called, with_fault};
 
 use super::plan::FailingCalls;
 use crate::outside::{Shelf, Taken};
@@ -87,7 +87,21 @@ impl Shelf for MemoryShelf {
 
     ghost faults = { λ s _. s.plan.faults };
 
-    fn fetch(&mut self, alloc: Global, name: &[u8], limit: usize) -> Result<Vec<u8>, Taken> {
+    fn fetch(&mut self, alloc: Global, name: &[u8], limit: usize) -> Result<Vec<u8>, Taken>
+        // Which call fails.
+        ensures fails { IsErrOf result Taken.Failed ↔ (IsTrue (fails_next self.old.plan) ⊎ (bytes_under self.old.files name.now ≡ None)) }
+        ensures failing { IsTrue (fails_next self.old.plan) → self.new.plan ≡ called self.old.plan }
+        ensures missing { fails_next self.old.plan ≡ false → bytes_under self.old.files name.now ≡ None → self.new.plan ≡ with_fault (called self.old.plan) }
+        ensures found { (file : List ℕ) → bytes_under self.old.files name.now ≡ Some file → self.new.plan ≡ called self.old.plan }
+
+        ensures bytes { IfOk result (λ v. MayHold (Some (bytes_under self.old.files name.now)) v.items) }
+        ensures within { IfOk result (λ v. vec_len v ≤ limit) }
+        ensures long { IsErrOf result Taken.Long → MayExceed (Some (bytes_under self.old.files name.now)) limit }
+        ensures kept { (other : List ℕ) → Some (bytes_under self.new.files other) ≡ Some (bytes_under self.old.files other) }
+
+        ensures failed { IsErrOf result Taken.Failed → Rose self.old.plan.faults self.new.plan.faults }
+        ensures later { (other : List ℕ) → self.old.plan.faults ≤ self.new.plan.faults }
+    {
         if self.calls.next_fails() {
             return Err(Taken::Failed);
         }

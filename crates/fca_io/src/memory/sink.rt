@@ -1,9 +1,9 @@
 //! A sink in memory.
 
-ghost use Rattle.std.specs.Prelude.{◌≡◌, ◌≤◌, ◌<◌, ◌-◌, ◌↔◌, ◌⊎◌, [], length, min, Some, Result, IfOk, IsErr, IsTrue, OnOk, OnErr};
+ghost use Rattle.std.specs.Prelude.{◌≡◌, ◌≤◌, ◌<◌, ◌-◌, ◌↔◌, ◌⊎◌, [], false, length, min, Some, Result, IfOk, IsErr, IsTrue, OnOk, OnErr};
 ghost use Rattle.std.specs.Io.KnownBytes.{WriteAppends, Keeps};
 ghost use Rattle.fca_io.specs.Faults.{Rose};
-ghost use Rattle.fca_io.specs.Forms.{planned, fails_next, Roomy};
+ghost use Rattle.fca_io.specs.Forms.{planned, fails_next, called, with_fault, Roomy};
 
 use super::plan::FailingCalls;
 use crate::outside::{Failed, Sink};
@@ -76,6 +76,9 @@ impl Sink for MemorySink {
         // Which call fails, and how much each other call takes.
         ensures fails { IsErr result ↔ (IsTrue (fails_next self.old.plan) ⊎ (self.old.room ≡ length self.old.bytes)) }
         ensures count { IfOk result (λ count. count ≡ min (min (length from.now) self.old.most) (self.old.room - length self.old.bytes)) }
+        ensures plan { OnOk result (self.new.plan ≡ called self.old.plan) }
+        ensures failing { IsTrue (fails_next self.old.plan) → self.new.plan ≡ called self.old.plan }
+        ensures full { fails_next self.old.plan ≡ false → OnErr result (self.new.plan ≡ with_fault (called self.old.plan)) }
 
         ensures some { IfOk result (λ count. 0 < count) }
         ensures bound { IfOk result (λ count. count ≤ length from.now) }

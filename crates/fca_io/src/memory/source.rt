@@ -4,7 +4,7 @@ ghost use Rattle.std.specs.Prelude.{◌≡◌, ◌≤◌, ◌<◌, ◌↔◌, le
 ghost use Rattle.std.specs.Io.{ReadsAtMost};
 ghost use Rattle.std.specs.Io.KnownBytes.{ReadConsumes, Keeps};
 ghost use Rattle.fca_io.specs.Faults.{Rose};
-ghost use Rattle.fca_io.specs.Forms.{planned, fails_next};
+ghost use Rattle.fca_io.specs.Forms.{planned, fails_next, called};
 
 use super::plan::FailingCalls;
 use crate::outside::{Failed, Source};
@@ -109,6 +109,7 @@ impl Source for MemorySource {
         // Which call fails, and how much each other call moves.
         ensures fails { IsErr result ↔ IsTrue (fails_next self.old.plan) }
         ensures count { IfOk result (λ count. count ≡ min (min (length into.old) self.old.most) (length self.old.bytes)) }
+        ensures plan { self.new.plan ≡ called self.old.plan }
 
         ensures bound { ReadsAtMost result into.new }
         ensures bytes { ReadConsumes (Some self.old.bytes) (Some self.new.bytes) result into.new }
