@@ -90,6 +90,22 @@ serve_command file later =
 
 -- ---- all commands
 
+-- the command of this name over a file, which reads more than the table
+abbrev pub course_command : Text → Text → List Text → Option Command
+course_command name file later =
+    cond (bytes_eq name (codes "scale")) (scale_command file later)
+    (cond (bytes_eq name (codes "replay")) (replay_command file later)
+    (cond (bytes_eq name (codes "explore")) (explore_command file later)
+    (cond (bytes_eq name (codes "serve")) (serve_command file later) None)))
+
+-- the command of this name over a file that `file_command` does not have first
+abbrev pub table_command : Text → Text → List Text → Option Command
+table_command name file later =
+    cond (bytes_eq name (codes "follows")) (follows_command file later)
+    (cond (bytes_eq name (codes "convert")) (convert_command file later)
+    (cond (bytes_eq name (codes "reduce")) (reduce_command file later)
+    (cond (bytes_eq name (codes "arrows")) (arrows_command file later) (course_command name file later))))
+
 -- the command of this name over a file, whose name is not empty
 abbrev pub file_command : Text → Text → List Text → Option Command
 file_command name file later =
@@ -97,15 +113,7 @@ file_command name file later =
     (cond (bytes_eq name (codes "concepts")) (concepts_command file later)
     (cond (bytes_eq name (codes "lattice")) (lattice_command file later)
     (cond (bytes_eq name (codes "basis")) (basis_command file later)
-    (cond (bytes_eq name (codes "direct")) (direct_command file later)
-    (cond (bytes_eq name (codes "follows")) (follows_command file later)
-    (cond (bytes_eq name (codes "convert")) (convert_command file later)
-    (cond (bytes_eq name (codes "reduce")) (reduce_command file later)
-    (cond (bytes_eq name (codes "arrows")) (arrows_command file later)
-    (cond (bytes_eq name (codes "scale")) (scale_command file later)
-    (cond (bytes_eq name (codes "replay")) (replay_command file later)
-    (cond (bytes_eq name (codes "explore")) (explore_command file later)
-    (cond (bytes_eq name (codes "serve")) (serve_command file later) None))))))))))))
+    (cond (bytes_eq name (codes "direct")) (direct_command file later) (table_command name file later)))))
 
 -- the command of this name over the file that the next word names
 abbrev pub over_file : Text → List Text → Option Command

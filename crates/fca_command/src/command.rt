@@ -3,7 +3,7 @@
 ghost use Rattle.std.specs.Prelude.{◌≡◌, IfOk, IfSome, option_copied};
 ghost use Rattle.std.specs.List.{list_all};
 ghost use Rattle.std.specs.Str.{is_utf8};
-ghost use Rattle.fca_command.specs.Commands.{command_form, text_command, named_command, make_command, survey_command, over_file, file_command, concepts_command, lattice_command, basis_command, json_said, direct_command, follows_command, convert_command, form_named, reduce_command, arrows_command, scale_command, replay_command, explore_command, serve_command, reported, files_of, first_of, IsWithinLimits};
+ghost use Rattle.fca_command.specs.Commands.{command_form, text_command, named_command, make_command, survey_command, over_file, file_command, table_command, course_command, concepts_command, lattice_command, basis_command, json_said, direct_command, follows_command, convert_command, form_named, reduce_command, arrows_command, scale_command, replay_command, explore_command, serve_command, reported, files_of, first_of, IsWithinLimits};
 
 use crate::experts::{count_said, experts_said};
 use crate::flags::{copied, serving_said, split_known, split_names};
@@ -245,7 +245,22 @@ fn file_command(
         Ok(basis_command(file, later))
     } else if name == b"direct".as_slice() {
         Ok(direct_command(file, later))
-    } else if name == b"follows".as_slice() {
+    } else {
+        table_command(alloc, name, file, later)
+    }
+}
+
+/// The other commands about one table.
+fn table_command(
+    alloc: Global,
+    name: &[u8],
+    file: Word,
+    later: &[Word],
+) -> Result<Option<Command>, Memory>
+    ensures command { IfOk result (λ command. command ≡ table_command name.now file later.now) }
+    ensures limits { IfOk result (λ command. IfSome command IsWithinLimits) }
+{
+    if name == b"follows".as_slice() {
         follows_command(alloc, file, later)
     } else if name == b"convert".as_slice() {
         Ok(convert_command(file, later))
@@ -253,7 +268,22 @@ fn file_command(
         Ok(reduce_command(file, later))
     } else if name == b"arrows".as_slice() {
         Ok(arrows_command(file, later))
-    } else if name == b"scale".as_slice() {
+    } else {
+        course_command(alloc, name, file, later)
+    }
+}
+
+/// The commands that read more than the table.
+fn course_command(
+    alloc: Global,
+    name: &[u8],
+    file: Word,
+    later: &[Word],
+) -> Result<Option<Command>, Memory>
+    ensures command { IfOk result (λ command. command ≡ course_command name.now file later.now) }
+    ensures limits { IfOk result (λ command. IfSome command IsWithinLimits) }
+{
+    if name == b"scale".as_slice() {
         scale_command(alloc, file, later)
     } else if name == b"replay".as_slice() {
         replay_command(alloc, file, later)
