@@ -28,7 +28,7 @@ const BAD_ROW: &str = "bad row";
 const TRAILING_TEXT: &str = "trailing text";
 
 /// Why bytes are no table in the Burmeister form. Lines are numbered from 1.
-#[derive(Debug, Drop)]
+#[derive(Drop)]
 pub enum CxtFault {
     /// The number of bytes before the first that begins no whole character.
     NotUtf8(usize),
@@ -79,6 +79,12 @@ impl fmt::Display for CxtFault {
 
     fn fmt<W: fmt::Write>(&self, f: &mut fmt::Formatter<W>) -> fmt::Result {
         self.told().fmt(f)
+    }
+}
+
+impl fmt::Debug for CxtFault {
+    fn fmt<W: fmt::Write>(&self, f: &mut fmt::Formatter<W>) -> fmt::Result {
+        fmt::Display::fmt(self, f)
     }
 }
 
