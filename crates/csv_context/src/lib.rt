@@ -29,7 +29,7 @@ const BAD_CELL: &str = "bad cell";
 const TOO_MANY_OBJECTS: &str = "too many objects";
 
 /// Why bytes are no table in the CSV form. Records and fields are numbered from 1.
-#[derive(Debug, Drop)]
+#[derive(Drop)]
 pub enum CsvFault {
     /// The number of bytes before the first that begins no whole character.
     NotUtf8(usize),
@@ -78,6 +78,12 @@ impl fmt::Display for CsvFault {
 
     fn fmt<W: fmt::Write>(&self, f: &mut fmt::Formatter<W>) -> fmt::Result {
         self.told().fmt(f)
+    }
+}
+
+impl fmt::Debug for CsvFault {
+    fn fmt<W: fmt::Write>(&self, f: &mut fmt::Formatter<W>) -> fmt::Result {
+        fmt::Display::fmt(self, f)
     }
 }
 

@@ -72,12 +72,20 @@ fn read_records(alloc: Global, text: &str) -> Result<Table, CsvFault>
     ensures { Tells result (form.table_form (csv_records text.now)) }
 {
     let mut reader = open(alloc, text);
+    read_left(alloc, &mut reader)
+}
+
+/// The table of the records that the reader has left.
+fn read_left(alloc: Global, reader: &mut Reader<&[u8]>) -> Result<Table, CsvFault>
+    requires { IsOpen reader.old }
+    ensures { Tells result (form.table_form (records_left reader.old)) }
+{
     let mut record = ByteRecord::new(alloc);
-    if !next_record(&mut reader, &mut record)? {
+    if !next_record(reader, &mut record)? {
         return Err(CsvFault::NoHeader);
     }
     let attributes = read_header(alloc, &record)?;
-    let objects = read_objects(alloc, attributes.len() as u32, &mut reader)?;
+    let objects = read_objects(alloc, attributes.len() as u32, reader)?;
     table_of(alloc, attributes, objects)
 }
 
