@@ -8,9 +8,10 @@ pub mod laws;
 mod member_index;
 mod settling;
 
-ghost use Rattle.std.specs.Prelude.{◌≡◌, [], IfOk, map};
-ghost use Rattle.fca_model.specs.Levels.{by_size};
+ghost use Rattle.std.specs.Prelude.{◌≡◌, ℕ, [], IfOk, OnOk, map};
+ghost use Rattle.fca_model.specs.Levels.{by_size, HasBelow};
 ghost use Rattle.pseudo_levels.specs.LeastBasis.{IsLeastBasis};
+ghost use Rattle.pseudo_levels.specs.Search.{AreWide, Grows, HaveLarger, IsOpened, LeadsAll};
 
 use attr_bits::Attrs;
 pub use candidates::Candidates;
@@ -36,14 +37,44 @@ pub fn basis_by_levels<R: Threads + Sync>(
     let mut found = MemberIndex::new(alloc, rows.width())?;
     let mut candidates = Candidates::new(alloc, rows.width())?;
     for size in 0..rows.width() + 1 {
-        let sets = candidates.of_size(alloc, size)?;
-        let answers = judge_in_threads(rt, alloc, rows, &found, &sets)?;
-        let members = open_level(alloc, &mut candidates, &found, &sets, &answers, size)?;
-        let closures = conclusions(alloc, &members)?;
-        candidates.grow_all(&closures)?;
+        let members = next_members(rt, alloc, rows, &found, &mut candidates, size)?;
+        grow_by(alloc, &mut candidates, &members)?;
         found.extend_from_slice(&members)?;
     }
     Ok(found.into_list())
+}
+
+/// The members of the basis of this size; what the other candidates of the size lead to becomes a candidate.
+fn next_members<R: Threads + Sync>(
+    rt: &R,
+    alloc: Global,
+    rows: &Rows,
+    found: &MemberIndex,
+    candidates: &mut Candidates,
+    size: u32,
+) -> Result<Vec<Implication>, Memory>
+    requires width { found.now.width ≡ rows.now.width }
+    requires wide { AreWide found.now.width candidates.old }
+    ensures opened { HasBelow [] rows.now size found.now.members → LeadsAll [] rows.now size found.now.members candidates.old
+        → IfOk result (λ members. IsOpened [] rows.now size found.now.members members.items candidates.new) }
+    ensures grows { OnOk result (Grows found.now.width candidates.old candidates.new) }
+{
+    let sets = candidates.of_size(alloc, size)?;
+    let answers = judge_in_threads(rt, alloc, rows, found, &sets)?;
+    open_level(alloc, candidates, found, &sets, &answers, size)
+}
+
+/// Makes each conclusion with one further attribute a candidate.
+fn grow_by(
+    alloc: Global,
+    candidates: &mut Candidates,
+    members: &[Implication],
+) -> Result<(), Memory>
+    ensures grown { OnOk result (HaveLarger (map (λ i. i.conclusion) members.now) candidates.new) }
+    ensures grows { OnOk result ((n : ℕ) → AreWide n (map (λ i. i.conclusion) members.now) → Grows n candidates.old candidates.new) }
+{
+    let closures = conclusions(alloc, members)?;
+    candidates.grow_all(&closures)
 }
 
 /// The conclusion of each implication.
