@@ -16,12 +16,13 @@ pub use fields::{FieldKind, first_bad, name_at};
 pub use numbers::number_of;
 pub use read::read_values;
 use std::alloc::{AllocError, AllocFailed};
+use std::fmt;
 use text_pieces::faults::{DUPLICATE_ATTRIBUTE, NO_HEADER, NOT_UTF8, RAGGED, TOO_MANY};
 use thiserror::Error;
 pub use values::Values;
 
 /// Why bytes are no table of values. Records and fields are numbered from 1.
-#[derive(Debug, Drop, Error)]
+#[derive(Drop, Error)]
 pub enum ValuesFault {
     /// The number of bytes before the first that begins no whole character.
     #[error("byte {0}: {NOT_UTF8}")]
@@ -38,6 +39,12 @@ pub enum ValuesFault {
     DuplicateAttribute(usize),
     #[error("{NO_MEMORY}")]
     Memory,
+}
+
+impl fmt::Debug for ValuesFault {
+    fn fmt<W: fmt::Write>(&self, f: &mut fmt::Formatter<W>) -> fmt::Result {
+        fmt::Display::fmt(self, f)
+    }
 }
 
 impl From<AllocError> for ValuesFault {

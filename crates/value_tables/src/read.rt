@@ -67,12 +67,20 @@ fn read_records(alloc: Global, text: &str) -> Result<Values, ValuesFault>
     ensures { Tells ValuesFault.Memory result (form.table_form (csv_records text.now)) }
 {
     let mut reader = open(alloc, text);
+    read_left(alloc, &mut reader)
+}
+
+/// The table of the records that the reader has left.
+fn read_left(alloc: Global, reader: &mut Reader<&[u8]>) -> Result<Values, ValuesFault>
+    requires { IsOpen reader.old }
+    ensures { Tells ValuesFault.Memory result (form.table_form (records_left reader.old)) }
+{
     let mut record = ByteRecord::new(alloc);
-    if !next_record(&mut reader, &mut record)? {
+    if !next_record(reader, &mut record)? {
         return Err(ValuesFault::NoHeader);
     }
     let attributes = read_header(alloc, &record)?;
-    let objects = read_objects(alloc, attributes.len(), &mut reader)?;
+    let objects = read_objects(alloc, attributes.len(), reader)?;
     Ok(Values::of(attributes, objects.names, objects.cells))
 }
 
