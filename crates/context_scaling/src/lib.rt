@@ -18,11 +18,12 @@ pub use read::read_plan;
 pub use scales::{Kind, Relation, ScaleValue};
 pub use scaling::scale;
 use std::alloc::{AllocError, AllocFailed};
+use std::fmt;
 use text_pieces::faults::{BAD_NAME, NOT_UTF8, TOO_MANY_ATTRIBUTES, UNKNOWN_ATTRIBUTE};
 use thiserror::Error;
 
 /// Why bytes are no plan for a table of values. Records and fields are numbered from 1, objects from 0.
-#[derive(Debug, Drop, Error)]
+#[derive(Drop, Error)]
 pub enum PlanFault {
     /// The number of bytes before the first that begins no whole character.
     #[error("byte {0}: {NOT_UTF8}")]
@@ -41,6 +42,12 @@ pub enum PlanFault {
     TooMany(usize),
     #[error("{NO_MEMORY}")]
     Memory,
+}
+
+impl fmt::Debug for PlanFault {
+    fn fmt<W: fmt::Write>(&self, f: &mut fmt::Formatter<W>) -> fmt::Result {
+        fmt::Display::fmt(self, f)
+    }
 }
 
 impl From<AllocError> for PlanFault {

@@ -46,10 +46,19 @@ fn read_text(alloc: Global, text: &str, values: &Values) -> Result<Plan, PlanFau
     ensures fits { IfOk result (λ plan. Fits plan values.now) }
 {
     let mut reader = open(alloc, text);
+    read_left(alloc, &mut reader, values)
+}
+
+/// The plan of the records that the reader has left.
+fn read_left(alloc: Global, reader: &mut Reader<&[u8]>, values: &Values) -> Result<Plan, PlanFault>
+    requires { IsOpen reader.old }
+    ensures form { Tells PlanFault.Memory result (form.records_form values.now 1 [] (records_left reader.old)) }
+    ensures fits { IfOk result (λ plan. Fits plan values.now) }
+{
     let mut fields = ByteRecord::new(alloc);
     let mut records = Vec::new(alloc);
     let mut names = IndexSet::new(alloc);
-    while next_record(&mut reader, &mut fields)? {
+    while next_record(reader, &mut fields)? {
         let planned = read_record(alloc, values, records.len() + 1, &fields, &mut names)?;
         records.push(planned)?;
     }

@@ -6,7 +6,7 @@ use Rattle.csv_context.specs.Records.{Record, Reads, records_left}
 use Rattle.context_scaling.specs.Scaling.{Fits, FitsBehind, Scaling, made_names, names_of}
 use Rattle.context_scaling.specs.PlanForm.{record_form, records_form}
 use Rattle.context_scaling.proofs.ReadLemmas.{fits_push, names_push, records_more}
-use Rattle.context_scaling.proofs.read.read_text.Goals as goal
+use Rattle.context_scaling.proofs.read.read_left.Goals as goal
 
 pub loop-names-preserved : goal.loop-names-preserved
 loop-names-preserved c =

@@ -1,15 +1,15 @@
 use Rattle.std.proofs.Common.{◌≡◌, ◌+◌, [], length}
-use Rattle.csv_context.specs.Records.{IsOpen, csv_records, records_left}
+use Rattle.csv_context.specs.Records.{IsOpen, records_left}
 use Rattle.context_scaling.specs.Scaling.{Fits, made_names}
 use Rattle.context_scaling.specs.PlanForm.{records_form}
-use Rattle.context_scaling.proofs.read.read_text.Given as goal
+use Rattle.context_scaling.proofs.read.read_left.Given as goal
 
 abbrev pub invariant-loop-names : goal.invariant-loop-names
 invariant-loop-names l = record {
   opened : IsOpen l.reader;
   names : l.names.keys ≡ made_names l.records.items;
   fits : Fits l.records.items l.values;
-  says : records_form l.values (length l.records.items + 1) l.records.items (records_left l.reader) ≡ records_form l.values 1 [] (csv_records l.fn.text);
+  says : records_form l.values (length l.records.items + 1) l.records.items (records_left l.reader) ≡ records_form l.values 1 [] (records_left l.fn.reader);
 }
 
 abbrev pub decreases-loop-names : goal.decreases-loop-names
