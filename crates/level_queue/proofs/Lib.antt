@@ -1,3 +1,4 @@
+pub mod AheadLemmas
 pub mod RowLemmas
 pub mod NarrowLemmas
 pub mod AcceptLemmas

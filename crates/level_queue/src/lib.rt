@@ -1,5 +1,5 @@
 //! The open questions of an exploration, kept from one event to the next: a recorded row closes some of them and changes the conclusions of others, an accepted
-//! question is taken out, and once none of a size is left the next size is opened. No list of all sets is made.
+//! question is taken out, and once none of a size is left the next size is opened, where it may be by a look at sets that were open before. No list of all sets is made.
 #![tactic(auto)]
 
 mod questions;
@@ -17,13 +17,13 @@ use attr_bits::Attrs;
 use derivation::Rows;
 use fca_model::Memory;
 use implication_closure::{ImplicationList, Question};
-use next_level::next_level;
+use next_level::{Ahead, open_next};
 use questions::{OpenQuestions, are_settled, place_of};
 use rules::Rules;
 use std::alloc::Global;
 use std::marker::Model;
 
-/// The rows, the rules and the open questions, whose premises have one size.
+/// The rows, the rules and the open questions, whose premises have one size; and sets among which later ones may be known to be.
 #[derive(Drop)]
 pub struct LevelQueue {
     alloc: Global,
@@ -31,10 +31,12 @@ pub struct LevelQueue {
     rules: Rules,
     questions: OpenQuestions,
     level: u32,
+    ahead: Ahead,
 }
 
 impl Model for LevelQueue {
-    ghost use Rattle.std.specs.Prelude.{◌≡◌};
+    ghost use Rattle.std.specs.Prelude.{◌≡◌, ◌++◌};
+    ghost use Rattle.next_level.specs.Among.{IsAhead};
     ghost use Rattle.level_queue.specs.Queue.{Base, IsKept};
 
     ghost Value = { Base };
@@ -44,6 +46,8 @@ impl Model for LevelQueue {
     ghost invariant = { λ a. record {
       wide : a.rules.width ≡ a.rows.width;
       kept : IsKept a.rules.known a.rows a.level a.rules.accepted a.questions;
+      ahead_wide : a.ahead.sets.width ≡ a.rows.width;
+      ahead : IsAhead (a.rules.known ++ a.rules.accepted) a.rows a.level a.ahead.whole a.ahead.sets.rows;
     } };
 }
 
@@ -68,13 +72,15 @@ impl LevelQueue {
     {
         let rows = rows.copy()?;
         let rules = Rules::new(alloc, known)?;
-        let first = next_level(alloc, &rows, rules.all())?;
+        let nothing = Ahead::unknown(alloc, rows.width())?;
+        let first = open_next(alloc, &rows, rules.all(), &nothing)?;
         Ok(LevelQueue {
             alloc,
             rows,
             rules,
-            questions: OpenQuestions::new(first.members),
-            level: first.size,
+            questions: OpenQuestions::new(first.level.members),
+            level: first.level.size,
+            ahead: first.ahead,
         })
     }
 
@@ -142,10 +148,11 @@ impl LevelQueue {
             self.questions.narrow(&row);
             return Ok(());
         }
-        match next_level(self.alloc, &self.rows, self.rules.all()) {
+        match open_next(self.alloc, &self.rows, self.rules.all(), &self.ahead) {
             Ok(next) => {
-                self.questions = OpenQuestions::new(next.members);
-                self.level = next.size;
+                self.questions = OpenQuestions::new(next.level.members);
+                self.level = next.level.size;
+                self.ahead = next.ahead;
                 Ok(())
             }
             Err(error) => {
@@ -168,10 +175,11 @@ impl LevelQueue {
             self.questions.take_out(i);
             return Ok(());
         }
-        match next_level(self.alloc, &self.rows, self.rules.all()) {
+        match open_next(self.alloc, &self.rows, self.rules.all(), &self.ahead) {
             Ok(next) => {
-                self.questions = OpenQuestions::new(next.members);
-                self.level = next.size;
+                self.questions = OpenQuestions::new(next.level.members);
+                self.level = next.level.size;
+                self.ahead = next.ahead;
                 Ok(())
             }
             Err(error) => {

@@ -1,22 +1,29 @@
--- The steps of the walk for the next level. A set that is larger than the bound, or closed and as large, has nothing below it that is looked for; one that is
--- not closed joins the level, or becomes its first member; below another intent each attribute that it lacks is tried, the last first.
-use Rattle.std.proofs.Common.{◌≡◌, ℕ, suc, ◌+◌, ◌<◌, ◌≤◌, true, false, ◌&&◌, List, [], ◌∷◌, ◌++◌, length, get_or, set, replicate, length-set, refl, sym, ap, ◌∙◌, subst, arith}
-use Rattle.std.proofs.lemmas.Bool.{false≢true, false_from_ne_true}
+-- The steps of the walk for the next level. A set that is as large as the bound has nothing below it that is looked for; one that is
+-- not closed joins the list; below each set the attributes that it lacks are tried, the last first.
+use Rattle.std.proofs.Common.{◌≡◌, ℕ, suc, ◌+◌, ◌<◌, ◌≤◌, Bool, true, false, not, ◌&&◌, List, [], ◌∷◌, ◌++◌, length, filter, get_or, get_or-set_same, set, replicate, length-set, refl, sym, ap, ◌∙◌, subst, arith, inl, inr, eq-eqb}
+use Rattle.std.specs.List.{list_any}
+use Rattle.fca_model.specs.Exploration.{first_missing}
+use Rattle.fca_model.proofs.SortedLemmas.{in_filter}
+use Rattle.fca_model.proofs.ListLemmas.{list_any-mono}
+use Rattle.attr_bits.proofs.DifferenceLemmas.{first_missing-from}
+use Rattle.lectic_concepts.proofs.BranchLemmas.{agree_at}
+use Rattle.std.proofs.lemmas.Bool.{false≢true, and_parts, cases_Bool, not-true, false_from_ne_true}
 use Rattle.std.proofs.lemmas.Simd.{length-replicate}
 use Rattle.fca_model.specs.Sets.{Set, same, size, within}
 use Rattle.fca_model.specs.Context.{Context, closure, is_closed}
 use Rattle.fca_model.specs.Implications.{Rule, rule, respects_all}
-use Rattle.fca_model.proofs.SetLemmas.{same-true, same_from, within_refl, within_trans, within_antisymm}
+use Rattle.fca_model.proofs.SetLemmas.{same-true, same_from, within_at_place, within_refl, within_trans, within_antisymm}
 use Rattle.fca_model.proofs.ClosureLemmas.{length-closure, closure_extensive, closure_monotone, closure_idempotent}
 use Rattle.implication_closure.specs.Closing.{RuleList, IsClosure}
 use Rattle.lectic_concepts.specs.Branches.{agree_before}
 use Rattle.extent_blocks.specs.Blocks.{Part, IsExtent, IsExtentWith, in_parts, has_at}
 use Rattle.extent_blocks.proofs.ExtentLemmas.{extent_larger, extent_left}
 use Rattle.lectic_basis.specs.Trees.{before, up_to}
-use Rattle.next_level.specs.NextLevel.{IsLeastUnder, IsLeastLevel}
+use Rattle.next_level.specs.NextLevel.{IsLeastUnder, IsOpen, everything, open_where}
+use Rattle.next_level.specs.Among.{AreAmong, AllAmong, may_be_open, stands_at}
 use Rattle.next_level.specs.LevelWalks.{IsEntered, IsLeft, IsTrying, HasLevel, IsSteady}
 use Rattle.lectic_basis.specs.Watches.{Watched, IsFiled, IsGood, CanClose, HasMoved, IsClosedBefore, Differs}
-use Rattle.lectic_basis.proofs.PlaceLemmas.{within_set, agree_with, agree_less}
+use Rattle.lectic_basis.proofs.PlaceLemmas.{within_set, agree_with, agree_less, agree_same}
 use Rattle.lectic_basis.proofs.TreeLemmas.{root_least}
 use Rattle.next_level.proofs.NextLevelLemmas as bound
 use Rattle.lectic_basis.proofs.WaitLemmas.{kept_good, good_covers}
@@ -41,39 +48,36 @@ root_entered K A F Ls b width a filed good none = record {
 -- ---- a visit
 
 module _ {K : Context} {A : Set} {from : ℕ} {F : Watched} {b : ℕ} {Ls : List Rule} (e : IsEntered K A from F b Ls) where
-  ends : {c : ℕ} {Ms : List Rule} → IsLeastLevel F.list.members K c (up_to from A) Ms → HasLevel K A from F F c Ms
+  ends : {c : ℕ} {Ms : List Rule} → Ms ≡ open_where F.list.members K c (up_to from A) → HasLevel K A from F F c Ms
   ends l = record { list = refl; level = l; filed = e.at.filed; kept = λ X h good. good }
 
+  -- where the bound fell
+  pub enter_lower : (c : ℕ) (Ms : List Rule) → Ms ≡ open_where F.list.members K c (before from A) → IsEntered K A from F c Ms
+  enter_lower c Ms l = record { at = e.at; level = l }
+
   pub enter_larger : b < size A → HasLevel K A from F F b Ls
-  enter_larger lt = ends (bound.cut_larger F.list.members K A e.at.wide from e.at.inside e.at.least b Ls e.level lt)
+  enter_larger lt = ends (bound.open_larger F.list.members K A e.at.wide from e.at.inside e.at.least b Ls lt e.level)
+
+  -- A was seen, and what comes behind it is left
+  module _ {c : ℕ} {Ms : List Rule} (seen : Ms ≡ open_where F.list.members K c (up_to K.width A)) where
+    pub enter_left : IsLeft K A from F c Ms
+    enter_left = record { at = e.at; level = seen }
+
+    pub enter_done : c ≤ size A → HasLevel K A from F F c Ms
+    enter_done le = ends (bound.open_branch F.list.members K A e.at.wide from e.at.inside e.at.least c Ms le seen)
 
   module _ {B : Set} (closure_is : B ≡ closure K A) where
     -- an intent
-    module _ (one : same B A ≡ true) where
-      closed : is_closed K A ≡ true
-      closed = same_from A (closure K A) (sym (same-true B A one) ∙ closure_is)
-
-      pub enter_as_large : size A ≡ b → HasLevel K A from F F b Ls
-      enter_as_large as_large = ends (bound.cut_closed F.list.members K A e.at.wide from e.at.inside e.at.least b Ls e.level as_large closed)
-
-      pub enter_left : IsLeft K A from F b Ls
-      enter_left = record { at = e.at; level = bound.start_closed F.list.members K A e.at.wide from e.at.inside e.at.least b Ls e.level closed }
+    pub enter_closed : same B A ≡ true → Ls ≡ open_where F.list.members K b (up_to K.width A)
+    enter_closed one = bound.open_closed F.list.members K A e.at.wide from e.at.inside e.at.least b Ls (same_from A (closure K A) (sym (same-true B A one) ∙ closure_is)) e.level
 
     -- a set that is not closed
-    module _ (differs : same B A ≡ false) where
-      open_set : is_closed K A ≡ false
-      open_set = false_from_ne_true (is_closed K A) (λ t. false≢true (sym differs ∙ same_from B A (closure_is ∙ sym (same-true A (closure K A) t))))
+    pub enter_open : same B A ≡ false → size A ≤ b → (Ms : List Rule) → Ms ≡ Ls ++ rule A B ∷ [] → Ms ≡ open_where F.list.members K b (up_to K.width A)
+    enter_open differs le Ms is =
+        let open_set : is_closed K A ≡ false = false_from_ne_true (is_closed K A) (λ t. false≢true (sym differs ∙ same_from B A (closure_is ∙ sym (same-true A (closure K A) t)))) in
+        is ∙ ap (λ X. Ls ++ rule A X ∷ []) closure_is ∙ bound.open_push F.list.members K A e.at.wide from e.at.inside e.at.least b Ls e.at.respecting open_set le e.level
 
-      pub enter_joins : size A ≡ b → {Ms : List Rule} → Ms ≡ Ls ++ rule A B ∷ [] → HasLevel K A from F F b Ms
-      enter_joins as_large is = ends (subst (λ Zs. IsLeastLevel F.list.members K b (up_to from A) Zs) (sym (is ∙ ap (λ X. Ls ++ rule A X ∷ []) closure_is))
-          (bound.push_least F.list.members K A e.at.wide from e.at.inside e.at.least b Ls e.level e.at.respecting open_set as_large))
-
-      pub enter_lowers : size A < b → {c : ℕ} {Ms : List Rule} → c ≡ size A → Ms ≡ rule A B ∷ [] → HasLevel K A from F F c Ms
-      enter_lowers lt {c = c} {Ms = Ms} size_is is = ends (subst (λ n. IsLeastLevel F.list.members K n (up_to from A) Ms) (sym size_is)
-          (subst (λ Zs. IsLeastLevel F.list.members K (size A) (up_to from A) Zs) (sym (is ∙ ap (λ X. rule A X ∷ []) closure_is))
-          (bound.lower_least F.list.members K A e.at.wide from e.at.inside e.at.least b Ls e.level e.at.respecting open_set lt)))
-
--- ---- below an intent
+-- ---- below a set
 
 -- all behind attribute j - 1 were visited
 pub trying : {K : Context} {A : Set} {from j i : ℕ} {F G : Watched} {b₀ b : ℕ} {Ls₀ Ls : List Rule} → IsLeft K A from F b₀ Ls₀ → j ≤ K.width → HasLevel K A j F G b Ls → j ≡ suc i → from ≤ i → IsTrying K A i G b Ls
@@ -88,7 +92,7 @@ trying {K = K} {A = A} {from = from} {i = i} {F = F} {G = G} {b = b} {Ls = Ls} l
         filed = g.filed;
         good = g.kept A (within_refl A) l.at.good;
       };
-      level = subst (λ k. IsLeastLevel G.list.members K b (up_to k A) Ls) e g.level;
+      level = subst (λ k. Ls ≡ open_where G.list.members K b (up_to k A)) e g.level;
       inside = omega (arith, le, e);
     }
 
@@ -111,7 +115,7 @@ module _ {K : Context} {A : Set} {i : ℕ} {G : Watched} {b : ℕ} {Ls : List Ru
 
   -- an attribute that A has
   pub left_member : get_or A i false ≡ true → HasLevel K A i G G b Ls
-  left_member has = record { list = refl; level = bound.member_least G.list.members K i b A Ls has t.level; filed = t.at.filed; kept = λ X h good. good }
+  left_member has = record { list = refl; level = bound.member_open G.list.members K i b A Ls has t.level; filed = t.at.filed; kept = λ X h good. good }
 
   -- one that A lacks
   module _ (lacks : get_or A i false ≡ false) {X : Set} (x : X ≡ set A i true) where
@@ -135,8 +139,8 @@ module _ {K : Context} {A : Set} {i : ℕ} {G : Watched} {b : ℕ} {Ls : List Ru
       pub left_none : Differs G.list.members i A X → HasLevel K A i G H b Ls
       left_none differs = record {
         list = m.list;
-        level = subst (λ (M : RuleList). IsLeastLevel M.members K b (up_to i A) Ls) (sym m.list)
-            (bound.none_least G.list.members K A i i on t.at.least lacks b Ls (λ T h r. differs T (subst (λ Y. within Y T ≡ true) (sym x) h) r) t.level);
+        level = subst (λ (M : RuleList). Ls ≡ open_where M.members K b (up_to i A)) (sym m.list)
+            (bound.none_open G.list.members K A i i on t.at.least lacks b Ls (λ T o h. differs T (subst (λ Y. within Y T ≡ true) (sym x) h) o.respecting) t.level);
         filed = m.filed;
         kept = good_moved;
       }
@@ -168,7 +172,7 @@ module _ {K : Context} {A : Set} {i : ℕ} {G : Watched} {b : ℕ} {Ls : List Ru
             filed = m.filed;
             good = subst (λ (M : RuleList). IsGood M.members H.buckets C) (sym m.list) c.good;
           };
-          level = subst (λ (M : RuleList). IsLeastLevel M.members K b (before (suc i) C) Ls) (sym m.list) (bound.child_least_level G.list.members K A i i on t.at.least lacks C has_c c.agree b Ls t.level);
+          level = subst (λ (M : RuleList). Ls ≡ open_where M.members K b (before (suc i) C)) (sym m.list) (bound.child_open G.list.members K A i i on t.at.least lacks C has_c c.agree b Ls t.level);
         })
 
         pub left_done : {I : Watched} {d : ℕ} {Ms : List Rule} → HasLevel K C (i + 1) H I d Ms → HasLevel K A i G I d Ms
@@ -176,11 +180,73 @@ module _ {K : Context} {A : Set} {i : ℕ} {G : Watched} {b : ℕ} {Ls : List Ru
             let same_list : I.list ≡ G.list = done.list ∙ m.list in
             record {
               list = same_list;
-              level = bound.child_least_done I.list.members K A i i on (subst (λ (M : RuleList). IsLeastUnder M.members K.width A i) (sym same_list) t.at.least) lacks C has_c c.agree d Ms
-                  (subst (λ k. IsLeastLevel I.list.members K d (up_to k C) Ms) (sym next) done.level);
+              level = bound.child_done I.list.members K A i i on (subst (λ (M : RuleList). IsLeastUnder M.members K.width A i) (sym same_list) t.at.least) lacks C has_c c.agree d Ms
+                  (subst (λ k. Ms ≡ open_where I.list.members K d (up_to k C)) (sym next) done.level);
               filed = done.filed;
               kept = λ Y h good. done.kept Y (within_trans Y A C h up_c) (good_moved Y h good);
             }
+
+-- ---- among some sets
+
+pub among_start : (J : List Rule) (K : Context) (A : Set) (whole : Bool) (sets : List Set) → AllAmong J K whole sets → AreAmong J K A 0 whole sets
+among_start J K A whole sets all X x = all X (record { wide = x.wide; respecting = x.respecting; not_closed = x.not_closed; passes = refl })
+
+-- of the same list, from a later attribute on
+pub among_from : (J L : RuleList) (K : Context) (A : Set) (from i : ℕ) (whole : Bool) (sets : List Set) → L ≡ J → from ≤ i → AreAmong J.members K A from whole sets → AreAmong L.members K A i whole sets
+among_from J L K A from i whole sets same_list on among X x =
+    among X (record { wide = x.wide; respecting = subst (λ (M : RuleList). respects_all M.members X ≡ true) same_list x.respecting; not_closed = x.not_closed; passes = agree_less from i A X on x.passes })
+
+-- the first attribute of a set that another lacks
+stands : (A X : Set) (i : ℕ) → get_or A i false ≡ false → agree_before i A X ≡ true → get_or X i false ≡ true → stands_at i (first_missing 0 X A) ≡ true
+stands A X i lacks agree has = ap (stands_at i) (first_missing-from X A i has lacks (λ j l t. agree_at i A X agree j l ∙ t)) ∙ eq-eqb i i refl
+
+module _ (J : List Rule) (K : Context) (A : Set) (from i : ℕ) (whole : Bool) (sets : List Set) (among : AreAmong J K A from whole sets) (onward : from ≤ i) (lacks : get_or A i false ≡ false) where
+  -- an open set of the branch
+  module _ (X : Set) (x : IsOpen J K everything X) (agree : agree_before i A X ≡ true) (has : get_or X i false ≡ true) where
+    listed : whole ≡ true → list_any (same X) sets ≡ true
+    listed e = sym (ap (λ w. may_be_open w sets X) e) ∙ among X (record { wide = x.wide; respecting = x.respecting; not_closed = x.not_closed; passes = agree_less from i A X onward agree })
+
+    in_part : (part : List Set) → (whole ≡ true → part ≡ filter (λ Y. stands_at i (first_missing 0 Y A)) sets) → (w : Bool) → whole ≡ w → may_be_open w part X ≡ true
+    in_part part is false e = refl
+    in_part part is true e = ap (list_any (same X)) (is e) ∙ in_filter (λ Y. stands_at i (first_missing 0 Y A)) X sets (listed e) (stands A X i lacks agree has)
+
+  pub among_below : (part : List Set) → (whole ≡ true → part ≡ filter (λ Y. stands_at i (first_missing 0 Y A)) sets) → (C : Set) → within (set A i true) C ≡ true → i < length A → agree_before i A C ≡ true
+      → AreAmong J K C (i + 1) whole part
+  among_below part is C up inside agree X x =
+      let next : i + 1 ≡ suc i = omega arith in
+      let has : get_or C i false ≡ true = within_at_place (set A i true) C up i (get_or-set_same A i true false inside) in
+      let at : agree_before (suc i) C X ≡ true = subst (λ k. agree_before k C X ≡ true) next x.passes in
+      let open_set : IsOpen J K everything X = record { wide = x.wide; respecting = x.respecting; not_closed = x.not_closed; passes = refl } in
+      in_part X open_set (sym (agree_same i A C X agree) ∙ agree_less i (suc i) C X (omega arith) at) (sym (agree_at (suc i) C X at i (omega arith)) ∙ has) part is whole refl
+
+  -- a branch without any
+  pub none_among : (whole && not (list_any (λ Y. stands_at i (first_missing 0 Y A)) sets)) ≡ true → (X : Set) → IsOpen J K everything X → get_or X i false ≡ true → agree_before i A X ≡ false
+  none_among e X x has = elim (cases_Bool (agree_before i A X)) [
+    | inl agree ↦
+        let parts = and_parts whole (not (list_any (λ Y. stands_at i (first_missing 0 Y A)) sets)) e in
+        let there = list_any-mono (same X) (λ Y. stands_at i (first_missing 0 Y A))
+        (λ Y t. subst (λ Z. stands_at i (first_missing 0 Z A) ≡ true) (same-true X Y t) (stands A X i lacks agree has)) sets (listed X x agree has parts.0) in
+        absurd (false≢true (sym (not-true (list_any (λ Y. stands_at i (first_missing 0 Y A)) sets) parts.1) ∙ there))
+    | inr differs ↦ differs
+  ]
+
+-- the branch of a child
+pub among_child : (J L : RuleList) (K : Context) (A : Set) (from i : ℕ) (whole : Bool) (sets part items : List Set) (C : Set) → AreAmong J.members K A from whole sets → L ≡ J → from ≤ i → get_or A i false ≡ false
+    → (whole ≡ true → items ≡ filter (λ Y. stands_at i (first_missing 0 Y A)) sets) → part ≡ items → within (set A i true) C ≡ true → i < length A → agree_before i A C ≡ true → AreAmong L.members K C (i + 1) whole part
+among_child J L K A from i whole sets part items C among same_list onward lacks is value up inside agree =
+    among_below L.members K A i i whole sets (among_from J L K A from i whole sets same_list onward among) (omega arith) lacks part (λ e. value ∙ is e) C up inside agree
+
+-- a branch that is passed by
+pub left_passed : (K : Context) (A : Set) (i : ℕ) (G : Watched) (b : ℕ) (Ls : List Rule) (whole : Bool) (sets : List Set) → IsTrying K A i G b Ls → AreAmong G.list.members K A i whole sets
+    → get_or A i false ≡ false → (whole && not (list_any (λ Y. stands_at i (first_missing 0 Y A)) sets)) ≡ true → HasLevel K A i G G b Ls
+left_passed K A i G b Ls whole sets t among lacks none = record {
+  list = refl;
+  level = bound.none_open G.list.members K A i i (omega arith) t.at.least lacks b Ls
+      (λ T o h. none_among G.list.members K A i i whole sets among (omega arith) lacks none T o
+      (within_at_place (set A i true) T h i (get_or-set_same A i true false (let l = t.inside in let w = t.at.wide in omega (arith, l, w))))) t.level;
+  filed = t.at.filed;
+  kept = λ X h good. good;
+}
 
 -- ---- while nothing is listed
 

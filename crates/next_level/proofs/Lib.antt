@@ -1,2 +1,3 @@
 pub mod NextLevelLemmas
 pub mod LevelWalkLemmas
+pub mod SizeLemmas

@@ -1,14 +1,15 @@
 -- The states of the walk for the next level.
 --
--- The walk looks at the sets that respect the list and agree with A before an attribute. It keeps the least size of those seen so far that are not closed, and
--- the sets of that size: a branch whose sets are larger is not entered.
-use Rattle.std.specs.Prelude.{◌≡◌, ℕ, suc, ◌<◌, ◌≤◌, true, length, List, []}
-use Rattle.fca_model.specs.Sets.{Set, within}
+-- The walk looks at the sets that respect the list and agree with A before an attribute. It keeps those seen so far that are not closed and no larger than a
+-- bound: a branch whose sets are larger is not entered.
+use Rattle.std.specs.Prelude.{nat_le, ◌==◌, ◌⊎◌, ◌≡◌, ℕ, suc, ◌<◌, ◌≤◌, true, length, List, []}
+use Rattle.std.specs.List.{list_all, list_any}
+use Rattle.fca_model.specs.Sets.{Set, within, size}
 use Rattle.fca_model.specs.Context.{Context}
 use Rattle.fca_model.specs.Implications.{Rule, respects_all}
 use Rattle.lectic_basis.specs.Trees.{before, up_to}
 use Rattle.lectic_basis.specs.Watches.{Watched, IsFiled, IsGood}
-use Rattle.next_level.specs.NextLevel.{IsLeastUnder, IsLeastLevel}
+use Rattle.next_level.specs.NextLevel.{IsLeastUnder, open_where}
 
 -- A respects the list, all that are looked at contain it, and what does not concern A waits
 pub record IsInside (K : Context) (A : Set) (from : ℕ) (F : Watched) : Type 0 where
@@ -23,23 +24,23 @@ pub record IsInside (K : Context) (A : Set) (from : ℕ) (F : Watched) : Type 0 
 -- A is to be visited, and then all that agree with it before attribute `from`
 pub record IsEntered (K : Context) (A : Set) (from : ℕ) (F : Watched) (b : ℕ) (Ls : List Rule) : Type 0 where
   pub at : IsInside K A from F
-  pub level : IsLeastLevel F.list.members K b (before from A) Ls
+  pub level : Ls ≡ open_where F.list.members K b (before from A)
 
--- the intent A was visited, and what agrees with it before attribute `from` and comes behind it is left
+-- A was visited, and what agrees with it before attribute `from` and comes behind it is left
 pub record IsLeft (K : Context) (A : Set) (from : ℕ) (F : Watched) (b : ℕ) (Ls : List Rule) : Type 0 where
   pub at : IsInside K A from F
-  pub level : IsLeastLevel F.list.members K b (up_to K.width A) Ls
+  pub level : Ls ≡ open_where F.list.members K b (up_to K.width A)
 
--- attribute i is to be tried below the intent A, and all behind it were
+-- attribute i is to be tried below A, and all behind it were
 pub record IsTrying (K : Context) (A : Set) (i : ℕ) (F : Watched) (b : ℕ) (Ls : List Rule) : Type 0 where
   pub at : IsInside K A i F
-  pub level : IsLeastLevel F.list.members K b (up_to (suc i) A) Ls
+  pub level : Ls ≡ open_where F.list.members K b (up_to (suc i) A)
   pub inside : i < K.width
 
 -- all that agree with A before attribute i were visited, and each good set within A is good as it was
 pub record HasLevel (K : Context) (A : Set) (i : ℕ) (old new : Watched) (b : ℕ) (Ls : List Rule) : Type 0 where
   pub list : new.list ≡ old.list
-  pub level : IsLeastLevel new.list.members K b (up_to i A) Ls
+  pub level : Ls ≡ open_where new.list.members K b (up_to i A)
   pub filed : IsFiled new.list.width new.list.members new.buckets
   pub kept : (X : Set) → within X A ≡ true → IsGood old.list.members old.buckets X → IsGood new.list.members new.buckets X
 
@@ -47,3 +48,9 @@ pub record HasLevel (K : Context) (A : Set) (i : ℕ) (old new : Watched) (b : �
 pub record IsSteady (b : ℕ) (Ls : List Rule) (c : ℕ) (Ms : List Rule) : Type 0 where
   pub empty : Ms ≡ [] → Ls ≡ []
   pub bound : Ms ≡ [] → c ≡ b
+
+-- k is the least size of a premise, or the given number where there is no smaller one
+pub record IsLeastSize (past : ℕ) (members : List Rule) (k : ℕ) : Type 0 where
+  pub at_most : k ≤ past
+  pub least : list_all (λ i. nat_le k (size i.premise)) members ≡ true
+  pub reached : (k ≡ past) ⊎ (list_any (λ i. size i.premise == k) members ≡ true)

@@ -1,2 +1,3 @@
 pub mod NextLevel
+pub mod Among
 pub mod LevelWalks

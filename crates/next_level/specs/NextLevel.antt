@@ -5,7 +5,7 @@
 --
 -- Of the rows {a}, {b}, {c} over a, b, c, with nothing known and nothing accepted, the sets that are not closed are {b, c}, {a, c} and {a, b}, all of size 2:
 -- the next level is that of size 2, and has all three members.
-use Rattle.std.specs.Prelude.{◌≡◌, ℕ, ◌≤◌, ◌+◌, ◌==◌, ◌⊎◌, length, Bool, true, false, not, ◌&&◌, List, [], filter, map}
+use Rattle.std.specs.Prelude.{◌≡◌, ℕ, ◌≤◌, ◌+◌, ◌==◌, ◌⊎◌, length, Bool, nat_le, true, false, not, ◌&&◌, List, [], filter, map}
 use Rattle.fca_model.specs.Sets.{Set, within, size, all_sets}
 use Rattle.fca_model.specs.Context.{Context, closure, is_closed}
 use Rattle.fca_model.specs.Implications.{Rule, rule, respects_all}
@@ -25,13 +25,17 @@ pub record IsNextLevel (S : List Rule) (K : Context) (acc : List Rule) (b : ℕ)
 abbrev pub IsLeastUnder : List Rule → ℕ → Set → ℕ → Type 0
 IsLeastUnder J n A k = (X : Set) → length X ≡ n → respects_all J X ≡ true → agree_before k A X ≡ true → within A X ≡ true
 
--- X respects J, is not closed, and has b members
+-- X respects J, is not closed, and has at most b members
 abbrev pub is_open : List Rule → Context → ℕ → Set → Bool
-is_open J K b X = (respects_all J X && not (is_closed K X)) && (size X == b)
+is_open J K b X = (respects_all J X && not (is_closed K X)) && nat_le (size X) b
 
 -- those that pass the test, with their closures, in lectic order
 unfoldable pub open_where : List Rule → Context → ℕ → (Set → Bool) → List Rule
 open_where J K b p = map (λ P. rule P (closure K P)) (filter p (filter (is_open J K b) (all_sets K.width)))
+
+-- all sets
+abbrev pub everything : Set → Bool
+everything X = true
 
 -- a set that respects J, is not closed, and passes the test
 pub record IsOpen (J : List Rule) (K : Context) (p : Set → Bool) (X : Set) : Type 0 where
@@ -40,8 +44,12 @@ pub record IsOpen (J : List Rule) (K : Context) (p : Set → Bool) (X : Set) : T
   pub not_closed : is_closed K X ≡ false
   pub passes : p X ≡ true
 
--- of these sets none has fewer than b members, L are those of b members, and there is one, or nothing is listed
-pub record IsLeastLevel (J : List Rule) (K : Context) (b : ℕ) (p : Set → Bool) (L : List Rule) : Type 0 where
-  pub least : (X : Set) → IsOpen J K p X → b ≤ size X
-  pub listed : L ≡ open_where J K b p
-  pub witness : (L ≡ []) ⊎ ((X : Set) × IsOpen J K p X × (size X ≡ b))
+-- X respects J, is not closed, and has b members
+abbrev pub opens_at : List Rule → Context → ℕ → Set → Bool
+opens_at J K b X = (respects_all J X && not (is_closed K X)) && (size X == b)
+
+-- no open set has fewer than b members, L are those of b members, and there is one, or nothing is listed
+pub record IsLeastLevel (J : List Rule) (K : Context) (b : ℕ) (L : List Rule) : Type 0 where
+  pub least : (X : Set) → IsOpen J K everything X → b ≤ size X
+  pub listed : L ≡ map (λ P. rule P (closure K P)) (filter (opens_at J K b) (all_sets K.width))
+  pub witness : (L ≡ []) ⊎ ((X : Set) × IsOpen J K everything X × (size X ≡ b))

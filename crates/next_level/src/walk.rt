@@ -1,14 +1,18 @@
-//! The walk through the sets that respect a list, in lectic order. None that is larger than the least open one seen so far is entered.
+//! The walk through the sets that respect a list, in lectic order. None that is larger than the bound is entered. Where the open sets are known to be among some,
+//! no branch is entered that has none of these.
 
-ghost use Rattle.std.specs.Prelude.{◌≡◌, ◌≤◌, ◌<◌, ◌+◌, ℕ, List, OnOk, IfOk, IfSome, MatchOption, length, slice_set, true, false};
+ghost use Rattle.std.specs.Prelude.{◌≡◌, ◌≤◌, ◌<◌, ◌+◌, ℕ, List, OnOk, IfOk, IfSome, MatchOption, length, slice_index_or, slice_set, true, false};
+ghost use Rattle.lectic_concepts.specs.Branches.{agree_before};
 ghost use Rattle.fca_model.specs.Sets.{size, within};
 ghost use Rattle.fca_model.specs.Context.{closure};
 ghost use Rattle.fca_model.specs.Implications.{Rule};
 ghost use Rattle.extent_blocks.specs.Blocks.{IsExtent};
 ghost use Rattle.lectic_basis.specs.Watches.{Watched};
+ghost use Rattle.next_level.specs.Among.{AreAmong};
 ghost use Rattle.next_level.specs.LevelWalks.{IsEntered, IsLeft, IsTrying, HasLevel, IsSteady};
 
-use crate::LevelOf;
+use crate::among::Among;
+use crate::open_sets::OpenSets;
 use attr_bits::Bits;
 use extent_blocks::{Near, Sheet};
 use fca_model::{Implication, Memory};
@@ -20,20 +24,22 @@ pub(crate) fn enter_all<const W: usize>(
     alloc: Global,
     sheet: &Sheet<W>,
     found: &mut WatchedList<W>,
-    level: &mut LevelOf<W>,
+    level: &mut OpenSets<W>,
     a: &Bits<W>,
     from: u32,
+    among: &Among<W>,
 ) -> Result<(), Memory>
-    requires entered { IsEntered sheet.now a.now from found.old level.old.size level.old.members.items }
-    requires small { size a.now ≤ level.old.size }
-    ensures level { OnOk result (HasLevel sheet.now a.now from found.old found.new level.new.size level.new.members.items) }
-    ensures steady { OnOk result (IsSteady level.old.size level.old.members.items level.new.size level.new.members.items) }
+    requires entered { IsEntered sheet.now a.now from found.old level.old.bound level.old.members.items }
+    requires small { size a.now ≤ level.old.bound }
+    requires among { AreAmong found.old.list.members sheet.now a.now from among.now.whole among.now.sets.items }
+    ensures level { OnOk result (HasLevel sheet.now a.now from found.old found.new level.new.bound level.new.members.items) }
+    ensures steady { OnOk result (IsSteady level.old.bound level.old.members.items level.new.bound level.new.members.items) }
 {
     let _width = found.width();
     let closed = sheet.rows().closure(a);
-    if enter(sheet, found, level, a, &closed, from)? {
+    if enter(alloc, sheet, found, level, a, &closed, from)? {
         let near = Near::of(alloc, sheet, a)?;
-        return try_each(alloc, sheet, &near, found, level, a, from);
+        return try_each(alloc, sheet, &near, found, level, a, from, among);
     }
     Ok(())
 }
@@ -44,97 +50,131 @@ fn try_each<const W: usize>(
     sheet: &Sheet<W>,
     near: &Near,
     found: &mut WatchedList<W>,
-    level: &mut LevelOf<W>,
+    level: &mut OpenSets<W>,
     a: &Bits<W>,
     from: u32,
+    among: &Among<W>,
 ) -> Result<(), Memory>
-    requires left { IsLeft sheet.now a.now from found.old level.old.size level.old.members.items }
+    requires left { IsLeft sheet.now a.now from found.old level.old.bound level.old.members.items }
     requires near { IsExtent sheet.now a.now near.now }
-    ensures level { OnOk result (HasLevel sheet.now a.now from found.old found.new level.new.size level.new.members.items) }
-    ensures steady { OnOk result (IsSteady level.old.size level.old.members.items level.new.size level.new.members.items) }
+    requires among { AreAmong found.old.list.members sheet.now a.now from among.now.whole among.now.sets.items }
+    ensures level { OnOk result (HasLevel sheet.now a.now from found.old found.new level.new.bound level.new.members.items) }
+    ensures steady { OnOk result (IsSteady level.old.bound level.old.members.items level.new.bound level.new.members.items) }
 {
     for i in (from..sheet.rows().width()).rev() {
-        if let Some(child) = child_at(sheet, near, found, level, a, i)? {
+        if let Some(child) = child_at(alloc, sheet, near, found, level, a, i, among)? {
+            let part = child_among(alloc, sheet, found, a, i, among, &child)?;
             let below = near_below(alloc, sheet, near, a, i, &child)?;
-            try_each(alloc, sheet, &below, found, level, &child, i + 1)?;
+            try_each(alloc, sheet, &below, found, level, &child, i + 1, &part)?;
         }
     }
     Ok(())
 }
 
-/// Enters the least set that contains a and attribute i and respects the list, if a lacks i and the set agrees with a before it. Where more is left there, it
-/// is behind the intent that is told.
+/// Enters the least set that contains a and attribute i and respects the list, if a lacks i, the set agrees with a before it, and open sets may be in its branch.
+/// Where more is left there, it is behind the set that is told.
 fn child_at<const W: usize>(
+    alloc: Global,
     sheet: &Sheet<W>,
     near: &Near,
     found: &mut WatchedList<W>,
-    level: &mut LevelOf<W>,
+    level: &mut OpenSets<W>,
     a: &Bits<W>,
     i: u32,
+    among: &Among<W>,
 ) -> Result<Option<Bits<W>>, Memory>
-    requires trying { IsTrying sheet.now a.now i found.old level.old.size level.old.members.items }
+    requires trying { IsTrying sheet.now a.now i found.old level.old.bound level.old.members.items }
+    requires among { AreAmong found.old.list.members sheet.now a.now i among.now.whole among.now.sets.items }
     requires near { IsExtent sheet.now a.now near.now }
-    ensures left { IfOk result (λ child. IfSome child (λ b. IsLeft sheet.now b (i + 1) found.new level.new.size level.new.members.items)) }
+    ensures left { IfOk result (λ child. IfSome child (λ b. IsLeft sheet.now b (i + 1) found.new level.new.bound level.new.members.items)) }
     ensures larger { IfOk result (λ child. IfSome child (λ b. within (slice_set a.now i true) b ≡ true)) }
+    ensures agree { IfOk result (λ child. IfSome child (λ b. agree_before i a.now b ≡ true)) }
+    ensures lacks { IfOk result (λ child. IfSome child (λ b. slice_index_or a.now i false ≡ false)) }
+    ensures list { OnOk result (found.new.list ≡ found.old.list) }
     ensures done { IfOk result (λ child. MatchOption child
-        (HasLevel sheet.now a.now i found.old found.new level.new.size level.new.members.items)
+        (HasLevel sheet.now a.now i found.old found.new level.new.bound level.new.members.items)
         (λ b. (new : Watched) (size : ℕ) (members : List Rule) → HasLevel sheet.now b (i + 1) found.new new size members → HasLevel sheet.now a.now i found.old new size members)) }
-    ensures steady { OnOk result (IsSteady level.old.size level.old.members.items level.new.size level.new.members.items) }
+    ensures steady { OnOk result (IsSteady level.old.bound level.old.members.items level.new.bound level.new.members.items) }
 {
     let _width = found.width();
     if a.has(i) {
+        return Ok(None);
+    }
+    if among.passes(a, i) {
         return Ok(None);
     }
     let mut reached = a.with(i);
     if !close(found, a, &mut reached, i)? {
         return Ok(None);
     }
-    if reached.size() > level.size {
+    if reached.size() > level.bound {
         return Ok(None);
     }
     let closed = closure_near(sheet, near, a, i, &reached);
-    if enter(sheet, found, level, &reached, &closed, i + 1)? {
+    if enter(alloc, sheet, found, level, &reached, &closed, i + 1)? {
         return Ok(Some(reached));
     }
     Ok(None)
 }
 
-/// Visits a alone, whose closure is given. Whether it is an intent, and what agrees with it before attribute `from` may have what is looked for.
-fn enter<const W: usize>(
+/// The sets among which those are that are open and agree with the child before attribute i + 1.
+fn child_among<const W: usize>(
+    alloc: Global,
     sheet: &Sheet<W>,
     found: &WatchedList<W>,
-    level: &mut LevelOf<W>,
+    a: &Bits<W>,
+    i: u32,
+    among: &Among<W>,
+    child: &Bits<W>,
+) -> Result<Among<W>, Memory>
+    requires inside { i < sheet.now.width }
+    requires wide { length a.now ≡ sheet.now.width }
+    requires among { AreAmong found.now.list.members sheet.now a.now i among.now.whole among.now.sets.items }
+    requires lacks { slice_index_or a.now i false ≡ false }
+    requires larger { within (slice_set a.now i true) child.now ≡ true }
+    requires agree { agree_before i a.now child.now ≡ true }
+    ensures { IfOk result (λ part. AreAmong found.now.list.members sheet.now child.now (i + 1) part.whole part.sets.items) }
+{
+    let _width = found.width();
+    let part = among.branch(alloc, a, i)?;
+    Ok(part)
+}
+
+/// Visits a alone, whose closure is given. Whether what agrees with it before attribute `from` may have what is looked for.
+fn enter<const W: usize>(
+    alloc: Global,
+    sheet: &Sheet<W>,
+    found: &WatchedList<W>,
+    level: &mut OpenSets<W>,
     a: &Bits<W>,
     closed: &Bits<W>,
     from: u32,
 ) -> Result<bool, Memory>
-    requires entered { IsEntered sheet.now a.now from found.now level.old.size level.old.members.items }
-    requires small { size a.now ≤ level.old.size }
+    requires entered { IsEntered sheet.now a.now from found.now level.old.bound level.old.members.items }
+    requires small { size a.now ≤ level.old.bound }
     requires closed { closed.now ≡ closure sheet.now a.now }
-    ensures left { IfOk result (λ left. left ≡ true → IsLeft sheet.now a.now from found.now level.new.size level.new.members.items) }
-    ensures done { IfOk result (λ left. left ≡ false → HasLevel sheet.now a.now from found.now found.now level.new.size level.new.members.items) }
-    ensures steady { OnOk result (IsSteady level.old.size level.old.members.items level.new.size level.new.members.items) }
+    ensures left { IfOk result (λ left. left ≡ true → IsLeft sheet.now a.now from found.now level.new.bound level.new.members.items) }
+    ensures done { IfOk result (λ left. left ≡ false → HasLevel sheet.now a.now from found.now found.now level.new.bound level.new.members.items) }
+    ensures steady { OnOk result (IsSteady level.old.bound level.old.members.items level.new.bound level.new.members.items) }
 {
     let _width = found.width();
+    level.visit(alloc)?;
     let count = a.size();
-    if closed == a {
-        return Ok(count < level.size);
-    }
-    let member = Implication {
-        premise: *a,
-        conclusion: *closed,
-    };
-    if count == level.size {
-        level.members.push(member)?;
+    if count > level.bound {
         return Ok(false);
     }
-    level.size = count;
-    level.members.clear();
-    level.members.push(member)?;
-    Ok(false)
+    if closed == a {
+        return Ok(count < level.bound);
+    }
+    level.make_room(alloc, count)?;
+    level.members.push(Implication {
+        premise: *a,
+        conclusion: *closed,
+    })?;
+    Ok(count < level.bound)
 }
 
-/// The closure of a set that contains the intent a and attribute i. The rows near by are those that contain a.
+/// The closure of a set that contains a and attribute i. The rows near by are those that contain a.
 fn closure_near<const W: usize>(
     sheet: &Sheet<W>,
     near: &Near,
@@ -158,7 +198,7 @@ fn closure_near<const W: usize>(
     sheet.rows().closure(larger)
 }
 
-/// The rows that contain a set which contains the intent a and attribute i. Where the list holds in the rows, those of the rows near a that have i are all.
+/// The rows that contain a set which contains a and attribute i. Where the list holds in the rows, those of the rows near a that have i are all.
 fn near_below<const W: usize>(
     alloc: Global,
     sheet: &Sheet<W>,

@@ -1,4 +1,4 @@
-use Rattle.std.proofs.Common.{◌∙◌, ◌≡◌, ◌+◌, ◌<◌, ◌≤◌, true, length, ap, sym, subst, arith, slice_get}
+use Rattle.std.proofs.Common.{◌∙◌, ◌≡◌, ◌+◌, ◌<◌, ◌≤◌, ◌++◌, ◌∷◌, [], true, length, ap, sym, subst, arith, slice_get}
 use Rattle.fca_model.specs.Implications.{holds}
 use Rattle.fca_model.specs.Invariant.{distinct_premises}
 use Rattle.fca_model.specs.Levels.{HasBelow}
@@ -7,6 +7,8 @@ use Rattle.implication_closure.specs.Closing.{RuleList}
 use Rattle.std.specs.List.{list_all, remove}
 use Rattle.level_queue.specs.Queue.{Base, IsKept}
 use Rattle.level_queue.specs.Rules.{RuleParts}
+use Rattle.next_level.specs.Among.{AllAmong, IsAhead}
+use Rattle.level_queue.proofs.AheadLemmas.{rule_ahead, ahead_all}
 use Rattle.level_queue.proofs.AcceptLemmas.{accepted_base}
 use Rattle.level_queue.proofs.OpenLemmas.{kept_open, accepted_premise, accepted_conclusion, accepted_kept, accepted_distinct, accepted_below, accepted_bounded, opened_kept}
 use Rattle.level_queue.proofs.LevelQueue.accept.Goals as goal
@@ -38,7 +40,28 @@ invariant_of-self-then-as_slice-gt1 c =
       kept = subst (λ qs. IsKept c.push.new.self.known a.rows a.level c.push.new.self.accepted qs) (sym c.take_out.ensures)
           (subst (λ (p : RuleParts). IsKept p.known a.rows a.level p.accepted (remove a.questions c.args.i)) (sym ok)
           (accepted_kept c.self.invariant.kept c.args.i q l c.get-question.ensures (omega (arith, c.if-as_slice-gt1.true, ap length c.as_slice.ensures))));
+      ahead_wide = c.self.invariant.ahead_wide;
+      ahead = subst (λ (p : RuleParts). IsAhead (p.known ++ p.accepted) a.rows a.level a.ahead.whole a.ahead.sets.rows) (sym ok)
+          (rule_ahead a.rules.known a.rules.accepted a.rows a.level a.ahead.whole a.ahead.sets.rows q c.self.invariant.ahead);
     }
+
+pub open_next-requires-clause-wide : goal.open_next-requires-clause-wide
+open_next-requires-clause-wide c = ap (λ (J : RuleList). J.width) c.all.ensures ∙ ap (λ (p : RuleParts). p.width) c.in_ok-push.ensures.ok ∙ c.self.invariant.wide
+
+pub open_next-requires-clause-ahead_wide : goal.open_next-requires-clause-ahead_wide
+open_next-requires-clause-ahead_wide c = c.self.invariant.ahead_wide
+
+pub open_next-requires-clause-among : goal.open_next-requires-clause-among
+open_next-requires-clause-among c =
+    let a = c.self.inside in
+    let q = c.get-question.result in
+    let l : c.args.i < length c.self.inside.questions = omega (arith, c.requires, ap length (kept_open c.self.invariant.kept), ap (λ (b : Base). length (open_questions b.known b.context b.accepted)) c.self.view_is) in
+    let ok = c.in_ok-push.ensures.ok in
+    let last : length a.questions ≤ 1 = omega (arith, c.if-as_slice-gt1.false, ap length c.as_slice.ensures) in
+    let all = ahead_all a.rules.known (a.rules.accepted ++ q ∷ []) a.rows a.level a.ahead.whole a.ahead.sets.rows (accepted_below c.self.invariant.kept c.args.i q l c.get-question.ensures last)
+    (rule_ahead a.rules.known a.rules.accepted a.rows a.level a.ahead.whole a.ahead.sets.rows q c.self.invariant.ahead) in
+    subst (λ (J : RuleList). AllAmong J.members a.rows a.ahead.whole a.ahead.sets.rows) (sym c.all.ensures)
+    (subst (λ (p : RuleParts). AllAmong (p.known ++ p.accepted) a.rows a.ahead.whole a.ahead.sets.rows) (sym ok) all)
 
 pub returns-then-as_slice-gt1-clause-ok : goal.returns-then-as_slice-gt1-clause-ok
 returns-then-as_slice-gt1-clause-ok c question at =
@@ -56,12 +79,14 @@ invariant_of-self-in-Ok c =
     let last : length a.questions ≤ 1 = omega (arith, c.if-as_slice-gt1.false, ap length c.as_slice.ensures) in
     record {
       wide = ap (λ (p : RuleParts). p.width) ok ∙ c.self.invariant.wide;
-      kept = subst (λ qs. IsKept c.push.new.self.known a.rows c.in-Ok.next.size c.push.new.self.accepted qs) (sym c.new.ensures) (opened_kept
+      kept = subst (λ qs. IsKept c.push.new.self.known a.rows c.in-Ok.next.level.size c.push.new.self.accepted qs) (sym c.new.ensures) (opened_kept
           (subst (λ (p : RuleParts). list_all (holds a.rows) p.known ≡ true) (sym ok) c.self.invariant.kept.hold)
           (subst (λ (p : RuleParts). distinct_premises p.accepted ≡ true) (sym ok) (accepted_distinct c.self.invariant.kept c.args.i q l c.get-question.ensures))
-          (c.in-Ok.ensures c.push.new.self.known c.push.new.self.accepted (a.level + 1) (ap (λ (J : RuleList). J.members) c.all.ensures)
+          (c.in-Ok.ensures.next c.push.new.self.known c.push.new.self.accepted (a.level + 1) (ap (λ (J : RuleList). J.members) c.all.ensures)
           (subst (λ (p : RuleParts). HasBelow p.known a.rows (a.level + 1) p.accepted) (sym ok) (accepted_below c.self.invariant.kept c.args.i q l c.get-question.ensures last))
           (accepted_bounded c.self.invariant.kept c.args.i q l c.get-question.ensures)));
+      ahead_wide = c.in-Ok.ensures.ahead_wide;
+      ahead = subst (λ (J : RuleList). IsAhead J.members a.rows c.in-Ok.next.level.size c.in-Ok.next.ahead.whole c.in-Ok.next.ahead.sets.rows) c.all.ensures c.in-Ok.ensures.ahead;
     }
 
 pub returns-in-Ok-clause-ok : goal.returns-in-Ok-clause-ok

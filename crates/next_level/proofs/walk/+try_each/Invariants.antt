@@ -9,6 +9,6 @@ abbrev pub invariant-loop-i : goal.invariant-loop-i
 invariant-loop-i g l = record {
   from_on : l.fn.from ≤ l.i;
   inside : l.i ≤ l.sheet.width;
-  found : HasLevel l.sheet l.a l.i l.fn.found l.found l.level.size l.level.members.items;
-  steady : IsSteady l.fn.level.size l.fn.level.members.items l.level.size l.level.members.items;
+  found : HasLevel l.sheet l.a l.i l.fn.found l.found l.level.bound l.level.members.items;
+  steady : IsSteady l.fn.level.bound l.fn.level.members.items l.level.bound l.level.members.items;
 }

@@ -1,6 +1,12 @@
 use Rattle.std.proofs.Common.{sym, ◌∙◌, arith}
-use Rattle.next_level.proofs.LevelWalkLemmas.{left_member, left_can_close, left_none, left_above, left_wide, left_entered, left_done, enter_larger, steady_same}
+use Rattle.next_level.proofs.LevelWalkLemmas.{left_passed, left_member, left_can_close, left_none, left_above, left_wide, left_entered, left_done, enter_larger, steady_same}
 use Rattle.next_level.proofs.walk.child_at.Goals as goal
+
+pub returns-then-passes-clause-done : goal.returns-then-passes-clause-done
+returns-then-passes-clause-done g c = left_passed c.args.sheet.now c.args.a.now c.args.i c.args.found.now c.args.level.now.bound c.args.level.now.members.items c.args.among.now.whole c.args.among.now.sets.items c.requires.trying c.requires.among (sym c.has.ensures ∙ c.if-has.false) (sym c.passes.ensures ∙ c.if-passes.true)
+
+pub returns-then-passes-clause-steady : goal.returns-then-passes-clause-steady
+returns-then-passes-clause-steady g c = steady_same
 
 pub returns-then-has-clause-done : goal.returns-then-has-clause-done
 returns-then-has-clause-done g c = left_member c.requires.trying (sym c.has.ensures ∙ c.if-has.true)

@@ -1,15 +1,14 @@
-use Rattle.std.proofs.Common.{◌≡◌, ◌+◌, ◌≤◌, length, false, replicate, sym, ap, ◌∙◌, subst, arith}
+use Rattle.std.proofs.Common.{◌≡◌, ◌≤◌, length, false, replicate, sym, ap, ◌∙◌, subst, arith}
 use Rattle.std.proofs.lemmas.Simd.{length-replicate}
 use Rattle.fca_model.specs.Sets.{size}
 use Rattle.fca_model.specs.Context.{Context}
 use Rattle.implication_closure.specs.Closing.{RuleList, IsClosure}
-use Rattle.next_level.specs.NextLevel.{IsLeastLevel}
-use Rattle.lectic_basis.specs.Trees.{up_to}
-use Rattle.next_level.specs.LevelWalks.{IsEntered}
 use Rattle.lectic_basis.specs.Watches.{IsFiled, IsGood}
-use Rattle.next_level.proofs.LevelWalkLemmas.{root_entered}
-use Rattle.next_level.proofs.NextLevelLemmas.{next_is, level_wide}
-use Rattle.next_level.proofs.level_up_to.Goals as goal
+use Rattle.next_level.specs.NextLevel.{open_where, everything}
+use Rattle.next_level.specs.Among.{AllAmong}
+use Rattle.next_level.specs.LevelWalks.{IsEntered}
+use Rattle.next_level.proofs.LevelWalkLemmas.{root_entered, among_start}
+use Rattle.next_level.proofs.open_up_to.Goals as goal
 
 pub enter_all-requires : goal.enter_all-requires
 enter_all-requires g c =
@@ -25,7 +24,11 @@ enter_all-requires g c =
     (subst (λ (M : RuleList). IsFiled M.width M.members F.buckets) (sym c.in_ok-found.ensures.list) c.in_ok-found.ensures.filed)
     (subst (λ (M : RuleList). IsGood M.members F.buckets A) (sym c.in_ok-found.ensures.list) c.in_ok-found.ensures.good)
     c.new.ensures.items in
-    (omega arith, (omega arith, (omega arith, (omega (arith, c.width-width.ensures.words), (subst (λ X. IsEntered K X 0 F c.max.result c.new.result.items) (sym c.resized.ensures) is, subst (λ X. size X ≤ c.max.result) (sym c.resized.ensures) (omega (arith, c.max.ensures, c.size.ensures.size)))))))
+    let among = subst (λ (M : RuleList). AllAmong M.members K c.args.among.now.whole c.args.among.now.sets.items) (sym c.in_ok-found.ensures.list) c.requires.among in
+    let entered = subst (λ X. IsEntered K X 0 F c.max.result c.new.result.items) (sym c.resized.ensures) is in
+    let small = subst (λ X. size X ≤ c.max.result) (sym c.resized.ensures) (omega (arith, c.max.ensures, c.size.ensures.size)) in
+    let told = among_start F.list.members K c.resized.result c.args.among.now.whole c.args.among.now.sets.items among in
+    (omega arith, (omega arith, (omega arith, (omega (arith, c.width-width.ensures.words), (omega arith, (entered, (small, told)))))))
 
 pub resized-requires : goal.resized-requires
 resized-requires g c =
@@ -34,20 +37,11 @@ resized-requires g c =
     let wide : length c.naive_closure-least.result ≡ J.width = c.naive_closure-least.ensures.wide ∙ ap length c.empty.ensures ∙ length-replicate c.width.result false ∙ c.width.ensures.width in
     (omega arith, (omega (arith, c.width-width.ensures.words), omega (arith, wide, c.requires.wide, n, c.width-width.ensures.narrow)))
 
-pub returns-clause-next : goal.returns-clause-next
-returns-clause-next g c known members reached is below bounded whole =
-    let K = c.args.sheet.now in
-    let J : RuleList = c.args.rules.now in
-    let A = c.resized.result in
-    let b = c.enter_all.new.level.size in
-    let Ls = c.enter_all.new.level.members.items in
-    let wide : length c.naive_closure-least.result ≡ J.width = c.naive_closure-least.ensures.wide ∙ ap length c.empty.ensures ∙ length-replicate c.width.result false ∙ c.width.ensures.width in
-    next_is known K reached members J.members is below bounded A b Ls
-    (subst (λ (M : RuleList). IsLeastLevel M.members K b (up_to 0 A) Ls) (c.in_ok-enter_all.ensures.level.list ∙ c.in_ok-found.ensures.list) c.in_ok-enter_all.ensures.level.level)
-    (λ e.
-    let kept : b ≡ c.max.result = c.in_ok-enter_all.ensures.steady.bound e in
-    let all : c.args.bound ≡ K.width + 1 = whole e in
-    omega (arith, kept, all, c.max.ensures, c.size.ensures.at_most, wide, c.requires.wide))
+pub returns-clause-listed : goal.returns-clause-listed
+returns-clause-listed g c =
+    subst (λ (M : RuleList). c.enter_all.new.level.members.items ≡ open_where M.members c.args.sheet.now c.enter_all.new.level.bound everything) (c.in_ok-enter_all.ensures.level.list ∙ c.in_ok-found.ensures.list) c.in_ok-enter_all.ensures.level.level
 
-pub returns-clause-even : goal.returns-clause-even
-returns-clause-even g c = level_wide c.in_ok-enter_all.ensures.level.level
+pub returns-clause-kept : goal.returns-clause-kept
+returns-clause-kept g c e =
+    let kept : c.enter_all.new.level.bound ≡ c.max.result = c.in_ok-enter_all.ensures.steady.bound e in
+    omega (arith, kept, c.max.ensures)

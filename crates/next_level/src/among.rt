@@ -1,0 +1,93 @@
+//! Sets among which the open ones are known to be, and those of them in a branch of the walk.
+
+ghost use Rattle.std.specs.Prelude.{◌≡◌, ◌≤◌, ◌&&◌, IfOk, filter, not, true};
+ghost use Rattle.std.specs.List.{list_any};
+ghost use Rattle.fca_model.specs.Exploration.{first_missing};
+ghost use Rattle.next_level.specs.Among.{stands_at};
+
+use attr_bits::Bits;
+use fca_model::Memory;
+use std::alloc::Global;
+
+/// Sets among which all open ones are, where they are whole. Else they tell nothing.
+#[derive(Drop)]
+pub(crate) struct Among<const W: usize> {
+    pub whole: bool,
+    pub sets: Vec<Bits<W>>,
+}
+
+impl<const W: usize> Among<W> {
+    /// These sets.
+    pub(crate) fn of(alloc: Global, whole: bool, sets: &[Bits<W>]) -> Result<Among<W>, Memory>
+        requires words { W ≤ 1024 }
+        ensures { IfOk result (λ among. (among.whole ≡ whole) × (among.sets.items ≡ sets.now)) }
+    {
+        let sets = sets.iter().copied().collect(alloc)?;
+        Ok(Among { whole, sets })
+    }
+
+    /// Those that have attribute i as the first that a lacks.
+    pub(crate) fn branch(&self, alloc: Global, a: &Bits<W>, i: u32) -> Result<Among<W>, Memory>
+        requires words { W ≤ 1024 }
+        ensures { IfOk result (λ part. (part.whole ≡ self.now.whole) × (part.sets.items ≡ filter (λ X. stands_at i (first_missing 0 X a.now)) self.now.sets.items)) }
+    {
+        let sets = part_of(alloc, &self.sets, a, i)?;
+        Ok(Among {
+            whole: self.whole,
+            sets,
+        })
+    }
+
+    /// Whether none of them is in the branch, and no other set is open.
+    pub(crate) fn passes(&self, a: &Bits<W>, i: u32) -> bool
+        requires words { W ≤ 1024 }
+        ensures { result ≡ (self.now.whole && not (list_any (λ X. stands_at i (first_missing 0 X a.now)) self.now.sets.items)) }
+    {
+        self.whole && !is_any_in_branch(&self.sets, a, i)
+    }
+}
+
+/// Those of the sets that have attribute i as the first that a lacks.
+fn part_of<const W: usize>(
+    alloc: Global,
+    among: &[Bits<W>],
+    a: &Bits<W>,
+    i: u32,
+) -> Result<Vec<Bits<W>>, Memory>
+    requires words { W ≤ 1024 }
+    ensures { IfOk result (λ part. part.items ≡ filter (λ X. stands_at i (first_missing 0 X a.now)) among.now) }
+{
+    Ok(
+        among
+            .iter()
+            .copied()
+            .filter(
+                |set: &Bits<W>| -> bool
+                    ensures { result ≡ stands_at i (first_missing 0 set.now a.entry.now) }
+                { is_in_branch(set, a, i) },
+            )
+            .collect(alloc)?,
+    )
+}
+
+/// Whether attribute i is the first of the set that a lacks.
+fn is_in_branch<const W: usize>(set: &Bits<W>, a: &Bits<W>, i: u32) -> bool
+    ensures { result ≡ stands_at i (first_missing 0 set.now a.now) }
+{
+    match set.first_missing(a) {
+        Some(first) => first == i,
+        None => false,
+    }
+}
+
+/// Whether one of the sets is in the branch.
+fn is_any_in_branch<const W: usize>(among: &[Bits<W>], a: &Bits<W>, i: u32) -> bool
+    requires words { W ≤ 1024 }
+    ensures { result ≡ list_any (λ X. stands_at i (first_missing 0 X a.now)) among.now }
+{
+    among.iter().any(
+        |set: &Bits<W>| -> bool
+            ensures { result ≡ stands_at i (first_missing 0 set.now a.entry.now) }
+        { is_in_branch(set, a, i) },
+    )
+}
