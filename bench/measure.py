@@ -10,6 +10,8 @@ import time
 TOP = os.path.dirname(os.path.dirname(os.path.abspath(__file__)))
 FCA = os.environ.get("BENCH_FCA", os.path.join(TOP, "fca"))
 LIMIT = int(os.environ.get("BENCH_LIMIT", "60"))
+# As `fca` has it, also where another program is measured.
+os.environ.setdefault("GLIBC_TUNABLES", "glibc.malloc.hugetlb=1")
 
 
 def tables_folder():
