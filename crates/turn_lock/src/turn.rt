@@ -9,15 +9,35 @@ ghost use Rattle.turn_lock.specs.Seats.{known, IsIdle, Waits, Fits, Stays};
 ghost use Rattle.turn_lock.specs.Steps.{Drew, Came, HasTurn, Holds, Grew, ended_view};
 
 use crate::logged::Logged;
-use crate::queue::Queue;
+use crate::queue::{LOOKS, NAPS, Queue, nap};
 use crate::rule::{Coming, Drawing, Ending, Key, TurnRule};
 use crate::view::View;
 use atomic_table::{Seat, Shared};
 use fca_model::Memory;
+use std::hint;
 use std::sync::Wait;
+use std::thread::Parker;
+use std::time::Duration;
 
-fn draw<V: Logged>(
+/// Looks for a while whether each ticket that was drawn has had its turn.
+fn is_quiet<V: Logged>(
     shared: &Shared<Option<V>, View<V::Base, V::Entry>, Key<V>, TurnRule<V>>,
+) -> bool
+    requires { shared.now.table_id.words ≡ 2 }
+{
+    for _ in 0..LOOKS {
+        if shared.peek(0) == shared.peek(1) {
+            return true;
+        }
+        hint::spin_loop();
+    }
+    false
+}
+
+/// Draws a ticket: once each that was drawn has had its turn, or after some naps.
+fn draw<V: Logged, R: Wait>(
+    shared: &Shared<Option<V>, View<V::Base, V::Entry>, Key<V>, TurnRule<V>>,
+    rt: &R,
     seat: &mut Seat<Option<V>, View<V::Base, V::Entry>>,
 ) -> u64
     requires lock { Fits shared.now.table_id seat.old }
@@ -26,6 +46,12 @@ fn draw<V: Logged>(
     ensures lock { Stays seat.old seat.new }
     ensures drew { Drew (step 1 0 1 0 none) seat.old.me result seat.new.me }
 {
+    for naps in 0..NAPS {
+        if is_quiet(shared) {
+            break;
+        }
+        Parker::new().park_timeout(rt, nap(naps));
+    }
     shared.fetch_add::<Drawing<V>>(seat, 0, 1)
 }
 
@@ -76,8 +102,13 @@ fn wait<V: Logged, R: Wait>(
             return value;
         }
         let turns = ticket.abs_diff(shared.peek(1));
-        queue.pause(rt, ticket, turns, looks);
-        looks = looks.saturating_add(1);
+        if turns <= 1 && looks < LOOKS {
+            looks += 1;
+            hint::spin_loop();
+        } else {
+            let most = Duration::from_millis(turns);
+            queue.place(ticket).park_timeout(rt, most);
+        }
     }
     unreachable!()
 }
@@ -124,7 +155,7 @@ pub fn play<V: Logged, R: Wait>(
     ensures entry { IfOk result (λ reply. (b : V.Base) → seat.old.me.0.base ≡ Some b → Entered V.legal V.by b (known seat.old) (V.entry event reply) (known seat.new)) }
     ensures memory { OnErr result ((b : V.Base) → seat.old.me.0.base ≡ Some b → Looked V.legal V.by b (known seat.old) (known seat.new)) }
 {
-    let ticket = draw(shared, seat);
+    let ticket = draw(shared, rt, seat);
     let mut value = wait(shared, queue, rt, seat, ticket);
     let reply = value.apply(event);
     end(shared, queue, seat, value);
@@ -148,7 +179,7 @@ pub fn look<V: Logged, R: Wait>(
     ensures looked { (b : V.Base) → seat.old.me.0.base ≡ Some b → Looked V.legal V.by b (known seat.old) (known seat.new) }
     ensures shown { (b : V.Base) → seat.old.me.0.base ≡ Some b → V.shows b seat.new.me.0.seen result }
 {
-    let ticket = draw(shared, seat);
+    let ticket = draw(shared, rt, seat);
     let value = wait(shared, queue, rt, seat, ticket);
     let seen = value.seen();
     end(shared, queue, seat, value);
