@@ -44,6 +44,14 @@ seen_set K A ws i w m h = record {
   ];
 }
 
+-- nothing was seen
+pub seen_none : (K : Context) (A : Set) (ws : List ℕ) → ws ≡ [] → AreSeen K A ws
+seen_none K A ws is = subst (AreSeen K A) (sym is) (record { few = omega arith; member = λ i l. absurd (omega (arith, l)) })
+
+-- what was seen of the closures of A holds of those of a larger set
+pub seen_larger : (K : Context) (A D : Set) (ws : List ℕ) → length D ≡ K.width → within A D ≡ true → AreSeen K A ws → AreSeen K D ws
+seen_larger K A D ws wide h m = record { few = m.few; member = λ i l. member_larger K A D i (get_or ws i 0) (omega (arith, l, wide, m.few)) h (m.member i l) }
+
 -- the same of a larger set, among the rows that contain it
 pub seen_among : (K : Context) (A D : Set) (ws : List ℕ) → length D ≡ K.width → within A D ≡ true → AreSeen K A ws → AreSeen (among K D) D ws
 seen_among K A D ws wide h m = record {

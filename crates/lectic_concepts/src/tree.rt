@@ -8,6 +8,7 @@ ghost use Rattle.fca_model.specs.Context.{is_closed};
 ghost use Rattle.fca_model.specs.Pseudo.{intents};
 ghost use Rattle.lectic_concepts.specs.Branches.{branch, AreSeen};
 
+use crate::failures::{first_seen, is_child, is_open, note};
 use attr_bits::{Attrs, Bits};
 use derivation::{Rows, RowsOf};
 use fca_model::Memory;
@@ -92,7 +93,7 @@ fn add_branch<const W: usize>(
                 add_branch(alloc, all, rows, &child, i + 1, &mut none)?;
             } else {
                 let above = rows_above(alloc, rows, &child)?;
-                let mut passed = seen_above(alloc, rows, a, seen, &above, &child)?;
+                let mut passed = seen_among(alloc, rows, a, seen, &above, &child)?;
                 add_branch(alloc, all, &above, &child, i + 1, &mut passed)?;
             }
         }
@@ -100,8 +101,7 @@ fn add_branch<const W: usize>(
     Ok(())
 }
 
-/// The least intent that contains a and attribute i, where it agrees with a before i and a lacks i. Where its closure was seen to have another attribute
-/// before i that a lacks, there is none, and it is not computed (In-Close5 by Andrews, 2018, and FCbO by Krajca, Outrata and Vychodil, 2010).
+/// The least intent that contains a and attribute i, where it agrees with a before i and a lacks i.
 fn child_at<const W: usize>(
     rows: &RowsOf<W>,
     a: &Bits<W>,
@@ -120,47 +120,15 @@ fn child_at<const W: usize>(
         (λ D. branch rows.now a.now i ≡ branch rows.now a.now (i + 1) ++ branch rows.now D (i + 1)) }
     ensures seen { AreSeen rows.now a.now seen.new.items }
 {
-    if a.has(i) {
-        return None;
-    }
-    let member = seen.get(i as usize).copied().unwrap_or(i);
-    if member < i && !a.has(member) {
+    if !is_open(rows, a, i, seen) {
         return None;
     }
     let closed = rows.closure(&a.with(i));
-    let Some(new) = closed.first_missing(a) else {
-        return None;
-    };
-    if new == i {
+    if is_child(rows, a, i, &closed) {
         return Some(closed);
     }
-    note(seen, i, new);
+    note(rows, a, i, &closed, seen);
     None
-}
-
-/// Puts what was seen of the closure with attribute i in the place of what was seen before.
-fn note(seen: &mut Vec<u32>, i: u32, member: u32)
-    ensures { seen.new.items ≡ slice_set seen.old.items i member }
-{
-    if let Some(kept) = seen.get_mut(i as usize) {
-        *kept = member;
-    }
-}
-
-/// Each attribute is a member of the closure with it.
-fn first_seen<const W: usize>(
-    alloc: Global,
-    rows: &RowsOf<W>,
-    a: &Bits<W>,
-) -> Result<Vec<u32>, Memory>
-    requires { length a.now ≡ rows.now.width }
-    ensures { IfOk result (λ seen. AreSeen rows.now a.now seen.items) }
-{
-    let mut seen = Vec::new(alloc);
-    for i in 0..rows.width() {
-        seen.push(i)?;
-    }
-    Ok(seen)
 }
 
 /// Nothing is known of the closures.
@@ -171,7 +139,7 @@ fn none_seen<const W: usize>(alloc: Global, rows: &RowsOf<W>, a: &Bits<W>) -> Ve
 }
 
 /// What was seen of the closures of a holds of those of a larger set, and of the rows that contain it.
-fn seen_above<const W: usize>(
+fn seen_among<const W: usize>(
     alloc: Global,
     rows: &RowsOf<W>,
     a: &Bits<W>,

@@ -1,6 +1,6 @@
 use Rattle.std.proofs.Common.{arith}
 use Rattle.lectic_concepts.proofs.SeenLemmas.{seen_first}
-use Rattle.lectic_concepts.proofs.tree.first_seen.Goals as goal
+use Rattle.lectic_concepts.proofs.failures.first_seen.Goals as goal
 
 pub returns : goal.returns
 returns g c = seen_first c.args.rows.now c.args.a.now c.loop-i.seen.items c.requires (omega (arith, c.loop-i.invariant.long, c.loop-i-test.false, c.loop-i.auto.i-end, c.width-i-end.ensures.width))

@@ -2,7 +2,7 @@ use Rattle.std.proofs.Common.{sym, subst}
 use Rattle.fca_model.specs.Context.{Context}
 use Rattle.lectic_concepts.specs.Branches.{AreSeen}
 use Rattle.lectic_concepts.proofs.SeenLemmas.{seen_among}
-use Rattle.lectic_concepts.proofs.tree.seen_above.Goals as goal
+use Rattle.lectic_concepts.proofs.tree.seen_among.Goals as goal
 
 pub returns : goal.returns
 returns g c =

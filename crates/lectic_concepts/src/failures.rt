@@ -1,0 +1,100 @@
+//! Which closures of an intent with one attribute more are its children in the tree, and what is seen of such closures beforehand. A closure that is no child
+//! has another attribute before the one that was added; that is noted, and holds of all larger intents (In-Close5 by Andrews, 2018, and FCbO by Krajca,
+//! Outrata and Vychodil, 2010).
+
+ghost use Rattle.std.specs.Prelude.{◌≡◌, ◌<◌, ◌+◌, ◌++◌, true, false, IfOk, length, slice_set, slice_index_or};
+ghost use Rattle.std.specs.Bool.{MatchBool};
+ghost use Rattle.fca_model.specs.Sets.{within};
+ghost use Rattle.fca_model.specs.Context.{closure};
+ghost use Rattle.lectic_concepts.specs.Branches.{branch, AreSeen};
+
+use attr_bits::Bits;
+use derivation::RowsOf;
+use fca_model::Memory;
+use std::alloc::Global;
+
+/// Each attribute is a member of the closure with it.
+pub fn first_seen<const W: usize>(
+    alloc: Global,
+    rows: &RowsOf<W>,
+    a: &Bits<W>,
+) -> Result<Vec<u32>, Memory>
+    requires { length a.now ≡ rows.now.width }
+    ensures { IfOk result (λ seen. AreSeen rows.now a.now seen.items) }
+{
+    let mut seen = Vec::new(alloc);
+    for i in 0..rows.width() {
+        seen.push(i)?;
+    }
+    Ok(seen)
+}
+
+/// Whether the closure of a with attribute i is to be looked at: a lacks i, and the closure was not seen to have another attribute before i that
+/// a lacks.
+pub fn is_open<const W: usize>(rows: &RowsOf<W>, a: &Bits<W>, i: u32, seen: &[u32]) -> bool
+    requires wide { length a.now ≡ rows.now.width }
+    requires inside { i < rows.now.width }
+    requires seen { AreSeen rows.now a.now seen.now }
+    ensures { MatchBool result (slice_index_or a.now i false ≡ false) (branch rows.now a.now i ≡ branch rows.now a.now (i + 1)) }
+{
+    if a.has(i) {
+        return false;
+    }
+    let member = seen.get(i as usize).copied().unwrap_or(i);
+    member >= i || a.has(member)
+}
+
+/// Whether the closure of a with attribute i, which a lacks, agrees with a before i.
+pub fn is_child<const W: usize>(rows: &RowsOf<W>, a: &Bits<W>, i: u32, closed: &Bits<W>) -> bool
+    requires wide { length a.now ≡ rows.now.width }
+    requires inside { i < rows.now.width }
+    requires lacks { slice_index_or a.now i false ≡ false }
+    requires closed { closed.now ≡ closure rows.now (slice_set a.now i true) }
+    ensures { MatchBool result
+        (branch rows.now a.now i ≡ branch rows.now a.now (i + 1) ++ branch rows.now closed.now (i + 1))
+        (branch rows.now a.now i ≡ branch rows.now a.now (i + 1)) }
+{
+    let _width = rows.width();
+    closed.first_missing(a) == Some(i)
+}
+
+/// Notes the first attribute that the closure of a with attribute i has and a lacks.
+pub fn note<const W: usize>(
+    rows: &RowsOf<W>,
+    a: &Bits<W>,
+    i: u32,
+    closed: &Bits<W>,
+    seen: &mut Vec<u32>,
+)
+    requires closed { closed.now ≡ closure rows.now (slice_set a.now i true) }
+    requires seen { AreSeen rows.now a.now seen.old.items }
+    ensures { AreSeen rows.now a.now seen.new.items }
+{
+    if let Some(member) = closed.first_missing(a) {
+        put(seen, i, member);
+    }
+}
+
+/// Puts what was seen of the closure with attribute i in the place of what was seen before.
+fn put(seen: &mut Vec<u32>, i: u32, member: u32)
+    ensures { seen.new.items ≡ slice_set seen.old.items i member }
+{
+    if let Some(kept) = seen.get_mut(i as usize) {
+        *kept = member;
+    }
+}
+
+/// What is seen of the closures of a holds of those of a larger set.
+pub fn seen_above<'a, const W: usize>(
+    rows: &RowsOf<W>,
+    a: &Bits<W>,
+    seen: &'a [u32],
+    larger: &Bits<W>,
+) -> &'a [u32]
+    requires seen { AreSeen rows.now a.now seen.now }
+    requires larger { within a.now larger.now ≡ true }
+    requires wide { length larger.now ≡ rows.now.width }
+    ensures { AreSeen rows.now larger.now result.now }
+{
+    seen
+}
