@@ -2,5 +2,4 @@ pub mod ListingLemmas
 pub mod PieceLemmas
 pub mod PlaceLemmas
 pub mod LineLemmas
-pub mod JudgeLemmas
 pub mod FrontLemmas

@@ -7,12 +7,13 @@ ghost use Rattle.fca_model.specs.Pseudo.{intents};
 ghost use Rattle.lectic_concepts.specs.Branches.{branch, AreSeen};
 ghost use Rattle.concept_report.specs.Pages.{Fills};
 
-use crate::judge::{first_seen, is_child, is_open, known, known_above};
+use crate::notes::{begin_notes, known};
 use crate::page::Page;
 use crate::places::closure_at;
 use crate::sheet::Sheet;
 use attr_bits::Bits;
 use fca_model::Memory;
+use lectic_concepts::{first_seen, is_child, is_open, note, seen_above};
 use std::alloc::Global;
 
 /// An intent below another, with the number of the places that were found for it.
@@ -40,7 +41,7 @@ pub(crate) fn write_all<const W: usize>(
     let rows = sheet.rows();
     let least = rows.closure(&Bits::empty(rows.width()));
     let places = sheet.extent(alloc, &least)?;
-    let seen = first_seen(alloc, sheet, &least)?;
+    let seen = first_seen(alloc, rows, &least)?;
     let mut desks = Vec::new(alloc);
     write_branch(alloc, sheet, page, &least, &places, 0, &seen, &mut desks)
 }
@@ -65,15 +66,16 @@ fn write_branch<const W: usize>(
     ensures { OnOk result (Fills sheet.now page.old page.new (branch sheet.now.context a.now from)) }
 {
     page.add(sheet, a, places)?;
+    let rows = sheet.rows();
     let mut desk = taken(alloc, desks);
-    for i in (from..sheet.rows().width()).rev() {
-        if !is_open(sheet, a, i, known(sheet, a, seen, &desk.noted)) {
+    for i in (from..rows.width()).rev() {
+        if !is_open(rows, a, i, known(sheet, a, seen, &desk.noted)) {
             continue;
         }
         let met = child_at(sheet, a, places, i, seen, &mut desk)?;
         if let Some(child) = met {
             let below = places_of(sheet, &child, &desk.found);
-            let passed = known_above(sheet, a, known(sheet, a, seen, &desk.noted), &child.intent);
+            let passed = seen_above(rows, a, known(sheet, a, seen, &desk.noted), &child.intent);
             write_branch(
                 alloc,
                 sheet,
@@ -131,12 +133,15 @@ fn child_at<const W: usize>(
         (λ child. branch sheet.now.context a.now i ≡ branch sheet.now.context a.now (i + 1) ++ branch sheet.now.context child.intent (i + 1))) }
     ensures noted { OnOk result (AreSeen sheet.now.context a.now desk.new.noted.items) }
 {
-    let _words = sheet.rows().width();
+    let rows = sheet.rows();
+    let _words = rows.width();
     have_room(&mut desk.found, places.len())?;
     let child = narrowed(sheet, a, places, i, &mut desk.found);
-    if is_child(sheet, a, i, &child.intent, seen, &mut desk.noted)? {
+    if is_child(rows, a, i, &child.intent) {
         return Ok(Some(child));
     }
+    begin_notes(sheet, a, seen, &mut desk.noted)?;
+    note(rows, a, i, &child.intent, &mut desk.noted);
     Ok(None)
 }
 

@@ -6,9 +6,9 @@ mod block;
 mod branch;
 mod columns;
 mod cover_lines;
-mod judge;
 mod lines;
 mod names;
+mod notes;
 mod numerals;
 mod page;
 mod pieces;
@@ -42,6 +42,9 @@ pub fn table_concepts_text(alloc: Global, table: &Table) -> Result<Vec<u8>, Memo
     if width <= ONE_WORD {
         return concepts_in(alloc, table, &rows.resized::<1>(alloc)?);
     }
+    if width <= TWO_WORDS {
+        return concepts_in(alloc, table, &rows.resized::<2>(alloc)?);
+    }
     if width <= FOUR_WORDS {
         return concepts_in(alloc, table, &rows.resized::<4>(alloc)?);
     }
@@ -56,6 +59,9 @@ pub fn table_lattice_text(alloc: Global, table: &Table) -> Result<Vec<u8>, Memor
     let width = rows.width();
     if width <= ONE_WORD {
         return lattice_in(alloc, table, &rows.resized::<1>(alloc)?);
+    }
+    if width <= TWO_WORDS {
+        return lattice_in(alloc, table, &rows.resized::<2>(alloc)?);
     }
     if width <= FOUR_WORDS {
         return lattice_in(alloc, table, &rows.resized::<4>(alloc)?);

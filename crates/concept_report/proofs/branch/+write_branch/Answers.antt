@@ -7,7 +7,7 @@ use Rattle.lectic_concepts.proofs.IntentLemmas.{IsIntent}
 use Rattle.lectic_concepts.proofs.BranchLemmas.{branch_end}
 use Rattle.concept_report.specs.declared.branch.Child.{Child}
 use Rattle.concept_report.specs.Pages.{Fills}
-use Rattle.concept_report.proofs.JudgeLemmas.{seen_none}
+use Rattle.lectic_concepts.proofs.SeenLemmas.{seen_none}
 use Rattle.concept_report.proofs.LineLemmas.{Fills-append}
 use Rattle.concept_report.proofs.branch.+write_branch.Goals as goal
 
@@ -15,7 +15,7 @@ pub loop-i-init : goal.loop-i-init
 loop-i-init g t c =
     let K : Context = c.args.sheet.now.context in
     let A : Set = c.args.a.now in
-    let width : c.width-i.result ≡ K.width = c.width-i.ensures.width ∙ ap (λ (J : Context). J.width) c.rows.ensures in
+    let width : c.width-i.result ≡ K.width = c.width-i.ensures.width ∙ ap (λ (J : Context). J.width) c.rows-rows.ensures in
     let a : IsIntent K A = record { wide = c.requires.wide; closed = c.requires.closed } in
     record {
       from_on = omega (arith, width, c.requires.inside);

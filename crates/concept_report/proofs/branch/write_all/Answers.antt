@@ -22,7 +22,7 @@ first_seen-requires g c =
     let K : Context = c.args.sheet.now.context in
     let D : Set = c.closure-least.result in
     let is = least K c.rows-rows.result.now c.width.result c.empty.result D c.rows-rows.ensures c.width.ensures.width c.empty.ensures c.closure-least.ensures in
-    (omega arith, (omega (arith, c.width.ensures.words), (is_intent K D is).wide))
+    (omega arith, (omega (arith, c.width.ensures.words), (is_intent K D is).wide ∙ ap (λ (J : Context). J.width) (sym c.rows-rows.ensures)))
 
 pub write_branch-requires : goal.write_branch-requires
 write_branch-requires g c =
@@ -30,7 +30,7 @@ write_branch-requires g c =
     let D : Set = c.closure-least.result in
     let is = least K c.rows-rows.result.now c.width.result c.empty.result D c.rows-rows.ensures c.width.ensures.width c.empty.ensures c.closure-least.ensures in
     let i = is_intent K D is in
-    (omega arith, (omega (arith, c.width.ensures.words), (omega (arith, c.width.ensures.words), (i.wide, (i.closed, (c.deref.ensures.value ∙ c.in_ok-places.ensures, (omega arith, subst (AreSeen K D) (sym c.deref-2.ensures.value) c.in_ok-seen.ensures)))))))
+    (omega arith, (omega (arith, c.width.ensures.words), (omega (arith, c.width.ensures.words), (i.wide, (i.closed, (c.deref.ensures.value ∙ c.in_ok-places.ensures, (omega arith, subst (λ (J : Context). AreSeen J D c.deref-2.result.now) c.rows-rows.ensures (subst (AreSeen c.rows-rows.result.now D) (sym c.deref-2.ensures.value) c.in_ok-seen.ensures))))))))
 
 pub returns : goal.returns
 returns g c =
