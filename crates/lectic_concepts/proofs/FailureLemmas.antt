@@ -1,10 +1,10 @@
 -- What the closure of an intent with one attribute more says of its branch.
-use Rattle.std.proofs.Common.{◌≡◌, ◌≢◌, ℕ, suc, ◌+◌, ◌<◌, Bool, true, false, nat_eq, Option, None, Some, refl, List, [], ◌++◌, length, get_or, set, sym, ap, ◌∙◌, arith}
+use Rattle.std.proofs.Common.{◌≡◌, ◌≢◌, ℕ, suc, ◌+◌, ◌<◌, Bool, true, false, nat_eq, Option, None, Some, refl, List, ◌++◌, length, get_or, set, sym, ap, ◌∙◌, arith}
 use Rattle.std.proofs.lemmas.List.{append-nil}
 use Rattle.std.proofs.lemmas.Bool.{false≢true, eqb-true, eq-eqb}
 use Rattle.std.specs.Option.{option_eq}
 use Rattle.std.specs.Bool.{MatchBool}
-use Rattle.fca_model.specs.Sets.{Set, within}
+use Rattle.fca_model.specs.Sets.{Set}
 use Rattle.fca_model.specs.Context.{Context, closure}
 use Rattle.fca_model.specs.Exploration.{first_missing}
 use Rattle.lectic_concepts.specs.Branches.{branch, AreSeen}
