@@ -29,7 +29,7 @@ use Rattle.expert_sessions.proofs.LineLemmas.{not_bye, bye_quits, is-exchange, l
 
 -- ---- one line
 
--- what a turn is answered, what it enters, and that it is taken; or that none is left
+-- what a turn is answered, what it enters, and that it is taken
 module _ (e : ℕ) (form : Result Request RequestFault) (event : SetEvent) (c d : Place) (asks : Asks e form event) (left : d.turns ≡ one_less c.turns) where
   pub turn-answered : (turn : Result SetReply TurnFault) → IfOk turn (λ reply. d.entries ≡ c.entries ++ record { event = event; reply = reply } ∷ []) → OnErr turn (d.entries ≡ c.entries)
       → (IsErrOf turn NoTurn → c.turns ≡ Some 0) × (c.turns ≡ Some 0 → IsErrOf turn NoTurn)
@@ -48,13 +48,14 @@ module _ (e : ℕ) (form : Result Request RequestFault) (event : SetEvent) (c d 
   )
   turn-answered (Err NoTurn) entered same spent = tt
 
-  pub turn-refused : (turn : Result SetReply TurnFault) → OnErr turn (d.entries ≡ c.entries) → (IsErrOf turn NoTurn → c.turns ≡ Some 0) × (c.turns ≡ Some 0 → IsErrOf turn NoTurn)
-      → IfErr (said_of turn) (λ ended. (ended ≡ Spent) × (d.turns ≡ Some 0) × Enters c d [] 0)
-  turn-refused (Ok reply) same spent = tt
-  turn-refused (Err NoTurnMemory) same spent = tt
-  turn-refused (Err NoTurn) same spent =
-      let none = one_less-none c.turns d.turns left (spent.0 refl) in
-      (refl, none.0, record { added = same ∙ sym (append-nil c.entries); turns = none.1 })
+-- no turn is left for what was asked
+pub turn-refused : (c d : Place) → d.turns ≡ one_less c.turns → (turn : Result SetReply TurnFault) → OnErr turn (d.entries ≡ c.entries)
+    → (IsErrOf turn NoTurn → c.turns ≡ Some 0) × (c.turns ≡ Some 0 → IsErrOf turn NoTurn) → IfErr (said_of turn) (λ ended. (ended ≡ Spent) × (d.turns ≡ Some 0) × Enters c d [] 0)
+turn-refused c d left (Ok reply) same spent = tt
+turn-refused c d left (Err NoTurnMemory) same spent = tt
+turn-refused c d left (Err NoTurn) same spent =
+    let none = one_less-none c.turns d.turns left (spent.0 refl) in
+    (refl, none.0, record { added = same ∙ sym (append-nil c.entries); turns = none.1 })
 
 -- no whole line was read
 pub unread : (t : NamedContext) (e : ℕ) (a b : Wire) (c : Place) (ahead ahead' : Text) (ended : Ended) → Reads a b ahead ahead' → LacksLine a b ahead' ended → Halts t e a b c c ahead ended

@@ -9,6 +9,7 @@ use Rattle.fca_model.specs.Tables.{Text}
 use Rattle.fca_model.specs.Exploration.{SetEntry}
 use Rattle.expert_gate.specs.Desks.{one_less}
 use Rattle.expert_sessions.specs.Moves.{Wire, Moves, IsQuiet, Place, Enters, Takes, TakesAtMost}
+use Rattle.expert_sessions.specs.Courses.{Reads}
 
 pub Rose-later : (a b c : ℕ) → a ≤ b → Rose b c → Rose a c
 Rose-later a b c h r =
@@ -36,6 +37,18 @@ IsQuiet-nil a = record { reads = refl; writes = refl }
 
 pub IsQuiet-trans : {a b c : Wire} → IsQuiet a b → IsQuiet b c → IsQuiet a c
 IsQuiet-trans x y = record { reads = y.reads ∙ x.reads; writes = y.writes ∙ x.writes }
+
+-- what two calls read stands one behind the other
+pub Reads-nil : (a : Wire) (ahead : Text) → Reads a a ahead ahead
+Reads-nil a ahead = record { taken = []; moves = Moves-nil a; joined = sym (append-nil ahead); writes = refl }
+
+pub Reads-trans : {a b c : Wire} {ahead ahead' ahead'' : Text} → Reads a b ahead ahead' → Reads b c ahead' ahead'' → Reads a c ahead ahead''
+Reads-trans {a} {b} {c} {ahead} x y = record {
+  taken = x.taken ++ y.taken;
+  moves = Moves-trans x.moves y.moves;
+  joined = y.joined ∙ ap (λ z. z ++ y.taken) x.joined ∙ append_assoc ahead x.taken y.taken;
+  writes = y.writes ∙ x.writes;
+}
 
 -- ---- turns
 

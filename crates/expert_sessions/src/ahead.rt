@@ -7,6 +7,7 @@ ghost use Rattle.fca_model.specs.declared.TheConstants.{LINE_BYTES};
 ghost use Rattle.expert_sessions.specs.Lines.{HasNoFeed};
 ghost use Rattle.expert_sessions.specs.Moves.{Wire};
 ghost use Rattle.expert_sessions.specs.Courses.{Reads, HasFeedAt, LacksLine};
+ghost use Rattle.expert_sessions.specs.Order.{HasFeed};
 
 use crate::ended::Ended;
 use fca_io::{Duplex, Failed};
@@ -49,6 +50,7 @@ impl Ahead {
             (record { left = E.Source.left end.old; held = E.Sink.held end.old; reads = E.Source.faults end.old; writes = E.Sink.faults end.old })
             (record { left = E.Source.left end.new; held = E.Sink.held end.new; reads = E.Source.faults end.new; writes = E.Sink.faults end.new })
             self.old self.new }
+        ensures still { HasFeed self.old → end.new ≡ end.old }
         ensures line { IfOk result (HasFeedAt self.new) }
         ensures quiet { OnOk result (E.Source.faults end.new ≡ E.Source.faults end.old) }
         ensures short { IfOk result (λ at. at ≤ LINE_BYTES) }
@@ -105,9 +107,10 @@ impl Ahead {
         self.bytes.len() == MOST
     }
 
-    /// Reads once, and answers how many bytes: none at the end alone.
+    /// Reads once, where no whole line lies ready, and answers how many bytes: none at the end alone.
     fn read<E: Duplex>(&mut self, end: &mut E) -> Result<usize, Failed>
-        requires { length self.old ≤ LINE_BYTES }
+        requires room { length self.old ≤ LINE_BYTES }
+        requires unbroken { HasNoFeed self.old }
         ensures read { Reads
             (record { left = E.Source.left end.old; held = E.Sink.held end.old; reads = E.Source.faults end.old; writes = E.Sink.faults end.old })
             (record { left = E.Source.left end.new; held = E.Sink.held end.new; reads = E.Source.faults end.new; writes = E.Sink.faults end.new })

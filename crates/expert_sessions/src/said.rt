@@ -62,11 +62,21 @@ pub(crate) fn write_said<E: Duplex>(
 {
     match said {
         Said::Replied(reply) => write_at_once(alloc, end, table, reply),
-        Said::Bye => write_text(end, BYE.as_bytes()),
-        Said::BadLine => write_text(end, BAD_LINE.as_bytes()),
-        Said::BadWidth => write_text(end, BAD_WIDTH.as_bytes()),
-        Said::NoMemory => write_text(end, NO_MEMORY.as_bytes()),
+        Said::Bye => write_line(end, BYE),
+        Said::BadLine => write_line(end, BAD_LINE),
+        Said::BadWidth => write_line(end, BAD_WIDTH),
+        Said::NoMemory => write_line(end, NO_MEMORY),
     }
+}
+
+/// Writes the whole line.
+fn write_line<E: Duplex>(end: &mut E, line: &str) -> Result<(), Put>
+    ensures { Writes
+        (record { left = E.Source.left end.old; held = E.Sink.held end.old; reads = E.Source.faults end.old; writes = E.Sink.faults end.old })
+        (record { left = E.Source.left end.new; held = E.Sink.held end.new; reads = E.Source.faults end.new; writes = E.Sink.faults end.new })
+        line.now result }
+{
+    write_text(end, line.as_bytes())
 }
 
 /// Writes the line of the reply: whole where there is memory for it, so that an end sends it in one piece, and else part by part.

@@ -5,7 +5,7 @@ use Rattle.expert_wire.specs.declared.requests.Request.TheVariants.{Draw as Draw
 use Rattle.expert_wire.specs.Requests.{TakesMemory, request_form}
 use Rattle.expert_sessions.specs.Lines.{Asks}
 use Rattle.expert_sessions.proofs.MoveLemmas.{Enters-nil}
-use Rattle.expert_sessions.proofs.CourseLemmas.{turn-answered}
+use Rattle.expert_sessions.proofs.CourseLemmas.{turn-answered, turn-refused}
 use Rattle.expert_sessions.proofs.answer.answer.Goals as goal
 
 pub returns-in-Ok-Draw-clause-answered : goal.returns-in-Ok-Draw-clause-answered
@@ -65,3 +65,27 @@ returns-in-Err-Memory-clause-answered g c =
       (inr (subst (λ n. TakesMemory (request_form c.args.line.now n)) wide taken, refl), refl),
       Enters-nil (record { entries = g.D.Desk.entries c.args.desk.now; turns = g.D.Desk.left c.args.desk.now }),
     )
+
+pub returns-in-Ok-Draw-clause-spent : goal.returns-in-Ok-Draw-clause-spent
+returns-in-Ok-Draw-clause-spent g c = rw c.said.ensures (turn-refused
+    (record { entries = g.D.Desk.entries c.args.desk.now; turns = g.D.Desk.left c.args.desk.now })
+    (record { entries = g.D.Desk.entries c.draw.new.self; turns = g.D.Desk.left c.draw.new.self })
+    c.draw.ensures.left c.draw.result c.draw.ensures.err c.draw.ensures.spent)
+
+pub returns-in-Ok-Confirm-clause-spent : goal.returns-in-Ok-Confirm-clause-spent
+returns-in-Ok-Confirm-clause-spent g c = rw c.said-in-Ok-Confirm.ensures (turn-refused
+    (record { entries = g.D.Desk.entries c.args.desk.now; turns = g.D.Desk.left c.args.desk.now })
+    (record { entries = g.D.Desk.entries c.confirm.new.self; turns = g.D.Desk.left c.confirm.new.self })
+    c.confirm.ensures.left c.confirm.result c.confirm.ensures.err c.confirm.ensures.spent)
+
+pub returns-in-Ok-Row-clause-spent : goal.returns-in-Ok-Row-clause-spent
+returns-in-Ok-Row-clause-spent g c = rw c.said-in-Ok-Row.ensures (turn-refused
+    (record { entries = g.D.Desk.entries c.args.desk.now; turns = g.D.Desk.left c.args.desk.now })
+    (record { entries = g.D.Desk.entries c.row.new.self; turns = g.D.Desk.left c.row.new.self })
+    c.row.ensures.left c.row.result c.row.ensures.err c.row.ensures.spent)
+
+pub returns-in-Ok-Leave-clause-spent : goal.returns-in-Ok-Leave-clause-spent
+returns-in-Ok-Leave-clause-spent g c = rw c.said-in-Ok-Leave.ensures (turn-refused
+    (record { entries = g.D.Desk.entries c.args.desk.now; turns = g.D.Desk.left c.args.desk.now })
+    (record { entries = g.D.Desk.entries c.leave.new.self; turns = g.D.Desk.left c.leave.new.self })
+    c.leave.ensures.left c.leave.result c.leave.ensures.err c.leave.ensures.spent)

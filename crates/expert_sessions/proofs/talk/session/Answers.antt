@@ -1,13 +1,17 @@
-use Rattle.std.proofs.Common.{◌≡◌, ◌+◌, sym, ◌∙◌, Err, arith}
+use Rattle.std.proofs.Common.{◌≡◌, ◌+◌, [], sym, ◌∙◌, Err, arith}
 use Rattle.turn_lock.specs.declared.fault.TurnFault.TheVariants.{Spent as NoTurn}
 use Rattle.expert_sessions.proofs.MoveLemmas.{one_less-taken, one_less-none, leave-few}
 use Rattle.expert_sessions.proofs.TalkLemmas.{refused, spent_early, left, spent_late, unremembered, served-few}
+use Rattle.expert_sessions.proofs.OrderLemmas.{ReadsNothing-nil}
 use Rattle.expert_sessions.proofs.talk.session.Goals as goal
 
 pub returns-in_default-clause-talk : goal.returns-in_default-clause-talk
 returns-in_default-clause-talk g c = refused c.args.table.now c.args.expert c.args.lines
     (record { left = g.E.Source.left c.args.end.now; held = g.E.Sink.held c.args.end.now; reads = g.E.Source.faults c.args.end.now; writes = g.E.Sink.faults c.args.end.now })
     (record { entries = g.D.Desk.entries c.args.desk.now; turns = g.D.Desk.left c.args.desk.now })
+
+pub returns-in_default-clause-order : goal.returns-in_default-clause-order
+returns-in_default-clause-order g c = ([], ReadsNothing-nil g.E.Source.left g.E.Sink.held g.E.Source.faults g.E.Sink.faults c.args.end.now)
 
 pub returns-in-Spent-clause-talk : goal.returns-in-Spent-clause-talk
 returns-in-Spent-clause-talk g c = spent_early c.args.table.now c.args.expert c.args.lines

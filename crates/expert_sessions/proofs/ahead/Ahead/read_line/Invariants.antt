@@ -1,7 +1,8 @@
--- What was read so far stands behind what was read ahead before, and no read failed. Each read that isn't the last one lengthens it.
+-- What was read so far stands behind what was read ahead before, and no read failed. Where a whole line lay ready, nothing was read. Each read that isn't the last one lengthens it.
 use Rattle.std.proofs.Common.{◌≡◌, ◌+◌, ◌-◌, length}
 use Rattle.fca_model.specs.declared.TheConstants.{LINE_BYTES}
 use Rattle.expert_sessions.specs.Courses.{Reads}
+use Rattle.expert_sessions.specs.Order.{HasFeed}
 use Rattle.expert_sessions.proofs.ahead.Ahead.read_line.Given as goal
 
 abbrev pub invariant-loop-at : goal.invariant-loop-at
@@ -10,6 +11,8 @@ invariant-loop-at g l = record {
       (record { left = g.E.Source.left l.initial.end; held = g.E.Sink.held l.initial.end; reads = g.E.Source.faults l.initial.end; writes = g.E.Sink.faults l.initial.end })
       (record { left = g.E.Source.left l.end; held = g.E.Sink.held l.end; reads = g.E.Source.faults l.end; writes = g.E.Sink.faults l.end })
       l.initial.self l.self;
+  still : HasFeed l.initial.self → l.end ≡ l.initial.end;
+  same : HasFeed l.initial.self → l.self ≡ l.initial.self;
   quiet : g.E.Source.faults l.end ≡ g.E.Source.faults l.initial.end;
 }
 

@@ -1,0 +1,17 @@
+use Rattle.std.proofs.Common.{◌≡◌, ◌∷◌, suc, length, ap, arith}
+use Rattle.std.specs.Vec.Iter.{into_iter_items}
+use Rattle.expert_sessions.proofs.SeatLemmas.{part-put}
+use Rattle.expert_sessions.proofs.seats.risen.Goals as goal
+
+pub loop-seat-preserved : goal.loop-seat-preserved
+loop-seat-preserved g c =
+    let steps : into_iter_items c.loop-seat.seat-iterator ≡ c.in-Some.seat ∷ into_iter_items c.next.new.self = c.in-Some.ensures.steps.0 in
+    let one : length (into_iter_items c.loop-seat.seat-iterator) ≡ suc (length (into_iter_items c.next.new.self)) = ap length steps in
+    record {
+      passes = part-put (λ seat. seat.pass) c.loop-seat.passes.items c.push_reserved.new.self.items _ c.in-Some.seat _ _ c.loop-seat.invariant.passes steps c.push_reserved.ensures.items;
+      ends = part-put (λ seat. seat.end) c.loop-seat.ends.items c.push_reserved-in-loop-seat.new.self.items _ c.in-Some.seat _ _ c.loop-seat.invariant.ends steps c.push_reserved-in-loop-seat.ensures.items;
+      endings = part-put (λ seat. seat.ended) c.loop-seat.endings.items c.push_reserved-in-loop-seat-2.new.self.items _ c.in-Some.seat _ _ c.loop-seat.invariant.endings steps c.push_reserved-in-loop-seat-2.ensures.items;
+      passes_room = let before = c.loop-seat.invariant.passes_room in let more = c.push_reserved.ensures.len in let room = c.push_reserved.ensures.capacity in omega arith;
+      ends_room = let before = c.loop-seat.invariant.ends_room in let more = c.push_reserved-in-loop-seat.ensures.len in let room = c.push_reserved-in-loop-seat.ensures.capacity in omega arith;
+      endings_room = let before = c.loop-seat.invariant.endings_room in let more = c.push_reserved-in-loop-seat-2.ensures.len in let room = c.push_reserved-in-loop-seat-2.ensures.capacity in omega arith;
+    }
