@@ -1,7 +1,9 @@
 -- Places in blocks: those of a block that are in a column, and what is seen of a column block by block.
-use Rattle.std.proofs.Common.{◌≡◌, ℕ, ◌+◌, ◌*◌, ◌/◌, ◌%◌, ◌<◌, ◌≤◌, Bool, true, false, ◌&&◌, Option, Some, None, MatchOption, List, [], length, get_or, map, sym, ap, ◌∙◌, arith, eqb, eqb-true}
-use Rattle.std.proofs.lemmas.Bool.{false≢true, and_parts, and_from, eq-eqb, false_from_ne_true}
+use Rattle.std.proofs.Common.{◌≡◌, ℕ, ◌+◌, ◌*◌, ◌/◌, ◌%◌, ◌<◌, ◌≤◌, Bool, true, false, ◌&&◌, ◌||◌, inl, inr, ltb, refl, take, ap₂, ◌∷◌, ◌++◌, Option, Some, None, MatchOption, List, [], length, get_or, map, sym, ap, ◌∙◌, arith, eqb, eqb-true}
+use Rattle.std.proofs.Math.Bool.{or-false}
+use Rattle.std.proofs.lemmas.Bool.{false≢true, and_parts, and_from, eq-eqb, lt-ltb, cases_lt, false_from_ne_true}
 use Rattle.std.proofs.lemmas.List.{get_or_past, get_or_default}
+use Rattle.std.proofs.lemmas.List.Folds.{list_any-append, list_any_more}
 use Rattle.std.specs.List.{list_any}
 use Rattle.fca_model.specs.Sets.{Set, meet}
 use Rattle.fca_model.specs.Exploration.{first_missing}
@@ -97,3 +99,38 @@ parts_of number objects xs g = list_any-map (λ (y : Part). in_block y.number y.
 pub match_weaker : {T A A' : Type 0} {B B' : T → Type 0} (o : Option T) → (A → A') → ((x : T) → B x → B' x) → MatchOption o A B → MatchOption o A' B'
 match_weaker None f h m = f m
 match_weaker (Some x) f h m = h x m
+
+-- ---- parts kept one after another
+
+-- a place that is in a column is before its end
+column_ends : (Cs : List Set) (g : ℕ) → in_column Cs g ≡ true → g / 256 < length Cs
+column_ends Cs g t = elim (cases_lt (g / 256) (length Cs)) [
+  | inl lt ↦ lt
+  | inr le ↦ absurd (false≢true (sym (ap (λ (C : Set). get_or C (g % 256) false) (get_or_past Cs (g / 256) [] le) ∙ get_or_past [] (g % 256) false (omega arith)) ∙ t))
+]
+
+pub all_numbered : (Cs : List Set) (n g : ℕ) → length Cs ≤ n → (ltb (g / 256) n && in_column Cs g) ≡ in_column Cs g
+all_numbered Cs n g le = bool_iff (ltb (g / 256) n && in_column Cs g) (in_column Cs g) (λ t. (and_parts (ltb (g / 256) n) (in_column Cs g) t).1)
+    (λ t. let lt : g / 256 < length Cs = column_ends Cs g t in and_from (ltb (g / 256) n) (in_column Cs g) (lt-ltb (g / 256) n (omega arith)) t)
+
+-- what is kept of the first i of the list, and then of the next
+module _ {X : Type 0} (p : X → Bool) (xs : List X) (i : ℕ) (x : X) (b : Bool) (inside : i < length xs) (is : x ≡ get_or xs i x) (kept now : List X)
+    (before : list_any p kept ≡ (list_any p (take i xs) && b)) where
+  kept_more : (met : Bool) → met ≡ (p x && b) → list_any p now ≡ (list_any p kept || met) → list_any p now ≡ (list_any p (take (i + 1) xs) && b)
+  kept_more met m h = h ∙ ap₂ (λ s t. s || t) before m ∙ either (list_any p (take i xs)) (p x) b ∙ ap (λ t. t && b) (sym (list_any_more p xs i x inside ∙ ap (λ y. list_any p (take i xs) || p y) (sym is)))
+    where
+      either : (s t b : Bool) → ((s && b) || (t && b)) ≡ ((s || t) && b)
+      either true true true = refl
+      either true true false = refl
+      either true false true = refl
+      either true false false = refl
+      either false true true = refl
+      either false true false = refl
+      either false false true = refl
+      either false false false = refl
+
+  pub kept_some : (part : X) → p part ≡ (p x && b) → now ≡ kept ++ part ∷ [] → list_any p now ≡ (list_any p (take (i + 1) xs) && b)
+  kept_some part m pushed = kept_more (p part) m (ap (list_any p) pushed ∙ list_any-append p kept (part ∷ []) ∙ ap (λ t. list_any p kept || t) (or-false (p part)))
+
+  pub kept_none : (p x && b) ≡ false → now ≡ kept → list_any p now ≡ (list_any p (take (i + 1) xs) && b)
+  kept_none m same = kept_more false (sym m) (ap (list_any p) same ∙ sym (or-false (list_any p kept)))

@@ -8,3 +8,4 @@ pub mod WatchLemmas
 pub mod WaitLemmas
 pub mod WalkLemmas
 pub mod ForcedLemmas
+pub mod WidthLemmas

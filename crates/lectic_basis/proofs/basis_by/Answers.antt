@@ -1,7 +1,6 @@
-use Rattle.std.proofs.Common.{◌≡◌, ◌++◌, length, false, replicate, sym, ap, ◌∙◌, subst, arith}
+use Rattle.std.proofs.Common.{◌≡◌, length, false, replicate, sym, ap, ◌∙◌, subst, arith}
 use Rattle.std.proofs.lemmas.Simd.{length-replicate}
 use Rattle.fca_model.specs.Context.{Context}
-use Rattle.fca_model.specs.Pseudo.{basis_known}
 use Rattle.implication_closure.specs.Closing.{RuleList, IsClosure}
 use Rattle.lectic_basis.specs.Walks.{IsVisit}
 use Rattle.lectic_basis.specs.Watches.{IsFiled, IsGood}

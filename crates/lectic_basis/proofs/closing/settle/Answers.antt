@@ -1,4 +1,6 @@
 use Rattle.std.proofs.Common.{◌≡◌, ◌≢◌, ◌<◌, ◌≤◌, true, false, length, get_or, refl, sym, ap, ◌∙◌, subst, arith}
+use Rattle.std.proofs.lemmas.List.{take_all}
+use Rattle.std.specs.List.{list_all}
 use Rattle.std.proofs.lemmas.Bool.{false≢true}
 use Rattle.fca_model.specs.Sets.{Set, within, join}
 use Rattle.fca_model.specs.Implications.{Rule}
@@ -63,3 +65,17 @@ loop-k-preserved g c =
     let inside : within i.premise c.loop-k.closed ≡ true = first_missing_none 0 i.premise c.loop-k.closed (ap (λ P. first_missing 0 P c.loop-k.closed) (sym c.premise.ensures) ∙ sym c.first_missing.ensures ∙ c.in-None.is) in
     let joined = watch.settle_join c.loop-k.invariant.settling there c.requires.wide inside (c.join.ensures ∙ ap (join c.loop-k.closed) c.conclusion.ensures) in
     record { list = c.loop-k.invariant.list; settling = joined; agree = sym c.agrees.ensures ∙ c.if-not-agrees.false }
+
+pub returns-clause-list : goal.returns-clause-list
+returns-clause-list g c = c.loop-k.invariant.list
+
+pub returns-clause-settling : goal.returns-clause-settling
+returns-clause-settling g c = watch.settle_any c.loop-k.invariant.settling
+
+pub returns-clause-finished : goal.returns-clause-finished
+returns-clause-finished g c e =
+    sym (ap (list_all (λ (i : Rule). within i.conclusion c.loop-k.closed)) (take_all c.loop-k.k (bucket c.args.z c.loop-k.found.buckets) (omega (arith, c.loop-k-test.false, c.count.ensures))))
+    ∙ c.loop-k.invariant.settling.taken
+
+pub returns-clause-agree : goal.returns-clause-agree
+returns-clause-agree g c = sym c.loop-k.invariant.agree

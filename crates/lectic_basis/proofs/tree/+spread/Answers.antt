@@ -1,8 +1,8 @@
-use Rattle.std.proofs.Common.{◌≡◌, ◌-◌, ◌+◌, ℕ, List, not, sym, ap, ◌∙◌, subst, arith}
+use Rattle.std.proofs.Common.{◌≡◌, ◌-◌, ◌+◌, ℕ, List, sym, ap, ◌∙◌, subst, arith}
 use Rattle.fca_model.specs.Context.{Context}
 use Rattle.lectic_basis.specs.Forced.{AreForced, NoneTried}
 use Rattle.lectic_basis.proofs.ForcedLemmas.{forced_more}
-use Rattle.lectic_basis.proofs.WalkLemmas.{trying, found_then, found_longer, below_start, none_found, last_found, tried_lacks, none_told}
+use Rattle.lectic_basis.proofs.WalkLemmas.{trying, found_then, found_longer, below_start, none_found, last_found, tried_lacks}
 use Rattle.lectic_basis.proofs.tree.+spread.Goals as goal
 
 pub spread-loop-i-init : goal.spread-loop-i-init
