@@ -1,5 +1,5 @@
-//! Tests of the crates by which experts explore, by what they offer to all: turns, gates, panels, and sessions. A test is proved with the
-//! whole crate that it stands in, so those of many crates stand in this one, which has nothing else.
+//! Tests of the crates by which experts explore, by what they offer to all: an expert alone, a panel, and sessions over sockets. A test is
+//! proved with the whole crate that it stands in, so those of many crates stand in this one, which has nothing else.
 #![tactic(auto)]
 
 #[cfg(test)]
@@ -7,14 +7,8 @@ mod expert_gate_tests;
 #[cfg(test)]
 mod expert_panel_tests;
 #[cfg(test)]
-mod expert_sessions_tests;
-#[cfg(test)]
 mod explore_state_tests;
 #[cfg(test)]
 mod real_ends_tests;
 #[cfg(test)]
-mod serve_command_tests;
-#[cfg(test)]
 mod tables;
-#[cfg(test)]
-mod turn_lock_tests;

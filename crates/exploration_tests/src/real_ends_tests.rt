@@ -1,4 +1,4 @@
-//! One session over a real socket.
+//! Two sessions at once, over sockets of the system.
 
 ghost use Rattle.std.specs.Prelude.{◌≡◌, true, false, IfSome};
 
@@ -28,46 +28,61 @@ fn listening<L: Listener>(alloc: Global, link: &mut L) -> Option<String>
     None
 }
 
-/// What an expert gets who draws and quits.
-fn draw_and_quit(alloc: Global, mut stream: TcpStream) -> io::Result<Vec<u8>> {
-    stream.write_all(b"draw\nquit\n")?;
-    let mut got = Vec::new(alloc);
-    stream.read_to_end(&mut got)?;
-    Ok(got)
+/// The next bytes that an expert is told who says the line.
+fn told<const N: usize>(stream: &mut TcpStream, line: &[u8]) -> io::Result<[u8; N]> {
+    stream.write_all(line)?;
+    let mut bytes = [0; N];
+    stream.read_exact(&mut bytes)?;
+    Ok(bytes)
 }
 
-/// How the session over the end was ended, which is closed then.
-fn serve_one<R: Threads + Wait + Sync, E: Duplex + Send + Drop>(
+/// What two experts are told who both draw, before the first of them quits and the second draws again.
+fn draw_and_quit(mut first: TcpStream, mut second: TcpStream) -> io::Result<[[u8; 63]; 2]> {
+    let asked = [told(&mut first, b"draw\n")?, told(&mut second, b"draw\n")?];
+    let _bye: [u8; 4] = told(&mut first, b"quit\n")?;
+    let _asked: [u8; 23] = told(&mut second, b"draw\n")?;
+    Ok(asked)
+}
+
+/// How the sessions of two lines over the two ends ended, which are closed then.
+fn serve_both<R: Threads + Wait + Sync, E: Duplex + Send + Drop>(
     rt: &R,
     alloc: Global,
-    end: E,
-) -> Result<Ended, Memory> {
+    first: E,
+    second: E,
+) -> Result<Vec<Ended>, Memory> {
     let mut ends = Vec::new(alloc);
-    ends.push(end)?;
-    match serve_ends(rt, alloc, opened(alloc, 1)?, ends, 9, 99) {
-        Ok(served) => served.endings.first().copied().ok_or(Memory),
+    ends.push(first)?;
+    ends.push(second)?;
+    match serve_ends(rt, alloc, opened(alloc, 2)?, ends, 2, 9) {
+        Ok(served) => Ok(served.endings),
         Err(_) => Err(Memory),
     }
 }
 
 #[test]
-fn a_session_over_a_socket(rt: HostRuntime) -> Result<(), Fail> {
+fn sessions_run_at_once_over_sockets(rt: HostRuntime) -> Result<(), Fail> {
     let alloc = rt.alloc();
     let mut link = TcpLink::new(&rt);
     let Some(address) = listening(alloc, &mut link) else {
         return Err("no port is free".into());
     };
-    let stream = TcpStream::connect(&rt, address.as_str())?;
-    let end = link.accept()?;
-    let (got, ended) = join(
+    let first = TcpStream::connect(&rt, address.as_str())?;
+    let first_end = link.accept()?;
+    let second = TcpStream::connect(&rt, address.as_str())?;
+    let second_end = link.accept()?;
+    let (asked, endings) = join(
         &rt,
-        move || draw_and_quit(alloc, stream),
-        || serve_one(&rt, alloc, end),
+        move || draw_and_quit(first, second),
+        || serve_both(&rt, alloc, first_end, second_end),
     );
-    assert_eq!(rt; ended?, Ended::Quit);
     assert_eq!(rt;
-        got?.as_slice(),
-        b"exploration 1\nexpert 1\nattributes 2\na\nb\nask .. XX {} -> {a, b}\nbye\n".as_slice()
+        asked?,
+        [
+            *b"exploration 1\nexpert 1\nattributes 2\na\nb\nask .. XX {} -> {a, b}\n",
+            *b"exploration 1\nexpert 2\nattributes 2\na\nb\nask .. XX {} -> {a, b}\n",
+        ]
     );
+    assert_eq!(rt; endings?.as_slice(), [Ended::Quit, Ended::Limit].as_slice());
     Ok(())
 }
