@@ -74,12 +74,13 @@ impl LevelQueue {
         let rules = Rules::new(alloc, known)?;
         let nothing = Ahead::unknown(alloc, rows.width())?;
         let first = open_next(alloc, &rows, rules.all(), &nothing)?;
+        let level = first.level;
         Ok(LevelQueue {
             alloc,
             rows,
             rules,
-            questions: OpenQuestions::new(first.level.members),
-            level: first.level.size,
+            questions: OpenQuestions::new(level.members),
+            level: level.size,
             ahead: first.ahead,
         })
     }
