@@ -1,6 +1,10 @@
 //! A workbench for formal concepts: commands over tables, and explorations by scripts.
 #![tactic(auto)]
 
+ghost use Rattle.std.specs.Prelude.{◌≡◌, ◌↔◌, ◌⊎◌};
+ghost use Rattle.std.specs.IoError.{error_kind};
+ghost use Rattle.std.specs.declared.io.ErrorKind.TheVariants.{InvalidData};
+
 use command_io::{Stop, conclude};
 use fca_run::run;
 use real_ends::{FileShelf, StdFault, StdInput, StdOutput, TcpLink, words_of};
@@ -35,7 +39,10 @@ fn main(rt: HostRuntime) -> ExitCode {
 }
 
 /// Why the system's words are not to be had: one of them is no text, or memory is wanting.
-fn wordless(error: &Error) -> Stop {
+fn wordless(error: &Error) -> Stop
+    ensures text { (result ≡ Stop.NoCommand) ↔ (error_kind error.now ≡ InvalidData) }
+    ensures memory { (result ≡ Stop.NoCommand) ⊎ (result ≡ Stop.Memory) }
+{
     match error.kind() {
         ErrorKind::InvalidData => Stop::NoCommand,
         _ => Stop::Memory,
