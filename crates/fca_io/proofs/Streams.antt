@@ -8,7 +8,7 @@ use Rattle.fca_io.specs.declared.outside.Taken.{Taken}
 use Rattle.fca_io.specs.declared.outside.Taken.TheVariants.{Long, Memory}
 
 -- what stands beside a stream, and both counts, after some calls that succeeded
-pub record Settled (faults faults' : ℕ) (other other' : Option (List ℕ)) (aside aside' : ℕ) : Type 0 where
+pub record Settled {A : Type 0} (faults faults' : ℕ) (other other' : Option (List ℕ)) (aside aside' : A) : Type 0 where
   pub quiet : faults' ≡ faults
   pub beside : Keeps other other'
   pub same_beside : aside' ≡ aside

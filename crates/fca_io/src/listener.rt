@@ -15,7 +15,7 @@ pub trait Duplex: Source + Sink {
 
     ghost left_beside: { (end : Self) → Self.Sink.beside end ≡ Self.Source.left end };
 
-    ghost reads_beside: { (end : Self) → Self.Sink.faults_beside end ≡ Self.Source.faults end };
+    ghost reads_beside: { (end : Self) → Self.Sink.asked_beside end ≡ record { reads = Self.Source.reads end; faults = Self.Source.faults end } };
 }
 
 /// Where ends come from, and where they are given back.

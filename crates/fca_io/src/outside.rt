@@ -1,9 +1,10 @@
 //! The outside: sources, sinks and shelves, which may fail and count their faults.
 
 ghost use Rattle.std.specs.Prelude.{◌≡◌, ◌<◌, ◌≤◌, ℕ, List, length, vec_len, Option, Result, OnOk, OnErr, IfOk, IsErrOf};
+ghost use Rattle.std.specs.Option.{option_map};
 ghost use Rattle.std.specs.Io.{ReadsAtMost};
 ghost use Rattle.std.specs.Io.KnownBytes.{Keeps, ReadConsumes, WriteAppends};
-ghost use Rattle.fca_io.specs.Faults.{Rose};
+ghost use Rattle.fca_io.specs.Faults.{Rose, Asked, one_more};
 ghost use Rattle.fca_io.specs.Shelves.{Told, MayHold, MayExceed};
 
 use fca_model::NO_MEMORY;
@@ -72,6 +73,9 @@ pub trait Source {
 
     ghost faults: { Self → ℕ };
 
+    // how often it was read, where that is counted
+    ghost reads: { Self → Option ℕ };
+
     // bytes that stand beside the source, as those sent the other way, where it tells them
     ghost beside: { Self → Option (List ℕ) };
 
@@ -88,6 +92,7 @@ pub trait Source {
         ensures quiet { OnOk result (faults self.new ≡ faults self.old) }
         ensures failed { OnErr result (Rose (faults self.old) (faults self.new)) }
         ensures later { faults self.old ≤ faults self.new }
+        ensures counted { reads self.new ≡ option_map one_more (reads self.old) }
 
         ensures beside { Keeps (beside self.old) (beside self.new) }
         ensures same_beside { faults_beside self.new ≡ faults_beside self.old };
@@ -103,8 +108,8 @@ pub trait Sink {
     // bytes that stand beside the sink, as those still to come the other way, where it tells them
     ghost beside: { Self → Option (List ℕ) };
 
-    // a count that stands beside the sink
-    ghost faults_beside: { Self → ℕ };
+    // the counts that stand beside the sink, as those of what is read the other way
+    ghost asked_beside: { Self → Asked };
 
     /// Appends the first bytes of `from`, at least one, and answers how many.
     fn write(&mut self, from: &[u8]) -> Result<usize, Failed>
@@ -119,7 +124,7 @@ pub trait Sink {
         ensures later { faults self.old ≤ faults self.new }
 
         ensures beside { Keeps (beside self.old) (beside self.new) }
-        ensures same_beside { faults_beside self.new ≡ faults_beside self.old };
+        ensures same_beside { asked_beside self.new ≡ asked_beside self.old };
 }
 
 /// Files by their names.

@@ -65,6 +65,8 @@ impl Source for MemoryEnd {
 
     ghost faults = { λ e. e.incoming.plan.faults };
 
+    ghost reads = { λ e. Some e.incoming.plan.made };
+
     ghost beside = { λ e. Some e.outgoing.bytes };
 
     ghost faults_beside = { λ e. e.outgoing.plan.faults };
@@ -98,7 +100,7 @@ impl Sink for MemoryEnd {
 
     ghost beside = { λ e. Some e.incoming.bytes };
 
-    ghost faults_beside = { λ e. e.incoming.plan.faults };
+    ghost asked_beside = { λ e. record { reads = Some e.incoming.plan.made; faults = e.incoming.plan.faults } };
 
     fn write(&mut self, from: &[u8]) -> Result<usize, Failed>
         requires { 0 < length from.now }

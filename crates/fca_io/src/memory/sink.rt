@@ -68,7 +68,7 @@ impl Sink for MemorySink {
 
     ghost beside = { λ _. None };
 
-    ghost faults_beside = { λ _. 0 };
+    ghost asked_beside = { λ _. record { reads = None; faults = 0 } };
 
     fn write(&mut self, from: &[u8]) -> Result<usize, Failed>
         requires { 0 < length from.now }

@@ -99,6 +99,8 @@ impl Source for MemorySource {
 
     ghost faults = { λ s. s.plan.faults };
 
+    ghost reads = { λ s. Some s.plan.made };
+
     ghost beside = { λ _. None };
 
     ghost faults_beside = { λ _. 0 };
@@ -155,6 +157,8 @@ impl Source for SureSource {
     ghost left = { λ s. Some s };
 
     ghost faults = { λ _. 0 };
+
+    ghost reads = { λ _. None };
 
     ghost beside = { λ _. None };
 

@@ -10,7 +10,7 @@ invariant-loop-rest g l =
     (l.text ≡ [] → l.sink ≡ l.initial.sink) ×
     Settled (g.K.Sink.faults l.initial.sink) (g.K.Sink.faults l.sink)
     (g.K.Sink.beside l.initial.sink) (g.K.Sink.beside l.sink)
-    (g.K.Sink.faults_beside l.initial.sink) (g.K.Sink.faults_beside l.sink)
+    (g.K.Sink.asked_beside l.initial.sink) (g.K.Sink.asked_beside l.sink)
 
 abbrev pub decreases-loop-rest : goal.decreases-loop-rest
 decreases-loop-rest g l = length l.rest
