@@ -40,6 +40,8 @@ impl<T: Read> Source for StdInput<T> {
 
     ghost faults = { λ count. count };
 
+    ghost reads = { λ _. None };
+
     ghost beside = { λ _. None };
 
     ghost faults_beside = { λ _. 0 };
@@ -90,7 +92,7 @@ impl<T: Write> Sink for StdOutput<T> {
 
     ghost beside = { λ _. None };
 
-    ghost faults_beside = { λ _. 0 };
+    ghost asked_beside = { λ _. record { reads = None; faults = 0 } };
 
     fn write(&mut self, from: &[u8]) -> Result<usize, Failed> {
         match self.inner.write(from) {

@@ -8,26 +8,30 @@ use std::io::{Read, Write};
 use std::marker::Model;
 use std::net::{Net, OpenListener, TcpListener, TcpStream};
 
-/// A socket that was accepted. A write that takes nothing is a fault.
+/// A socket that was accepted. It counts its reads, and a write that takes nothing is a fault.
 #[derive(Drop)]
 pub struct TcpEnd {
     stream: TcpStream,
+    reads: u64,
     read_faults: u64,
     write_faults: u64,
 }
 
 impl Source for TcpEnd {
-    ghost use Rattle.std.specs.Prelude.{None};
+    ghost use Rattle.std.specs.Prelude.{None, Some};
 
     ghost left = { λ _. None };
 
     ghost faults = { λ e. e.read_faults };
+
+    ghost reads = { λ e. Some e.reads };
 
     ghost beside = { λ _. None };
 
     ghost faults_beside = { λ e. e.write_faults };
 
     fn read(&mut self, into: &mut [u8]) -> Result<usize, Failed> {
+        self.reads = self.reads.saturating_add(1);
         match self.stream.read(into) {
             Ok(count) => Ok(count),
             Err(_) => {
@@ -39,7 +43,7 @@ impl Source for TcpEnd {
 }
 
 impl Sink for TcpEnd {
-    ghost use Rattle.std.specs.Prelude.{None};
+    ghost use Rattle.std.specs.Prelude.{None, Some};
 
     ghost held = { λ _. None };
 
@@ -47,7 +51,7 @@ impl Sink for TcpEnd {
 
     ghost beside = { λ _. None };
 
-    ghost faults_beside = { λ e. e.read_faults };
+    ghost asked_beside = { λ e. record { reads = Some e.reads; faults = e.read_faults } };
 
     fn write(&mut self, from: &[u8]) -> Result<usize, Failed> {
         match self.stream.write(from) {
@@ -150,6 +154,7 @@ impl<'a, R: Net<Listener = TcpListener, Stream = TcpStream>> Listener for TcpLin
         let _ = stream.set_nodelay(true);
         Ok(TcpEnd {
             stream,
+            reads: 0,
             read_faults: 0,
             write_faults: 0,
         })
