@@ -5,5 +5,6 @@ mod CountLemmas
 mod NumberLemmas
 mod StepLemmas
 mod EntryLemmas
+mod ValueLemmas
 mod MakingLemmas
 pub mod ClosingLemmas

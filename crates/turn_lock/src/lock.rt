@@ -1,8 +1,9 @@
 //! The lock: making it with its passes, turns, and closing it.
 
-ghost use Rattle.std.specs.Prelude.{◌≡◌, ◌+◌, ◌-◌, ◌<◌, ◌≤◌, ◌^◌, ◌↔◌, false, [], IfOk, IfErr, IsErrOf, All, map};
+ghost use Rattle.std.specs.Prelude.{◌≡◌, ◌+◌, ◌-◌, ◌<◌, ◌≤◌, ◌^◌, ◌↔◌, ◌∷◌, false, [], IfOk, IfErr, IsErrOf, All, map};
 ghost use Rattle.turn_lock.specs.Passes.{badge, badges, roll, Belongs, IsFresh, Entered, Looked, Told};
 ghost use Rattle.turn_lock.specs.Seats.{Fits, Stays, Making, all_gathered};
+ghost use Rattle.turn_lock.specs.Steps.{first_view};
 
 use crate::fault::TurnFault;
 use crate::logged::Logged;
@@ -71,24 +72,8 @@ impl<V: Logged> TurnLock<V> {
         ensures passes { IfOk result (λ r. map badge r.1.items ≡ roll r.0) }
         ensures fresh { IfOk result (λ r. All IsFresh r.1.items) }
     {
-        value.told();
-        let key = Key {
-            value: Snapshot::of(&value),
-            turns,
-        };
-        let mut slots = Vec::new(alloc);
-        slots.push(Some(value))?;
-        let Ok((table, mut seat)) = Table::new(alloc, &[0, 0], slots, &key) else {
-            return Err(Memory);
-        };
-        let mut all = make_more(alloc, &table.shared, &mut seat, passes, turns)?;
-        let first = Pass {
-            number: 1,
-            made: 0,
-            turns,
-            seat,
-        };
-        all.insert(0, first)?;
+        let (table, seat) = table_of(alloc, value, turns)?;
+        let all = all_passes(alloc, &table.shared, seat, passes, turns)?;
         let queue = Queue::new();
         Ok((
             TurnLock {
@@ -172,6 +157,63 @@ impl<V: Logged> TurnLock<V> {
         closed.free();
         value
     }
+}
+
+/// The table with the value in its slot, and the seat of pass 1.
+fn table_of<V: Logged>(
+    alloc: Global,
+    value: V,
+    turns: u64,
+) -> Result<
+    (
+        Table<Option<V>, View<V::Base, V::Entry>, Key<V>, TurnRule<V>, Global>,
+        Seat<Option<V>, View<V::Base, V::Entry>>,
+    ),
+    Memory,
+>
+    requires turns { turns ≤ 2 ^ 48 }
+    requires new { V.history value ≡ [] }
+    ensures lock { IfOk result (λ r. Fits r.0.shared.table_id r.1) }
+    ensures key { IfOk result (λ r. (V.base r.0.shared.key.value.value ≡ V.base value) × (r.0.shared.key.turns ≡ turns)) }
+    ensures first { IfOk result (λ r. r.1.me ≡ (first_view (V.base value) turns, [])) }
+{
+    value.told();
+    let key = Key {
+        value: Snapshot::of(&value),
+        turns,
+    };
+    let mut slots = Vec::new(alloc);
+    slots.push(Some(value))?;
+    match Table::new(alloc, &[0, 0], slots, &key) {
+        Ok(made) => Ok(made),
+        Err(_refused) => Err(Memory),
+    }
+}
+
+/// All passes in their order, where pass 1 has the seat.
+fn all_passes<V: Logged>(
+    alloc: Global,
+    shared: &Shared<Option<V>, View<V::Base, V::Entry>, Key<V>, TurnRule<V>>,
+    mut seat: Seat<Option<V>, View<V::Base, V::Entry>>,
+    passes: u8,
+    turns: u64,
+) -> Result<Vec<Pass<V>>, Memory>
+    requires lock { Fits shared.now.table_id seat }
+    requires count { (1 ≤ passes) × (passes ≤ 64) }
+    requires first { Making turns 1 seat }
+    ensures badges { IfOk result (λ v. map badge v.items ≡ record { lock = seat.table_id; number = 1; base = seat.me.0.base; turns = turns; passes = passes }
+        ∷ badges seat.table_id seat.me.0.base turns 2 (passes - 1)) }
+    ensures fresh { IfOk result (λ v. All IsFresh v.items) }
+{
+    let mut all = make_more(alloc, shared, &mut seat, passes, turns)?;
+    let first = Pass {
+        number: 1,
+        made: 0,
+        turns,
+        seat,
+    };
+    all.insert(0, first)?;
+    Ok(all)
 }
 
 /// The passes from 2 on, cut off from pass 1.

@@ -96,10 +96,7 @@ fn wait<V: Logged, R: Wait>(
     let mut looks = 0u32;
     for _ in rt.forever() {
         if has_come(shared, seat, ticket) {
-            let Some(value) = shared.exchange(seat, 0, None) else {
-                unreachable!()
-            };
-            return value;
+            return take_out(shared, seat);
         }
         let turns = ticket.abs_diff(shared.peek(1));
         if turns <= 1 && looks < LOOKS {
@@ -111,6 +108,23 @@ fn wait<V: Logged, R: Wait>(
         }
     }
     unreachable!()
+}
+
+/// Takes the value out of the slot.
+fn take_out<V: Logged>(
+    shared: &Shared<Option<V>, View<V::Base, V::Entry>, Key<V>, TurnRule<V>>,
+    seat: &mut Seat<Option<V>, View<V::Base, V::Entry>>,
+) -> V
+    requires lock { Fits shared.now.table_id seat.old }
+    requires there { (value : V) × (seat.old.me.1 ≡ (0, Some value) ∷ []) }
+    ensures lock { Stays seat.old seat.new }
+    ensures was { seat.old.me.1 ≡ (0, Some result) ∷ [] }
+    ensures out { seat.new.me ≡ (seat.old.me.0, (0, None) ∷ []) }
+{
+    let Some(value) = shared.exchange(seat, 0, None) else {
+        unreachable!()
+    };
+    value
 }
 
 /// Gives the value back, and ends the turn.
