@@ -46,8 +46,19 @@ fn sets_of(alloc: Global, sets: &BTreeSet<Attrs>) -> Result<Vec<Attrs>, Memory>
     Ok(sets.iter().copied().collect(alloc)?)
 }
 
+/// The implication of each premise to its closure under the list.
+pub(crate) fn close_premises(
+    alloc: Global,
+    list: &ImplicationList,
+) -> Result<ImplicationList, Memory>
+    ensures { IfOk result (λ closed. closed ≡ record { width = list.now.width; members = map (λ P. rule P (closure (context_of list.now) P)) (premises list.now.members) }) }
+{
+    let premises = premises(alloc, list.as_slice())?;
+    close_in_list(alloc, list, &premises)
+}
+
 /// The premises in their order.
-pub(crate) fn premises(alloc: Global, members: &[Implication]) -> Result<Vec<Attrs>, Memory>
+fn premises(alloc: Global, members: &[Implication]) -> Result<Vec<Attrs>, Memory>
     ensures { IfOk result (λ sets. sets.items ≡ premises members.now) }
 {
     Ok(members.iter().map(|i| i.premise).collect(alloc)?)

@@ -10,7 +10,7 @@ ghost use Rattle.fca_model.specs.Invariant.{SameMembers};
 ghost use Rattle.implication_closure.specs.Closing.{HaveWidth};
 ghost use Rattle.canonical_basis.specs.Reduced.{context_of, IsReduced};
 
-use crate::ordering::{close_in_list, premises};
+use crate::ordering::close_premises;
 use fca_model::Memory;
 use implication_closure::{Implication, ImplicationList};
 use std::alloc::Global;
@@ -20,8 +20,7 @@ pub(crate) fn reduce_list(alloc: Global, list: &ImplicationList) -> Result<Impli
     ensures members { IfOk result (λ reduced. SameMembers reduced.members (basis (context_of list.now))) }
     ensures equivalent { OnOk result (equivalent list.now.width (basis (context_of list.now)) list.now.members ≡ true) }
 {
-    let premises = premises(alloc, list.as_slice())?;
-    let full = close_in_list(alloc, list, &premises)?;
+    let full = close_premises(alloc, list)?;
     let mut reduced = ImplicationList::new(alloc, list.width())?;
     reduce_all(alloc, &mut reduced, full.as_slice())?;
     Ok(reduced)
