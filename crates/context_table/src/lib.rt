@@ -1,7 +1,8 @@
 //! Tables: contexts whose objects and attributes have names.
 #![tactic(auto)]
 
-ghost use Rattle.std.specs.Prelude.{◌≡◌, ◌<◌, ◌≤◌, ◌↔◌, ◌∷◌, ◌++◌, ℕ, List, [], None, Some, All, IfOk, IfErr, OnOk, IsErrOf, IsTrue, length, vec_len, slice_get, option_copied, position, bytes_eq};
+ghost use Rattle.std.specs.Prelude.{◌≡◌, ◌<◌, ◌≤◌, ◌↔◌, ◌∷◌, ◌++◌, ℕ, List, [], None, Some, All, IfOk, IfErr, OnOk, IsErrOf, IsTrue, not, true, length, vec_len, slice_get, option_copied, position, bytes_eq};
+ghost use Rattle.std.specs.List.{list_any};
 ghost use Rattle.context_table.specs.Table.{IsTable, first_repeat};
 ghost use Rattle.context_table.specs.Generated.{made_table};
 
@@ -11,7 +12,7 @@ use derivation::Rows;
 use fca_model::{MAX_ATTRIBUTES, MAX_OBJECTS, Memory, NO_MEMORY, Name};
 use generated::{Cells, numbered};
 use indexmap::IndexSet;
-use std::alloc::{AllocError, AllocFailed, Global};
+use std::alloc::{AllocError, Global};
 use std::marker::Model;
 use thiserror::Error;
 
@@ -43,16 +44,6 @@ impl From<Memory> for TableFault {
     ghost from_gives = { λ _ e. e ≡ fault.Memory };
 
     fn from(_error: Memory) -> TableFault {
-        TableFault::Memory
-    }
-}
-
-impl<T: Drop> From<AllocFailed<T>> for TableFault {
-    ghost use Rattle.context_table.specs.declared.TableFault.TheVariants as fault;
-
-    ghost from_gives = { λ _ e. e ≡ fault.Memory };
-
-    fn from(_error: AllocFailed<T>) -> TableFault {
         TableFault::Memory
     }
 }
@@ -207,13 +198,24 @@ fn in_order(alloc: Global, names: Vec<Name>) -> Result<IndexSet<Name>, TableFaul
     let mut set = IndexSet::with_capacity(alloc, names.len())?;
     let mut place = 0;
     for name in names {
-        let (_, added) = set.insert_full(name)?;
+        let added = put(&mut set, name)?;
         if !added {
             return Err(TableFault::DuplicateAttribute(place));
         }
         place += 1;
     }
     Ok(set)
+}
+
+/// Puts the name behind the others where it is not among them, and says whether it was put.
+fn put(set: &mut IndexSet<Name>, name: Name) -> Result<bool, Memory>
+    ensures added { IfOk result (λ added. added ≡ not (list_any (bytes_eq name) set.old.keys)) }
+    ensures keys { IfOk result (λ added. added ≡ true → set.new.keys ≡ set.old.keys ++ name ∷ []) }
+{
+    match set.insert_full(name) {
+        Ok((_, added)) => Ok(added),
+        Err(_) => Err(Memory),
+    }
 }
 
 /// Copies of the names.

@@ -15,7 +15,7 @@ loop-name-preserved c =
     let later = into_iter_items c.next.new.self in
     let step = c.in-Some.ensures.steps.0 in
     let new : list_any (bytes_eq name) seen ≡ false = not-true (list_any (bytes_eq name) seen) (sym c.in_ok-added.ensures.added ∙ c.if-not-added.false) in
-    let keys : c.insert_full.new.self.keys ≡ seen ++ name ∷ [] = rw new at c.in_ok-added.ensures.keys in
+    let keys : c.put.new.set.keys ≡ seen ++ name ∷ [] = c.in_ok-added.ensures.keys c.if-not-added.false in
     let items = rw step at loop.invariant.1 in
     let repeats = rw (step, new) at loop.invariant.2 in (
       rw keys (ap (λ (n : ℕ). n + 1) loop.invariant.0 ∙ sym (length_push seen name)),
