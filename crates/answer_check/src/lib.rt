@@ -12,7 +12,7 @@ use derivation::Rows;
 use implication_closure::{Implication, ImplicationList, Question};
 
 /// Which case of the step an answer is. A place counts from 0 in the list that it speaks of.
-#[derive(Clone, Copy, Debug)]
+#[derive(Clone, Copy)]
 pub enum Verdict {
     /// The answer is recorded.
     Take,
