@@ -2,7 +2,7 @@
 use Rattle.std.specs.Prelude.{◌≡◌, ◌≤◌, ℕ, Option, Result, List, decimal, OnOk, OnErr}
 use Rattle.std.specs.List.{flat_map}
 use Rattle.std.specs.Io.KnownBytes.{Appends, Keeps}
-use Rattle.fca_io.specs.Faults.{Rose}
+use Rattle.fca_io.specs.Faults.{Rose, Asked}
 use Rattle.fca_io.specs.Transfers.{AppendsFront}
 use Rattle.fca_io.specs.declared.outside.Put.{Put}
 use Rattle.fca_model.specs.Tables.{Text}
@@ -23,7 +23,7 @@ abbrev pub parts_text : List Text → List Part → Text
 parts_text attributes parts = flat_map (part_text attributes) parts
 
 -- what a call that writes a text leaves of a sink: all of the text and its count of faults where it succeeds, else a front of it and one fault more
-pub record Writes (held held' : Option Text) (faults faults' : ℕ) (other other' : Option Text) (aside aside' : ℕ) (text : Text) (result : Result (Unit {0}) Put) : Type 0 where
+pub record Writes (held held' : Option Text) (faults faults' : ℕ) (other other' : Option Text) (aside aside' : Asked) (text : Text) (result : Result (Unit {0}) Put) : Type 0 where
   pub whole : OnOk result (Appends held held' text)
   pub front : AppendsFront held held' text
   pub quiet : OnOk result (faults' ≡ faults)

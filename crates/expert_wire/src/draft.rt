@@ -144,7 +144,7 @@ impl Sink for Growing {
 
     ghost beside = { λ _. None };
 
-    ghost faults_beside = { λ _. 0 };
+    ghost asked_beside = { λ _. record { reads = None; faults = 0 } };
 
     fn write(&mut self, from: &[u8]) -> Result<usize, Failed> {
         match self.bytes.extend_from_slice(from) {

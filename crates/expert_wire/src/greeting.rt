@@ -11,7 +11,7 @@ use fca_io::{Put, Sink};
 /// Writes the greeting of the expert, part by part; it takes no memory. After an `Err` the sink holds a front of it.
 pub fn write_greeting<K: Sink>(sink: &mut K, table: &Table, expert: u8) -> Result<(), Put>
     ensures { Writes (K.held sink.old) (K.held sink.new) (K.faults sink.old) (K.faults sink.new) (K.beside sink.old) (K.beside sink.new)
-        (K.faults_beside sink.old) (K.faults_beside sink.new) (greeting table.now expert) result }
+        (K.asked_beside sink.old) (K.asked_beside sink.new) (greeting table.now expert) result }
 {
     let width = table.rows().width();
     write_parts(

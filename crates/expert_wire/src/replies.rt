@@ -24,7 +24,7 @@ pub fn write_reply<K: Sink>(sink: &mut K, table: &Table, reply: &Reply) -> Resul
     ensures later { K.faults sink.old ≤ K.faults sink.new }
 
     ensures beside { Keeps (K.beside sink.old) (K.beside sink.new) }
-    ensures same_beside { K.faults_beside sink.new ≡ K.faults_beside sink.old }
+    ensures same_beside { K.asked_beside sink.new ≡ K.asked_beside sink.old }
 {
     match reply {
         Reply::Ask(question) => write_question(sink, table, b"ask ", question),
@@ -51,14 +51,14 @@ pub fn write_reply<K: Sink>(sink: &mut K, table: &Table, reply: &Reply) -> Resul
 
 pub(crate) fn write_words<K: Sink>(sink: &mut K, table: &Table, words: &[u8]) -> Result<(), Put>
     ensures { Writes (K.held sink.old) (K.held sink.new) (K.faults sink.old) (K.faults sink.new) (K.beside sink.old) (K.beside sink.new)
-        (K.faults_beside sink.old) (K.faults_beside sink.new) (words.now ++ line_end) result }
+        (K.asked_beside sink.old) (K.asked_beside sink.new) (words.now ++ line_end) result }
 {
     write_parts(sink, table, &[Part::Bytes(words), Part::Bytes(b"\n")])
 }
 
 fn write_place<K: Sink>(sink: &mut K, table: &Table, words: &[u8], place: usize) -> Result<(), Put>
     ensures { Writes (K.held sink.old) (K.held sink.new) (K.faults sink.old) (K.faults sink.new) (K.beside sink.old) (K.beside sink.new)
-        (K.faults_beside sink.old) (K.faults_beside sink.new) ((words.now ++ ordinal place) ++ line_end) result }
+        (K.asked_beside sink.old) (K.asked_beside sink.new) ((words.now ++ ordinal place) ++ line_end) result }
 {
     write_parts(
         sink,
@@ -75,7 +75,7 @@ fn write_row<K: Sink>(
     row: &Attrs,
 ) -> Result<(), Put>
     ensures { Writes (K.held sink.old) (K.held sink.new) (K.faults sink.old) (K.faults sink.new) (K.beside sink.old) (K.beside sink.new)
-        (K.faults_beside sink.old) (K.faults_beside sink.new) ((words.now ++ numbered_row place row.now) ++ line_end) result }
+        (K.asked_beside sink.old) (K.asked_beside sink.new) ((words.now ++ numbered_row place row.now) ++ line_end) result }
 {
     write_parts(
         sink,
@@ -99,7 +99,7 @@ pub(crate) fn write_rule<K: Sink>(
     rule: &Implication,
 ) -> Result<(), Put>
     ensures { Writes (K.held sink.old) (K.held sink.new) (K.faults sink.old) (K.faults sink.new) (K.beside sink.old) (K.beside sink.new)
-        (K.faults_beside sink.old) (K.faults_beside sink.new) ((words.now ++ numbered_rule table.now.attributes place rule.now) ++ line_end) result }
+        (K.asked_beside sink.old) (K.asked_beside sink.new) ((words.now ++ numbered_rule table.now.attributes place rule.now) ++ line_end) result }
 {
     let gained = rule.conclusion.minus(&rule.premise);
     write_parts(
@@ -129,7 +129,7 @@ pub(crate) fn write_question<K: Sink>(
     question: &Implication,
 ) -> Result<(), Put>
     ensures { Writes (K.held sink.old) (K.held sink.new) (K.faults sink.old) (K.faults sink.new) (K.beside sink.old) (K.beside sink.new)
-        (K.faults_beside sink.old) (K.faults_beside sink.new) ((words.now ++ full_text table.now.attributes question.now) ++ line_end) result }
+        (K.asked_beside sink.old) (K.asked_beside sink.new) ((words.now ++ full_text table.now.attributes question.now) ++ line_end) result }
 {
     let gained = question.conclusion.minus(&question.premise);
     write_parts(
@@ -151,7 +151,7 @@ pub(crate) fn write_question<K: Sink>(
 
 fn write_misses<K: Sink>(sink: &mut K, table: &Table, attribute: u32) -> Result<(), Put>
     ensures { Writes (K.held sink.old) (K.held sink.new) (K.faults sink.old) (K.faults sink.new) (K.beside sink.old) (K.beside sink.new)
-        (K.faults_beside sink.old) (K.faults_beside sink.new)
+        (K.asked_beside sink.old) (K.asked_beside sink.new)
         ((codes "misses " ++ (ordinal attribute ++ (codes " " ++ attribute_name table.now.attributes attribute))) ++ line_end) result }
 {
     write_parts(
