@@ -1,5 +1,5 @@
 -- The sets among which later questions are looked for. What is open once there is one row or one rule more was open before, so they serve for all levels to come.
-use Rattle.std.proofs.Common.{◌≡◌, ℕ, ◌+◌, Bool, true, false, ◌&&◌, List, [], ◌∷◌, ◌++◌, refl, sym, ap, ◌∙◌, subst, arith}
+use Rattle.std.proofs.Common.{ℕ, ◌+◌, Bool, List, [], ◌∷◌, ◌++◌, refl, sym, ◌∙◌, arith}
 use Rattle.std.proofs.lemmas.Bool.{false≢true, and_parts, and_from, false_from_ne_true}
 use Rattle.std.proofs.lemmas.List.Folds.{list_all-append}
 use Rattle.fca_model.specs.Sets.{Set}
@@ -7,8 +7,7 @@ use Rattle.fca_model.specs.Context.{Context, is_closed, with_row}
 use Rattle.fca_model.specs.Implications.{Rule, respects, respects_all}
 use Rattle.fca_model.specs.Levels.{HasBelow}
 use Rattle.fca_model.proofs.SurvivalLemmas.{closed_stays}
-use Rattle.next_level.specs.NextLevel.{IsOpen, everything}
-use Rattle.next_level.specs.Among.{AllAmong, IsAhead, may_be_open}
+use Rattle.next_level.specs.Among.{AllAmong, IsAhead}
 use Rattle.next_level.proofs.NextLevelLemmas.{open_reached}
 
 -- one row more

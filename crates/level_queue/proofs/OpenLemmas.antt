@@ -16,7 +16,7 @@ use Rattle.fca_model.specs.Invariant.{is_member, Among, SmallerAccepted, IsAccep
 use Rattle.fca_model.specs.Levels.{level_of, HasBelow}
 use Rattle.fca_model.proofs.ListLemmas.{implies_at, list_all-mono, list_all-filter, filter_all, filter_none_all, filter-map}
 use Rattle.fca_model.proofs.SetLemmas.{same_refl, same-true, size_le, within-meet}
-use Rattle.fca_model.proofs.PseudoLemmas.{basis_all, basis_at}
+use Rattle.fca_model.proofs.PseudoLemmas.{basis_all, basis_at, pseudo_parts}
 use Rattle.fca_model.proofs.InvariantLemmas.{member_from, member_parts, distinct_premises-push}
 use Rattle.fca_model.proofs.SortedLemmas.{increasing-filter}
 use Rattle.fca_model.proofs.DoneLemmas.{basis_increasing}
@@ -24,7 +24,7 @@ use Rattle.fca_model.proofs.QuestionLemmas.{open_none}
 use Rattle.fca_model.proofs.LevelLemmas.{level_waiting, none_waits, smallest_is}
 use Rattle.next_level.specs.NextLevel.{IsNextLevel}
 use Rattle.next_level.proofs.NextLevelLemmas.{level_all}
-use Rattle.level_queue.specs.Queue.{HasPart, IsQueue, IsKept, narrowed, still_open}
+use Rattle.level_queue.specs.Queue.{HasPart, IsQueue, IsKept, narrowed, is_unclosed, still_open}
 use Rattle.level_queue.proofs.RowLemmas.{questions_all, row_keeps_queue}
 use Rattle.level_queue.proofs.NarrowLemmas.{closure-with_row, narrowed_in}
 use Rattle.level_queue.proofs.AcceptLemmas.{question_member, question_size, question_new, question_wide, conclusion_wide, accept_keeps_queue, among_at, others_remove}
@@ -218,6 +218,10 @@ module _ {S : List Rule} {K : Context} {k : ℕ} {acc questions : List Rule} (ke
       at : (qs : List Rule) → qs ≡ questions → questions ≡ open_questions S K acc
       at [] e = sym e ∙ sym (past_open S K k acc kept.queue.part (let past = kept.done (sym e) in omega (arith, past)))
       at (i ∷ is) e = queue_open S K k acc questions kept.queue (λ z. cons_not_nil (e ∙ z))
+
+  -- none of them is closed
+  pub kept_unclosed : list_all is_unclosed questions ≡ true
+  kept_unclosed = questions_all S K k acc questions is_unclosed kept.queue (level_all S K k is_unclosed (λ P e p s. ap not (pseudo_parts S K P e p).not_closed))
 
   pub kept_accepted : IsAccepted S K acc
   kept_accepted = accepted_from_part S K k acc kept.queue.part kept.distinct

@@ -2,7 +2,7 @@
 -- a row.
 use Rattle.std.proofs.Common.{◌≡◌, ℕ, zero, suc, ◌+◌, ◌<◌, ◌≤◌, ◌-◌, Bool, true, false, not, ◌&&◌, cond, Some, List, [], ◌∷◌, ◌++◌, map, length, get_or, set, take, drop, refl, sym, ap, ap₂, ◌∙◌, subst, arith, inl, inr, ltb, lt-ltb, ltb-true, Ordering, Less, Equal, Greater}
 use Rattle.std.proofs.lemmas.Bool.{false≢true, and_parts, and_from, cases_Bool, cases_lt, cases_eq, not-true, false_from_ne_true}
-use Rattle.std.proofs.lemmas.List.{take-take, take-set-le, get_or-take, drop_more, drop_all, drop-drop, drop_at, drop-set, length-take-le, length-set, length-drop, append_assoc, get_or_default}
+use Rattle.std.proofs.lemmas.List.{take-take, take-set-le, take-append-le, take-append-drop, get_or-take, get_or-drop, drop_more, drop_all, drop-drop, drop_at, drop-set, drop-set-lt, length-take-le, length-set, length-drop, append_assoc, get_or_default}
 use Rattle.std.proofs.lemmas.List.Sums.{AllPass-from_list_all, list_all-from_AllPass}
 use Rattle.std.proofs.lemmas.Option.{slice_get-get_or}
 use Rattle.std.specs.List.{list_all, list_any, slice_get, remove, copy_within, AllWithin}
@@ -13,7 +13,7 @@ use Rattle.fca_model.specs.Sets.{Set, same, increasing, lectic_cmp}
 use Rattle.fca_model.specs.Implications.{Rule, rule, premises}
 use Rattle.fca_model.specs.Invariant.{Among}
 use Rattle.fca_model.proofs.SetLemmas.{same_refl, same-true, lectic_refl}
-use Rattle.level_queue.specs.Queue.{narrowed, still_open, is_left, is_rule}
+use Rattle.level_queue.specs.Queue.{narrowed, still_open, is_unclosed, is_left, is_rule}
 use Rattle.level_queue.proofs.NarrowLemmas.{left_some, left_none}
 
 -- ---- a search
@@ -106,26 +106,31 @@ pub not_false : (b : Bool) → not b ≡ false → b ≡ true
 not_false true h = refl
 not_false false h = absurd (false≢true (sym h))
 
--- ys began as xs. Of those that stood from place i on, what is left stands from place k on in ys, and before i ys is as it was
-pub record IsNarrowing (r : Set) (xs ys : List Rule) (k i : ℕ) : Type 0 where
-  pub back : drop k ys ≡ still_open (map (narrowed r) (drop i xs))
+-- ys began as xs. Of those that stood from place i on, what is left stands from i to e and then from k on in ys, and before i ys is as it was
+pub record IsNarrowing (r : Set) (xs ys : List Rule) (k e i : ℕ) : Type 0 where
+  pub back : take (e - i) (drop i ys) ++ drop k ys ≡ still_open (map (narrowed r) (drop i xs))
   pub rest : take i ys ≡ take i xs
-  pub before : i ≤ k
+  pub run : i ≤ e
+  pub before : e ≤ k
   pub inside : k ≤ length ys
   pub long : length ys ≡ length xs
 
-pub narrowing_start : (r : Set) (xs : List Rule) → IsNarrowing r xs xs (length xs) (length xs)
+pub narrowing_start : (r : Set) (xs : List Rule) → IsNarrowing r xs xs (length xs) (length xs) (length xs)
 narrowing_start r xs = record {
-  back = drop_all (length xs) xs (omega arith) ∙ sym (ap (λ ys. still_open (map (narrowed r) ys)) (drop_all (length xs) xs (omega arith)));
+  back = ap₂ (λ m zs. take m (drop (length xs) xs) ++ zs) none (drop_all (length xs) xs (omega arith)) ∙ sym (ap (λ ys. still_open (map (narrowed r) ys)) (drop_all (length xs) xs (omega arith)));
   rest = refl;
+  run = omega arith;
   before = omega arith;
   inside = omega arith;
   long = refl;
 }
+  where
+    none : length xs - length xs ≡ 0
+    none = omega arith
 
-module _ {r : Set} {xs ys : List Rule} {k j : ℕ} (n : IsNarrowing r xs ys k j) (i : ℕ) (next : j ≡ suc i) (l : i < length ys) (q : Rule) (at : q ≡ get_or ys i q) where
+module _ {r : Set} {xs ys : List Rule} {k e j : ℕ} (n : IsNarrowing r xs ys k e j) (i : ℕ) (next : j ≡ suc i) (l : i < length ys) (q : Rule) (at : q ≡ get_or ys i q) where
   -- what stood there in the beginning
-  was : q ≡ get_or xs i q
+  pub was : q ≡ get_or xs i q
   was = at ∙ sym (get_or-take j ys i q (omega (arith, next))) ∙ ap (λ zs. get_or zs i q) n.rest ∙ get_or-take j xs i q (omega (arith, next))
 
   before_it : take i ys ≡ take i xs
@@ -134,24 +139,72 @@ module _ {r : Set} {xs ys : List Rule} {k j : ℕ} (n : IsNarrowing r xs ys k j)
   reached : drop i xs ≡ q ∷ drop j xs
   reached = drop_more xs i q (let e = n.long in omega (arith, l, e)) ∙ ap₂ (λ x m. x ∷ drop m xs) (sym was) (omega (arith, next))
 
-  pub narrowing_drops : is_left r q ≡ false → IsNarrowing r xs ys k i
-  narrowing_drops f = record {
-    back = n.back ∙ sym (ap (λ b. cond b (narrowed r q ∷ still_open (map (narrowed r) (drop j xs))) (still_open (map (narrowed r) (drop j xs)))) f) ∙ sym (ap (λ zs. still_open (map (narrowed r) zs)) reached);
-    rest = before_it;
-    before = let b = n.before in omega (arith, b, next);
-    inside = n.inside;
-    long = n.long;
-  }
+  -- behind it nothing changes where it is met
+  behind_it : drop k (set ys i (narrowed r q)) ≡ drop k ys
+  behind_it = drop-set-lt k ys i (narrowed r q) (let a = n.run in let b = n.before in omega (arith, a, b, next))
 
-  pub narrowing_keeps : is_left r q ≡ true → (m : ℕ) → k ≡ m + 1 → IsNarrowing r xs (set ys m (narrowed r q)) m i
-  narrowing_keeps t m e = record {
-    back = drop-set ys m (narrowed r q) (let b = n.inside in omega (arith, b, e)) ∙ ap (λ zs. narrowed r q ∷ zs) (ap (λ a. drop a ys) (sym e) ∙ n.back)
+  pub narrowing_keeps : is_left r q ≡ true → IsNarrowing r xs (set ys i (narrowed r q)) k e i
+  narrowing_keeps t = record {
+    back = ap₂ (λ m zs. take m zs ++ drop k (set ys i (narrowed r q))) one_more (drop-set ys i (narrowed r q) l)
+        ∙ ap₂ (λ m zs. narrowed r q ∷ (take (e - j) (drop m ys) ++ zs)) (omega (arith, next)) behind_it
+        ∙ ap (λ zs. narrowed r q ∷ zs) n.back
         ∙ sym (ap (λ b. cond b (narrowed r q ∷ still_open (map (narrowed r) (drop j xs))) (still_open (map (narrowed r) (drop j xs)))) t) ∙ sym (ap (λ zs. still_open (map (narrowed r) zs)) reached);
-    rest = take-set-le i ys m (narrowed r q) (let b = n.before in omega (arith, b, next, e)) ∙ before_it;
-    before = let b = n.before in omega (arith, b, next, e);
-    inside = let b = n.inside in omega (arith, b, e, length-set ys m (narrowed r q));
-    long = length-set ys m (narrowed r q) ∙ n.long;
+    rest = take-set-le i ys i (narrowed r q) (omega arith) ∙ before_it;
+    run = let a = n.run in omega (arith, a, next);
+    before = n.before;
+    inside = let b = n.inside in omega (arith, b, length-set ys i (narrowed r q));
+    long = length-set ys i (narrowed r q) ∙ n.long;
   }
+    where
+      one_more : e - i ≡ suc (e - j)
+      one_more = let a = n.run in omega (arith, a, next)
+
+  -- where it is closed, those behind it have moved to the others
+  closed_drops : is_left r q ≡ false → (zs : List Rule) (m : ℕ) → m ≡ k - (e - j) → drop m zs ≡ take (e - j) (drop j (set ys i (narrowed r q))) ++ drop k (set ys i (narrowed r q))
+      → take j zs ≡ take j (set ys i (narrowed r q)) → length zs ≡ length (set ys i (narrowed r q)) → IsNarrowing r xs zs m i i
+  closed_drops f zs m e_m moved same long = record {
+    back = ap (λ p. take p (drop i zs) ++ drop m zs) none
+        ∙ moved
+        ∙ ap₂ (λ us vs. take (e - j) us ++ vs) (drop-set-lt j ys i (narrowed r q) (omega (arith, next))) behind_it
+        ∙ n.back
+        ∙ sym (ap (λ b. cond b (narrowed r q ∷ still_open (map (narrowed r) (drop j xs))) (still_open (map (narrowed r) (drop j xs)))) f) ∙ sym (ap (λ us. still_open (map (narrowed r) us)) reached);
+    rest = sym (take-take i j zs (omega (arith, next))) ∙ ap (take i) same ∙ take-take i j (set ys i (narrowed r q)) (omega (arith, next)) ∙ take-set-le i ys i (narrowed r q) (omega arith) ∙ before_it;
+    run = omega arith;
+    before = let a = n.run in let b = n.before in omega (arith, a, b, next, e_m);
+    inside = let a = n.run in let b = n.before in let d = n.inside in omega (arith, a, b, d, e_m, long, length-set ys i (narrowed r q));
+    long = long ∙ length-set ys i (narrowed r q) ∙ n.long;
+  }
+    where
+      none : i - i ≡ 0
+      none = omega arith
+
+  pub narrowing_drops : is_left r q ≡ false → (ws zs : List Rule) (p m : ℕ) → ws ≡ set ys i (narrowed r q) → p ≡ j → m ≡ k - (e - p) → drop m zs ≡ take (e - p) (drop p ws) ++ drop k ws
+      → take p zs ≡ take p ws → length zs ≡ length ws → IsNarrowing r xs zs m i i
+  narrowing_drops f ws zs p m w here e_m moved same long = closed_drops f zs m (e_m ∙ ap (λ x. k - (e - x)) here) (moved ∙ ap₂ (λ x us. take (e - x) (drop x us) ++ drop k us) here w)
+      (sym (ap (λ x. take x zs) here) ∙ same ∙ ap₂ (λ x us. take x us) here w) (long ∙ ap length w)
+
+-- a question from a place on
+pub unclosed_at : (xs : List Rule) (first i : ℕ) (q : Rule) → list_all is_unclosed (drop first xs) ≡ true → first ≤ i → i < length xs → q ≡ get_or xs i q → is_unclosed q ≡ true
+unclosed_at xs first i q all on l at =
+    let there : first + (i - first) ≡ i = omega (arith, on) in
+    ap is_unclosed (at ∙ sym (ap (λ m. get_or xs m q) there) ∙ sym (get_or-drop first xs (i - first) q))
+    ∙ AllPass-from_list_all is_unclosed (drop first xs) all (i - first) q (let d = length-drop first xs in omega (arith, d, on, l))
+
+-- ---- some move up
+
+pub moved_up : {X : Type 0} (xs : List X) (first end later place : ℕ) → first ≤ end → end ≤ later → later ≤ length xs → place ≡ later - (end - first)
+    → (drop place (copy_within xs first end place) ≡ take (end - first) (drop first xs) ++ drop later xs) × (take first (copy_within xs first end place) ≡ take first xs)
+moved_up xs first end later place some before inside is =
+    let front : length (take place xs) ≡ place = length-take-le place xs (omega (arith, is, inside)) in
+    let same : copy_within xs first end place ≡ take place xs ++ (take (end - first) (drop first xs) ++ drop (place + (end - first)) xs) = append_assoc (take place xs) (take (end - first) (drop first xs)) (drop (place + (end - first)) xs) in (
+      ap (drop place) same ∙ drop_at (take place xs) (take (end - first) (drop first xs) ++ drop (place + (end - first)) xs) place front ∙ ap (λ m. take (end - first) (drop first xs) ++ drop m xs) (omega (arith, is, some, before)),
+      ap (take first) same ∙ take-append-le first (take place xs) (take (end - first) (drop first xs) ++ drop (place + (end - first)) xs) (omega (arith, front, is, some, before)) ∙ take-take first place xs (omega (arith, is, some, before)),
+    )
+
+-- none has to move
+pub not_moved : {X : Type 0} (xs : List X) (first end later : ℕ) → first ≤ end → end ≤ later → later - (end - first) ≡ first → drop first xs ≡ take (end - first) (drop first xs) ++ drop later xs
+not_moved xs first end later some before is =
+    sym (take-append-drop (end - first) (drop first xs)) ∙ ap (λ zs. take (end - first) (drop first xs) ++ zs) (drop-drop (end - first) first xs ∙ ap (λ m. drop m xs) (omega (arith, is, some, before)))
 
 -- ---- what a row leaves
 

@@ -48,13 +48,17 @@ renewed K i = rule i.premise (closure K i.premise)
 abbrev pub narrowed : Set → Rule → Rule
 narrowed row i = cond (within i.premise row) (rule i.premise (meet i.conclusion row)) i
 
+-- the premise is not closed
+abbrev pub is_unclosed : Rule → Bool
+is_unclosed i = not (same i.premise i.conclusion)
+
 -- the questions whose premises are not closed
 abbrev pub still_open : List Rule → List Rule
-still_open questions = filter (λ i. not (same i.premise i.conclusion)) questions
+still_open questions = filter is_unclosed questions
 
 -- the question is one of these once there is this row
 abbrev pub is_left : Set → Rule → Bool
-is_left row i = not (same (narrowed row i).premise (narrowed row i).conclusion)
+is_left row i = is_unclosed (narrowed row i)
 
 -- i is the implication q
 abbrev pub is_rule : Rule → Rule → Bool

@@ -1,12 +1,12 @@
 //! The open questions in lectic order, which change where they stand: one is taken out, or all are met with a row.
 
-ghost use Rattle.std.specs.Prelude.{◌≡◌, ◌<◌, ◌≤◌, length, map, drop, true, false, slice_get, slice_index_or, slice_set, nat_lt, not, ◌&&◌, Some, IfSome, IsSome};
-ghost use Rattle.std.specs.List.{list_any, remove, AllWithin};
+ghost use Rattle.std.specs.Prelude.{◌≡◌, ◌<◌, ◌≤◌, ◌-◌, ◌++◌, length, map, take, drop, true, false, slice_get, slice_index_or, slice_set, nat_lt, not, ◌&&◌, Some, IfSome, IsSome};
+ghost use Rattle.std.specs.List.{list_all, list_any, remove, AllWithin};
 ghost use Rattle.std.specs.Ordering.{is_lt};
 ghost use Rattle.fca_model.specs.Sets.{increasing, lectic_cmp};
 ghost use Rattle.fca_model.specs.Implications.{Rule, premises};
 ghost use Rattle.fca_model.specs.Invariant.{Among};
-ghost use Rattle.level_queue.specs.Queue.{narrowed, still_open, is_left, is_rule};
+ghost use Rattle.level_queue.specs.Queue.{narrowed, still_open, is_unclosed, is_left, is_rule};
 
 use attr_bits::Attrs;
 use implication_closure::{Implication, Question};
@@ -66,40 +66,64 @@ impl OpenQuestions {
         self.first = first + 1;
     }
 
-    /// Meets the questions with a row. Those that are closed then are dropped.
+    /// Meets the questions, none of which is closed, with a row. Those that are closed then are dropped.
     pub(crate) fn narrow(&mut self, row: &Attrs)
+        requires { list_all is_unclosed self.old ≡ true }
         ensures { self.new ≡ still_open (map (narrowed row.now) self.old) }
     {
         self.first = narrow_from(&mut self.questions, self.first, row);
     }
 }
 
-/// Meets the questions from a place on with a row. Those that are not closed then move to the end, where they stand from the place on that is told: so only those
-/// before one that is dropped move.
+/// Meets the questions from a place on, none of which is closed, with a row. Those that are not closed then stand from the place on that is told: so only those
+/// before one that is dropped move. Those between two that are dropped move together.
 fn narrow_from(questions: &mut [Question], first: usize, row: &Attrs) -> usize
-    requires { first ≤ length questions.old }
+    requires inside { first ≤ length questions.old }
+    requires unclosed { list_all is_unclosed (drop first questions.old) ≡ true }
     ensures inside { result ≤ length questions.new }
     ensures narrowed { drop result questions.new ≡ still_open (map (narrowed row.now) (drop first questions.old)) }
 {
     let mut kept = questions.len();
+    let mut end = questions.len();
     for place in (first..questions.len()).rev() {
-        if is_left(&questions[place], row) {
-            kept -= 1;
-            put_narrowed(questions, place, kept, row);
+        if !meet_at(questions, place, row) {
+            kept = move_up(questions, place + 1, end, kept);
+            end = place;
         }
     }
-    kept
+    move_up(questions, first, end, kept)
 }
 
-/// Puts the question at a place, met with a row, at another place. Most stay as they are.
-fn put_narrowed(questions: &mut [Question], place: usize, other: usize, row: &Attrs)
+/// Meets the question at the place, which is not closed, with a row. Whether it is not closed then either. Most stay as they are.
+fn meet_at(questions: &mut [Question], place: usize, row: &Attrs) -> bool
     requires inside { place < length questions.old }
-    requires other_inside { other < length questions.old }
-    ensures { (question : Rule) → question ≡ slice_index_or questions.old place question → questions.new ≡ slice_set questions.old other (narrowed row.now question) }
+    requires unclosed { (question : Rule) → question ≡ slice_index_or questions.old place question → is_unclosed question ≡ true }
+    ensures met { (question : Rule) → question ≡ slice_index_or questions.old place question → questions.new ≡ slice_set questions.old place (narrowed row.now question) }
+    ensures left { (question : Rule) → question ≡ slice_index_or questions.old place question → result ≡ is_left row.now question }
 {
-    if place != other || questions[place].premise.within(row) {
-        questions[other] = narrowed(row, &questions[place]);
+    if !questions[place].premise.within(row) {
+        return true;
     }
+    let met = narrowed(row, &questions[place]);
+    questions[place] = met;
+    met.premise != met.conclusion
+}
+
+/// Moves the questions from one place to another up, to those that stand from a later place on, and tells where they stand now.
+fn move_up(questions: &mut [Question], first: usize, end: usize, later: usize) -> usize
+    requires some { first ≤ end }
+    requires before { end ≤ later }
+    requires inside { later ≤ length questions.old }
+    ensures place { result ≡ later - (end - first) }
+    ensures moved { drop result questions.new ≡ take (end - first) (drop first questions.old) ++ drop later questions.old }
+    ensures rest { take first questions.new ≡ take first questions.old }
+    ensures long { length questions.new ≡ length questions.old }
+{
+    let place = later - (end - first);
+    if place != first {
+        questions.copy_within(first..end, place);
+    }
+    place
 }
 
 /// The question once there is this row too: where the row has the premise, the conclusion loses what the row lacks.

@@ -7,7 +7,7 @@ use Rattle.implication_closure.specs.Closing.{RuleList}
 use Rattle.level_queue.specs.Queue.{Base, IsKept, narrowed, still_open}
 use Rattle.next_level.specs.Among.{AllAmong, IsAhead}
 use Rattle.level_queue.proofs.AheadLemmas.{row_ahead, ahead_all}
-use Rattle.level_queue.proofs.OpenLemmas.{row_kept, row_hold, row_below, row_bounded, opened_kept}
+use Rattle.level_queue.proofs.OpenLemmas.{kept_unclosed, row_kept, row_hold, row_below, row_bounded, opened_kept}
 use Rattle.level_queue.proofs.PlaceLemmas.{settles, settled, not_settled}
 use Rattle.level_queue.proofs.LevelQueue.take_row.Goals as goal
 
@@ -25,6 +25,9 @@ invariant_of-self-then-not-are_settled c =
       ahead = subst (λ (K : Context). IsAhead (a.rules.known ++ a.rules.accepted) K a.level a.ahead.whole a.ahead.sets.rows) (sym c.in_ok-push.ensures.ok)
           (row_ahead (a.rules.known ++ a.rules.accepted) a.rows a.level a.ahead.whole a.ahead.sets.rows r c.self.invariant.ahead);
     }
+
+pub narrow-requires : goal.narrow-requires
+narrow-requires c = kept_unclosed c.self.invariant.kept
 
 pub open_next-requires-clause-wide : goal.open_next-requires-clause-wide
 open_next-requires-clause-wide c = ap (λ (J : RuleList). J.width) c.all.ensures ∙ c.self.invariant.wide ∙ sym (ap (λ (K : Context). K.width) c.in_ok-push.ensures.ok)
