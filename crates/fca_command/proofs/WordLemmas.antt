@@ -1,9 +1,10 @@
 -- Lists of words by their first two, as code takes them apart.
 use Rattle.std.proofs.Common.{◌≡◌, ◌∷◌, [], ◌++◌, ◌-◌, ◌≤◌, ◌∙◌, List, Bool, true, cond, Option, Some, None, length, take, drop, get_or, refl, sym, ap, append_assoc, arith}
-use Rattle.std.specs.Prelude.{option_map}
+use Rattle.std.specs.Prelude.{option_map, option_and_then, bytes_eq, codes}
 use Rattle.std.proofs.lemmas.List.{take_all}
 use Rattle.fca_model.specs.Tables.{Text}
-use Rattle.fca_command.specs.Experts.{names_expert, expert_files}
+use Rattle.fca_command.specs.Experts.{names_expert, expert_files, count_said}
+use Rattle.fca_command.specs.Flags.{serving_counted, serving_said}
 use Rattle.std.specs.List.{list_all}
 use Rattle.std.specs.Str.{is_utf8}
 use Rattle.fca_command.specs.Commands.{command_form, text_command, named_command, over_file, file_command}
@@ -36,6 +37,17 @@ text_command-first words name h e = by_first text_command named_command (λ a re
 pub over_file-first : (name : Text) (words : List Text) (file : Text) → 1 ≤ length words → file ≡ get_or words 0 file
     → over_file name words ≡ file_command name file (take (length words - 1) (drop 1 words))
 over_file-first name words file h e = by_first (over_file name) (file_command name) (λ a rest. refl) words file h e
+
+-- the number of experts behind its flag, and what the words behind that say
+pub serving_said-counted : (words : List Text) (flag count : Text) → 2 ≤ length words → flag ≡ get_or words 0 flag → count ≡ get_or words 1 count
+    → bytes_eq flag (codes "--experts") ≡ true → option_and_then (serving_counted (take (length words - 2) (drop 2 words))) (count_said count) ≡ serving_said words
+serving_said-counted [] flag count h e g named = absurd (omega arith)
+serving_said-counted (a ∷ []) flag count h e g named = absurd (omega arith)
+serving_said-counted (a ∷ b ∷ rest) flag count h e g named =
+    let here : bytes_eq a (codes "--experts") ≡ true = ap (λ w. bytes_eq w (codes "--experts")) (sym e) ∙ named in
+    ap (λ l. option_and_then (serving_counted l) (count_said count)) (rest_of a b rest)
+    ∙ ap (λ w. option_and_then (serving_counted rest) (count_said w)) g
+    ∙ sym (taken_by (bytes_eq a (codes "--experts")) (option_and_then (serving_counted rest) (count_said b)) here)
 
 -- files in front of those that were found, one more or not
 with_front : (files new : List Text) (file : Text) (found : Option (List Text)) → new ≡ files ++ file ∷ []

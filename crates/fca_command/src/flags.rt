@@ -1,8 +1,8 @@
 //! The flags of explorations: a file of what is known, names of experts, how many may hold one question, and where to listen.
 
-ghost use Rattle.std.specs.Prelude.{◌≡◌, true, IfOk, IfSome, option_copied, option_map, bytes_eq, codes};
+ghost use Rattle.std.specs.Prelude.{◌≡◌, true, IfOk, IfSome, option_copied, option_map, option_and_then, bytes_eq, codes};
 ghost use Rattle.fca_model.specs.Exploration.{is_expert};
-ghost use Rattle.fca_command.specs.Flags.{names_known, known_said, behind_known, names_said, behind_names, holders_said, behind_holders, address_said, serving_said};
+ghost use Rattle.fca_command.specs.Flags.{names_known, known_said, behind_known, names_said, behind_names, holders_said, behind_holders, address_said, serving_counted, serving_said};
 
 use crate::experts::count_said;
 use fca_model::{MAX_EXPERTS, Memory, Word};
@@ -88,13 +88,27 @@ pub(crate) fn serving_said(words: &[Word]) -> Option<(u8, u8, &Word)>
     ensures experts { IfSome result (λ s. is_expert s.0 ≡ true) }
     ensures holders { IfSome result (λ s. is_expert s.1 ≡ true) }
 {
-    let [flag, experts, later @ ..] = words else {
-        return None;
-    };
-    if flag.bytes() != b"--experts".as_slice() {
-        return None;
+    match words {
+        [flag, experts, later @ ..] if is_experts(flag) => {
+            serving_counted(later, count_said(experts.bytes()))
+        }
+        _ => None,
     }
-    let experts = count_said(experts.bytes())?;
+}
+
+fn is_experts(flag: &Word) -> bool
+    ensures { result ≡ bytes_eq flag.now (codes "--experts") }
+{
+    flag.bytes() == b"--experts".as_slice()
+}
+
+/// The same by the words behind the number of experts, where there is one.
+fn serving_counted(later: &[Word], experts: Option<u8>) -> Option<(u8, u8, &Word)>
+    requires { IfSome experts (λ count. is_expert count ≡ true) }
+    ensures serving { option_map (λ s. (s.0, s.1, s.2.now)) result ≡ option_and_then (serving_counted later.now) experts }
+    ensures experts { IfSome result (λ s. is_expert s.0 ≡ true) }
+    ensures holders { IfSome result (λ s. is_expert s.1 ≡ true) }
+{
     let (holders, rest) = split_holders(later);
-    Some((experts, holders?, address_said(rest)?))
+    Some((experts?, holders?, address_said(rest)?))
 }
