@@ -78,7 +78,7 @@ pub append_nil : {X : Type 0} (xs : List X) → xs ++ [] ≡ xs
 append_nil [] = refl
 append_nil (x ∷ xs) = ap (λ ys. x ∷ ys) (append_nil xs)
 
-filter_push : (p : ℕ → Bool) (xs : List ℕ) (k : ℕ) → filter p (xs ++ k ∷ []) ≡ filter p xs ++ cond (p k) (k ∷ []) []
+pub filter_push : (p : ℕ → Bool) (xs : List ℕ) (k : ℕ) → filter p (xs ++ k ∷ []) ≡ filter p xs ++ cond (p k) (k ∷ []) []
 filter_push p [] k = refl
 filter_push p (x ∷ xs) k = elim (p x) as (λ b. cond b (x ∷ filter p (xs ++ k ∷ [])) (filter p (xs ++ k ∷ [])) ≡ cond b (x ∷ filter p xs) (filter p xs) ++ cond (p k) (k ∷ []) []) [
   | true ↦ ap (λ ys. x ∷ ys) (filter_push p xs k)

@@ -11,6 +11,7 @@ use Rattle.fca_model.specs.Context.{Context}
 use Rattle.fca_model.specs.Tables.{Text, NamedContext}
 use Rattle.context_reduce.specs.Reduce.{row_at, rows_at, read, names_at, ascend, transposed, is_first, reducible, distinct_objects, distinct_attributes, irreducible_objects, irreducible_attributes, AreItsPlaces}
 use Rattle.context_reduce.proofs.DenseLemmas.{irreducible_is}
+use Rattle.context_reduce.proofs.RangeLemmas.{append_nil, filter_push}
 use Rattle.context_reduce.proofs.ReduceLemmas.{columns_count}
 
 pub place_below : (n : ℕ) (items places : List ℕ) (i : ℕ) → items ≡ places → i < length items → All (λ m. m < n) places → get_or items i 0 < n
@@ -35,6 +36,21 @@ pub rows_more : (K : Context) (N items places : List ℕ) (k : ℕ) (made : Set)
 rows_more K N items places k made old new e l o at n =
     n ∙ ap₂ (λ Zs Z. Zs ++ Z ∷ []) o at
     ∙ sym (ap (λ ps. map (read N) (rows_at K ps)) (taken items places k e l) ∙ ap (map (read N)) (map_push (row_at K) (take k places) (get_or items k 0)) ∙ map_push (read N) (rows_at K (take k places)) (row_at K (get_or items k 0)))
+
+-- ---- places that are kept
+
+-- the next place is kept, or not
+pub next_kept : (p : ℕ → Bool) (items places : List ℕ) (k : ℕ) (old new : List ℕ) → items ≡ places → k < length items → old ≡ filter p (take k places)
+    → p (get_or items k 0) ≡ true → new ≡ old ++ get_or items k 0 ∷ [] → new ≡ filter p (take (k + 1) places)
+next_kept p items places k old new e l o t n =
+    let x = get_or items k 0 in
+    n ∙ ap (λ ys. ys ++ x ∷ []) o ∙ sym (ap (filter p) (taken items places k e l) ∙ filter_push p (take k places) x ∙ ap (λ b. filter p (take k places) ++ cond b (x ∷ []) []) t)
+
+pub next_skipped : (p : ℕ → Bool) (items places : List ℕ) (k : ℕ) (old : List ℕ) → items ≡ places → k < length items → old ≡ filter p (take k places)
+    → p (get_or items k 0) ≡ false → old ≡ filter p (take (k + 1) places)
+next_skipped p items places k old e l o t =
+    let x = get_or items k 0 in
+    o ∙ sym (ap (filter p) (taken items places k e l) ∙ filter_push p (take k places) x ∙ ap (λ b. filter p (take k places) ++ cond b (x ∷ []) []) t ∙ append_nil (filter p (take k places)))
 
 -- ---- places that ascend
 

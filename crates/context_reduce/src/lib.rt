@@ -14,13 +14,13 @@ mod texts;
 ghost use Rattle.std.specs.Prelude.{◌≡◌, IfOk};
 ghost use Rattle.context_reduce.specs.Reduce.{distinct_objects, distinct_attributes, irreducible_objects, irreducible_attributes, KeepsIntents, AreItsPlaces};
 
-use columns::{column_order, distinct_columns, irreducible_columns};
+use columns::{distinct_attributes, irreducible_attributes};
 use context_table::Table;
 use fca_model::{Memory, Places};
 pub use finding::arrows;
 pub use marks::{Arrow, Arrows};
 pub use parts::part;
-use rows::{distinct_rows, irreducible_rows};
+use rows::{distinct_rows, irreducible_objects};
 use std::alloc::Global;
 pub use texts::arrows_text;
 
@@ -39,10 +39,9 @@ pub fn clarify(alloc: Global, table: &Table) -> Result<Kept, Memory>
     ensures intents { IfOk result (λ kept. KeepsIntents table.now.context kept.objects kept.attributes) }
 {
     let rows = table.rows();
-    let order = column_order(alloc, rows)?;
     Ok(Kept {
         objects: distinct_rows(alloc, rows)?,
-        attributes: distinct_columns(alloc, rows, &order)?,
+        attributes: distinct_attributes(alloc, rows)?,
     })
 }
 
@@ -55,11 +54,8 @@ pub fn irreducible(alloc: Global, table: &Table) -> Result<Kept, Memory>
     ensures intents { IfOk result (λ kept. KeepsIntents table.now.context kept.objects kept.attributes) }
 {
     let rows = table.rows();
-    let order = column_order(alloc, rows)?;
-    let objects = distinct_rows(alloc, rows)?;
-    let attributes = distinct_columns(alloc, rows, &order)?;
     Ok(Kept {
-        objects: irreducible_rows(alloc, rows, &objects)?,
-        attributes: irreducible_columns(alloc, rows, &order, &attributes)?,
+        objects: irreducible_objects(alloc, rows)?,
+        attributes: irreducible_attributes(alloc, rows)?,
     })
 }

@@ -2,7 +2,7 @@
 
 ghost use Rattle.std.specs.Prelude.{◌≡◌, ◌<◌, IfOk, All, not, length, filter};
 ghost use Rattle.context_reduce.specs.Blocks.{AreBlocks};
-ghost use Rattle.context_reduce.specs.Reduce.{row_at, reducible, distinct_objects};
+ghost use Rattle.context_reduce.specs.Reduce.{row_at, reducible, distinct_objects, irreducible_objects};
 
 use crate::larger::{Columns, blocks_of, meet_of_larger};
 use derivation::{Rows, RowsOf};
@@ -26,12 +26,16 @@ pub(crate) fn distinct_rows(alloc: Global, rows: &Rows) -> Result<Places, Memory
     Ok(places)
 }
 
+/// Those of them whose row is not reducible.
+pub(crate) fn irreducible_objects(alloc: Global, rows: &Rows) -> Result<Places, Memory>
+    ensures { IfOk result (λ places. places ≡ irreducible_objects rows.now) }
+{
+    let places = distinct_rows(alloc, rows)?;
+    irreducible_rows(alloc, rows, &places)
+}
+
 /// Those of the places whose row is not reducible. They are found in sets as narrow as the table.
-pub(crate) fn irreducible_rows(
-    alloc: Global,
-    rows: &Rows,
-    places: &Places,
-) -> Result<Places, Memory>
+fn irreducible_rows(alloc: Global, rows: &Rows, places: &Places) -> Result<Places, Memory>
     requires { All (λ g. g < length rows.now.rows) places.now }
     ensures { IfOk result (λ kept. kept ≡ filter (λ g. not (reducible rows.now (row_at rows.now g))) places.now) }
 {
