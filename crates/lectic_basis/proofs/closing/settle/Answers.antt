@@ -37,6 +37,16 @@ loop-k-preserved-in-Continue-1 g c =
       agree = c.loop-k.invariant.agree;
     }
 
+pub loop-k-smaller-in-Continue-1 : goal.loop-k-smaller-in-Continue-1
+loop-k-smaller-in-Continue-1 g c =
+    let there : c.loop-k.k < length (bucket c.args.z c.loop-k.found.buckets) = omega (arith, c.loop-k-test.true, c.count.ensures) in
+    omega (arith, there, c.in_ok-move_to-in-Some.ensures.moved.fewer)
+
+pub loop-k-smaller : goal.loop-k-smaller
+loop-k-smaller g c =
+    let there : c.loop-k.k < length (bucket c.args.z c.loop-k.found.buckets) = omega (arith, c.loop-k-test.true, c.count.ensures) in
+    omega (arith, there)
+
 pub join-requires : goal.join-requires
 join-requires g c =
     let there : c.loop-k.k < length (bucket c.args.z c.loop-k.found.buckets) = omega (arith, c.loop-k-test.true, c.count.ensures) in

@@ -1,9 +1,27 @@
-use Rattle.std.proofs.Common.{◌≡◌, ◌∙◌, List, get_or, length, ap, arith}
+use Rattle.std.proofs.Common.{◌≡◌, ◌∙◌, List, get_or, length, sym, ap, subst, arith}
 use Rattle.std.proofs.lemmas.List.{take_all}
 use Rattle.fca_model.specs.Implications.{Rule}
-use Rattle.implication_closure.specs.Closing.{RuleList}
-use Rattle.lectic_basis.proofs.WidthLemmas.{listed_more}
+use Rattle.implication_closure.specs.Closing.{RuleList, HaveWidth}
+use Rattle.lectic_basis.proofs.WidthLemmas.{listed_more, member_wide}
 use Rattle.lectic_basis.proofs.narrow_list.NarrowList.widened.Goals as goal
+
+pub in_words-requires : goal.in_words-requires
+in_words-requires g c =
+    let even = subst (HaveWidth c.self.inside.width) (sym c.deref-member-items.ensures.value) c.self.invariant.even in
+    let wide = member_wide c.deref-member-items.result.now c.loop-member.member-index c.member-item.result c.loop-member-test.true c.member-item.is c.self.inside.width even in
+    omega (arith, wide.0, wide.1, c.self.invariant.narrow, c.self.invariant.words)
+
+pub push-requires-clause-premise : goal.push-requires-clause-premise
+push-requires-clause-premise g c =
+    let even = subst (HaveWidth c.self.inside.width) (sym c.deref-member-items.ensures.value) c.self.invariant.even in
+    let wide = member_wide c.deref-member-items.result.now c.loop-member.member-index c.member-item.result c.loop-member-test.true c.member-item.is c.self.inside.width even in
+    ap (λ (i : Rule). length i.premise) c.in_words.ensures ∙ wide.0 ∙ ap (λ (L : RuleList). L.width) (c.self.view_is) ∙ sym (ap (λ (L : RuleList). L.width) c.loop-member.invariant)
+
+pub push-requires-clause-conclusion : goal.push-requires-clause-conclusion
+push-requires-clause-conclusion g c =
+    let even = subst (HaveWidth c.self.inside.width) (sym c.deref-member-items.ensures.value) c.self.invariant.even in
+    let wide = member_wide c.deref-member-items.result.now c.loop-member.member-index c.member-item.result c.loop-member-test.true c.member-item.is c.self.inside.width even in
+    ap (λ (i : Rule). length i.conclusion) c.in_words.ensures ∙ wide.1 ∙ ap (λ (L : RuleList). L.width) (c.self.view_is) ∙ sym (ap (λ (L : RuleList). L.width) c.loop-member.invariant)
 
 pub loop-member-preserved : goal.loop-member-preserved
 loop-member-preserved g c =
