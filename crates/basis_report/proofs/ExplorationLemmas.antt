@@ -1,5 +1,5 @@
 -- The text of an exploration by its parts.
-use Rattle.std.proofs.Common.{◌≡◌, ◌++◌, ◌+◌, [], ℕ, List, arith, codes, ap, sym, ◌∙◌, length, append_assoc}
+use Rattle.std.proofs.Common.{◌≡◌, ◌++◌, ◌+◌, ℕ, List, arith, codes, ap, sym, ◌∙◌, length, append_assoc}
 use Rattle.fca_model.specs.Tables.{Text, NamedContext}
 use Rattle.fca_model.specs.Implications.{Rule}
 use Rattle.fca_model.specs.Questions.{open_questions}
@@ -28,10 +28,9 @@ accepted_section-begun attributes k acc before after e =
     ap (λ z. z ++ lines (k + 0)) e ∙ append_assoc before head (lines (k + 0)) ∙ ap (λ n. before ++ (head ++ lines n)) same
 
 -- five texts that were appended one by one
-pub five_parts : (d0 d1 d2 d3 d4 d5 a b c d e : Text) → d0 ≡ [] → d1 ≡ d0 ++ a → d2 ≡ d1 ++ b → d3 ≡ d2 ++ c → d4 ≡ d3 ++ d → d5 ≡ d4 ++ e → d5 ≡ a ++ (b ++ (c ++ (d ++ e)))
-five_parts d0 d1 d2 d3 d4 d5 a b c d e e0 e1 e2 e3 e4 e5 =
-    let first : d1 ≡ a = e1 ∙ ap (λ z. z ++ a) e0 in
-    let all : d5 ≡ (((a ++ b) ++ c) ++ d) ++ e = e5 ∙ ap (λ z. z ++ e) (e4 ∙ ap (λ z. z ++ d) (e3 ∙ ap (λ z. z ++ c) (e2 ∙ ap (λ z. z ++ b) first))) in
+pub five_parts : (d0 d1 d2 d3 d4 d5 a b c d e : Text) → d1 ≡ d0 ++ a → d2 ≡ d1 ++ b → d3 ≡ d2 ++ c → d4 ≡ d3 ++ d → d5 ≡ d4 ++ e → d5 ≡ d0 ++ (a ++ (b ++ (c ++ (d ++ e))))
+five_parts d0 d1 d2 d3 d4 d5 a b c d e e1 e2 e3 e4 e5 =
+    let all : d5 ≡ ((((d0 ++ a) ++ b) ++ c) ++ d) ++ e = e5 ∙ ap (λ z. z ++ e) (e4 ∙ ap (λ z. z ++ d) (e3 ∙ ap (λ z. z ++ c) (e2 ∙ ap (λ z. z ++ b) e1))) in
     all ∙ simp append_assoc
 
 -- the parts that are written, where k rules are known

@@ -1,9 +1,9 @@
 -- The values that are written as JSON have no number, and so no float: they are arrays and objects of strings. The names of a set are added one by one:
 -- what was added and what is still to come are together the names of all members.
-use Rattle.std.proofs.Common.{◌≡◌, ℕ, suc, ◌+◌, ◌<◌, ◌≤◌, min, true, false, Some, List, [], ◌∷◌, ◌++◌, map, length, get_or, refl, sym, ap, ◌∙◌, add-one, append_assoc, append-nil}
-use Rattle.std.specs.Prelude.{slice_get}
+use Rattle.std.proofs.Common.{◌≡◌, ℕ, suc, ◌+◌, ◌<◌, ◌≤◌, min, true, false, Some, List, [], ◌∷◌, ◌++◌, map, length, get_or, drop, refl, sym, ap, ◌∙◌, add-one, append_assoc, append-nil}
+use Rattle.std.specs.Prelude.{slice_get, unwrap_or}
 use Rattle.std.proofs.lemmas.Bool.{or_from}
-use Rattle.std.proofs.lemmas.List.{map-append}
+use Rattle.std.proofs.lemmas.List.{map-append, drop_more}
 use Rattle.std.proofs.lemmas.Option.{get_or_from_slice_get}
 use Rattle.serde_json.specs.Data.{Data, string}
 use Rattle.serde_json.specs.View.{view, items_of}
@@ -64,3 +64,30 @@ pub named_all : (vs : List Value) (i : ℕ) (names : List Text) (A : Set) (all :
     → map view vs ++ map (λ n. string n) (names_from i names A) ≡ all → map view vs ≡ all
 named_all vs i names A all over before =
     sym (append-nil (map view vs)) ∙ ap (λ ns. map view vs ++ map (λ n. string n) ns) (sym (names_from-end i names A over)) ∙ before
+
+-- ---- values that are added one by one
+
+-- the value of the next element
+pub values_more : {X : Type 0} (g : X → Data) (xs : List X) (k : ℕ) (x : X) (vs new : List Value) (v : Value) (all : List Data) → k < length xs → x ≡ get_or xs k x
+    → new ≡ vs ++ v ∷ [] → view v ≡ g x → map view vs ++ map g (drop k xs) ≡ all → map view new ++ map g (drop (k + 1) xs) ≡ all
+values_more g xs k x vs new v all inside is made same before =
+    let later = map g (drop (k + 1) xs) in
+    ap (λ us. map view us ++ later) made
+    ∙ ap (λ ds. ds ++ later) (map-append view vs (v ∷ []))
+    ∙ append_assoc (map view vs) (view v ∷ []) later
+    ∙ ap (λ d. map view vs ++ (d ∷ later)) same
+    ∙ sym (ap (λ ys. map view vs ++ map g ys) (drop_more xs k x inside ∙ ap (λ y. y ∷ drop (k + 1) xs) (sym is)))
+    ∙ before
+
+-- the name at the next place
+pub placed_more : (names : List Text) (places : List ℕ) (k : ℕ) (vs new : List Value) (v : Value) (all : List Data) → k < length places
+    → new ≡ vs ++ v ∷ [] → view v ≡ string (unwrap_or (slice_get names (get_or places k 0)) [])
+    → map view vs ++ map (λ n. string n) (names_at names (drop k places)) ≡ all → map view new ++ map (λ n. string n) (names_at names (drop (k + 1) places)) ≡ all
+placed_more names places k vs new v all inside made same before =
+    let later = map (λ n. string n) (names_at names (drop (k + 1) places)) in
+    ap (λ us. map view us ++ later) made
+    ∙ ap (λ ds. ds ++ later) (map-append view vs (v ∷ []))
+    ∙ append_assoc (map view vs) (view v ∷ []) later
+    ∙ ap (λ d. map view vs ++ (d ∷ later)) same
+    ∙ sym (ap (λ ps. map view vs ++ map (λ n. string n) (names_at names ps)) (drop_more places k 0 inside))
+    ∙ before

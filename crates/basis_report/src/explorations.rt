@@ -30,18 +30,26 @@ pub fn explore_text(alloc: Global, explore: &Explore) -> Result<Vec<u8>, Memory>
     look_at_attributes(table);
     look_at_rows(explore.journal());
     let mut draft = Draft::new(alloc);
-    write_transcript(&mut draft, table, explore.settings(), explore.journal())?;
-    write_recorded(&mut draft, table, explore.journal())?;
-    write_accepted(&mut draft, table, explore.known(), explore.accepted())?;
-    write_open(&mut draft, table, explore.open_questions())?;
+    write_exploration(alloc, &mut draft, explore)?;
+    Ok(draft.into_bytes())
+}
+
+/// The transcript, and what came of it.
+fn write_exploration(alloc: Global, draft: &mut Draft, explore: &Explore) -> Result<(), Memory>
+    ensures { OnOk result (draft.new ≡ draft.old ++ explore_text explore.now.opening.table explore.now.opening.settings explore.now.journal) }
+{
+    let table = explore.table();
+    write_transcript(draft, table, explore.settings(), explore.journal())?;
+    write_recorded(draft, table, explore.journal())?;
+    write_accepted(draft, table, explore.known(), explore.accepted())?;
+    write_open(draft, table, explore.open_questions())?;
     write_basis(
         alloc,
-        &mut draft,
+        draft,
         table,
         explore.accepted(),
         explore.open_questions(),
-    )?;
-    Ok(draft.into_bytes())
+    )
 }
 
 fn write_recorded(draft: &mut Draft, table: &Table, journal: &[Entry]) -> Result<(), Memory>

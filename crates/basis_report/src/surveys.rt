@@ -1,6 +1,6 @@
 //! What was counted of a table and of an exploration of it.
 
-ghost use Rattle.std.specs.Prelude.{◌≡◌, IfOk};
+ghost use Rattle.std.specs.Prelude.{◌≡◌, ◌++◌, IfOk, OnOk};
 ghost use Rattle.basis_report.specs.Surveys.{crosses, survey_text};
 
 use crate::concepts::write_counted;
@@ -21,18 +21,26 @@ pub fn survey_text(
     ensures { IfOk result (λ v. v.items ≡ survey_text table.now concepts basis explored) }
 {
     let mut draft = Draft::new(alloc);
-    write_counted(&mut draft, table, b"objects ", table.rows().len())?;
-    write_counted(
-        &mut draft,
-        table,
-        b"attributes ",
-        table.rows().width() as usize,
-    )?;
-    write_counted(&mut draft, table, b"crosses ", crosses(table))?;
-    write_counted(&mut draft, table, b"concepts ", concepts)?;
-    write_counted(&mut draft, table, b"basis ", basis)?;
-    write_counted(&mut draft, table, b"explored ", explored)?;
+    write_survey(&mut draft, table, concepts, basis, explored)?;
     Ok(draft.into_bytes())
+}
+
+/// The numbers, one a line.
+fn write_survey(
+    draft: &mut Draft,
+    table: &Table,
+    concepts: usize,
+    basis: usize,
+    explored: usize,
+) -> Result<(), Memory>
+    ensures { OnOk result (draft.new ≡ draft.old ++ survey_text table.now concepts basis explored) }
+{
+    write_counted(draft, table, b"objects ", table.rows().len())?;
+    write_counted(draft, table, b"attributes ", table.rows().width() as usize)?;
+    write_counted(draft, table, b"crosses ", crosses(table))?;
+    write_counted(draft, table, b"concepts ", concepts)?;
+    write_counted(draft, table, b"basis ", basis)?;
+    write_counted(draft, table, b"explored ", explored)
 }
 
 /// How many crosses the table has.

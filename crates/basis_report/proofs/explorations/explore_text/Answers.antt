@@ -1,19 +1,15 @@
-use Rattle.std.proofs.Common.{◌≡◌, ◌∙◌, true, subst}
+use Rattle.std.proofs.Common.{◌≡◌, ◌∙◌, ◌++◌, true, ap, subst}
 use Rattle.fca_model.specs.Tables.{NamedContext}
 use Rattle.fca_model.specs.Exploration.{IsLegal, opening}
 use Rattle.expert_scripts.specs.Transcripts.{AreNames}
-use Rattle.basis_report.specs.Explorations.{EachNamed}
+use Rattle.basis_report.specs.Explorations.{EachNamed, explore_text}
 use Rattle.basis_report.proofs.CommentLemmas.{spelled-comments}
-use Rattle.basis_report.proofs.ExplorationLemmas.{five_parts, explore_text-parts}
 use Rattle.basis_report.proofs.explorations.explore_text.Goals as goal
 
 pub returns-clause-text : goal.returns-clause-text
 returns-clause-text c =
     let o = c.args.explore.now.opening in
-    c.into_bytes.ensures
-    ∙ five_parts _ _ _ _ _ _ _ _ _ _ _ c.new-draft.ensures c.in_ok-write_transcript.ensures.whole c.in_ok-write_recorded.ensures c.in_ok-write_accepted.ensures c.in_ok-write_open.ensures c.in_ok-write_basis.ensures
-    ∙ explore_text-parts o.table o.settings c.args.explore.now.journal _ c.table-table.ensures _ c.settings.ensures.settings _ c.known.ensures _ c.journal-2.ensures.entries _ c.journal-3.ensures.entries _ c.accepted.ensures.accepted _ c.open_questions.ensures
-    _ c.accepted-2.ensures.accepted _ c.open_questions-2.ensures
+    c.into_bytes.ensures ∙ c.in_ok-write_exploration.ensures ∙ ap (λ d. d ++ explore_text o.table o.settings c.args.explore.now.journal) c.new-draft.ensures
 
 pub returns-clause-reads_back : goal.returns-clause-reads_back
 returns-clause-reads_back c = λ lines whole can.
