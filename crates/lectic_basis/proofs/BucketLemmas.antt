@@ -36,6 +36,14 @@ swap_fewer {X = X} xs k x lt =
     let e : length (take (length xs - 1) (set xs k y)) ≡ length xs - 1 = length-take-le (length xs - 1) (set xs k y) (omega (arith, same)) in
     omega (arith, e, lt)
 
+-- ---- one empty bucket more
+
+empty_more : {X : Type 0} (Es : List (List X)) (E : List X) → E ≡ [] → ((w : ℕ) → bucket w Es ≡ []) → (w : ℕ) → bucket w (Es ++ E ∷ []) ≡ []
+empty_more [] E none empty zero = none
+empty_more [] E none empty (suc w) = refl
+empty_more (F ∷ Es) E none empty zero = empty 0
+empty_more (F ∷ Es) E none empty (suc w) = empty_more Es E none (λ v. empty (suc v)) w
+
 -- ---- the code's buckets
 
 module _ {V X : Type 0} (f : V → List X) where
@@ -57,6 +65,9 @@ module _ {V X : Type 0} (f : V → List X) where
     here = bucket_set_same vs w u lt ∙ more ∙ ap (λ is. is ++ i ∷ []) (bucket_is vs w v lt at);
     elsewhere = λ n other. bucket_set_other vs w n u other;
   }
+
+  pub emptied_more : (vs us : List V) (v : V) → us ≡ vs ++ v ∷ [] → f v ≡ [] → ((w : ℕ) → bucket w (map f vs) ≡ []) → (w : ℕ) → bucket w (map f us) ≡ []
+  emptied_more vs us v pushed none empty w = ap (λ (xs : List V). bucket w (map f xs)) pushed ∙ ap (bucket w) (map-append f vs (v ∷ [])) ∙ empty_more (map f vs) (f v) none empty w
 
   pub still_is : (vs : List V) (z o : ℕ) (w v : V) → z < length vs → o ≢ z → v ≡ get_or (set vs o w) z v → f v ≡ bucket z (map f vs)
   still_is vs z o w v lt other at = bucket_is (set vs o w) z v (omega (arith, lt, length-set vs o w)) at ∙ bucket_set_other vs o z w (λ e. other (sym e))
