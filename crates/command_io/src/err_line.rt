@@ -44,7 +44,7 @@ pub(crate) fn report_plain<E: Sink>(err: &mut E, words: &str)
 
 fn write_stop<E: Sink>(err: &mut E, file: &[u8], stop: &Stop) -> Result<(), Put>
     ensures { Writes (E.held err.old) (E.held err.new) (E.faults err.old) (E.faults err.new) (E.beside err.old) (E.beside err.new)
-        (E.faults_beside err.old) (E.faults_beside err.new) (stop_line file.now stop.now) result }
+        (E.asked_beside err.old) (E.asked_beside err.new) (stop_line file.now stop.now) result }
 {
     match stop {
         Stop::NoCommand => write_plain(err, NO_SUCH_COMMAND),
@@ -86,7 +86,7 @@ fn name_of(file: &[u8], origin: Origin) -> &[u8]
 /// A line of these words alone.
 fn write_plain<E: Sink>(err: &mut E, words: &str) -> Result<(), Put>
     ensures { Writes (E.held err.old) (E.held err.new) (E.faults err.old) (E.faults err.new) (E.beside err.old) (E.beside err.new)
-        (E.faults_beside err.old) (E.faults_beside err.new) (plain_line words.now) result }
+        (E.asked_beside err.old) (E.asked_beside err.new) (plain_line words.now) result }
 {
     write_parts(err, &[b"fca: ", words.as_bytes(), b"\n"])
 }
@@ -94,7 +94,7 @@ fn write_plain<E: Sink>(err: &mut E, words: &str) -> Result<(), Put>
 /// A line of these words on the whole of what has this name.
 fn write_whole<E: Sink>(err: &mut E, name: &[u8], words: &str) -> Result<(), Put>
     ensures { Writes (E.held err.old) (E.held err.new) (E.faults err.old) (E.faults err.new) (E.beside err.old) (E.beside err.new)
-        (E.faults_beside err.old) (E.faults_beside err.new) (placed_line name.now (Whole, words.now)) result }
+        (E.asked_beside err.old) (E.asked_beside err.new) (placed_line name.now (Whole, words.now)) result }
 {
     write_parts(err, &[b"fca: ", name, b": ", words.as_bytes(), b"\n"])
 }
@@ -102,7 +102,7 @@ fn write_whole<E: Sink>(err: &mut E, name: &[u8], words: &str) -> Result<(), Put
 /// A line of what is told of a fault of what has this name.
 fn write_placed<E: Sink>(err: &mut E, name: &[u8], told: &Told) -> Result<(), Put>
     ensures { Writes (E.held err.old) (E.held err.new) (E.faults err.old) (E.faults err.new) (E.beside err.old) (E.beside err.new)
-        (E.faults_beside err.old) (E.faults_beside err.new) (placed_line name.now told.now) result }
+        (E.asked_beside err.old) (E.asked_beside err.new) (placed_line name.now told.now) result }
 {
     match told.place {
         Place::Whole => write_whole(err, name, told.words),
@@ -122,7 +122,7 @@ fn write_numbered<'a, E: Sink>(
     words: &'a str,
 ) -> Result<(), Put>
     ensures { Writes (E.held err.old) (E.held err.new) (E.faults err.old) (E.faults err.new) (E.beside err.old) (E.beside err.new)
-        (E.faults_beside err.old) (E.faults_beside err.new) (numbered_line name.now kind.now number words.now) result }
+        (E.asked_beside err.old) (E.asked_beside err.new) (numbered_line name.now kind.now number words.now) result }
 {
     write_parts(
         err,
@@ -148,7 +148,7 @@ fn write_field<E: Sink>(
     words: &str,
 ) -> Result<(), Put>
     ensures { Writes (E.held err.old) (E.held err.new) (E.faults err.old) (E.faults err.new) (E.beside err.old) (E.beside err.new)
-        (E.faults_beside err.old) (E.faults_beside err.new) (placed_line name.now (Field number field, words.now)) result }
+        (E.asked_beside err.old) (E.asked_beside err.new) (placed_line name.now (Field number field, words.now)) result }
 {
     write_parts(
         err,
@@ -169,7 +169,7 @@ fn write_field<E: Sink>(
 /// A line on the row that breaks one of the known implications, by their places.
 fn write_breaks<E: Sink>(err: &mut E, name: &[u8], row: usize, rule: usize) -> Result<(), Put>
     ensures { Writes (E.held err.old) (E.held err.new) (E.faults err.old) (E.faults err.new) (E.beside err.old) (E.beside err.new)
-        (E.faults_beside err.old) (E.faults_beside err.new) (breaks_line name.now row rule) result }
+        (E.asked_beside err.old) (E.asked_beside err.new) (breaks_line name.now row rule) result }
 {
     write_parts(
         err,
@@ -188,7 +188,7 @@ fn write_breaks<E: Sink>(err: &mut E, name: &[u8], row: usize, rule: usize) -> R
 /// The parts, one behind the other.
 fn write_parts<E: Sink>(err: &mut E, parts: &[&[u8]]) -> Result<(), Put>
     ensures { Writes (E.held err.old) (E.held err.new) (E.faults err.old) (E.faults err.new) (E.beside err.old) (E.beside err.new)
-        (E.faults_beside err.old) (E.faults_beside err.new) (flat_map (λ part. part.now) parts.now) result }
+        (E.asked_beside err.old) (E.asked_beside err.new) (flat_map (λ part. part.now) parts.now) result }
 {
     for part in parts {
         write_part(err, part)?;
@@ -198,7 +198,7 @@ fn write_parts<E: Sink>(err: &mut E, parts: &[&[u8]]) -> Result<(), Put>
 
 fn write_part<E: Sink>(err: &mut E, part: &[u8]) -> Result<(), Put>
     ensures { Writes (E.held err.old) (E.held err.new) (E.faults err.old) (E.faults err.new) (E.beside err.old) (E.beside err.new)
-        (E.faults_beside err.old) (E.faults_beside err.new) part.now result }
+        (E.asked_beside err.old) (E.asked_beside err.new) part.now result }
 {
     write_text(err, part)
 }
