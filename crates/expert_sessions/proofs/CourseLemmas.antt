@@ -20,7 +20,7 @@ use Rattle.expert_sessions.specs.declared.said.Said.{Said}
 use Rattle.expert_sessions.specs.declared.said.Said.TheVariants.{Bye}
 use Rattle.expert_sessions.specs.declared.ended.Ended.{Ended}
 use Rattle.expert_sessions.specs.declared.ended.Ended.TheVariants.{Quit, EndOfInput, ReadFault, WriteFault, LongLine, Limit, Spent, Memory}
-use Rattle.expert_sessions.specs.Lines.{Asks, Answers, Exchange, IsExchange, IsQuit, IsNotQuit, lines_of, replies_of, entries_of, turns_of, said_line, before_last}
+use Rattle.expert_sessions.specs.Lines.{Asks, Answers, Exchange, IsExchange, IsQuit, IsNotQuit, lines_of, replies_of, entries_of, said_line, before_last}
 use Rattle.expert_sessions.specs.Talks.{GoesOn, HasQuit, LacksLastAnswer}
 use Rattle.expert_sessions.specs.Moves.{Wire, Moves, IsQuiet, Place, Enters}
 use Rattle.expert_sessions.specs.Courses.{said_of, Writes, Reads, HasFeedAt, LacksLine, Serves, HaltsAt, Halts, Goes, Closes, HasServed}

@@ -1,6 +1,6 @@
 -- One line. Up to the first line feed the bytes are a line, if there are few enough. What it asks for decides what it may be
 -- answered: only `quit` gets `bye`, and gets nothing else.
-use Rattle.std.proofs.Common.{inl, inr, ◌≡◌, ◌≢◌, ◌≤◌, ◌+◌, ℕ, zero, suc, Some, List, [], ◌∷◌, ◌++◌, take, length, Result, Ok, Err, refl, sym, ap, ◌∙◌, subst, append_assoc, append-nil, arith}
+use Rattle.std.proofs.Common.{inl, inr, ◌≡◌, ◌≢◌, ◌≤◌, ◌+◌, ℕ, List, [], ◌∷◌, ◌++◌, take, length, Result, Ok, Err, refl, sym, ap, ◌∙◌, subst, append_assoc, append-nil, arith}
 use Rattle.std.specs.Io.KnownBytes.{Appends, Consumes, Keeps}
 use Rattle.std.proofs.KnownBytes.{Consumes-nil, Consumes-kept}
 use Rattle.fca_io.specs.Transfers.{AppendsFront}
@@ -12,7 +12,7 @@ use Rattle.fca_model.specs.Tables.{Text}
 use Rattle.fca_model.specs.declared.TheConstants.{LINE_BYTES}
 use Rattle.fca_model.specs.Exploration.{SetEvent, SetEntry}
 use Rattle.fca_io.specs.declared.outside.Put.{Put}
-use Rattle.fca_io.specs.Faults.{Rose}
+use Rattle.fca_io.specs.Faults.{Rose, Asked}
 use Rattle.expert_wire.specs.Texts.{line_end}
 use Rattle.expert_wire.specs.Requests.{TakesMemory, request_form}
 use Rattle.expert_wire.specs.declared.requests.Request.{Request}
@@ -124,27 +124,40 @@ pub write_rose : {a b : Wire} {text : Text} (r : Result (Unit {0}) Put) → Writ
 write_rose (Ok u) w e = cc
 write_rose (Err x) w e = w.failed
 
+-- what stands beside a sink stays: at an end that is how often it was read, and its count of faults
+module _ (calls calls' : Option ℕ) (faults faults' : ℕ) (aside aside' : Asked) (same : aside' ≡ aside)
+    (before : aside ≡ record { reads = calls; faults = faults }) (after : aside' ≡ record { reads = calls'; faults = faults' }) where
+  pub calls-kept : calls' ≡ calls
+  calls-kept = ap (λ (asked : Asked). asked.reads) (sym after ∙ same ∙ before)
+
+  faults-kept : faults' ≡ faults
+  faults-kept = ap (λ (asked : Asked). asked.faults) (sym after ∙ same ∙ before)
+
 -- a call that writes leaves alone what stands beside a sink: at an end that is what is left to read
-pub writes-from : (a b : Wire) (text : Text) (r : Result (Unit {0}) Put) (other other' : Option Text) (aside aside' : ℕ)
+pub writes-from : (a b : Wire) (text : Text) (r : Result (Unit {0}) Put) (other other' : Option Text) (calls calls' : Option ℕ) (aside aside' : Asked)
     → OnOk r (Appends a.held b.held text) → AppendsFront a.held b.held text → OnOk r (b.writes ≡ a.writes) → OnErr r (Rose a.writes b.writes) → a.writes ≤ b.writes → Keeps other other' → aside' ≡ aside
-    → other ≡ a.left → other' ≡ b.left → aside ≡ a.reads → aside' ≡ b.reads → Writes a b text r
-writes-from a b text (Ok u) other other' aside aside' whole front quiet failed later keeps same p q u' v = record {
-  sent = text;
-  unsent = [];
-  split = sym (append-nil text);
-  moves = record { lost = subst (λ z. Consumes a.left z []) q (subst (λ z. Consumes z other' []) p (Consumes-kept other other other' [] (Consumes-nil other) keeps)); gained = whole; reads = omega arith; writes = later };
-  whole = refl;
-  quiet = quiet;
-  failed = tt;
-  reads = sym v ∙ same ∙ u';
-}
-writes-from a b text (Err e) other other' aside aside' whole front quiet failed later keeps same p q u' v = record {
-  sent = front.front;
-  unsent = front.rest;
-  split = front.whole;
-  moves = record { lost = subst (λ z. Consumes a.left z []) q (subst (λ z. Consumes z other' []) p (Consumes-kept other other other' [] (Consumes-nil other) keeps)); gained = front.gained; reads = omega arith; writes = later };
-  whole = tt;
-  quiet = tt;
-  failed = failed;
-  reads = sym v ∙ same ∙ u';
-}
+    → other ≡ a.left → other' ≡ b.left → aside ≡ record { reads = calls; faults = a.reads } → aside' ≡ record { reads = calls'; faults = b.reads } → Writes a b text r
+writes-from a b text (Ok u) other other' calls calls' aside aside' whole front quiet failed later keeps same p q u' v =
+    let still = faults-kept calls calls' a.reads b.reads aside aside' same u' v in
+    record {
+      sent = text;
+      unsent = [];
+      split = sym (append-nil text);
+      moves = record { lost = subst (λ z. Consumes a.left z []) q (subst (λ z. Consumes z other' []) p (Consumes-kept other other other' [] (Consumes-nil other) keeps)); gained = whole; reads = omega arith; writes = later };
+      whole = refl;
+      quiet = quiet;
+      failed = tt;
+      reads = still;
+    }
+writes-from a b text (Err e) other other' calls calls' aside aside' whole front quiet failed later keeps same p q u' v =
+    let still = faults-kept calls calls' a.reads b.reads aside aside' same u' v in
+    record {
+      sent = front.front;
+      unsent = front.rest;
+      split = front.whole;
+      moves = record { lost = subst (λ z. Consumes a.left z []) q (subst (λ z. Consumes z other' []) p (Consumes-kept other other other' [] (Consumes-nil other) keeps)); gained = front.gained; reads = omega arith; writes = later };
+      whole = tt;
+      quiet = tt;
+      failed = failed;
+      reads = still;
+    }

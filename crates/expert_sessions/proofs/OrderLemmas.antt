@@ -1,63 +1,99 @@
--- Readings in turn join on: where a whole line lay ready, the next line is served without one, and else each line that was read is
--- answered, and one reading more is in turn.
-use Rattle.std.proofs.Common.{◌≡◌, ℕ, true, false, Option, Result, List, [], ◌∷◌, ◌++◌, refl, ◌∙◌, subst}
-use Rattle.std.specs.List.{list_any}
+-- Readings join on: what is not read, what is read once more, and what is read for one line behind the lines that were answered.
+use Rattle.std.proofs.Common.{◌≡◌, ℕ, Option, Result, List, [], ◌∷◌, ◌++◌, refl, ap, ◌∙◌, subst, append_assoc, append-nil}
+use Rattle.std.specs.Option.{option_map}
 use Rattle.std.proofs.KnownBytes.{Consumes-nil, Consumes-trans}
-use Rattle.text_pieces.specs.Lines.{is_line_feed}
-use Rattle.fca_model.specs.Tables.{Text, NamedContext}
-use Rattle.expert_sessions.specs.Moves.{Wire, Place}
-use Rattle.expert_sessions.specs.Courses.{Writes, Reads, Goes}
+use Rattle.fca_io.specs.Faults.{one_more}
 use Rattle.fca_io.specs.declared.outside.Put.{Put}
-use Rattle.expert_sessions.specs.Lines.{HasNoFeed}
-use Rattle.expert_sessions.specs.Order.{HasFeed, Reading, ReadsNothing, SendsNothing, AnswersFirst, IsAnswered, AreInTurn, ReadsInTurn}
-use Rattle.expert_sessions.proofs.MoveLemmas.{Moves-equal}
+use Rattle.fca_model.specs.Tables.{Text, NamedContext}
+use Rattle.expert_wire.specs.Greetings.{greeting}
+use Rattle.expert_sessions.specs.Lines.{HasNoFeed, lines_of, replies_of}
+use Rattle.expert_sessions.specs.Moves.{Place}
+use Rattle.expert_sessions.specs.Courses.{Writes, Reads, Goes}
+use Rattle.expert_sessions.specs.Order.{Reading, wire, ReadsNothing, ReadsOnce, AreReadings, ReadsOnlyWhere, AwaitsLine, ReadsForLine, IsAnswered, ReadsInTurn}
+use Rattle.expert_sessions.proofs.MoveLemmas.{Moves-trans, Moves-equal}
 
--- reading on adds to what was read ahead, where no line feed stands in it
-pub read_on : {A : Type 0} (ahead now : Text) → (HasFeed ahead → now ≡ ahead) → HasNoFeed now → HasFeed ahead → A
-read_on ahead now same none feed = let unbroken : list_any is_line_feed ahead ≡ false = subst HasNoFeed (same feed) none in cc
+module _ {E : Type 0} (left held : E → Option Text) (calls : E → Option ℕ) (reads writes : E → ℕ) where
+  ReadsNothing-nil : (a : E) → ReadsNothing left held calls reads writes a a
+  ReadsNothing-nil a = record { kept = Consumes-nil (left a); uncounted = refl; quiet = refl }
 
-module _ {E : Type 0} (left held : E → Option Text) (reads writes : E → ℕ) where
-  abbrev wire : E → Wire
-  wire end = record { left = left end; held = held end; reads = reads end; writes = writes end }
+  ReadsNothing-trans : (a b c : E) → ReadsNothing left held calls reads writes a b → ReadsNothing left held calls reads writes b c
+      → ReadsNothing left held calls reads writes a c
+  ReadsNothing-trans a b c x y = record {
+    kept = Consumes-trans (left a) (left b) (left c) [] [] x.kept y.kept;
+    uncounted = y.uncounted ∙ x.uncounted;
+    quiet = y.quiet ∙ x.quiet;
+  }
 
-  pub ReadsNothing-nil : (a : E) → ReadsNothing left held reads writes a a
-  ReadsNothing-nil a = record { kept = Consumes-nil (left a); quiet = refl }
+  written : (P : E → Type 0) (a b : E) (text : Text) (result : Result (Unit {0}) Put)
+      → Writes (wire left held calls reads writes a) (wire left held calls reads writes b) text result → calls b ≡ calls a
+      → ReadsOnlyWhere left held calls reads writes P a b
+  written P a b text result w same = ([], record { kept = w.moves.lost; uncounted = same; quiet = w.reads })
 
-  ReadsNothing-trans : (a b c : E) → ReadsNothing left held reads writes a b → ReadsNothing left held reads writes b c → ReadsNothing left held reads writes a c
-  ReadsNothing-trans a b c x y = record { kept = Consumes-trans (left a) (left b) (left c) [] [] x.kept y.kept; quiet = y.quiet ∙ x.quiet }
+  module _ (P Q : E → Type 0) (weaker : (a : E) → Q a → P a) where
+    weaken : (now last : E) (rs : List (Reading E)) → AreReadings left held calls reads writes Q now last rs → AreReadings left held calls reads writes P now last rs
+    weaken now last [] x = x
+    weaken now last (r ∷ rs) x = (x.0, weaker r.before x.1, x.2, weaken r.after last rs x.3)
 
-  pub nothing-read : (a b : E) (text : Text) (result : Result (Unit {0}) Put) → Writes (wire a) (wire b) text result → ReadsNothing left held reads writes a b
-  nothing-read a b text result w = record { kept = w.moves.lost; quiet = w.reads }
+    after_nothing : (now a last : E) (rs : List (Reading E)) → ReadsNothing left held calls reads writes now a → AreReadings left held calls reads writes Q a last rs
+        → AreReadings left held calls reads writes P now last rs
+    after_nothing now a last [] x y = ReadsNothing-trans now a last x y
+    after_nothing now a last (r ∷ rs) x y = (ReadsNothing-trans now a r.before x y.0, weaker r.before y.1, y.2, weaken r.after last rs y.3)
 
-  pub answers-first : (ahead ahead' : Text) (a there b : E) → (HasFeed ahead → there ≡ a) → Reads (wire a) (wire there) ahead ahead' → ReadsNothing left held reads writes there b
-      → AnswersFirst left held reads writes ahead a b
-  answers-first ahead ahead' a there b still r answering = record { there = there; still = still; reading = record { kept = r.moves.gained; quiet = r.writes }; answering = answering }
+    AreReadings-join : (now a last : E) (rs qs : List (Reading E)) → AreReadings left held calls reads writes P now a rs → AreReadings left held calls reads writes Q a last qs
+        → AreReadings left held calls reads writes P now last (rs ++ qs)
+    AreReadings-join now a last [] qs x y = after_nothing now a last qs x y
+    AreReadings-join now a last (r ∷ rs) qs x y = (x.0, x.1, x.2, AreReadings-join r.after a last rs qs x.3 y)
 
-  module _ (t : NamedContext) (e : ℕ) (first : E) where
-    -- then nothing more was read
-    AreInTurn-later : (now a b : E) (rs : List (Reading E)) → AreInTurn left held reads writes t e first now a rs → ReadsNothing left held reads writes a b
-        → AreInTurn left held reads writes t e first now b rs
-    AreInTurn-later now a b [] x y = ReadsNothing-trans now a b x y
-    AreInTurn-later now a b (r ∷ rs) x y = (x.0, x.1, x.2, AreInTurn-later r.after a b rs x.3 y)
+    join : (a b c : E) → ReadsOnlyWhere left held calls reads writes P a b → ReadsOnlyWhere left held calls reads writes Q b c → ReadsOnlyWhere left held calls reads writes P a c
+    join a b c x y = (x.0 ++ y.0, AreReadings-join a b c x.0 y.0 x.1 y.1)
 
-    -- then bytes were read once more
-    AreInTurn-more : (now a b : E) (rs : List (Reading E)) → AreInTurn left held reads writes t e first now a rs → IsAnswered left held reads writes t e first a
-        → SendsNothing left held reads writes a b → AreInTurn left held reads writes t e first now b (rs ++ record { before = a; after = b } ∷ [])
-    AreInTurn-more now a b [] x answered y = (x, answered, y, ReadsNothing-nil b)
-    AreInTurn-more now a b (r ∷ rs) x answered y = (x.0, x.1, x.2, AreInTurn-more r.after a b rs x.3 answered y)
+  joined : (P : E → Type 0) (a b c : E) → ReadsOnlyWhere left held calls reads writes P a b → ReadsOnlyWhere left held calls reads writes P b c
+      → ReadsOnlyWhere left held calls reads writes P a c
+  joined P a b c x y = join P P (λ _ p. p) a b c x y
 
-    pub line-in_turn : (a b : E) (c d : Place) (ahead : Text) (k : ℕ) → ReadsInTurn left held reads writes t e first a → Goes t e (wire first) (wire a) c d ahead k
-        → AnswersFirst left held reads writes ahead a b → ReadsInTurn left held reads writes t e first b
-    line-in_turn a b c d ahead k x goes y = at (list_any is_line_feed ahead) refl
-      where
-        at : (ready : _) → list_any is_line_feed ahead ≡ ready → ReadsInTurn left held reads writes t e first b
-        at true feed = (x.0, AreInTurn-later first a b x.0 x.1 (subst (λ s. ReadsNothing left held reads writes s b) (y.still feed) y.answering))
-        at false none =
-            let answered : IsAnswered left held reads writes t e first a = record {
-              served = goes.served;
-              rest = ahead;
-              each = goes.each;
-              unbroken = none;
-              moves = Moves-equal goes.read refl goes.moves;
-            } in
-            (x.0 ++ record { before = a; after = y.there } ∷ [], AreInTurn-later first y.there b _ (AreInTurn-more first a y.there x.0 x.1 answered y.reading) y.answering)
+  -- ---- for one line
+
+  pub unread : (ahead : Text) (a : E) → ReadsForLine left held calls reads writes ahead a a
+  unread ahead a = ([], ReadsNothing-nil a)
+
+  pub read_on : (ahead grown grown' : Text) (first a b : E) → ReadsForLine left held calls reads writes ahead first a
+      → Reads (wire left held calls reads writes first) (wire left held calls reads writes a) ahead grown → HasNoFeed grown
+      → Reads (wire left held calls reads writes a) (wire left held calls reads writes b) grown grown' → calls b ≡ option_map one_more (calls a)
+      → ReadsForLine left held calls reads writes ahead first b
+  read_on ahead grown grown' first a b x r none next counted =
+      let awaits : AwaitsLine left held calls reads writes ahead first a = record { taken = r.taken; moves = r.moves; unbroken = subst HasNoFeed r.joined none } in
+      let once : ReadsOnce left held calls reads writes a b = record { kept = next.moves.gained; counted = counted; quiet = next.writes } in
+      joined (AwaitsLine left held calls reads writes ahead first) first a b x (record { before = a; after = b } ∷ [], (ReadsNothing-nil a, awaits, once, ReadsNothing-nil b))
+
+  -- the line was answered
+  pub answered : (ahead : Text) (first a b : E) → ReadsForLine left held calls reads writes ahead first a → (text : Text) (result : Result (Unit {0}) Put)
+      → Writes (wire left held calls reads writes a) (wire left held calls reads writes b) text result → calls b ≡ calls a
+      → ReadsForLine left held calls reads writes ahead first b
+  answered ahead first a b x text result w same =
+      joined (AwaitsLine left held calls reads writes ahead first) first a b x (written (AwaitsLine left held calls reads writes ahead first) a b text result w same)
+
+  -- ---- for a session
+
+  pub nothing-in_turn : (t : NamedContext) (e : ℕ) (a : E) → ReadsInTurn left held calls reads writes t e a a
+  nothing-in_turn t e a = ([], ReadsNothing-nil a)
+
+  pub greeted-first : (t : NamedContext) (e : ℕ) (a b : E) (text : Text) (result : Result (Unit {0}) Put)
+      → Writes (wire left held calls reads writes a) (wire left held calls reads writes b) text result → calls b ≡ calls a
+      → ReadsInTurn left held calls reads writes t e a b
+  greeted-first t e a b text result w same = written (IsAnswered left held calls reads writes t e a) a b text result w same
+
+  -- behind lines that were answered, the end was read for one line
+  pub line-in_turn : (t : NamedContext) (e : ℕ) (first a b : E) (c d : Place) (ahead : Text) (k : ℕ) → ReadsInTurn left held calls reads writes t e first a
+      → Goes t e (wire left held calls reads writes first) (wire left held calls reads writes a) c d ahead k → ReadsForLine left held calls reads writes ahead a b
+      → ReadsInTurn left held calls reads writes t e first b
+  line-in_turn t e first a b c d ahead k x goes y = join (IsAnswered left held calls reads writes t e first) (AwaitsLine left held calls reads writes ahead a) line-awaited first a b x y
+    where
+      line-awaited : (now : E) → AwaitsLine left held calls reads writes ahead a now → IsAnswered left held calls reads writes t e first now
+      line-awaited now w = record {
+        served = goes.served;
+        rest = ahead ++ w.taken;
+        each = goes.each;
+        unbroken = w.unbroken;
+        moves = Moves-equal (ap (λ z. z ++ w.taken) goes.read ∙ append_assoc (lines_of goes.served) ahead w.taken) (append-nil (greeting t e ++ replies_of t.attributes goes.served))
+            (Moves-trans goes.moves w.moves);
+      }

@@ -11,7 +11,7 @@ use Rattle.explore_state.specs.History.{Opening}
 use Rattle.turn_lock.specs.Passes.{Known, Badge, Lock, Belongs, IsFresh, TableId, badge, badges, roll}
 use Rattle.expert_gate.specs.Turns.{HasClosed}
 use Rattle.expert_sessions.specs.declared.ended.Ended.{Ended}
-use Rattle.expert_sessions.specs.Moves.{Wire, Place, TakesAtMost}
+use Rattle.expert_sessions.specs.Moves.{Wire, TakesAtMost}
 use Rattle.expert_sessions.specs.Talks.{HasTalked}
 use Rattle.expert_sessions.specs.Serving.{IsReady, EachSeat, HasSat, EachTalks, entered}
 use Rattle.expert_sessions.specs.declared.seats.Seat.{Seat}

@@ -2,12 +2,13 @@
 
 ghost use Rattle.std.specs.Prelude.{◌≡◌, ◌≤◌, ◌<◌, ◌↔◌, ◌+◌, [], IfOk, IfErr, OnOk, OnErr, IsTrue, MatchOption, length, take, drop};
 ghost use Rattle.std.specs.Io.KnownBytes.{IsAtEnd};
-ghost use Rattle.fca_io.specs.Faults.{Rose};
+ghost use Rattle.std.specs.Option.{option_map};
+ghost use Rattle.fca_io.specs.Faults.{Rose, one_more};
 ghost use Rattle.fca_model.specs.declared.TheConstants.{LINE_BYTES};
 ghost use Rattle.expert_sessions.specs.Lines.{HasNoFeed};
 ghost use Rattle.expert_sessions.specs.Moves.{Wire};
 ghost use Rattle.expert_sessions.specs.Courses.{Reads, HasFeedAt, LacksLine};
-ghost use Rattle.expert_sessions.specs.Order.{HasFeed};
+ghost use Rattle.expert_sessions.specs.Order.{ReadsForLine};
 
 use crate::ended::Ended;
 use fca_io::{Duplex, Failed};
@@ -50,7 +51,7 @@ impl Ahead {
             (record { left = E.Source.left end.old; held = E.Sink.held end.old; reads = E.Source.faults end.old; writes = E.Sink.faults end.old })
             (record { left = E.Source.left end.new; held = E.Sink.held end.new; reads = E.Source.faults end.new; writes = E.Sink.faults end.new })
             self.old self.new }
-        ensures still { HasFeed self.old → end.new ≡ end.old }
+        ensures order { ReadsForLine E.Source.left E.Sink.held E.Source.reads E.Source.faults E.Sink.faults self.old end.old end.new }
         ensures line { IfOk result (HasFeedAt self.new) }
         ensures quiet { OnOk result (E.Source.faults end.new ≡ E.Source.faults end.old) }
         ensures short { IfOk result (λ at. at ≤ LINE_BYTES) }
@@ -107,14 +108,14 @@ impl Ahead {
         self.bytes.len() == MOST
     }
 
-    /// Reads once, where no whole line lies ready, and answers how many bytes: none at the end alone.
+    /// Reads once, and answers how many bytes: none at the end alone.
     fn read<E: Duplex>(&mut self, end: &mut E) -> Result<usize, Failed>
         requires room { length self.old ≤ LINE_BYTES }
-        requires unbroken { HasNoFeed self.old }
         ensures read { Reads
             (record { left = E.Source.left end.old; held = E.Sink.held end.old; reads = E.Source.faults end.old; writes = E.Sink.faults end.old })
             (record { left = E.Source.left end.new; held = E.Sink.held end.new; reads = E.Source.faults end.new; writes = E.Sink.faults end.new })
             self.old self.new }
+        ensures counted { E.Source.reads end.new ≡ option_map one_more (E.Source.reads end.old) }
         ensures count { IfOk result (λ count. length self.new ≡ length self.old + count) }
         ensures end { IfOk result (λ count. count ≡ 0 → IsAtEnd (E.Source.left end.new)) }
         ensures quiet { OnOk result (E.Source.faults end.new ≡ E.Source.faults end.old) }

@@ -40,10 +40,11 @@ pub enum Said {
 
 /// Greets the expert.
 pub(crate) fn greet<E: Duplex>(end: &mut E, table: &Table, expert: u8) -> Result<(), Put>
-    ensures { Writes
+    ensures written { Writes
         (record { left = E.Source.left end.old; held = E.Sink.held end.old; reads = E.Source.faults end.old; writes = E.Sink.faults end.old })
         (record { left = E.Source.left end.new; held = E.Sink.held end.new; reads = E.Source.faults end.new; writes = E.Sink.faults end.new })
         (greeting table.now expert) result }
+    ensures unread { E.Source.reads end.new ≡ E.Source.reads end.old }
 {
     write_greeting(end, table, expert)
 }
@@ -55,10 +56,11 @@ pub(crate) fn write_said<E: Duplex>(
     table: &Table,
     said: &Said,
 ) -> Result<(), Put>
-    ensures { Writes
+    ensures written { Writes
         (record { left = E.Source.left end.old; held = E.Sink.held end.old; reads = E.Source.faults end.old; writes = E.Sink.faults end.old })
         (record { left = E.Source.left end.new; held = E.Sink.held end.new; reads = E.Source.faults end.new; writes = E.Sink.faults end.new })
         (said_line table.now.attributes said.now) result }
+    ensures unread { E.Source.reads end.new ≡ E.Source.reads end.old }
 {
     match said {
         Said::Replied(reply) => write_at_once(alloc, end, table, reply),
@@ -71,10 +73,11 @@ pub(crate) fn write_said<E: Duplex>(
 
 /// Writes the whole line.
 fn write_line<E: Duplex>(end: &mut E, line: &str) -> Result<(), Put>
-    ensures { Writes
+    ensures written { Writes
         (record { left = E.Source.left end.old; held = E.Sink.held end.old; reads = E.Source.faults end.old; writes = E.Sink.faults end.old })
         (record { left = E.Source.left end.new; held = E.Sink.held end.new; reads = E.Source.faults end.new; writes = E.Sink.faults end.new })
         line.now result }
+    ensures unread { E.Source.reads end.new ≡ E.Source.reads end.old }
 {
     write_text(end, line.as_bytes())
 }
@@ -94,7 +97,7 @@ fn write_at_once<K: Sink>(
     ensures later { K.faults sink.old ≤ K.faults sink.new }
 
     ensures beside { Keeps (K.beside sink.old) (K.beside sink.new) }
-    ensures same_beside { K.faults_beside sink.new ≡ K.faults_beside sink.old }
+    ensures same_beside { K.asked_beside sink.new ≡ K.asked_beside sink.old }
 {
     let mut line = Draft::new(alloc);
     match line.reply(table, reply) {

@@ -5,7 +5,7 @@ ghost use Rattle.fca_model.specs.declared.TheConstants.{MAX_ATTRIBUTES};
 ghost use Rattle.expert_sessions.specs.Moves.{Wire, Place, TakesAtMost};
 ghost use Rattle.expert_sessions.specs.Talks.{HasTalked};
 ghost use Rattle.expert_sessions.specs.Courses.{Serves, Halts, HasServed};
-ghost use Rattle.expert_sessions.specs.Order.{AnswersFirst, ReadsInTurn};
+ghost use Rattle.expert_sessions.specs.Order.{ReadsForLine, ReadsInTurn};
 
 use crate::ahead::Ahead;
 use crate::answer::answer;
@@ -33,7 +33,7 @@ pub fn session<D: Desk, E: Duplex>(
         (record { left = E.Source.left end.old; held = E.Sink.held end.old; reads = E.Source.faults end.old; writes = E.Sink.faults end.old })
         (record { left = E.Source.left end.new; held = E.Sink.held end.new; reads = E.Source.faults end.new; writes = E.Sink.faults end.new })
         (record { entries = D.entries desk.old; turns = D.left desk.old }) (record { entries = D.entries desk.new; turns = D.left desk.new }) result }
-    ensures order { ReadsInTurn E.Source.left E.Sink.held E.Source.faults E.Sink.faults table.now expert end.old end.new }
+    ensures order { ReadsInTurn E.Source.left E.Sink.held E.Source.reads E.Source.faults E.Sink.faults table.now expert end.old end.new }
     ensures turns { TakesAtMost (lines + 1) (D.left desk.old) (D.left desk.new) }
     ensures same { (D.number desk.new ≡ D.number desk.old) × (D.lock desk.new ≡ D.lock desk.old) × (D.place desk.new ≡ D.place desk.old) × (D.attributes desk.new ≡ D.attributes desk.old) }
 {
@@ -67,7 +67,7 @@ fn serve_lines<D: Desk, E: Duplex>(
         (record { left = E.Source.left end.old; held = E.Sink.held end.old; reads = E.Source.faults end.old; writes = E.Sink.faults end.old })
         (record { left = E.Source.left end.new; held = E.Sink.held end.new; reads = E.Source.faults end.new; writes = E.Sink.faults end.new })
         (record { entries = D.entries desk.old; turns = D.left desk.old }) (record { entries = D.entries desk.new; turns = D.left desk.new }) result }
-    ensures order { ReadsInTurn E.Source.left E.Sink.held E.Source.faults E.Sink.faults table.now expert end.old end.new }
+    ensures order { ReadsInTurn E.Source.left E.Sink.held E.Source.reads E.Source.faults E.Sink.faults table.now expert end.old end.new }
     ensures same { (D.number desk.new ≡ D.number desk.old) × (D.lock desk.new ≡ D.lock desk.old) × (D.place desk.new ≡ D.place desk.old) × (D.attributes desk.new ≡ D.attributes desk.old) }
 {
     if greet(end, table, expert).is_err() {
@@ -100,7 +100,7 @@ fn serve_line<D: Desk, E: Duplex>(
         (record { left = E.Source.left end.new; held = E.Sink.held end.new; reads = E.Source.faults end.new; writes = E.Sink.faults end.new })
         (record { entries = D.entries desk.old; turns = D.left desk.old }) (record { entries = D.entries desk.new; turns = D.left desk.new })
         ahead.old) }
-    ensures order { AnswersFirst E.Source.left E.Sink.held E.Source.faults E.Sink.faults ahead.old end.old end.new }
+    ensures order { ReadsForLine E.Source.left E.Sink.held E.Source.reads E.Source.faults E.Sink.faults ahead.old end.old end.new }
     ensures same { (D.number desk.new ≡ D.number desk.old) × (D.lock desk.new ≡ D.lock desk.old) × (D.place desk.new ≡ D.place desk.old) × (D.attributes desk.new ≡ D.attributes desk.old) }
 {
     let at = ahead.read_line(end)?;

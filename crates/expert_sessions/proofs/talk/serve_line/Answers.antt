@@ -3,7 +3,7 @@ use Rattle.std.specs.Prelude.{is_err}
 use Rattle.std.proofs.lemmas.Result.{err_from_is_err_and}
 use Rattle.expert_sessions.proofs.LineLemmas.{sent_whole, sent_quiet}
 use Rattle.expert_sessions.proofs.CourseLemmas.{unread, unturned, line-served, line-quits, line-unanswered}
-use Rattle.expert_sessions.proofs.OrderLemmas.{ReadsNothing-nil, nothing-read, answers-first}
+use Rattle.expert_sessions.proofs.OrderLemmas.{answered}
 use Rattle.expert_sessions.proofs.talk.serve_line.Goals as goal
 
 pub returns-in_err-at-clause-halted : goal.returns-in_err-at-clause-halted
@@ -37,7 +37,7 @@ returns-then-is_err-clause-halted g c =
     (record { entries = g.D.Desk.entries c.answer.new.desk; turns = g.D.Desk.left c.answer.new.desk })
     c.args.ahead.now c.read_line.new.self c.forget.new.self c.in_ok-at.at c.in_ok-said.said answered.0 answered.1
     c.read_line.ensures.read c.in_ok-at.ensures.quiet c.in_ok-at.ensures.line c.in_ok-at.ensures.short answered.2 answered.3 c.forget.ensures
-    c.write_said.result c.write_said.ensures failed
+    c.write_said.result c.write_said.ensures.written failed
 
 pub returns-in-Bye-clause-halted : goal.returns-in-Bye-clause-halted
 returns-in-Bye-clause-halted g c =
@@ -51,7 +51,7 @@ returns-in-Bye-clause-halted g c =
     (record { entries = g.D.Desk.entries c.answer.new.desk; turns = g.D.Desk.left c.answer.new.desk })
     c.args.ahead.now c.read_line.new.self c.forget.new.self c.in_ok-at.at c.in_ok-said.said answered.0 answered.1
     c.read_line.ensures.read c.in_ok-at.ensures.quiet c.in_ok-at.ensures.line c.in_ok-at.ensures.short answered.2 answered.3 c.forget.ensures
-    (sent_whole c.write_said.result c.write_said.ensures ok) (sent_quiet c.write_said.result c.write_said.ensures ok) c.in-Bye.is
+    (sent_whole c.write_said.result c.write_said.ensures.written ok) (sent_quiet c.write_said.result c.write_said.ensures.written ok) c.in-Bye.is
 
 pub returns-in_default-clause-served : goal.returns-in_default-clause-served
 returns-in_default-clause-served g c =
@@ -65,29 +65,16 @@ returns-in_default-clause-served g c =
     (record { entries = g.D.Desk.entries c.answer.new.desk; turns = g.D.Desk.left c.answer.new.desk })
     c.args.ahead.now c.read_line.new.self c.forget.new.self c.in_ok-at.at c.in_ok-said.said answered.0 answered.1
     c.read_line.ensures.read c.in_ok-at.ensures.quiet c.in_ok-at.ensures.line c.in_ok-at.ensures.short answered.2 answered.3 c.forget.ensures
-    (sent_whole c.write_said.result c.write_said.ensures ok) (sent_quiet c.write_said.result c.write_said.ensures ok) c.in_default.not-Bye
-
-pub returns-in_err-at-clause-order : goal.returns-in_err-at-clause-order
-returns-in_err-at-clause-order g c = answers-first g.E.Source.left g.E.Sink.held g.E.Source.faults g.E.Sink.faults c.args.ahead.now c.read_line.new.self
-    c.args.end.now c.read_line.new.end c.read_line.new.end c.read_line.ensures.still c.read_line.ensures.read
-    (ReadsNothing-nil g.E.Source.left g.E.Sink.held g.E.Source.faults g.E.Sink.faults c.read_line.new.end)
-
-pub returns-in_err-said-clause-order : goal.returns-in_err-said-clause-order
-returns-in_err-said-clause-order g c = answers-first g.E.Source.left g.E.Sink.held g.E.Source.faults g.E.Sink.faults c.args.ahead.now c.read_line.new.self
-    c.args.end.now c.read_line.new.end c.read_line.new.end c.read_line.ensures.still c.read_line.ensures.read
-    (ReadsNothing-nil g.E.Source.left g.E.Sink.held g.E.Source.faults g.E.Sink.faults c.read_line.new.end)
+    (sent_whole c.write_said.result c.write_said.ensures.written ok) (sent_quiet c.write_said.result c.write_said.ensures.written ok) c.in_default.not-Bye
 
 pub returns-then-is_err-clause-order : goal.returns-then-is_err-clause-order
-returns-then-is_err-clause-order g c = answers-first g.E.Source.left g.E.Sink.held g.E.Source.faults g.E.Sink.faults c.args.ahead.now c.read_line.new.self
-    c.args.end.now c.read_line.new.end c.write_said.new.end c.read_line.ensures.still c.read_line.ensures.read
-    (nothing-read g.E.Source.left g.E.Sink.held g.E.Source.faults g.E.Sink.faults c.read_line.new.end c.write_said.new.end _ c.write_said.result c.write_said.ensures)
+returns-then-is_err-clause-order g c = answered g.E.Source.left g.E.Sink.held g.E.Source.reads g.E.Source.faults g.E.Sink.faults c.args.ahead.now
+    c.args.end.now c.read_line.new.end c.write_said.new.end c.read_line.ensures.order _ c.write_said.result c.write_said.ensures.written c.write_said.ensures.unread
 
 pub returns-in-Bye-clause-order : goal.returns-in-Bye-clause-order
-returns-in-Bye-clause-order g c = answers-first g.E.Source.left g.E.Sink.held g.E.Source.faults g.E.Sink.faults c.args.ahead.now c.read_line.new.self
-    c.args.end.now c.read_line.new.end c.write_said.new.end c.read_line.ensures.still c.read_line.ensures.read
-    (nothing-read g.E.Source.left g.E.Sink.held g.E.Source.faults g.E.Sink.faults c.read_line.new.end c.write_said.new.end _ c.write_said.result c.write_said.ensures)
+returns-in-Bye-clause-order g c = answered g.E.Source.left g.E.Sink.held g.E.Source.reads g.E.Source.faults g.E.Sink.faults c.args.ahead.now
+    c.args.end.now c.read_line.new.end c.write_said.new.end c.read_line.ensures.order _ c.write_said.result c.write_said.ensures.written c.write_said.ensures.unread
 
 pub returns-in_default-clause-order : goal.returns-in_default-clause-order
-returns-in_default-clause-order g c = answers-first g.E.Source.left g.E.Sink.held g.E.Source.faults g.E.Sink.faults c.args.ahead.now c.read_line.new.self
-    c.args.end.now c.read_line.new.end c.write_said.new.end c.read_line.ensures.still c.read_line.ensures.read
-    (nothing-read g.E.Source.left g.E.Sink.held g.E.Source.faults g.E.Sink.faults c.read_line.new.end c.write_said.new.end _ c.write_said.result c.write_said.ensures)
+returns-in_default-clause-order g c = answered g.E.Source.left g.E.Sink.held g.E.Source.reads g.E.Source.faults g.E.Sink.faults c.args.ahead.now
+    c.args.end.now c.read_line.new.end c.write_said.new.end c.read_line.ensures.order _ c.write_said.result c.write_said.ensures.written c.write_said.ensures.unread

@@ -1,9 +1,9 @@
 use Rattle.std.proofs.Common.{rules, ◌≡◌, refl, true, false}
 use Rattle.std.specs.Prelude.{is_err}
-use Rattle.std.proofs.Common.{[], sym, subst, ◌∙◌, arith}
+use Rattle.std.proofs.Common.{sym, subst, ◌∙◌, arith}
 use Rattle.expert_sessions.specs.Courses.{Serves, Halts, Goes}
 use Rattle.expert_sessions.proofs.CourseLemmas.{ungreeted, greeted, one_more_line, halted, limited}
-use Rattle.expert_sessions.proofs.OrderLemmas.{nothing-read, line-in_turn}
+use Rattle.expert_sessions.proofs.OrderLemmas.{greeted-first, line-in_turn}
 use Rattle.expert_sessions.proofs.talk.serve_lines.Goals as goal
 
 pub returns-then-is_err-clause-served : goal.returns-then-is_err-clause-served
@@ -13,10 +13,11 @@ returns-then-is_err-clause-served g c =
     (record { left = g.E.Source.left c.args.end.now; held = g.E.Sink.held c.args.end.now; reads = g.E.Source.faults c.args.end.now; writes = g.E.Sink.faults c.args.end.now })
     (record { left = g.E.Source.left c.greet.new.end; held = g.E.Sink.held c.greet.new.end; reads = g.E.Source.faults c.greet.new.end; writes = g.E.Sink.faults c.greet.new.end })
     (record { entries = g.D.Desk.entries c.args.desk.now; turns = g.D.Desk.left c.args.desk.now })
-    c.greet.result c.greet.ensures failed
+    c.greet.result c.greet.ensures.written failed
 
 pub returns-then-is_err-clause-order : goal.returns-then-is_err-clause-order
-returns-then-is_err-clause-order g c = ([], nothing-read g.E.Source.left g.E.Sink.held g.E.Source.faults g.E.Sink.faults c.args.end.now c.greet.new.end _ c.greet.result c.greet.ensures)
+returns-then-is_err-clause-order g c = greeted-first g.E.Source.left g.E.Sink.held g.E.Source.reads g.E.Source.faults g.E.Sink.faults c.args.table.now c.args.expert
+    c.args.end.now c.greet.new.end _ c.greet.result c.greet.ensures.written c.greet.ensures.unread
 
 pub loop-count-init : goal.loop-count-init
 loop-count-init g c =
@@ -25,7 +26,7 @@ loop-count-init g c =
     (record { left = g.E.Source.left c.args.end.now; held = g.E.Sink.held c.args.end.now; reads = g.E.Source.faults c.args.end.now; writes = g.E.Sink.faults c.args.end.now })
     (record { left = g.E.Source.left c.greet.new.end; held = g.E.Sink.held c.greet.new.end; reads = g.E.Source.faults c.greet.new.end; writes = g.E.Sink.faults c.greet.new.end })
     (record { entries = g.D.Desk.entries c.args.desk.now; turns = g.D.Desk.left c.args.desk.now })
-    c.greet.result c.greet.ensures ok in
+    c.greet.result c.greet.ensures.written ok in
     record {
       goes = subst (λ z. Goes c.args.table.now c.args.expert
           (record { left = g.E.Source.left c.args.end.now; held = g.E.Sink.held c.args.end.now; reads = g.E.Source.faults c.args.end.now; writes = g.E.Sink.faults c.args.end.now })
@@ -33,7 +34,8 @@ loop-count-init g c =
           (record { entries = g.D.Desk.entries c.args.desk.now; turns = g.D.Desk.left c.args.desk.now })
           (record { entries = g.D.Desk.entries c.args.desk.now; turns = g.D.Desk.left c.args.desk.now })
           z 0) (sym c.requires.none) start;
-      order = ([], nothing-read g.E.Source.left g.E.Sink.held g.E.Source.faults g.E.Sink.faults c.args.end.now c.greet.new.end _ c.greet.result c.greet.ensures);
+      order = greeted-first g.E.Source.left g.E.Sink.held g.E.Source.reads g.E.Source.faults g.E.Sink.faults c.args.table.now c.args.expert
+          c.args.end.now c.greet.new.end _ c.greet.result c.greet.ensures.written c.greet.ensures.unread;
       number = refl;
       lock = refl;
       place = refl;
@@ -58,7 +60,7 @@ loop-count-preserved g c =
           (record { entries = g.D.Desk.entries c.loop-count.desk; turns = g.D.Desk.left c.loop-count.desk })
           (record { entries = g.D.Desk.entries c.serve_line.new.desk; turns = g.D.Desk.left c.serve_line.new.desk })
           c.loop-count.ahead c.serve_line.new.ahead c.loop-count._count c.loop-count.invariant.goes served;
-      order = line-in_turn g.E.Source.left g.E.Sink.held g.E.Source.faults g.E.Sink.faults c.args.table.now c.args.expert
+      order = line-in_turn g.E.Source.left g.E.Sink.held g.E.Source.reads g.E.Source.faults g.E.Sink.faults c.args.table.now c.args.expert
           c.args.end.now c.loop-count.end c.serve_line.new.end
           (record { entries = g.D.Desk.entries c.args.desk.now; turns = g.D.Desk.left c.args.desk.now })
           (record { entries = g.D.Desk.entries c.loop-count.desk; turns = g.D.Desk.left c.loop-count.desk })
@@ -89,7 +91,7 @@ returns-in-Err-clause-served g c =
 
 pub returns-in-Err-clause-order : goal.returns-in-Err-clause-order
 returns-in-Err-clause-order g c =
-    line-in_turn g.E.Source.left g.E.Sink.held g.E.Source.faults g.E.Sink.faults c.args.table.now c.args.expert
+    line-in_turn g.E.Source.left g.E.Sink.held g.E.Source.reads g.E.Source.faults g.E.Sink.faults c.args.table.now c.args.expert
     c.args.end.now c.loop-count.end c.serve_line.new.end
     (record { entries = g.D.Desk.entries c.args.desk.now; turns = g.D.Desk.left c.args.desk.now })
     (record { entries = g.D.Desk.entries c.loop-count.desk; turns = g.D.Desk.left c.loop-count.desk })

@@ -12,7 +12,7 @@ invariant-loop-count g l = record {
       (record { entries = g.D.Desk.entries l.fn.desk; turns = g.D.Desk.left l.fn.desk })
       (record { entries = g.D.Desk.entries l.desk; turns = g.D.Desk.left l.desk })
       l.ahead l._count;
-  order : ReadsInTurn g.E.Source.left g.E.Sink.held g.E.Source.faults g.E.Sink.faults l.table l.expert l.fn.end l.end;
+  order : ReadsInTurn g.E.Source.left g.E.Sink.held g.E.Source.reads g.E.Source.faults g.E.Sink.faults l.table l.expert l.fn.end l.end;
   number : g.D.Desk.number l.desk ≡ g.D.Desk.number l.fn.desk;
   lock : g.D.Desk.lock l.desk ≡ g.D.Desk.lock l.fn.desk;
   place : g.D.Desk.place l.desk ≡ g.D.Desk.place l.fn.desk;

@@ -1,8 +1,8 @@
-use Rattle.std.proofs.Common.{◌≡◌, ◌+◌, [], sym, ◌∙◌, Err, arith}
+use Rattle.std.proofs.Common.{◌≡◌, ◌+◌, sym, ◌∙◌, Err, arith}
 use Rattle.turn_lock.specs.declared.fault.TurnFault.TheVariants.{Spent as NoTurn}
 use Rattle.expert_sessions.proofs.MoveLemmas.{one_less-taken, one_less-none, leave-few}
 use Rattle.expert_sessions.proofs.TalkLemmas.{refused, spent_early, left, spent_late, unremembered, served-few}
-use Rattle.expert_sessions.proofs.OrderLemmas.{ReadsNothing-nil}
+use Rattle.expert_sessions.proofs.OrderLemmas.{nothing-in_turn}
 use Rattle.expert_sessions.proofs.talk.session.Goals as goal
 
 pub returns-in_default-clause-talk : goal.returns-in_default-clause-talk
@@ -11,7 +11,7 @@ returns-in_default-clause-talk g c = refused c.args.table.now c.args.expert c.ar
     (record { entries = g.D.Desk.entries c.args.desk.now; turns = g.D.Desk.left c.args.desk.now })
 
 pub returns-in_default-clause-order : goal.returns-in_default-clause-order
-returns-in_default-clause-order g c = ([], ReadsNothing-nil g.E.Source.left g.E.Sink.held g.E.Source.faults g.E.Sink.faults c.args.end.now)
+returns-in_default-clause-order g c = nothing-in_turn g.E.Source.left g.E.Sink.held g.E.Source.reads g.E.Source.faults g.E.Sink.faults c.args.table.now c.args.expert c.args.end.now
 
 pub returns-in-Spent-clause-talk : goal.returns-in-Spent-clause-talk
 returns-in-Spent-clause-talk g c = spent_early c.args.table.now c.args.expert c.args.lines

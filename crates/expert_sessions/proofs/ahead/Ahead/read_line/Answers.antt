@@ -1,14 +1,13 @@
 use Rattle.std.proofs.Common.{rules, refl}
 use Rattle.expert_sessions.specs.Lines.{HasNoFeed}
 use Rattle.expert_sessions.proofs.MoveLemmas.{Reads-nil, Reads-trans}
-use Rattle.expert_sessions.proofs.OrderLemmas.{read_on}
+use Rattle.expert_sessions.proofs.OrderLemmas.{unread, read_on}
 use Rattle.expert_sessions.proofs.ahead.Ahead.read_line.Goals as goal
 
 pub loop-at-init : goal.loop-at-init
 loop-at-init g c = record {
   read = Reads-nil (record { left = g.E.Source.left c.args.end.now; held = g.E.Sink.held c.args.end.now; reads = g.E.Source.faults c.args.end.now; writes = g.E.Sink.faults c.args.end.now }) c.args.self.now;
-  still = λ _. refl;
-  same = λ _. refl;
+  order = unread g.E.Source.left g.E.Sink.held g.E.Source.reads g.E.Source.faults g.E.Sink.faults c.args.self.now c.args.end.now;
   quiet = refl;
 }
 
@@ -17,13 +16,25 @@ loop-at-preserved g c =
     let none : HasNoFeed c.loop-at.self = search rules in
     record {
       read = Reads-trans c.loop-at.invariant.read c.read.ensures.read;
-      still = read_on c.args.self.now c.loop-at.self c.loop-at.invariant.same none;
-      same = read_on c.args.self.now c.loop-at.self c.loop-at.invariant.same none;
+      order = read_on g.E.Source.left g.E.Sink.held g.E.Source.reads g.E.Source.faults g.E.Sink.faults c.args.self.now c.loop-at.self c.read.new.self
+          c.args.end.now c.loop-at.end c.read.new.end c.loop-at.invariant.order c.loop-at.invariant.read none c.read.ensures.read c.read.ensures.counted;
       quiet = search rules;
     }
 
 pub returns-in-Ok-eq0-clause-read : goal.returns-in-Ok-eq0-clause-read
 returns-in-Ok-eq0-clause-read g c = Reads-trans c.loop-at.invariant.read c.read.ensures.read
 
+pub returns-in-Ok-eq0-clause-order : goal.returns-in-Ok-eq0-clause-order
+returns-in-Ok-eq0-clause-order g c =
+    let none : HasNoFeed c.loop-at.self = search rules in
+    read_on g.E.Source.left g.E.Sink.held g.E.Source.reads g.E.Source.faults g.E.Sink.faults c.args.self.now c.loop-at.self c.read.new.self
+    c.args.end.now c.loop-at.end c.read.new.end c.loop-at.invariant.order c.loop-at.invariant.read none c.read.ensures.read c.read.ensures.counted
+
 pub returns-in-Err-clause-read : goal.returns-in-Err-clause-read
 returns-in-Err-clause-read g c = Reads-trans c.loop-at.invariant.read c.read.ensures.read
+
+pub returns-in-Err-clause-order : goal.returns-in-Err-clause-order
+returns-in-Err-clause-order g c =
+    let none : HasNoFeed c.loop-at.self = search rules in
+    read_on g.E.Source.left g.E.Sink.held g.E.Source.reads g.E.Source.faults g.E.Sink.faults c.args.self.now c.loop-at.self c.read.new.self
+    c.args.end.now c.loop-at.end c.read.new.end c.loop-at.invariant.order c.loop-at.invariant.read none c.read.ensures.read c.read.ensures.counted

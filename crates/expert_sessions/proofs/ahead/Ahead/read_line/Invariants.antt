@@ -1,8 +1,8 @@
--- What was read so far stands behind what was read ahead before, and no read failed. Where a whole line lay ready, nothing was read. Each read that isn't the last one lengthens it.
+-- What was read so far stands behind what was read ahead before, and no read failed. The end was read only where the line was not whole. Each read that isn't the last one lengthens it.
 use Rattle.std.proofs.Common.{◌≡◌, ◌+◌, ◌-◌, length}
 use Rattle.fca_model.specs.declared.TheConstants.{LINE_BYTES}
 use Rattle.expert_sessions.specs.Courses.{Reads}
-use Rattle.expert_sessions.specs.Order.{HasFeed}
+use Rattle.expert_sessions.specs.Order.{ReadsForLine}
 use Rattle.expert_sessions.proofs.ahead.Ahead.read_line.Given as goal
 
 abbrev pub invariant-loop-at : goal.invariant-loop-at
@@ -11,8 +11,7 @@ invariant-loop-at g l = record {
       (record { left = g.E.Source.left l.initial.end; held = g.E.Sink.held l.initial.end; reads = g.E.Source.faults l.initial.end; writes = g.E.Sink.faults l.initial.end })
       (record { left = g.E.Source.left l.end; held = g.E.Sink.held l.end; reads = g.E.Source.faults l.end; writes = g.E.Sink.faults l.end })
       l.initial.self l.self;
-  still : HasFeed l.initial.self → l.end ≡ l.initial.end;
-  same : HasFeed l.initial.self → l.self ≡ l.initial.self;
+  order : ReadsForLine g.E.Source.left g.E.Sink.held g.E.Source.reads g.E.Source.faults g.E.Sink.faults l.initial.self l.initial.end l.end;
   quiet : g.E.Source.faults l.end ≡ g.E.Source.faults l.initial.end;
 }
 
