@@ -5,3 +5,4 @@ pub mod OrderLemmas
 pub mod TalkLemmas
 pub mod SeatLemmas
 pub mod ServingLemmas
+pub mod Examples
