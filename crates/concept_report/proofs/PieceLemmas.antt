@@ -63,15 +63,21 @@ names_none names bs ts e f = subst (λ xs. AreNames names 0 xs ts) (sym e) (subs
   texts = refl;
 }))
 
-pub names_more : (names : List Text) (i : ℕ) (name text tail : Text) (b : Block) (bs new : List Block) (ts news : List Text) → i < length names → Some name ≡ slice_get names i → length name ≤ 255
+-- one name more
+pub piece_added : (name text tail : Text) (b : Block) (bs new : List Block) (ts news : List Text) → length name ≤ 255
     → text ≡ parted name → b.filled ≡ min (length text) 16 → take b.filled b.bytes ≡ take 16 text → tail ≡ drop 16 text → new ≡ bs ++ b ∷ [] → news ≡ ts ++ tail ∷ []
-    → AreNames names i bs ts → AreNames names (i + 1) new news
-names_more names i name text tail b bs new ts news inside named short is filled front rest made mades h =
+    → ArePieces bs ts → (ArePieces new news) × (piece_texts new news ≡ piece_texts bs ts ++ parted name ∷ [])
+piece_added name text tail b bs new ts news short is filled front rest made mades h =
     let wide : length text ≡ length name + 2 = ap length is ∙ length-append name (codes ", ") in
     let p : IsPiece b tail = cut_piece text b tail (omega (arith, wide, short)) filled rest in
-    let whole : piece_text b tail ≡ parted name = ap₂ (λ x y. x ++ y) front rest ∙ take-append-drop 16 text ∙ is in
-    record {
-      pieces = subst (λ xs. ArePieces xs news) (sym made) (subst (λ ys. ArePieces (bs ++ b ∷ []) ys) (sym mades) (ArePieces-push bs ts b tail h.pieces p));
-      texts = ap₂ piece_texts made mades ∙ pieces_push bs ts b tail h.pieces.same ∙ ap₂ (λ xs x. xs ++ x ∷ []) h.texts (whole ∙ ap parted (sym (get_or_from_slice_get names i name [] (sym named))))
-          ∙ sym (map_more parted names i [] inside);
-    }
+    let whole : piece_text b tail ≡ parted name = ap₂ (λ x y. x ++ y) front rest ∙ take-append-drop 16 text ∙ is in (
+      subst (λ xs. ArePieces xs news) (sym made) (subst (λ ys. ArePieces (bs ++ b ∷ []) ys) (sym mades) (ArePieces-push bs ts b tail h p)),
+      ap₂ piece_texts made mades ∙ pieces_push bs ts b tail h.same ∙ ap (λ x. piece_texts bs ts ++ x ∷ []) whole,
+    )
+
+pub names_more : (names : List Text) (i : ℕ) (name : Text) (bs new : List Block) (ts news : List Text) → i < length names → Some name ≡ slice_get names i
+    → ArePieces new news → piece_texts new news ≡ piece_texts bs ts ++ parted name ∷ [] → AreNames names i bs ts → AreNames names (i + 1) new news
+names_more names i name bs new ts news inside named all made h = record {
+  pieces = all;
+  texts = made ∙ ap₂ (λ xs x. xs ++ x ∷ []) h.texts (ap parted (sym (get_or_from_slice_get names i name [] (sym named)))) ∙ sym (map_more parted names i [] inside);
+}

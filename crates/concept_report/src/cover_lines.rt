@@ -6,17 +6,16 @@ ghost use Rattle.basis_report.specs.Reports.{counted, cover_line};
 ghost use Rattle.concept_report.specs.Numerals.{AreNumerals};
 
 use crate::block::{Block, HEAD, put_block};
-use crate::lines::make_room;
+use crate::lines::{add_head, make_room};
 use crate::numerals::count_up_to;
 use crate::pieces::put_bytes;
 use fca_model::Memory;
-use itoa::Buffer;
 use std::alloc::Global;
 
 /// How many bytes have to be free where a line is put down: two numerals, and what stands behind each.
 const LINE_ROOM: usize = 2 * HEAD + 2;
 
-/// The text with the number of the covers and their lines behind it. Each numeral is written once, and put down where it stands.
+/// The text with the number of the covers and their lines behind it.
 pub(crate) fn with_covers(
     alloc: Global,
     text: Vec<u8>,
@@ -25,16 +24,27 @@ pub(crate) fn with_covers(
     ensures { IfOk result (λ v. v.items ≡ text.items ++ (counted (codes "covers ") (length covers.now) ++ flat_map cover_line covers.now)) }
 {
     let mut bytes = text;
-    bytes.extend_from_slice(b"covers ")?;
-    bytes.extend_from_slice(Buffer::new().format(covers.len()).as_bytes())?;
-    bytes.extend_from_slice(b"\n")?;
+    add_head(&mut bytes, b"covers ", covers.len())?;
+    let end = add_covers(alloc, &mut bytes, covers)?;
+    bytes.truncate(end);
+    Ok(bytes)
+}
+
+/// Puts the lines down behind the text, and tells where they end. Each numeral is written once, and put down where it stands.
+fn add_covers(
+    alloc: Global,
+    bytes: &mut Vec<u8>,
+    covers: &[(usize, usize)],
+) -> Result<usize, Memory>
+    ensures text { IfOk result (λ end. take end bytes.new.items ≡ bytes.old.items ++ flat_map cover_line covers.now) }
+    ensures ends { IfOk result (λ end. end ≤ length bytes.new.items) }
+{
     let mut end = bytes.len();
     let mut numerals = Vec::new(alloc);
     for pair in covers {
-        end = add_cover(&mut bytes, end, &mut numerals, pair.0, pair.1)?;
+        end = add_cover(bytes, end, &mut numerals, pair.0, pair.1)?;
     }
-    bytes.truncate(end);
-    Ok(bytes)
+    Ok(end)
 }
 
 /// Puts the line down from that place on, where there is room for it or room is made, and tells where it ends.

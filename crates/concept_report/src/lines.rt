@@ -97,10 +97,19 @@ impl Lines {
 pub(crate) fn head_of(alloc: Global, words: &[u8], count: usize) -> Result<Vec<u8>, Memory>
     ensures { IfOk result (λ head. head.items ≡ counted words.now count) }
 {
-    let mut head = Vec::from_slice(alloc, words)?;
-    head.extend_from_slice(Buffer::new().format(count).as_bytes())?;
-    head.extend_from_slice(b"\n")?;
+    let mut head = Vec::new(alloc);
+    add_head(&mut head, words, count)?;
     Ok(head)
+}
+
+/// Appends that line.
+pub(crate) fn add_head(text: &mut Vec<u8>, words: &[u8], count: usize) -> Result<(), Memory>
+    ensures { OnOk result (text.new.items ≡ text.old.items ++ counted words.now count) }
+{
+    text.extend_from_slice(words)?;
+    text.extend_from_slice(Buffer::new().format(count).as_bytes())?;
+    text.extend_from_slice(b"\n")?;
+    Ok(())
 }
 
 /// Puts the head in the place of the room in front of the text.

@@ -1,13 +1,12 @@
 use Rattle.std.proofs.Common.{◌≡◌, ◌≤◌, ◌++◌, drop, length, take}
-use Rattle.std.specs.Prelude.{codes}
 use Rattle.std.specs.List.{flat_map}
-use Rattle.basis_report.specs.Reports.{counted, cover_line}
+use Rattle.basis_report.specs.Reports.{cover_line}
 use Rattle.concept_report.specs.Numerals.{AreNumerals}
-use Rattle.concept_report.proofs.cover_lines.with_covers.Given as goal
+use Rattle.concept_report.proofs.cover_lines.add_covers.Given as goal
 
 abbrev pub invariant-loop-pair : goal.invariant-loop-pair
 invariant-loop-pair l = record {
   numerals : AreNumerals l.numerals.items;
   ends : l.end ≤ length l.bytes.items;
-  written : take l.end l.bytes.items ++ flat_map cover_line (drop l.pair-index l.covers) ≡ l.fn.text.items ++ (counted (codes "covers ") (length l.covers) ++ flat_map cover_line l.covers);
+  written : take l.end l.bytes.items ++ flat_map cover_line (drop l.pair-index l.covers) ≡ l.fn.bytes.items ++ flat_map cover_line l.covers;
 }

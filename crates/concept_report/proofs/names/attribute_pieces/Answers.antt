@@ -1,8 +1,9 @@
-use Rattle.std.proofs.Common.{◌≡◌, ◌∙◌, ℕ, Vec, Global, length, map, take, drop, min, ap, sym, arith}
-use Rattle.std.proofs.lemmas.List.{take_all, map_push}
+use Rattle.std.proofs.Common.{◌≡◌, ◌∙◌, ◌++◌, ◌∷◌, [], ℕ, List, Vec, Global, length, map, ap, sym, arith}
+use Rattle.std.proofs.lemmas.List.{take_all}
 use Rattle.fca_model.specs.Context.{Context}
 use Rattle.fca_model.specs.Tables.{Text}
 use Rattle.concept_report.specs.Listing.{parted}
+use Rattle.concept_report.specs.Pieces.{piece_texts}
 use Rattle.concept_report.proofs.ListingLemmas.{name_short}
 use Rattle.concept_report.proofs.PieceLemmas.{names_none, names_more}
 use Rattle.concept_report.proofs.names.attribute_pieces.Goals as goal
@@ -10,14 +11,19 @@ use Rattle.concept_report.proofs.names.attribute_pieces.Goals as goal
 pub loop-attribute-init : goal.loop-attribute-init
 loop-attribute-init c = names_none c.args.table.now.attributes c.in_ok-blocks.blocks.items (map (λ (v : Vec ℕ Global). v.items) c.in_ok-tails.tails.items) c.in_ok-blocks.ensures.items (ap (map (λ (v : Vec ℕ Global). v.items)) c.in_ok-tails.ensures.items)
 
+pub add_name-requires-clause-short : goal.add_name-requires-clause-short
+add_name-requires-clause-short c = omega (arith, name_short c.attribute_name.result.now c.bytes-name.ensures.name.faultless, ap length c.bytes-name.ensures.value)
+
+pub add_name-requires-clause-pieces : goal.add_name-requires-clause-pieces
+add_name-requires-clause-pieces c = c.loop-attribute.invariant.pieces
+
 pub loop-attribute-preserved : goal.loop-attribute-preserved
 loop-attribute-preserved c =
     let count : c.width-width.result ≡ length c.args.table.now.attributes = c.width-width.ensures.width ∙ ap (λ (K : Context). K.width) c.rows.ensures.rows ∙ sym c.rows.ensures.table.each_attribute in
-    names_more c.args.table.now.attributes c.loop-attribute.attribute c.attribute_name.result.now c.in_ok-text.text.items c.in_ok-tail_of.field-0.items c.block_of.result c.loop-attribute.blocks.items c.push.new.self.items
-    (map (λ (v : Vec ℕ Global). v.items) c.loop-attribute.tails.items) (map (λ (v : Vec ℕ Global). v.items) c.push-in-loop-attribute.new.self.items) (omega (arith, count, c.loop-attribute-test.true)) c.attribute_name.ensures
-    (name_short c.attribute_name.result.now c.bytes.ensures.name.faultless) (c.in_ok-text.ensures ∙ ap parted c.bytes.ensures.value) (c.block_of.ensures.filled ∙ ap (λ (t : Text). min (length t) 16) c.deref.ensures.value)
-    (c.block_of.ensures.bytes ∙ ap (take 16) c.deref.ensures.value) (c.in_ok-tail_of.ensures ∙ ap (drop 16) c.deref-in-loop-attribute.ensures.value) c.in_ok-push.ensures.items
-    (ap (map (λ (v : Vec ℕ Global). v.items)) c.in_ok-push-2.ensures.items ∙ map_push (λ (v : Vec ℕ Global). v.items) c.loop-attribute.tails.items c.in_ok-tail_of.field-0) c.loop-attribute.invariant
+    let bytes : Vec (Vec ℕ Global) Global → List Text = λ ts. map (λ (v : Vec ℕ Global). v.items) ts.items in
+    let old : List Text = piece_texts c.loop-attribute.blocks.items (bytes c.loop-attribute.tails) in
+    names_more c.args.table.now.attributes c.loop-attribute.attribute c.attribute_name.result.now c.loop-attribute.blocks.items c.add_name.new.blocks.items (bytes c.loop-attribute.tails) (bytes c.add_name.new.tails)
+    (omega (arith, count, c.loop-attribute-test.true)) c.attribute_name.ensures c.in_ok-add_name.ensures.pieces (c.in_ok-add_name.ensures.texts ∙ ap (λ n. old ++ parted n ∷ []) c.bytes-name.ensures.value) c.loop-attribute.invariant
 
 pub new-requires : goal.new-requires
 new-requires c = c.loop-attribute.invariant.pieces
