@@ -1,6 +1,6 @@
 //! Why a seat ended.
 
-#[derive(Clone, Copy, Debug, PartialEq, Eq)]
+#[derive(Clone, Copy, PartialEq, Eq)]
 pub enum SeatEnd {
     /// No question is open.
     Done,

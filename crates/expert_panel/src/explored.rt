@@ -1,6 +1,6 @@
 //! A table explored by oracles.
 
-ghost use Rattle.std.specs.Prelude.{◌≡◌, ◌≤◌, ◌<◌, ◌^◌, ◌⊎◌, ◌↔◌, ℕ, true, false, [], All, IfOk, map, length, vec_len};
+ghost use Rattle.std.specs.Prelude.{◌≡◌, ◌≤◌, ◌<◌, ◌^◌, ◌⊎◌, ◌↔◌, ℕ, true, false, [], All, IfOk, map, length, vec_len, vec_capacity};
 ghost use Rattle.std.specs.List.{list_any};
 ghost use Rattle.fca_model.specs.Context.{Context};
 ghost use Rattle.fca_model.specs.declared.TheConstants.{MAX_EXPERTS};
@@ -121,18 +121,32 @@ fn risen(alloc: Global, seats: Vec<Seat<Oracle>>) -> Result<(Vec<ExpertPass>, Ve
     ensures passes { IfOk result (λ r. r.0.items ≡ map (λ seat. seat.pass) seats.items) }
     ensures experts { IfOk result (λ r. r.1.items ≡ map (λ seat. seat.expert) seats.items) }
 {
-    let mut passes = Vec::with_capacity(alloc, seats.len())?;
-    let mut oracles = Vec::with_capacity(alloc, seats.len())?;
+    let passes = Vec::with_capacity(alloc, seats.len())?;
+    let oracles = Vec::with_capacity(alloc, seats.len())?;
+    Ok(parted(seats, passes, oracles))
+}
+
+/// The same, in lists that have room for them.
+fn parted(
+    seats: Vec<Seat<Oracle>>,
+    mut passes: Vec<ExpertPass>,
+    mut oracles: Vec<Oracle>,
+) -> (Vec<ExpertPass>, Vec<Oracle>)
+    requires empty { (passes.items ≡ []) × (oracles.items ≡ []) }
+    requires room { (vec_len seats ≤ vec_capacity passes) × (vec_len seats ≤ vec_capacity oracles) }
+    ensures passes { result.0.items ≡ map (λ seat. seat.pass) seats.items }
+    ensures experts { result.1.items ≡ map (λ seat. seat.expert) seats.items }
+{
     for seat in seats {
         let Seat {
             pass,
             expert,
             ended: _,
         } = seat;
-        passes.push(pass)?;
-        oracles.push(expert)?;
+        passes.push_reserved(pass);
+        oracles.push_reserved(expert);
     }
-    Ok((passes, oracles))
+    (passes, oracles)
 }
 
 /// Whether a seat ended for want of memory.
