@@ -3,7 +3,7 @@ use Rattle.std.proofs.lemmas.List.FromFn.{map-range_with_len_more}
 use Rattle.std.specs.List.{range_with_len}
 use Rattle.fca_model.specs.Sets.{Set}
 use Rattle.direct_basis.specs.Direct.{proper}
-use Rattle.direct_basis.specs.Levels.{free, placed}
+use Rattle.direct_basis.specs.Levels.{first_place, free, placed}
 use Rattle.direct_basis.proofs.LevelLemmas.{more_kept, more_placed}
 use Rattle.direct_basis.proofs.levels.grow.Goals as goal
 
@@ -21,3 +21,15 @@ loop-i-preserved c =
       found = more_placed (proper K) c.args.found.now.keys c.loop-i.found.keys c.visit.new.found.keys before (f k ∷ []) after one_more c.loop-i.invariant.found
           (c.in_ok-visit.ensures.found ∙ ap (λ (X : Set). placed c.loop-i.found.keys (filter (proper K) (X ∷ []))) c.with.ensures);
     }
+
+pub returns-clause-level : goal.returns-clause-level
+returns-clause-level c =
+    let K = c.args.rows.now in
+    let all : c.loop-i.i ≡ first_place c.args.set.now = omega arith in
+    c.loop-i.invariant.level ∙ ap (λ (n : ℕ). c.args.level.now.items ++ filter (free K) (map (λ i. set c.args.set.now i true) (range_with_len 0 n))) all
+
+pub returns-clause-found : goal.returns-clause-found
+returns-clause-found c =
+    let K = c.args.rows.now in
+    let all : c.loop-i.i ≡ first_place c.args.set.now = omega arith in
+    c.loop-i.invariant.found ∙ ap (λ (n : ℕ). placed c.args.found.now.keys (filter (proper K) (map (λ i. set c.args.set.now i true) (range_with_len 0 n)))) all
