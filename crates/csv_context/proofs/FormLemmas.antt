@@ -11,8 +11,9 @@ use Rattle.std.specs.List.{list_any}
 use Rattle.context_table.specs.Table.{first_repeat, repeat_from}
 use Rattle.cxt_format.proofs.TextLemmas.{drop-item}
 use Rattle.csv_context.specs.Records.{Record}
-use Rattle.csv_context.specs.Form.{TellsBy, then, attribute_form, attributes_form, cell_form, row_form}
+use Rattle.csv_context.specs.Form.{TellsBy, then, attribute_form, attributes_form, cell_form, row_form, object_form, objects_form}
 use Rattle.csv_context.specs.Cells.{ReadTo}
+use Rattle.csv_context.specs.declared.read.Object.{Object}
 use Rattle.csv_context.specs.declared.CsvFault.{CsvFault}
 use Rattle.csv_context.specs.declared.CsvFault.TheVariants as fault
 
@@ -114,3 +115,17 @@ slice_get-behind [] (suc place) = refl
 slice_get-behind (f ∷ fields) place =
     let one : place + 1 ≡ suc place = omega arith in
     rw one refl
+
+-- ---- one object more
+
+-- what is left begins with an object, which is put last
+pub objects_form-more : (width n m : ℕ) (names new_names : List Text) (rows new_rows : List Set) (fields : Record) (left records : List Record) (object : Object)
+    → left ≡ fields ∷ records → object_form width (n + 2) fields ≡ Ok object → m ≡ n + 1 → new_names ≡ names ++ object.name ∷ [] → new_rows ≡ rows ++ object.row ∷ []
+    → objects_form width (m + 2) (new_names, new_rows) records ≡ objects_form width (n + 2) (names, rows) left
+objects_form-more width n m names new_names rows new_rows fields left records object l is e x y =
+    let at : m + 2 ≡ n + 2 + 1 = omega (arith, e) in
+    let more : Object → Result (List Text × List Set) CsvFault = λ o. objects_form width (n + 2 + 1) (names ++ o.name ∷ [], rows ++ o.row ∷ []) records in
+    ap (λ (zs : List Text). objects_form width (m + 2) (zs, new_rows) records) x
+    ∙ ap (λ (zs : List Set). objects_form width (m + 2) (names ++ object.name ∷ [], zs) records) y
+    ∙ ap (λ (k : ℕ). objects_form width k (names ++ object.name ∷ [], rows ++ object.row ∷ []) records) at
+    ∙ sym (ap (objects_form width (n + 2) (names, rows)) l ∙ ap (λ (told : Result Object CsvFault). then told more) is)
