@@ -38,5 +38,5 @@ returns-clause-put g c =
     let next : suc w ≡ c.args.from = omega (arith, c.if-from-eq0.false) in
     on_ok_weaker c.wait_for.result
     (λ (put : IsPut c.push.new.self.buckets new w (member_at c.push.new.self.list.members (length c.as_slice-place.result.now))). subst (λ n. IsPutBefore n c.args.self.now.buckets new i) next
-      (subst (λ Bs. IsPut Bs new w i) c.in_ok-push.ensures.buckets (subst (λ j. IsPut c.push.new.self.buckets new w j) here put)))
+    (subst (λ Bs. IsPut Bs new w i) c.in_ok-push.ensures.buckets (subst (λ j. IsPut c.push.new.self.buckets new w j) here put)))
     c.wait_for.ensures.put
