@@ -1,5 +1,6 @@
 -- The text of an exploration by its parts.
-use Rattle.std.proofs.Common.{◌≡◌, ◌++◌, ◌+◌, ℕ, List, arith, codes, ap, sym, ◌∙◌, length, append_assoc}
+use Rattle.std.proofs.Common.{◌≡◌, ◌++◌, ◌∷◌, ◌+◌, ◌<◌, ℕ, List, arith, codes, ap, sym, ◌∙◌, length, drop, get_or, append_assoc}
+use Rattle.std.proofs.lemmas.List.{drop_more}
 use Rattle.fca_model.specs.Tables.{Text, NamedContext}
 use Rattle.fca_model.specs.Implications.{Rule}
 use Rattle.fca_model.specs.Questions.{open_questions}
@@ -26,6 +27,13 @@ accepted_section-begun attributes k acc before after e =
     let head = counted (codes "# accepted ") (length acc) in
     let same : k + 0 ≡ k = omega arith in
     ap (λ z. z ++ lines (k + 0)) e ∙ append_assoc before head (lines (k + 0)) ∙ ap (λ n. before ++ (head ++ lines n)) same
+
+-- the text of one element more
+pub lines_more : {X : Type 0} (f : X → Text) (xs : List X) (k : ℕ) (x : X) (d d' all : Text) → k < length xs → x ≡ get_or xs k x → d' ≡ d ++ f x
+    → d ++ flat_map f (drop k xs) ≡ all → d' ++ flat_map f (drop (k + 1) xs) ≡ all
+lines_more f xs k x d d' all inside is grown before =
+    let later = flat_map f (drop (k + 1) xs) in
+    ap (λ z. z ++ later) grown ∙ append_assoc d (f x) later ∙ sym (ap (λ ys. d ++ flat_map f ys) (drop_more xs k x inside ∙ ap (λ y. y ∷ drop (k + 1) xs) (sym is))) ∙ before
 
 -- five texts that were appended one by one
 pub five_parts : (d0 d1 d2 d3 d4 d5 a b c d e : Text) → d1 ≡ d0 ++ a → d2 ≡ d1 ++ b → d3 ≡ d2 ++ c → d4 ≡ d3 ++ d → d5 ≡ d4 ++ e → d5 ≡ d0 ++ (a ++ (b ++ (c ++ (d ++ e))))

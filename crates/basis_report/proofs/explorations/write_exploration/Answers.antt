@@ -1,4 +1,4 @@
-use Rattle.std.proofs.Common.{◌≡◌, ◌∙◌, ◌++◌, ap}
+use Rattle.std.proofs.Common.{◌∙◌, ◌++◌, ap}
 use Rattle.std.proofs.lemmas.Result.{on_ok_weaker}
 use Rattle.basis_report.proofs.ExplorationLemmas.{five_parts, explore_text-parts}
 use Rattle.basis_report.proofs.explorations.write_exploration.Goals as goal
