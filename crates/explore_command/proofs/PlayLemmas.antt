@@ -1,9 +1,10 @@
 -- The text of an exploration by oracles: the conflicts that the oracles have are those of their entries, lines of conflicts change nothing of what the text
 -- spells, and what is promised of the oracles is said of the tables of the experts.
-use Rattle.std.proofs.Common.{◌≡◌, ◌↔◌, ◌⊎◌, ◌≤◌, ◌<◌, ◌∙◌, ◌+◌, ◌++◌, ◌∷◌, [], ℕ, suc, List, Bool, true, false, All, map, length, append_assoc, Option, Some, None, inl, inr, refl, sym, ap, subst, arith}
-use Rattle.std.specs.Prelude.{slice_get, option_map, codes}
+use Rattle.std.proofs.Common.{◌≡◌, ◌↔◌, ◌⊎◌, ◌≤◌, ◌<◌, ◌∙◌, ◌+◌, ◌++◌, ◌∷◌, [], ℕ, suc, List, Bool, true, false, All, map, length, append_assoc, Option, Some, None, Result, Ok, Err, inl, inr, refl, sym, ap, subst, arith}
+use Rattle.std.specs.Prelude.{◌^◌, slice_get, option_map, codes, IfOk}
 use Rattle.std.specs.List.{flat_map, enumerate_from}
 use Rattle.std.proofs.lemmas.Option.{slice_get-map}
+use Rattle.std.proofs.lemmas.List.{length-map}
 use Rattle.std.proofs.lemmas.List.Elements.{All-head, All-tail}
 use Rattle.fca_model.specs.Sets.{Set}
 use Rattle.fca_model.specs.Context.{Context}
@@ -16,6 +17,8 @@ use Rattle.fca_model.specs.Exploration.{Settings, SetEntry, own, rules_of, openi
 use Rattle.fca_model.proofs.CourseLemmas.{run_settings}
 use Rattle.oracle_expert.specs.Oracles.{Recall, Conflicts, no_conflict}
 use Rattle.oracle_expert.specs.Runs.{ends_done, conflicts_of}
+use Rattle.fca_model.specs.declared.Memory.{Memory}
+use Rattle.expert_panel.specs.declared.explored.Explored.{Explored}
 use Rattle.expert_panel.specs.Explorations.{IsOraclesShare, EachNumbered, HasAgreed, is_part}
 use Rattle.explore_state.specs.History.{Opening, History, opening_state, state_of, open_of}
 use Rattle.basis_report.specs.Comments.{comments as comments_of, are_lines, AreComments}
@@ -31,11 +34,7 @@ use Rattle.command_io.specs.Readings.Reading.{Read}
 use Rattle.command_io.specs.Explorations.{opening_of, open_at}
 use Rattle.command_io.proofs.CourseLemmas.{legal-course}
 use Rattle.explore_command.specs.Panels.{Panel, MayExplore}
-use Rattle.explore_command.specs.Played.{turns, IsShare, dropped_in, played, panel_text, recorded_text, basis_alone, IsPanelText, MayPlay}
-
--- an oracle's table with its conflicts
-abbrev pub with_conflicts : Recall → NamedContext × Conflicts
-with_conflicts oracle = (oracle.table, oracle.conflicts)
+use Rattle.explore_command.specs.Played.{turns, IsShare, dropped_in, played, panel_text, recorded_text, basis_alone, IsPanelText, with_conflicts, text_with_conflicts, IsPlay, panel_ending, MayPlay}
 
 dropped-oracles : (H : List SetEntry) (e : ℕ) (oracles : List Recall) → ((k : ℕ) (oracle : Recall) → slice_get oracles k ≡ Some oracle → oracle.conflicts ≡ conflicts_of oracle.table (own H (k + e)))
     → map with_conflicts oracles ≡ dropped_in H e (map (λ oracle. oracle.table) oracles)
@@ -61,19 +60,61 @@ share-by H k D (Some oracle) h e =
 shares-tables : (H : List SetEntry) (oracles : List Recall) → EachNumbered (IsOraclesShare turns H) oracles → EachNumbered (IsShare H) (map (λ oracle. oracle.table) oracles)
 shares-tables H oracles h = λ k D e. share-by H k D (slice_get oracles k) (λ oracle at. h k oracle at) (sym (slice_get-map (λ (oracle : Recall). oracle.table) oracles k) ∙ e)
 
--- what comes of an exploration of the panel's table by oracles of the experts' tables
-pub record IsPlay (p : Panel) (explore : History) (oracles : List Recall) (spent : Bool) : Type 0 where
-  pub opening : explore.opening ≡ opening_of p.table (length p.experts) p.settings
-  pub legal : IsLegal (opening_state explore.opening) explore.journal
-  pub spells : (lines : List Text) → are_lines lines ≡ true → CanBeTold explore.opening.table.context.width explore.opening.settings
-      → SpellsBefore explore.opening.table explore.opening.settings explore.journal lines
-  pub tables : map (λ oracle. oracle.table) oracles ≡ p.experts
-  pub shares : EachNumbered (IsOraclesShare turns explore.journal) oracles
-  pub others : (e : ℕ) → (e ≡ 0) ⊎ (length p.experts < e) → own explore.journal e ≡ []
-  pub unfinished : (spent ≡ true) ↔ ((e : ℕ) × (1 ≤ e) × (e ≤ length p.experts) × (ends_done (own explore.journal e) ≡ false))
-  pub finished : spent ≡ false → open_of explore ≡ []
-  pub unspent : p.table.context.width ≤ 46 → spent ≡ false
-  pub agreed : (C : Context) → All (λ D. D.context ≡ C) p.experts → is_part p.table.context C ≡ true → rows_respect p.settings.known C ≡ true → HasAgreed C explore oracles spent
+-- what its settings are can be told
+pub told-play : (p : Panel) (explore : History) (oracles : List Recall) (spent : Bool) → IsPlay p explore oracles spent
+    → CanBeTold explore.opening.table.context.width explore.opening.settings
+told-play p explore oracles spent play =
+    let Tells : Opening → Type 0 = λ o. CanBeTold o.table.context.width o.settings in subst Tells (sym play.opening) play.may.told
+
+-- there are as many oracles as experts
+pub length-play : (p : Panel) (explore : History) (oracles : List Recall) (spent : Bool) → IsPlay p explore oracles spent → length oracles ≡ explore.opening.experts
+length-play p explore oracles spent play =
+    sym (length-map oracles (λ (oracle : Recall). oracle.table)) ∙ ap length play.tables ∙ sym (ap (λ (o : Opening). o.experts) play.opening)
+
+-- what came of the oracles of a panel, opened so
+pub explored-play : (p : Panel) (o : Opening) (n : ℕ) (came : Result Explored Memory) → MayExplore p.table p.settings
+    → o ≡ opening_of p.table n p.settings → n ≡ length p.experts
+    → IfOk came (λ r. r.explore.opening ≡ o)
+    → IfOk came (λ r. IsLegal (opening_state r.explore.opening) r.explore.journal)
+    → IfOk came (λ r. map (λ oracle. oracle.table) r.oracles.items ≡ p.experts)
+    → IfOk came (λ r. EachNumbered (IsOraclesShare turns r.explore.journal) r.oracles.items)
+    → IfOk came (λ r. (e : ℕ) → (e ≡ 0) ⊎ (n < e) → own r.explore.journal e ≡ [])
+    → IfOk came (λ r. (r.spent ≡ true) ↔ ((e : ℕ) × (1 ≤ e) × (e ≤ n) × (ends_done (own r.explore.journal e) ≡ false)))
+    → IfOk came (λ r. r.spent ≡ false → open_of r.explore ≡ [])
+    → IfOk came (λ r. turns ≡ 2 ^ 48 → o.table.context.width ≤ 46 → r.spent ≡ false)
+    → IfOk came (λ r. (C : Context) → All (λ expert. expert.context ≡ C) p.experts → is_part o.table.context C ≡ true → rows_respect o.settings.known C ≡ true
+    → HasAgreed C r.explore r.oracles.items r.spent)
+    → IfOk came (λ r. IsPlay p r.explore r.oracles.items r.spent)
+explored-play p o n (Err memory) may opened count opening legal tables shares others unfinished finished unspent agreed = tt
+explored-play p o n (Ok r) may opened count opening legal tables shares others unfinished finished unspent agreed =
+    let H = r.explore.journal in
+    let Others : ℕ → Type 0 = λ m. (e : ℕ) → (e ≡ 0) ⊎ (m < e) → own H e ≡ [] in
+    let Unfinished : ℕ → Type 0 = λ m. (r.spent ≡ true) ↔ ((e : ℕ) × (1 ≤ e) × (e ≤ m) × (ends_done (own H e) ≡ false)) in
+    let Few : Opening → Type 0 = λ x. x.table.context.width ≤ 46 in
+    record {
+      may = may;
+      opening = opening ∙ opened ∙ ap (λ m. opening_of p.table m p.settings) count;
+      legal = legal;
+      tables = tables;
+      shares = shares;
+      others = subst Others count others;
+      unfinished = subst Unfinished count unfinished;
+      finished = finished;
+      unspent = λ few. unspent refl (subst Few (sym opened) few);
+      agreed = λ C same part respected. agreed C same (let Part : Opening → Type 0 = λ x. is_part x.table.context C ≡ true in subst Part (sym opened) part)
+          (let Respected : Opening → Type 0 = λ x. rows_respect x.settings.known C ≡ true in subst Respected (sym opened) respected);
+    }
+
+-- conflicts are lines that change nothing of what the text spells
+pub spelled-conflicts : (explore : History) (conflicts text : Text) → CanBeTold explore.opening.table.context.width explore.opening.settings
+    → ((lines : List Text) → are_lines lines ≡ true → CanBeTold explore.opening.table.context.width explore.opening.settings
+    → SpellsBefore explore.opening.table explore.opening.settings explore.journal lines)
+    → AreComments conflicts → text ≡ explore_text explore.opening.table explore.opening.settings explore.journal ++ conflicts
+    → Spells explore.opening.table explore.opening.settings explore.journal text
+spelled-conflicts explore conflicts text told spells comments joined =
+    let first = explore_text explore.opening.table explore.opening.settings explore.journal in
+    let commented : text ≡ first ++ comments_of comments.lines = joined ∙ ap (λ l. first ++ l) comments.text_is in
+    subst (Spells explore.opening.table explore.opening.settings explore.journal) (sym commented) (spells comments.lines comments.whole told)
 
 -- ---- oracles who know one table
 
@@ -118,9 +159,8 @@ agreed_text T G H C conflicts respected legal done same =
     ∙ ap (λ l. recorded_section H ++ (head ++ (open_section T.attributes [] ++ l))) at_end)
     ∙ regrouped (transcript T.attributes G H) (recorded_section H) head (open_section T.attributes []) (counted (codes "# basis ") (length B) ++ arrow_lines (codes "# ") T.attributes B) conflicts
 
-pub panel_text-play : (p : Panel) (explore : History) (oracles : List Recall) (spent : Bool) → IsPlay p explore oracles spent
-    → explore_text explore.opening.table explore.opening.settings explore.journal ++ conflicts_text explore.opening.table.attributes (rules_of (state_of explore)) (map with_conflicts oracles)
-    ≡ panel_text p explore.journal
+panel_text-play : (p : Panel) (explore : History) (oracles : List Recall) (spent : Bool) → IsPlay p explore oracles spent
+    → text_with_conflicts explore oracles ≡ panel_text p explore.journal
 panel_text-play p explore oracles spent play =
     let H = explore.journal in
     let text : Opening → List (NamedContext × Conflicts) → Text = λ o dropped.
@@ -129,12 +169,10 @@ panel_text-play p explore oracles spent play =
     ap (λ o. text o (map with_conflicts oracles)) play.opening
     ∙ ap (text (opening_of p.table (length p.experts) p.settings)) (dropped ∙ ap (dropped_in H 1) play.tables)
 
-agreed-play : (p : Panel) (explore : History) (oracles : List Recall) (spent : Bool) (first conflicts text : Text) → MayExplore p.table p.settings → IsPlay p explore oracles spent
-    → first ≡ explore_text explore.opening.table explore.opening.settings explore.journal
-    → conflicts ≡ conflicts_text explore.opening.table.attributes (rules_of (state_of explore)) (map with_conflicts oracles) → text ≡ first ++ conflicts
+agreed-play : (p : Panel) (explore : History) (oracles : List Recall) (spent : Bool) (text : Text) → IsPlay p explore oracles spent → text ≡ text_with_conflicts explore oracles
     → (C : Context) → All (λ (D : NamedContext). D.context ≡ C) p.experts → is_part p.table.context C ≡ true → rows_respect p.settings.known C ≡ true → spent ≡ false
     → text ≡ recorded_text p explore.journal ++ basis_alone p.table.attributes (basis_known p.settings.known C)
-agreed-play p explore oracles spent first conflicts text may play first_is conflicts_is joined C same part respected unspent =
+agreed-play p explore oracles spent text play whole C same part respected unspent =
     let H = explore.journal in
     let o : Opening = opening_of p.table (length p.experts) p.settings in
     let agreed = play.agreed C same part respected in
@@ -143,43 +181,54 @@ agreed-play p explore oracles spent first conflicts text may play first_is confl
     let done : open_at (played p H) ≡ [] = subst (λ (x : Opening). open_of (record { opening = x; journal = H; spare = 0 }) ≡ []) play.opening (play.finished unspent) in
     let same_basis : basis_known p.settings.known (state_of_text p.table p.settings H).context ≡ B =
     subst (λ (x : Opening). basis_known x.settings.known (state_after (opening_state x) (events_of H)).context ≡ basis_known x.settings.known C) play.opening (agreed.basis unspent) in
-    let none : conflicts ≡ conflicts_section p.table.attributes B [] =
-    conflicts_is ∙ ap (λ (x : Opening). conflicts_text x.table.attributes (rules_of (state_of explore)) (map with_conflicts oracles)) play.opening
-    ∙ no_conflicts p.table.attributes (rules_of (state_of explore)) B oracles agreed.kept in
-    joined ∙ ap (λ l. l ++ conflicts) (first_is ∙ ap (λ (x : Opening). explore_text x.table x.settings H) play.opening) ∙ ap (λ l. explore_text p.table p.settings H ++ l) none
-    ∙ agreed_text p.table p.settings H C (conflicts_section p.table.attributes B []) may.respected legal done same_basis
+    let J = rules_of (state_of explore) in
+    let text_of : Opening → Text → Text = λ x conflicts. explore_text x.table x.settings H ++ conflicts in
+    let conflicts_of_all : Opening → Text = λ x. conflicts_text x.table.attributes J (map with_conflicts oracles) in
+    let none : conflicts_of_all explore.opening ≡ conflicts_section p.table.attributes B [] =
+    ap conflicts_of_all play.opening ∙ no_conflicts p.table.attributes J B oracles agreed.kept in
+    whole ∙ ap (text_of explore.opening) none ∙ ap (λ x. text_of x (conflicts_section p.table.attributes B [])) play.opening
+    ∙ agreed_text p.table p.settings H C (conflicts_section p.table.attributes B []) play.may.respected legal done same_basis
 
-pub IsPanelText-play : (p : Panel) (explore : History) (oracles : List Recall) (spent : Bool) (first conflicts text : Text) → is_expert (length p.experts) ≡ true → MayExplore p.table p.settings
-    → IsPlay p explore oracles spent → first ≡ explore_text explore.opening.table explore.opening.settings explore.journal
-    → conflicts ≡ conflicts_text explore.opening.table.attributes (rules_of (state_of explore)) (map with_conflicts oracles) → AreComments conflicts
-    → text ≡ first ++ conflicts → IsPanelText p text spent
-IsPanelText-play p explore oracles spent first conflicts text expert may play first_is conflicts_is comments joined =
+IsPanelText-play : (p : Panel) (explore : History) (oracles : List Recall) (spent : Bool) (text : Text) → is_expert (length p.experts) ≡ true
+    → IsPlay p explore oracles spent → text ≡ text_with_conflicts explore oracles → Spells explore.opening.table explore.opening.settings explore.journal text → IsPanelText p text spent
+IsPanelText-play p explore oracles spent text expert play whole spelled =
     let H = explore.journal in
     let o : Opening = opening_of p.table (length p.experts) p.settings in
     let legal : IsLegal (opening_state o) H = let P : Opening → Type 0 = λ x. IsLegal (opening_state x) H in subst P play.opening play.legal in
-    let all : text ≡ panel_text p H = joined ∙ ap (λ l. l ++ conflicts) first_is ∙ ap (λ l. explore_text explore.opening.table explore.opening.settings H ++ l) conflicts_is ∙ panel_text-play p explore oracles spent play in
-    let commented : text ≡ explore_text explore.opening.table explore.opening.settings H ++ comments_of comments.lines =
-    joined ∙ ap (λ l. l ++ conflicts) first_is ∙ ap (λ l. explore_text explore.opening.table explore.opening.settings H ++ l) comments.text_is in
-    let Tells : Opening → Type 0 = λ x. CanBeTold x.table.context.width x.settings in
     let SpellsText : Opening → Type 0 = λ x. Spells x.table x.settings H text in
     let Open : Opening → Type 0 = λ x. (spent ≡ false → open_of (record { opening = x; journal = H; spare = 0 }) ≡ []) in
-    let written = play.spells comments.lines comments.whole (subst Tells (sym play.opening) may.told) in
-    let spells : Spells p.table p.settings H text = subst SpellsText play.opening (subst (Spells explore.opening.table explore.opening.settings H) (sym commented) written) in
+    let spells : Spells p.table p.settings H text = subst SpellsText play.opening spelled in
     record {
       history = H;
-      whole = all;
+      whole = whole ∙ panel_text-play p explore oracles spent play;
       spells = spells.history;
       settings = spells.settings;
-      course = legal-course p.table (length p.experts) p.settings H expert may.respected may.told.known legal;
+      course = legal-course p.table (length p.experts) p.settings H expert play.may.respected play.may.told.known legal;
       shares = (let P : List NamedContext → Type 0 = EachNumbered (IsShare H) in subst P play.tables (shares-tables H oracles play.shares));
       others = play.others;
       unfinished = play.unfinished;
       finished = subst Open play.opening play.finished;
       unspent = play.unspent;
-      agreed = agreed-play p explore oracles spent first conflicts text may play first_is conflicts_is joined;
+      agreed = agreed-play p explore oracles spent text play whole;
     }
 
 -- ---- the answer
+
+-- an answer that tells of the exploration
+pub MayPlay-play : (p : Panel) (explore : History) (oracles : List Recall) (spent : Bool) (came : Result Output Memory) → is_expert (length p.experts) ≡ true
+    → IsPlay p explore oracles spent
+    → IfOk came (λ answer. answer.text ≡ text_with_conflicts explore oracles)
+    → IfOk came (λ answer. Spells explore.opening.table explore.opening.settings explore.journal answer.text)
+    → IfOk came (λ answer. answer.ending ≡ panel_ending spent)
+    → IfOk came (MayPlay (Read p))
+MayPlay-play p explore oracles spent (Err memory) expert play whole spelled ending = tt
+MayPlay-play p explore oracles spent (Ok answer) expert play whole spelled ending = record {
+  panel = p;
+  read = refl;
+  spent = spent;
+  is = IsPanelText-play p explore oracles spent answer.text expert play whole spelled;
+  ending = ending;
+}
 
 pub MayPlay-read : (reading : Reading Panel) (p : Panel) (answer : Output) → MayRead reading p → MayPlay (Read p) answer → MayPlay reading answer
 MayPlay-read reading p answer may play = record {

@@ -1,14 +1,15 @@
 -- What `explore` writes: the text of one legal history, which the oracles of the experts' tables made, and the conflicts in which rows of theirs were dropped.
-use Rattle.std.specs.Prelude.{◌≡◌, ◌↔◌, ◌⊎◌, ◌≤◌, ◌<◌, ◌+◌, ◌^◌, ℕ, Bool, true, false, cond, List, [], ◌∷◌, ◌++◌, length, All, codes}
+use Rattle.std.specs.Prelude.{◌≡◌, ◌↔◌, ◌⊎◌, ◌≤◌, ◌<◌, ◌+◌, ◌^◌, ℕ, Bool, true, false, cond, List, [], ◌∷◌, ◌++◌, length, map, All, codes}
 use Rattle.fca_model.specs.Context.{Context}
 use Rattle.fca_model.specs.Tables.{Text, NamedContext}
 use Rattle.fca_model.specs.Implications.{Rule}
 use Rattle.fca_model.specs.Pseudo.{basis_known}
 use Rattle.fca_model.specs.Invariant.{rows_respect}
-use Rattle.fca_model.specs.Exploration.{SetEntry, rules_of, own}
-use Rattle.oracle_expert.specs.Oracles.{Conflicts}
+use Rattle.fca_model.specs.Exploration.{SetEntry, rules_of, own, IsLegal}
+use Rattle.explore_state.specs.History.{History, opening_state, state_of, open_of}
+use Rattle.oracle_expert.specs.Oracles.{Recall, Conflicts}
 use Rattle.oracle_expert.specs.Runs.{IsOracleFront, ends_done, conflicts_of}
-use Rattle.expert_panel.specs.Explorations.{EachNumbered, is_part}
+use Rattle.expert_panel.specs.Explorations.{IsOraclesShare, EachNumbered, HasAgreed, is_part}
 use Rattle.expert_scripts.specs.Transcripts.{transcript}
 use Rattle.basis_report.specs.Reports.{counted, arrow_lines}
 use Rattle.basis_report.specs.Explorations.{recorded_section, accepted_section, open_section, explore_text, spelled, spelled_settings}
@@ -18,7 +19,7 @@ use Rattle.command_io.specs.Readings.{Reading, MayRead}
 use Rattle.command_io.specs.declared.answer.Ending.{Ending}
 use Rattle.command_io.specs.declared.answer.Ending.TheVariants.{Finished, Spent}
 use Rattle.command_io.specs.Explorations.{Recorded, opening_of, last_state, open_at, IsExplored}
-use Rattle.explore_command.specs.Panels.{Panel}
+use Rattle.explore_command.specs.Panels.{Panel, MayExplore}
 
 -- the most turns that an expert may take
 abbrev pub turns : ℕ
@@ -69,6 +70,30 @@ pub record IsPanelText (p : Panel) (text : Text) (spent : Bool) : Type 0 where
   pub unspent : p.table.context.width ≤ 46 → spent ≡ false
   pub agreed : (C : Context) → All (λ D. D.context ≡ C) p.experts → is_part p.table.context C ≡ true
       → rows_respect p.settings.known C ≡ true → spent ≡ false → text ≡ recorded_text p history ++ basis_alone p.table.attributes (basis_known p.settings.known C)
+
+-- ---- the exploration as it ended
+
+-- an oracle's table with its conflicts
+abbrev pub with_conflicts : Recall → NamedContext × Conflicts
+with_conflicts oracle = (oracle.table, oracle.conflicts)
+
+-- the text of an exploration, and the conflicts of its oracles
+abbrev pub text_with_conflicts : History → List Recall → Text
+text_with_conflicts explore oracles = explore_text explore.opening.table explore.opening.settings explore.journal
+    ++ conflicts_text explore.opening.table.attributes (rules_of (state_of explore)) (map with_conflicts oracles)
+
+-- What comes of an exploration of the panel's table by oracles of the experts' tables
+pub record IsPlay (p : Panel) (explore : History) (oracles : List Recall) (spent : Bool) : Type 0 where
+  pub may : MayExplore p.table p.settings
+  pub opening : explore.opening ≡ opening_of p.table (length p.experts) p.settings
+  pub legal : IsLegal (opening_state explore.opening) explore.journal
+  pub tables : map (λ oracle. oracle.table) oracles ≡ p.experts
+  pub shares : EachNumbered (IsOraclesShare turns explore.journal) oracles
+  pub others : (e : ℕ) → (e ≡ 0) ⊎ (length p.experts < e) → own explore.journal e ≡ []
+  pub unfinished : (spent ≡ true) ↔ ((e : ℕ) × (1 ≤ e) × (e ≤ length p.experts) × (ends_done (own explore.journal e) ≡ false))
+  pub finished : spent ≡ false → open_of explore ≡ []
+  pub unspent : p.table.context.width ≤ 46 → spent ≡ false
+  pub agreed : (C : Context) → All (λ D. D.context ≡ C) p.experts → is_part p.table.context C ≡ true → rows_respect p.settings.known C ≡ true → HasAgreed C explore oracles spent
 
 -- ---- the answer
 

@@ -1,20 +1,22 @@
 //! The exploration by the oracles of the panel, and its text.
 
-ghost use Rattle.std.specs.Prelude.{◌≡◌, true, [], All, Bool, IfOk, IfErr, length, option_copied};
+ghost use Rattle.std.specs.Prelude.{◌≡◌, ◌≤◌, true, [], All, Bool, IfOk, IfErr, length, option_copied, vec_len};
 ghost use Rattle.fca_model.specs.Exploration.{is_expert};
 ghost use Rattle.explore_state.specs.Settings.{settings_of};
+ghost use Rattle.basis_report.specs.Explorations.{Spells};
+ghost use Rattle.expert_scripts.specs.Transcripts.{CanBeTold};
 ghost use Rattle.command_io.specs.Readings.{MayRefuse, Rises};
 ghost use Rattle.command_io.specs.Readings.Reading.{Read};
 ghost use Rattle.command_io.specs.Explorations.{opening_of};
 ghost use Rattle.command_io.specs.Endings.{IsRefusal};
 ghost use Rattle.explore_command.specs.Panels.{panel_read, IsPanelStop};
-ghost use Rattle.explore_command.specs.Played.{panel_ending, MayPlay};
+ghost use Rattle.explore_command.specs.Played.{panel_ending, text_with_conflicts, IsPlay, MayPlay};
 
 use crate::panel::{Panel, panel_under};
 use basis_report::{conflicts_text, explore_text};
 use command_io::{Answer, Ending, Stop};
 use context_table::Table;
-use expert_panel::explore_with_oracles;
+use expert_panel::{Explored, explore_with_oracles};
 use explore_state::{Explore, Settings};
 use fca_io::Shelf;
 use fca_model::{Memory, Word};
@@ -52,9 +54,33 @@ fn play<R: Threads + Wait + Sync>(rt: &R, alloc: Global, panel: Panel) -> Result
     requires wide { All (λ expert. expert.context.width ≡ panel.table.context.width) panel.experts }
     ensures { IfOk result (MayPlay (Read panel)) }
 {
+    let explored = explored(rt, alloc, panel)?;
+    answer_of(alloc, &explored)
+}
+
+/// The exploration of the panel's table by its oracles, as it ended.
+fn explored<R: Threads + Wait + Sync>(
+    rt: &R,
+    alloc: Global,
+    panel: Panel,
+) -> Result<Explored, Memory>
+    requires count { is_expert (length panel.experts) ≡ true }
+    requires wide { All (λ expert. expert.context.width ≡ panel.table.context.width) panel.experts }
+    ensures { IfOk result (λ r. IsPlay panel r.explore r.oracles.items r.spent) }
+{
     let count = panel.experts.len() as u8;
     let explore = opened(alloc, panel.table, count, panel.settings)?;
-    let explored = explore_with_oracles(rt, alloc, explore, panel.experts, TURNS)?;
+    explore_with_oracles(rt, alloc, explore, panel.experts, TURNS)
+}
+
+/// The text of the exploration, the conflicts of its oracles, and how it ended.
+fn answer_of(alloc: Global, explored: &Explored) -> Result<Answer, Memory>
+    requires count { vec_len explored.now.oracles ≤ explored.now.explore.opening.experts }
+    requires told { CanBeTold explored.now.explore.opening.table.context.width explored.now.explore.opening.settings }
+    ensures text { IfOk result (λ answer. answer.text ≡ text_with_conflicts explored.now.explore explored.now.oracles.items) }
+    ensures spells { IfOk result (λ answer. Spells explored.now.explore.opening.table explored.now.explore.opening.settings explored.now.explore.journal answer.text) }
+    ensures ending { IfOk result (λ answer. answer.ending ≡ panel_ending explored.now.spent) }
+{
     let mut text = explore_text(alloc, &explored.explore)?;
     let conflicts = conflicts_text(alloc, &explored.explore, &explored.oracles)?;
     text.extend_from_slice(&conflicts)?;
