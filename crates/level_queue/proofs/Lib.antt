@@ -5,3 +5,4 @@ pub mod AcceptLemmas
 pub mod OpenLemmas
 pub mod PlaceLemmas
 pub mod RuleLemmas
+pub mod InOneWordLemmas

@@ -2,6 +2,8 @@
 //! question is taken out, and once none of a size is left the next size is opened, where it may be by a look at sets that were open before. No list of all sets is made.
 #![tactic(auto)]
 
+mod open_level;
+mod question_list;
 mod questions;
 mod rules;
 
@@ -17,7 +19,8 @@ use attr_bits::Attrs;
 use derivation::Rows;
 use fca_model::Memory;
 use implication_closure::{ImplicationList, Question};
-use next_level::{Ahead, open_next};
+use next_level::Ahead;
+use open_level::open_level;
 use questions::{OpenQuestions, are_settled, place_of};
 use rules::Rules;
 use std::alloc::Global;
@@ -73,14 +76,13 @@ impl LevelQueue {
         let rows = rows.copy()?;
         let rules = Rules::new(alloc, known)?;
         let nothing = Ahead::unknown(alloc, rows.width())?;
-        let first = open_next(alloc, &rows, rules.all(), &nothing)?;
-        let level = first.level;
+        let first = open_level(alloc, &rows, rules.all(), &nothing)?;
         Ok(LevelQueue {
             alloc,
             rows,
             rules,
-            questions: OpenQuestions::new(level.members),
-            level: level.size,
+            questions: first.questions,
+            level: first.size,
             ahead: first.ahead,
         })
     }
@@ -149,10 +151,10 @@ impl LevelQueue {
             self.questions.narrow(&row);
             return Ok(());
         }
-        match open_next(self.alloc, &self.rows, self.rules.all(), &self.ahead) {
+        match open_level(self.alloc, &self.rows, self.rules.all(), &self.ahead) {
             Ok(next) => {
-                self.questions = OpenQuestions::new(next.level.members);
-                self.level = next.level.size;
+                self.questions = next.questions;
+                self.level = next.size;
                 self.ahead = next.ahead;
                 Ok(())
             }
@@ -176,10 +178,10 @@ impl LevelQueue {
             self.questions.take_out(i);
             return Ok(());
         }
-        match open_next(self.alloc, &self.rows, self.rules.all(), &self.ahead) {
+        match open_level(self.alloc, &self.rows, self.rules.all(), &self.ahead) {
             Ok(next) => {
-                self.questions = OpenQuestions::new(next.level.members);
-                self.level = next.level.size;
+                self.questions = next.questions;
+                self.level = next.size;
                 self.ahead = next.ahead;
                 Ok(())
             }

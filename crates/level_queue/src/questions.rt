@@ -1,6 +1,6 @@
 //! The open questions in lectic order, which change where they stand: one is taken out, or all are met with a row.
 
-ghost use Rattle.std.specs.Prelude.{◌≡◌, ◌<◌, ◌≤◌, ◌-◌, ◌++◌, length, map, take, drop, true, false, slice_get, slice_index_or, slice_set, nat_lt, not, ◌&&◌, Some, IfSome, IsSome};
+ghost use Rattle.std.specs.Prelude.{◌≡◌, ◌<◌, ◌≤◌, ◌-◌, ◌++◌, length, map, take, drop, true, false, slice_get, slice_index_or, slice_set, nat_lt, not, ◌&&◌, Some, IfSome, IsSome, IfOk};
 ghost use Rattle.std.specs.List.{list_all, list_any, remove, AllWithin};
 ghost use Rattle.std.specs.Ordering.{is_lt};
 ghost use Rattle.fca_model.specs.Sets.{increasing, lectic_cmp};
@@ -8,14 +8,17 @@ ghost use Rattle.fca_model.specs.Implications.{Rule, premises};
 ghost use Rattle.fca_model.specs.Invariant.{Among};
 ghost use Rattle.level_queue.specs.Queue.{narrowed, still_open, is_unclosed, is_left, is_rule};
 
+use crate::question_list::{QuestionList, Row};
 use attr_bits::Attrs;
-use implication_closure::{Implication, Question};
+use fca_model::Memory;
+use implication_closure::Question;
+use std::alloc::Global;
 use std::marker::Model;
 
 /// The questions from place `first` on. Those before it were taken out.
 #[derive(Drop)]
 pub(crate) struct OpenQuestions {
-    questions: Vec<Question>,
+    list: QuestionList,
     first: usize,
 }
 
@@ -25,27 +28,25 @@ impl Model for OpenQuestions {
 
     ghost Value = { List Rule };
 
-    ghost view = { λ a. drop a.first a.questions.items };
+    ghost view = { λ a. drop a.first a.list };
 
-    ghost invariant = { λ a. a.first ≤ length a.questions.items };
+    ghost invariant = { λ a. a.first ≤ length a.list };
 }
 
 impl OpenQuestions {
     /// These questions.
-    pub(crate) fn new(questions: Vec<Question>) -> OpenQuestions
-        ensures { result ≡ questions.items }
+    pub(crate) fn new(alloc: Global, questions: Vec<Question>) -> Result<OpenQuestions, Memory>
+        ensures { IfOk result (λ them. them ≡ questions.items) }
     {
-        OpenQuestions {
-            questions,
-            first: 0,
-        }
+        let list = QuestionList::new(alloc, questions)?;
+        Ok(OpenQuestions { list, first: 0 })
     }
 
     /// The questions.
     pub(crate) fn as_slice(&self) -> &[Question]
         ensures { result.now ≡ self.now }
     {
-        &self.questions[self.first..]
+        &self.list.as_slice()[self.first..]
     }
 
     /// The question at place i.
@@ -53,7 +54,7 @@ impl OpenQuestions {
         requires { i < length self.now }
         ensures { result ≡ slice_index_or self.now i result }
     {
-        self.questions[self.first + i]
+        self.list.as_slice()[self.first + i]
     }
 
     /// Takes out the question at place i. Those before it move, which are few where experts are asked the first questions.
@@ -61,8 +62,9 @@ impl OpenQuestions {
         requires { i < length self.old }
         ensures { self.new ≡ remove self.old i }
     {
+        let _count = self.list.as_slice().len();
         let first = self.first;
-        self.questions.copy_within(first..first + i, first + 1);
+        self.list.copy_within(first, first + i, first + 1);
         self.first = first + 1;
     }
 
@@ -71,73 +73,44 @@ impl OpenQuestions {
         requires { list_all is_unclosed self.old ≡ true }
         ensures { self.new ≡ still_open (map (narrowed row.now) self.old) }
     {
-        self.first = narrow_from(&mut self.questions, self.first, row);
+        self.first = narrow_from(&mut self.list, self.first, &Row::new(row));
     }
 }
 
 /// Meets the questions from a place on, none of which is closed, with a row. Those that are not closed then stand from the place on that is told: so only those
 /// before one that is dropped move. Those between two that are dropped move together.
-fn narrow_from(questions: &mut [Question], first: usize, row: &Attrs) -> usize
-    requires inside { first ≤ length questions.old }
-    requires unclosed { list_all is_unclosed (drop first questions.old) ≡ true }
-    ensures inside { result ≤ length questions.new }
-    ensures narrowed { drop result questions.new ≡ still_open (map (narrowed row.now) (drop first questions.old)) }
+fn narrow_from(list: &mut QuestionList, first: usize, row: &Row) -> usize
+    requires inside { first ≤ length list.old }
+    requires unclosed { list_all is_unclosed (drop first list.old) ≡ true }
+    ensures inside { result ≤ length list.new }
+    ensures narrowed { drop result list.new ≡ still_open (map (narrowed row.now) (drop first list.old)) }
 {
-    let mut kept = questions.len();
-    let mut end = questions.len();
-    for place in (first..questions.len()).rev() {
-        if !meet_at(questions, place, row) {
-            kept = move_up(questions, place + 1, end, kept);
+    let mut kept = list.as_slice().len();
+    let mut end = list.as_slice().len();
+    for place in (first..list.as_slice().len()).rev() {
+        if !list.meet_at(place, row) {
+            kept = move_up(list, place + 1, end, kept);
             end = place;
         }
     }
-    move_up(questions, first, end, kept)
-}
-
-/// Meets the question at the place, which is not closed, with a row. Whether it is not closed then either. Most stay as they are.
-fn meet_at(questions: &mut [Question], place: usize, row: &Attrs) -> bool
-    requires inside { place < length questions.old }
-    requires unclosed { (question : Rule) → question ≡ slice_index_or questions.old place question → is_unclosed question ≡ true }
-    ensures met { (question : Rule) → question ≡ slice_index_or questions.old place question → questions.new ≡ slice_set questions.old place (narrowed row.now question) }
-    ensures left { (question : Rule) → question ≡ slice_index_or questions.old place question → result ≡ is_left row.now question }
-{
-    if !questions[place].premise.within(row) {
-        return true;
-    }
-    let met = narrowed(row, &questions[place]);
-    questions[place] = met;
-    met.premise != met.conclusion
+    move_up(list, first, end, kept)
 }
 
 /// Moves the questions from one place to another up, to those that stand from a later place on, and tells where they stand now.
-fn move_up(questions: &mut [Question], first: usize, end: usize, later: usize) -> usize
+fn move_up(list: &mut QuestionList, first: usize, end: usize, later: usize) -> usize
     requires some { first ≤ end }
     requires before { end ≤ later }
-    requires inside { later ≤ length questions.old }
+    requires inside { later ≤ length list.old }
     ensures place { result ≡ later - (end - first) }
-    ensures moved { drop result questions.new ≡ take (end - first) (drop first questions.old) ++ drop later questions.old }
-    ensures rest { take first questions.new ≡ take first questions.old }
-    ensures long { length questions.new ≡ length questions.old }
+    ensures moved { drop result list.new ≡ take (end - first) (drop first list.old) ++ drop later list.old }
+    ensures rest { take first list.new ≡ take first list.old }
+    ensures long { length list.new ≡ length list.old }
 {
     let place = later - (end - first);
     if place != first {
-        questions.copy_within(first..end, place);
+        list.copy_within(first, end, place);
     }
     place
-}
-
-/// The question once there is this row too: where the row has the premise, the conclusion loses what the row lacks.
-fn narrowed(row: &Attrs, question: &Question) -> Question
-    ensures { result ≡ narrowed row.now question.now }
-{
-    if question.premise.within(row) {
-        Implication {
-            premise: question.premise,
-            conclusion: question.conclusion.meet(row),
-        }
-    } else {
-        *question
-    }
 }
 
 /// Whether there are questions and each is closed once there is this row too.

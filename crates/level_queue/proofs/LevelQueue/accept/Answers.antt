@@ -45,14 +45,14 @@ invariant_of-self-then-as_slice-gt1 c =
           (rule_ahead a.rules.known a.rules.accepted a.rows a.level a.ahead.whole a.ahead.sets.rows q c.self.invariant.ahead);
     }
 
-pub open_next-requires-clause-wide : goal.open_next-requires-clause-wide
-open_next-requires-clause-wide c = ap (λ (J : RuleList). J.width) c.all.ensures ∙ ap (λ (p : RuleParts). p.width) c.in_ok-push.ensures.ok ∙ c.self.invariant.wide
+pub open_level-requires-clause-wide : goal.open_level-requires-clause-wide
+open_level-requires-clause-wide c = ap (λ (J : RuleList). J.width) c.all.ensures ∙ ap (λ (p : RuleParts). p.width) c.in_ok-push.ensures.ok ∙ c.self.invariant.wide
 
-pub open_next-requires-clause-ahead_wide : goal.open_next-requires-clause-ahead_wide
-open_next-requires-clause-ahead_wide c = c.self.invariant.ahead_wide
+pub open_level-requires-clause-ahead_wide : goal.open_level-requires-clause-ahead_wide
+open_level-requires-clause-ahead_wide c = c.self.invariant.ahead_wide
 
-pub open_next-requires-clause-among : goal.open_next-requires-clause-among
-open_next-requires-clause-among c =
+pub open_level-requires-clause-among : goal.open_level-requires-clause-among
+open_level-requires-clause-among c =
     let a = c.self.inside in
     let q = c.get-question.result in
     let l : c.args.i < length c.self.inside.questions = omega (arith, c.requires, ap length (kept_open c.self.invariant.kept), ap (λ (b : Base). length (open_questions b.known b.context b.accepted)) c.self.view_is) in
@@ -79,14 +79,14 @@ invariant_of-self-in-Ok c =
     let last : length a.questions ≤ 1 = omega (arith, c.if-as_slice-gt1.false, ap length c.as_slice.ensures) in
     record {
       wide = ap (λ (p : RuleParts). p.width) ok ∙ c.self.invariant.wide;
-      kept = subst (λ qs. IsKept c.push.new.self.known a.rows c.in-Ok.next.level.size c.push.new.self.accepted qs) (sym c.new.ensures) (opened_kept
+      kept = opened_kept
           (subst (λ (p : RuleParts). list_all (holds a.rows) p.known ≡ true) (sym ok) c.self.invariant.kept.hold)
           (subst (λ (p : RuleParts). distinct_premises p.accepted ≡ true) (sym ok) (accepted_distinct c.self.invariant.kept c.args.i q l c.get-question.ensures))
           (c.in-Ok.ensures.next c.push.new.self.known c.push.new.self.accepted (a.level + 1) (ap (λ (J : RuleList). J.members) c.all.ensures)
           (subst (λ (p : RuleParts). HasBelow p.known a.rows (a.level + 1) p.accepted) (sym ok) (accepted_below c.self.invariant.kept c.args.i q l c.get-question.ensures last))
-          (accepted_bounded c.self.invariant.kept c.args.i q l c.get-question.ensures)));
+          (accepted_bounded c.self.invariant.kept c.args.i q l c.get-question.ensures));
       ahead_wide = c.in-Ok.ensures.ahead_wide;
-      ahead = subst (λ (J : RuleList). IsAhead J.members a.rows c.in-Ok.next.level.size c.in-Ok.next.ahead.whole c.in-Ok.next.ahead.sets.rows) c.all.ensures c.in-Ok.ensures.ahead;
+      ahead = subst (λ (J : RuleList). IsAhead J.members a.rows c.in-Ok.next.size c.in-Ok.next.ahead.whole c.in-Ok.next.ahead.sets.rows) c.all.ensures c.in-Ok.ensures.ahead;
     }
 
 pub returns-in-Ok-clause-ok : goal.returns-in-Ok-clause-ok

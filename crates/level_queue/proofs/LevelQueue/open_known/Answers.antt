@@ -6,22 +6,21 @@ use Rattle.fca_model.specs.Invariant.{distinct_premises}
 use Rattle.fca_model.specs.Levels.{HasBelow}
 use Rattle.fca_model.proofs.LevelLemmas.{has_none}
 use Rattle.implication_closure.specs.Closing.{RuleList}
-use Rattle.level_queue.specs.Queue.{IsKept}
 use Rattle.level_queue.specs.Rules.{RuleParts}
 use Rattle.next_level.specs.Among.{IsAhead}
 use Rattle.level_queue.proofs.OpenLemmas.{opened_kept}
 use Rattle.next_level.proofs.NextLevelLemmas.{unknown_among}
 use Rattle.level_queue.proofs.LevelQueue.open_known.Goals as goal
 
-pub open_next-requires-clause-wide : goal.open_next-requires-clause-wide
-open_next-requires-clause-wide c =
+pub open_level-requires-clause-wide : goal.open_level-requires-clause-wide
+open_level-requires-clause-wide c =
     ap (λ (J : RuleList). J.width) c.all.ensures ∙ ap (λ (p : RuleParts). p.width) c.in_ok-rules.ensures ∙ c.requires.wide ∙ sym (ap (λ (L : Context). L.width) c.in_ok-rows.ensures)
 
-pub open_next-requires-clause-ahead_wide : goal.open_next-requires-clause-ahead_wide
-open_next-requires-clause-ahead_wide c = ap (λ (L : Context). L.width) c.in_ok-nothing.ensures.1 ∙ c.width.ensures.width
+pub open_level-requires-clause-ahead_wide : goal.open_level-requires-clause-ahead_wide
+open_level-requires-clause-ahead_wide c = ap (λ (L : Context). L.width) c.in_ok-nothing.ensures.1 ∙ c.width.ensures.width
 
-pub open_next-requires-clause-among : goal.open_next-requires-clause-among
-open_next-requires-clause-among c = unknown_among c.all.result.now.members c.in_ok-rows.rows c.in_ok-nothing.nothing.whole c.in_ok-nothing.nothing.sets.rows c.in_ok-nothing.ensures.0
+pub open_level-requires-clause-among : goal.open_level-requires-clause-among
+open_level-requires-clause-among c = unknown_among c.all.result.now.members c.in_ok-rows.rows c.in_ok-nothing.nothing.whole c.in_ok-nothing.nothing.sets.rows c.in_ok-nothing.ensures.0
 
 pub invariant_of-result : goal.invariant_of-result
 invariant_of-result c =
@@ -31,10 +30,10 @@ invariant_of-result c =
     let none_is = ap (λ (p : RuleParts). p.accepted) c.in_ok-rules.ensures in
     record {
       wide = ap (λ (p : RuleParts). p.width) c.in_ok-rules.ensures ∙ c.requires.wide ∙ sym (ap (λ (L : Context). L.width) c.in_ok-rows.ensures);
-      kept = subst (λ qs. IsKept rules.known K c.in_ok-first.first.level.size rules.accepted qs) (sym c.new-2.ensures) (opened_kept
+      kept = opened_kept
           (subst (λ (L : Context). list_all (holds L) rules.known ≡ true) (sym c.in_ok-rows.ensures) (ap (list_all (holds c.args.rows.now)) known_is ∙ c.requires.hold))
           (ap distinct_premises none_is)
-          (c.in_ok-first.ensures.next rules.known rules.accepted 0 (ap (λ (J : RuleList). J.members) c.all.ensures) (subst (λ acc. HasBelow rules.known K 0 acc) (sym none_is) (has_none rules.known K)) (omega arith)));
+          (c.in_ok-first.ensures.next rules.known rules.accepted 0 (ap (λ (J : RuleList). J.members) c.all.ensures) (subst (λ acc. HasBelow rules.known K 0 acc) (sym none_is) (has_none rules.known K)) (omega arith));
       ahead_wide = c.in_ok-first.ensures.ahead_wide;
-      ahead = subst (λ (J : RuleList). IsAhead J.members K c.in_ok-first.first.level.size c.in_ok-first.first.ahead.whole c.in_ok-first.first.ahead.sets.rows) c.all.ensures c.in_ok-first.ensures.ahead;
+      ahead = subst (λ (J : RuleList). IsAhead J.members K c.in_ok-first.first.size c.in_ok-first.first.ahead.whole c.in_ok-first.first.ahead.sets.rows) c.all.ensures c.in_ok-first.ensures.ahead;
     }

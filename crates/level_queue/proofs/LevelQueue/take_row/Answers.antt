@@ -29,14 +29,14 @@ invariant_of-self-then-not-are_settled c =
 pub narrow-requires : goal.narrow-requires
 narrow-requires c = kept_unclosed c.self.invariant.kept
 
-pub open_next-requires-clause-wide : goal.open_next-requires-clause-wide
-open_next-requires-clause-wide c = ap (λ (J : RuleList). J.width) c.all.ensures ∙ c.self.invariant.wide ∙ sym (ap (λ (K : Context). K.width) c.in_ok-push.ensures.ok)
+pub open_level-requires-clause-wide : goal.open_level-requires-clause-wide
+open_level-requires-clause-wide c = ap (λ (J : RuleList). J.width) c.all.ensures ∙ c.self.invariant.wide ∙ sym (ap (λ (K : Context). K.width) c.in_ok-push.ensures.ok)
 
-pub open_next-requires-clause-ahead_wide : goal.open_next-requires-clause-ahead_wide
-open_next-requires-clause-ahead_wide c = c.self.invariant.ahead_wide ∙ sym (ap (λ (K : Context). K.width) c.in_ok-push.ensures.ok)
+pub open_level-requires-clause-ahead_wide : goal.open_level-requires-clause-ahead_wide
+open_level-requires-clause-ahead_wide c = c.self.invariant.ahead_wide ∙ sym (ap (λ (K : Context). K.width) c.in_ok-push.ensures.ok)
 
-pub open_next-requires-clause-among : goal.open_next-requires-clause-among
-open_next-requires-clause-among c =
+pub open_level-requires-clause-among : goal.open_level-requires-clause-among
+open_level-requires-clause-among c =
     let a = c.self.inside in
     let r = c.args.row in
     let ok = c.in_ok-push.ensures.ok in
@@ -57,12 +57,12 @@ invariant_of-self-in-Ok c =
     let none = settled r a.questions (sym (c.are_settled.ensures ∙ ap (settles r) c.as_slice.ensures) ∙ c.if-not-are_settled.false) in
     record {
       wide = c.self.invariant.wide ∙ sym (ap (λ (K : Context). K.width) ok);
-      kept = subst (λ qs. IsKept a.rules.known c.push.new.self c.in-Ok.next.level.size a.rules.accepted qs) (sym c.new.ensures) (opened_kept
+      kept = opened_kept
           (subst (λ (K : Context). list_all (holds K) a.rules.known ≡ true) (sym ok) (row_hold c.self.invariant.kept r respecting))
           c.self.invariant.kept.distinct
           (c.in-Ok.ensures.next a.rules.known a.rules.accepted (a.level + 1) (ap (λ (J : RuleList). J.members) c.all.ensures)
           (subst (λ (K : Context). HasBelow a.rules.known K (a.level + 1) a.rules.accepted) (sym ok) (row_below c.self.invariant.kept r respecting (still_open (map (narrowed r) a.questions)) refl none.1))
-          (subst (λ (K : Context). a.level + 1 ≤ K.width + 1) (sym ok) (row_bounded c.self.invariant.kept r respecting none.0))));
+          (subst (λ (K : Context). a.level + 1 ≤ K.width + 1) (sym ok) (row_bounded c.self.invariant.kept r respecting none.0)));
       ahead_wide = c.in-Ok.ensures.ahead_wide;
-      ahead = subst (λ (J : RuleList). IsAhead J.members c.push.new.self c.in-Ok.next.level.size c.in-Ok.next.ahead.whole c.in-Ok.next.ahead.sets.rows) c.all.ensures c.in-Ok.ensures.ahead;
+      ahead = subst (λ (J : RuleList). IsAhead J.members c.push.new.self c.in-Ok.next.size c.in-Ok.next.ahead.whole c.in-Ok.next.ahead.sets.rows) c.all.ensures c.in-Ok.ensures.ahead;
     }

@@ -10,21 +10,21 @@ meet_at-requires-clause-unclosed c q at =
     let n = c.loop-place.invariant.narrowing in
     let i = c.loop-place.place - 1 in
     let next : c.loop-place.place ≡ suc i = omega arith in
-    let inside : i < length c.loop-place.questions = let a = n.run in let b = n.before in let d = n.inside in omega (arith, a, b, d, next) in
-    unclosed_at c.args.questions.now c.args.first i q c.requires.unclosed (omega arith) (let e = n.long in omega (arith, e, inside)) (was n i next inside q at)
+    let inside : i < length c.loop-place.list = let a = n.run in let b = n.before in let d = n.inside in omega (arith, a, b, d, next) in
+    unclosed_at c.args.list.now c.args.first i q c.requires.unclosed (omega arith) (let e = n.long in omega (arith, e, inside)) (was n i next inside q at)
 
 pub loop-place-preserved-then-not-meet_at : goal.loop-place-preserved-then-not-meet_at
 loop-place-preserved-then-not-meet_at c =
     let n = c.loop-place.invariant.narrowing in
     let i = c.loop-place.place - 1 in
     let next : c.loop-place.place ≡ suc i = omega arith in
-    let inside : i < length c.loop-place.questions = let a = n.run in let b = n.before in let d = n.inside in omega (arith, a, b, d, next) in
+    let inside : i < length c.loop-place.list = let a = n.run in let b = n.before in let d = n.inside in omega (arith, a, b, d, next) in
     let none : Rule = rule [] [] in
-    let q : Rule = get_or c.loop-place.questions i none in
-    let at : q ≡ get_or c.loop-place.questions i q = get_or_default c.loop-place.questions i none q inside in
+    let q : Rule = get_or c.loop-place.list i none in
+    let at : q ≡ get_or c.loop-place.list i q = get_or_default c.loop-place.list i none q inside in
     record {
       from_on = omega arith;
-      narrowing = narrowing_drops n i next inside q at (sym (c.meet_at.ensures.left q at) ∙ c.if-not-meet_at.true) c.meet_at.new.questions c.move_up-kept.new.questions (i + 1) c.move_up-kept.result
+      narrowing = narrowing_drops n i next inside q at (sym (c.meet_at.ensures.left q at) ∙ c.if-not-meet_at.true) c.meet_at.new.self c.move_up-kept.new.list (i + 1) c.move_up-kept.result
           (c.meet_at.ensures.met q at) (omega arith) c.move_up-kept.ensures.place c.move_up-kept.ensures.moved c.move_up-kept.ensures.rest c.move_up-kept.ensures.long;
     }
 
@@ -33,13 +33,13 @@ loop-place-preserved c =
     let n = c.loop-place.invariant.narrowing in
     let i = c.loop-place.place - 1 in
     let next : c.loop-place.place ≡ suc i = omega arith in
-    let inside : i < length c.loop-place.questions = let a = n.run in let b = n.before in let d = n.inside in omega (arith, a, b, d, next) in
+    let inside : i < length c.loop-place.list = let a = n.run in let b = n.before in let d = n.inside in omega (arith, a, b, d, next) in
     let none : Rule = rule [] [] in
-    let q : Rule = get_or c.loop-place.questions i none in
-    let at : q ≡ get_or c.loop-place.questions i q = get_or_default c.loop-place.questions i none q inside in
+    let q : Rule = get_or c.loop-place.list i none in
+    let at : q ≡ get_or c.loop-place.list i q = get_or_default c.loop-place.list i none q inside in
     record {
       from_on = omega arith;
-      narrowing = subst (λ qs. IsNarrowing c.args.row.now c.args.questions.now qs c.loop-place.kept c.loop-place.end i) (sym (c.meet_at.ensures.met q at))
+      narrowing = subst (λ qs. IsNarrowing c.args.row.now c.args.list.now qs c.loop-place.kept c.loop-place.end i) (sym (c.meet_at.ensures.met q at))
           (narrowing_keeps n i next inside q at (sym (c.meet_at.ensures.left q at) ∙ c.if-not-meet_at.false));
     }
 
@@ -47,6 +47,6 @@ pub returns-clause-narrowed : goal.returns-clause-narrowed
 returns-clause-narrowed c =
     let end : c.loop-place.place ≡ c.args.first = omega (arith, c.loop-place-test.false, c.loop-place.invariant.from_on) in
     c.move_up.ensures.moved
-    ∙ sym (ap (λ n. take (c.loop-place.end - n) (drop n c.loop-place.questions) ++ drop c.loop-place.kept c.loop-place.questions) end)
+    ∙ sym (ap (λ n. take (c.loop-place.end - n) (drop n c.loop-place.list) ++ drop c.loop-place.kept c.loop-place.list) end)
     ∙ c.loop-place.invariant.narrowing.back
-    ∙ ap (λ n. still_open (map (narrowed c.args.row.now) (drop n c.args.questions.now))) end
+    ∙ ap (λ n. still_open (map (narrowed c.args.row.now) (drop n c.args.list.now))) end

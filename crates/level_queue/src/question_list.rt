@@ -1,0 +1,167 @@
+//! A list of questions that is quick to meet with a row: few of them are looked at.
+
+ghost use Rattle.std.specs.Prelude.{◌≡◌, ◌<◌, ◌≤◌, ◌+◌, ◌-◌, true, nat_le, length, slice_index_or, slice_set, IfOk};
+ghost use Rattle.std.specs.List.{copy_within, list_all};
+ghost use Rattle.fca_model.specs.Sets.{within};
+ghost use Rattle.fca_model.specs.Implications.{Rule};
+ghost use Rattle.level_queue.specs.Queue.{narrowed, is_unclosed, is_left};
+ghost use Rattle.level_queue.specs.InOneWord.{AreInOneWord};
+
+use attr_bits::{Attrs, Bits};
+use fca_model::Memory;
+use implication_closure::{Implication, Question};
+use std::alloc::Global;
+use std::marker::Model;
+
+/// How many attributes one word holds.
+const ONE_WORD: u32 = 64;
+
+/// Questions, and apart from them their premises in one word each, which lie close together. Where a premise has more attributes, there are none of these.
+#[derive(Drop)]
+pub(crate) struct QuestionList {
+    questions: Vec<Question>,
+    in_one_word: Vec<Bits<1>>,
+}
+
+impl Model for QuestionList {
+    ghost use Rattle.std.specs.Prelude.{List};
+    ghost use Rattle.fca_model.specs.Implications.{Rule};
+    ghost use Rattle.level_queue.specs.InOneWord.{AreInOneWord};
+
+    ghost Value = { List Rule };
+
+    ghost view = { λ a. a.questions.items };
+
+    ghost invariant = { λ a. AreInOneWord a.questions.items a.in_one_word.items };
+}
+
+/// A row, and the same in one word where it has no more attributes.
+#[derive(Drop)]
+pub(crate) struct Row {
+    whole: Attrs,
+    in_one_word: Option<Bits<1>>,
+}
+
+impl Model for Row {
+    ghost use Rattle.std.specs.Prelude.{◌≡◌, IfSome};
+    ghost use Rattle.fca_model.specs.Sets.{Set};
+
+    ghost Value = { Set };
+
+    ghost view = { λ a. a.whole };
+
+    ghost invariant = { λ a. IfSome a.in_one_word (λ row. row ≡ a.whole) };
+}
+
+impl Row {
+    /// This row.
+    pub(crate) fn new(row: &Attrs) -> Row
+        ensures { result ≡ row.now }
+    {
+        Row {
+            whole: *row,
+            in_one_word: if row.width() <= ONE_WORD {
+                Some(row.resized::<1>())
+            } else {
+                None
+            },
+        }
+    }
+}
+
+impl QuestionList {
+    /// These questions.
+    pub(crate) fn new(alloc: Global, questions: Vec<Question>) -> Result<QuestionList, Memory>
+        ensures { IfOk result (λ list. list ≡ questions.items) }
+    {
+        let in_one_word = premises_in_one_word(alloc, &questions)?;
+        Ok(QuestionList {
+            questions,
+            in_one_word,
+        })
+    }
+
+    /// The questions.
+    pub(crate) fn as_slice(&self) -> &[Question]
+        ensures { result.now ≡ self.now }
+    {
+        &self.questions
+    }
+
+    /// Meets the question at the place, which is not closed, with a row. Whether it is not closed then either. Most stay as they are, and are not looked at.
+    pub(crate) fn meet_at(&mut self, place: usize, row: &Row) -> bool
+        requires inside { place < length self.old }
+        requires unclosed { (question : Rule) → question ≡ slice_index_or self.old place question → is_unclosed question ≡ true }
+        ensures met { (question : Rule) → question ≡ slice_index_or self.old place question → self.new ≡ slice_set self.old place (narrowed row.now question) }
+        ensures left { (question : Rule) → question ≡ slice_index_or self.old place question → result ≡ is_left row.now question }
+        ensures long { length self.new ≡ length self.old }
+    {
+        if !self.is_premise_within(place, row) {
+            return true;
+        }
+        let met = narrowed(&row.whole, &self.questions[place]);
+        self.questions[place] = met;
+        met.premise != met.conclusion
+    }
+
+    /// Whether the row has the premise of the question at the place.
+    fn is_premise_within(&self, place: usize, row: &Row) -> bool
+        requires { place < length self.now }
+        ensures { (question : Rule) → question ≡ slice_index_or self.now place question → result ≡ within question.premise row.now }
+    {
+        if let Some(row) = &row.in_one_word {
+            if !self.in_one_word.is_empty() {
+                return self.in_one_word[place].within(row);
+            }
+        }
+        self.questions[place].premise.within(&row.whole)
+    }
+
+    /// Copies the questions from one place to another over those from a third place on.
+    pub(crate) fn copy_within(&mut self, first: usize, end: usize, place: usize)
+        requires some { first ≤ end }
+        requires inside { end ≤ length self.old }
+        requires room { place + (end - first) ≤ length self.old }
+        ensures { self.new ≡ copy_within self.old first end place }
+    {
+        self.questions.copy_within(first..end, place);
+        if !self.in_one_word.is_empty() {
+            self.in_one_word.copy_within(first..end, place);
+        }
+    }
+}
+
+/// The premises in one word each, or none where one has more attributes.
+fn premises_in_one_word(alloc: Global, questions: &[Question]) -> Result<Vec<Bits<1>>, Memory>
+    ensures { IfOk result (λ sets. AreInOneWord questions.now sets.items) }
+{
+    if !fit_one_word(questions) {
+        return Ok(Vec::new(alloc));
+    }
+    let mut sets = Vec::with_capacity(alloc, questions.len())?;
+    for question in questions {
+        sets.push(question.premise.resized::<1>())?;
+    }
+    Ok(sets)
+}
+
+/// Whether one word holds each of the premises.
+fn fit_one_word(questions: &[Question]) -> bool
+    ensures { result ≡ list_all (λ i. nat_le (length i.premise) ONE_WORD) questions.now }
+{
+    questions.iter().all(|i| i.premise.width() <= ONE_WORD)
+}
+
+/// The question once there is this row too: where the row has the premise, the conclusion loses what the row lacks.
+fn narrowed(row: &Attrs, question: &Question) -> Question
+    ensures { result ≡ narrowed row.now question.now }
+{
+    if question.premise.within(row) {
+        Implication {
+            premise: question.premise,
+            conclusion: question.conclusion.meet(row),
+        }
+    } else {
+        *question
+    }
+}
