@@ -2,3 +2,4 @@ pub mod Answers
 pub mod Oracles
 pub mod Runs
 pub mod Counts
+pub mod Narrow

@@ -3,6 +3,7 @@
 
 mod expert;
 pub mod laws;
+mod narrow;
 mod oracle;
 
 pub use expert::{Answer, Expert};

@@ -1,12 +1,18 @@
 //! Oracles: experts who know a table.
 
-ghost use Rattle.std.specs.Prelude.{◌≡◌, ◌<◌, Some, None, IfOk, IfSome, length, map, slice_get};
+ghost use Rattle.std.specs.Prelude.{◌≡◌, ◌<◌, Some, None, IfOk, IfSome, length, map, position, slice_get};
+ghost use Rattle.std.specs.List.{zip};
+ghost use Rattle.fca_model.specs.Implications.{rule};
+ghost use Rattle.fca_model.specs.Widths.{IsWide};
 ghost use Rattle.oracle_expert.specs.Answers.{HasWideAnswer};
-ghost use Rattle.oracle_expert.specs.Oracles.{untold, counterexample, answer_with, drop_given};
+ghost use Rattle.oracle_expert.specs.Narrow.{AreRowsOf};
+ghost use Rattle.oracle_expert.specs.Oracles.{untold, is_counterexample, counterexample, answer_with, drop_given};
 
 use crate::expert::{Answer, Expert};
-use attr_bits::Attrs;
+use crate::narrow::{NarrowRows, narrow_rows};
+use attr_bits::{Attrs, Bits};
 use context_table::Table;
+use derivation::RowsOf;
 use explore_state::{Question, Reply};
 use fca_model::Memory;
 use std::alloc::{AllocError, Global};
@@ -16,19 +22,21 @@ use std::marker::Model;
 #[derive(Drop)]
 pub struct Oracle {
     table: Table,
+    narrow: NarrowRows,
     conflicts: Vec<Option<usize>>,
     given: Option<usize>,
 }
 
 impl Model for Oracle {
     ghost use Rattle.std.specs.Prelude.{◌≡◌, length};
+    ghost use Rattle.oracle_expert.specs.Narrow.{AreRowsOf};
     ghost use Rattle.oracle_expert.specs.Oracles.{Recall};
 
     ghost Value = { Recall };
 
     ghost view = { λ o. record { table = o.table; conflicts = o.conflicts.items; given = o.given } };
 
-    ghost invariant = { λ o. length o.conflicts.items ≡ length o.table.context.rows };
+    ghost invariant = { λ o. record { rows : AreRowsOf o.table.context o.narrow; conflicts : length o.conflicts.items ≡ length o.table.context.rows } };
 }
 
 impl Oracle {
@@ -36,9 +44,11 @@ impl Oracle {
     pub fn new(alloc: Global, table: Table) -> Result<Oracle, Memory>
         ensures { IfOk result (λ oracle. oracle ≡ untold table) }
     {
+        let narrow = narrow_rows(alloc, table.rows())?;
         let conflicts = undropped(alloc, table.rows().as_slice())?;
         Ok(Oracle {
             table,
+            narrow,
             conflicts,
             given: None,
         })
@@ -76,7 +86,7 @@ impl Expert for Oracle {
     ghost learns = { Learns };
 
     fn answer(&mut self, _alloc: Global, question: &Question) -> Result<Answer, Memory> {
-        let place = counterexample(&self.table, &self.conflicts, question);
+        let place = counterexample(&self.table, &self.narrow, &self.conflicts, question);
         let answer = answer_with(&self.table, place)?;
         self.given = place;
         Ok(answer)
@@ -97,13 +107,52 @@ fn undropped(alloc: Global, rows: &[Attrs]) -> Result<Vec<Option<usize>>, AllocE
 }
 
 /// The place of the first row that refutes the question and was not dropped.
-fn counterexample(table: &Table, conflicts: &[Option<usize>], question: &Question) -> Option<usize>
+fn counterexample(
+    table: &Table,
+    narrow: &NarrowRows,
+    conflicts: &[Option<usize>],
+    question: &Question,
+) -> Option<usize>
+    requires rows { AreRowsOf table.now.context narrow.now }
+    requires wide { IsWide table.now.context.width question.now }
     ensures { result ≡ counterexample table.now conflicts.now question.now }
 {
-    let rows = table.rows().as_slice();
-    rows.iter().zip(conflicts).position(|(row, conflict)| {
-        question.premise.within(row) && !question.conclusion.within(row) && conflict.is_none()
-    })
+    match narrow {
+        NarrowRows::One(rows) => counterexample_among(rows, conflicts, question),
+        NarrowRows::Four(rows) => counterexample_among(rows, conflicts, question),
+        NarrowRows::Wide => counterexample_among(table.rows(), conflicts, question),
+    }
+}
+
+/// The same, among rows of W words.
+fn counterexample_among<const W: usize>(
+    rows: &RowsOf<W>,
+    conflicts: &[Option<usize>],
+    question: &Question,
+) -> Option<usize>
+    requires { IsWide rows.now.width question.now }
+    ensures { result ≡ position (is_counterexample question.now) (zip rows.now.rows conflicts.now) }
+{
+    let _width = rows.width();
+    let premise = question.premise.resized();
+    let conclusion = question.conclusion.resized();
+    first_refuting(rows.as_slice(), conflicts, &premise, &conclusion)
+}
+
+/// The place of the first row that refutes the implication and was not dropped.
+fn first_refuting<const W: usize>(
+    rows: &[Bits<W>],
+    conflicts: &[Option<usize>],
+    premise: &Bits<W>,
+    conclusion: &Bits<W>,
+) -> Option<usize>
+    ensures { result ≡ position (is_counterexample (rule premise.now conclusion.now)) (zip rows.now conflicts.now) }
+{
+    rows.iter().zip(conflicts).position(
+        |(row, conflict)| -> bool
+            ensures { result ≡ is_counterexample (rule premise.entry.now conclusion.entry.now) (row.entry.now, conflict.entry.now) }
+        { premise.within(row) && !conclusion.within(row) && conflict.is_none() },
+    )
 }
 
 /// The answer that gives the row at this place, or confirms where there is none.

@@ -1,0 +1,11 @@
+-- The rows of a table, kept once more in sets as narrow as the table.
+use Rattle.std.specs.Prelude.{◌≡◌}
+use Rattle.fca_model.specs.Context.{Context}
+use Rattle.oracle_expert.specs.declared.narrow.NarrowRows.{NarrowRows}
+use Rattle.oracle_expert.specs.declared.narrow.NarrowRows.TheVariants.{One, Four, Wide}
+
+-- what is kept are the rows of K, or nothing
+abbrev pub AreRowsOf : Context → NarrowRows → Type 0
+AreRowsOf K (One rows) = rows ≡ K
+AreRowsOf K (Four rows) = rows ≡ K
+AreRowsOf K Wide = Unit {0}

@@ -1,0 +1,32 @@
+//! The rows of a table once more, in sets as narrow as the table.
+
+ghost use Rattle.std.specs.Prelude.{IfOk};
+ghost use Rattle.oracle_expert.specs.Narrow.{AreRowsOf};
+
+use derivation::{Rows, RowsOf};
+use fca_model::Memory;
+use lectic_concepts::{FOUR_WORDS, ONE_WORD};
+use std::alloc::Global;
+
+/// The rows of a table in sets of few words, where these have room for its attributes.
+#[derive(Drop)]
+pub(crate) enum NarrowRows {
+    One(RowsOf<1>),
+    Four(RowsOf<4>),
+    /// The attributes are more. None are kept.
+    Wide,
+}
+
+/// These rows once more, in as few words as have room for them.
+pub(crate) fn narrow_rows(alloc: Global, rows: &Rows) -> Result<NarrowRows, Memory>
+    ensures { IfOk result (AreRowsOf rows.now) }
+{
+    let width = rows.width();
+    if width <= ONE_WORD {
+        return Ok(NarrowRows::One(rows.resized(alloc)?));
+    }
+    if width <= FOUR_WORDS {
+        return Ok(NarrowRows::Four(rows.resized(alloc)?));
+    }
+    Ok(NarrowRows::Wide)
+}
