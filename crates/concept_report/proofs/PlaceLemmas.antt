@@ -1,8 +1,8 @@
 -- The places of an extent, the rows there, and the places that are left of them for a larger set.
-use Rattle.std.proofs.Common.{◌≡◌, ℕ, zero, suc, ◌+◌, ◌<◌, Bool, true, false, cond, Some, None, List, [], ◌∷◌, ◌++◌, All, Option, length, map, filter, drop, get_or, set, slice_get, refl, sym, ap, ap₂, ◌∙◌, subst, arith, append_assoc, inl, inr, get_or-set_same, get_or-set_other, length-set, ◌-◌, take, replicate}
+use Rattle.std.proofs.Common.{◌≡◌, ℕ, zero, suc, ◌+◌, ◌<◌, Bool, true, false, cond, Some, None, List, [], ◌∷◌, ◌++◌, All, Option, length, map, filter, drop, get_or, set, slice_get, refl, sym, ap, ap₂, ◌∙◌, subst, arith, append_assoc, inl, inr, get_or-set_same, get_or-set_other, length-set}
 use Rattle.std.proofs.lemmas.Bool.{false≢true, and_parts, cases_eq}
 use Rattle.std.proofs.lemmas.Option.{get_or_from_slice_get}
-use Rattle.std.proofs.lemmas.List.{get_or_at, length_push, get_or_read, at_drop_more, drop-map, length-map, length-take-le, map_more, set_at, get_or-map}
+use Rattle.std.proofs.lemmas.List.{get_or_at, length_push, get_or_read, at_drop_more, drop-map, get_or-map}
 use Rattle.std.specs.Prelude.{fold}
 use Rattle.std.proofs.lemmas.List.Elements.{All-nil, All-cons, All-head, All-tail}
 use Rattle.std.specs.List.{list_all}
@@ -127,23 +127,6 @@ pub kept_closed : (K : Context) (A D : Set) (i : ℕ) (found : List ℕ) → len
 kept_closed K A D i found wide kept is = kept ∙ sym (extent-closure K (set A i true) (length-set A i true ∙ wide)) ∙ ap (extent K) (sym is)
 
 -- ---- columns
-
--- one row more
-pub column_more : (Rs : List Set) (i k : ℕ) (R C : Set) → k < length Rs → R ≡ get_or Rs k R → C ≡ column (take k Rs) i ++ replicate (length Rs - k) false
-    → (b : Bool) → b ≡ get_or R i false → cond b (set C k true) C ≡ column (take (k + 1) Rs) i ++ replicate (length Rs - (k + 1)) false
-column_more Rs i k R C inside is made b has =
-    let f : Set → Bool = λ X. get_or X i false in
-    let left : Set = replicate (length Rs - (k + 1)) false in
-    let before : Set = column (take k Rs) i in
-    let long : length before ≡ k = length-map (take k Rs) f ∙ length-take-le k Rs (omega arith) in
-    let more : length Rs - k ≡ suc (length Rs - (k + 1)) = omega (arith, inside) in
-    let whole : C ≡ before ++ false ∷ left = made ∙ ap (λ n. before ++ replicate n false) more in
-    let next : column (take (k + 1) Rs) i ≡ before ++ b ∷ [] = map_more f Rs k R inside ∙ ap (λ X. before ++ f X ∷ []) (sym is) ∙ ap (λ x. before ++ x ∷ []) (sym has) in
-    step b before left C long whole ∙ sym (append_assoc before (b ∷ []) left) ∙ ap (λ Z. Z ++ left) (sym next)
-  where
-    step : (x : Bool) (before left D : Set) → length before ≡ k → D ≡ before ++ false ∷ left → cond x (set D k true) D ≡ before ++ x ∷ left
-    step true before left D long whole = ap (λ Z. set Z k true) whole ∙ set_at before false left true k long
-    step false before left D long whole = whole
 
 -- the places of a column are those of the rows that have the attribute
 agree : (p q : ℕ → Bool) (n : ℕ) → ((x : ℕ) → x < n → p x ≡ q x) → (xs : List ℕ) → All (λ x. x < n) xs → filter p xs ≡ filter q xs

@@ -1,57 +1,40 @@
 //! For each attribute the objects that have it.
 
-ghost use Rattle.std.specs.Prelude.{◌≡◌, ◌*◌, ◌≤◌, ◌<◌, [], false, All, IfOk, length, map, take, filter, slice_index_or};
+ghost use Rattle.std.specs.Prelude.{◌≡◌, ◌≤◌, ◌<◌, [], false, All, IfOk, length, map, take, filter, slice_index_or};
 ghost use Rattle.std.specs.List.{range_with_len};
 ghost use Rattle.concept_report.specs.Places.{column};
 
 use crate::places::keep_having;
-use attr_bits::Bits;
 use derivation::RowsOf;
-use fca_model::{MAX_OBJECTS, Memory};
+use fca_model::Memory;
 use std::alloc::Global;
 use std::marker::Model;
 
-/// How many words a set of few objects has.
-const FEW_WORDS: usize = 16;
-
-/// How many objects are few.
-const FEW_OBJECTS: usize = 64 * FEW_WORDS;
-
-/// How many words a set of objects has.
-const OBJECT_WORDS: usize = MAX_OBJECTS / 64;
-
-/// The objects of each attribute, in the order of those. Where they are few, their sets have few words, so that fewer are to be written.
+/// The objects of each attribute, in the order of those. An object has a byte of its own, so that whether it is there is read in one step.
 #[derive(Drop)]
 pub(crate) struct Columns {
-    few: Vec<Bits<FEW_WORDS>>,
-    many: Vec<Bits<OBJECT_WORDS>>,
+    lists: Vec<Vec<bool>>,
 }
 
 impl Model for Columns {
-    ghost use Rattle.std.specs.Prelude.{List, Bool, ◌++◌};
+    ghost use Rattle.std.specs.Prelude.{List, Bool, map};
 
     ghost Value = { List (List Bool) };
 
-    ghost view = { λ c. c.few.items ++ c.many.items };
+    ghost view = { λ c. map (λ list. list.items) c.lists.items };
 }
 
 impl Columns {
     /// Those of the rows.
     pub(crate) fn of<const W: usize>(alloc: Global, rows: &RowsOf<W>) -> Result<Columns, Memory>
-        requires { length rows.now.rows ≤ MAX_OBJECTS }
         ensures { IfOk result (λ columns. columns ≡ map (column rows.now.rows) (range_with_len 0 rows.now.width)) }
     {
-        let _width = rows.width();
-        if rows.len() <= FEW_OBJECTS {
-            return Ok(Columns {
-                few: columns_in::<W, FEW_WORDS>(alloc, rows)?,
-                many: Vec::new(alloc),
-            });
+        let width = rows.width();
+        let mut lists = Vec::with_capacity(alloc, width as usize)?;
+        for attribute in 0..width {
+            lists.push(column_of(alloc, rows, attribute)?)?;
         }
-        Ok(Columns {
-            few: Vec::new(alloc),
-            many: columns_in::<W, OBJECT_WORDS>(alloc, rows)?,
-        })
+        Ok(Columns { lists })
     }
 
     /// Puts those of the places that are in column i into the front of `found`, and tells how many they are.
@@ -63,46 +46,24 @@ impl Columns {
         ensures few { result ≤ length places.now }
         ensures room { length found.new ≡ length found.old }
     {
-        let place = i as usize;
-        let few = self.few.len();
-        if place < few {
-            return keep_having(&self.few[place], places, found);
-        }
-        keep_having(&self.many[place - few], places, found)
+        keep_having(&self.lists[i as usize], places, found)
     }
 }
 
-/// The objects of each attribute, in sets of O words.
-fn columns_in<const W: usize, const O: usize>(
+/// For each object whether it has the attribute.
+fn column_of<const W: usize>(
     alloc: Global,
     rows: &RowsOf<W>,
-) -> Result<Vec<Bits<O>>, Memory>
-    requires fits { length rows.now.rows ≤ 64 * O }
-    requires words { O ≤ 1024 }
-    ensures { IfOk result (λ columns. columns.items ≡ map (column rows.now.rows) (range_with_len 0 rows.now.width)) }
-{
-    let width = rows.width();
-    let mut columns = Vec::with_capacity(alloc, width as usize)?;
-    for attribute in 0..width {
-        columns.push(column_of::<W, O>(rows, attribute))?;
-    }
-    Ok(columns)
-}
-
-/// The objects that have the attribute.
-fn column_of<const W: usize, const O: usize>(rows: &RowsOf<W>, attribute: u32) -> Bits<O>
-    requires fits { length rows.now.rows ≤ 64 * O }
-    requires words { O ≤ 1024 }
-    requires inside { attribute < rows.now.width }
-    ensures { result ≡ column rows.now.rows attribute }
+    attribute: u32,
+) -> Result<Vec<bool>, Memory>
+    requires { attribute < rows.now.width }
+    ensures { IfOk result (λ list. list.items ≡ column rows.now.rows attribute) }
 {
     let _width = rows.width();
     let all = rows.as_slice();
-    let mut having = Bits::empty(all.len() as u32);
-    for (object, row) in all.iter().enumerate() {
-        if row.has(attribute) {
-            having.insert(object as u32);
-        }
+    let mut having = Vec::with_capacity(alloc, all.len())?;
+    for row in all {
+        having.push(row.has(attribute))?;
     }
-    having
+    Ok(having)
 }

@@ -28,24 +28,17 @@ pub(crate) fn places_having<const W: usize>(
 
 /// Puts those of the places that are in the column into the front of `found`, and tells how many they are. Each place is put down, and the next one
 /// comes behind it only if it stays, so no step waits for a test.
-pub(crate) fn keep_having<const O: usize>(
-    column: &Bits<O>,
-    places: &[u32],
-    found: &mut [u32],
-) -> usize
+pub(crate) fn keep_having(column: &[bool], places: &[u32], found: &mut [u32]) -> usize
     requires inside { All (λ p. p < length column.now) places.now }
     requires room { length places.now ≤ length found.old }
     ensures found { take result found.new ≡ filter (λ p. slice_index_or column.now p false) places.now }
     ensures few { result ≤ length places.now }
     ensures room { length found.new ≡ length found.old }
 {
-    let _objects = column.width();
     let mut count = 0;
     for place in places {
         found[count] = *place;
-        if column.has(*place) {
-            count += 1;
-        }
+        count += column[*place as usize] as usize;
     }
     count
 }

@@ -1,4 +1,4 @@
-use Rattle.std.proofs.Common.{◌≡◌, ◌∙◌, ℕ, Vec, Global, length, map, take, drop, min, ap}
+use Rattle.std.proofs.Common.{◌∙◌, ℕ, Vec, Global, length, map, take, drop, min, ap}
 use Rattle.std.proofs.lemmas.List.{map_push}
 use Rattle.fca_model.specs.Tables.{Text}
 use Rattle.concept_report.proofs.PieceLemmas.{piece_added}
