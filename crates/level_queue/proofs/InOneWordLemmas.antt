@@ -1,13 +1,13 @@
 -- The premises beside a list of questions stay its premises while it changes.
-use Rattle.std.proofs.Common.{◌≡◌, ◌≢◌, ℕ, ◌+◌, ◌<◌, ◌≤◌, ◌-◌, Bool, true, false, cond, List, [], ◌∷◌, ◌++◌, map, length, get_or, set, take, drop, refl, sym, ap, ap₂, ◌∙◌, leb, leb-true}
-use Rattle.std.proofs.lemmas.List.{map-append, take-map, drop-map, map_more}
+use Rattle.std.proofs.Common.{◌≡◌, ◌≢◌, ℕ, ◌+◌, ◌<◌, ◌≤◌, ◌-◌, Bool, true, false, cond, List, [], ◌∷◌, ◌++◌, map, length, get_or, set, take, drop, refl, sym, ap, ap₂, ◌∙◌, arith, leb, leb-true}
+use Rattle.std.proofs.lemmas.List.{take_all, length-drop, map-append, take-map, drop-map, map_more}
 use Rattle.std.proofs.Math.Seq.{map-set_same}
 use Rattle.std.proofs.lemmas.List.Sums.{AllPass-from_list_all}
 use Rattle.std.specs.List.{list_all, copy_within}
 use Rattle.fca_model.specs.Sets.{Set, within, meet}
 use Rattle.fca_model.specs.Implications.{Rule, rule, premises}
 use Rattle.level_queue.specs.Queue.{narrowed}
-use Rattle.level_queue.specs.InOneWord.{AreInOneWord}
+use Rattle.level_queue.specs.QuestionLists.{AreInOneWord}
 
 -- each has no more attributes than one word
 pub premise_fits : (questions : List Rule) (i : ℕ) (q : Rule) → list_all (λ j. leb (length j.premise) 64) questions ≡ true → i < length questions → q ≡ get_or questions i q → length q.premise ≤ 64
@@ -30,6 +30,13 @@ copy_within-map f xs i j n =
 -- some move
 pub premises_moved : (questions : List Rule) (sets : List Set) (i j n : ℕ) → sets ≢ [] → AreInOneWord questions sets → copy_within sets i j n ≡ premises (copy_within questions i j n)
 premises_moved questions sets i j n some are = ap (λ Ps. copy_within Ps i j n) (are some) ∙ copy_within-map (λ (q : Rule). q.premise) questions i j n
+
+-- those from a place on
+pub premises_from : (questions : List Rule) (sets : List Set) (first : ℕ) (all : List Set) → all ≡ sets → sets ≢ [] → AreInOneWord questions sets
+    → take (length all - first) (drop first all) ≡ premises (drop first questions)
+premises_from questions sets first all is some are =
+    take_all (length all - first) (drop first all) (omega (arith, length-drop first all))
+    ∙ ap (drop first) (is ∙ are some) ∙ drop-map (λ (q : Rule). q.premise) first questions
 
 -- one is met with a row
 pub premises_met : (r : Set) (questions : List Rule) (i : ℕ) (q : Rule) → q ≡ get_or questions i q → premises (set questions i (narrowed r q)) ≡ premises questions

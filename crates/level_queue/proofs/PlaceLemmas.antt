@@ -2,7 +2,8 @@
 -- a row.
 use Rattle.std.proofs.Common.{◌≡◌, ℕ, zero, suc, ◌+◌, ◌<◌, ◌≤◌, ◌-◌, Bool, true, false, not, ◌&&◌, cond, Some, List, [], ◌∷◌, ◌++◌, map, length, get_or, set, take, drop, refl, sym, ap, ap₂, ◌∙◌, subst, arith, inl, inr, ltb, lt-ltb, ltb-true, Ordering, Less, Equal, Greater}
 use Rattle.std.proofs.lemmas.Bool.{false≢true, and_parts, and_from, cases_Bool, cases_lt, cases_eq, not-true, false_from_ne_true}
-use Rattle.std.proofs.lemmas.List.{take-take, take-set-le, take-append-le, take-append-drop, get_or-take, get_or-drop, drop_more, drop_all, drop-drop, drop_at, drop-set, drop-set-lt, length-take-le, length-set, length-drop, append_assoc, get_or_default}
+use Rattle.std.proofs.Math.ListN.{get_or-map}
+use Rattle.std.proofs.lemmas.List.{length-map, take-take, take-set-le, take-append-le, take-append-drop, get_or-take, get_or-drop, drop_more, drop_all, drop-drop, drop_at, drop-set, drop-set-lt, length-take-le, length-set, length-drop, append_assoc, get_or_default}
 use Rattle.std.proofs.lemmas.List.Sums.{AllPass-from_list_all, list_all-from_AllPass}
 use Rattle.std.proofs.lemmas.Option.{slice_get-get_or}
 use Rattle.std.specs.List.{list_all, list_any, slice_get, remove, copy_within, AllWithin}
@@ -14,6 +15,7 @@ use Rattle.fca_model.specs.Implications.{Rule, rule, premises}
 use Rattle.fca_model.specs.Invariant.{Among}
 use Rattle.fca_model.proofs.SetLemmas.{same_refl, same-true, lectic_refl}
 use Rattle.level_queue.specs.Queue.{narrowed, still_open, is_unclosed, is_left, is_rule}
+use Rattle.level_queue.specs.QuestionLists.{IsPlaceFor}
 use Rattle.level_queue.proofs.NarrowLemmas.{left_some, left_none}
 
 -- ---- a search
@@ -30,26 +32,45 @@ before_trans A B C h k = ap is_lt (lectic_total.trans A B C (is_less (lectic_cmp
 abbrev pub comes_before : Set → Rule → Bool
 comes_before P i = is_lt (lectic_cmp i.premise P)
 
-increasing_at : (qs : List Rule) (i j : ℕ) (d : Rule) → increasing (premises qs) ≡ true → i < j → j < length qs → comes_before (get_or qs j d).premise (get_or qs i d) ≡ true
+increasing_at : (As : List Set) (i j : ℕ) (d : Set) → increasing As ≡ true → i < j → j < length As → is_lt (lectic_cmp (get_or As i d) (get_or As j d)) ≡ true
 increasing_at [] i j d up lt l = absurd (omega (arith, l))
-increasing_at (x ∷ xs) i zero d up lt l = absurd (omega (arith, lt))
-increasing_at (x ∷ xs) zero (suc j) d up lt l =
-    let parts = and_parts (list_all (λ B. is_lt (lectic_cmp x.premise B)) (premises xs)) (increasing (premises xs)) up in
-    AllPass-from_list_all (λ (y : Rule). is_lt (lectic_cmp x.premise y.premise)) xs (over xs parts.0) j d (omega (arith, l))
-  where
-    over : (ys : List Rule) → list_all (λ B. is_lt (lectic_cmp x.premise B)) (premises ys) ≡ true → list_all (λ (y : Rule). is_lt (lectic_cmp x.premise y.premise)) ys ≡ true
-    over [] h = refl
-    over (y ∷ ys) h =
-        let hs = and_parts (is_lt (lectic_cmp x.premise y.premise)) (list_all (λ B. is_lt (lectic_cmp x.premise B)) (premises ys)) h in
-        and_from (is_lt (lectic_cmp x.premise y.premise)) (list_all (λ (z : Rule). is_lt (lectic_cmp x.premise z.premise)) ys) hs.0 (over ys hs.1)
-increasing_at (x ∷ xs) (suc i) (suc j) d up lt l =
-    increasing_at xs i j d (and_parts (list_all (λ B. is_lt (lectic_cmp x.premise B)) (premises xs)) (increasing (premises xs)) up).1 (omega (arith, lt)) (omega (arith, l))
+increasing_at (A ∷ As) i zero d up lt l = absurd (omega (arith, lt))
+increasing_at (A ∷ As) zero (suc j) d up lt l =
+    AllPass-from_list_all (λ B. is_lt (lectic_cmp A B)) As (and_parts (list_all (λ B. is_lt (lectic_cmp A B)) As) (increasing As) up).0 j d (omega (arith, l))
+increasing_at (A ∷ As) (suc i) (suc j) d up lt l = increasing_at As i j d (and_parts (list_all (λ B. is_lt (lectic_cmp A B)) As) (increasing As) up).1 (omega (arith, lt)) (omega (arith, l))
 
-pub partitioned : (P : Set) (qs : List Rule) → increasing (premises qs) ≡ true → IsPartitionedBy (comes_before P) qs
-partitioned P qs up i j d le l h = elim (cases_eq i j) [
-  | inl e ↦ subst (λ k. comes_before P (get_or qs k d) ≡ true) (sym e) h
-  | inr other ↦ before_trans (get_or qs i d).premise (get_or qs j d).premise P (increasing_at qs i j d up (omega (arith, le, other)) l) h
+pub partitioned : (P : Set) (As : List Set) → increasing As ≡ true → IsPartitionedBy (λ A. is_lt (lectic_cmp A P)) As
+partitioned P As up i j d le l h = elim (cases_eq i j) [
+  | inl e ↦ subst (λ k. is_lt (lectic_cmp (get_or As k d) P) ≡ true) (sym e) h
+  | inr other ↦ before_trans (get_or As i d) (get_or As j d) P (increasing_at As i j d up (omega (arith, le, other)) l) h
 ]
+
+-- the premise at a place
+premise_at : (qs : List Rule) (i : ℕ) (d : Rule) → get_or (premises qs) i d.premise ≡ (get_or qs i d).premise
+premise_at qs i d = get_or-map (λ (q : Rule). q.premise) qs i d
+
+pub partitioned_questions : (P : Set) (qs : List Rule) → increasing (premises qs) ≡ true → IsPartitionedBy (comes_before P) qs
+partitioned_questions P qs up i j d le l h =
+    ap (λ A. is_lt (lectic_cmp A P)) (sym (premise_at qs i d))
+    ∙ partitioned P (premises qs) up i j d.premise le (omega (arith, l, length-map qs (λ (q : Rule). q.premise))) (ap (λ A. is_lt (lectic_cmp A P)) (premise_at qs j d) ∙ h)
+
+questions_increasing_at : (qs : List Rule) (i j : ℕ) (d : Rule) → increasing (premises qs) ≡ true → i < j → j < length qs → comes_before (get_or qs j d).premise (get_or qs i d) ≡ true
+questions_increasing_at qs i j d up lt l =
+    ap₂ (λ A B. is_lt (lectic_cmp A B)) (sym (premise_at qs i d)) (sym (premise_at qs j d)) ∙ increasing_at (premises qs) i j d.premise up lt (omega (arith, l, length-map qs (λ (q : Rule). q.premise)))
+
+-- what is said of the premises is said of the questions, and the other way round
+of_questions : (p : Set → Bool) (b : Bool) (qs : List Rule) (low high : ℕ) → AllWithin (λ A. p A ≡ b) (premises qs) low high → AllWithin (λ q. p q.premise ≡ b) qs low high
+of_questions p b qs low high all k d le lt = ap p (sym (premise_at qs k d)) ∙ all k d.premise le lt
+
+of_premises : (p : Set → Bool) (b : Bool) (qs : List Rule) (low high : ℕ) → AllWithin (λ q. p q.premise ≡ b) qs low high → AllWithin (λ A. p A ≡ b) (premises qs) low high
+of_premises p b qs low high all k A le lt = ap p (premise_at qs k (rule A [])) ∙ all k (rule A []) le lt
+
+pub place_for : (P : Set) (qs : List Rule) (n : ℕ) → n ≤ length qs → AllWithin (λ q. comes_before P q ≡ true) qs 0 n → AllWithin (λ q. comes_before P q ≡ false) qs n (length qs) → IsPlaceFor P (premises qs) n
+place_for P qs n l before behind = let long = length-map qs (λ (q : Rule). q.premise) in record {
+  inside = omega (arith, l, long);
+  before = of_premises (λ A. is_lt (lectic_cmp A P)) true qs 0 n before;
+  behind = subst (λ m. AllWithin (λ A. is_lt (lectic_cmp A P) ≡ false) (premises qs) n m) (sym long) (of_premises (λ A. is_lt (lectic_cmp A P)) false qs n (length qs) behind);
+}
 
 -- a set does not come before itself
 not_before_itself : (A : Set) → is_lt (lectic_cmp A A) ≡ true → ⊥
@@ -60,29 +81,32 @@ is_rule-true q i h =
     let both = and_parts (same i.premise q.premise) (same i.conclusion q.conclusion) h in
     ap₂ (λ P C. rule P C) (same-true i.premise q.premise both.0) (same-true i.conclusion q.conclusion both.1)
 
+-- the question stands at the place
+abbrev pub stands : Rule → ℕ → List Rule → Bool
+stands q n qs = ltb n (length qs) && is_rule q (get_or qs n q)
+
 -- what stands at the place
-pub rule_at : (qs : List Rule) (n : ℕ) (q : Rule) → (ltb n (length qs) && is_rule q (get_or qs n q)) ≡ true → slice_get qs n ≡ Some q
+pub rule_at : (qs : List Rule) (n : ℕ) (q : Rule) → stands q n qs ≡ true → slice_get qs n ≡ Some q
 rule_at qs n q h =
     let parts = and_parts (ltb n (length qs)) (is_rule q (get_or qs n q)) h in
     slice_get-get_or qs n q (ltb-true n (length qs) parts.0) ∙ ap (λ x. Some x) (is_rule-true q (get_or qs n q) parts.1)
 
 -- a question that is among them stands at the place before which all come before it, and behind which none does
-pub rule_there : (qs : List Rule) (n : ℕ) (q : Rule) → increasing (premises qs) ≡ true → AllWithin (λ i. comes_before q.premise i ≡ true) qs 0 n → AllWithin (λ i. comes_before q.premise i ≡ false) qs n (length qs)
-    → Among qs q → (ltb n (length qs) && is_rule q (get_or qs n q)) ≡ false → ⊥
-rule_there qs n q up before behind among missing =
+pub rule_there : (qs : List Rule) (n : ℕ) (q : Rule) → increasing (premises qs) ≡ true → IsPlaceFor q.premise (premises qs) n → Among qs q → stands q n qs ≡ false → ⊥
+rule_there qs n q up place among missing =
     false≢true (sym (ap not (and_from (same q.premise q.premise) (same q.conclusion q.conclusion) (same_refl q.premise) (same_refl q.conclusion)))
     ∙ among (λ i. not (is_rule q i)) (list_all-from_AllPass (λ i. not (is_rule q i)) qs (λ k d l. ap not (false_from_ne_true (is_rule q (get_or qs k d)) (λ t.
     let one : get_or qs k d ≡ q = is_rule-true q (get_or qs k d) t in
     let at : get_or qs k q ≡ q = get_or_default qs k q d l ∙ one in
     elim (cases_lt k n) [
-      | inl lt ↦ not_before_itself q.premise (subst (λ (i : Rule). comes_before q.premise i ≡ true) at (before k q (omega arith) lt))
+      | inl lt ↦ not_before_itself q.premise (subst (λ (i : Rule). comes_before q.premise i ≡ true) at (of_questions (λ A. is_lt (lectic_cmp A q.premise)) true qs 0 n place.before k q (omega arith) lt))
       | inr ge ↦ elim (cases_eq n k) [
         | inl here ↦
             let there : is_rule q (get_or qs n q) ≡ true = subst (λ m. is_rule q (get_or qs m q) ≡ true) (sym here) (subst (λ i. is_rule q i ≡ true) (sym at) (subst (λ i. is_rule q i ≡ true) one t)) in
             false≢true (sym missing ∙ and_from (ltb n (length qs)) (is_rule q (get_or qs n q)) (lt-ltb n (length qs) (omega (arith, l, here))) there)
         | inr other ↦
-            let first : comes_before q.premise (get_or qs n q) ≡ true = subst (λ (i : Rule). comes_before i.premise (get_or qs n q) ≡ true) at (increasing_at qs n k q up (omega (arith, ge, other)) l) in
-            false≢true (sym (behind n q (omega arith) (omega (arith, l, ge))) ∙ first)
+            let first : comes_before q.premise (get_or qs n q) ≡ true = subst (λ (i : Rule). comes_before i.premise (get_or qs n q) ≡ true) at (questions_increasing_at qs n k q up (omega (arith, ge, other)) l) in
+            false≢true (sym (of_questions (λ A. is_lt (lectic_cmp A q.premise)) false qs n (length (premises qs)) place.behind n q (omega arith) (omega (arith, l, ge, length-map qs (λ (i : Rule). i.premise)))) ∙ first)
       ]
     ])))))
 

@@ -21,7 +21,7 @@ use fca_model::Memory;
 use implication_closure::{ImplicationList, Question};
 use next_level::Ahead;
 use open_level::open_level;
-use questions::{OpenQuestions, are_settled, place_of};
+use questions::{OpenQuestions, are_settled};
 use rules::Rules;
 use std::alloc::Global;
 use std::marker::Model;
@@ -136,7 +136,7 @@ impl LevelQueue {
         ensures held { IsHeld self.now.known self.now.context self.now.accepted question.now → holds self.now.context question.now ≡ true
             → has_premise self.now.accepted question.now.premise ≡ false → IsSome result }
     {
-        place_of(self.questions.as_slice(), question)
+        self.questions.place_of(question)
     }
 
     /// Records a row.

@@ -1,11 +1,11 @@
 //! A list of questions that is quick to meet with a row: few of them are looked at.
 
-ghost use Rattle.std.specs.Prelude.{◌≡◌, ◌<◌, ◌≤◌, ◌+◌, ◌-◌, true, nat_le, length, slice_index_or, slice_set, IfOk};
+ghost use Rattle.std.specs.Prelude.{◌≡◌, ◌<◌, ◌≤◌, ◌+◌, ◌-◌, true, nat_le, length, drop, slice_index_or, slice_set, IfOk};
 ghost use Rattle.std.specs.List.{copy_within, list_all};
-ghost use Rattle.fca_model.specs.Sets.{within};
-ghost use Rattle.fca_model.specs.Implications.{Rule};
+ghost use Rattle.fca_model.specs.Sets.{within, increasing};
+ghost use Rattle.fca_model.specs.Implications.{Rule, premises};
 ghost use Rattle.level_queue.specs.Queue.{narrowed, is_unclosed, is_left};
-ghost use Rattle.level_queue.specs.InOneWord.{AreInOneWord};
+ghost use Rattle.level_queue.specs.QuestionLists.{AreInOneWord, IsPlaceFor};
 
 use attr_bits::{Attrs, Bits};
 use fca_model::Memory;
@@ -26,7 +26,7 @@ pub(crate) struct QuestionList {
 impl Model for QuestionList {
     ghost use Rattle.std.specs.Prelude.{List};
     ghost use Rattle.fca_model.specs.Implications.{Rule};
-    ghost use Rattle.level_queue.specs.InOneWord.{AreInOneWord};
+    ghost use Rattle.level_queue.specs.QuestionLists.{AreInOneWord};
 
     ghost Value = { List Rule };
 
@@ -117,6 +117,18 @@ impl QuestionList {
         self.questions[place].premise.within(&row.whole)
     }
 
+    /// Of the questions from a place on, the place among them of the first whose premise does not come before this one.
+    pub(crate) fn first_from(&self, first: usize, premise: &Attrs) -> usize
+        requires inside { first ≤ length self.now }
+        requires increasing { increasing (premises (drop first self.now)) ≡ true }
+        ensures { IsPlaceFor premise.now (premises (drop first self.now)) result }
+    {
+        if !self.in_one_word.is_empty() && premise.width() <= ONE_WORD {
+            return first_set(&self.in_one_word[first..], &premise.resized::<1>());
+        }
+        first_question(&self.questions[first..], premise)
+    }
+
     /// Copies the questions from one place to another over those from a third place on.
     pub(crate) fn copy_within(&mut self, first: usize, end: usize, place: usize)
         requires some { first ≤ end }
@@ -164,4 +176,20 @@ fn narrowed(row: &Attrs, question: &Question) -> Question
     } else {
         *question
     }
+}
+
+/// The place of the first set that does not come before this one.
+fn first_set(sets: &[Bits<1>], set: &Bits<1>) -> usize
+    requires { increasing sets.now ≡ true }
+    ensures { IsPlaceFor set.now sets.now result }
+{
+    sets.partition_point(|i| *i < *set)
+}
+
+/// The place of the first question whose premise does not come before this one.
+fn first_question(questions: &[Question], premise: &Attrs) -> usize
+    requires { increasing (premises questions.now) ≡ true }
+    ensures { IsPlaceFor premise.now (premises questions.now) result }
+{
+    questions.partition_point(|i| i.premise < *premise)
 }

@@ -1,9 +1,8 @@
 //! The open questions in lectic order, which change where they stand: one is taken out, or all are met with a row.
 
 ghost use Rattle.std.specs.Prelude.{◌≡◌, ◌<◌, ◌≤◌, ◌-◌, ◌++◌, length, map, take, drop, true, false, slice_get, slice_index_or, slice_set, nat_lt, not, ◌&&◌, Some, IfSome, IsSome, IfOk};
-ghost use Rattle.std.specs.List.{list_all, list_any, remove, AllWithin};
-ghost use Rattle.std.specs.Ordering.{is_lt};
-ghost use Rattle.fca_model.specs.Sets.{increasing, lectic_cmp};
+ghost use Rattle.std.specs.List.{list_all, list_any, remove};
+ghost use Rattle.fca_model.specs.Sets.{increasing};
 ghost use Rattle.fca_model.specs.Implications.{Rule, premises};
 ghost use Rattle.fca_model.specs.Invariant.{Among};
 ghost use Rattle.level_queue.specs.Queue.{narrowed, still_open, is_unclosed, is_left, is_rule};
@@ -55,6 +54,21 @@ impl OpenQuestions {
         ensures { result ≡ slice_index_or self.now i result }
     {
         self.list.as_slice()[self.first + i]
+    }
+
+    /// The place of the question, found by its premise.
+    pub(crate) fn place_of(&self, question: &Question) -> Option<usize>
+        requires { increasing (premises self.now) ≡ true }
+        ensures inside { IfSome result (λ i. i < length self.now) }
+        ensures found { IfSome result (λ i. slice_get self.now i ≡ Some question.now) }
+        ensures there { Among self.now question.now → IsSome result }
+    {
+        let place = self.list.first_from(self.first, &question.premise);
+        if stands_at(self.as_slice(), place, question) {
+            Some(place)
+        } else {
+            None
+        }
     }
 
     /// Takes out the question at place i. Those before it move, which are few where experts are asked the first questions.
@@ -138,21 +152,6 @@ fn is_left(question: &Question, row: &Attrs) -> bool
     }
 }
 
-/// The place of the question, found by its premise.
-pub(crate) fn place_of(questions: &[Question], question: &Question) -> Option<usize>
-    requires { increasing (premises questions.now) ≡ true }
-    ensures inside { IfSome result (λ i. i < length questions.now) }
-    ensures found { IfSome result (λ i. slice_get questions.now i ≡ Some question.now) }
-    ensures there { Among questions.now question.now → IsSome result }
-{
-    let place = first_from(questions, &question.premise);
-    if stands_at(questions, place, question) {
-        Some(place)
-    } else {
-        None
-    }
-}
-
 /// Whether the question stands at the place.
 fn stands_at(questions: &[Question], place: usize, question: &Question) -> bool
     ensures { result ≡ (nat_lt place (length questions.now) && is_rule question.now (slice_index_or questions.now place question.now)) }
@@ -165,14 +164,4 @@ fn is_same(one: &Question, other: &Question) -> bool
     ensures { result ≡ is_rule other.now one.now }
 {
     one.premise == other.premise && one.conclusion == other.conclusion
-}
-
-/// The place of the first question whose premise does not come before this one.
-fn first_from(questions: &[Question], premise: &Attrs) -> usize
-    requires { increasing (premises questions.now) ≡ true }
-    ensures inside { result ≤ length questions.now }
-    ensures before { AllWithin (λ i. is_lt (lectic_cmp i.premise premise.now) ≡ true) questions.now 0 result }
-    ensures behind { AllWithin (λ i. is_lt (lectic_cmp i.premise premise.now) ≡ false) questions.now result (length questions.now) }
-{
-    questions.partition_point(|i| i.premise < *premise)
 }

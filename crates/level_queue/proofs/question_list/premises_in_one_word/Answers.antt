@@ -10,7 +10,9 @@ resized-requires c =
     omega (arith, fits)
 
 pub loop-question-preserved : goal.loop-question-preserved
-loop-question-preserved c = premises_more c.args.questions.now c.loop-question.question-index c.question-item.result c.resized.result c.loop-question.sets.items _ c.loop-question-test.true c.question-item.is c.resized.ensures c.loop-question.invariant c.in_ok-push.ensures.items
+loop-question-preserved c =
+    premises_more c.args.questions.now c.loop-question.question-index c.question-item.result c.resized.result c.loop-question.sets.items _
+    c.loop-question-test.true c.question-item.is c.resized.ensures c.loop-question.invariant c.in_ok-push.ensures.items
 
 pub returns : goal.returns
 returns c _ = c.loop-question.invariant ∙ ap premises (take_all c.loop-question.question-index c.args.questions.now c.loop-question-test.false)
