@@ -110,11 +110,10 @@ fn open_hall<E: Drop>(
     ensures empty { IfOk result (λ h. IsEmpty h.room) }
     ensures room { IfOk result (λ h. HasRoom explore.opening.experts h.room) }
 {
-    let terms = Terms {
-        table: explore.table().copy()?,
-        lines,
+    let Ok((terms, room)) = prepared(alloc, &explore, lines) else {
+        drop(explore);
+        return Err(Memory);
     };
-    let room = make_room(alloc, usize::from(explore.experts()))?;
     let (gate, passes) = Gate::open(alloc, explore, turns)?;
     Ok(Hall {
         terms,
@@ -122,6 +121,22 @@ fn open_hall<E: Drop>(
         passes,
         room,
     })
+}
+
+/// What the sessions over the exploration are held to, and room for its experts.
+fn prepared<E: Drop>(
+    alloc: Global,
+    explore: &Explore,
+    lines: u32,
+) -> Result<(Terms, Room<E>), Memory>
+    requires lines { (1 ≤ lines) × (lines ≤ 1000000) }
+    ensures terms { IfOk result (λ r. (r.0.table ≡ explore.now.opening.table) × (r.0.lines ≡ lines)) }
+    ensures empty { IfOk result (λ r. IsEmpty r.1) }
+    ensures room { IfOk result (λ r. HasRoom explore.now.opening.experts r.1) }
+{
+    let room = make_room(alloc, usize::from(explore.experts()))?;
+    let table = explore.table().copy()?;
+    Ok((Terms { table, lines }, room))
 }
 
 fn make_room<E: Drop>(alloc: Global, count: usize) -> Result<Room<E>, Memory>
