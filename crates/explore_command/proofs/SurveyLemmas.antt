@@ -35,8 +35,8 @@ length-agreed C explore accepted oracles spent plainly is finished agreed unspen
 pub respecting_plain : (s : Settings) (C : Context) → s ≡ plain → rows_respect s.known C ≡ true
 respecting_plain s C plainly = subst (λ (t : Settings). rows_respect t.known C ≡ true) (sym plainly) (list_all_from (respects_all []) (λ row. refl) C.rows)
 
-pub survey_text-counts : (t u : NamedContext) (n m k : ℕ) → t ≡ u → n ≡ length (intents t.context) → m ≡ length (basis t.context) → k ≡ length (basis t.context)
-    → survey_text t n m k ≡ surveyed_text u
-survey_text-counts t u n m k same concepts members explored =
+pub survey_text-counts : (t : NamedContext) (n m k : ℕ) → n ≡ length (intents t.context) → m ≡ length (basis t.context) → k ≡ length (basis t.context)
+    → survey_text t n m k ≡ surveyed_text t
+survey_text-counts t n m k concepts members explored =
     ap (λ a. survey_text t a m k) concepts ∙ ap (λ a. survey_text t (length (intents t.context)) a k) members
-    ∙ ap (λ a. survey_text t (length (intents t.context)) (length (basis t.context)) a) explored ∙ ap surveyed_text same
+    ∙ ap (λ a. survey_text t (length (intents t.context)) (length (basis t.context)) a) explored

@@ -57,9 +57,9 @@ pub fn panel_under<H: Shelf>(
     ensures cause { IfErr result (IsPanelStop file.now (option_copied known.entry) experts.now (H.tells shelf.old)
         (Rises (H.faults shelf.old) (H.faults shelf.new))) }
 {
+    let names = names_told(alloc, names, experts)?;
     let start = start_under(alloc, shelf, file, known)?;
     let tables = experts_under(alloc, shelf, &start.table, experts)?;
-    let names = names_told(alloc, names, experts)?;
     Ok(seated(start, names, tables))
 }
 

@@ -55,7 +55,9 @@ fn play<R: Threads + Wait + Sync>(rt: &R, alloc: Global, panel: Panel) -> Result
     ensures { IfOk result (MayPlay (Read panel)) }
 {
     let explored = explored(rt, alloc, panel)?;
-    answer_of(alloc, &explored)
+    let answer = answer_of(alloc, &explored);
+    drop(explored);
+    answer
 }
 
 /// The exploration of the panel's table by its oracles, as it ended.

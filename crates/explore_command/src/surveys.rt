@@ -1,7 +1,7 @@
 //! The command `survey`: a table that is made, its concepts, its basis, and an exploration by oracles of it.
 
 ghost use Rattle.std.specs.Prelude.{◌≡◌, ◌≤◌, true, [], All, IfOk, length, replicate, vec_len};
-ghost use Rattle.fca_model.specs.Exploration.{is_expert};
+ghost use Rattle.fca_model.specs.Exploration.{is_expert, plain};
 ghost use Rattle.fca_model.specs.Pseudo.{intents, basis};
 ghost use Rattle.fca_model.specs.declared.TheConstants.{MAX_ATTRIBUTES};
 ghost use Rattle.fca_command.specs.Recipes.{HasRecipe};
@@ -33,10 +33,26 @@ pub fn survey<R: Threads + Wait + Sync>(
     ensures { IfOk result (λ text. text.items ≡ surveyed_text (made recipe.now)) }
 {
     let table = made(alloc, recipe)?;
-    let concepts = concepts_of(alloc, &table)?;
-    let members = members_of(rt, alloc, &table)?;
-    let explored = explored(rt, alloc, recipe, &table, experts)?;
-    survey_text(alloc, &table, concepts, members, explored)
+    survey_of(rt, alloc, recipe, &table, experts)
+}
+
+/// What is counted of the recipe's table.
+fn survey_of<R: Threads + Wait + Sync>(
+    rt: &R,
+    alloc: Global,
+    recipe: &Recipe,
+    table: &Table,
+    experts: u8,
+) -> Result<Vec<u8>, Memory>
+    requires recipe { HasRecipe 46 recipe.now.objects recipe.now.attributes recipe.now.density }
+    requires experts { is_expert experts ≡ true }
+    requires table { table.now ≡ made recipe.now }
+    ensures { IfOk result (λ text. text.items ≡ surveyed_text table.now) }
+{
+    let concepts = concepts_of(alloc, table)?;
+    let members = members_of(rt, alloc, table)?;
+    let explored = explored(rt, alloc, recipe, table, experts)?;
+    survey_text(alloc, table, concepts, members, explored)
 }
 
 /// How many concepts the table has.
@@ -82,6 +98,24 @@ fn explored<R: Threads + Wait + Sync>(
     requires table { table.now ≡ made recipe.now }
     ensures { IfOk result (λ count. count ≡ length (basis table.now.context)) }
 {
+    let oracles = copies(alloc, table, experts)?;
+    let explore = opened(alloc, recipe, experts)?;
+    let explored = explore_with_oracles(rt, alloc, explore, oracles, TURNS)?;
+    let accepted = explored.explore.accepted().len();
+    drop(explored);
+    Ok(accepted)
+}
+
+/// The exploration of the recipe's attributes by so many experts, from no object on.
+fn opened(alloc: Global, recipe: &Recipe, experts: u8) -> Result<Explore, Memory>
+    requires { HasRecipe 46 recipe.now.objects recipe.now.attributes recipe.now.density }
+    ensures opening { IfOk result (λ explore. explore.opening ≡ record {
+      table = made (record { seed = recipe.now.seed; objects = 0; attributes = recipe.now.attributes; density = recipe.now.density });
+      experts = experts;
+      settings = plain;
+    }) }
+    ensures journal { IfOk result (λ explore. explore.journal ≡ []) }
+{
     let bare = made(
         alloc,
         &Recipe {
@@ -89,12 +123,10 @@ fn explored<R: Threads + Wait + Sync>(
             ..*recipe
         },
     )?;
-    let oracles = copies(alloc, table, experts)?;
-    let Ok(explore) = Explore::open(alloc, bare, experts) else {
-        return Err(Memory);
-    };
-    let explored = explore_with_oracles(rt, alloc, explore, oracles, TURNS)?;
-    Ok(explored.explore.accepted().len())
+    match Explore::open(alloc, bare, experts) {
+        Ok(explore) => Ok(explore),
+        Err(_) => Err(Memory),
+    }
 }
 
 /// The table so many times.

@@ -2,17 +2,17 @@ use Rattle.std.proofs.Common.{◌≡◌, ◌≤◌, arith}
 use Rattle.explore_command.proofs.PlayLemmas.{told-play, length-play, MayPlay-play}
 use Rattle.explore_command.proofs.play.play.Goals as goal
 
-pub answer_of-requires-clause-count : goal.answer_of-requires-clause-count
-answer_of-requires-clause-count g c =
+pub answer_of-answer-requires-clause-count : goal.answer_of-answer-requires-clause-count
+answer_of-answer-requires-clause-count g c =
     let as_many = length-play _ _ _ _ c.in_ok-explored.ensures in
     let long = c.in_ok-explored.explored.oracles.ok.0 in
     omega arith
 
-pub answer_of-requires-clause-told : goal.answer_of-requires-clause-told
-answer_of-requires-clause-told g c = told-play _ _ _ _ c.in_ok-explored.ensures
+pub answer_of-answer-requires-clause-told : goal.answer_of-answer-requires-clause-told
+answer_of-answer-requires-clause-told g c = told-play _ _ _ _ c.in_ok-explored.ensures
 
 pub returns : goal.returns
 returns g c =
     let explored = c.in_ok-explored.explored in
-    let told = c.answer_of.ensures in
-    MayPlay-play c.args.panel explored.explore explored.oracles.items explored.spent c.answer_of.result c.requires.count c.in_ok-explored.ensures told.text told.spells told.ending
+    let told = c.answer_of-answer.ensures in
+    MayPlay-play c.args.panel explored.explore explored.oracles.items explored.spent c.answer_of-answer.result c.requires.count c.in_ok-explored.ensures told.text told.spells told.ending

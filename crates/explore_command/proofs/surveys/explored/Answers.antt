@@ -14,9 +14,9 @@ explore_with_oracles-requires-clause-width g c κs within =
     let r : Recipe = c.args.recipe.now in
     let none : Recipe = record { seed = r.seed; objects = 0; attributes = r.attributes; density = r.density } in
     let width : NamedContext → ℕ = λ t. t.context.width in
-    let n : ℕ = c.in-Ok.explore.opening.table.context.width in
+    let n : ℕ = c.in_ok-explore.explore.opening.table.context.width in
     let wide : width c.args.table.now ≡ n =
-    ap width c.requires.table ∙ made_width r ∙ sym (made_width none) ∙ sym (ap width c.in_ok-bare.ensures) ∙ sym (ap (λ (o : Opening). width o.table) c.in-Ok.ensures.opening) in
+    ap width c.requires.table ∙ made_width r ∙ sym (made_width none) ∙ sym (ap (λ (o : Opening). width o.table) c.in_ok-explore.ensures.opening) in
     All-weaker (λ (D : NamedContext). D ≡ c.args.table.now) (λ (D : NamedContext). width D ≡ n) (λ D same. ap width same ∙ wide) _ c.in_ok-oracles.ensures.same
 
 pub returns : goal.returns
@@ -24,14 +24,14 @@ returns g c =
     let table : NamedContext = c.args.table.now in
     let C : Context = table.context in
     let end = c.in_ok-explored.ensures in
-    let bare : c.in-Ok.explore.opening.table ≡ c.in_ok-bare.bare = ap (λ (o : Opening). o.table) c.in-Ok.ensures.opening in
-    let plainly = ap (λ (o : Opening). o.settings) c.in-Ok.ensures.opening in
-    let small : c.in-Ok.explore.opening.table.context.width ≤ 46 =
-    (let wide = ap (λ (t : NamedContext). t.context.width) (bare ∙ c.in_ok-bare.ensures) ∙ made_width _ in let few = c.requires.recipe.attributes in omega arith) in
+    let bare = ap (λ (o : Opening). o.table) c.in_ok-explore.ensures.opening in
+    let plainly = ap (λ (o : Opening). o.settings) c.in_ok-explore.ensures.opening in
+    let small : c.in_ok-explore.explore.opening.table.context.width ≤ 46 =
+    (let wide = ap (λ (t : NamedContext). t.context.width) bare ∙ made_width _ in let few = c.requires.recipe.attributes in omega arith) in
     let same : All (λ (D : NamedContext). D.context ≡ C) c.in_ok-oracles.oracles.items =
     All-weaker (λ (D : NamedContext). D ≡ table) (λ (D : NamedContext). D.context ≡ C) (λ D e. ap (λ (t : NamedContext). t.context) e) _ c.in_ok-oracles.ensures.same in
-    let part : is_part c.in-Ok.explore.opening.table.context C ≡ true =
-    ap (λ (t : NamedContext). is_part t.context C) (bare ∙ c.in_ok-bare.ensures) ∙ is_part-none _ _ _ C in
-    length-agreed C c.in_ok-explored.explored.explore c.accepted.result.now c.in_ok-explored.explored.oracles.items c.in_ok-explored.explored.spent
-    (ap (λ (o : Opening). o.settings) end.opening ∙ plainly) c.accepted.ensures.basis end.finished
-    (end.agreed C same part (respecting_plain c.in-Ok.explore.opening.settings C plainly)) (end.unspent refl small)
+    let part : is_part c.in_ok-explore.explore.opening.table.context C ≡ true =
+    ap (λ (t : NamedContext). is_part t.context C) bare ∙ is_part-none _ _ _ C in
+    length-agreed C c.in_ok-explored.explored.explore c.accepted-accepted.result.now c.in_ok-explored.explored.oracles.items c.in_ok-explored.explored.spent
+    (ap (λ (o : Opening). o.settings) end.opening ∙ plainly) c.accepted-accepted.ensures.basis end.finished
+    (end.agreed C same part (respecting_plain c.in_ok-explore.explore.opening.settings C plainly)) (end.unspent refl small)
