@@ -1,7 +1,7 @@
 //! Explorations: the questions open in a table, what experts draw and answer, and the journal of it.
 #![tactic(auto)]
 
-ghost use Rattle.std.specs.Prelude.{◌≡◌, ◌≢◌, ◌≤◌, ◌<◌, ◌+◌, ◌↔◌, ◌⊎◌, ◌==◌, ℕ, [], Some, IsOk, IfOk, OnOk, OnErr, IfErr, IsErrOf, IsNone, IfSome, true, false, vec_len, vec_capacity, All};
+ghost use Rattle.std.specs.Prelude.{◌≡◌, ◌≢◌, ◌≤◌, ◌<◌, ◌+◌, ◌↔◌, ◌⊎◌, ◌==◌, ℕ, [], None, Some, IsOk, IfOk, OnOk, OnErr, IfErr, IsErrOf, IsNone, IfSome, true, false, vec_len, vec_capacity, All};
 ghost use Rattle.std.specs.List.{list_all};
 ghost use Rattle.fca_model.specs.Sets.{size};
 ghost use Rattle.fca_model.specs.Implications.{Rule, holds};
@@ -149,12 +149,7 @@ impl Explore {
         ensures no_other { IfErr result (λ fault. (fault ≡ OpenFault.Memory)
             ⊎ (open_fault table.context experts (settings_of settings) ≡ Some fault)) }
     {
-        if let Some(fault) = open_fault(&table, experts, &settings) {
-            return Err(fault);
-        }
-        let _known = settings.known.as_slice();
-        let queue = LevelQueue::open_known(alloc, table.rows(), &settings.known)?;
-        let held = Vec::with_capacity(alloc, MAX_EXPERTS as usize)?;
+        let (queue, held) = begun(alloc, &table, experts, &settings)?;
         Ok(Explore {
             table,
             experts,
@@ -369,6 +364,32 @@ impl Explore {
             Event::Leave { .. } => Reply::Left,
         }
     }
+}
+
+/// What an exploration of the table begins with: its queue, and room for what its experts hold.
+fn begun(
+    alloc: Global,
+    table: &Table,
+    experts: u8,
+    settings: &Settings,
+) -> Result<(LevelQueue, Vec<Hold>), OpenFault>
+    requires { settings.now.known.width ≡ table.now.context.width }
+    ensures queue { IfOk result (λ begun. begun.0
+        ≡ record { context = table.now.context; known = settings.now.known.members; accepted = [] }) }
+    ensures held { IfOk result (λ begun. begun.1.items ≡ []) }
+    ensures room { IfOk result (λ begun. MAX_EXPERTS ≤ vec_capacity begun.1) }
+    ensures sound { OnOk result (open_fault table.now.context experts (settings_of settings.now) ≡ None) }
+    ensures refused { IfSome (open_fault table.now.context experts (settings_of settings.now)) (IsErrOf result) }
+    ensures no_other { IfErr result (λ fault. (fault ≡ OpenFault.Memory)
+        ⊎ (open_fault table.now.context experts (settings_of settings.now) ≡ Some fault)) }
+{
+    if let Some(fault) = open_fault(table, experts, settings) {
+        return Err(fault);
+    }
+    let _known = settings.known.as_slice();
+    let held = Vec::with_capacity(alloc, MAX_EXPERTS as usize)?;
+    let queue = LevelQueue::open_known(alloc, table.rows(), &settings.known)?;
+    Ok((queue, held))
 }
 
 /// Room for one more entry.
