@@ -2,7 +2,7 @@
 -- which ends came and went; ends that have gone through their sessions make an answer.
 use Rattle.std.proofs.Common.{◌≡◌, ◌≤◌, ◌⊎◌, [], ℕ, nat_le, true, List, length, Option, Result, Ok, Err, inl, inr, refl, sym, subst, arith}
 use Rattle.std.proofs.lemmas.Bool.{and_parts, leb-true}
-use Rattle.std.specs.Prelude.{IfErr}
+use Rattle.std.specs.Prelude.{IfOk, IfErr}
 use Rattle.fca_model.specs.Tables.{Text}
 use Rattle.explore_state.specs.History.{Opening}
 use Rattle.fca_model.specs.declared.TheConstants.{MAX_EXPERTS}
@@ -27,6 +27,10 @@ expert-range n expert = let range = and_parts (nat_le 1 n) (nat_le n MAX_EXPERTS
 pub any-err : {X F : Type 0} (r : Result X F) (P : F → Type 0) → ((e : F) → P e) → IfErr r P
 any-err (Ok x) P all = tt
 any-err (Err e) P all = all e
+
+pub ok-from-three : {X F : Type 0} (r : Result X F) (P Q R S : X → Type 0) → IfOk r P → IfOk r Q → IfOk r R → ((x : X) → P x → Q x → R x → S x) → IfOk r S
+ok-from-three (Ok x) P Q R S p q r' all = all x p q r'
+ok-from-three (Err e) P Q R S p q r' all = tt
 
 -- ---- counts of faults
 

@@ -22,7 +22,7 @@ use command_io::{Answer, Ending, Stop, start_under};
 use expert_sessions::{Ended, Served, Unserved, serve_ends};
 use explore_state::Explore;
 use fca_io::{Listener, Shelf};
-use fca_model::{Memory, Word};
+use fca_model::Word;
 use std::alloc::Global;
 use std::sync::Wait;
 use std::thread::Threads;
@@ -94,7 +94,7 @@ fn explored<R: Threads + Wait + Sync, L: Listener>(
                 endings,
             } = served;
             give_back(link, ends);
-            Ok(text_of(alloc, &explore, &endings)?)
+            text_of(alloc, &explore, &endings)
         }
         Err(Unserved { ends }) => {
             give_back(link, ends);
@@ -104,12 +104,13 @@ fn explored<R: Threads + Wait + Sync, L: Listener>(
 }
 
 /// The text of the exploration, and how its sessions ended.
-fn text_of(alloc: Global, explore: &Explore, endings: &[Ended]) -> Result<Answer, Memory>
+fn text_of(alloc: Global, explore: &Explore, endings: &[Ended]) -> Result<Answer, Stop>
     requires { CanBeTold explore.now.opening.table.context.width explore.now.opening.settings }
     ensures text { IfOk result (λ answer. answer.text ≡ explore_text explore.now.opening.table explore.now.opening.settings explore.now.journal
         ++ sessions_text (map words_of endings.now)) }
     ensures spells { IfOk result (λ answer. Spells explore.now.opening.table explore.now.opening.settings explore.now.journal answer.text) }
     ensures ending { IfOk result (λ answer. answer.ending ≡ ending_of (open_of explore.now)) }
+    ensures cause { IfErr result (λ stop. stop ≡ Stop.Memory) }
 {
     let words = words_of_all(alloc, endings)?;
     let mut text = explore_text(alloc, explore)?;
