@@ -1,7 +1,17 @@
-use Rattle.std.proofs.Common.{◌≡◌, ◌∷◌, suc, length, ap, arith}
+use Rattle.std.proofs.Common.{◌≡◌, ◌∷◌, suc, length, vec_len, ap, arith}
+use Rattle.std.specs.Prelude.{vec_capacity}
 use Rattle.std.specs.Vec.Iter.{into_iter_items}
-use Rattle.expert_sessions.proofs.SeatLemmas.{part-put}
+use Rattle.expert_sessions.proofs.SeatLemmas.{part-put, room-next}
 use Rattle.expert_sessions.proofs.seats.risen.Goals as goal
+
+pub push_reserved-requires : goal.push_reserved-requires
+push_reserved-requires g c = room-next (vec_len c.loop-seat.passes) (vec_capacity c.loop-seat.passes) c.in-Some.seat _ _ c.loop-seat.invariant.passes_room c.in-Some.ensures.steps.0
+
+pub push_reserved-requires-in-loop-seat : goal.push_reserved-requires-in-loop-seat
+push_reserved-requires-in-loop-seat g c = room-next (vec_len c.loop-seat.ends) (vec_capacity c.loop-seat.ends) c.in-Some.seat _ _ c.loop-seat.invariant.ends_room c.in-Some.ensures.steps.0
+
+pub push_reserved-requires-in-loop-seat-2 : goal.push_reserved-requires-in-loop-seat-2
+push_reserved-requires-in-loop-seat-2 g c = room-next (vec_len c.loop-seat.endings) (vec_capacity c.loop-seat.endings) c.in-Some.seat _ _ c.loop-seat.invariant.endings_room c.in-Some.ensures.steps.0
 
 pub loop-seat-preserved : goal.loop-seat-preserved
 loop-seat-preserved g c =
