@@ -45,7 +45,11 @@ pub fn run<R: Threads + Wait + Sync, H: Shelf, S: Source, K: Sink, E: Sink, L: L
         (moment E.held E.faults err.old) (moment E.held E.faults err.new) result }
 {
     match command_of(alloc, words) {
-        Ok(Some(command)) => run_command(rt, alloc, &command, shelf, input, out, err, link),
+        Ok(Some(command)) => {
+            let status = run_command(rt, alloc, &command, shelf, input, out, err, link);
+            drop(command);
+            status
+        }
         Ok(None) => conclude(Err(Stop::NoCommand), b"", out, err),
         Err(Memory) => conclude(Err(Stop::Memory), b"", out, err),
     }

@@ -4,6 +4,7 @@ ghost use Rattle.std.specs.Prelude.{◌≡◌, IfOk, IfErr, true};
 ghost use Rattle.fca_model.specs.Exploration.{is_expert};
 ghost use Rattle.fca_model.specs.declared.TheConstants.{MAX_ATTRIBUTES};
 ghost use Rattle.fca_command.specs.Recipes.{HasRecipe};
+ghost use Rattle.command_io.specs.Endings.{finished};
 ghost use Rattle.fca_run.specs.Outputs.{made_output, survey_output};
 
 use command_io::{Answer, Stop};
@@ -21,6 +22,13 @@ pub fn made_answer(alloc: Global, recipe: &Recipe) -> Result<Answer, Memory>
     requires { HasRecipe MAX_ATTRIBUTES recipe.now.objects recipe.now.attributes recipe.now.density }
     ensures { IfOk result (λ answer. answer ≡ made_output recipe.now) }
 {
+    Ok(Answer::finished(made_text(alloc, recipe)?))
+}
+
+fn made_text(alloc: Global, recipe: &Recipe) -> Result<Vec<u8>, Memory>
+    requires { HasRecipe MAX_ATTRIBUTES recipe.now.objects recipe.now.attributes recipe.now.density }
+    ensures { IfOk result (λ text. finished text.items ≡ made_output recipe.now) }
+{
     let table = Table::make(
         alloc,
         recipe.seed,
@@ -28,7 +36,7 @@ pub fn made_answer(alloc: Global, recipe: &Recipe) -> Result<Answer, Memory>
         recipe.attributes,
         recipe.density,
     )?;
-    Ok(Answer::finished(write_cxt(alloc, &table)?))
+    write_cxt(alloc, &table)
 }
 
 /// What is counted of the table and of the exploration by its oracles.

@@ -3,9 +3,9 @@
 
 ghost use Rattle.std.specs.Prelude.{◌≡◌, ◌⊎◌, true, Some, IfOk, IfErr, length, is_some};
 ghost use Rattle.fca_command.specs.Commands.{reported};
-ghost use Rattle.command_io.specs.Readings.{MayRead, MayRefuse, Rises};
+ghost use Rattle.command_io.specs.Readings.{then, MayRead, MayRefuse, Rises};
 ghost use Rattle.command_io.specs.Readings.Reading.{Refused, Read};
-ghost use Rattle.command_io.specs.Endings.{IsRefusal};
+ghost use Rattle.command_io.specs.Endings.{finished, IsRefusal};
 ghost use Rattle.fca_run.specs.Reports.{attributes_read, table_concepts, table_basis, table_direct, table_verdict, verdict_read, table_written, table_reduced, table_arrows, table_report, report_read};
 ghost use Rattle.fca_run.specs.Causes.{IsReportStop};
 
@@ -42,7 +42,23 @@ pub fn report_answer<R: Threads + Sync, H: Shelf>(
         (Rises (H.faults shelf.old) (H.faults shelf.new) file.now)) }
 {
     let table = table_under(alloc, shelf, file, Origin::File)?;
-    Ok(Answer::finished(report_on(rt, alloc, command, &table)?))
+    answer_on(rt, alloc, command, &table)
+}
+
+/// The answer with what the command reports of the table.
+fn answer_on<R: Threads + Sync>(
+    rt: &R,
+    alloc: Global,
+    command: &Command,
+    table: &Table,
+) -> Result<Answer, Stop>
+    requires { is_some (reported command.now) ≡ true }
+    ensures output { IfOk result (λ answer. MayRead (then (table_report command.now table.now) (λ text. Read (finished text))) answer) }
+    ensures finished { IfOk result (λ answer. answer.ending ≡ Ending.Finished) }
+    ensures refused { IfErr result (λ stop. IsRefusal stop → MayRefuse (table_report command.now table.now)) }
+    ensures cause { IfErr result (λ stop. (stop ≡ Stop.Memory) ⊎ ((stop ≡ Stop.UnknownAttribute) × (table_report command.now table.now ≡ Refused))) }
+{
+    Ok(Answer::finished(report_on(rt, alloc, command, table)?))
 }
 
 /// What the command reports of the table.

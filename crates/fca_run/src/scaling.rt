@@ -4,7 +4,7 @@ ghost use Rattle.std.specs.Prelude.{◌≡◌, IfOk, IfErr};
 ghost use Rattle.context_scaling.specs.Scaling.{Fits, scaled};
 ghost use Rattle.cxt_format.specs.Written.{cxt_text};
 ghost use Rattle.command_io.specs.Readings.{MayRead, MayRefuse, Rises};
-ghost use Rattle.command_io.specs.Endings.{IsRefusal};
+ghost use Rattle.command_io.specs.Endings.{finished, IsRefusal};
 ghost use Rattle.fca_run.specs.Outputs.{scale_output};
 ghost use Rattle.fca_run.specs.Causes.{IsScaleStop};
 
@@ -30,7 +30,16 @@ pub fn scale_answer<H: Shelf>(
 {
     let values = values_under(alloc, shelf, values, Origin::File)?;
     let plan = plan_under(alloc, shelf, plan, Origin::Later(0), &values)?;
-    Ok(Answer::finished(scaled_text(alloc, &values, &plan)?))
+    scaled_answer(alloc, &values, &plan)
+}
+
+/// The answer with the table that the plan makes of the values.
+fn scaled_answer(alloc: Global, values: &Values, plan: &Plan) -> Result<Answer, Stop>
+    requires { Fits plan.now values.now }
+    ensures output { IfOk result (λ answer. answer ≡ finished (cxt_text (scaled values.now plan.now))) }
+    ensures cause { IfErr result (λ stop. stop ≡ Stop.Memory) }
+{
+    Ok(Answer::finished(scaled_text(alloc, values, plan)?))
 }
 
 /// The table that the plan makes of the values, in the Burmeister form.

@@ -13,12 +13,12 @@ returns-in-Ok-Some g c =
     let talk = sides g.L.End.Source.left g.L.End.Sink.held g.L.End.Source.faults g.L.End.Sink.faults in
     let old = outside (shelf_moment g.H.Shelf.tells g.H.Shelf.faults c.args.shelf.now) (moment g.S.Source.left g.S.Source.faults c.args.input.now)
     (link_moment g.L.Listener.listens g.L.Listener.listens_at g.L.Listener.ends g.L.Listener.open_faults g.L.Listener.accept_faults c.args.link.now) in
-    let new = outside (shelf_moment g.H.Shelf.tells g.H.Shelf.faults c.run_command.new.shelf) (moment g.S.Source.left g.S.Source.faults c.run_command.new.input)
-    (link_moment g.L.Listener.listens g.L.Listener.listens_at g.L.Listener.ends g.L.Listener.open_faults g.L.Listener.accept_faults c.run_command.new.link) in
+    let new = outside (shelf_moment g.H.Shelf.tells g.H.Shelf.faults c.run_command-status.new.shelf) (moment g.S.Source.left g.S.Source.faults c.run_command-status.new.input)
+    (link_moment g.L.Listener.listens g.L.Listener.listens_at g.L.Listener.ends g.L.Listener.open_faults g.L.Listener.accept_faults c.run_command-status.new.link) in
     let Ran : Option Command → Type 0 = λ call. HasRun talk call old new
-    (moment g.K.Sink.held g.K.Sink.faults c.args.out.now) (moment g.K.Sink.held g.K.Sink.faults c.run_command.new.out)
-    (moment g.E.Sink.held g.E.Sink.faults c.args.err.now) (moment g.E.Sink.held g.E.Sink.faults c.run_command.new.err) c.run_command.result in
-    record { ran = subst Ran (sym c.in-Ok-Some.field-0-is ∙ c.in-Ok-Some.ensures.command) c.run_command.ensures }
+    (moment g.K.Sink.held g.K.Sink.faults c.args.out.now) (moment g.K.Sink.held g.K.Sink.faults c.run_command-status.new.out)
+    (moment g.E.Sink.held g.E.Sink.faults c.args.err.now) (moment g.E.Sink.held g.E.Sink.faults c.run_command-status.new.err) c.run_command-status.result in
+    record { ran = subst Ran (sym c.in-Ok-Some.field-0-is ∙ c.in-Ok-Some.ensures.command) c.run_command-status.ensures }
 
 pub returns-in-Ok-None : goal.returns-in-Ok-None
 returns-in-Ok-None g c =

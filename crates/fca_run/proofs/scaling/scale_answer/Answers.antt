@@ -1,9 +1,10 @@
-use Rattle.std.proofs.Common.{sym, ap, ◌∙◌, subst}
+use Rattle.std.proofs.Common.{sym, subst}
+use Rattle.std.proofs.lemmas.Result.{IfOk-weaker}
 use Rattle.command_io.specs.Readings.{MayRefuse, Rises}
 use Rattle.command_io.specs.declared.stop.Stop.{Stop}
 use Rattle.command_io.proofs.ErrLemmas.{err-passed}
 use Rattle.command_io.specs.Readings.{MayRead}
-use Rattle.command_io.specs.Endings.{Output, finished, IsRefusal}
+use Rattle.command_io.specs.Endings.{Output, IsRefusal}
 use Rattle.fca_run.specs.Causes.{IsScaleStop}
 use Rattle.fca_run.specs.Outputs.{scale_output}
 use Rattle.fca_run.proofs.ScalingLemmas.{scale-read, scale-refused, scale-stop}
@@ -13,9 +14,10 @@ pub returns-clause-output : goal.returns-clause-output
 returns-clause-output g c =
     let tells = g.H.Shelf.tells c.args.shelf.now in
     let Reads : Output → Type 0 = λ o. MayRead (scale_output c.args.values.now c.args.plan.now tells) o in
-    subst Reads (sym (c.finished.ensures ∙ ap finished c.in_ok-scaled_text.ensures))
+    IfOk-weaker c.scaled_answer.result _ Reads (λ answer is. subst Reads (sym is)
     (scale-read c.args.values.now c.args.plan.now tells (g.H.Shelf.tells c.values_under.new.shelf) c.in_ok-values.values c.in_ok-plan.plan
-    c.in_ok-values.ensures.values c.in_ok-values.ensures.kept c.in_ok-plan.ensures.plan)
+    c.in_ok-values.ensures.values c.in_ok-values.ensures.kept c.in_ok-plan.ensures.plan))
+    c.scaled_answer.ensures.output
 
 pub returns-in_err-plan-clause-refused : goal.returns-in_err-plan-clause-refused
 returns-in_err-plan-clause-refused g c =
