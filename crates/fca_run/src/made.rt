@@ -25,6 +25,7 @@ pub fn made_answer(alloc: Global, recipe: &Recipe) -> Result<Answer, Memory>
     Ok(Answer::finished(made_text(alloc, recipe)?))
 }
 
+/// The recipe's table in the Burmeister form.
 fn made_text(alloc: Global, recipe: &Recipe) -> Result<Vec<u8>, Memory>
     requires { HasRecipe MAX_ATTRIBUTES recipe.now.objects recipe.now.attributes recipe.now.density }
     ensures { IfOk result (λ text. finished text.items ≡ made_output recipe.now) }
