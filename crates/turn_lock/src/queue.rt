@@ -9,8 +9,11 @@ use std::time::Duration;
 /// As many as a lock may have passes, so that of two tickets with one place the later is drawn after the turn of the earlier.
 const PLACES: usize = 64;
 
-/// How often a pass looks, one time after the other, before it sleeps.
+/// How often a pass with a ticket looks, one time after the other, before it sleeps.
 pub const LOOKS: u32 = 2048;
+
+/// How often a pass without a ticket looks before it naps: less than a turn takes, so that who has a turn may have the next ones too.
+pub const QUIET_LOOKS: u32 = 64;
 
 /// How often a pass naps at most before it draws a ticket behind others.
 pub const NAPS: u32 = 16;

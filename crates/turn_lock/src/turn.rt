@@ -9,7 +9,7 @@ ghost use Rattle.turn_lock.specs.Seats.{known, IsIdle, Waits, Fits, Stays};
 ghost use Rattle.turn_lock.specs.Steps.{Drew, Came, HasTurn, Holds, Grew, ended_view};
 
 use crate::logged::Logged;
-use crate::queue::{LOOKS, NAPS, Queue, nap};
+use crate::queue::{LOOKS, NAPS, QUIET_LOOKS, Queue, nap};
 use crate::rule::{Coming, Drawing, Ending, Key, TurnRule};
 use crate::view::View;
 use atomic_table::{Seat, Shared};
@@ -25,7 +25,7 @@ fn is_quiet<V: Logged>(
 ) -> bool
     requires { shared.now.table_id.words ≡ 2 }
 {
-    for _ in 0..LOOKS {
+    for _ in 0..QUIET_LOOKS {
         if shared.peek(0) == shared.peek(1) {
             return true;
         }
