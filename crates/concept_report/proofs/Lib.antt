@@ -1,5 +1,6 @@
 pub mod ListingLemmas
 pub mod PieceLemmas
 pub mod PlaceLemmas
+pub mod TryLemmas
 pub mod LineLemmas
 pub mod FrontLemmas

@@ -4,3 +4,4 @@ pub mod Lines
 pub mod Places
 pub mod Pages
 pub mod Numerals
+pub mod Tries

@@ -11,6 +11,7 @@ use crate::notes::{begin_notes, known};
 use crate::page::Page;
 use crate::places::closure_at;
 use crate::sheet::Sheet;
+use crate::tries::{last_member, tries_of};
 use attr_bits::Bits;
 use fca_model::Memory;
 use lectic_concepts::{first_seen, is_child, is_open, note, seen_above};
@@ -67,8 +68,11 @@ fn write_branch<const W: usize>(
 {
     page.add(sheet, a, places)?;
     let rows = sheet.rows();
+    let tries = tries_of(rows, a, places);
     let mut desk = taken(alloc, desks);
-    for i in (from..rows.width()).rev() {
+    let mut end = rows.width();
+    while let Some(i) = last_member(&tries, from, end) {
+        end = i;
         if !is_open(rows, a, i, known(sheet, a, seen, &desk.noted)) {
             continue;
         }

@@ -14,6 +14,7 @@ mod page;
 mod pieces;
 mod places;
 mod sheet;
+mod tries;
 
 ghost use Rattle.std.specs.Prelude.{◌≡◌, ◌++◌, true, codes, IfOk};
 ghost use Rattle.fca_model.specs.Pseudo.{basis, covers, intents};

@@ -8,8 +8,11 @@ decreases-write_branch g l = l.sheet.now.context.width - l.from
 
 abbrev pub invariant-loop-i : goal.invariant-loop-i
 invariant-loop-i g l = record {
-  from_on : l.fn.from ≤ l.i;
-  inside : l.i ≤ l.sheet.context.width;
+  from_on : l.fn.from ≤ l.end;
+  inside : l.end ≤ l.sheet.context.width;
   noted : AreSeen l.sheet.context l.a l.desk.noted.items;
-  filled : Fills l.sheet l.fn.page l.page (branch l.sheet.context l.a l.i);
+  filled : Fills l.sheet l.fn.page l.page (branch l.sheet.context l.a l.end);
 }
+
+abbrev pub decreases-loop-i : goal.decreases-loop-i
+decreases-loop-i g l = l.end
