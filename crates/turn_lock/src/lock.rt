@@ -74,7 +74,7 @@ impl<V: Logged> TurnLock<V> {
     {
         let (table, seat) = table_of(alloc, value, turns)?;
         let all = all_passes(alloc, &table.shared, seat, passes, turns)?;
-        let queue = Queue::new();
+        let queue = Queue::new(passes);
         Ok((
             TurnLock {
                 passes,

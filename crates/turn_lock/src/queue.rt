@@ -24,17 +24,24 @@ const GROWTHS: u32 = 5;
 /// The microseconds of the first nap.
 const FIRST_NAP: u64 = 32;
 
-/// The places where passes with tickets sleep until they are called.
+/// The places where passes with tickets sleep until they are called, and how many passes there are.
 #[derive(Drop)]
 pub struct Queue {
     places: [Parker; PLACES],
+    passes: u8,
 }
 
 impl Queue {
-    pub fn new() -> Queue {
+    pub fn new(passes: u8) -> Queue {
         Queue {
             places: array::from_fn(|_| Parker::new()),
+            passes,
         }
+    }
+
+    /// Whether a pass may have to wait for another.
+    pub fn is_shared(&self) -> bool {
+        self.passes > 1
     }
 
     /// Where the pass with this ticket sleeps.

@@ -34,9 +34,25 @@ fn is_quiet<V: Logged>(
     false
 }
 
-/// Draws a ticket: once each that was drawn has had its turn, or after some naps.
+/// Waits until each ticket that was drawn has had its turn, or for some naps.
+fn wait_for_quiet<V: Logged, R: Wait>(
+    shared: &Shared<Option<V>, View<V::Base, V::Entry>, Key<V>, TurnRule<V>>,
+    rt: &R,
+)
+    requires { shared.now.table_id.words ≡ 2 }
+{
+    for naps in 0..NAPS {
+        if is_quiet(shared) {
+            return;
+        }
+        Parker::new().park_timeout(rt, nap(naps));
+    }
+}
+
+/// Draws a ticket, where there are others, once they leave the lock for a while or for long do not.
 fn draw<V: Logged, R: Wait>(
     shared: &Shared<Option<V>, View<V::Base, V::Entry>, Key<V>, TurnRule<V>>,
+    queue: &Queue,
     rt: &R,
     seat: &mut Seat<Option<V>, View<V::Base, V::Entry>>,
 ) -> u64
@@ -46,11 +62,8 @@ fn draw<V: Logged, R: Wait>(
     ensures lock { Stays seat.old seat.new }
     ensures drew { Drew (step 1 0 1 0 none) seat.old.me result seat.new.me }
 {
-    for naps in 0..NAPS {
-        if is_quiet(shared) {
-            break;
-        }
-        Parker::new().park_timeout(rt, nap(naps));
+    if queue.is_shared() {
+        wait_for_quiet(shared, rt);
     }
     shared.fetch_add::<Drawing<V>>(seat, 0, 1)
 }
@@ -144,7 +157,7 @@ fn end<V: Logged>(
     let _none = shared.exchange(seat, 0, Some(value));
     let ended = shared.fetch_add::<Ending<V>>(seat, 1, 1);
     let next = ended.wrapping_add(1);
-    if shared.peek(0) > next {
+    if queue.is_shared() && shared.peek(0) > next {
         queue.call(next);
     }
 }
@@ -169,7 +182,7 @@ pub fn play<V: Logged, R: Wait>(
     ensures entry { IfOk result (λ reply. (b : V.Base) → seat.old.me.0.base ≡ Some b → Entered V.legal V.by b (known seat.old) (V.entry event reply) (known seat.new)) }
     ensures memory { OnErr result ((b : V.Base) → seat.old.me.0.base ≡ Some b → Looked V.legal V.by b (known seat.old) (known seat.new)) }
 {
-    let ticket = draw(shared, rt, seat);
+    let ticket = draw(shared, queue, rt, seat);
     let mut value = wait(shared, queue, rt, seat, ticket);
     let reply = value.apply(event);
     end(shared, queue, seat, value);
@@ -193,7 +206,7 @@ pub fn look<V: Logged, R: Wait>(
     ensures looked { (b : V.Base) → seat.old.me.0.base ≡ Some b → Looked V.legal V.by b (known seat.old) (known seat.new) }
     ensures shown { (b : V.Base) → seat.old.me.0.base ≡ Some b → V.shows b seat.new.me.0.seen result }
 {
-    let ticket = draw(shared, rt, seat);
+    let ticket = draw(shared, queue, rt, seat);
     let value = wait(shared, queue, rt, seat, ticket);
     let seen = value.seen();
     end(shared, queue, seat, value);
