@@ -3,6 +3,7 @@ is not seen, since a child begins as its copy.
 """
 import hashlib
 import os
+import random
 import subprocess
 import tempfile
 import time
@@ -58,24 +59,39 @@ def digest(text):
     return hashlib.sha256(text).hexdigest()
 
 
-def timed(words, repeat=3):
-    """The least processor seconds, the peak of memory in megabytes, and a digest of what was written; nothing past the limit."""
-    least, peak, written = None, 0, None
+def written(words):
+    """A digest of what the command writes; nothing past the limit."""
+    with tempfile.TemporaryFile() as out:
+        child = subprocess.run(["timeout", str(LIMIT)] + words, stdout=out, stderr=subprocess.DEVNULL)
+        if child.returncode != 0:
+            return None
+        out.seek(0)
+        return digest(out.read())
+
+
+class Times:
+    """Processor seconds, wall seconds and peaks of memory of some runs of a command into the null device."""
+
+    def __init__(self, words):
+        self.words, self.processor, self.wall, self.peak = words, [], [], 0
+
+    def run(self):
+        begin = time.time()
+        child = subprocess.Popen(self.words, stdout=subprocess.DEVNULL, stderr=subprocess.DEVNULL)
+        _, _, usage = os.wait4(child.pid, 0)
+        self.wall.append(time.time() - begin)
+        self.processor.append(usage.ru_utime + usage.ru_stime)
+        self.peak = max(self.peak, usage.ru_maxrss / 1024)
+
+
+def in_turns(commands, repeat):
+    """The times of the commands, which run in turns, in another order each time."""
+    times = [Times(words) for words in commands]
     for _ in range(repeat):
-        with tempfile.TemporaryFile() as out:
-            child = subprocess.Popen(["timeout", str(LIMIT)] + words, stdout=out, stderr=subprocess.DEVNULL)
-            _, ended, usage = os.wait4(child.pid, 0)
-            if os.waitstatus_to_exitcode(ended) != 0:
-                return None, 0, None
-            took = usage.ru_utime + usage.ru_stime
-            least = took if least is None else min(least, took)
-            peak = max(peak, usage.ru_maxrss / 1024)
-            out.seek(0)
-            written = digest(out.read())
-        if least > LIMIT / 6:
-            break
-    return least, peak, written
+        for one in random.sample(times, len(times)):
+            one.run()
+    return times
 
 
-def shown(seconds):
-    return ">%d" % LIMIT if seconds is None else "%.3f" % seconds
+def median(numbers):
+    return sorted(numbers)[len(numbers) // 2]

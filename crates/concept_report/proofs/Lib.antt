@@ -1,6 +1,1 @@
-pub mod ListingLemmas
-pub mod PieceLemmas
-pub mod PlaceLemmas
-pub mod TryLemmas
-pub mod LineLemmas
-pub mod FrontLemmas
+pub mod TopLemmas

@@ -5,14 +5,14 @@ ghost use Rattle.fca_model.specs.Pseudo.{basis};
 ghost use Rattle.implication_closure.specs.Closing.{HaveWidth};
 ghost use Rattle.expert_wire.specs.Texts.{arrow_text, line_end};
 ghost use Rattle.basis_report.specs.Reports.{arrow_line, basis_text};
-ghost use Rattle.concept_report.specs.Listing.{parted};
+ghost use Rattle.concept_lines.specs.Listing.{parted};
 
-use crate::lines::{MARKS, head_of, make_room, room_of};
-use crate::names::attribute_pieces;
-use crate::pieces::{PIECE_ROOM, Pieces, put_bytes};
-use crate::sheet::put_attributes;
 use attr_bits::Bits;
 use canonical_basis::basis_in_words;
+use concept_lines::{
+    MARKS, PIECE_ROOM, Pieces, attribute_pieces, head_of, make_room, put_attributes, put_bytes,
+    room_of,
+};
 use context_table::Table;
 use derivation::RowsOf;
 use fca_model::{Implication, Memory};

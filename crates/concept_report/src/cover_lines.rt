@@ -5,10 +5,8 @@ ghost use Rattle.std.specs.List.{flat_map};
 ghost use Rattle.basis_report.specs.Reports.{counted, cover_line};
 ghost use Rattle.concept_report.specs.Numerals.{AreNumerals};
 
-use crate::block::{Block, HEAD, put_block};
-use crate::lines::{add_head, make_room};
 use crate::numerals::count_up_to;
-use crate::pieces::put_bytes;
+use concept_lines::{Block, HEAD, add_head, make_room, put_block, put_bytes};
 use fca_model::Memory;
 use std::alloc::Global;
 

@@ -3,8 +3,7 @@
 ghost use Rattle.std.specs.Prelude.{◌≡◌, ◌≤◌, OnOk, IfOk, length};
 ghost use Rattle.concept_report.specs.Numerals.{IsNumeral, AreNumerals};
 
-use crate::block::{Block, HEAD};
-use crate::pieces::block_of;
+use concept_lines::{Block, HEAD, block_of};
 use fca_model::Memory;
 use itoa::Buffer;
 

@@ -6,6 +6,8 @@
 #[cfg(test)]
 mod canonical_basis_tests;
 #[cfg(test)]
+mod concept_report_tests;
+#[cfg(test)]
 mod context_reduce_tests;
 #[cfg(test)]
 mod fca_io_tests;

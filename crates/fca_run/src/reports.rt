@@ -74,8 +74,8 @@ fn report_on<R: Threads + Sync>(
     ensures cause { IfErr result (λ stop. (stop ≡ Stop.Memory) ⊎ ((stop ≡ Stop.UnknownAttribute) × (table_report command.now table.now ≡ Refused))) }
 {
     match command {
-        Command::Concepts { json, .. } => Ok(table_concepts(alloc, *json, table)?),
-        Command::Lattice { .. } => Ok(table_lattice_text(alloc, table)?),
+        Command::Concepts { json, .. } => Ok(table_concepts(rt, alloc, *json, table)?),
+        Command::Lattice { .. } => Ok(table_lattice_text(rt, alloc, table)?),
         Command::Basis { json, .. } => Ok(table_basis(rt, alloc, *json, table)?),
         Command::Direct { .. } => Ok(table_direct(alloc, table)?),
         Command::Follows {
@@ -91,14 +91,19 @@ fn report_on<R: Threads + Sync>(
 }
 
 /// The concepts of the table, in lectic order of their intents.
-fn table_concepts(alloc: Global, json: bool, table: &Table) -> Result<Vec<u8>, Memory>
+fn table_concepts<R: Threads + Sync>(
+    rt: &R,
+    alloc: Global,
+    json: bool,
+    table: &Table,
+) -> Result<Vec<u8>, Memory>
     ensures { IfOk result (λ text. text.items ≡ table_concepts json table.now) }
 {
     if json {
         let concepts = all_concepts(alloc, table.rows())?;
         concepts_json(alloc, table, &concepts)
     } else {
-        table_concepts_text(alloc, table)
+        table_concepts_text(rt, alloc, table)
     }
 }
 

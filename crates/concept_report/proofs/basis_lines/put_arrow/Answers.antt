@@ -4,7 +4,7 @@ use Rattle.fca_model.specs.Sets.{Set}
 use Rattle.fca_model.specs.Tables.{Text}
 use Rattle.expert_wire.specs.Texts.{listed, names_of}
 use Rattle.attr_bits.proofs.DifferenceLemmas.{length-minus}
-use Rattle.concept_report.proofs.LineLemmas.{arrow-parts}
+use Rattle.concept_lines.proofs.LineLemmas.{arrow-parts}
 use Rattle.concept_report.proofs.basis_lines.put_arrow.Goals as goal
 
 pub put_attributes-conclusion-requires : goal.put_attributes-conclusion-requires

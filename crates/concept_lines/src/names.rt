@@ -1,0 +1,67 @@
+//! The names of a table as pieces, each with what stands between two names of a list behind it.
+
+ghost use Rattle.std.specs.Prelude.{◌≡◌, ◌≤◌, ◌++◌, ◌∷◌, [], map, length, IfOk, OnOk};
+ghost use Rattle.concept_lines.specs.Listing.{parted};
+ghost use Rattle.concept_lines.specs.Pieces.{ArePieces, piece_texts};
+
+use crate::block::Block;
+use crate::pieces::{Pieces, block_of, tail_of};
+use context_table::Table;
+use fca_model::{MAX_NAME_BYTES, Memory};
+use std::alloc::Global;
+
+/// The names of the attributes.
+pub fn attribute_pieces(alloc: Global, table: &Table) -> Result<Pieces, Memory>
+    ensures { IfOk result (λ pieces. pieces ≡ map parted table.now.attributes) }
+{
+    let width = table.rows().width();
+    let mut blocks = Vec::with_capacity(alloc, width as usize)?;
+    let mut tails = Vec::with_capacity(alloc, width as usize)?;
+    for attribute in 0..width {
+        let name = table.attribute_name(attribute).bytes();
+        add_name(alloc, &mut blocks, &mut tails, name)?;
+    }
+    Ok(Pieces::new(blocks, tails))
+}
+
+/// The names of the objects.
+pub fn object_pieces(alloc: Global, table: &Table) -> Result<Pieces, Memory>
+    ensures { IfOk result (λ pieces. pieces ≡ map parted table.now.objects) }
+{
+    let count = table.rows().len();
+    let mut blocks = Vec::with_capacity(alloc, count)?;
+    let mut tails = Vec::with_capacity(alloc, count)?;
+    for object in 0..count {
+        let name = table.object(object).bytes();
+        add_name(alloc, &mut blocks, &mut tails, name)?;
+    }
+    Ok(Pieces::new(blocks, tails))
+}
+
+/// Puts the name, with a comma and a space behind it, behind the pieces of these blocks and tails.
+fn add_name(
+    alloc: Global,
+    blocks: &mut Vec<Block>,
+    tails: &mut Vec<Vec<u8>>,
+    name: &[u8],
+) -> Result<(), Memory>
+    requires short { length name.now ≤ MAX_NAME_BYTES }
+    requires pieces { ArePieces blocks.old.items (map (λ v. v.items) tails.old.items) }
+    ensures pieces { OnOk result (ArePieces blocks.new.items (map (λ v. v.items) tails.new.items)) }
+    ensures texts { OnOk result (piece_texts blocks.new.items (map (λ v. v.items) tails.new.items)
+        ≡ piece_texts blocks.old.items (map (λ v. v.items) tails.old.items) ++ parted name.now ∷ []) }
+{
+    let text = parted(alloc, name)?;
+    blocks.push(block_of(&text))?;
+    tails.push(tail_of(alloc, &text)?)?;
+    Ok(())
+}
+
+/// The name with a comma and a space behind it.
+fn parted(alloc: Global, name: &[u8]) -> Result<Vec<u8>, Memory>
+    ensures { IfOk result (λ text. text.items ≡ parted name.now) }
+{
+    let mut text = Vec::from_slice(alloc, name)?;
+    text.extend_from_slice(b", ")?;
+    Ok(text)
+}

@@ -1,0 +1,60 @@
+//! The places of the objects that have an attribute, among some places, and what the rows at places share.
+
+ghost use Rattle.std.specs.Prelude.{◌≡◌, ◌≤◌, ◌<◌, false, All, IfOk, length, take, filter, slice_index_or};
+ghost use Rattle.fca_model.specs.Context.{closure, extent};
+
+use attr_bits::Bits;
+use derivation::RowsOf;
+use fca_model::{MAX_OBJECTS, Memory};
+use std::alloc::Global;
+
+/// The places of the objects that have all of the set.
+pub fn places_having<const W: usize>(
+    alloc: Global,
+    rows: &RowsOf<W>,
+    set: &Bits<W>,
+) -> Result<Vec<u16>, Memory>
+    requires { length rows.now.rows ≤ MAX_OBJECTS }
+    ensures { IfOk result (λ places. places.items ≡ extent rows.now set.now) }
+{
+    let extent = rows.extent(alloc, set)?;
+    let all = extent.as_slice();
+    let mut places = Vec::with_capacity(alloc, all.len())?;
+    for place in all {
+        places.push(*place as u16)?;
+    }
+    Ok(places)
+}
+
+/// Puts those of the places that are in the column into the front of `found`, and tells how many they are. Each place is put down, and the next one
+/// comes behind it only if it stays, so no step waits for a test.
+pub fn keep_having(column: &[bool], places: &[u16], found: &mut [u16]) -> usize
+    requires inside { All (λ p. p < length column.now) places.now }
+    requires room { length places.now ≤ length found.old }
+    ensures found { take result found.new ≡ filter (λ p. slice_index_or column.now p false) places.now }
+    ensures few { result ≤ length places.now }
+    ensures room { length found.new ≡ length found.old }
+{
+    let mut count = 0;
+    for place in places {
+        found[count] = *place;
+        count += column[*place as usize] as usize;
+    }
+    count
+}
+
+/// The closure of `least`, whose extent the places are: the meet of their rows. Once it is `least`, the rows that are left change nothing.
+pub fn closure_at<const W: usize>(rows: &RowsOf<W>, places: &[u16], least: &Bits<W>) -> Bits<W>
+    requires { places.now ≡ extent rows.now least.now }
+    ensures { result ≡ closure rows.now least.now }
+{
+    let mut met = Bits::full(rows.width());
+    let all = rows.as_slice();
+    for place in places {
+        met = met.meet(&all[*place as usize]);
+        if met == *least {
+            return met;
+        }
+    }
+    met
+}
