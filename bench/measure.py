@@ -54,11 +54,6 @@ def run(words, stdin=b"", repeat=3):
     return least, peak, status, text
 
 
-def digest(text):
-    """Stands for the bytes where they are compared."""
-    return hashlib.sha256(text).hexdigest()
-
-
 def written(words):
     """A digest of what the command writes; nothing past the limit."""
     with tempfile.TemporaryFile() as out:
@@ -66,7 +61,7 @@ def written(words):
         if child.returncode != 0:
             return None
         out.seek(0)
-        return digest(out.read())
+        return hashlib.file_digest(out, "sha256").hexdigest()
 
 
 class Times:
