@@ -16,7 +16,7 @@ use std::thread::Threads;
 use std::{mem, thread};
 
 /// How many pages are filled at a time, each by a thread of its own where one can be made.
-const PAGES: usize = 4;
+const PAGES: usize = 8;
 
 /// Writes the lines of all concepts.
 pub(crate) fn write_all<R: Threads + Sync, const W: usize>(
