@@ -52,38 +52,6 @@ Fills-append t a b c Xs Ys x y = record {
   kept = λ k. y.kept (x.keeps ∙ k) ∙ ap (λ Zs. Zs ++ Ys) (x.kept k) ∙ append_assoc a.kept.items Xs Ys;
 }
 
-shown-none : (t : NamedContext) (numbered : Bool) (n : ℕ) → shown t numbered n [] ≡ []
-shown-none t true n = refl
-shown-none t false n = refl
-
-lens_of-none : (t : NamedContext) (numbered : Bool) → lens_of t numbered [] ≡ []
-lens_of-none t true = refl
-lens_of-none t false = refl
-
--- nothing was added
-pub Fills-none : (t : NamedContext) {W : ℕ} (a : Page W) → Fills t a a []
-Fills-none t a = record {
-  lines = record {
-    text = sym (ap (λ z. a.lines.text ++ z) (shown-none t a.lines.numbered a.lines.count) ∙ append-nil a.lines.text);
-    count = omega arith;
-    numbered = refl;
-    lens = sym (ap (λ z. a.lines.lens ++ z) (lens_of-none t a.lines.numbered) ∙ append-nil a.lines.lens);
-  };
-  keeps = refl;
-  kept = λ k. sym (append-nil a.kept.items);
-}
-
--- a page that was empty before
-pub page_filled : (t : NamedContext) (keeps : Bool) {W : ℕ} (a b : Page W) (Xs : List Set) → a.lines ≡ record { text = []; count = 0; numbered = false; lens = [] } → a.keeps ≡ keeps → a.kept.items ≡ [] → Fills t a b Xs → IsPage t keeps b Xs
-page_filled t keeps a b Xs blank same empty all =
-    let plain : a.lines.numbered ≡ false = ap (λ (l : LinesText). l.numbered) blank in
-    record {
-      text = all.lines.text ∙ ap (λ (l : LinesText). l.text ++ shown t l.numbered l.count Xs) blank;
-      lens = all.lines.lens ∙ ap (λ (l : LinesText). l.lens ++ lens_of t l.numbered Xs) blank;
-      plain = all.lines.numbered ∙ plain;
-      kept = λ k. all.kept (same ∙ k) ∙ ap (λ Zs. Zs ++ Xs) empty;
-    }
-
 -- a line, as its parts were put down
 pub line-parts : (t : NamedContext) (old number : Text) (A : Set) (E : List ℕ)
     → (((((old ++ number) ++ codes " {") ++ listed (names_of t.attributes A)) ++ codes "} | {") ++ listed (names_at t.objects E)) ++ codes "}\n" ≡ old ++ line_of t number A E

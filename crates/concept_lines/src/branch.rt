@@ -5,14 +5,15 @@ ghost use Rattle.fca_model.specs.Sets.{within};
 ghost use Rattle.fca_model.specs.Context.{closure, extent, is_closed};
 ghost use Rattle.lectic_concepts.specs.Branches.{branch, AreSeen};
 ghost use Rattle.concept_lines.specs.Pages.{Fills};
-ghost use Rattle.concept_lines.specs.Tries.{AreTries};
+ghost use Rattle.extent_places.specs.Tries.{AreTries};
 
+use crate::desks::{Desk, Desks, taken};
+use crate::few_branch::write_apart;
 use crate::notes::{begin_notes, known};
 use crate::page::Page;
-use crate::places::closure_at;
 use crate::sheet::Sheet;
-use crate::tries::{last_member, tries_of};
 use attr_bits::Bits;
+use extent_places::{closure_at, last_member, pays_apart, tries_of};
 use fca_model::Memory;
 use lectic_concepts::{is_child, is_open, note, seen_above};
 use std::alloc::Global;
@@ -28,17 +29,8 @@ pub struct Child<const W: usize> {
     pub count: usize,
 }
 
-/// What a step of the walk writes on: places that are found, and what it notes of closures. It is kept for the steps that follow.
-#[derive(Drop)]
-pub struct Desk {
-    /// Places, of which the front was found last.
-    pub found: Vec<u16>,
-    /// For each attribute one that a closure with it has, or nothing.
-    pub noted: Vec<u32>,
-}
-
 /// Writes the lines of the intents that contain a and agree with it before attribute `from`. The extent of a child is found among that of a, and
-/// what was seen of the closures of a goes down with it.
+/// what was seen of the closures of a goes down with it. Where a has few objects, they are set apart.
 pub fn write_branch<const W: usize>(
     alloc: Global,
     sheet: &Sheet<'_, W>,
@@ -47,7 +39,7 @@ pub fn write_branch<const W: usize>(
     places: &[u16],
     from: u32,
     seen: &[u32],
-    desks: &mut Vec<Desk>,
+    desks: &mut Desks<W>,
 ) -> Result<(), Memory>
     requires wide { length a.now ≡ sheet.now.context.width }
     requires closed { is_closed sheet.now.context a.now ≡ true }
@@ -56,10 +48,13 @@ pub fn write_branch<const W: usize>(
     requires seen { AreSeen sheet.now.context a.now seen.now }
     ensures { OnOk result (Fills sheet.now page.old page.new (branch sheet.now.context a.now from)) }
 {
-    page.add(sheet, a, places)?;
     let rows = sheet.rows();
+    if pays_apart(places.len(), rows.width().saturating_sub(from)) {
+        return write_apart(alloc, sheet, page, a, places, from, seen, desks);
+    }
+    page.add(sheet, a, places)?;
     let tries = tries_of(rows, a, places);
-    let mut desk = taken(alloc, desks);
+    let mut desk = taken(alloc, &mut desks.free);
     let mut end = rows.width();
     while from < end {
         let met = next_child(sheet, a, places, &tries, from, end, seen, &mut desk)?;
@@ -80,22 +75,8 @@ pub fn write_branch<const W: usize>(
             desks,
         )?;
     }
-    desks.push(desk)?;
+    desks.free.push(desk)?;
     Ok(())
-}
-
-/// A desk on which nothing is noted.
-pub fn taken(alloc: Global, desks: &mut Vec<Desk>) -> Desk
-    ensures { result.noted.items ≡ [] }
-{
-    if let Some(mut desk) = desks.pop() {
-        desk.noted.clear();
-        return desk;
-    }
-    Desk {
-        found: Vec::new(alloc),
-        noted: Vec::new(alloc),
-    }
 }
 
 /// The last child of a that comes from an attribute before `end`, and from none before `from`. The places of its objects are put into the front of those

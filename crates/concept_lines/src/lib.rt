@@ -4,23 +4,22 @@
 
 mod block;
 mod branch;
-mod columns;
+mod desks;
+mod few_branch;
 mod lines;
 mod names;
 mod notes;
 mod numbering;
 mod page;
 mod pieces;
-mod places;
 mod sheet;
-mod tries;
 
 pub use block::{Block, HEAD, put_block};
-pub use branch::{Child, Desk, next_child, places_of, taken, write_branch};
+pub use branch::{Child, next_child, places_of, write_branch};
+pub use desks::{Desk, Desks};
 pub use lines::{Lines, MARKS, add_head, head_of, make_room, room_of};
 pub use names::attribute_pieces;
 pub use notes::known;
 pub use page::Page;
 pub use pieces::{PIECE_ROOM, Pieces, block_of, put_bytes};
 pub use sheet::{Sheet, put_attributes};
-pub use tries::tries_of;

@@ -6,15 +6,14 @@ ghost use Rattle.fca_model.specs.Context.{extent};
 ghost use Rattle.expert_wire.specs.Texts.{listed, names_of};
 ghost use Rattle.basis_report.specs.Reports.{names_at};
 ghost use Rattle.concept_lines.specs.Listing.{parted};
-ghost use Rattle.concept_lines.specs.Places.{column};
+ghost use Rattle.extent_places.specs.Places.{column};
 
-use crate::columns::Columns;
 use crate::names::{attribute_pieces, object_pieces};
 use crate::pieces::{PIECE_BYTES, PIECE_ROOM, Pieces};
-use crate::places::places_having;
 use attr_bits::Bits;
 use context_table::Table;
 use derivation::RowsOf;
+use extent_places::{Columns, places_having};
 use fca_model::Memory;
 use std::alloc::Global;
 use std::marker::Model;
@@ -32,7 +31,7 @@ pub struct Sheet<'a, const W: usize> {
 impl<'a, const W: usize> Model for Sheet<'a, W> {
     ghost use Rattle.std.specs.Prelude.{◌≡◌, map, length};
     ghost use Rattle.std.specs.List.{range_with_len};
-    ghost use Rattle.concept_lines.specs.Places.{column};
+    ghost use Rattle.extent_places.specs.Places.{column};
     ghost use Rattle.fca_model.specs.Tables.{NamedContext};
     ghost use Rattle.concept_lines.specs.Listing.{parted};
 

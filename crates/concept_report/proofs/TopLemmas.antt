@@ -12,10 +12,6 @@ use Rattle.std.proofs.lemmas.List.Elements.{All-nil, All-cons, All-take, All-dro
 use Rattle.concept_report.specs.Tops.{branches, all_branches}
 use Rattle.concept_report.specs.declared.tops.Top.{Top}
 
--- one branch more
-pub branches-push : (K : Context) {W : ℕ} (tops : List (Top W)) (top : Top W) → branches K (tops ++ top ∷ []) ≡ branches K tops ++ branch K top.intent top.from
-branches-push K {W} tops top = flat_map-append (λ (x : Top W). branch K x.intent x.from) tops (top ∷ []) ∙ ap (λ z. branches K tops ++ z) (append-nil (branch K top.intent top.from))
-
 -- the first so many, and the next one
 pub take-next : {X : Type 0} (xs : List X) (i : ℕ) (x : X) → i < length xs → x ≡ slice_index_or xs i x → take (i + 1) xs ≡ take i xs ++ x ∷ []
 take-next xs i x l is = let next : i + 1 ≡ suc i = omega arith in ap (λ k. take k xs) next ∙ take-suc xs i x l ∙ ap (λ y. take i xs ++ y ∷ []) (sym is)

@@ -9,14 +9,17 @@ ghost use Rattle.concept_report.specs.Tops.{IsTop, branches, all_branches, Wrote
 use crate::appended::append_pages;
 use crate::jobs::jobs_of;
 use crate::tops::{Top, laid_out, pays, root_of};
-use concept_lines::{Page, Sheet, write_branch};
+use concept_lines::{Desks, Page, Sheet, write_branch};
 use fca_model::Memory;
 use std::alloc::Global;
 use std::thread::Threads;
 use std::{mem, thread};
 
-/// How many pages are filled at a time, each by a thread of its own where one can be made.
-const PAGES: usize = 8;
+/// How many pages are filled at a time.
+const PAGES: usize = 16;
+
+/// By how many threads they are filled, where so many can be made: each fills its share of the pages, one after the other.
+const THREADS: usize = 8;
 
 /// Writes the lines of all concepts.
 pub(crate) fn write_all<R: Threads + Sync, const W: usize>(
@@ -138,14 +141,10 @@ fn fill_pages<R: Threads + Sync, const W: usize>(
     ensures pages { EachWrote sheet.now keeps pages.new jobs.now }
 {
     let _words = sheet.rows().width();
-    let count = pages.len();
-    if count == 0 {
-        return;
-    }
     thread::for_each_mut(
         rt,
         pages,
-        count,
+        THREADS,
         &|i: usize, page: &mut Page<W>|
             requires { (i < length jobs.now) × All (λ job. All (IsTop sheet.now.context) job.now) jobs.now }
             ensures { (d : _) → Wrote sheet.entry.now keeps page.new (slice_index_or jobs.entry.now i d).now }
@@ -183,7 +182,7 @@ fn write_tops<const W: usize>(
     ensures { OnOk result (Fills sheet.now page.old page.new (branches sheet.now.context job.now)) }
 {
     let _words = sheet.rows().width();
-    let mut desks = Vec::new(alloc);
+    let mut desks = Desks::new(alloc, sheet.rows())?;
     for top in job {
         write_branch(
             alloc,

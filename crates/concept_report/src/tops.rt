@@ -8,7 +8,8 @@ ghost use Rattle.lectic_concepts.specs.Branches.{branch, AreSeen};
 ghost use Rattle.concept_report.specs.Tops.{IsTop, branches};
 
 use attr_bits::Bits;
-use concept_lines::{Sheet, known, next_child, places_of, taken, tries_of};
+use concept_lines::{Desk, Sheet, known, next_child, places_of};
+use extent_places::tries_of;
 use fca_model::Memory;
 use lectic_concepts::{first_seen, seen_above};
 use std::alloc::Global;
@@ -139,7 +140,7 @@ fn lay_out<const W: usize>(
     let rows = sheet.rows();
     let a = &top.intent;
     let tries = tries_of(rows, a, &top.places);
-    let mut desk = taken(alloc, &mut Vec::new(alloc));
+    let mut desk = Desk::new(alloc);
     let mut end = rows.width();
     add_top(alloc, sheet, a, &top.places, end, &top.seen, more)?;
     while top.from < end {

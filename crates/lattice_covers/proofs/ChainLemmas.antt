@@ -1,25 +1,15 @@
--- The rows that contain A are among those that contain a part L of A, and the closure of A with an attribute contains that of L with it.
-use Rattle.std.proofs.Common.{◌≡◌, ℕ, ◌<◌, Bool, true, false, not, ◌&&◌, cond, List, [], ◌∷◌, length, get_or, set, filter, refl, sym, ap, ap₂, ◌∙◌, subst, arith, inl, inr, get_or-set_same, get_or-set_other, length-set}
-use Rattle.std.proofs.lemmas.Bool.{and_parts, and_from, cases_eq, false≢true}
+-- The closure of A with an attribute contains that of a part L of A with it.
+use Rattle.std.proofs.Common.{◌≡◌, ℕ, ◌<◌, Bool, true, false, not, ◌&&◌, List, length, get_or, set, refl, sym, ap, ◌∙◌, subst, arith, inl, inr, get_or-set_same, get_or-set_other, length-set}
+use Rattle.std.proofs.lemmas.Bool.{cases_eq, false≢true}
 use Rattle.fca_model.specs.Sets.{Set, within}
 use Rattle.fca_model.specs.Context.{Context, closure}
-use Rattle.fca_model.proofs.SetLemmas.{within_trans, within_at_place, within_from_places}
+use Rattle.fca_model.proofs.SetLemmas.{within_at_place, within_from_places}
 use Rattle.fca_model.proofs.ClosureLemmas.{closure_extensive, closure_monotone}
-use Rattle.fca_model.proofs.ListLemmas.{bool_iff, filter-filter}
 use Rattle.attr_bits.specs.Difference.{minus}
 use Rattle.attr_bits.proofs.DifferenceLemmas.{get_or-minus}
-use Rattle.lectic_concepts.proofs.BranchLemmas.{closure_among}
-use Rattle.lattice_covers.specs.Objects.{AreColumns, HasObjects}
+use Rattle.object_sets.specs.Objects.{AreColumns, HasObjects}
 use Rattle.lattice_covers.specs.declared.chain.Sheet.{Sheet}
-use Rattle.lattice_covers.specs.Neighbours.{rows_above, AreImplied, IsOnSheet}
-
-pub rows_above-rows_above : (K : Context) (L A : Set) → within L A ≡ true → rows_above (rows_above K L) A ≡ rows_above K A
-rows_above-rows_above K L A h = ap (λ (Rs : List Set). record { width = K.width; rows = Rs }) (filter-filter (within A) (within L) K.rows ∙ same_rows K.rows)
-  where
-    same_rows : (Rs : List Set) → filter (λ R. within L R && within A R) Rs ≡ filter (within A) Rs
-    same_rows [] = refl
-    same_rows (R ∷ Rs) = ap₂ (λ b Zs. cond b (R ∷ Zs) Zs)
-        (bool_iff (within L R && within A R) (within A R) (λ t. (and_parts (within L R) (within A R) t).1) (λ t. and_from (within L R) (within A R) (within_trans L A R h t) t)) (same_rows Rs)
+use Rattle.lattice_covers.specs.Neighbours.{AreImplied, IsOnSheet}
 
 -- ---- members of closures
 
@@ -64,15 +54,6 @@ implied_set K A ws i w inside m h = record {
     | inr other ↦ subst (λ v. get_or (closure K (set A j true)) v false ≡ true) (sym (get_or-set_other ws i j w 0 other)) (m.member j l)
   ];
 }
-
--- the rows that contain a part L of A give the closures of A with one attribute more
-pub closure_above : (K : Context) (L A : Set) (i : ℕ) → within L A ≡ true → i < length A → (B : Set) → B ≡ set A i true → (above : Context) → above ≡ rows_above K L
-    → closure above B ≡ closure K (set A i true)
-closure_above K L A i part inside B b above is =
-    ap (λ X. closure X B) is ∙ closure_among K L B (subst (λ X. within L X ≡ true) (sym b) (within_trans L A (set A i true) part (within_from_places A (set A i true) (λ j l t. elim (cases_eq j i) [
-      | inl here ↦ ap (λ x. get_or (set A i true) x false) here ∙ get_or-set_same A i true false inside
-      | inr other ↦ get_or-set_other A i j true false other ∙ t
-    ])))) ∙ ap (closure K) b
 
 -- ---- a sheet
 

@@ -4,4 +4,3 @@ pub mod CoverLemmas
 pub mod ChainLemmas
 pub mod PlaceLemmas
 pub mod Examples
-pub mod ObjectLemmas

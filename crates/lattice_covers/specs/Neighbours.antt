@@ -1,18 +1,14 @@
 -- The rows above an intent, what its closures have, and the places of its upper neighbours.
-use Rattle.std.specs.Prelude.{◌≡◌, ◌<◌, ◌≤◌, ℕ, true, false, List, length, slice_index_or, slice_set, map, filter, All}
+use Rattle.std.specs.Prelude.{◌≡◌, ◌<◌, ◌≤◌, ℕ, true, false, List, length, slice_index_or, slice_set, map, All}
 use Rattle.std.specs.List.{prefix_len}
 use Rattle.std.specs.Ordering.{is_lt}
 use Rattle.fca_model.specs.Sets.{Set, within, lectic_cmp}
 use Rattle.fca_model.specs.Context.{Context, closure}
-use Rattle.lattice_covers.specs.Objects.{HasObjects, AreColumns}
+use Rattle.object_sets.specs.Objects.{HasObjects, AreColumns, rows_above}
 use Rattle.lattice_covers.specs.declared.chain.Sheet.{Sheet}
 use Rattle.lattice_covers.specs.declared.chain.Above.{Above}
 use Rattle.lattice_covers.specs.declared.chain.Above.TheVariants.{Many, Few}
 use Rattle.lattice_covers.specs.declared.chain.Link.{Link}
-
--- the context of the rows that contain A
-abbrev pub rows_above : Context → Set → Context
-rows_above K A = record { width = K.width; rows = filter (within A) K.rows }
 
 -- for each attribute a member of the closure of A with it
 pub record AreImplied (K : Context) (A : Set) (ws : List ℕ) : Type 0 where

@@ -2,8 +2,6 @@
 #![tactic(auto)]
 
 mod chain;
-mod members;
-mod objects;
 mod places;
 
 ghost use Rattle.std.specs.Prelude.{◌≡◌, ◌++◌, ◌≤◌, true, filter, length, IfOk, OnOk};
@@ -16,7 +14,7 @@ use chain::{Link, closure_if_allowed, link_of};
 use derivation::{Rows, RowsOf};
 use fca_model::Memory;
 use lectic_concepts::{FOUR_WORDS, ONE_WORD, in_words};
-use members::{has, insert};
+use object_sets::{has, insert};
 use places::place_in;
 use std::alloc::Global;
 

@@ -2,8 +2,8 @@ use Rattle.std.proofs.Common.{◌≡◌, ◌∙◌, ◌++◌, ℕ, List, length,
 use Rattle.std.proofs.lemmas.List.{take_at}
 use Rattle.fca_model.specs.Sets.{Set}
 use Rattle.fca_model.specs.Context.{Context, closure, extent}
-use Rattle.concept_lines.proofs.PlaceLemmas.{kept_with, kept_closed, column_kept, all_placed}
-use Rattle.concept_lines.specs.Places.{column}
+use Rattle.extent_places.proofs.PlaceLemmas.{kept_with, kept_closed, column_kept, all_placed}
+use Rattle.extent_places.specs.Places.{column}
 use Rattle.concept_lines.proofs.branch.narrowed.Goals as goal
 
 -- a list that was lent whole is what was written there

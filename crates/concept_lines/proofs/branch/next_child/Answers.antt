@@ -4,7 +4,7 @@ use Rattle.fca_model.specs.Sets.{Set}
 use Rattle.fca_model.specs.Context.{Context}
 use Rattle.lectic_concepts.specs.Branches.{branch}
 use Rattle.concept_lines.specs.declared.branch.Child.{Child}
-use Rattle.concept_lines.proofs.TryLemmas.{branch-between, branch-behind}
+use Rattle.extent_places.proofs.TryLemmas.{branch-between, branch-behind}
 use Rattle.concept_lines.proofs.branch.next_child.Goals as goal
 
 pub loop-i-preserved-then-not-is_open : goal.loop-i-preserved-then-not-is_open

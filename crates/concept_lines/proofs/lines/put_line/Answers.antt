@@ -4,7 +4,7 @@ use Rattle.fca_model.specs.Tables.{Text, NamedContext}
 use Rattle.expert_wire.specs.Texts.{listed, names_of}
 use Rattle.basis_report.specs.Reports.{names_at}
 use Rattle.concept_lines.proofs.LineLemmas.{line-parts}
-use Rattle.concept_lines.proofs.PlaceLemmas.{all_placed}
+use Rattle.extent_places.proofs.PlaceLemmas.{all_placed}
 use Rattle.concept_lines.proofs.lines.put_line.Goals as goal
 
 pub put_extent-extent-requires : goal.put_extent-extent-requires

@@ -4,7 +4,7 @@ use Rattle.std.proofs.lemmas.List.{length-map}
 use Rattle.std.proofs.lemmas.List.FromFn.{length-map-range_with_len, get_or-map-range_with_len}
 use Rattle.fca_model.specs.Sets.{Set}
 use Rattle.fca_model.specs.Tables.{NamedContext}
-use Rattle.concept_lines.specs.Places.{column}
+use Rattle.extent_places.specs.Places.{column}
 use Rattle.concept_lines.proofs.sheet.Sheet.keep_having.Goals as goal
 
 -- the column is there, and is that of the table

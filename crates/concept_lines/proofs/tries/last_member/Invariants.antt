@@ -1,9 +1,0 @@
-use Rattle.std.proofs.Common.{◌≤◌}
-use Rattle.concept_lines.specs.Tries.{LacksBetween}
-use Rattle.concept_lines.proofs.tries.last_member.Given as goal
-
-abbrev pub invariant-loop-i : goal.invariant-loop-i
-invariant-loop-i g l = record {
-  inside : l.i ≤ l.end;
-  lacks : LacksBetween l.set l.i l.end;
-}

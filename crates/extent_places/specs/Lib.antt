@@ -1,0 +1,3 @@
+pub mod Places
+pub mod Tries
+pub mod Few

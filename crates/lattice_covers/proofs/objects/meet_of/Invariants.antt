@@ -1,9 +1,0 @@
-use Rattle.fca_model.specs.Sets.{size}
-use Rattle.lattice_covers.proofs.ObjectLemmas.{IsMet}
-use Rattle.lattice_covers.proofs.objects.meet_of.Given as goal
-
-abbrev pub invariant-loop-object : goal.invariant-loop-object
-invariant-loop-object g l = IsMet l.rows l.least l.objects l.met l.rest
-
-abbrev pub decreases-loop-object : goal.decreases-loop-object
-decreases-loop-object g l = size l.rest

@@ -1,0 +1,14 @@
+use Rattle.std.proofs.Common.{◌≡◌, ◌≤◌, ◌<◌, ◌-◌, ℕ, [], true, false, length, get_or, set}
+use Rattle.object_sets.proofs.objects.add_object.Given as goal
+
+abbrev pub invariant-loop-attribute : goal.invariant-loop-attribute
+invariant-loop-attribute g l = record {
+  from_on : l.from ≤ length l.row;
+  wide : length l.columns ≡ length l.fn.columns;
+  with : (i : ℕ) → i < l.from → get_or l.row i false ≡ true → get_or l.columns i [] ≡ set (get_or l.fn.columns i []) l.object true;
+  others : (i : ℕ) → i < l.from → get_or l.row i false ≡ false → get_or l.columns i [] ≡ get_or l.fn.columns i [];
+  behind : (i : ℕ) → l.from ≤ i → get_or l.columns i [] ≡ get_or l.fn.columns i [];
+}
+
+abbrev pub decreases-loop-attribute : goal.decreases-loop-attribute
+decreases-loop-attribute g l = length l.row - l.from

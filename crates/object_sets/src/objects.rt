@@ -1,0 +1,186 @@
+//! Sets of few objects: the extent of an intent is such a set where it is small, and so are the objects of an attribute among those.
+
+ghost use Rattle.std.specs.Prelude.{◌≡◌, ◌≤◌, ◌<◌, ℕ, [], true, false, All, length, replicate, slice_set, slice_index_or, IfOk, OnOk};
+ghost use Rattle.fca_model.specs.Sets.{within};
+ghost use Rattle.fca_model.specs.Context.{closure};
+ghost use Rattle.object_sets.specs.Objects.{AreColumns, HasObjects, alone};
+
+use crate::members::{has, insert, without};
+use attr_bits::Bits;
+use derivation::RowsOf;
+use fca_model::Memory;
+use std::alloc::Global;
+
+/// How many objects are few: as many as one word holds.
+pub const FEW_OBJECTS: usize = 64;
+
+/// How many attributes are few: with so many a closure by columns takes less time than one by rows.
+const FEW_ATTRIBUTES: u32 = 24;
+
+/// A set of few objects.
+pub type ObjectSet = Bits<1>;
+
+/// The objects of each attribute, in the order of those.
+pub fn columns_of<const W: usize>(alloc: Global, rows: &RowsOf<W>) -> Result<Vec<ObjectSet>, Memory>
+    requires { length rows.now.rows ≤ FEW_OBJECTS }
+    ensures { IfOk result (λ columns. AreColumns rows.now columns.items) }
+{
+    let mut columns = Vec::new(alloc);
+    put_columns(&mut columns, rows)?;
+    Ok(columns)
+}
+
+/// Puts the objects of each attribute into the list, in the order of those and in the place of what it had.
+pub fn put_columns<const W: usize>(
+    columns: &mut Vec<ObjectSet>,
+    rows: &RowsOf<W>,
+) -> Result<(), Memory>
+    requires { length rows.now.rows ≤ FEW_OBJECTS }
+    ensures { OnOk result (AreColumns rows.now columns.new.items) }
+{
+    let width = rows.width();
+    columns.clear();
+    columns.resize(width as usize, Bits::empty(rows.len() as u32))?;
+    fill_columns(columns, rows);
+    Ok(())
+}
+
+/// Adds each object to the columns of its attributes, which are empty.
+fn fill_columns<const W: usize>(columns: &mut [ObjectSet], rows: &RowsOf<W>)
+    requires few { length rows.now.rows ≤ FEW_OBJECTS }
+    requires wide { length columns.old ≡ rows.now.width }
+    requires empty { (i : ℕ) → i < rows.now.width → slice_index_or columns.old i [] ≡ replicate (length rows.now.rows) false }
+    ensures { AreColumns rows.now columns.new }
+{
+    let _width = rows.width();
+    for (object, row) in rows.as_slice().iter().enumerate() {
+        add_object(columns, object as u32, row);
+    }
+}
+
+/// Adds the object, whose row is given, to the columns of its attributes.
+fn add_object<const W: usize>(columns: &mut [ObjectSet], object: u32, row: &Bits<W>)
+    requires wide { length columns.old ≡ length row.now }
+    requires inside { All (λ column. object < length column) columns.old }
+    ensures wide { length columns.new ≡ length columns.old }
+    ensures with { (i : ℕ) → i < length row.now → slice_index_or row.now i false ≡ true
+        → slice_index_or columns.new i [] ≡ slice_set (slice_index_or columns.old i []) object true }
+    ensures others { (i : ℕ) → i < length row.now → slice_index_or row.now i false ≡ false
+        → slice_index_or columns.new i [] ≡ slice_index_or columns.old i [] }
+{
+    let _width = row.width();
+    let mut from = 0;
+    while let Some(attribute) = row.next_member(from) {
+        insert(&mut columns[attribute as usize], object);
+        from = attribute + 1;
+    }
+}
+
+/// The objects of a, which contains the other set, whose objects are given.
+pub fn objects_above<const W: usize>(
+    rows: &RowsOf<W>,
+    columns: &[ObjectSet],
+    smaller: &Bits<W>,
+    objects: &ObjectSet,
+    a: &Bits<W>,
+) -> ObjectSet
+    requires columns { AreColumns rows.now columns.now }
+    requires objects { HasObjects rows.now smaller.now objects.now }
+    requires larger { within smaller.now a.now ≡ true }
+    requires wide { length smaller.now ≡ rows.now.width }
+    requires even { length a.now ≡ rows.now.width }
+    ensures { HasObjects rows.now a.now result }
+{
+    let _width = rows.width();
+    let mut grown = *smaller;
+    let mut having = *objects;
+    while let Some(attribute) = a.first_missing(&grown) {
+        insert(&mut grown, attribute);
+        having = having.meet(&columns[attribute as usize]);
+    }
+    having
+}
+
+/// The objects of a with attribute i, where those of a are given.
+pub fn objects_with<const W: usize>(
+    rows: &RowsOf<W>,
+    columns: &[ObjectSet],
+    a: &Bits<W>,
+    objects: &ObjectSet,
+    i: u32,
+) -> ObjectSet
+    requires columns { AreColumns rows.now columns.now }
+    requires objects { HasObjects rows.now a.now objects.now }
+    requires wide { length a.now ≡ rows.now.width }
+    requires inside { i < rows.now.width }
+    ensures { HasObjects rows.now (slice_set a.now i true) result }
+{
+    let _width = rows.width();
+    objects.meet(&columns[i as usize])
+}
+
+/// The closure of `least`, whose objects are given: by columns where there are few of those, and else by rows.
+pub fn closure_of<const W: usize>(
+    rows: &RowsOf<W>,
+    columns: &[ObjectSet],
+    objects: &ObjectSet,
+    least: &Bits<W>,
+) -> Bits<W>
+    requires columns { AreColumns rows.now columns.now }
+    requires objects { HasObjects rows.now least.now objects.now }
+    requires wide { length least.now ≡ rows.now.width }
+    ensures { result ≡ closure rows.now least.now }
+{
+    if rows.width() <= FEW_ATTRIBUTES {
+        return common_of(rows, columns, objects, least);
+    }
+    meet_of(rows, objects, least)
+}
+
+/// The closure of `least`, whose objects are given: the attributes that all of them have.
+fn common_of<const W: usize>(
+    rows: &RowsOf<W>,
+    columns: &[ObjectSet],
+    objects: &ObjectSet,
+    least: &Bits<W>,
+) -> Bits<W>
+    requires columns { AreColumns rows.now columns.now }
+    requires objects { HasObjects rows.now least.now objects.now }
+    ensures { result ≡ closure rows.now least.now }
+{
+    let width = rows.width();
+    let mut common = Bits::empty(width);
+    for attribute in 0..width {
+        if have_all(objects, &columns[attribute as usize]) {
+            insert(&mut common, attribute);
+        }
+    }
+    common
+}
+
+/// Whether all of the objects are in the column.
+pub fn have_all(objects: &ObjectSet, column: &ObjectSet) -> bool
+    ensures { result ≡ within objects.now column.now }
+{
+    objects.meet(column) == *objects
+}
+
+/// The closure of `least`, whose objects are given: the meet of their rows. Once it is `least`, the rows that are left change nothing.
+pub fn meet_of<const W: usize>(rows: &RowsOf<W>, objects: &ObjectSet, least: &Bits<W>) -> Bits<W>
+    requires objects { HasObjects rows.now least.now objects.now }
+    requires wide { length least.now ≡ rows.now.width }
+    ensures { result ≡ closure rows.now least.now }
+{
+    let _objects = objects.width();
+    let all = rows.as_slice();
+    let mut met = Bits::full(rows.width());
+    let mut rest = *objects;
+    while let Some(object) = rest.next_member(0) {
+        met = met.meet(&all[object as usize]);
+        if met == *least {
+            return met;
+        }
+        rest = without(&rest, object);
+    }
+    met
+}
