@@ -23,6 +23,9 @@ pub const MARKS: usize = 10;
 /// The least number of bytes by which the text is grown.
 const STEP: usize = 65_536;
 
+/// For how many bytes room is asked at first behind that in front. It takes addresses alone until it is written.
+const ROOM: usize = 64 << 20;
+
 /// How many bytes are left free in front of the lines: those of a first line that counts in six digits, after a word of eight letters and a space.
 const FRONT: usize = 16;
 
@@ -57,8 +60,11 @@ impl Lines {
     pub fn numbered(alloc: Global) -> Result<Lines, Memory>
         ensures { IfOk result (λ lines. lines ≡ record { text = []; count = 0; numbered = true; lens = [] }) }
     {
+        let mut bytes = Vec::from_slice(alloc, &[0; FRONT])?;
+        // Where so much is refused, less may do.
+        let _refused = bytes.reserve(ROOM);
         Ok(Lines {
-            bytes: Vec::from_slice(alloc, &[0; FRONT])?,
+            bytes,
             end: FRONT,
             count: 0,
             numbered: true,
