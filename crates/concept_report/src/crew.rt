@@ -7,7 +7,7 @@ ghost use Rattle.concept_lines.specs.Pages.{Fills};
 ghost use Rattle.concept_report.specs.Tops.{IsTop, branches, all_branches, Wrote, EachWrote};
 
 use crate::appended::append_pages;
-use crate::jobs::jobs_of;
+use crate::jobs::{density_of, jobs_of};
 use crate::tops::{Top, laid_out, pays, root_of};
 use concept_lines::{Desks, Page, Sheet, write_branch};
 use fca_model::Memory;
@@ -56,7 +56,7 @@ fn write_side_by_side<R: Threads + Sync, const W: usize>(
 {
     let _words = sheet.rows().width();
     let more = laid_out(alloc, sheet, tops)?;
-    let jobs = jobs_of(alloc, sheet, &more)?;
+    let jobs = jobs_of(alloc, sheet, &more, density_of(tops))?;
     let mut pages = pages_of(alloc)?;
     write_jobs(rt, alloc, sheet, &jobs, &mut pages, page)?;
     Ok(())
