@@ -11,13 +11,13 @@ use fca_model::Memory;
 use std::alloc::Global;
 
 /// About how many jobs are made.
-const JOBS: usize = 96;
+const JOBS: usize = 128;
 
 /// In how many parts each expected object is counted.
-const PARTS: usize = 16;
+const PARTS: usize = 4;
 
 /// What a line takes beside its objects, in such parts.
-const LINE: usize = 256;
+const LINE: usize = 64;
 
 /// How many crosses there are in so many cells, about.
 #[derive(Clone, Copy, Drop)]
