@@ -47,7 +47,10 @@ impl<'a, R: Wait> Desk for Seated<'a, R> {
     ghost place = { λ s. s.pass.ghost_name };
 
     fn draw(&mut self) -> Result<Reply, TurnFault>
-        ensures same { (self.new.pass.now.number ≡ self.old.pass.now.number) × (Some (badge self.new.pass.now) ≡ Some (badge self.old.pass.now)) × (self.new.pass.ghost_name ≡ self.old.pass.ghost_name) × (self.new.gate.now.base.table.context.width ≡ self.old.gate.now.base.table.context.width) }
+        ensures same { (self.new.pass.now.number ≡ self.old.pass.now.number)
+            × (Some (badge self.new.pass.now) ≡ Some (badge self.old.pass.now))
+            × (self.new.pass.ghost_name ≡ self.old.pass.ghost_name)
+            × (self.new.gate.now.base.table.context.width ≡ self.old.gate.now.base.table.context.width) }
         ensures entry { IfOk result (λ reply. self.new.pass.now.own ≡ self.old.pass.now.own ++ record { event = Draw self.old.pass.now.number; reply = reply } ∷ []) }
         ensures wide { IfOk result (HasWideReply self.old.gate.now.base.table.context.width) }
         ensures err { OnErr result (self.new.pass.now.own ≡ self.old.pass.now.own) }
@@ -61,7 +64,10 @@ impl<'a, R: Wait> Desk for Seated<'a, R> {
     }
 
     fn confirm(&mut self) -> Result<Reply, TurnFault>
-        ensures same { (self.new.pass.now.number ≡ self.old.pass.now.number) × (Some (badge self.new.pass.now) ≡ Some (badge self.old.pass.now)) × (self.new.pass.ghost_name ≡ self.old.pass.ghost_name) × (self.new.gate.now.base.table.context.width ≡ self.old.gate.now.base.table.context.width) }
+        ensures same { (self.new.pass.now.number ≡ self.old.pass.now.number)
+            × (Some (badge self.new.pass.now) ≡ Some (badge self.old.pass.now))
+            × (self.new.pass.ghost_name ≡ self.old.pass.ghost_name)
+            × (self.new.gate.now.base.table.context.width ≡ self.old.gate.now.base.table.context.width) }
         ensures entry { IfOk result (λ reply. self.new.pass.now.own ≡ self.old.pass.now.own ++ record { event = Confirm self.old.pass.now.number; reply = reply } ∷ []) }
         ensures wide { IfOk result (HasWideReply self.old.gate.now.base.table.context.width) }
         ensures err { OnErr result (self.new.pass.now.own ≡ self.old.pass.now.own) }
@@ -76,7 +82,10 @@ impl<'a, R: Wait> Desk for Seated<'a, R> {
 
     fn row(&mut self, name: Name, row: Attrs) -> Result<Reply, TurnFault>
         requires { length row ≡ self.old.gate.now.base.table.context.width }
-        ensures same { (self.new.pass.now.number ≡ self.old.pass.now.number) × (Some (badge self.new.pass.now) ≡ Some (badge self.old.pass.now)) × (self.new.pass.ghost_name ≡ self.old.pass.ghost_name) × (self.new.gate.now.base.table.context.width ≡ self.old.gate.now.base.table.context.width) }
+        ensures same { (self.new.pass.now.number ≡ self.old.pass.now.number)
+            × (Some (badge self.new.pass.now) ≡ Some (badge self.old.pass.now))
+            × (self.new.pass.ghost_name ≡ self.old.pass.ghost_name)
+            × (self.new.gate.now.base.table.context.width ≡ self.old.gate.now.base.table.context.width) }
         ensures entry { IfOk result (λ reply. self.new.pass.now.own ≡ self.old.pass.now.own ++ record { event = Row self.old.pass.now.number name row; reply = reply } ∷ []) }
         ensures wide { IfOk result (HasWideReply self.old.gate.now.base.table.context.width) }
         ensures err { OnErr result (self.new.pass.now.own ≡ self.old.pass.now.own) }
@@ -90,7 +99,10 @@ impl<'a, R: Wait> Desk for Seated<'a, R> {
     }
 
     fn leave(&mut self) -> Result<Reply, TurnFault>
-        ensures same { (self.new.pass.now.number ≡ self.old.pass.now.number) × (Some (badge self.new.pass.now) ≡ Some (badge self.old.pass.now)) × (self.new.pass.ghost_name ≡ self.old.pass.ghost_name) × (self.new.gate.now.base.table.context.width ≡ self.old.gate.now.base.table.context.width) }
+        ensures same { (self.new.pass.now.number ≡ self.old.pass.now.number)
+            × (Some (badge self.new.pass.now) ≡ Some (badge self.old.pass.now))
+            × (self.new.pass.ghost_name ≡ self.old.pass.ghost_name)
+            × (self.new.gate.now.base.table.context.width ≡ self.old.gate.now.base.table.context.width) }
         ensures entry { IfOk result (λ reply. self.new.pass.now.own ≡ self.old.pass.now.own ++ record { event = Leave self.old.pass.now.number; reply = reply } ∷ []) }
         ensures wide { IfOk result (HasWideReply self.old.gate.now.base.table.context.width) }
         ensures err { OnErr result (self.new.pass.now.own ≡ self.old.pass.now.own) }

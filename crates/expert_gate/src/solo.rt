@@ -45,8 +45,12 @@ impl<'a> Desk for Solo<'a> {
     ghost place = { λ s. s.explore.ghost_name };
 
     fn draw(&mut self) -> Result<Reply, TurnFault>
-        ensures same { (self.new.expert ≡ self.old.expert) × (no_badge ≡ no_badge) × (self.new.explore.ghost_name ≡ self.old.explore.ghost_name) × (self.new.explore.now.opening.table.context.width ≡ self.old.explore.now.opening.table.context.width) }
-        ensures entry { IfOk result (λ reply. own self.new.explore.now.journal self.new.expert ≡ own self.old.explore.now.journal self.old.expert ++ record { event = Draw self.old.expert; reply = reply } ∷ []) }
+        ensures same { (self.new.expert ≡ self.old.expert)
+            × (no_badge ≡ no_badge)
+            × (self.new.explore.ghost_name ≡ self.old.explore.ghost_name)
+            × (self.new.explore.now.opening.table.context.width ≡ self.old.explore.now.opening.table.context.width) }
+        ensures entry { IfOk result (λ reply. own self.new.explore.now.journal self.new.expert
+            ≡ own self.old.explore.now.journal self.old.expert ++ record { event = Draw self.old.expert; reply = reply } ∷ []) }
         ensures wide { IfOk result (HasWideReply self.old.explore.now.opening.table.context.width) }
         ensures err { OnErr result (own self.new.explore.now.journal self.new.expert ≡ own self.old.explore.now.journal self.old.expert) }
         ensures spent { IsErrOf result fault.Spent ↔ (no_count ≡ Some 0) }
@@ -60,8 +64,12 @@ impl<'a> Desk for Solo<'a> {
     }
 
     fn confirm(&mut self) -> Result<Reply, TurnFault>
-        ensures same { (self.new.expert ≡ self.old.expert) × (no_badge ≡ no_badge) × (self.new.explore.ghost_name ≡ self.old.explore.ghost_name) × (self.new.explore.now.opening.table.context.width ≡ self.old.explore.now.opening.table.context.width) }
-        ensures entry { IfOk result (λ reply. own self.new.explore.now.journal self.new.expert ≡ own self.old.explore.now.journal self.old.expert ++ record { event = Confirm self.old.expert; reply = reply } ∷ []) }
+        ensures same { (self.new.expert ≡ self.old.expert)
+            × (no_badge ≡ no_badge)
+            × (self.new.explore.ghost_name ≡ self.old.explore.ghost_name)
+            × (self.new.explore.now.opening.table.context.width ≡ self.old.explore.now.opening.table.context.width) }
+        ensures entry { IfOk result (λ reply. own self.new.explore.now.journal self.new.expert
+            ≡ own self.old.explore.now.journal self.old.expert ++ record { event = Confirm self.old.expert; reply = reply } ∷ []) }
         ensures wide { IfOk result (HasWideReply self.old.explore.now.opening.table.context.width) }
         ensures err { OnErr result (own self.new.explore.now.journal self.new.expert ≡ own self.old.explore.now.journal self.old.expert) }
         ensures spent { IsErrOf result fault.Spent ↔ (no_count ≡ Some 0) }
@@ -76,8 +84,12 @@ impl<'a> Desk for Solo<'a> {
 
     fn row(&mut self, name: Name, row: Attrs) -> Result<Reply, TurnFault>
         requires { length row ≡ self.old.explore.now.opening.table.context.width }
-        ensures same { (self.new.expert ≡ self.old.expert) × (no_badge ≡ no_badge) × (self.new.explore.ghost_name ≡ self.old.explore.ghost_name) × (self.new.explore.now.opening.table.context.width ≡ self.old.explore.now.opening.table.context.width) }
-        ensures entry { IfOk result (λ reply. own self.new.explore.now.journal self.new.expert ≡ own self.old.explore.now.journal self.old.expert ++ record { event = Row self.old.expert name row; reply = reply } ∷ []) }
+        ensures same { (self.new.expert ≡ self.old.expert)
+            × (no_badge ≡ no_badge)
+            × (self.new.explore.ghost_name ≡ self.old.explore.ghost_name)
+            × (self.new.explore.now.opening.table.context.width ≡ self.old.explore.now.opening.table.context.width) }
+        ensures entry { IfOk result (λ reply. own self.new.explore.now.journal self.new.expert
+            ≡ own self.old.explore.now.journal self.old.expert ++ record { event = Row self.old.expert name row; reply = reply } ∷ []) }
         ensures wide { IfOk result (HasWideReply self.old.explore.now.opening.table.context.width) }
         ensures err { OnErr result (own self.new.explore.now.journal self.new.expert ≡ own self.old.explore.now.journal self.old.expert) }
         ensures spent { IsErrOf result fault.Spent ↔ (no_count ≡ Some 0) }
@@ -91,8 +103,12 @@ impl<'a> Desk for Solo<'a> {
     }
 
     fn leave(&mut self) -> Result<Reply, TurnFault>
-        ensures same { (self.new.expert ≡ self.old.expert) × (no_badge ≡ no_badge) × (self.new.explore.ghost_name ≡ self.old.explore.ghost_name) × (self.new.explore.now.opening.table.context.width ≡ self.old.explore.now.opening.table.context.width) }
-        ensures entry { IfOk result (λ reply. own self.new.explore.now.journal self.new.expert ≡ own self.old.explore.now.journal self.old.expert ++ record { event = Leave self.old.expert; reply = reply } ∷ []) }
+        ensures same { (self.new.expert ≡ self.old.expert)
+            × (no_badge ≡ no_badge)
+            × (self.new.explore.ghost_name ≡ self.old.explore.ghost_name)
+            × (self.new.explore.now.opening.table.context.width ≡ self.old.explore.now.opening.table.context.width) }
+        ensures entry { IfOk result (λ reply. own self.new.explore.now.journal self.new.expert
+            ≡ own self.old.explore.now.journal self.old.expert ++ record { event = Leave self.old.expert; reply = reply } ∷ []) }
         ensures wide { IfOk result (HasWideReply self.old.explore.now.opening.table.context.width) }
         ensures err { OnErr result (own self.new.explore.now.journal self.new.expert ≡ own self.old.explore.now.journal self.old.expert) }
         ensures spent { IsErrOf result fault.Spent ↔ (no_count ≡ Some 0) }

@@ -75,11 +75,11 @@ module _ {B E : Type 0} where
 
 module _ {V B E : Type 0} where
   -- pass 1, as it was taken off the list, and the rest are all
-  pub whole : (l : Lock B) (all rest : List (Known B E)) (p : Known B E) (t : Seat (Option V) (View B E)) → map badge all ≡ roll l → p ≡ get_or all 0 p → rest ≡ take 0 all ++ drop 1 all → known t ≡ p → known t ∷ rest ≡ all
+  pub whole : (l : Lock B) (all rest : List (Known B E)) (p : Known B E) (t : Seat V (View B E)) → map badge all ≡ roll l → p ≡ get_or all 0 p → rest ≡ take 0 all ++ drop 1 all → known t ≡ p → known t ∷ rest ≡ all
   whole l all rest p t passes first left is = ap (λ (p : Known B E). p ∷ rest) is ∙ (ap (λ ps. p ∷ ps) left ∙ front all p (has_first l all passes) first)
 
   -- the rest are of its lock
-  pub rest_of_lock : (l : Lock B) (t : Seat (Option V) (View B E)) (rest all : List (Known B E)) → known t ∷ rest ≡ all → map badge all ≡ roll l → All (λ p. p.lock ≡ t.table_id) rest
+  pub rest_of_lock : (l : Lock B) (t : Seat V (View B E)) (rest all : List (Known B E)) → known t ∷ rest ≡ all → map badge all ≡ roll l → All (λ p. p.lock ≡ t.table_id) rest
   rest_of_lock l t rest all these passes =
       let are = ap (map badge) these ∙ passes in
       let others = badges l.id (Some l.base) l.turns 2 (l.passes - 1) in
@@ -87,9 +87,9 @@ module _ {V B E : Type 0} where
       subst (λ id. All (λ p. p.lock ≡ id) rest) (sym (ap (λ x. x.lock) first)) (one_lock l.id (Some l.base) l.turns 2 (l.passes - 1) rest (tails (badge (known t)) _ (map badge rest) others are))
 
 module _ {V B E : Type 0} (base_of : V → B) (history_of : V → List E) (legal : B → List E → Type 0) (by : E → ℕ) where
-  closing : (b : B) (turns id : ℕ) (l : Lock B) (t : Seat (Option V) (View B E)) (ps : List (Known B E)) (s : State (Option V) (View B E)) → Turned base_of history_of legal by b turns s
+  closing : (b : B) (turns id : ℕ) (l : Lock B) (t : Seat V (View B E)) (ps : List (Known B E)) (s : State V (View B E)) → Turned base_of history_of legal by b turns s
       → get_elem? s.views id ≡ some (all_gathered t.me.0 ps) → t.me.0.mine ≡ false → t.me.0.stands ≡ 1 → map badge (known t ∷ ps) ≡ roll l → 0 < l.passes
-      → (value : V) × (s.homes ≡ some (Some value) ∷ []) × (base_of value ≡ b) × Told legal by b (history_of value) (known t ∷ ps)
+      → (value : V) × (s.homes ≡ some value ∷ []) × (base_of value ≡ b) × Told legal by b (history_of value) (known t ∷ ps)
   closing b turns id l t ps s r at idle one are some_passes =
       let v : View B E = all_gathered t.me.0 ps in
       let stays = stays_one t.me.0 ps in
@@ -119,11 +119,13 @@ module _ {V B E : Type 0} (base_of : V → B) (history_of : V → List E) (legal
       )
 
   -- the same of the value that is taken from the closed table, and of all passes
-  pub settled : (b : B) (turns id : ℕ) (l : Lock B) (t : Seat (Option V) (View B E)) (ps all : List (Known B E)) (m : Me (Option V) (View B E)) (ws : List ℕ) (xs : List (Option V)) (taken : Option V)
+  pub settled : (b : B) (turns id : ℕ) (l : Lock B) (t : Seat V (View B E)) (ps all : List (Known B E)) (m : Me V (View B E)) (ws : List ℕ) (xs : List V) (taken : V)
       → Final (Seen (Turned base_of history_of legal by b turns) id m.0) ws xs → m ≡ (all_gathered t.me.0 ps, []) → get_elem? xs 0 ≡ some taken
       → t.me.0.mine ≡ false → t.me.0.stands ≡ 1 → known t ∷ ps ≡ all → map badge all ≡ roll l → 0 < l.passes → b ≡ l.base
-      → (value : V) × (taken ≡ Some value) × (base_of value ≡ l.base) × Told legal by l.base (history_of value) all
+      → (base_of taken ≡ l.base) × Told legal by l.base (history_of taken) all
   settled b turns id l t ps all m ws xs taken final is there idle one these are some_passes based =
-      let q = closing b turns id l t ps final.0 final.1.0 (final.1.1 ∙ ap (λ (z : Me (Option V) (View B E)). some z.0) is) idle one (ap (map badge) these ∙ are) some_passes in
-      let at = final.4 0 (Some q.0) (ap (λ h. get_elem? h 0) q.1) in
-      (q.0, some-injective taken (Some q.0) (sym there ∙ at), q.2 ∙ based, subst (λ (z : B × List (Known B E)). Told legal by z.0 (history_of q.0) z.1) (λ i. (based i, these i)) q.3)
+      let q = closing b turns id l t ps final.0 final.1.0 (final.1.1 ∙ ap (λ (z : Me V (View B E)). some z.0) is) idle one (ap (map badge) these ∙ are) some_passes in
+      let at = final.4 0 q.0 (ap (λ h. get_elem? h 0) q.1) in
+      let same : q.0 ≡ taken = some-injective q.0 taken (sym at ∙ there) in
+      subst (λ (v : V). (base_of v ≡ l.base) × Told legal by l.base (history_of v) all) same
+      (q.2 ∙ based, subst (λ (z : B × List (Known B E)). Told legal by z.0 (history_of q.0) z.1) (λ i. (based i, these i)) q.3)

@@ -23,7 +23,7 @@ module _ {B : Type 0} where
   length-badges id b turns n (suc k) = ap suc (length-badges id b turns (suc n) k)
 
 module _ {V B E : Type 0} where
-  pub makes : (turns k : ℕ) (t u : Seat (Option V) (View B E)) → u.me ≡ (one_more t.me.0, t.me.1) → Making turns k t → Making turns (k + 1) u
+  pub makes : (turns k : ℕ) (t u : Seat V (View B E)) → u.me ≡ (one_more t.me.0, t.me.1) → Making turns k t → Making turns (k + 1) u
   makes turns k t u e m = let v = ap (λ z. z.0) e in record {
     holds = ap (λ z. z.1) e ∙ m.holds;
     number = ap (λ w. w.number) v ∙ m.number;
@@ -38,7 +38,7 @@ module _ {V B E : Type 0} where
   }
 
   -- the pass that is cut off is fresh, and has the next number
-  pub is_new : (turns k : ℕ) (id : TableId) (b : Option B) (t u : Seat (Option V) (View B E)) → Making turns k t → t.me.0.base ≡ b → u.table_id ≡ id → u.me ≡ (newcomer t.me.0, [])
+  pub is_new : (turns k : ℕ) (id : TableId) (b : Option B) (t u : Seat V (View B E)) → Making turns k t → t.me.0.base ≡ b → u.table_id ≡ id → u.me ≡ (newcomer t.me.0, [])
       → (badge (known u) ≡ record { lock = id; number = k + 1; base = b; turns = turns; passes = 0 }) × IsFresh (known u)
   is_new turns k id b t u m based there e =
       let v = ap (λ z. z.0) e in
@@ -50,7 +50,7 @@ module _ {V B E : Type 0} where
         (ap (λ w. w.seen) v ∙ m.seen, ap (λ w. w.own) v, ap (λ w. w.drawn) v),
       )
 
-  pub one_joins : (v : View B E) (t : Seat (Option V) (View B E)) (ps : List (Known B E)) → t.me.0.stands ≡ 1 → all_gathered (joined_with v t.me.0) ps ≡ all_gathered v (known t ∷ ps)
+  pub one_joins : (v : View B E) (t : Seat V (View B E)) (ps : List (Known B E)) → t.me.0.stands ≡ 1 → all_gathered (joined_with v t.me.0) ps ≡ all_gathered v (known t ∷ ps)
   one_joins v t ps one = ap (λ (n : ℕ). all_gathered (record (joined_with v t.me.0) { stands = v.stands + n }) ps) one
 
 module _ {B E : Type 0} where

@@ -16,6 +16,7 @@ use Rattle.turn_lock.specs.declared.view.Left.{Left}
 use Rattle.turn_lock.specs.Histories.{StartsWith, own_of, Among}
 use Rattle.turn_lock.specs.Turns.{Tickets, HasTicket, Numbers, Slot, Turned}
 use Rattle.turn_lock.specs.Steps.{Drew, Came, Ended, Grew, first_view, one_more, newcomer, joined_with, spent_view, ended_view}
+use Rattle.turn_lock.proofs.ValueLemmas.{value_at}
 use Rattle.turn_lock.proofs.ViewLemmas.{inside, same_at, after, after_end, only, total_two}
 use Rattle.turn_lock.proofs.HistoryLemmas.{starts_trans, starts_itself, longer_either, among_append}
 use Rattle.turn_lock.proofs.TicketLemmas.{same_some, is_turn, Tickets-kept, Tickets-drawn, Tickets-ended, Tickets-longer, Tickets-first}
@@ -27,21 +28,21 @@ module _ {V B E : Type 0} (base_of : V → B) (history_of : V → List E) (legal
   W = View B E
 
   abbrev S : Type 0
-  S = State (Option V) W
+  S = State V W
 
   abbrev Rule : B → ℕ → S → Type 0
   Rule = Turned base_of history_of legal by
 
   -- ---- the slot, where a view out of its turn changes or comes
 
-  Slot-kept : (b : B) (log : List E) (homes : List (Home (Option V))) (vs : List W) (id : ℕ) (v w : W) → get_elem? vs id ≡ some v → v.mine ≡ false → w.mine ≡ false
+  Slot-kept : (b : B) (log : List E) (homes : List (Home V)) (vs : List W) (id : ℕ) (v w : W) → get_elem? vs id ≡ some v → v.mine ≡ false → w.mine ≡ false
       → Slot base_of history_of b log homes vs → Slot base_of history_of b log homes (set vs id w)
   Slot-kept b log homes vs id v w at idle_v idle_w slot = ⊎_elim
       (λ p. inl (p.0, p.1, p.2, p.3, after (λ i (u : W). u.mine ≡ false) vs id w idle_w (λ j u other there. p.4 j u there)))
       (λ p. inr (p.0, p.1, p.2, set_else vs id p.1 w (λ e. cc (sym idle_v ∙ (ap (λ (u : W). u.mine) (same_at vs id p.1 v p.2 at p.3 (sym e)) ∙ p.4))) ∙ p.3, p.4, p.5))
       slot
 
-  Slot-longer : (b : B) (log : List E) (homes : List (Home (Option V))) (vs : List W) (w : W) → w.mine ≡ false
+  Slot-longer : (b : B) (log : List E) (homes : List (Home V)) (vs : List W) (w : W) → w.mine ≡ false
       → Slot base_of history_of b log homes vs → Slot base_of history_of b log homes (vs ++ w ∷ [])
   Slot-longer b log homes vs w idle slot = ⊎_elim
       (λ p. inl (p.0, p.1, p.2, p.3, after_end (λ i (u : W). u.mine ≡ false) vs w idle (λ j u there. p.4 j u there)))
@@ -51,7 +52,7 @@ module _ {V B E : Type 0} (base_of : V → B) (history_of : V → List E) (legal
   -- ---- the table is made
 
   pub opens : (b : B) (turns : ℕ) (value : V) → turns ≤ 2 ^ 48 → base_of value ≡ b → history_of value ≡ [] → legal b (history_of value)
-      → Rule b turns (opening (0 ∷ 0 ∷ []) (Some value ∷ []) (first_view b turns))
+      → Rule b turns (opening (0 ∷ 0 ∷ []) (value ∷ []) (first_view b turns))
   opens b turns value few based new lawful =
       let w : W = first_view b turns in record {
         log = [];
@@ -72,7 +73,7 @@ module _ {V B E : Type 0} (base_of : V → B) (history_of : V → List E) (legal
 
   -- ---- a ticket is drawn
 
-  pub draws : (b : B) (turns id : ℕ) (m : Me (Option V) W) → 0 < m.0.number → m.0.ticket ≡ None → m.0.mine ≡ false → m.0.drawn < m.0.turns * m.0.stands
+  pub draws : (b : B) (turns id : ℕ) (m : Me V W) → 0 < m.0.number → m.0.ticket ≡ None → m.0.mine ≡ false → m.0.drawn < m.0.turns * m.0.stands
       → Allows (Rule b turns) 1 id m 0 (λ n. (n + 1) % 2 ^ 64) (Drew (step 1 0 1 0 none) m)
   draws b turns id m pos free idle left s r one at small =
       let n : ℕ = get_or s.words 0 0 in
@@ -112,8 +113,8 @@ module _ {V B E : Type 0} (base_of : V → B) (history_of : V → List E) (legal
   -- ---- a pass looks whether its turn has come
 
   -- the turn is taken, with the value at home
-  takes_turn : (b : B) (turns id : ℕ) (m : Me (Option V) W) (s : S) (r : Rule b turns s) → 0 < m.0.number → get_elem? s.views id ≡ some m.0 → m.0.ticket ≡ Some (get_or s.words 1 0)
-      → (value : V) → s.homes ≡ some (Some value) ∷ [] → history_of value ≡ r.log
+  takes_turn : (b : B) (turns id : ℕ) (m : Me V W) (s : S) (r : Rule b turns s) → 0 < m.0.number → get_elem? s.views id ≡ some m.0 → m.0.ticket ≡ Some (get_or s.words 1 0)
+      → (value : V) → s.homes ≡ some value ∷ [] → history_of value ≡ r.log
       → Rule b turns record { words = set s.words 1 (get_or s.words 1 0); homes = set s.homes 0 none; views = set s.views id record m.0 { mine = true; seen = history_of value } }
   takes_turn b turns id m s r pos at now value home log =
       let w : W = record m.0 { mine = true; seen = history_of value } in
@@ -136,7 +137,7 @@ module _ {V B E : Type 0} (base_of : V → B) (history_of : V → List E) (legal
         numbers = Numbers-kept by b turns r.made r.log r.gone s.views id m.0 w at pos refl refl refl (r.numbers.own id m.0 at pos).2 refl r.numbers;
       }
 
-  pub comes : (b : B) (turns id : ℕ) (m : Me (Option V) W) → 0 < m.0.number → m.0.mine ≡ false
+  pub comes : (b : B) (turns id : ℕ) (m : Me V W) → 0 < m.0.number → m.0.mine ≡ false
       → Allows (Rule b turns) 1 id m 1 (λ n. n) (Came base_of history_of legal by (step 1 1 0 0 none) m)
   comes b turns id m pos idle s r one at small = ⊎_elim
       (λ now. ⊎_elim
@@ -145,7 +146,7 @@ module _ {V B E : Type 0} (base_of : V → B) (history_of : V → List E) (legal
       let knows = r.numbers.own id m.0 at pos in
       let seen = r.seen id m.0 at in (
         record m.0 { mine = true; seen = history_of value },
-        takes 0 (Some value),
+        takes 0 value,
         ap (λ (h : List _). get_elem? h 0) p.1,
         takes_turn b turns id m s r pos at now value p.1 p.3,
         inl (
@@ -190,7 +191,7 @@ module _ {V B E : Type 0} (base_of : V → B) (history_of : V → List E) (legal
     | inr not_it ↦ not_it
   ]
 
-  pub ends : (b : B) (turns id : ℕ) (m : Me (Option V) W) (value : V) → 0 < m.0.number → m.1 ≡ (0, Some value) ∷ [] → m.0.mine ≡ true → m.0.base ≡ Some (base_of value)
+  pub ends : (b : B) (turns id : ℕ) (m : Me V W) (value : V) → 0 < m.0.number → m.1 ≡ (0, value) ∷ [] → m.0.mine ≡ true → m.0.base ≡ Some (base_of value)
       → legal (base_of value) (history_of value) → Grew by m.0.number m.0.seen (history_of value)
       → Allows (Rule b turns) 1 id m 1 (λ n. (n + 1) % 2 ^ 64) (Ended history_of by (step 1 1 1 0 none) m)
   ends b turns id m value pos holds mine based lawful grew s r one at small =
@@ -215,7 +216,7 @@ module _ {V B E : Type 0} (base_of : V → B) (history_of : V → List E) (legal
         w,
         gives,
         tt,
-        subst (λ (cs : List (ℕ × Option V)). Rule b turns (stepped s 1 ((n + 1) % 2 ^ 64) id cs w gives)) (sym holds) record {
+        subst (λ (cs : List (ℕ × V)). Rule b turns (stepped s 1 ((n + 1) % 2 ^ 64) id cs w gives)) (sym holds) record {
           log = log;
           made = r.made;
           gone = r.gone;
@@ -226,7 +227,7 @@ module _ {V B E : Type 0} (base_of : V → B) (history_of : V → List E) (legal
               (Tickets-ended n (get_or s.words 0 0) s.views id m.0 w at now refl r.tickets);
           counts = Counts-set turns r.made (get_or s.words 0 0) (get_or ws 0 0) 0 s.views id m.0 w at (omega (arith, first)) (omega arith) refl (omega (arith, most)) r.counts;
           turn = after (λ i (v : W). HasTicket (get_or ws 1 0) v) s.views id w (λ e. cc e) (λ j v other there e. cc (sym (alone j v other there) ∙ e));
-          slot = inl (value, ap (λ (h : List _). set h 0 (some (Some value))) away.0, is_base, refl, after (λ i (v : W). v.mine ≡ false) s.views id w refl alone);
+          slot = inl (value, ap (λ (h : List _). set h 0 (some value)) away.0, is_base, refl, after (λ i (v : W). v.mine ≡ false) s.views id w refl alone);
           is_legal = subst (λ b. legal b log) is_base lawful;
           seen = after (λ i (v : W). StartsWith log v.seen) s.views id w (starts_itself log) (λ j v other there. starts_trans v.seen r.log log (es, is) (r.seen j v there));
           shown = λ h am. starts_trans h r.log log (es, is) (r.shown h am);
@@ -235,7 +236,7 @@ module _ {V B E : Type 0} (base_of : V → B) (history_of : V → List E) (legal
         },
         λ x there. (
           rw holds refl,
-          ap (λ (h : List E). ended_view by h m.0) (ap history_of (same_some value x (ap (λ (cs : List (ℕ × Option V)). elim cs [ [] ↦ None | y ∷ ys ↦ y.1 ]) (sym holds ∙ there)))),
+          ap (λ (h : List E). ended_view by h m.0) (ap history_of (value_at m.1 value x holds there)),
         ),
       )
 
@@ -324,7 +325,7 @@ module _ {V B E : Type 0} (base_of : V → B) (history_of : V → List E) (legal
   -- ---- the last state, where the view of pass 1 stands for all
 
   pub closes : (b : B) (turns id : ℕ) (v : W) (s : S) → Rule b turns s → get_elem? s.views id ≡ some v → v.number ≡ 1 → v.stands ≡ v.passes → v.mine ≡ false
-      → (value : V) × (s.homes ≡ some (Some value) ∷ []) × (base_of value ≡ b) × legal b (history_of value) × StartsWith (history_of value) v.seen
+      → (value : V) × (s.homes ≡ some value ∷ []) × (base_of value ≡ b) × legal b (history_of value) × StartsWith (history_of value) v.seen
       × ((h : List E) → Among v.shown h → StartsWith (history_of value) h)
       × (v.own ≡ own_of by 1 (history_of value))
       × ((left : Left E) → Among v.joined left → left.own ≡ own_of by left.number (history_of value))

@@ -1,19 +1,24 @@
--- The value in the hands of the pass whose turn it is.
-use Rattle.std.proofs.Common.{◌≡◌, ℕ, List, [], ◌∷◌, sym, ap, ◌∙◌, subst, refl}
-use Rattle.std.proofs.Common.{Option, Some, None}
-use Rattle.atomic_table.specs.Table.{Me}
+-- The value in the slot of the pass whose turn it is.
+use Rattle.std.proofs.Common.{◌≡◌, ℕ, List, [], ◌∷◌, sym, ap, ◌∙◌, subst}
+use Rattle.atomic_table.specs.Table.{Me, rest}
 use Rattle.turn_lock.specs.declared.view.View.{View}
-use Rattle.turn_lock.specs.Steps.{IsShown, HasTurn, Holds}
-use Rattle.turn_lock.proofs.TicketLemmas.{same_some}
+use Rattle.turn_lock.specs.Steps.{IsShown, HasTurn}
+
+module _ {V : Type 0} where
+  -- the value in the first of the slots that a pass holds
+  abbrev first_of : V → List (ℕ × V) → V
+  first_of v [] = v
+  first_of v (x ∷ xs) = x.1
+
+  -- a slot has one value
+  pub value_at : (slots : List (ℕ × V)) (v w : V) → slots ≡ (0, v) ∷ [] → slots ≡ (0, w) ∷ [] → v ≡ w
+  value_at slots v w is there = ap (first_of v) (sym is ∙ there)
 
 module _ {V B E : Type 0} (base_of : V → B) (history_of : V → List E) (legal : B → List E → Type 0) (by : E → ℕ) where
-  abbrev slot : List (ℕ × Option V) → Option V
-  slot [] = None
-  slot (x ∷ xs) = x.1
-
-  -- once it is taken out of the slot
-  pub holds_now : (m m' m'' : Me (Option V) (View B E)) (value : V) → HasTurn base_of history_of legal by m m' → m'.1 ≡ (0, Some value) ∷ [] → m'' ≡ (m'.0, (0, None) ∷ [])
-      → Holds base_of history_of legal by m value m''
-  holds_now m m' m'' value turn was out =
-      let same : turn.0 ≡ value = same_some turn.0 value (ap slot (sym turn.1 ∙ was)) in
-      subst (λ (z : V × Me (Option V) (View B E)). Holds base_of history_of legal by m z.0 z.1) (λ i. (same i, sym out i)) (refl, turn.2)
+  -- what is found in the slot as the turn has come is the value that the pass was shown
+  pub shown_now : (m m' : Me V (View B E)) (value : V) → HasTurn base_of history_of legal by m m' → m.1 ≡ [] → m'.1 ≡ (0, value) ∷ rest m'.1
+      → (m'.1 ≡ (0, value) ∷ []) × IsShown base_of history_of legal by m.0 value m'.0
+  shown_now m m' value turn free found =
+      let only = turn.1 ∙ ap (λ l. (0, turn.0) ∷ l) free in
+      let there = found ∙ ap (λ l. (0, value) ∷ rest l) only in
+      (there, subst (λ v. IsShown base_of history_of legal by m.0 v m'.0) (value_at m'.1 turn.0 value only there) turn.2)

@@ -9,11 +9,11 @@ use Rattle.turn_lock.specs.Passes.{Known}
 
 module _ {V B E : Type 0} where
   -- what contracts see of it
-  abbrev pub known : Seat (Option V) (View B E) → Known B E
+  abbrev pub known : Seat V (View B E) → Known B E
   known t = record { lock = t.table_id; number = t.me.0.number; base = t.me.0.base; turns = t.me.0.turns; passes = t.me.0.passes; seen = t.me.0.seen; own = t.me.0.own; made = t.me.0.drawn }
 
   -- between two turns
-  pub record IsIdle (by : E → ℕ) (t : Seat (Option V) (View B E)) : Type 0 where
+  pub record IsIdle (by : E → ℕ) (t : Seat V (View B E)) : Type 0 where
     pub holds : t.me.1 ≡ []
     pub positive : 0 < t.me.0.number
     pub ticket : t.me.0.ticket ≡ None
@@ -22,18 +22,18 @@ module _ {V B E : Type 0} where
     pub own : t.me.0.own ≡ own_of by t.me.0.number t.me.0.seen
 
   -- it has this ticket, and its turn has not come
-  abbrev pub Waits : ℕ → Seat (Option V) (View B E) → Type 0
+  abbrev pub Waits : ℕ → Seat V (View B E) → Type 0
   Waits ticket t = (t.me.1 ≡ []) × (0 < t.me.0.number) × (t.me.0.mine ≡ false) × (t.me.0.ticket ≡ Some ticket)
 
   -- it is of this table, which has two words and a slot
-  abbrev pub Fits : TableId → Seat (Option V) (View B E) → Type 0
+  abbrev pub Fits : TableId → Seat V (View B E) → Type 0
   Fits id t = (t.table_id ≡ id) × (id.words ≡ 2) × (id.slots ≡ 1)
 
-  abbrev pub Stays : Seat (Option V) (View B E) → Seat (Option V) (View B E) → Type 0
+  abbrev pub Stays : Seat V (View B E) → Seat V (View B E) → Type 0
   Stays t u = (u.table_id ≡ t.table_id) × (u.id ≡ t.id)
 
   -- pass 1, when k passes were made
-  pub record Making (turns k : ℕ) (t : Seat (Option V) (View B E)) : Type 0 where
+  pub record Making (turns k : ℕ) (t : Seat V (View B E)) : Type 0 where
     pub holds : t.me.1 ≡ []
     pub number : t.me.0.number ≡ 1
     pub turns_is : t.me.0.turns ≡ turns

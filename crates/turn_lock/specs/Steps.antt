@@ -1,7 +1,7 @@
 -- What each kind of step does to the views, and tells its pass.
--- The kinds are eight: making the table, making one more pass, drawing a ticket, looking whether the turn has come,
--- taking the value out of the slot, putting it back, ending the turn, and joining a pass to pass 1.
-use Rattle.std.specs.Prelude.{◌≡◌, ◌≢◌, ℕ, ◌+◌, ◌⊎◌, true, false, List, [], ◌∷◌, ◌++◌}
+-- The kinds are six: making the table, making one more pass, drawing a ticket, looking whether the turn has come, ending the
+-- turn, and joining a pass to pass 1. Between the last but two and the next the pass alone reads and changes the value.
+use Rattle.std.specs.Prelude.{◌≡◌, ◌≢◌, ℕ, ◌+◌, ◌<◌, ◌⊎◌, true, false, List, [], ◌∷◌, ◌++◌}
 use Rattle.std.specs.Prelude.{Option, Some, None}
 use Rattle.atomic_table.specs.Table.{Me, Step}
 use Rattle.turn_lock.specs.declared.view.View.{View}
@@ -40,11 +40,15 @@ module _ {B E : Type 0} where
   abbrev pub spent_view : View B E
   spent_view = record { number = 0; base = None; turns = 0; seen = []; own = []; drawn = 0; ticket = None; mine = false; stands = 0; passes = 0; joined = []; shown = [] }
 
+-- the history goes on from an earlier one by entries of the pass n alone, or not at all
+abbrev pub Grew : {E : Type 0} → (E → ℕ) → ℕ → List E → List E → Type 0
+Grew {E} by n before log = (es : List E) × (log ≡ before ++ es) × ((k : ℕ) → k ≢ n → own_of by k es ≡ [])
+
 -- ---- what a step tells, of the seat before it, the number that it found, and the seat after it
 
 module _ {V B E : Type 0} where
   -- the number found is the ticket
-  abbrev pub Drew : Step (Option V) → Me (Option V) (View B E) → ℕ → Me (Option V) (View B E) → Type 0
+  abbrev pub Drew : Step V → Me V (View B E) → ℕ → Me V (View B E) → Type 0
   Drew st m found m' = (m'.1 ≡ m.1) × (m'.0 ≡ record m.0 { drawn = m.0.drawn + 1; ticket = Some found })
 
 module _ {V B E : Type 0} (base_of : V → B) (history_of : V → List E) (legal : B → List E → Type 0) (by : E → ℕ) where
@@ -55,24 +59,22 @@ module _ {V B E : Type 0} (base_of : V → B) (history_of : V → List E) (legal
       × (v.own ≡ own_of by v.number (history_of value)) × (w ≡ record v { mine = true; seen = history_of value })
 
   -- the turn is the pass's, and it holds the slot with the value
-  abbrev pub HasTurn : Me (Option V) (View B E) → Me (Option V) (View B E) → Type 0
-  HasTurn m m' = (value : V) × (m'.1 ≡ (0, Some value) ∷ m.1) × IsShown m.0 value m'.0
-
-  -- the same, with the value taken out of the slot
-  abbrev pub Holds : Me (Option V) (View B E) → V → Me (Option V) (View B E) → Type 0
-  Holds m value m' = (m'.1 ≡ (0, None) ∷ []) × IsShown m.0 value m'.0
+  abbrev pub HasTurn : Me V (View B E) → Me V (View B E) → Type 0
+  HasTurn m m' = (value : V) × (m'.1 ≡ (0, value) ∷ m.1) × IsShown m.0 value m'.0
 
   -- the turn has come where the number found is the ticket
-  abbrev pub Came : Step (Option V) → Me (Option V) (View B E) → ℕ → Me (Option V) (View B E) → Type 0
+  abbrev pub Came : Step V → Me V (View B E) → ℕ → Me V (View B E) → Type 0
   Came st m found m' =
       ((m.0.ticket ≡ Some found) × HasTurn m m')
       ⊎ ((m.0.ticket ≢ Some found) × (m' ≡ m))
 
+  -- the turn may end: it is the pass's, which holds the slot with a value of the lock's base, and the value's history is
+  -- legal and has grown by entries of the pass alone since the pass saw it
+  abbrev pub MayEnd : Me V (View B E) → Type 0
+  MayEnd m = (value : V) × (m.1 ≡ (0, value) ∷ []) × (0 < m.0.number) × (m.0.mine ≡ true) × (m.0.base ≡ Some (base_of value))
+      × legal (base_of value) (history_of value) × Grew by m.0.number m.0.seen (history_of value)
+
 module _ {V B E : Type 0} (history_of : V → List E) (by : E → ℕ) where
   -- the turn is over, and the pass has seen the history of the value that it gave back
-  abbrev pub Ended : Step (Option V) → Me (Option V) (View B E) → ℕ → Me (Option V) (View B E) → Type 0
-  Ended st m found m' = (value : V) → m.1 ≡ (0, Some value) ∷ [] → (m'.1 ≡ []) × (m'.0 ≡ ended_view by (history_of value) m.0)
-
--- the history goes on from an earlier one by entries of the pass n alone, or not at all
-abbrev pub Grew : {E : Type 0} → (E → ℕ) → ℕ → List E → List E → Type 0
-Grew {E} by n before log = (es : List E) × (log ≡ before ++ es) × ((k : ℕ) → k ≢ n → own_of by k es ≡ [])
+  abbrev pub Ended : Step V → Me V (View B E) → ℕ → Me V (View B E) → Type 0
+  Ended st m found m' = (value : V) → m.1 ≡ (0, value) ∷ [] → (m'.1 ≡ []) × (m'.0 ≡ ended_view by (history_of value) m.0)

@@ -64,15 +64,15 @@ module _ {B E : Type 0} (by : E → ℕ) where
 module _ {V B E : Type 0} (base_of : V → B) (history_of : V → List E) where
   -- At home, the slot has a value of the base with the history. It is out exactly where a view's turn is its own, and what
   -- that view has seen is the history
-  abbrev pub Slot : B → List E → List (Home (Option V)) → List (View B E) → Type 0
+  abbrev pub Slot : B → List E → List (Home V) → List (View B E) → Type 0
   Slot b log homes views =
-      ((value : V) × (homes ≡ some (Some value) ∷ []) × (base_of value ≡ b) × (history_of value ≡ log)
+      ((value : V) × (homes ≡ some value ∷ []) × (base_of value ≡ b) × (history_of value ≡ log)
       × ((i : ℕ) (v : View B E) → Sits views i v → v.mine ≡ false))
       ⊎ ((homes ≡ none ∷ []) × (i : ℕ) × (v : View B E) × Sits views i v × (v.mine ≡ true) × (v.seen ≡ log))
 
 module _ {V B E : Type 0} (base_of : V → B) (history_of : V → List E) (legal : B → List E → Type 0) (by : E → ℕ) where
   -- the rule, where b is the base of the value that the lock was made with, and a pass may make this many turns
-  pub record Turned (b : B) (turns : ℕ) (s : State (Option V) (View B E)) : Type 0 where
+  pub record Turned (b : B) (turns : ℕ) (s : State V (View B E)) : Type 0 where
     -- the history, the number of passes made, and what the view of pass 1 keeps of those joined to it
     pub log : List E
     pub made : ℕ

@@ -24,7 +24,7 @@ use std::sync::Wait;
 pub struct TurnLock<V: Logged> {
     passes: u8,
     queue: Queue,
-    table: Table<Option<V>, View<V::Base, V::Entry>, Key<V>, TurnRule<V>, Global>,
+    table: Table<V, View<V::Base, V::Entry>, Key<V>, TurnRule<V>, Global>,
 }
 
 impl<V: Logged> Model for TurnLock<V> {
@@ -151,9 +151,7 @@ impl<V: Logged> TurnLock<V> {
         } = first;
         gather(&table.shared, &mut seat, passes);
         let mut closed = table.close_with(seat);
-        let Some(value) = closed.take(0) else {
-            unreachable!()
-        };
+        let value = closed.take(0);
         closed.free();
         value
     }
@@ -166,8 +164,8 @@ fn table_of<V: Logged>(
     turns: u64,
 ) -> Result<
     (
-        Table<Option<V>, View<V::Base, V::Entry>, Key<V>, TurnRule<V>, Global>,
-        Seat<Option<V>, View<V::Base, V::Entry>>,
+        Table<V, View<V::Base, V::Entry>, Key<V>, TurnRule<V>, Global>,
+        Seat<V, View<V::Base, V::Entry>>,
     ),
     Memory,
 >
@@ -183,7 +181,7 @@ fn table_of<V: Logged>(
         turns,
     };
     let mut slots = Vec::new(alloc);
-    slots.push(Some(value))?;
+    slots.push(value)?;
     match Table::new(alloc, &[0, 0], slots, &key) {
         Ok(made) => Ok(made),
         Err(_refused) => Err(Memory),
@@ -193,8 +191,8 @@ fn table_of<V: Logged>(
 /// All passes in their order, where pass 1 has the seat.
 fn all_passes<V: Logged>(
     alloc: Global,
-    shared: &Shared<Option<V>, View<V::Base, V::Entry>, Key<V>, TurnRule<V>>,
-    mut seat: Seat<Option<V>, View<V::Base, V::Entry>>,
+    shared: &Shared<V, View<V::Base, V::Entry>, Key<V>, TurnRule<V>>,
+    mut seat: Seat<V, View<V::Base, V::Entry>>,
     passes: u8,
     turns: u64,
 ) -> Result<Vec<Pass<V>>, Memory>
@@ -219,8 +217,8 @@ fn all_passes<V: Logged>(
 /// The passes from 2 on, cut off from pass 1.
 fn make_more<V: Logged>(
     alloc: Global,
-    shared: &Shared<Option<V>, View<V::Base, V::Entry>, Key<V>, TurnRule<V>>,
-    seat: &mut Seat<Option<V>, View<V::Base, V::Entry>>,
+    shared: &Shared<V, View<V::Base, V::Entry>, Key<V>, TurnRule<V>>,
+    seat: &mut Seat<V, View<V::Base, V::Entry>>,
     passes: u8,
     turns: u64,
 ) -> Result<Vec<Pass<V>>, Memory>
@@ -248,8 +246,8 @@ fn make_more<V: Logged>(
 
 /// All passes are joined to pass 1.
 fn gather<V: Logged>(
-    shared: &Shared<Option<V>, View<V::Base, V::Entry>, Key<V>, TurnRule<V>>,
-    seat: &mut Seat<Option<V>, View<V::Base, V::Entry>>,
+    shared: &Shared<V, View<V::Base, V::Entry>, Key<V>, TurnRule<V>>,
+    seat: &mut Seat<V, View<V::Base, V::Entry>>,
     passes: Vec<Pass<V>>,
 )
     requires lock { Fits shared.now.table_id seat.old }

@@ -13,7 +13,7 @@ pub struct Pass<V: Logged> {
     pub(crate) number: u8,
     pub(crate) made: u64,
     pub(crate) turns: u64,
-    pub(crate) seat: Seat<Option<V>, View<V::Base, V::Entry>>,
+    pub(crate) seat: Seat<V, View<V::Base, V::Entry>>,
 }
 
 impl<V: Logged> Model for Pass<V> {

@@ -2,6 +2,9 @@
 //!
 //! This is a matter of time alone. The rule of the lock says nothing of it, and a pass that wakes looks again.
 
+ghost use Rattle.std.specs.Prelude.{◌≡◌, ◌*◌, ◌^◌, ◌<◌, ◌↔◌, IsTrue, min};
+ghost use Rattle.std.specs.Duration.{as_nanos};
+
 use std::array;
 use std::thread::Parker;
 use std::time::Duration;
@@ -32,7 +35,9 @@ pub struct Queue {
 }
 
 impl Queue {
-    pub fn new(passes: u8) -> Queue {
+    pub fn new(passes: u8) -> Queue
+        ensures { result.passes ≡ passes }
+    {
         Queue {
             places: array::from_fn(|_| Parker::new()),
             passes,
@@ -40,7 +45,9 @@ impl Queue {
     }
 
     /// Whether a pass may have to wait for another.
-    pub fn is_shared(&self) -> bool {
+    pub fn is_shared(&self) -> bool
+        ensures { IsTrue result ↔ (1 < self.now.passes) }
+    {
         self.passes > 1
     }
 
@@ -56,6 +63,8 @@ impl Queue {
 }
 
 /// How long a pass naps that has napped so often.
-pub fn nap(naps: u32) -> Duration {
+pub fn nap(naps: u32) -> Duration
+    ensures { as_nanos result ≡ FIRST_NAP * 2 ^ min naps GROWTHS * 1_000 }
+{
     Duration::from_micros(FIRST_NAP << naps.min(GROWTHS))
 }

@@ -17,7 +17,7 @@ pub struct TurnRule<V> {
     of: PhantomData<V>,
 }
 
-impl<V: Logged> TableRule<Option<V>, View<V::Base, V::Entry>, Key<V>> for TurnRule<V> {
+impl<V: Logged> TableRule<V, View<V::Base, V::Entry>, Key<V>> for TurnRule<V> {
     ghost use Rattle.turn_lock.specs.Turns.{Turned};
     ghost use Rattle.turn_lock.specs.Steps.{first_view};
 
@@ -31,7 +31,7 @@ pub struct Drawing<V> {
     of: PhantomData<V>,
 }
 
-impl<V: Logged> Play<Option<V>, View<V::Base, V::Entry>> for Drawing<V> {
+impl<V: Logged> Play<V, View<V::Base, V::Entry>> for Drawing<V> {
     ghost use Rattle.turn_lock.specs.Steps.{Drew};
 
     ghost then = { Drew };
@@ -42,7 +42,7 @@ pub struct Coming<V> {
     of: PhantomData<V>,
 }
 
-impl<V: Logged> Play<Option<V>, View<V::Base, V::Entry>> for Coming<V> {
+impl<V: Logged> Play<V, View<V::Base, V::Entry>> for Coming<V> {
     ghost use Rattle.turn_lock.specs.Steps.{Came};
 
     ghost then = { Came V.base V.history V.legal V.by };
@@ -53,7 +53,7 @@ pub struct Ending<V> {
     of: PhantomData<V>,
 }
 
-impl<V: Logged> Play<Option<V>, View<V::Base, V::Entry>> for Ending<V> {
+impl<V: Logged> Play<V, View<V::Base, V::Entry>> for Ending<V> {
     ghost use Rattle.turn_lock.specs.Steps.{Ended};
 
     ghost then = { Ended V.history V.by };

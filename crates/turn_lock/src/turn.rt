@@ -6,7 +6,7 @@ ghost use Rattle.std.specs.Bool.{MatchBool};
 ghost use Rattle.std.specs.Prelude.{◌≡◌, ◌+◌, ◌*◌, ◌<◌, false, true, ◌∷◌, [], Some, None, IfOk, OnErr};
 ghost use Rattle.turn_lock.specs.Passes.{badge, Entered, Looked};
 ghost use Rattle.turn_lock.specs.Seats.{known, IsIdle, Waits, Fits, Stays};
-ghost use Rattle.turn_lock.specs.Steps.{Drew, Came, HasTurn, Holds, Grew, ended_view};
+ghost use Rattle.turn_lock.specs.Steps.{Drew, Came, HasTurn, MayEnd, ended_view};
 
 use crate::logged::Logged;
 use crate::queue::{LOOKS, NAPS, QUIET_LOOKS, Queue, nap};
@@ -20,9 +20,7 @@ use std::thread::Parker;
 use std::time::Duration;
 
 /// Looks for a while whether each ticket that was drawn has had its turn.
-fn is_quiet<V: Logged>(
-    shared: &Shared<Option<V>, View<V::Base, V::Entry>, Key<V>, TurnRule<V>>,
-) -> bool
+fn is_quiet<V: Logged>(shared: &Shared<V, View<V::Base, V::Entry>, Key<V>, TurnRule<V>>) -> bool
     requires { shared.now.table_id.words ≡ 2 }
 {
     for _ in 0..QUIET_LOOKS {
@@ -36,7 +34,7 @@ fn is_quiet<V: Logged>(
 
 /// Waits until each ticket that was drawn has had its turn, or for some naps.
 fn wait_for_quiet<V: Logged, R: Wait>(
-    shared: &Shared<Option<V>, View<V::Base, V::Entry>, Key<V>, TurnRule<V>>,
+    shared: &Shared<V, View<V::Base, V::Entry>, Key<V>, TurnRule<V>>,
     rt: &R,
 )
     requires { shared.now.table_id.words ≡ 2 }
@@ -51,10 +49,10 @@ fn wait_for_quiet<V: Logged, R: Wait>(
 
 /// Draws a ticket, where there are others, once they leave the lock for a while or for long do not.
 fn draw<V: Logged, R: Wait>(
-    shared: &Shared<Option<V>, View<V::Base, V::Entry>, Key<V>, TurnRule<V>>,
+    shared: &Shared<V, View<V::Base, V::Entry>, Key<V>, TurnRule<V>>,
     queue: &Queue,
     rt: &R,
-    seat: &mut Seat<Option<V>, View<V::Base, V::Entry>>,
+    seat: &mut Seat<V, View<V::Base, V::Entry>>,
 ) -> u64
     requires lock { Fits shared.now.table_id seat.old }
     requires idle { IsIdle V.by seat.old }
@@ -69,8 +67,8 @@ fn draw<V: Logged, R: Wait>(
 }
 
 fn come<V: Logged>(
-    shared: &Shared<Option<V>, View<V::Base, V::Entry>, Key<V>, TurnRule<V>>,
-    seat: &mut Seat<Option<V>, View<V::Base, V::Entry>>,
+    shared: &Shared<V, View<V::Base, V::Entry>, Key<V>, TurnRule<V>>,
+    seat: &mut Seat<V, View<V::Base, V::Entry>>,
 ) -> u64
     requires lock { Fits shared.now.table_id seat.old }
     requires waits { (0 < seat.old.me.0.number) × (seat.old.me.0.mine ≡ false) }
@@ -81,8 +79,8 @@ fn come<V: Logged>(
 }
 
 fn has_come<V: Logged>(
-    shared: &Shared<Option<V>, View<V::Base, V::Entry>, Key<V>, TurnRule<V>>,
-    seat: &mut Seat<Option<V>, View<V::Base, V::Entry>>,
+    shared: &Shared<V, View<V::Base, V::Entry>, Key<V>, TurnRule<V>>,
+    seat: &mut Seat<V, View<V::Base, V::Entry>>,
     ticket: u64,
 ) -> bool
     requires lock { Fits shared.now.table_id seat.old }
@@ -93,23 +91,23 @@ fn has_come<V: Logged>(
     come(shared, seat) == ticket
 }
 
-/// Waits for the ticket's turn, and takes the value out.
+/// Waits until the ticket's turn has come.
 fn wait<V: Logged, R: Wait>(
-    shared: &Shared<Option<V>, View<V::Base, V::Entry>, Key<V>, TurnRule<V>>,
+    shared: &Shared<V, View<V::Base, V::Entry>, Key<V>, TurnRule<V>>,
     queue: &Queue,
     rt: &R,
-    seat: &mut Seat<Option<V>, View<V::Base, V::Entry>>,
+    seat: &mut Seat<V, View<V::Base, V::Entry>>,
     ticket: u64,
-) -> V
+)
     requires lock { Fits shared.now.table_id seat.old }
     requires waits { Waits ticket seat.old }
     ensures lock { Stays seat.old seat.new }
-    ensures out { Holds V.base V.history V.legal V.by seat.old.me result seat.new.me }
+    ensures turn { HasTurn V.base V.history V.legal V.by seat.old.me seat.new.me }
 {
     let mut looks = 0u32;
     for _ in rt.forever() {
         if has_come(shared, seat, ticket) {
-            return take_out(shared, seat);
+            return;
         }
         let turns = ticket.abs_diff(shared.peek(1));
         if turns <= 1 && looks < LOOKS {
@@ -123,38 +121,18 @@ fn wait<V: Logged, R: Wait>(
     unreachable!()
 }
 
-/// Takes the value out of the slot.
-fn take_out<V: Logged>(
-    shared: &Shared<Option<V>, View<V::Base, V::Entry>, Key<V>, TurnRule<V>>,
-    seat: &mut Seat<Option<V>, View<V::Base, V::Entry>>,
-) -> V
-    requires lock { Fits shared.now.table_id seat.old }
-    requires there { (value : V) × (seat.old.me.1 ≡ (0, Some value) ∷ []) }
-    ensures lock { Stays seat.old seat.new }
-    ensures was { seat.old.me.1 ≡ (0, Some result) ∷ [] }
-    ensures out { seat.new.me ≡ (seat.old.me.0, (0, None) ∷ []) }
-{
-    let Some(value) = shared.exchange(seat, 0, None) else {
-        unreachable!()
-    };
-    value
-}
-
-/// Gives the value back, and ends the turn.
+/// Gives the slot back, and ends the turn.
 fn end<V: Logged>(
-    shared: &Shared<Option<V>, View<V::Base, V::Entry>, Key<V>, TurnRule<V>>,
+    shared: &Shared<V, View<V::Base, V::Entry>, Key<V>, TurnRule<V>>,
     queue: &Queue,
-    seat: &mut Seat<Option<V>, View<V::Base, V::Entry>>,
-    value: V,
+    seat: &mut Seat<V, View<V::Base, V::Entry>>,
 )
     requires lock { Fits shared.now.table_id seat.old }
-    requires out { (seat.old.me.1 ≡ (0, None) ∷ []) × (0 < seat.old.me.0.number) × (seat.old.me.0.mine ≡ true) }
-    requires value { (seat.old.me.0.base ≡ Some (V.base value)) × V.legal (V.base value) (V.history value) × Grew V.by seat.old.me.0.number seat.old.me.0.seen (V.history value) }
+    requires turn { MayEnd V.base V.history V.legal V.by seat.old.me }
     ensures lock { Stays seat.old seat.new }
-    ensures rests { seat.new.me.1 ≡ [] }
-    ensures view { seat.new.me.0 ≡ ended_view V.by (V.history value) seat.old.me.0 }
+    ensures ended { (value : V) → seat.old.me.1 ≡ (0, value) ∷ []
+        → (seat.new.me.1 ≡ []) × (seat.new.me.0 ≡ ended_view V.by (V.history value) seat.old.me.0) }
 {
-    let _none = shared.exchange(seat, 0, Some(value));
     let ended = shared.fetch_add::<Ending<V>>(seat, 1, 1);
     let next = ended.wrapping_add(1);
     if queue.is_shared() && shared.peek(0) > next {
@@ -164,10 +142,10 @@ fn end<V: Logged>(
 
 /// One turn with this event, by a pass that has a turn left.
 pub fn play<V: Logged, R: Wait>(
-    shared: &Shared<Option<V>, View<V::Base, V::Entry>, Key<V>, TurnRule<V>>,
+    shared: &Shared<V, View<V::Base, V::Entry>, Key<V>, TurnRule<V>>,
     queue: &Queue,
     rt: &R,
-    seat: &mut Seat<Option<V>, View<V::Base, V::Entry>>,
+    seat: &mut Seat<V, View<V::Base, V::Entry>>,
     event: V::Event,
 ) -> Result<V::Reply, Memory>
     requires lock { Fits shared.now.table_id seat.old }
@@ -183,18 +161,18 @@ pub fn play<V: Logged, R: Wait>(
     ensures memory { OnErr result ((b : V.Base) → seat.old.me.0.base ≡ Some b → Looked V.legal V.by b (known seat.old) (known seat.new)) }
 {
     let ticket = draw(shared, queue, rt, seat);
-    let mut value = wait(shared, queue, rt, seat, ticket);
-    let reply = value.apply(event);
-    end(shared, queue, seat, value);
+    wait(shared, queue, rt, seat, ticket);
+    let reply = seat.slot_mut(shared, 0).apply(event);
+    end(shared, queue, seat);
     reply
 }
 
 /// One turn that only looks.
 pub fn look<V: Logged, R: Wait>(
-    shared: &Shared<Option<V>, View<V::Base, V::Entry>, Key<V>, TurnRule<V>>,
+    shared: &Shared<V, View<V::Base, V::Entry>, Key<V>, TurnRule<V>>,
     queue: &Queue,
     rt: &R,
-    seat: &mut Seat<Option<V>, View<V::Base, V::Entry>>,
+    seat: &mut Seat<V, View<V::Base, V::Entry>>,
 ) -> V::Seen
     requires lock { Fits shared.now.table_id seat.old }
     requires idle { IsIdle V.by seat.old }
@@ -207,8 +185,8 @@ pub fn look<V: Logged, R: Wait>(
     ensures shown { (b : V.Base) → seat.old.me.0.base ≡ Some b → V.shows b seat.new.me.0.seen result }
 {
     let ticket = draw(shared, queue, rt, seat);
-    let value = wait(shared, queue, rt, seat, ticket);
-    let seen = value.seen();
-    end(shared, queue, seat, value);
+    wait(shared, queue, rt, seat, ticket);
+    let seen = seat.slot_mut(shared, 0).seen();
+    end(shared, queue, seat);
     seen
 }

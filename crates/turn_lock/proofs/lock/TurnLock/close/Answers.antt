@@ -10,21 +10,8 @@ gather-requires-clause-others g c κs within =
     let all = c.args.passes.items in
     rest_of_lock c.args.self first rest all (whole c.args.self all rest c.remove-first.result first c.requires.passes c.remove-first.ensures.value c.remove-first.ensures.items c.first.view_is) c.requires.passes
 
-pub take-requires : goal.take-requires
-take-requires g c = (search rules, search rules)
-
-pub unreachable-requires : goal.unreachable-requires
-unreachable-requires g c =
-    let table = c.self.inside.table.shared in
-    let first = c.first.inside.seat in
-    let idle = c.first.invariant.0 in
-    let rest = c.remove-first.new.self.items in
-    let all = c.args.passes.items in
-    let these = whole c.args.self all rest c.remove-first.result first c.requires.passes c.remove-first.ensures.value c.remove-first.ensures.items c.first.view_is in
-    let q = settled g.V.Logged.base g.V.Logged.history g.V.Logged.legal g.V.Logged.by (g.V.Logged.base table.key.value.value) table.key.turns c.gather.new.seat.id c.args.self first rest all c.gather.new.seat.me _ _ c.take.result
-    c.close_with-closed.ensures.values.2 c.gather.ensures.gathered c.take.ensures.value idle.mine idle.stands these c.requires.passes
-    (subst (λ (l : Lock _). 0 < l.passes) c.self.view_is c.self.invariant.2) (ap (λ (l : Lock _). l.base) c.self.view_is) in
-    c.in_default.not-Some q.0 q.1
+pub take-value-requires : goal.take-value-requires
+take-value-requires g c = (search rules, search rules)
 
 pub returns-clause-base : goal.returns-clause-base
 returns-clause-base g c =
@@ -34,10 +21,10 @@ returns-clause-base g c =
     let rest = c.remove-first.new.self.items in
     let all = c.args.passes.items in
     let these = whole c.args.self all rest c.remove-first.result first c.requires.passes c.remove-first.ensures.value c.remove-first.ensures.items c.first.view_is in
-    let q = settled g.V.Logged.base g.V.Logged.history g.V.Logged.legal g.V.Logged.by (g.V.Logged.base table.key.value.value) table.key.turns c.gather.new.seat.id c.args.self first rest all c.gather.new.seat.me _ _ c.take.result
-    c.close_with-closed.ensures.values.2 c.gather.ensures.gathered c.take.ensures.value idle.mine idle.stands these c.requires.passes
+    let q = settled g.V.Logged.base g.V.Logged.history g.V.Logged.legal g.V.Logged.by (g.V.Logged.base table.key.value.value) table.key.turns c.gather.new.seat.id c.args.self first rest all c.gather.new.seat.me _ _ c.take-value.result
+    c.close_with-closed.ensures.values.2 c.gather.ensures.gathered c.take-value.ensures.value idle.mine idle.stands these c.requires.passes
     (subst (λ (l : Lock _). 0 < l.passes) c.self.view_is c.self.invariant.2) (ap (λ (l : Lock _). l.base) c.self.view_is) in
-    ap g.V.Logged.base (same_value c.in-Some.value q.0 (sym c.in-Some.is ∙ q.1)) ∙ q.2
+    q.0
 
 pub returns-clause-told : goal.returns-clause-told
 returns-clause-told g c =
@@ -47,7 +34,7 @@ returns-clause-told g c =
     let rest = c.remove-first.new.self.items in
     let all = c.args.passes.items in
     let these = whole c.args.self all rest c.remove-first.result first c.requires.passes c.remove-first.ensures.value c.remove-first.ensures.items c.first.view_is in
-    let q = settled g.V.Logged.base g.V.Logged.history g.V.Logged.legal g.V.Logged.by (g.V.Logged.base table.key.value.value) table.key.turns c.gather.new.seat.id c.args.self first rest all c.gather.new.seat.me _ _ c.take.result
-    c.close_with-closed.ensures.values.2 c.gather.ensures.gathered c.take.ensures.value idle.mine idle.stands these c.requires.passes
+    let q = settled g.V.Logged.base g.V.Logged.history g.V.Logged.legal g.V.Logged.by (g.V.Logged.base table.key.value.value) table.key.turns c.gather.new.seat.id c.args.self first rest all c.gather.new.seat.me _ _ c.take-value.result
+    c.close_with-closed.ensures.values.2 c.gather.ensures.gathered c.take-value.ensures.value idle.mine idle.stands these c.requires.passes
     (subst (λ (l : Lock _). 0 < l.passes) c.self.view_is c.self.invariant.2) (ap (λ (l : Lock _). l.base) c.self.view_is) in
-    subst (λ x. Told g.V.Logged.legal g.V.Logged.by c.args.self.base (g.V.Logged.history x) all) (sym (same_value c.in-Some.value q.0 (sym c.in-Some.is ∙ q.1))) q.3
+    q.1
