@@ -7,7 +7,8 @@ use Rattle.fca_model.specs.Implications.{Rule}
 use Rattle.command_io.specs.declared.answer.Ending.{Ending}
 use Rattle.command_io.specs.declared.answer.Ending.TheVariants.{Finished, Open, Spent}
 use Rattle.command_io.specs.declared.stop.Stop.{Stop}
-use Rattle.command_io.specs.declared.stop.Stop.TheVariants.{NoCommand, TooLong, NoTable, NoCsv, BadValues, BadPlan, NoKnown, RowBreaks, NoScript, UnknownAttribute, OtherAttributes, Fault, Listener, Memory}
+use Rattle.command_io.specs.declared.stop.Stop.TheVariants.{NoCommand, TooLong, NoTable, NoCsv, BadValues, BadPlan, NoKnown}
+use Rattle.command_io.specs.declared.stop.Stop.TheVariants.{RowBreaks, NoScript, UnknownAttribute, OtherAttributes, Fault, Listener, Memory}
 
 -- ---- what a command comes to
 

@@ -24,7 +24,8 @@ use Rattle.command_io.specs.Endings.Outcome.{Written, CutOff, Stopped}
 use Rattle.command_io.specs.declared.stop.Origin.{Origin}
 use Rattle.command_io.specs.declared.stop.Origin.TheVariants.{File, Known, Later, Input}
 use Rattle.command_io.specs.declared.stop.Stop.{Stop}
-use Rattle.command_io.specs.declared.stop.Stop.TheVariants.{NoCommand, TooLong, NoTable, NoCsv, BadValues, BadPlan, NoKnown, RowBreaks, NoScript, UnknownAttribute, OtherAttributes, Fault, Listener, Memory}
+use Rattle.command_io.specs.declared.stop.Stop.TheVariants.{NoCommand, TooLong, NoTable, NoCsv, BadValues, BadPlan, NoKnown}
+use Rattle.command_io.specs.declared.stop.Stop.TheVariants.{RowBreaks, NoScript, UnknownAttribute, OtherAttributes, Fault, Listener, Memory}
 
 -- ---- the form of a line
 

@@ -1,9 +1,10 @@
 //! What the steps of a walk write on.
 
-ghost use Rattle.std.specs.Prelude.{◌≡◌, []};
+ghost use Rattle.std.specs.Prelude.{◌≡◌, [], IfOk};
+ghost use Rattle.extent_places.specs.Few.{HasNobody};
 
 use derivation::RowsOf;
-use extent_places::Few;
+use extent_places::FewObjects;
 use fca_model::Memory;
 use std::alloc::Global;
 
@@ -20,7 +21,7 @@ pub struct Desk {
 #[derive(Drop)]
 pub struct Desks<const W: usize> {
     pub(crate) free: Vec<Desk>,
-    pub(crate) few: Few<W>,
+    pub(crate) few: FewObjects<W>,
 }
 
 impl Desk {
@@ -37,10 +38,13 @@ impl Desk {
 
 impl<const W: usize> Desks<W> {
     /// No desk, for walks over these rows.
-    pub fn new(alloc: Global, rows: &RowsOf<W>) -> Result<Desks<W>, Memory> {
+    pub fn new(alloc: Global, rows: &RowsOf<W>) -> Result<Desks<W>, Memory>
+        ensures desks { IfOk result (λ desks. desks.free.items ≡ []) }
+        ensures few { IfOk result (λ desks. HasNobody desks.few) }
+    {
         Ok(Desks {
             free: Vec::new(alloc),
-            few: Few::none(alloc, rows.width())?,
+            few: FewObjects::none(alloc, rows.width())?,
         })
     }
 }

@@ -12,7 +12,7 @@ use crate::notes::{begin_notes, known};
 use crate::page::Page;
 use crate::sheet::Sheet;
 use attr_bits::Bits;
-use extent_places::{Below, Few, last_member, tries_of};
+use extent_places::{Below, FewObjects, last_member, tries_of};
 use fca_model::Memory;
 use lectic_concepts::{is_child, is_open, note, seen_above};
 use object_sets::{FEW_OBJECTS, ObjectSet};
@@ -57,7 +57,7 @@ pub(crate) fn write_apart<const W: usize>(
 fn write_few<const W: usize>(
     alloc: Global,
     sheet: &Sheet<'_, W>,
-    few: &Few<W>,
+    few: &FewObjects<W>,
     page: &mut Page<W>,
     a: &Bits<W>,
     objects: &ObjectSet,
@@ -107,7 +107,7 @@ fn write_few<const W: usize>(
 /// The least intent that contains a and attribute i, which a lacks, where it agrees with a before i.
 fn below_at<const W: usize>(
     sheet: &Sheet<'_, W>,
-    few: &Few<W>,
+    few: &FewObjects<W>,
     a: &Bits<W>,
     objects: &ObjectSet,
     i: u32,

@@ -3,7 +3,8 @@
 ghost use Rattle.std.specs.Prelude.{◌≡◌, ◌==◌, ℕ, length, true, not};
 ghost use Rattle.std.specs.List.{list_all, list_any, range_with_len};
 ghost use Rattle.fca_model.specs.Context.{Context};
-ghost use Rattle.context_reduce.specs.Reduce.{distinct_objects, distinct_attributes, irreducible_objects, irreducible_attributes, KeepsIntents, reducible, transposed, column, row_at, up_arrow, down_arrow};
+ghost use Rattle.context_reduce.specs.Reduce.{distinct_objects, distinct_attributes, irreducible_objects, irreducible_attributes, KeepsIntents};
+ghost use Rattle.context_reduce.specs.Reduce.{reducible, transposed, column, row_at, up_arrow, down_arrow};
 
 /// The intents of the context are those of the clarified and of the reduced one, read at the attributes
 /// that are kept.

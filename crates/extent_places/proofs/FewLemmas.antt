@@ -9,7 +9,7 @@ use Rattle.lectic_concepts.proofs.IntentLemmas.{within_with}
 use Rattle.object_sets.specs.Objects.{HasObjects, AreColumns, rows_above}
 use Rattle.object_sets.proofs.ObjectLemmas.{has_all, all_kept}
 use Rattle.object_sets.proofs.AboveLemmas.{closure_above, objects-closure}
-use Rattle.extent_places.specs.declared.few.Few.{Few}
+use Rattle.extent_places.specs.declared.few.FewObjects.{FewObjects}
 use Rattle.extent_places.specs.Few.{AreFew, chosen}
 use Rattle.extent_places.specs.Places.{rows_at}
 use Rattle.extent_places.proofs.PlaceLemmas.{rows_at-extent}
@@ -84,23 +84,23 @@ chosen_none S ps from long le none = chosen_gap S ps from (length S) long le (om
 
 -- ---- few objects
 
-few_are : (K : Context) (A : Set) {W : ℕ} (few : Few W) (S : Set) → (w : AreFew K A few S) → HasObjects (rows_above K w.least) A S
+few_are : (K : Context) (A : Set) {W : ℕ} (few : FewObjects W) (S : Set) → (w : AreFew K A few S) → HasObjects (rows_above K w.least) A S
 few_are K A few S w = subst (λ (J : Context). HasObjects J A S) w.rows w.objects
 
 -- the places of the objects of A are its extent
-pub few-extent : (K : Context) (A : Set) {W : ℕ} (few : Few W) (S : Set) → AreFew K A few S → chosen S few.places.items ≡ extent K A
+pub few-extent : (K : Context) (A : Set) {W : ℕ} (few : FewObjects W) (S : Set) → AreFew K A few S → chosen S few.places.items ≡ extent K A
 few-extent K A few S w =
     let there = few_are K A few S w in
     ap (chosen S) w.places ∙ chosen-extent_from w.least A w.part 0 K.rows S there.long there.each
 
 -- each object has a place
-pub few_placed : (K : Context) (A : Set) {W : ℕ} (few : Few W) (S : Set) → AreFew K A few S → length S ≡ length few.places.items
+pub few_placed : (K : Context) (A : Set) {W : ℕ} (few : FewObjects W) (S : Set) → AreFew K A few S → length S ≡ length few.places.items
 few_placed K A few S w =
     (few_are K A few S w).long ∙ sym (ap (λ (Rs : List Set). length Rs) (rows_at-extent K w.least)) ∙ length-map (extent K w.least) (λ p. get_or K.rows p [])
     ∙ sym (ap (λ (ps : List ℕ). length ps) w.places)
 
 -- the objects of A, set apart
-pub few_apart : (K : Context) (A : Set) {W : ℕ} (few : Few W) (S : Set) → few.places.items ≡ extent K A → few.rows ≡ record { width = K.width; rows = rows_at K.rows (extent K A) }
+pub few_apart : (K : Context) (A : Set) {W : ℕ} (few : FewObjects W) (S : Set) → few.places.items ≡ extent K A → few.rows ≡ record { width = K.width; rows = rows_at K.rows (extent K A) }
     → AreColumns few.rows few.columns.items → S ≡ full (length (extent K A)) → AreFew K A few S
 few_apart K A few S places rows columns is =
     let above : few.rows ≡ rows_above K A = rows ∙ ap (λ (Rs : List Set). record { width = K.width; rows = Rs }) (rows_at-extent K A) in
@@ -116,7 +116,7 @@ few_apart K A few S places rows columns is =
     }
 
 -- one attribute more
-pub few_with : (K : Context) (A D : Set) {W : ℕ} (few : Few W) (S T : Set) (i : ℕ) → (w : AreFew K A few S) → length A ≡ K.width → i < K.width
+pub few_with : (K : Context) (A D : Set) {W : ℕ} (few : FewObjects W) (S T : Set) (i : ℕ) → (w : AreFew K A few S) → length A ≡ K.width → i < K.width
     → HasObjects few.rows (set A i true) T → D ≡ closure K (set A i true) → AreFew K D few T
 few_with K A D few S T i w wide inside has is =
     let inner : length (set A i true) ≡ few.rows.width = length-set A i true ∙ wide ∙ sym (ap (λ (J : Context). J.width) w.rows) in

@@ -1,3 +1,4 @@
 pub mod PlaceLemmas
 pub mod TryLemmas
 pub mod FewLemmas
+pub mod Examples

@@ -2,7 +2,7 @@
 
 ghost use Rattle.std.specs.Prelude.{◌≡◌, ◌≤◌, ◌<◌, ◌*◌, [], true, IfOk, OnOk, length, slice_set};
 ghost use Rattle.fca_model.specs.Context.{closure, extent};
-ghost use Rattle.extent_places.specs.Few.{AreFew, chosen};
+ghost use Rattle.extent_places.specs.Few.{AreFew, HasNobody, chosen};
 ghost use Rattle.extent_places.specs.Places.{rows_at};
 
 use attr_bits::Bits;
@@ -16,7 +16,7 @@ const MANY_LEFT: u32 = 8;
 
 /// Few objects: their places in the table, their rows, and for each attribute those of them that have it.
 #[derive(Drop)]
-pub struct Few<const W: usize> {
+pub struct FewObjects<const W: usize> {
     places: Vec<u16>,
     rows: RowsOf<W>,
     columns: Vec<ObjectSet>,
@@ -38,13 +38,14 @@ pub fn pays_apart(count: usize, left: u32) -> bool
     count <= FEW_OBJECTS && MANY_LEFT <= left
 }
 
-impl<const W: usize> Few<W> {
+impl<const W: usize> FewObjects<W> {
     /// No objects.
-    pub fn none(alloc: Global, width: u32) -> Result<Few<W>, Memory>
+    pub fn none(alloc: Global, width: u32) -> Result<FewObjects<W>, Memory>
         requires words { W ≤ 1024 }
         requires narrow { width ≤ 64 * W }
+        ensures { IfOk result HasNobody }
     {
-        Ok(Few {
+        Ok(FewObjects {
             places: Vec::new(alloc),
             rows: RowsOf::new(alloc, width)?,
             columns: Vec::new(alloc),

@@ -7,6 +7,6 @@ mod places;
 mod tries;
 
 pub use columns::Columns;
-pub use few::{Below, Few, pays_apart};
+pub use few::{Below, FewObjects, pays_apart};
 pub use places::{closure_at, places_having};
 pub use tries::{last_member, tries_of};

@@ -3,7 +3,10 @@
 ghost use Rattle.std.specs.Prelude.{◌≡◌, IfOk, IfSome, option_copied};
 ghost use Rattle.std.specs.List.{list_all};
 ghost use Rattle.std.specs.Str.{is_utf8};
-ghost use Rattle.fca_command.specs.Commands.{command_form, text_command, named_command, make_command, survey_command, over_file, file_command, table_command, course_command, concepts_command, lattice_command, basis_command, json_said, direct_command, follows_command, convert_command, form_named, reduce_command, arrows_command, scale_command, replay_command, explore_command, serve_command, reported, files_of, first_of, IsWithinLimits};
+ghost use Rattle.fca_command.specs.Commands.{command_form, text_command, named_command, over_file, file_command, table_command, course_command};
+ghost use Rattle.fca_command.specs.Commands.{concepts_command, lattice_command, basis_command, direct_command, follows_command, json_said};
+ghost use Rattle.fca_command.specs.Commands.{convert_command, form_named, reduce_command, arrows_command, scale_command, make_command, survey_command};
+ghost use Rattle.fca_command.specs.Commands.{replay_command, explore_command, serve_command, reported, files_of, first_of, IsWithinLimits};
 
 use crate::experts::{count_said, experts_said};
 use crate::flags::{copied, serving_said, split_known, split_names};

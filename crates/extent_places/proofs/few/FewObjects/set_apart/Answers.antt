@@ -3,7 +3,7 @@ use Rattle.fca_model.specs.Sets.{full}
 use Rattle.fca_model.specs.Context.{Context}
 use Rattle.extent_places.specs.Places.{rows_at}
 use Rattle.extent_places.proofs.FewLemmas.{few_apart}
-use Rattle.extent_places.proofs.few.Few.set_apart.Goals as goal
+use Rattle.extent_places.proofs.few.FewObjects.set_apart.Goals as goal
 
 pub returns : goal.returns
 returns g c =

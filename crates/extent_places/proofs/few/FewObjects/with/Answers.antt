@@ -3,7 +3,7 @@ use Rattle.fca_model.specs.Sets.{Set}
 use Rattle.fca_model.specs.Context.{Context}
 use Rattle.object_sets.proofs.AboveLemmas.{closure_above}
 use Rattle.extent_places.proofs.FewLemmas.{few_with}
-use Rattle.extent_places.proofs.few.Few.with.Goals as goal
+use Rattle.extent_places.proofs.few.FewObjects.with.Goals as goal
 
 pub returns-clause-closed : goal.returns-clause-closed
 returns-clause-closed g c =
