@@ -1,6 +1,7 @@
 -- What each kind of step does to the views, and tells its pass.
 -- The kinds are six: making the table, making one more pass, drawing a ticket, looking whether the turn has come, ending the
--- turn, and joining a pass to pass 1. Between the last but two and the next the pass alone reads and changes the value.
+-- turn, and joining a pass to pass 1. From the look that finds its turn to the end of it a pass alone reads and changes the
+-- value, which is no step.
 use Rattle.std.specs.Prelude.{◌≡◌, ◌≢◌, ℕ, ◌+◌, ◌<◌, ◌⊎◌, true, false, List, [], ◌∷◌, ◌++◌}
 use Rattle.std.specs.Prelude.{Option, Some, None}
 use Rattle.atomic_table.specs.Table.{Me, Step}
