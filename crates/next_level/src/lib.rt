@@ -5,6 +5,7 @@
 mod ahead;
 mod among;
 mod open_sets;
+mod search;
 mod walk;
 
 ghost use Rattle.std.specs.Prelude.{◌≡◌, ◌≤◌, ◌+◌, ◌*◌, ◌++◌, ◌==◌, ℕ, true, List, [], IfOk, filter};
@@ -27,6 +28,7 @@ use implication_closure::ImplicationList;
 use lectic_basis::{WatchedList, rules_in_words};
 use lectic_concepts::{FOUR_WORDS, ONE_WORD};
 use open_sets::{OpenSets, least_size, of_size};
+pub use search::{LevelSearch, OneThread, SideBySide};
 use std::alloc::Global;
 use walk::enter_all;
 
