@@ -2,7 +2,7 @@
 -- The view of pass 1 stands for all passes then, so no other view has the turn, and the value is at home. Its history has the
 -- entries that were kept of each pass, and goes on from what each has seen.
 use Rattle.std.proofs.Common.{◌≡◌, ℕ, ◌+◌, ◌-◌, ◌<◌, ◌≤◌, ◌⊎◌, false, zero, suc, List, [], ◌∷◌, ◌++◌, length, get_or, take, drop, map, All, sym, refl, ap, ◌∙◌, subst, inl, inr, ⊎_elim, arith}
-use Rattle.std.proofs.Common.{Option, Some, None, Result, Ok, Err, IfOk}
+use Rattle.std.proofs.Common.{Option, Some, Result, Ok, Err, IfOk}
 use Rattle.std.proofs.lemmas.List.{length-map}
 use mathlib.Core.Option.{some, some-injective}
 use lib.ListN.{get_elem?}
@@ -24,9 +24,6 @@ module _ {X : Type 0} where
 
   tails : (x y : X) (xs ys : List X) → x ∷ xs ≡ y ∷ ys → xs ≡ ys
   tails x y xs ys e = ap (drop 1) e
-
-  pub same_value : (x y : X) → Some x ≡ Some y → x ≡ y
-  same_value x y e = ap (λ (o : Option X). elim o [ None ↦ x | Some z ↦ z ]) e
 
   -- what `remove(0)` takes and leaves
   front : (xs : List X) (x : X) → 0 < length xs → x ≡ get_or xs 0 x → x ∷ (take 0 xs ++ drop 1 xs) ≡ xs

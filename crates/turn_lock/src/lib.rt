@@ -5,6 +5,7 @@
 //! by now, and ends its turn. `specs/Turns.antt` has the rule that every step keeps.
 #![tactic(auto)]
 
+mod applies;
 mod fault;
 mod lock;
 mod logged;
@@ -14,6 +15,7 @@ mod rule;
 mod turn;
 mod view;
 
+pub use applies::{Alone, Applies};
 pub use fault::TurnFault;
 pub use lock::TurnLock;
 pub use logged::Logged;

@@ -5,6 +5,7 @@ ghost use Rattle.turn_lock.specs.Passes.{badge, badges, roll, Belongs, IsFresh, 
 ghost use Rattle.turn_lock.specs.Seats.{Fits, Stays, Making, all_gathered};
 ghost use Rattle.turn_lock.specs.Steps.{first_view};
 
+use crate::applies::{Alone, Applies};
 use crate::fault::TurnFault;
 use crate::logged::Logged;
 use crate::pass::Pass;
@@ -102,10 +103,32 @@ impl<V: Logged> TurnLock<V> {
         ensures unchanged { IsErrOf result fault.Spent → pass.new ≡ pass.old }
         ensures within { pass.old.made ≤ pass.old.turns }
     {
+        self.with_turn_by(rt, &Alone, pass, event)
+    }
+
+    /// One turn that applies the event by another.
+    pub fn with_turn_by<A: Applies<V>, R: Wait>(
+        &self,
+        rt: &R,
+        by: &A,
+        pass: &mut Pass<V>,
+        event: V::Event,
+    ) -> Result<V::Reply, TurnFault>
+        requires lock { Belongs self.now pass.old }
+        requires admits { V.admits self.now.base event }
+        requires number { V.number event ≡ pass.old.number }
+        ensures same { badge pass.new ≡ badge pass.old }
+        ensures entry { IfOk result (λ reply. Entered V.legal V.by self.now.base pass.old (V.entry event reply) pass.new) }
+        ensures memory { IsErrOf result fault.Memory → Looked V.legal V.by self.now.base pass.old pass.new }
+        ensures spent { IsErrOf result fault.Spent ↔ (pass.old.made ≡ pass.old.turns) }
+        ensures unchanged { IsErrOf result fault.Spent → pass.new ≡ pass.old }
+        ensures within { pass.old.made ≤ pass.old.turns }
+    {
         if pass.made == pass.turns {
             return Err(TurnFault::Spent);
         }
-        let reply = turn::play(&self.table.shared, &self.queue, rt, &mut pass.seat, event);
+        let shared = &self.table.shared;
+        let reply = turn::play(shared, &self.queue, rt, by, &mut pass.seat, event);
         pass.made += 1;
         match reply {
             Ok(reply) => Ok(reply),

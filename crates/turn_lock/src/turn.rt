@@ -8,6 +8,7 @@ ghost use Rattle.turn_lock.specs.Passes.{badge, Entered, Looked};
 ghost use Rattle.turn_lock.specs.Seats.{known, IsIdle, Waits, Fits, Stays};
 ghost use Rattle.turn_lock.specs.Steps.{Drew, Came, HasTurn, MayEnd, ended_view};
 
+use crate::applies::Applies;
 use crate::logged::Logged;
 use crate::queue::{LOOKS, NAPS, QUIET_LOOKS, Queue, nap};
 use crate::rule::{Coming, Drawing, Ending, Key, TurnRule};
@@ -141,10 +142,11 @@ fn end<V: Logged>(
 }
 
 /// One turn with this event, by a pass that has a turn left.
-pub fn play<V: Logged, R: Wait>(
+pub fn play<V: Logged, A: Applies<V>, R: Wait>(
     shared: &Shared<V, View<V::Base, V::Entry>, Key<V>, TurnRule<V>>,
     queue: &Queue,
     rt: &R,
+    by: &A,
     seat: &mut Seat<V, View<V::Base, V::Entry>>,
     event: V::Event,
 ) -> Result<V::Reply, Memory>
@@ -162,7 +164,7 @@ pub fn play<V: Logged, R: Wait>(
 {
     let ticket = draw(shared, queue, rt, seat);
     wait(shared, queue, rt, seat, ticket);
-    let reply = seat.slot_mut(shared, 0).apply(event);
+    let reply = by.apply(seat.slot_mut(shared, 0), event);
     end(shared, queue, seat);
     reply
 }

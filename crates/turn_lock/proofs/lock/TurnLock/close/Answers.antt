@@ -1,6 +1,6 @@
-use Rattle.std.proofs.Common.{◌∙◌, ap, sym, subst, rules, ◌<◌}
-use Rattle.turn_lock.specs.Passes.{Lock, Told}
-use Rattle.turn_lock.proofs.ClosingLemmas.{whole, rest_of_lock, settled, same_value}
+use Rattle.std.proofs.Common.{ap, subst, rules, ◌<◌}
+use Rattle.turn_lock.specs.Passes.{Lock}
+use Rattle.turn_lock.proofs.ClosingLemmas.{whole, rest_of_lock, settled}
 use Rattle.turn_lock.proofs.lock.TurnLock.close.Goals as goal
 
 pub gather-requires-clause-others : goal.gather-requires-clause-others

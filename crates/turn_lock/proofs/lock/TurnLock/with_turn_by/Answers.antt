@@ -1,6 +1,6 @@
 use Rattle.std.proofs.Common.{◌∙◌, ap, sym, ◌+◌, ℕ, arith}
-use Rattle.turn_lock.proofs.lock.TurnLock.with_turn.Goals as goal
-use Rattle.turn_lock.proofs.lock.TurnLock.with_turn.Goals.{in-Ok, in-Err}
+use Rattle.turn_lock.proofs.lock.TurnLock.with_turn_by.Goals as goal
+use Rattle.turn_lock.proofs.lock.TurnLock.with_turn_by.Goals.{in-Ok, in-Err}
 
 pub invariant_of-pass : goal.invariant_of-pass
 invariant_of-pass g c =
