@@ -20,6 +20,7 @@ use derivation::Rows;
 use fca_model::Memory;
 use implication_closure::{ImplicationList, Question};
 use next_level::Ahead;
+pub use next_level::{LevelSearch, OneThread, SideBySide};
 use open_level::open_level;
 use questions::{OpenQuestions, are_settled};
 use rules::Rules;
@@ -76,7 +77,7 @@ impl LevelQueue {
         let rows = rows.copy()?;
         let rules = Rules::new(alloc, known)?;
         let nothing = Ahead::unknown(alloc, rows.width())?;
-        let first = open_level(alloc, &rows, rules.all(), &nothing)?;
+        let first = open_level(&OneThread, alloc, &rows, rules.all(), &nothing)?;
         Ok(LevelQueue {
             alloc,
             rows,
@@ -146,12 +147,28 @@ impl LevelQueue {
         ensures ok { OnOk result (self.new ≡ record { context = with_row self.old.context row; known = self.old.known; accepted = self.old.accepted }) }
         ensures err { OnErr result (self.new ≡ self.old) }
     {
+        self.take_row_by(&OneThread, row)
+    }
+
+    /// Records a row, where the search looks for the next level.
+    pub fn take_row_by<S: LevelSearch>(&mut self, search: &S, row: Attrs) -> Result<(), Memory>
+        requires wide { length row ≡ self.old.context.width }
+        requires respecting { respects_all (self.old.known ++ self.old.accepted) row ≡ true }
+        ensures ok { OnOk result (self.new ≡ record { context = with_row self.old.context row; known = self.old.known; accepted = self.old.accepted }) }
+        ensures err { OnErr result (self.new ≡ self.old) }
+    {
         self.rows.push(row)?;
         if !are_settled(self.questions.as_slice(), &row) {
             self.questions.narrow(&row);
             return Ok(());
         }
-        match open_level(self.alloc, &self.rows, self.rules.all(), &self.ahead) {
+        match open_level(
+            search,
+            self.alloc,
+            &self.rows,
+            self.rules.all(),
+            &self.ahead,
+        ) {
             Ok(next) => {
                 self.questions = next.questions;
                 self.level = next.size;
@@ -172,13 +189,29 @@ impl LevelQueue {
             → OnOk result (self.new ≡ record { context = self.old.context; known = self.old.known; accepted = self.old.accepted ++ question ∷ [] }) }
         ensures err { OnErr result (self.new ≡ self.old) }
     {
+        self.accept_by(&OneThread, i)
+    }
+
+    /// Accepts the open question at place i, where the search looks for the next level.
+    pub fn accept_by<S: LevelSearch>(&mut self, search: &S, i: usize) -> Result<(), Memory>
+        requires { i < length (open_questions self.old.known self.old.context self.old.accepted) }
+        ensures ok { (question : Rule) → slice_get (open_questions self.old.known self.old.context self.old.accepted) i ≡ Some question
+            → OnOk result (self.new ≡ record { context = self.old.context; known = self.old.known; accepted = self.old.accepted ++ question ∷ [] }) }
+        ensures err { OnErr result (self.new ≡ self.old) }
+    {
         let question = self.questions.get(i);
         self.rules.push(&question)?;
         if self.questions.as_slice().len() > 1 {
             self.questions.take_out(i);
             return Ok(());
         }
-        match open_level(self.alloc, &self.rows, self.rules.all(), &self.ahead) {
+        match open_level(
+            search,
+            self.alloc,
+            &self.rows,
+            self.rules.all(),
+            &self.ahead,
+        ) {
             Ok(next) => {
                 self.questions = next.questions;
                 self.level = next.size;

@@ -10,7 +10,7 @@ use crate::questions::OpenQuestions;
 use derivation::Rows;
 use fca_model::Memory;
 use implication_closure::ImplicationList;
-use next_level::{Ahead, open_next};
+use next_level::{Ahead, LevelSearch};
 use std::alloc::Global;
 
 /// The open questions of a level, their size, and the sets among which the next levels are looked for.
@@ -22,7 +22,8 @@ pub(crate) struct OpenLevel {
 }
 
 /// Opens the next level that has a member. The rules are the known implications and, behind them, the members of the basis below a size.
-pub(crate) fn open_level(
+pub(crate) fn open_level<S: LevelSearch>(
+    search: &S,
     alloc: Global,
     rows: &Rows,
     rules: &ImplicationList,
@@ -36,7 +37,7 @@ pub(crate) fn open_level(
     ensures ahead { IfOk result (λ level. IsAhead rules.now.members rows.now level.size level.ahead.whole level.ahead.sets.rows) }
     ensures ahead_wide { IfOk result (λ level. level.ahead.sets.width ≡ rows.now.width) }
 {
-    let next = open_next(alloc, rows, rules, ahead)?;
+    let next = search.open_next(alloc, rows, rules, ahead)?;
     let level = next.level;
     Ok(OpenLevel {
         questions: OpenQuestions::new(alloc, level.members)?,

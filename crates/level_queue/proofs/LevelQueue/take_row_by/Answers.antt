@@ -9,10 +9,10 @@ use Rattle.next_level.specs.Among.{AllAmong, IsAhead}
 use Rattle.level_queue.proofs.AheadLemmas.{row_ahead, ahead_all}
 use Rattle.level_queue.proofs.OpenLemmas.{kept_unclosed, row_kept, row_hold, row_below, row_bounded, opened_kept}
 use Rattle.level_queue.proofs.PlaceLemmas.{settles, settled, not_settled}
-use Rattle.level_queue.proofs.LevelQueue.take_row.Goals as goal
+use Rattle.level_queue.proofs.LevelQueue.take_row_by.Goals as goal
 
 pub invariant_of-self-then-not-are_settled : goal.invariant_of-self-then-not-are_settled
-invariant_of-self-then-not-are_settled c =
+invariant_of-self-then-not-are_settled g c =
     let a = c.self.inside in
     let r = c.args.row in
     let respecting = ap (λ (b : Base). respects_all (b.known ++ b.accepted) r) c.self.view_is ∙ c.requires.respecting in
@@ -27,16 +27,16 @@ invariant_of-self-then-not-are_settled c =
     }
 
 pub narrow-requires : goal.narrow-requires
-narrow-requires c = kept_unclosed c.self.invariant.kept
+narrow-requires g c = kept_unclosed c.self.invariant.kept
 
 pub open_level-requires-clause-wide : goal.open_level-requires-clause-wide
-open_level-requires-clause-wide c = ap (λ (J : RuleList). J.width) c.all.ensures ∙ c.self.invariant.wide ∙ sym (ap (λ (K : Context). K.width) c.in_ok-push.ensures.ok)
+open_level-requires-clause-wide g c = ap (λ (J : RuleList). J.width) c.all.ensures ∙ c.self.invariant.wide ∙ sym (ap (λ (K : Context). K.width) c.in_ok-push.ensures.ok)
 
 pub open_level-requires-clause-ahead_wide : goal.open_level-requires-clause-ahead_wide
-open_level-requires-clause-ahead_wide c = c.self.invariant.ahead_wide ∙ sym (ap (λ (K : Context). K.width) c.in_ok-push.ensures.ok)
+open_level-requires-clause-ahead_wide g c = c.self.invariant.ahead_wide ∙ sym (ap (λ (K : Context). K.width) c.in_ok-push.ensures.ok)
 
 pub open_level-requires-clause-among : goal.open_level-requires-clause-among
-open_level-requires-clause-among c =
+open_level-requires-clause-among g c =
     let a = c.self.inside in
     let r = c.args.row in
     let ok = c.in_ok-push.ensures.ok in
@@ -49,7 +49,7 @@ open_level-requires-clause-among c =
     (subst (λ (K : Context). AllAmong (a.rules.known ++ a.rules.accepted) K a.ahead.whole a.ahead.sets.rows) (sym ok) all)
 
 pub invariant_of-self-in-Ok : goal.invariant_of-self-in-Ok
-invariant_of-self-in-Ok c =
+invariant_of-self-in-Ok g c =
     let a = c.self.inside in
     let r = c.args.row in
     let ok = c.in_ok-push.ensures.ok in

@@ -11,26 +11,26 @@ use Rattle.next_level.specs.Among.{AllAmong, IsAhead}
 use Rattle.level_queue.proofs.AheadLemmas.{rule_ahead, ahead_all}
 use Rattle.level_queue.proofs.AcceptLemmas.{accepted_base}
 use Rattle.level_queue.proofs.OpenLemmas.{kept_open, accepted_premise, accepted_conclusion, accepted_kept, accepted_distinct, accepted_below, accepted_bounded, opened_kept}
-use Rattle.level_queue.proofs.LevelQueue.accept.Goals as goal
+use Rattle.level_queue.proofs.LevelQueue.accept_by.Goals as goal
 
 pub get-question-requires : goal.get-question-requires
-get-question-requires c = omega (arith, c.requires, ap length (kept_open c.self.invariant.kept), ap (λ (b : Base). length (open_questions b.known b.context b.accepted)) c.self.view_is)
+get-question-requires g c = omega (arith, c.requires, ap length (kept_open c.self.invariant.kept), ap (λ (b : Base). length (open_questions b.known b.context b.accepted)) c.self.view_is)
 
 pub push-requires-clause-premise : goal.push-requires-clause-premise
-push-requires-clause-premise c =
+push-requires-clause-premise g c =
     let l : c.args.i < length c.self.inside.questions = omega (arith, c.requires, ap length (kept_open c.self.invariant.kept), ap (λ (b : Base). length (open_questions b.known b.context b.accepted)) c.self.view_is) in
     accepted_premise c.self.invariant.kept c.args.i c.get-question.result l c.get-question.ensures ∙ sym c.self.invariant.wide
 
 pub push-requires-clause-conclusion : goal.push-requires-clause-conclusion
-push-requires-clause-conclusion c =
+push-requires-clause-conclusion g c =
     let l : c.args.i < length c.self.inside.questions = omega (arith, c.requires, ap length (kept_open c.self.invariant.kept), ap (λ (b : Base). length (open_questions b.known b.context b.accepted)) c.self.view_is) in
     accepted_conclusion c.self.invariant.kept c.args.i c.get-question.result l c.get-question.ensures ∙ sym c.self.invariant.wide
 
 pub take_out-requires : goal.take_out-requires
-take_out-requires c = omega (arith, c.requires, ap length (kept_open c.self.invariant.kept), ap (λ (b : Base). length (open_questions b.known b.context b.accepted)) c.self.view_is)
+take_out-requires g c = omega (arith, c.requires, ap length (kept_open c.self.invariant.kept), ap (λ (b : Base). length (open_questions b.known b.context b.accepted)) c.self.view_is)
 
 pub invariant_of-self-then-as_slice-gt1 : goal.invariant_of-self-then-as_slice-gt1
-invariant_of-self-then-as_slice-gt1 c =
+invariant_of-self-then-as_slice-gt1 g c =
     let a = c.self.inside in
     let q = c.get-question.result in
     let l : c.args.i < length c.self.inside.questions = omega (arith, c.requires, ap length (kept_open c.self.invariant.kept), ap (λ (b : Base). length (open_questions b.known b.context b.accepted)) c.self.view_is) in
@@ -46,13 +46,13 @@ invariant_of-self-then-as_slice-gt1 c =
     }
 
 pub open_level-requires-clause-wide : goal.open_level-requires-clause-wide
-open_level-requires-clause-wide c = ap (λ (J : RuleList). J.width) c.all.ensures ∙ ap (λ (p : RuleParts). p.width) c.in_ok-push.ensures.ok ∙ c.self.invariant.wide
+open_level-requires-clause-wide g c = ap (λ (J : RuleList). J.width) c.all.ensures ∙ ap (λ (p : RuleParts). p.width) c.in_ok-push.ensures.ok ∙ c.self.invariant.wide
 
 pub open_level-requires-clause-ahead_wide : goal.open_level-requires-clause-ahead_wide
-open_level-requires-clause-ahead_wide c = c.self.invariant.ahead_wide
+open_level-requires-clause-ahead_wide g c = c.self.invariant.ahead_wide
 
 pub open_level-requires-clause-among : goal.open_level-requires-clause-among
-open_level-requires-clause-among c =
+open_level-requires-clause-among g c =
     let a = c.self.inside in
     let q = c.get-question.result in
     let l : c.args.i < length c.self.inside.questions = omega (arith, c.requires, ap length (kept_open c.self.invariant.kept), ap (λ (b : Base). length (open_questions b.known b.context b.accepted)) c.self.view_is) in
@@ -64,14 +64,14 @@ open_level-requires-clause-among c =
     (subst (λ (p : RuleParts). AllAmong (p.known ++ p.accepted) a.rows a.ahead.whole a.ahead.sets.rows) (sym ok) all)
 
 pub returns-then-as_slice-gt1-clause-ok : goal.returns-then-as_slice-gt1-clause-ok
-returns-then-as_slice-gt1-clause-ok c question at =
+returns-then-as_slice-gt1-clause-ok g c question at =
     let a = c.self.inside in
     let l : c.args.i < length c.self.inside.questions = omega (arith, c.requires, ap length (kept_open c.self.invariant.kept), ap (λ (b : Base). length (open_questions b.known b.context b.accepted)) c.self.view_is) in
     accepted_base a.rows a.rules c.push.new.self a.questions c.args.self.now c.args.i c.get-question.result question c.self.view_is c.in_ok-push.ensures.ok l c.get-question.ensures
     (ap (λ qs. slice_get qs c.args.i) (kept_open c.self.invariant.kept ∙ ap (λ (b : Base). open_questions b.known b.context b.accepted) c.self.view_is) ∙ at)
 
 pub invariant_of-self-in-Ok : goal.invariant_of-self-in-Ok
-invariant_of-self-in-Ok c =
+invariant_of-self-in-Ok g c =
     let a = c.self.inside in
     let q = c.get-question.result in
     let l : c.args.i < length c.self.inside.questions = omega (arith, c.requires, ap length (kept_open c.self.invariant.kept), ap (λ (b : Base). length (open_questions b.known b.context b.accepted)) c.self.view_is) in
@@ -90,7 +90,7 @@ invariant_of-self-in-Ok c =
     }
 
 pub returns-in-Ok-clause-ok : goal.returns-in-Ok-clause-ok
-returns-in-Ok-clause-ok c question at =
+returns-in-Ok-clause-ok g c question at =
     let a = c.self.inside in
     let l : c.args.i < length c.self.inside.questions = omega (arith, c.requires, ap length (kept_open c.self.invariant.kept), ap (λ (b : Base). length (open_questions b.known b.context b.accepted)) c.self.view_is) in
     accepted_base a.rows a.rules c.push.new.self a.questions c.args.self.now c.args.i c.get-question.result question c.self.view_is c.in_ok-push.ensures.ok l c.get-question.ensures
