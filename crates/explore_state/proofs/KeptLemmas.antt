@@ -78,6 +78,12 @@ module _ (o : Opening) (J : List SetEntry) (K : Context) (acc : List Rule) (hs :
         known = kept.known;
       }
 
+-- the journal with one more entry, which was put on one that is the same, with a reply that is the same
+pub entry_put : (J roomy J' : List SetEntry) (event : SetEvent) (reply copy : SetReply)
+    → J' ≡ roomy ++ record { event = event; reply = copy } ∷ [] → roomy ≡ J → copy ≡ reply → J' ≡ J ++ record { event = event; reply = reply } ∷ []
+entry_put J roomy J' event reply copy put same again =
+    put ∙ ap (λ (L : List SetEntry). L ++ record { event = event; reply = copy } ∷ []) same ∙ ap (λ (r : SetReply). J ++ record { event = event; reply = r } ∷ []) again
+
 -- the state moves by one step
 pub state_moves : (s : State) (J J' : List SetEntry) (event : SetEvent) (reply : SetReply) → J' ≡ J ++ record { event = event; reply = reply } ∷ [] → state_after s (events_of J') ≡ next (state_after s (events_of J)) event
 state_moves s J J' event reply more =

@@ -14,10 +14,11 @@ use crate::holds::{give_back, held_in};
 use crate::{Event, Hold, Reply};
 use attr_bits::Attrs;
 use fca_model::Memory;
-use level_queue::LevelQueue;
+use level_queue::{LevelQueue, LevelSearch};
 
 /// Changes the queue and the holds as the event does that got this reply.
-pub(crate) fn change(
+pub(crate) fn change<S: LevelSearch>(
+    search: &S,
     queue: &mut LevelQueue,
     held: &mut Vec<Hold>,
     event: &Event,
@@ -38,8 +39,8 @@ pub(crate) fn change(
             after_draw(held, *expert, reply);
             Ok(())
         }
-        Event::Confirm { expert } => after_confirmation(queue, held, *expert, reply),
-        Event::Row { expert, row, .. } => after_row(queue, held, *expert, row, reply),
+        Event::Confirm { expert } => after_confirmation(search, queue, held, *expert, reply),
+        Event::Row { expert, row, .. } => after_row(search, queue, held, *expert, row, reply),
         Event::Leave { expert } => {
             give_back(held, *expert);
             Ok(())
@@ -64,7 +65,8 @@ fn after_draw(held: &mut Vec<Hold>, expert: u8, reply: &Reply)
 }
 
 /// What was confirmed is accepted where it is due, and the hold is given back.
-fn after_confirmation(
+fn after_confirmation<S: LevelSearch>(
+    search: &S,
     queue: &mut LevelQueue,
     held: &mut Vec<Hold>,
     expert: u8,
@@ -82,7 +84,7 @@ fn after_confirmation(
     match reply {
         Reply::NotHeld => Ok(()),
         Reply::Accepted(_) => {
-            accept_held(queue, held, expert)?;
+            accept_held(search, queue, held, expert)?;
             give_back(held, expert);
             Ok(())
         }
@@ -94,7 +96,12 @@ fn after_confirmation(
 }
 
 /// Accepts the question that the expert holds.
-fn accept_held(queue: &mut LevelQueue, held: &[Hold], expert: u8) -> Result<(), Memory>
+fn accept_held<S: LevelSearch>(
+    search: &S,
+    queue: &mut LevelQueue,
+    held: &[Hold],
+    expert: u8,
+) -> Result<(), Memory>
     requires { (q : Rule) → held_by expert held.now ≡ Some q
         → IsTimely queue.old.known queue.old.context queue.old.accepted q }
     ensures ok { OnOk result (queue.new ≡ record {
@@ -108,13 +115,14 @@ fn accept_held(queue: &mut LevelQueue, held: &[Hold], expert: u8) -> Result<(), 
         return Ok(());
     };
     match queue.place_of(&question) {
-        Some(place) => queue.accept(place),
+        Some(place) => queue.accept_by(search, place),
         None => unreachable!(),
     }
 }
 
 /// A row that was taken is recorded, and the hold is given back where the question is settled.
-fn after_row(
+fn after_row<S: LevelSearch>(
+    search: &S,
     queue: &mut LevelQueue,
     held: &mut Vec<Hold>,
     expert: u8,
@@ -135,7 +143,7 @@ fn after_row(
 {
     match reply {
         Reply::Taken(_) => {
-            queue.take_row(*row)?;
+            queue.take_row_by(search, *row)?;
             give_back(held, expert);
             Ok(())
         }

@@ -37,6 +37,7 @@ use fca_model::{MAX_EXPERTS, Memory, Name};
 use implication_closure::ImplicationList;
 pub use implication_closure::{Implication, Question};
 use level_queue::LevelQueue;
+pub use level_queue::{LevelSearch, OneThread, SideBySide};
 use std::alloc::{AllocError, Global};
 use std::marker::Model;
 
@@ -169,9 +170,20 @@ impl Explore {
         ensures spare { 1 ≤ self.old.spare → is_recorded (reply_to (state_of self.old) event) ≡ false
             → IsOk result × (self.new.spare + 1 ≡ self.old.spare) }
     {
+        self.apply_by(&OneThread, event)
+    }
+
+    /// Does what the event asks as `apply` does, where the search looks for the next level.
+    pub fn apply_by<S: LevelSearch>(&mut self, search: &S, event: Event) -> Result<Reply, Memory>
+        requires { Admits self.old.opening event }
+        ensures ok { IfOk result (λ reply. IsStep self.old self.new event reply) }
+        ensures err { OnErr result (IsSame self.old self.new) }
+        ensures spare { 1 ≤ self.old.spare → is_recorded (reply_to (state_of self.old) event) ≡ false
+            → IsOk result × (self.new.spare + 1 ≡ self.old.spare) }
+    {
         let reply = self.reply_to(&event);
         make_room(&mut self.journal)?;
-        change(&mut self.queue, &mut self.held, &event, &reply)?;
+        change(search, &mut self.queue, &mut self.held, &event, &reply)?;
         self.journal.push_reserved(Entry {
             event,
             reply: again(&reply),
