@@ -50,9 +50,10 @@ impl LevelSearch for OneThread {
 }
 
 /// By so many threads at most, where there is enough to do for several.
+#[derive(Drop)]
 pub struct SideBySide<'a, R> {
     pub rt: &'a R,
-    pub threads: usize,
+    pub threads: u32,
 }
 
 impl<'a, R: Threads + Sync> LevelSearch for SideBySide<'a, R> {
