@@ -30,7 +30,7 @@ impl<const W: usize> Model for NarrowList<W> {
 
 impl<const W: usize> NarrowList<W> {
     /// The implications of the list.
-    pub(crate) fn of(alloc: Global, list: &ImplicationList) -> Result<NarrowList<W>, Memory>
+    pub fn of(alloc: Global, list: &ImplicationList) -> Result<NarrowList<W>, Memory>
         requires words { W ≤ 1024 }
         requires fits { list.now.width ≤ 64 * W }
         ensures { IfOk result (λ narrow. narrow ≡ list.now) }
@@ -39,6 +39,18 @@ impl<const W: usize> NarrowList<W> {
         Ok(NarrowList {
             members: rules_in_words(alloc, width, list.as_slice())?,
             width,
+        })
+    }
+
+    /// The same implications, with room for one more.
+    pub fn copy(&self, alloc: Global) -> Result<NarrowList<W>, Memory>
+        ensures { IfOk result (λ list. list ≡ self.now) }
+    {
+        let mut members = Vec::with_capacity(alloc, self.members.len().saturating_add(1))?;
+        members.extend_from_slice(&self.members)?;
+        Ok(NarrowList {
+            members,
+            width: self.width,
         })
     }
 

@@ -49,6 +49,22 @@ impl<const W: usize> WatchedList<W> {
         ensures filed { IfOk result (λ watched. IsFiled list.now.width list.now.members watched.buckets) }
         ensures good { IfOk result (λ watched. IsGood list.now.members watched.buckets x.now) }
     {
+        let narrow = NarrowList::of(alloc, list)?;
+        WatchedList::of_narrow(alloc, &narrow, &x.resized())
+    }
+
+    /// The same of a list in as many words.
+    pub fn of_narrow(
+        alloc: Global,
+        list: &NarrowList<W>,
+        x: &Bits<W>,
+    ) -> Result<WatchedList<W>, Memory>
+        requires wide { length x.now ≡ list.now.width }
+        requires respecting { respects_all list.now.members x.now ≡ true }
+        ensures list { IfOk result (λ watched. watched.list ≡ list.now) }
+        ensures filed { IfOk result (λ watched. IsFiled list.now.width list.now.members watched.buckets) }
+        ensures good { IfOk result (λ watched. IsGood list.now.members watched.buckets x.now) }
+    {
         let mut watched = WatchedList::new(alloc, list)?;
         for (place, member) in list.as_slice().iter().enumerate() {
             if let Some(w) = member.premise.first_missing(x) {
@@ -59,16 +75,14 @@ impl<const W: usize> WatchedList<W> {
     }
 
     /// The same implications, of which none waits.
-    fn new(alloc: Global, list: &ImplicationList) -> Result<WatchedList<W>, Memory>
-        requires words { W ≤ 1024 }
-        requires fits { list.now.width ≤ 64 * W }
+    fn new(alloc: Global, list: &NarrowList<W>) -> Result<WatchedList<W>, Memory>
         ensures list { IfOk result (λ watched. watched.list ≡ list.now) }
         ensures room { IfOk result (λ watched. length watched.buckets ≡ list.now.width) }
         ensures empty { IfOk result (λ watched. (w : ℕ) → bucket w watched.buckets ≡ []) }
     {
         let buckets = empty_buckets(alloc, list.width())?;
         Ok(WatchedList {
-            list: NarrowList::of(alloc, list)?,
+            list: list.copy(alloc)?,
             buckets,
         })
     }
@@ -145,7 +159,7 @@ impl<const W: usize> WatchedList<W> {
     }
 
     /// Puts the implication last; it waits for the attribute before `from`, if there is one.
-    pub(crate) fn push_before(
+    pub fn push_before(
         &mut self,
         member: Implication<Bits<W>>,
         from: u32,

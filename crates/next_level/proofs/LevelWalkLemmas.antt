@@ -21,28 +21,33 @@ use Rattle.extent_blocks.proofs.ExtentLemmas.{extent_larger, extent_left}
 use Rattle.lectic_basis.specs.Trees.{before, up_to}
 use Rattle.next_level.specs.NextLevel.{IsLeastUnder, IsOpen, everything, open_where}
 use Rattle.next_level.specs.Among.{AreAmong, AllAmong, may_be_open, stands_at}
-use Rattle.next_level.specs.LevelWalks.{IsEntered, IsLeft, IsTrying, HasLevel, IsSteady}
+use Rattle.next_level.specs.LevelWalks.{IsInside, IsEntered, IsLeft, IsTrying, HasLevel, IsSteady}
 use Rattle.lectic_basis.specs.Watches.{Watched, IsFiled, IsGood, CanClose, HasMoved, IsClosedBefore, Differs}
-use Rattle.lectic_basis.proofs.PlaceLemmas.{within_set, agree_with, agree_less, agree_same}
+use Rattle.lectic_basis.proofs.PlaceLemmas.{within_set, agree_with, agree_less, agree_same, within_not_before}
 use Rattle.lectic_basis.proofs.TreeLemmas.{root_least}
 use Rattle.next_level.proofs.NextLevelLemmas as bound
 use Rattle.lectic_basis.proofs.WaitLemmas.{kept_good, good_covers}
 
 -- ---- the start
 
-pub root_entered : (K : Context) (A : Set) (F : Watched) (Ls : List Rule) (b : ℕ) → F.list.width ≡ K.width → IsClosure F.list.members (replicate K.width false) A
-    → IsFiled F.list.width F.list.members F.buckets → IsGood F.list.members F.buckets A → Ls ≡ [] → IsEntered K A 0 F b Ls
-root_entered K A F Ls b width a filed good none = record {
-  at = record {
-    width = width;
-    wide = a.wide ∙ length-replicate K.width false;
-    respecting = a.respecting;
-    least = λ X e r h. root_least F.list.members K A a X r;
-    inside = omega arith;
-    filed = filed;
-    good = good;
-  };
-  level = bound.nothing_seen F.list.members K A Ls b none;
+pub root_inside : (K : Context) (A : Set) (F : Watched) → F.list.width ≡ K.width → IsClosure F.list.members (replicate K.width false) A
+    → IsFiled F.list.width F.list.members F.buckets → IsGood F.list.members F.buckets A → (from : ℕ) → from ≤ K.width → IsInside K A from F
+root_inside K A F width a filed good from inside = record {
+  width = width;
+  wide = a.wide ∙ length-replicate K.width false;
+  respecting = a.respecting;
+  least = λ X e r h. root_least F.list.members K A a X r;
+  inside = inside;
+  filed = filed;
+  good = good;
+}
+
+-- nothing comes before what all contain
+pub inside_entered : {K : Context} {A : Set} {from : ℕ} {F : Watched} → IsInside K A from F → ((X : Set) → IsOpen F.list.members K everything X → within A X ≡ true)
+    → (b : ℕ) (Ls : List Rule) → Ls ≡ [] → IsEntered K A from F b Ls
+inside_entered {K = K} {A = A} {from = from} {F = F} at least b Ls none = record {
+  at = at;
+  level = bound.nothing_open F.list.members K b (before from A) Ls (λ X x s. within_not_before from A X (least X x)) none;
 }
 
 -- ---- a visit
@@ -188,8 +193,8 @@ module _ {K : Context} {A : Set} {i : ℕ} {G : Watched} {b : ℕ} {Ls : List Ru
 
 -- ---- among some sets
 
-pub among_start : (J : List Rule) (K : Context) (A : Set) (whole : Bool) (sets : List Set) → AllAmong J K whole sets → AreAmong J K A 0 whole sets
-among_start J K A whole sets all X x = all X (record { wide = x.wide; respecting = x.respecting; not_closed = x.not_closed; passes = refl })
+pub among_start : (J : List Rule) (K : Context) (A : Set) (from : ℕ) (whole : Bool) (sets : List Set) → AllAmong J K whole sets → AreAmong J K A from whole sets
+among_start J K A from whole sets all X x = all X (record { wide = x.wide; respecting = x.respecting; not_closed = x.not_closed; passes = refl })
 
 -- of the same list, from a later attribute on
 pub among_from : (J L : RuleList) (K : Context) (A : Set) (from i : ℕ) (whole : Bool) (sets : List Set) → L ≡ J → from ≤ i → AreAmong J.members K A from whole sets → AreAmong L.members K A i whole sets

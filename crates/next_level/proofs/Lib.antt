@@ -1,3 +1,4 @@
 pub mod NextLevelLemmas
 pub mod LevelWalkLemmas
 pub mod SizeLemmas
+pub mod BranchLemmas

@@ -1,20 +1,22 @@
 -- The next level by one walk: an equation at each place of the tree for the sets that respect the list, are not closed and are no larger than a bound; at the end
 -- those of the least size are the members of the next level.
-use Rattle.std.proofs.Common.{◌≡◌, ℕ, suc, cond, ◌<◌, ◌≤◌, ◌+◌, Bool, true, false, not, ◌&&◌, ◌||◌, List, [], ◌∷◌, ◌++◌, length, get_or, set, map, filter, refl, sym, ap, ◌∙◌, subst, arith, inl, inr, ◌⊎◌, eqb, eqb-true, eq-eqb, leb, le-leb, leb-true, ltb, get_or-set_same, length-set}
+use Rattle.std.proofs.Common.{◌≡◌, ℕ, suc, cond, ap₂, ◌<◌, ◌≤◌, ◌+◌, Bool, true, false, not, ◌&&◌, ◌||◌, List, [], ◌∷◌, ◌++◌, length, get_or, set, map, filter, refl, sym, ap, ◌∙◌, subst, arith, inl, inr, ◌⊎◌, eqb, eqb-true, eq-eqb, leb, le-leb, leb-true, ltb, get_or-set_same, length-set}
 use Rattle.std.proofs.lemmas.Bool.{false≢true, and_parts, and_from, cases_Bool, cases_lt, or_cases, or_left, or_right, not-true, lt-leb, ltb-true, lt-ltb}
+use Rattle.std.proofs.lemmas.List.{map-append}
 use Rattle.std.proofs.lemmas.List.Folds.{list_all-append, list_all-map}
 use Rattle.std.specs.List.{list_all, list_any}
-use Rattle.fca_model.specs.Sets.{Set, within, same, size, all_sets}
+use Rattle.std.specs.Ordering.{is_lt}
+use Rattle.fca_model.specs.Sets.{Set, within, same, size, all_sets, lectic_cmp}
 use Rattle.fca_model.specs.Context.{Context, closure, is_closed}
 use Rattle.fca_model.specs.Implications.{Rule, rule, respects, respects_all}
 use Rattle.fca_model.specs.Pseudo.{pseudo_known, basis_known}
 use Rattle.fca_model.specs.Levels.{level_of, HasBelow}
-use Rattle.fca_model.proofs.SetLemmas.{within_refl, set_within, within_at_place, same-true, same_from, size_mono, same_by_size, size_le, size_strict, strictly-parts, within_antisymm, all_sets_widths}
+use Rattle.fca_model.proofs.SetLemmas.{within_refl, set_within, within_at_place, same-true, same_from, size_mono, same_by_size, size_le, size_strict, strictly-parts, within_antisymm, all_sets_widths, all_sets_increasing}
 use Rattle.fca_model.proofs.ListLemmas.{bool_iff, list_all-mono, list_all-and, list_any_at, list_any-map, filter-map, filter-filter, filter_passes, filter_none, filter_agree_on, list_all-filter, list_all-filter_kept, implies_from}
 use Rattle.fca_model.proofs.ClosureLemmas.{respects_at, length-closure, closure_extensive}
 use Rattle.fca_model.proofs.PseudoLemmas.{pseudo_parts, pseudo_from, basis_all, basis_at}
 use Rattle.fca_model.proofs.LevelLemmas.{respects_found, level_is}
-use Rattle.fca_model.proofs.SortedLemmas.{in_filter, in_all_sets}
+use Rattle.fca_model.proofs.SortedLemmas.{in_filter, in_all_sets, increasing-filter}
 use Rattle.implication_closure.specs.Closing.{IsClosure, HaveWidth, has_width}
 use Rattle.lectic_concepts.specs.Branches.{agree_before}
 use Rattle.lectic_concepts.proofs.BranchLemmas.{agree_at}
@@ -23,7 +25,7 @@ use Rattle.next_level.specs.NextLevel.{is_open, opens_at, open_where, everything
 use Rattle.next_level.specs.Among.{AllAmong, IsAhead, IsRest, may_be_open}
 use Rattle.next_level.specs.LevelWalks.{IsLeastSize}
 use Rattle.lectic_basis.proofs.PlaceLemmas as places
-use Rattle.lectic_basis.proofs.ListingLemmas.{same_listed, listed_push}
+use Rattle.lectic_basis.proofs.ListingLemmas.{same_listed, listed_push, split_filter}
 
 none_pass : (Xs : List Set) → filter (λ X. false) Xs ≡ []
 none_pass [] = refl
@@ -430,6 +432,48 @@ module _ (S : List Rule) (K : Context) (k : ℕ) (found J : List Rule) (is : J �
 pub nothing_seen : (J : List Rule) (K : Context) (A : Set) (L : List Rule) (b : ℕ) → L ≡ [] → L ≡ open_where J K b (before 0 A)
 unfolding open_where
 nothing_seen J K A L b e = e ∙ sym (ap (map (λ P. rule P (closure K P))) (none_pass (filter (is_open J K b) (all_sets K.width))))
+
+-- where no open set passes the test
+pub nothing_open : (J : List Rule) (K : Context) (b : ℕ) (p : Set → Bool) (L : List Rule) → ((X : Set) → IsOpen J K everything X → size X ≤ b → p X ≡ false) → L ≡ [] → L ≡ open_where J K b p
+nothing_open J K b p L none e = same_where J K b (before 0 []) p L (λ X w r n s. sym (none X (record { wide = w; respecting = r; not_closed = n; passes = refl }) s)) (nothing_seen J K [] L b e)
+
+-- and the other way round, where no set passes it
+pub none_listed : (J : List Rule) (K : Context) (b : ℕ) (L : List Rule) → L ≡ open_where J K b (λ X. false) → L ≡ []
+unfolding open_where
+none_listed J K b L l = l ∙ ap (map (λ P. rule P (closure K P))) (none_pass (filter (is_open J K b) (all_sets K.width)))
+
+-- lists and tests that pass the same sets
+pub other_where : (I J : List Rule) (K : Context) (b : ℕ) (p q : Set → Bool) (L : List Rule) → ((X : Set) → length X ≡ K.width → (respects_all I X && p X) ≡ (respects_all J X && q X))
+    → L ≡ open_where I K b p → L ≡ open_where J K b q
+unfolding open_where
+other_where I J K b p q L h l =
+    l ∙ ap (map (λ P. rule P (closure K P)))
+    (filter-filter p (is_open I K b) (all_sets K.width)
+    ∙ filter_agree_on (λ X. eqb (length X) K.width) (λ X. is_open I K b X && p X) (λ X. is_open J K b X && q X)
+    (λ X e. turn (respects_all I X) (not (is_closed K X)) (leb (size X) b) (p X) ∙ ap (λ t. t && (not (is_closed K X) && leb (size X) b)) (h X (eqb-true (length X) K.width e))
+    ∙ sym (turn (respects_all J X) (not (is_closed K X)) (leb (size X) b) (q X)))
+    (all_sets K.width) (all_sets_widths K.width)
+    ∙ sym (filter-filter q (is_open J K b) (all_sets K.width)))
+  where
+    turn : (a b c d : Bool) → (((a && b) && c) && d) ≡ ((a && d) && (b && c))
+    turn false b c d = refl
+    turn true true true true = refl
+    turn true true true false = refl
+    turn true true false true = refl
+    turn true true false false = refl
+    turn true false c true = refl
+    turn true false c false = refl
+
+-- where those that pass q come after those that do not
+pub open_append : (J : List Rule) (K : Context) (b : ℕ) (p q : Set → Bool) (L M : List Rule)
+    → ((X Z : Set) → is_lt (lectic_cmp X Z) ≡ true → p X ≡ true → q X ≡ true → p Z ≡ true → q Z ≡ true)
+    → L ≡ open_where J K b (λ X. p X && not (q X)) → M ≡ open_where J K b (λ X. p X && q X) → L ++ M ≡ open_where J K b p
+unfolding open_where
+open_append J K b p q L M later l m =
+    let f : Set → Rule = λ P. rule P (closure K P) in
+    let Xs : List Set = filter (is_open J K b) (all_sets K.width) in
+    ap₂ (λ Ys Zs. Ys ++ Zs) l m ∙ sym (map-append f (filter (λ X. p X && not (q X)) Xs) (filter (λ X. p X && q X) Xs))
+    ∙ sym (ap (map f) (split_filter p q Xs (increasing-filter (is_open J K b) (all_sets K.width) (all_sets_increasing K.width)) later))
 
 -- all that are listed have the width of the context
 pub listed_wide : (J : List Rule) (K : Context) (b : ℕ) (p : Set → Bool) (L : List Rule) → L ≡ open_where J K b p → HaveWidth K.width L

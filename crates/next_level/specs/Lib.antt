@@ -1,3 +1,4 @@
 pub mod NextLevel
 pub mod Among
 pub mod LevelWalks
+pub mod Branches

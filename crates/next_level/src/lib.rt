@@ -4,6 +4,7 @@
 
 mod ahead;
 mod among;
+mod branches;
 mod open_sets;
 mod search;
 mod walk;
@@ -21,16 +22,16 @@ pub use ahead::Ahead;
 use ahead::ahead_of;
 use among::Among;
 use attr_bits::{Attrs, WORDS};
+use branches::Walker;
 use derivation::Rows;
 use extent_blocks::Sheet;
 use fca_model::{Implication, Memory};
 use implication_closure::ImplicationList;
-use lectic_basis::{WatchedList, rules_in_words};
+use lectic_basis::{NarrowList, rules_in_words};
 use lectic_concepts::{FOUR_WORDS, ONE_WORD};
 use open_sets::{OpenSets, least_size, of_size};
 pub use search::{LevelSearch, OneThread, SideBySide};
 use std::alloc::Global;
-use walk::enter_all;
 
 /// How many sets a walk visits for each rule before only the least open ones are kept.
 const VISITS: usize = 16;
@@ -80,18 +81,38 @@ pub fn open_next(
     ensures ahead { IfOk result (λ opened. IsAhead rules.now.members rows.now opened.level.size opened.ahead.whole opened.ahead.sets.rows) }
     ensures ahead_wide { IfOk result (λ opened. opened.ahead.sets.width ≡ rows.now.width) }
 {
+    open_next_by(&OneThread, alloc, rows, rules, ahead)
+}
+
+/// The same, by a walker.
+fn open_next_by<X: Walker<1> + Walker<4> + Walker<WORDS>>(
+    walker: &X,
+    alloc: Global,
+    rows: &Rows,
+    rules: &ImplicationList,
+    ahead: &Ahead,
+) -> Result<Opened, Memory>
+    requires wide { rules.now.width ≡ rows.now.width }
+    requires ahead_wide { ahead.now.sets.width ≡ rows.now.width }
+    requires among { AllAmong rules.now.members rows.now ahead.now.whole ahead.now.sets.rows }
+    ensures next { (known found : List Rule) (reached : ℕ) → rules.now.members ≡ known ++ found → HasBelow known rows.now reached found → reached ≤ rows.now.width + 1
+        → IfOk result (λ opened. IsNextLevel known rows.now found opened.level.size opened.level.members.items) }
+    ensures ahead { IfOk result (λ opened. IsAhead rules.now.members rows.now opened.level.size opened.ahead.whole opened.ahead.sets.rows) }
+    ensures ahead_wide { IfOk result (λ opened. opened.ahead.sets.width ≡ rows.now.width) }
+{
     let width = rows.width();
     if width <= ONE_WORD {
-        return open_in_words::<1>(alloc, rows, rules, ahead);
+        return open_in_words::<X, 1>(walker, alloc, rows, rules, ahead);
     }
     if width <= FOUR_WORDS {
-        return open_in_words::<4>(alloc, rows, rules, ahead);
+        return open_in_words::<X, 4>(walker, alloc, rows, rules, ahead);
     }
-    open_in_words::<WORDS>(alloc, rows, rules, ahead)
+    open_in_words::<X, WORDS>(walker, alloc, rows, rules, ahead)
 }
 
 /// The same, found in sets of W words.
-fn open_in_words<const W: usize>(
+fn open_in_words<X: Walker<W>, const W: usize>(
+    walker: &X,
     alloc: Global,
     rows: &Rows,
     rules: &ImplicationList,
@@ -110,7 +131,7 @@ fn open_in_words<const W: usize>(
     let sheet = Sheet::new(alloc, rows.resized::<W>(alloc)?)?;
     let sets = ahead.sets.resized::<W>(alloc)?;
     let among = Among::of(alloc, ahead.whole, sets.as_slice())?;
-    let seen = find_open(alloc, &sheet, rules, &among)?;
+    let seen = find_open(walker, alloc, &sheet, rules, &among)?;
     let most = rules.as_slice().len().saturating_mul(KEPT);
     let opened = least_of(alloc, rows.width(), &seen, most)?;
     Ok(opened)
@@ -143,7 +164,8 @@ fn least_of<const W: usize>(
 
 /// The open sets up to a bound, the least ones among them. Sizes are looked at in turn first, so that no larger sets are met where a smaller one is open. Where
 /// there is no memory for larger ones, only the least are kept.
-fn find_open<const W: usize>(
+fn find_open<X: Walker<W>, const W: usize>(
+    walker: &X,
     alloc: Global,
     sheet: &Sheet<W>,
     rules: &ImplicationList,
@@ -155,16 +177,16 @@ fn find_open<const W: usize>(
     ensures all { IfOk result (λ sets. sets.members.items ≡ [] → sheet.now.width ≤ sets.bound) }
 {
     for size in 0..sizes_in_turn(rules) {
-        let seen = open_up_to(alloc, sheet, rules, among, size, 0)?;
+        let seen = open_up_to(walker, alloc, sheet, rules, among, size, 0)?;
         if !seen.members.is_empty() {
             return Ok(seen);
         }
     }
     let width = sheet.rows().width();
     let visits = rules.as_slice().len().saturating_mul(VISITS);
-    match open_up_to(alloc, sheet, rules, among, width, visits) {
+    match open_up_to(walker, alloc, sheet, rules, among, width, visits) {
         Ok(seen) => Ok(seen),
-        Err(_) => open_up_to(alloc, sheet, rules, among, width, 0),
+        Err(_) => open_up_to(walker, alloc, sheet, rules, among, width, 0),
     }
 }
 
@@ -181,7 +203,8 @@ fn sizes_in_turn(rules: &ImplicationList) -> u32
 }
 
 /// The open sets up to a bound, which falls after so many visits.
-fn open_up_to<const W: usize>(
+fn open_up_to<X: Walker<W>, const W: usize>(
+    walker: &X,
     alloc: Global,
     sheet: &Sheet<W>,
     rules: &ImplicationList,
@@ -194,22 +217,17 @@ fn open_up_to<const W: usize>(
     ensures listed { IfOk result (λ sets. sets.members.items ≡ open_where rules.now.members sheet.now sets.bound everything) }
     ensures kept { IfOk result (λ sets. sets.members.items ≡ [] → bound ≤ sets.bound) }
 {
-    let _width = sheet.rows().width();
-    let least = rules.naive_closure(&Attrs::empty(rules.width()));
-    let mut found = WatchedList::of(alloc, rules, &least)?;
-    let mut seen = OpenSets {
-        bound: bound.max(least.size()),
-        visits,
-        members: Vec::new(alloc),
-    };
-    enter_all(
+    let width = sheet.rows().width();
+    let _width = rules.width();
+    let list = NarrowList::of(alloc, rules)?;
+    let least = rules.naive_closure(&Attrs::empty(width));
+    walker.walk(
         alloc,
         sheet,
-        &mut found,
-        &mut seen,
+        &list,
         &least.resized(),
-        0,
         among,
-    )?;
-    Ok(seen)
+        bound.max(least.size()),
+        visits,
+    )
 }

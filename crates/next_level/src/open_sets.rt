@@ -1,6 +1,6 @@
 //! The open sets that a walk has seen.
 
-ghost use Rattle.std.specs.Prelude.{◌≡◌, ◌≤◌, OnOk, IfOk, filter, List, Bool, nat_le, nat_lt, ◌==◌};
+ghost use Rattle.std.specs.Prelude.{◌≡◌, ◌≤◌, ◌++◌, min, OnOk, IfOk, filter, List, Bool, nat_le, nat_lt, ◌==◌};
 ghost use Rattle.fca_model.specs.Sets.{Set, size};
 ghost use Rattle.fca_model.specs.Context.{Context};
 ghost use Rattle.fca_model.specs.Implications.{Rule};
@@ -68,6 +68,22 @@ impl<const W: usize> OpenSets<W> {
         }
         self.members = no_larger(alloc, &self.members, size)?;
         self.bound = size;
+        Ok(())
+    }
+
+    /// Puts others last, up to the lower of both bounds.
+    pub(crate) fn append(&mut self, alloc: Global, others: &OpenSets<W>) -> Result<(), Memory>
+        requires words { W ≤ 1024 }
+        ensures bound { OnOk result (self.new.bound ≡ min self.old.bound others.now.bound) }
+        ensures members { OnOk result (self.new.members.items
+            ≡ filter (λ i. nat_le (size i.premise) self.new.bound) self.old.members.items
+            ++ filter (λ i. nat_le (size i.premise) self.new.bound) others.now.members.items) }
+    {
+        let bound = self.bound.min(others.bound);
+        self.members = no_larger(alloc, &self.members, bound)?;
+        let mut more = no_larger(alloc, &others.members, bound)?;
+        self.members.append(&mut more)?;
+        self.bound = bound;
         Ok(())
     }
 }

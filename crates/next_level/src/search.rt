@@ -1,18 +1,28 @@
 //! How the next level is looked for: by one thread, or by several side by side.
 
-ghost use Rattle.std.specs.Prelude.{◌≡◌, ◌≤◌, ◌+◌, ◌++◌, ℕ, List, IfOk};
+ghost use Rattle.std.specs.Prelude.{◌≡◌, ◌≤◌, ◌+◌, ◌++◌, ℕ, List, [], IfOk};
 ghost use Rattle.fca_model.specs.Implications.{Rule};
 ghost use Rattle.fca_model.specs.Levels.{HasBelow};
-ghost use Rattle.next_level.specs.NextLevel.{IsNextLevel};
+ghost use Rattle.next_level.specs.NextLevel.{IsNextLevel, open_where, everything};
 ghost use Rattle.next_level.specs.Among.{AllAmong, IsAhead};
+ghost use Rattle.next_level.specs.Branches.{IsRoot};
 
 use crate::ahead::Ahead;
-use crate::{Opened, open_next};
+use crate::among::Among;
+use crate::branches::{Walk, Walker};
+use crate::open_sets::OpenSets;
+use crate::{Opened, open_next, open_next_by};
+use attr_bits::Bits;
 use derivation::Rows;
+use extent_blocks::Sheet;
 use fca_model::Memory;
 use implication_closure::ImplicationList;
+use lectic_basis::NarrowList;
 use std::alloc::Global;
 use std::thread::Threads;
+
+/// How many branches are walked through for each thread.
+const BRANCHES: u32 = 4;
 
 /// A way to look for the next level.
 pub trait LevelSearch {
@@ -49,14 +59,14 @@ impl LevelSearch for OneThread {
     }
 }
 
-/// By so many threads at most, where there is enough to do for several.
+/// By several threads, where there is enough to do for more than one: each of the first branches is walked through in a thread of its own, some for each.
 #[derive(Drop)]
 pub struct SideBySide<'a, R> {
     pub rt: &'a R,
     pub threads: u32,
 }
 
-impl<'a, R: Threads + Sync> LevelSearch for SideBySide<'a, R> {
+impl<'a, R: Threads> LevelSearch for SideBySide<'a, R> {
     fn open_next(
         &self,
         alloc: Global,
@@ -64,6 +74,69 @@ impl<'a, R: Threads + Sync> LevelSearch for SideBySide<'a, R> {
         rules: &ImplicationList,
         ahead: &Ahead,
     ) -> Result<Opened, Memory> {
-        open_next(alloc, rows, rules, ahead)
+        open_next_by(self, alloc, rows, rules, ahead)
+    }
+}
+
+impl<const W: usize> Walker<W> for OneThread {
+    fn walk(
+        &self,
+        alloc: Global,
+        sheet: &Sheet<W>,
+        list: &NarrowList<W>,
+        least: &Bits<W>,
+        among: &Among<W>,
+        bound: u32,
+        visits: usize,
+    ) -> Result<OpenSets<W>, Memory>
+        requires root { IsRoot sheet.now list.now least.now bound }
+        requires among { AllAmong list.now.members sheet.now among.now.whole among.now.sets.items }
+        ensures listed { IfOk result (λ sets. sets.members.items ≡ open_where list.now.members sheet.now sets.bound everything) }
+        ensures steady { IfOk result (λ sets. sets.members.items ≡ [] → sets.bound ≡ bound) }
+    {
+        let walk = Walk {
+            sheet,
+            list,
+            least,
+            among,
+            bound,
+            visits,
+        };
+        walk.open_behind(alloc, 0)
+    }
+}
+
+impl<'a, R: Threads, const W: usize> Walker<W> for SideBySide<'a, R> {
+    fn walk(
+        &self,
+        alloc: Global,
+        sheet: &Sheet<W>,
+        list: &NarrowList<W>,
+        least: &Bits<W>,
+        among: &Among<W>,
+        bound: u32,
+        visits: usize,
+    ) -> Result<OpenSets<W>, Memory>
+        requires root { IsRoot sheet.now list.now least.now bound }
+        requires among { AllAmong list.now.members sheet.now among.now.whole among.now.sets.items }
+        ensures listed { IfOk result (λ sets. sets.members.items ≡ open_where list.now.members sheet.now sets.bound everything) }
+        ensures steady { IfOk result (λ sets. sets.members.items ≡ [] → sets.bound ≡ bound) }
+    {
+        let walk = Walk {
+            sheet,
+            list,
+            least,
+            among,
+            bound,
+            visits,
+        };
+        if self.threads > 1 && walk.pays() {
+            let branches = self
+                .threads
+                .saturating_mul(BRANCHES)
+                .min(sheet.rows().width());
+            return walk.open_parts(self.rt, &alloc, branches, branches + 1);
+        }
+        walk.open_behind(alloc, 0)
     }
 }

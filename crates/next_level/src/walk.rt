@@ -118,7 +118,7 @@ fn child_at<const W: usize>(
 }
 
 /// The sets among which those are that are open and agree with the child before attribute i + 1.
-fn child_among<const W: usize>(
+pub(crate) fn child_among<const W: usize>(
     alloc: Global,
     sheet: &Sheet<W>,
     found: &WatchedList<W>,

@@ -7,8 +7,8 @@ use Rattle.attr_bits.proofs.DifferenceLemmas.{first_missing-parts}
 use Rattle.attr_bits.proofs.PlaceLemmas.{member_below}
 use Rattle.lectic_basis.specs.Watches.{Watched, IsPut, member_at}
 use Rattle.lectic_basis.proofs.WaitLemmas.{IsWaiting, waiting_more, waiting_same, waiting_at_place}
-use Rattle.lectic_basis.proofs.watched_list.WatchedList.of.Goals as goal
-use Rattle.lectic_basis.proofs.watched_list.WatchedList.of.Goals.{in-Some+in_ok-wait_for, in_default}
+use Rattle.lectic_basis.proofs.watched_list.WatchedList.of_narrow.Goals as goal
+use Rattle.lectic_basis.proofs.watched_list.WatchedList.of_narrow.Goals.{in-Some+in_ok-wait_for, in_default}
 
 pub wait_for-requires : goal.wait_for-requires
 wait_for-requires g c =

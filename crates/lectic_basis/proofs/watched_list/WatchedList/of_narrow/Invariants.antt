@@ -1,6 +1,6 @@
 use Rattle.std.proofs.Common.{◌≡◌}
 use Rattle.lectic_basis.proofs.WaitLemmas.{IsWaiting}
-use Rattle.lectic_basis.proofs.watched_list.WatchedList.of.Given as goal
+use Rattle.lectic_basis.proofs.watched_list.WatchedList.of_narrow.Given as goal
 
 abbrev pub invariant-loop-place : goal.invariant-loop-place
 invariant-loop-place g l = record {
