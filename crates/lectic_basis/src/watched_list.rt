@@ -159,11 +159,7 @@ impl<const W: usize> WatchedList<W> {
     }
 
     /// Puts the implication last; it waits for the attribute before `from`, if there is one.
-    pub fn push_before(
-        &mut self,
-        member: Implication<Bits<W>>,
-        from: u32,
-    ) -> Result<(), Memory>
+    pub fn push_before(&mut self, member: Implication<Bits<W>>, from: u32) -> Result<(), Memory>
         requires premise { length member.premise ≡ self.old.list.width }
         requires conclusion { length member.conclusion ≡ self.old.list.width }
         requires inside { from ≤ length self.old.buckets }
