@@ -1,7 +1,7 @@
 //! What the steps of a walk write on.
 
 ghost use Rattle.std.specs.Prelude.{◌≡◌, [], IfOk};
-ghost use Rattle.extent_places.specs.Few.{HasNobody};
+ghost use Rattle.extent_places.specs.Few.{HasNoObject};
 
 use derivation::RowsOf;
 use extent_places::FewObjects;
@@ -40,7 +40,7 @@ impl<const W: usize> Desks<W> {
     /// No desk, for walks over these rows.
     pub fn new(alloc: Global, rows: &RowsOf<W>) -> Result<Desks<W>, Memory>
         ensures desks { IfOk result (λ desks. desks.free.items ≡ []) }
-        ensures few { IfOk result (λ desks. HasNobody desks.few) }
+        ensures few { IfOk result (λ desks. HasNoObject desks.few) }
     {
         Ok(Desks {
             free: Vec::new(alloc),

@@ -12,8 +12,8 @@ chosen (b ∷ S) [] = []
 chosen (b ∷ S) (p ∷ ps) = cond b (p ∷ chosen S ps) (chosen S ps)
 
 -- no object stands apart
-abbrev pub HasNobody : {W : ℕ} → FewObjects W → Type 0
-HasNobody few = few.places.items ≡ []
+abbrev pub HasNoObject : {W : ℕ} → FewObjects W → Type 0
+HasNoObject few = few.places.items ≡ []
 
 -- the objects of a part of A stand apart, and S are those of A among them
 pub record AreFew (K : Context) (A : Set) {W : ℕ} (few : FewObjects W) (S : Set) : Type 0 where

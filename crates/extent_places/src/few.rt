@@ -2,7 +2,7 @@
 
 ghost use Rattle.std.specs.Prelude.{◌≡◌, ◌≤◌, ◌<◌, ◌*◌, [], true, IfOk, OnOk, length, slice_set};
 ghost use Rattle.fca_model.specs.Context.{closure, extent};
-ghost use Rattle.extent_places.specs.Few.{AreFew, HasNobody, chosen};
+ghost use Rattle.extent_places.specs.Few.{AreFew, HasNoObject, chosen};
 ghost use Rattle.extent_places.specs.Places.{rows_at};
 
 use attr_bits::Bits;
@@ -43,7 +43,7 @@ impl<const W: usize> FewObjects<W> {
     pub fn none(alloc: Global, width: u32) -> Result<FewObjects<W>, Memory>
         requires words { W ≤ 1024 }
         requires narrow { width ≤ 64 * W }
-        ensures { IfOk result HasNobody }
+        ensures { IfOk result HasNoObject }
     {
         Ok(FewObjects {
             places: Vec::new(alloc),

@@ -21,8 +21,10 @@ use lectic_basis::NarrowList;
 use std::alloc::Global;
 use std::thread::Threads;
 
-/// How many branches are walked through for each thread.
+/// How many branches are walked through for each thread, so that all threads have enough to do, and how many at most: each has a list of its own.
 const BRANCHES: u32 = 4;
+
+const MOST: u32 = 16;
 
 /// A way to look for the next level.
 pub trait LevelSearch {
@@ -131,10 +133,8 @@ impl<'a, R: Threads, const W: usize> Walker<W> for SideBySide<'a, R> {
             visits,
         };
         if self.threads > 1 && walk.pays() {
-            let branches = self
-                .threads
-                .saturating_mul(BRANCHES)
-                .min(sheet.rows().width());
+            let most = sheet.rows().width().min(MOST);
+            let branches = self.threads.saturating_mul(BRANCHES).min(most);
             return walk.open_parts(self.rt, &alloc, branches, branches + 1);
         }
         walk.open_behind(alloc, 0)
