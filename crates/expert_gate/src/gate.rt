@@ -8,9 +8,10 @@ ghost use Rattle.turn_lock.specs.Passes.{badge, roll, Belongs, IsFresh};
 ghost use Rattle.turn_lock.specs.declared.fault.TurnFault.TheVariants as fault;
 ghost use Rattle.expert_gate.specs.Turns.{numbers_after, Answers, Looks, HasClosed};
 
+use crate::searching::Searching;
 use crate::shared::{Seen, SharedExplore};
 use attr_bits::Attrs;
-use explore_state::{Event, Explore, Reply};
+use explore_state::{Event, Explore, LevelSearch, OneThread, Reply};
 use fca_model::{Memory, Name};
 use std::alloc::Global;
 use std::marker::Model;
@@ -82,7 +83,7 @@ impl Gate {
         ensures within { pass.old.made ≤ pass.old.turns }
     {
         let expert = pass.number();
-        self.turn(rt, pass, Event::Draw { expert })
+        self.turn(rt, &OneThread, pass, Event::Draw { expert })
     }
 
     /// The pass's expert confirms the question that it holds.
@@ -96,8 +97,27 @@ impl Gate {
         ensures unchanged { IsErrOf result fault.Spent → pass.new ≡ pass.old }
         ensures within { pass.old.made ≤ pass.old.turns }
     {
+        self.confirm_by(rt, &OneThread, pass)
+    }
+
+    /// The same as `confirm`, where the search looks for the next level.
+    pub fn confirm_by<R: Wait, S: LevelSearch>(
+        &self,
+        rt: &R,
+        search: &S,
+        pass: &mut ExpertPass,
+    ) -> Result<Reply, TurnFault>
+        requires lock { Belongs self.now pass.old }
+        ensures same { badge pass.new ≡ badge pass.old }
+        ensures entry { IfOk result (λ reply. Answers self.now.base pass.old (Confirm pass.old.number) reply pass.new) }
+        ensures wide { IfOk result (HasWideReply self.now.base.table.context.width) }
+        ensures memory { IsErrOf result fault.Memory → Looks self.now.base pass.old pass.new }
+        ensures spent { IsErrOf result fault.Spent ↔ (pass.old.made ≡ pass.old.turns) }
+        ensures unchanged { IsErrOf result fault.Spent → pass.new ≡ pass.old }
+        ensures within { pass.old.made ≤ pass.old.turns }
+    {
         let expert = pass.number();
-        self.turn(rt, pass, Event::Confirm { expert })
+        self.turn(rt, search, pass, Event::Confirm { expert })
     }
 
     /// The pass's expert answers with a counterexample: an object of this name, with this row.
@@ -118,8 +138,30 @@ impl Gate {
         ensures unchanged { IsErrOf result fault.Spent → pass.new ≡ pass.old }
         ensures within { pass.old.made ≤ pass.old.turns }
     {
+        self.row_by(rt, &OneThread, pass, name, row)
+    }
+
+    /// The same as `row`, where the search looks for the next level.
+    pub fn row_by<R: Wait, S: LevelSearch>(
+        &self,
+        rt: &R,
+        search: &S,
+        pass: &mut ExpertPass,
+        name: Name,
+        row: Attrs,
+    ) -> Result<Reply, TurnFault>
+        requires lock { Belongs self.now pass.old }
+        requires width { length row ≡ self.now.base.table.context.width }
+        ensures same { badge pass.new ≡ badge pass.old }
+        ensures entry { IfOk result (λ reply. Answers self.now.base pass.old (Row pass.old.number name row) reply pass.new) }
+        ensures wide { IfOk result (HasWideReply self.now.base.table.context.width) }
+        ensures memory { IsErrOf result fault.Memory → Looks self.now.base pass.old pass.new }
+        ensures spent { IsErrOf result fault.Spent ↔ (pass.old.made ≡ pass.old.turns) }
+        ensures unchanged { IsErrOf result fault.Spent → pass.new ≡ pass.old }
+        ensures within { pass.old.made ≤ pass.old.turns }
+    {
         let expert = pass.number();
-        self.turn(rt, pass, Event::Row { expert, name, row })
+        self.turn(rt, search, pass, Event::Row { expert, name, row })
     }
 
     /// The pass's expert gives back what it holds.
@@ -134,11 +176,17 @@ impl Gate {
         ensures within { pass.old.made ≤ pass.old.turns }
     {
         let expert = pass.number();
-        self.turn(rt, pass, Event::Leave { expert })
+        self.turn(rt, &OneThread, pass, Event::Leave { expert })
     }
 
-    /// One turn with an event of the pass's expert.
-    fn turn<R: Wait>(&self, rt: &R, pass: &mut ExpertPass, event: Event) -> Result<Reply, TurnFault>
+    /// One turn with an event of the pass's expert, where the search looks for the next level.
+    fn turn<R: Wait, S: LevelSearch>(
+        &self,
+        rt: &R,
+        search: &S,
+        pass: &mut ExpertPass,
+        event: Event,
+    ) -> Result<Reply, TurnFault>
         requires lock { Belongs self.now pass.old }
         requires expert { expert_of event ≡ pass.old.number }
         requires width { has_width self.now.base.table.context.width event ≡ true }
@@ -150,7 +198,8 @@ impl Gate {
         ensures unchanged { IsErrOf result fault.Spent → pass.new ≡ pass.old }
         ensures within { pass.old.made ≤ pass.old.turns }
     {
-        self.lock.with_turn(rt, pass, event)
+        self.lock
+            .with_turn_by(rt, &Searching { search }, pass, event)
     }
 
     /// One turn that only looks.

@@ -3,6 +3,7 @@
 
 mod desk;
 mod gate;
+mod searching;
 mod seated;
 mod shared;
 mod solo;

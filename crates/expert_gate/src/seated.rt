@@ -5,20 +5,22 @@ ghost use Rattle.turn_lock.specs.Passes.{Belongs};
 use crate::desk::{Desk, Wide};
 use crate::gate::{ExpertPass, Gate};
 use attr_bits::Attrs;
-use explore_state::Reply;
+use explore_state::{LevelSearch, Reply};
 use fca_model::Name;
 use std::sync::Wait;
 use turn_lock::TurnFault;
 
 #[derive(Drop)]
-pub struct Seated<'a, R> {
+pub struct Seated<'a, R, S> {
     pub rt: &'a R,
+    /// Who looks for the next level.
+    pub search: &'a S,
     pub gate: &'a Gate,
     pub pass: &'a mut ExpertPass,
     pub ghost belongs: { Belongs gate.now pass.now },
 }
 
-impl<'a, R> Wide for Seated<'a, R> {
+impl<'a, R, S> Wide for Seated<'a, R, S> {
     ghost attributes = { λ s. s.gate.now.base.table.context.width };
 
     fn width(&self) -> u32 {
@@ -27,7 +29,7 @@ impl<'a, R> Wide for Seated<'a, R> {
 }
 
 /// Each call tells of the pass what the gate's call does: what it has seen, its entries and its turns.
-impl<'a, R: Wait> Desk for Seated<'a, R> {
+impl<'a, R: Wait, S: LevelSearch> Desk for Seated<'a, R, S> {
     ghost use Rattle.std.specs.Prelude.{◌≡◌, ◌-◌, ◌↔◌, ◌++◌, ◌∷◌, [], Some, IfOk, OnErr, IsErrOf, length};
     ghost use Rattle.fca_model.specs.declared.Event.TheVariants.{Draw, Confirm, Row, Leave};
     ghost use Rattle.fca_model.specs.Widths.{HasWideReply};
@@ -77,7 +79,7 @@ impl<'a, R: Wait> Desk for Seated<'a, R> {
         ensures looked { IsErrOf result fault.Memory → Looks self.old.gate.now.base self.old.pass.now self.new.pass.now }
         ensures unchanged { IsErrOf result fault.Spent → self.new.pass.now ≡ self.old.pass.now }
     {
-        self.gate.confirm(self.rt, self.pass)
+        self.gate.confirm_by(self.rt, self.search, self.pass)
     }
 
     fn row(&mut self, name: Name, row: Attrs) -> Result<Reply, TurnFault>
@@ -95,7 +97,7 @@ impl<'a, R: Wait> Desk for Seated<'a, R> {
         ensures looked { IsErrOf result fault.Memory → Looks self.old.gate.now.base self.old.pass.now self.new.pass.now }
         ensures unchanged { IsErrOf result fault.Spent → self.new.pass.now ≡ self.old.pass.now }
     {
-        self.gate.row(self.rt, self.pass, name, row)
+        self.gate.row_by(self.rt, self.search, self.pass, name, row)
     }
 
     fn leave(&mut self) -> Result<Reply, TurnFault>

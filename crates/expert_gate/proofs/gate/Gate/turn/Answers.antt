@@ -7,5 +7,5 @@ use Rattle.expert_gate.proofs.gate.Gate.turn.Goals as goal
 
 pub returns-clause-wide : goal.returns-clause-wide
 returns-clause-wide g c =
-    subst (λ (l : Lock Opening). IfOk c.with_turn.result (HasWideReply l.base.table.context.width)) c.self.view_is
-    (answer_wide c.self.inside.lock.base c.args.pass.now c.with_turn.new.pass c.args.event c.with_turn.result c.with_turn.ensures.entry)
+    subst (λ (l : Lock Opening). IfOk c.with_turn_by.result (HasWideReply l.base.table.context.width)) c.self.view_is
+    (answer_wide c.self.inside.lock.base c.args.pass.now c.with_turn_by.new.pass c.args.event c.with_turn_by.result c.with_turn_by.ensures.entry)
