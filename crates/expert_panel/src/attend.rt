@@ -11,16 +11,17 @@ ghost use Rattle.expert_panel.specs.Seats.{HasAttended};
 
 use crate::end::SeatEnd;
 use expert_gate::{ExpertPass, Gate};
-use explore_state::{Question, Reply};
+use explore_state::{LevelSearch, Question, Reply};
 use oracle_expert::{Answer, Expert};
 use std::alloc::Global;
 use std::sync::Wait;
 use turn_lock::TurnFault;
 
 /// The expert draws, answers and is told, until it is done or a turn or an answer is refused.
-pub(crate) fn attend<X: Expert, R: Wait>(
+pub(crate) fn attend<X: Expert, R: Wait, S: LevelSearch>(
     rt: &R,
     alloc: Global,
+    search: &S,
     gate: &Gate,
     pass: &mut ExpertPass,
     expert: &mut X,
@@ -31,7 +32,7 @@ pub(crate) fn attend<X: Expert, R: Wait>(
 {
     let mut due = None;
     for _ in rt.forever() {
-        match take_turn(rt, alloc, gate, pass, expert, &due) {
+        match take_turn(rt, alloc, search, gate, pass, expert, &due) {
             Ok(reply) => {
                 if is_done(&reply) {
                     return SeatEnd::Done;
@@ -46,9 +47,10 @@ pub(crate) fn attend<X: Expert, R: Wait>(
 }
 
 /// One turn: a draw, or the answer to the question that is due.
-fn take_turn<X: Expert, R: Wait>(
+fn take_turn<X: Expert, R: Wait, S: LevelSearch>(
     rt: &R,
     alloc: Global,
+    search: &S,
     gate: &Gate,
     pass: &mut ExpertPass,
     expert: &mut X,
@@ -65,14 +67,15 @@ fn take_turn<X: Expert, R: Wait>(
 {
     match due {
         None => gate.draw(rt, pass),
-        Some(question) => answer(rt, alloc, gate, pass, expert, question),
+        Some(question) => answer(rt, alloc, search, gate, pass, expert, question),
     }
 }
 
 /// The expert answers the question, and is told the reply.
-fn answer<X: Expert, R: Wait>(
+fn answer<X: Expert, R: Wait, S: LevelSearch>(
     rt: &R,
     alloc: Global,
+    search: &S,
     gate: &Gate,
     pass: &mut ExpertPass,
     expert: &mut X,
@@ -88,14 +91,15 @@ fn answer<X: Expert, R: Wait>(
     ensures stopped { IfErr result (λ fault. IsStopped X.answers X.learns gate.now.base (Some question.now) pass.old (X.memory expert.old) fault pass.new (X.memory expert.new)) }
 {
     let answer = expert.answer(alloc, question)?;
-    let reply = give(rt, gate, pass, answer)?;
+    let reply = give(rt, search, gate, pass, answer)?;
     expert.told(&reply);
     Ok(reply)
 }
 
 /// The answer is given at the gate.
-fn give<R: Wait>(
+fn give<R: Wait, S: LevelSearch>(
     rt: &R,
+    search: &S,
     gate: &Gate,
     pass: &mut ExpertPass,
     answer: Answer,
@@ -108,8 +112,8 @@ fn give<R: Wait>(
     ensures refused { IfErr result (λ fault. IsRefused gate.now.base fault pass.old pass.new) }
 {
     match answer {
-        Answer::Confirm => gate.confirm(rt, pass),
-        Answer::Row { name, row } => gate.row(rt, pass, name, row),
+        Answer::Confirm => gate.confirm_by(rt, search, pass),
+        Answer::Row { name, row } => gate.row_by(rt, search, pass, name, row),
     }
 }
 
