@@ -11,6 +11,7 @@ use crate::ended::Ended;
 use crate::talk::session;
 use context_table::Table;
 use expert_gate::{ExpertPass, Gate, Seated};
+use explore_state::SideBySide;
 use fca_io::Duplex;
 use std::alloc::Global;
 use std::sync::Wait;
@@ -24,11 +25,13 @@ pub struct Seat<E> {
     pub(crate) ended: Ended,
 }
 
-/// What all sessions are held to: the table that they speak of, and how many lines each may have.
+/// What all sessions are held to: the table that they speak of, how many lines each may have, and how many threads a turn
+/// may use, since all others wait for it.
 #[derive(Drop)]
 pub(crate) struct Terms {
     pub(crate) table: Table,
     pub(crate) lines: u32,
+    pub(crate) threads: u32,
     pub(crate) ghost some: { 1 ≤ lines },
     pub(crate) ghost few: { lines ≤ 1000000 },
 }
@@ -84,7 +87,7 @@ fn run_halves<R: Threads + Wait + Sync, E: Duplex + Send>(
 }
 
 /// One seat's session.
-fn run_seat<R: Wait, E: Duplex>(
+fn run_seat<R: Threads + Wait + Sync, E: Duplex>(
     rt: &R,
     alloc: Global,
     gate: &Gate,
@@ -100,7 +103,7 @@ fn run_seat<R: Wait, E: Duplex>(
 }
 
 /// The session of the pass's expert.
-fn serve_one<R: Wait, E: Duplex>(
+fn serve_one<R: Threads + Wait + Sync, E: Duplex>(
     rt: &R,
     alloc: Global,
     gate: &Gate,
@@ -119,7 +122,16 @@ fn serve_one<R: Wait, E: Duplex>(
         (entered []) (entered pass.new.own) result }
 {
     let expert = pass.number();
-    let mut desk = Seated { rt, gate, pass };
+    let search = SideBySide {
+        rt,
+        threads: terms.threads,
+    };
+    let mut desk = Seated {
+        rt,
+        search: &search,
+        gate,
+        pass,
+    };
     session(alloc, &mut desk, &terms.table, expert, end, terms.lines)
 }
 

@@ -136,7 +136,13 @@ fn prepared<E: Drop>(
 {
     let room = make_room(alloc, usize::from(explore.experts()))?;
     let table = explore.table().copy()?;
-    Ok((Terms { table, lines }, room))
+    let threads = u32::from(explore.experts());
+    let terms = Terms {
+        table,
+        lines,
+        threads,
+    };
+    Ok((terms, room))
 }
 
 fn make_room<E: Drop>(alloc: Global, count: usize) -> Result<Room<E>, Memory>
