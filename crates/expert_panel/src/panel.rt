@@ -15,7 +15,7 @@ use std::sync::Wait;
 use std::thread::{Threads, join_mut};
 
 /// Each seat's expert draws, answers and is told until it is done, or a turn or an answer is refused. The experts wait for
-/// each other's turns, and so a turn may use as many threads as there are experts.
+/// each other's turns, so a turn may use as many processors as there are experts.
 pub fn run_panel<X: Expert + Send, R: Threads + Wait + Sync>(
     rt: &R,
     alloc: Global,
@@ -25,15 +25,15 @@ pub fn run_panel<X: Expert + Send, R: Threads + Wait + Sync>(
     requires { All (IsSeatOf X.width gate.now) seats.old }
     ensures { EachSeat (HasRun X.width X.memory X.answers X.learns gate.now.base) seats.old seats.new }
 {
-    let threads = seats.len().min(MAX_EXPERTS as usize) as u32;
-    run_seats(rt, &alloc, &threads, gate, seats)
+    let processors = seats.len().min(MAX_EXPERTS as usize) as u32;
+    run_seats(rt, &alloc, &processors, gate, seats)
 }
 
-/// The seats in halves. The allocator and the number of threads are lent, since what threads write would be lost if they held them.
+/// The seats in halves. The allocator and the number of processors are lent, since what threads write would be lost if they held them.
 fn run_seats<X: Expert + Send, R: Threads + Wait + Sync>(
     rt: &R,
     alloc: &Global,
-    threads: &u32,
+    processors: &u32,
     gate: &Gate,
     seats: &mut [Seat<X>],
 )
@@ -44,7 +44,7 @@ fn run_seats<X: Expert + Send, R: Threads + Wait + Sync>(
         return;
     }
     if seats.len() == 1 {
-        run_seat(rt, *alloc, *threads, gate, &mut seats[0]);
+        run_seat(rt, *alloc, *processors, gate, &mut seats[0]);
         return;
     }
     let (front, back) = seats.split_at_mut(seats.len() / 2);
@@ -53,26 +53,26 @@ fn run_seats<X: Expert + Send, R: Threads + Wait + Sync>(
         &mut ||
             requires { IsSync R.row × All (IsSeatOf X.width gate.now) front.now }
             ensures { EachSeat (HasRun X.width X.memory X.answers X.learns gate.entry.now.base) front.entry.now front.exit.now }
-        { run_seats(rt, alloc, threads, gate, front) },
+        { run_seats(rt, alloc, processors, gate, front) },
         &mut ||
             requires { IsSync R.row × All (IsSeatOf X.width gate.now) back.now }
             ensures { EachSeat (HasRun X.width X.memory X.answers X.learns gate.entry.now.base) back.entry.now back.exit.now }
-        { run_seats(rt, alloc, threads, gate, back) },
+        { run_seats(rt, alloc, processors, gate, back) },
     );
 }
 
-/// One seat is run, whose turns may use so many threads.
+/// One seat is run, whose turns may use so many processors.
 fn run_seat<X: Expert + Send, R: Threads + Wait + Sync>(
     rt: &R,
     alloc: Global,
-    threads: u32,
+    processors: u32,
     gate: &Gate,
     seat: &mut Seat<X>,
 )
     requires { IsSeatOf X.width gate.now seat.old }
     ensures { HasRun X.width X.memory X.answers X.learns gate.now.base seat.old seat.new }
 {
-    let search = SideBySide { rt, threads };
+    let search = SideBySide { rt, processors };
     let end = attend(rt, alloc, &search, gate, &mut seat.pass, &mut seat.expert);
     seat.ended = Some(end);
 }

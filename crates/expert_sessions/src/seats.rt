@@ -25,13 +25,13 @@ pub struct Seat<E> {
     pub(crate) ended: Ended,
 }
 
-/// What all sessions are held to: the table that they speak of, how many lines each may have, and how many threads a turn
-/// may use, since all others wait for it.
+/// What all sessions are held to: the table that they speak of, how many lines each may have, and how many processors a
+/// turn may use, since all others wait for it.
 #[derive(Drop)]
 pub(crate) struct Terms {
     pub(crate) table: Table,
     pub(crate) lines: u32,
-    pub(crate) threads: u32,
+    pub(crate) processors: u32,
     pub(crate) ghost some: { 1 ≤ lines },
     pub(crate) ghost few: { lines ≤ 1000000 },
 }
@@ -124,7 +124,7 @@ fn serve_one<R: Threads + Wait + Sync, E: Duplex>(
     let expert = pass.number();
     let search = SideBySide {
         rt,
-        threads: terms.threads,
+        processors: terms.processors,
     };
     let mut desk = Seated {
         rt,

@@ -136,11 +136,11 @@ fn prepared<E: Drop>(
 {
     let room = make_room(alloc, usize::from(explore.experts()))?;
     let table = explore.table().copy()?;
-    let threads = u32::from(explore.experts());
+    let processors = u32::from(explore.experts());
     let terms = Terms {
         table,
         lines,
-        threads,
+        processors,
     };
     Ok((terms, room))
 }

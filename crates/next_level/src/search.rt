@@ -21,7 +21,7 @@ use lectic_basis::NarrowList;
 use std::alloc::Global;
 use std::thread::Threads;
 
-/// How many branches are walked through for each thread, so that all threads have enough to do, and how many at most: each has a list of its own.
+/// How many branches are walked through for each processor, so that all have enough to do, and how many at most, as each has a list of its own.
 const BRANCHES: u32 = 4;
 
 const MOST: u32 = 16;
@@ -61,11 +61,11 @@ impl LevelSearch for OneThread {
     }
 }
 
-/// By several threads, where there is enough to do for more than one: each of the first branches is walked through in a thread of its own, some for each.
+/// By so many branches that as many processors have work, each in a thread of its own, where there is enough to do; for one processor by the thread that asks.
 #[derive(Drop)]
 pub struct SideBySide<'a, R> {
     pub rt: &'a R,
-    pub threads: u32,
+    pub processors: u32,
 }
 
 impl<'a, R: Threads> LevelSearch for SideBySide<'a, R> {
@@ -132,9 +132,9 @@ impl<'a, R: Threads, const W: usize> Walker<W> for SideBySide<'a, R> {
             bound,
             visits,
         };
-        if self.threads > 1 && walk.pays() {
+        if self.processors > 1 && walk.pays() {
             let most = sheet.rows().width().min(MOST);
-            let branches = self.threads.saturating_mul(BRANCHES).min(most);
+            let branches = self.processors.saturating_mul(BRANCHES).min(most);
             return walk.open_parts(self.rt, &alloc, branches, branches + 1);
         }
         walk.open_behind(alloc, 0)
