@@ -16,7 +16,7 @@ use lectic_basis::{NarrowList, WatchedList, close};
 use std::alloc::Global;
 use std::thread::{Threads, join_mut};
 
-/// From how many implications on several threads walk through the branches.
+/// From how many implications on several threads walk through the branches, and among how many sets, where all open ones are known to be among some.
 const MANY: usize = 1024;
 
 /// Without implications, from which size and number of attributes on.
@@ -125,7 +125,8 @@ impl<'a, const W: usize> Walk<'a, W> {
         let count = self.list.as_slice().len();
         let many = count >= MANY;
         let large = count == 0 && self.bound >= LARGE && width >= WIDE;
-        !self.among.whole && (many || large)
+        let few = self.among.whole && self.among.sets.len() < MANY;
+        !few && (many || large)
     }
 
     /// No open sets yet.
