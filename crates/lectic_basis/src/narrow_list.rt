@@ -1,7 +1,8 @@
 //! Lists of implications in as few words as the table needs.
 
-ghost use Rattle.std.specs.Prelude.{◌≡◌, ◌≤◌, ◌*◌, ◌++◌, ◌∷◌, [], length, OnOk, OnErr, IfOk};
+ghost use Rattle.std.specs.Prelude.{◌≡◌, ◌≤◌, ◌*◌, ◌++◌, ◌∷◌, [], filter, length, OnOk, OnErr, IfOk};
 ghost use Rattle.implication_closure.specs.Closing.{HaveWidth};
+ghost use Rattle.lectic_basis.specs.Concerns.{concerns, concerning};
 
 use attr_bits::{Attrs, Bits, WORDS};
 use fca_model::{Implication, MAX_ATTRIBUTES, Memory};
@@ -54,6 +55,17 @@ impl<const W: usize> NarrowList<W> {
         })
     }
 
+    /// Those that concern the sets which agree with x before attribute `from`.
+    pub fn concerning(&self, alloc: Global, x: &Bits<W>, from: u32) -> Result<NarrowList<W>, Memory>
+        ensures { IfOk result (λ list. list ≡ concerning from x.now self.now) }
+    {
+        let members = those_concerning(alloc, &self.members, from, x)?;
+        Ok(NarrowList {
+            members,
+            width: self.width,
+        })
+    }
+
     /// Puts the implication last.
     pub(crate) fn push(&mut self, i: Implication<Bits<W>>) -> Result<(), Memory>
         requires premise { length i.premise ≡ self.old.width }
@@ -92,6 +104,39 @@ impl<const W: usize> NarrowList<W> {
             list.push(in_words(member))?;
         }
         Ok(list)
+    }
+}
+
+/// Those whose premise has no attribute before `from` that x lacks.
+fn those_concerning<const W: usize>(
+    alloc: Global,
+    rules: &[Implication<Bits<W>>],
+    from: u32,
+    x: &Bits<W>,
+) -> Result<Vec<Implication<Bits<W>>>, Memory>
+    requires words { W ≤ 1024 }
+    ensures { IfOk result (λ kept. kept.items ≡ filter (concerns from x.now) rules.now) }
+{
+    Ok(
+        rules
+            .iter()
+            .copied()
+            .filter(
+                |rule: &Implication<Bits<W>>| -> bool
+                    ensures { result ≡ concerns from x.entry.now rule.now }
+                { concerns(from, x, rule) },
+            )
+            .collect(alloc)?,
+    )
+}
+
+/// Whether the premise has no attribute before `from` that x lacks.
+fn concerns<const W: usize>(from: u32, x: &Bits<W>, i: &Implication<Bits<W>>) -> bool
+    ensures { result ≡ concerns from x.now i.now }
+{
+    match i.premise.first_missing(x) {
+        Some(w) => from <= w,
+        None => true,
     }
 }
 

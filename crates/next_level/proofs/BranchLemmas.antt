@@ -19,10 +19,10 @@ use Rattle.lectic_basis.proofs.PlaceLemmas.{agree_less, agree_more, agree_same, 
 use Rattle.lectic_basis.proofs.ListingLemmas.{no_more, only}
 use Rattle.lectic_basis.proofs.WaitLemmas.{push_filed, push_covers}
 use Rattle.next_level.specs.NextLevel.{IsOpen, everything, open_where}
-use Rattle.next_level.specs.Among.{AllAmong, AreAmong}
-use Rattle.next_level.specs.Branches.{IsRoot, in_branch, in_part, in_parts}
+use Rattle.next_level.specs.Among.{AreAmong}
+use Rattle.next_level.specs.Branches.{IsRoot, AreOpen, in_branch, in_part, in_parts}
 use Rattle.next_level.specs.LevelWalks.{IsInside, IsEntered, IsTrying}
-use Rattle.next_level.proofs.LevelWalkLemmas.{root_inside, inside_entered, among_start}
+use Rattle.next_level.proofs.LevelWalkLemmas.{root_inside, inside_entered}
 use Rattle.next_level.proofs.NextLevelLemmas.{same_where, nothing_open, none_listed, other_where, open_append, open_lower, closure_has}
 
 -- ---- the sets of a branch
@@ -68,16 +68,9 @@ module _ {K : Context} {L : RuleList} {A : Set} {b : ℕ} (root : IsRoot K L A b
         (subst (λ (M : RuleList). IsFiled M.width M.members F.buckets) (sym list) filed)
         (subst (λ (M : RuleList). IsGood M.members F.buckets A) (sym list) good)
 
-    pub root_entered : (from : ℕ) → from ≤ K.width → (c : ℕ) (Ls : List Rule) → Ls ≡ [] → IsEntered K A from F c Ls
-    root_entered from le = inside_entered (root_at from le) (λ X x. (root_at 0 (omega arith)).least X x.wide x.respecting refl)
-
-  -- of the same list
-  pub same_among : (M : RuleList) → M ≡ L → (from : ℕ) (whole : Bool) (sets : List Set) → AllAmong L.members K whole sets → AreAmong M.members K A from whole sets
-  same_among M same_list from whole sets all = subst (λ (N : RuleList). AreAmong N.members K A from whole sets) (sym same_list) (among_start L.members K A from whole sets all)
-
--- of the same list
-pub same_listing : (K : Context) (b : ℕ) (p : Set → Bool) (Ls : List Rule) (M L : RuleList) → M ≡ L → Ls ≡ open_where M.members K b p → Ls ≡ open_where L.members K b p
-same_listing K b p Ls M L same_list = subst (λ (N : RuleList). Ls ≡ open_where N.members K b p) same_list
+-- the walk of what agrees with the least set before an attribute
+pub root_entered : {K : Context} {A : Set} {from : ℕ} {F : Watched} → IsInside K A from F → IsInside K A 0 F → (c : ℕ) (Ls : List Rule) → Ls ≡ [] → IsEntered K A from F c Ls
+root_entered at root = inside_entered at (λ X x. root.least X x.wide x.respecting refl)
 
 -- ---- below the least set
 
@@ -241,20 +234,6 @@ module _ (J : List Rule) (K : Context) (A : Set) (i : ℕ) (inside : i < length 
             absurd (false≢true (sym (ap is_lt (lectic_flip X Z back)) ∙ less))
         | inr there ↦ there
       ]
-      -- ---- the parts
-
-module _ (J : List Rule) (K : Context) (A : Set) (n : ℕ) (inside : n ≤ length A) where
-  pub parts_none : (b : ℕ) (L : List Rule) → L ≡ [] → L ≡ open_where J K b (in_parts n 0 A)
-  parts_none b L = nothing_open J K b (in_parts n 0 A) L (λ X x s. refl)
-
-  pub parts_more : (k : ℕ) → k ≤ n → (b : ℕ) (L M : List Rule) → L ≡ open_where J K b (in_parts n k A) → M ≡ open_where J K b (in_part n k A) → L ++ M ≡ open_where J K b (in_parts n (suc k) A)
-  parts_more zero le b L M l m =
-      let whole : n - 0 ≡ n = omega arith in
-      subst (λ k. L ++ M ≡ open_where J K b (up_to k A)) (sym whole) (ap (λ Zs. Zs ++ M) (none_listed J K b L l) ∙ m)
-  parts_more (suc k) le b L M l m =
-      let i : ℕ = n - suc k in
-      let next : n - k ≡ suc i = omega (arith, le) in
-      branch_append J K A i (omega (arith, le, inside)) b L M (subst (λ m. L ≡ open_where J K b (up_to m A)) next l) m
 
 -- ---- where bounds differ
 
@@ -270,17 +249,52 @@ module _ (J : List Rule) (K : Context) (p q : Set → Bool) (a b c : ℕ) (L M N
   at_b : c ≤ b
   at_b = omega (arith, least)
 
-  pub lower_first : filter (λ i. leb (size i.premise) c) L ≡ open_where J K c p
+  lower_first : filter (λ i. leb (size i.premise) c) L ≡ open_where J K c p
   lower_first = open_lower J K a c p L at_a l
 
-  pub lower_second : filter (λ i. leb (size i.premise) c) M ≡ open_where J K c q
+  lower_second : filter (λ i. leb (size i.premise) c) M ≡ open_where J K c q
   lower_second = open_lower J K b c q M at_b m
 
   -- while nothing is listed the bound stays
-  pub lower_steady : (d : ℕ) → (L ≡ [] → a ≡ d) → (M ≡ [] → b ≡ d) → N ≡ [] → c ≡ d
+  lower_steady : (d : ℕ) → (L ≡ [] → a ≡ d) → (M ≡ [] → b ≡ d) → N ≡ [] → c ≡ d
   lower_steady d s t none =
       let both = no_parts (filter (λ i. leb (size i.premise) c) L) (filter (λ i. leb (size i.premise) c) M) (sym parts ∙ none) in
       elim (cases_lt a b) [
         | inl lt ↦ let same_bound : c ≡ a = omega (arith, least, lt) in same_bound ∙ s (l ∙ subst (λ k. open_where J K k p ≡ filter (λ i. leb (size i.premise) c) L) same_bound (sym lower_first) ∙ both.0)
         | inr ge ↦ let same_bound : c ≡ b = omega (arith, least, ge) in same_bound ∙ t (m ∙ subst (λ k. open_where J K k q ≡ filter (λ i. leb (size i.premise) c) M) same_bound (sym lower_second) ∙ both.1)
       ]
+
+-- ---- the parts
+
+module _ (J : List Rule) (K : Context) (A : Set) (n : ℕ) (inside : n ≤ length A) where
+  pub parts_start : (d b : ℕ) (L : List Rule) → b ≡ d → L ≡ [] → AreOpen J K (in_parts n 0 A) d b L
+  parts_start d b L same_bound none = record {
+    listed = nothing_open J K b (in_parts n 0 A) L (λ X x s. refl) none;
+    steady = λ e. same_bound;
+  }
+
+  one_more : (k : ℕ) → k ≤ n → (b : ℕ) (L M : List Rule) → L ≡ open_where J K b (in_parts n k A) → M ≡ open_where J K b (in_part n k A) → L ++ M ≡ open_where J K b (in_parts n (suc k) A)
+  one_more zero le b L M l m =
+      let whole : n - 0 ≡ n = omega arith in
+      subst (λ k. L ++ M ≡ open_where J K b (up_to k A)) (sym whole) (ap (λ Zs. Zs ++ M) (none_listed J K b L l) ∙ m)
+  one_more (suc k) le b L M l m =
+      let i : ℕ = n - suc k in
+      let next : n - k ≡ suc i = omega (arith, le) in
+      branch_append J K A i (omega (arith, le, inside)) b L M (subst (λ m. L ≡ open_where J K b (up_to m A)) next l) m
+
+  -- the parts before, and the next one, up to the lower of both bounds
+  pub parts_more : (k : ℕ) → k ≤ n → (d : ℕ) {a b : ℕ} {L M : List Rule} → AreOpen J K (in_parts n k A) d a L → AreOpen J K (in_part n k A) d b M
+      → (c : ℕ) (N : List Rule) → c ≡ min a b → N ≡ filter (λ i. leb (size i.premise) c) L ++ filter (λ i. leb (size i.premise) c) M → AreOpen J K (in_parts n (suc k) A) d c N
+  parts_more k le d {a = a} {b = b} {L = L} {M = M} l m c N least parts = record {
+    listed = parts ∙ one_more k le c _ _
+        (lower_first J K (in_parts n k A) (in_part n k A) a b c L M N l.listed m.listed least parts)
+        (lower_second J K (in_parts n k A) (in_part n k A) a b c L M N l.listed m.listed least parts);
+    steady = lower_steady J K (in_parts n k A) (in_part n k A) a b c L M N l.listed m.listed least parts d l.steady m.steady;
+  }
+
+  -- all parts have all sets
+  pub all_parts : (b : ℕ) (L : List Rule) → L ≡ open_where J K b (in_parts n (n + 1) A) → L ≡ open_where J K b everything
+  all_parts b L = same_where J K b (in_parts n (n + 1) A) everything L (λ X e r c s.
+      let next : suc n ≡ n + 1 = omega arith in
+      let none : 0 ≡ n - n = omega arith in
+      subst (λ k. in_parts n k A X ≡ true) next (subst (λ k. up_to k A X ≡ true) none refl))

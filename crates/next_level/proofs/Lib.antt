@@ -2,3 +2,4 @@ pub mod NextLevelLemmas
 pub mod LevelWalkLemmas
 pub mod SizeLemmas
 pub mod BranchLemmas
+pub mod ConcernLemmas

@@ -6,12 +6,14 @@
 --
 -- Of the sets over a, b, c, where {} is the least, {} and {c} agree with it before attribute 2, the branch of attribute 1 has {b} and {b, c}, and that of attribute
 -- 0 has the four sets with a.
-use Rattle.std.specs.Prelude.{◌≡◌, ℕ, zero, suc, ◌-◌, ◌≤◌, ◌&&◌, Bool, not, false, true, replicate, slice_index_or, slice_set}
+use Rattle.std.specs.Prelude.{◌≡◌, ℕ, zero, suc, ◌-◌, ◌≤◌, ◌&&◌, Bool, not, false, true, List, [], replicate, slice_index_or, slice_set}
 use Rattle.fca_model.specs.Sets.{Set, size}
 use Rattle.fca_model.specs.Context.{Context}
+use Rattle.fca_model.specs.Implications.{Rule}
 use Rattle.implication_closure.specs.Closing.{RuleList, IsClosure}
 use Rattle.lectic_concepts.specs.Branches.{agree_before}
 use Rattle.lectic_basis.specs.Trees.{up_to}
+use Rattle.next_level.specs.NextLevel.{open_where}
 
 -- A is the least set that respects the list, and no larger than the bound
 pub record IsRoot (K : Context) (L : RuleList) (A : Set) (b : ℕ) : Type 0 where
@@ -32,3 +34,8 @@ in_part n (suc k) A = in_branch (n - suc k) A
 abbrev pub in_parts : ℕ → ℕ → Set → Set → Bool
 in_parts n zero A X = false
 in_parts n (suc k) A X = up_to (n - k) A X
+
+-- the members are the open sets up to bound c that pass the test; while there is none, the bound is b as at the start
+pub record AreOpen (J : List Rule) (K : Context) (p : Set → Bool) (b c : ℕ) (members : List Rule) : Type 0 where
+  pub listed : members ≡ open_where J K c p
+  pub steady : members ≡ [] → c ≡ b

@@ -1,9 +1,11 @@
 //! The branches of a walk, each walked through alone, so that several threads may do it side by side.
 
-ghost use Rattle.std.specs.Prelude.{◌≡◌, ◌≤◌, ◌<◌, ◌+◌, ◌-◌, [], IfOk};
+ghost use Rattle.std.specs.Prelude.{◌≡◌, ◌≤◌, ◌<◌, ◌+◌, ◌-◌, ℕ, [], IfOk};
 ghost use Rattle.next_level.specs.NextLevel.{open_where, everything};
 ghost use Rattle.next_level.specs.Among.{AllAmong};
-ghost use Rattle.next_level.specs.Branches.{IsRoot, in_branch, in_part, in_parts};
+ghost use Rattle.next_level.specs.Branches.{IsRoot, AreOpen, in_branch, in_part, in_parts};
+ghost use Rattle.next_level.specs.LevelWalks.{IsInside};
+ghost use Rattle.lectic_basis.specs.Concerns.{concerning};
 ghost use Rattle.lectic_basis.specs.Trees.{up_to};
 
 use crate::among::Among;
@@ -65,12 +67,23 @@ impl<'a, const W: usize> Walk<'a, W> {
         ensures steady { IfOk result (λ sets. sets.members.items ≡ [] → sets.bound ≡ self.now.bound) }
     {
         let _width = self.list.width();
-        let mut found = WatchedList::of_narrow(alloc, self.list, self.least)?;
+        let mut found = self.concerned(alloc, from)?;
         let mut seen = self.nothing(alloc);
         enter_all(
             alloc, self.sheet, &mut found, &mut seen, self.least, from, self.among,
         )?;
         Ok(seen)
+    }
+
+    /// What concerns the sets that agree with the least one before attribute `from`, and waits for what that lacks.
+    fn concerned(&self, alloc: Global, from: u32) -> Result<WatchedList<W>, Memory>
+        ensures list { IfOk result (λ found. found.list ≡ concerning from self.now.least.now self.now.list.now) }
+        ensures inside { IfOk result (λ found. (k : ℕ) → k ≤ self.now.sheet.now.width → IsInside self.now.sheet.now self.now.least.now k found) }
+    {
+        let _width = self.list.width();
+        let list = self.list.concerning(alloc, self.least, from)?;
+        let found = WatchedList::of_narrow(alloc, &list, self.least)?;
+        Ok(found)
     }
 
     /// The open sets of the branch of attribute i. That they contain the least of them is put to the list, so that
@@ -89,7 +102,7 @@ impl<'a, const W: usize> Walk<'a, W> {
         if self.among.passes(self.least, i) {
             return Ok(seen);
         }
-        let mut found = WatchedList::of_narrow(alloc, self.list, self.least)?;
+        let mut found = self.concerned(alloc, i)?;
         let mut reached = self.least.with(i);
         if !close(&mut found, self.least, &mut reached, i)? {
             return Ok(seen);
@@ -145,9 +158,8 @@ impl<'a, const W: usize> Walk<'a, W> {
     fn open_in_part(&self, alloc: Global, count: u32, k: u32) -> Result<OpenSets<W>, Memory>
         requires inside { count ≤ self.now.sheet.now.width }
         requires part { k ≤ count }
-        ensures listed { IfOk result (λ sets. sets.members.items
-            ≡ open_where self.now.list.now.members self.now.sheet.now sets.bound (in_part count k self.now.least.now)) }
-        ensures steady { IfOk result (λ sets. sets.members.items ≡ [] → sets.bound ≡ self.now.bound) }
+        ensures { IfOk result (λ sets. AreOpen self.now.list.now.members self.now.sheet.now (in_part count k self.now.least.now)
+            self.now.bound sets.bound sets.members.items) }
     {
         if k == 0 {
             return self.open_behind(alloc, count);
@@ -166,9 +178,8 @@ impl<'a, const W: usize> Walk<'a, W> {
     ) -> Result<OpenSets<W>, Memory>
         requires inside { count ≤ self.now.sheet.now.width }
         requires parts { k ≤ count + 1 }
-        ensures listed { IfOk result (λ sets. sets.members.items
-            ≡ open_where self.now.list.now.members self.now.sheet.now sets.bound (in_parts count k self.now.least.now)) }
-        ensures steady { IfOk result (λ sets. sets.members.items ≡ [] → sets.bound ≡ self.now.bound) }
+        ensures { IfOk result (λ sets. AreOpen self.now.list.now.members self.now.sheet.now (in_parts count k self.now.least.now)
+            self.now.bound sets.bound sets.members.items) }
     {
         let _width = self.list.width();
         if k == 0 {
@@ -180,17 +191,15 @@ impl<'a, const W: usize> Walk<'a, W> {
             rt,
             &mut ||
                 requires { (0 < k) × (k ≤ count + 1) × (count ≤ self.now.sheet.now.width) }
-                ensures listed { IfOk last.exit.now (λ sets. sets.members.items
-                    ≡ open_where self.entry.now.list.now.members self.entry.now.sheet.now sets.bound (in_part count (k - 1) self.entry.now.least.now)) }
-                ensures steady { IfOk last.exit.now (λ sets. sets.members.items ≡ [] → sets.bound ≡ self.entry.now.bound) }
+                ensures { IfOk last.exit.now (λ sets. AreOpen self.entry.now.list.now.members self.entry.now.sheet.now
+                    (in_part count (k - 1) self.entry.now.least.now) self.entry.now.bound sets.bound sets.members.items) }
             {
                 *last = self.open_in_part(*alloc, count, k - 1);
             },
             &mut ||
                 requires { (0 < k) × (k ≤ count + 1) × (count ≤ self.now.sheet.now.width) }
-                ensures listed { IfOk others.exit.now (λ sets. sets.members.items
-                    ≡ open_where self.entry.now.list.now.members self.entry.now.sheet.now sets.bound (in_parts count (k - 1) self.entry.now.least.now)) }
-                ensures steady { IfOk others.exit.now (λ sets. sets.members.items ≡ [] → sets.bound ≡ self.entry.now.bound) }
+                ensures { IfOk others.exit.now (λ sets. AreOpen self.entry.now.list.now.members self.entry.now.sheet.now
+                    (in_parts count (k - 1) self.entry.now.least.now) self.entry.now.bound sets.bound sets.members.items) }
             {
                 *others = self.open_parts(rt, alloc, count, k - 1);
             },

@@ -22,7 +22,7 @@ use std::alloc::Global;
 use std::thread::Threads;
 
 /// How many branches are walked through for each processor, so that all have enough to do, and how many at most, as each has a list of its own.
-const BRANCHES: u32 = 4;
+const BRANCHES: u32 = 2;
 
 const MOST: u32 = 16;
 
@@ -80,6 +80,18 @@ impl<'a, R: Threads> LevelSearch for SideBySide<'a, R> {
     }
 }
 
+impl<'a, R: Threads> SideBySide<'a, R> {
+    /// How many branches are walked through, of so many attributes.
+    fn branches(&self, width: u32) -> u32
+        ensures { result ≤ width }
+    {
+        self.processors
+            .saturating_mul(BRANCHES)
+            .min(MOST)
+            .min(width)
+    }
+}
+
 impl<const W: usize> Walker<W> for OneThread {
     fn walk(
         &self,
@@ -133,9 +145,9 @@ impl<'a, R: Threads, const W: usize> Walker<W> for SideBySide<'a, R> {
             visits,
         };
         if self.processors > 1 && walk.pays() {
-            let most = sheet.rows().width().min(MOST);
-            let branches = self.processors.saturating_mul(BRANCHES).min(most);
-            return walk.open_parts(self.rt, &alloc, branches, branches + 1);
+            let branches = self.branches(sheet.rows().width());
+            let all = walk.open_parts(self.rt, &alloc, branches, branches + 1)?;
+            return Ok(all);
         }
         walk.open_behind(alloc, 0)
     }

@@ -1,13 +1,24 @@
-use Rattle.std.proofs.Common.{arith}
-use Rattle.next_level.proofs.BranchLemmas.{root_entered, same_among}
+use Rattle.std.proofs.Common.{◌∙◌, arith}
+use Rattle.lectic_basis.specs.Trees.{up_to}
+use Rattle.lectic_basis.proofs.PlaceLemmas.{up_to_agree, within_not_before}
+use Rattle.next_level.proofs.BranchLemmas.{root_entered}
+use Rattle.next_level.proofs.ConcernLemmas.{concerning_listed, concerning_among}
 use Rattle.next_level.proofs.branches.Walk.open_behind.Goals as goal
 
 pub enter_all-requires : goal.enter_all-requires
 enter_all-requires g c =
     let self = c.args.self.now in
     let seen = c.nothing-seen.result in
-    let list = c.in_ok-found.ensures.list in
-    let entered = root_entered self.root list c.in_ok-found.ensures.filed c.in_ok-found.ensures.good c.args.from c.requires.inside seen.bound seen.members.items c.nothing-seen.ensures.members in
+    let found = c.in_ok-found.ensures in
+    let entered = root_entered (found.inside c.args.from c.requires.inside) (found.inside 0 (omega arith)) seen.bound seen.members.items c.nothing-seen.ensures.members in
     let small = self.root.small in
-    let among = same_among self.root c.in_ok-found.found.list list c.args.from self.among.now.whole self.among.now.sets.items self.all_among in
+    let among = concerning_among self.root c.args.from c.in_ok-found.found.list found.list self.among.now.whole self.among.now.sets.items self.all_among in
     (omega arith, (omega arith, (omega arith, (omega (arith, c.width-width.ensures.words), (omega arith, (entered, (omega (arith, small, c.nothing-seen.ensures.bound), among)))))))
+
+pub returns-clause-listed : goal.returns-clause-listed
+returns-clause-listed g c =
+    let self = c.args.self.now in
+    let level = c.in_ok-enter_all.ensures.level in
+    concerning_listed self.root c.args.from (up_to c.args.from self.least.now)
+    (λ X up p. up_to_agree c.args.from self.least.now X p (within_not_before c.args.from self.least.now X up))
+    c.enter_all.new.found.list (level.list ∙ c.in_ok-found.ensures.list) c.enter_all.new.level.bound c.enter_all.new.level.members.items level.level

@@ -1,7 +1,9 @@
 use Rattle.std.proofs.Common.{◌∙◌, refl, sym, subst, arith}
 use Rattle.implication_closure.specs.Closing.{IsClosure}
 use Rattle.next_level.proofs.LevelWalkLemmas.{among_start, none_among, left_can_close, left_above, left_entered}
-use Rattle.next_level.proofs.BranchLemmas.{root_at, root_wide, same_among, same_listing, branch_taken, branch_none, branch_trying, branch_differs, branch_larger, branch_entered, branch_among, branch_done}
+use Rattle.next_level.proofs.BranchLemmas.{root_wide, branch_parts, branch_taken, branch_none, branch_trying, branch_differs, branch_larger, branch_entered, branch_among, branch_done}
+use Rattle.next_level.specs.Branches.{in_branch}
+use Rattle.next_level.proofs.ConcernLemmas.{concerning_listed, concerning_among}
 use Rattle.next_level.proofs.branches.Walk.open_in_branch.Goals as goal
 
 pub returns-then-has-clause-listed : goal.returns-then-has-clause-listed
@@ -25,27 +27,31 @@ returns-then-passes-clause-listed g c =
 pub close-requires : goal.close-requires
 close-requires g c =
     let found = c.in_ok-found.ensures in
-    let root = root_at c.args.self.now.root found.list found.filed found.good 0 (omega arith) in
+    let root = found.inside 0 (omega arith) in
     let lacks = sym c.has.ensures ∙ c.if-has.false in
     (omega arith, (omega (arith, c.width-width.ensures.words), left_can_close (branch_trying root c.args.i c.requires.inside lacks 0) lacks c.with-reached.ensures))
 
 pub returns-then-not-branch-clause-listed : goal.returns-then-not-branch-clause-listed
 returns-then-not-branch-clause-listed g c =
     let found = c.in_ok-found.ensures in
-    let root = root_at c.args.self.now.root found.list found.filed found.good 0 (omega arith) in
+    let root = found.inside 0 (omega arith) in
     let lacks = sym c.has.ensures ∙ c.if-has.false in
-    same_listing _ _ _ _ c.in_ok-found.found.list c.args.self.now.list.now found.list
+    concerning_listed c.args.self.now.root c.args.i (in_branch c.args.i c.args.self.now.least.now)
+    (λ X up p. (branch_parts c.args.self.now.least.now c.args.i (omega (arith, root_wide c.args.self.now.root, c.requires.inside)) X p).1)
+    c.in_ok-found.found.list found.list _ _
     (branch_differs root c.args.i c.requires.inside lacks c.nothing-seen.result.bound c.with-reached.result c.nothing-seen.result.members.items c.with-reached.ensures
     (c.in_ok-close.ensures.differs c.if-not-branch.true) c.nothing-seen.ensures.members)
 
 pub returns-then-size-self-clause-listed : goal.returns-then-size-self-clause-listed
 returns-then-size-self-clause-listed g c =
     let found = c.in_ok-found.ensures in
-    let root = root_at c.args.self.now.root found.list found.filed found.good 0 (omega arith) in
+    let root = found.inside 0 (omega arith) in
     let lacks = sym c.has.ensures ∙ c.if-has.false in
     let closed = c.in_ok-close.ensures.closure c.if-not-branch.false in
     let closure = subst (λ X. IsClosure c.in_ok-found.found.list.members X c.close.new.closed) c.with-reached.ensures closed.closure in
-    same_listing _ _ _ _ c.in_ok-found.found.list c.args.self.now.list.now found.list
+    concerning_listed c.args.self.now.root c.args.i (in_branch c.args.i c.args.self.now.least.now)
+    (λ X up p. (branch_parts c.args.self.now.least.now c.args.i (omega (arith, root_wide c.args.self.now.root, c.requires.inside)) X p).1)
+    c.in_ok-found.found.list found.list _ _
     (branch_larger root c.args.i c.requires.inside lacks c.close.new.closed closure c.nothing-seen.result.bound c.nothing-seen.result.members.items
     (omega (arith, c.size.ensures.size, c.if-size-self.true, c.nothing-seen.ensures.bound)) c.nothing-seen.ensures.members)
 
@@ -53,19 +59,19 @@ pub child_among-requires : goal.child_among-requires
 child_among-requires g c =
     let self = c.args.self.now in
     let found = c.in_ok-found.ensures in
-    let root = root_at self.root found.list found.filed found.good 0 (omega arith) in
+    let root = found.inside 0 (omega arith) in
     let lacks = sym c.has.ensures ∙ c.if-has.false in
     let closed = c.in_ok-close.ensures.closure c.if-not-branch.false in
     let trying = branch_trying root c.args.i c.requires.inside lacks 0 in
     let moved = c.in_ok-close.ensures.moved in
-    let among = same_among self.root c.close.new.found.list (moved.list ∙ found.list) c.args.i self.among.now.whole self.among.now.sets.items self.all_among in
+    let among = concerning_among self.root c.args.i c.close.new.found.list (moved.list ∙ found.list) self.among.now.whole self.among.now.sets.items self.all_among in
     (omega arith, (omega arith, (omega (arith, c.width-width.ensures.words), (omega arith, (c.requires.inside, (root_wide self.root, (among, (lacks, (left_above trying lacks c.with-reached.ensures moved closed, closed.agree)))))))))
 
 pub enter_all-requires : goal.enter_all-requires
 enter_all-requires g c =
     let self = c.args.self.now in
     let found = c.in_ok-found.ensures in
-    let root = root_at self.root found.list found.filed found.good 0 (omega arith) in
+    let root = found.inside 0 (omega arith) in
     let lacks = sym c.has.ensures ∙ c.if-has.false in
     let closed = c.in_ok-close.ensures.closure c.if-not-branch.false in
     let closure = subst (λ X. IsClosure c.in_ok-found.found.list.members X c.close.new.closed) c.with-reached.ensures closed.closure in
@@ -81,7 +87,7 @@ enter_all-requires g c =
 pub returns-clause-listed : goal.returns-clause-listed
 returns-clause-listed g c =
     let found = c.in_ok-found.ensures in
-    let root = root_at c.args.self.now.root found.list found.filed found.good 0 (omega arith) in
+    let root = found.inside 0 (omega arith) in
     let lacks = sym c.has.ensures ∙ c.if-has.false in
     let closed = c.in_ok-close.ensures.closure c.if-not-branch.false in
     let closure = subst (λ X. IsClosure c.in_ok-found.found.list.members X c.close.new.closed) c.with-reached.ensures closed.closure in
@@ -89,6 +95,8 @@ returns-clause-listed g c =
     let at = (left_entered (branch_trying root c.args.i c.requires.inside lacks 0) lacks c.with-reached.ensures moved closed).at in
     let put = c.in_ok-push_before.ensures in
     let level = c.in_ok-enter_all.ensures.level in
-    same_listing _ _ _ _ c.in_ok-found.found.list c.args.self.now.list.now found.list
+    concerning_listed c.args.self.now.root c.args.i (in_branch c.args.i c.args.self.now.least.now)
+    (λ X up p. (branch_parts c.args.self.now.least.now c.args.i (omega (arith, root_wide c.args.self.now.root, c.requires.inside)) X p).1)
+    c.in_ok-found.found.list found.list _ _
     (branch_done root c.args.i c.requires.inside lacks c.close.new.closed closure closed.agree _ refl refl at moved.list c.push_before.new.self put.list put.put
     c.enter_all.new.level.bound c.enter_all.new.level.members.items c.enter_all.new.found.list level.list level.level)
