@@ -1,4 +1,5 @@
 pub mod AnswerLemmas
+pub mod HoldLemmas
 pub mod RunLemmas
 pub mod TurnLemmas
 pub mod CountLemmas

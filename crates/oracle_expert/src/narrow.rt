@@ -1,18 +1,19 @@
-//! The rows of a table once more, in sets as narrow as the table.
+//! The rows of a table once more, in sets as narrow as the table, with their columns.
 
 ghost use Rattle.std.specs.Prelude.{IfOk};
 ghost use Rattle.oracle_expert.specs.Narrow.{AreRowsOf};
 
-use derivation::{Rows, RowsOf};
+use derivation::Rows;
+use extent_blocks::Sheet;
 use fca_model::Memory;
 use lectic_concepts::{FOUR_WORDS, ONE_WORD};
 use std::alloc::Global;
 
-/// The rows of a table in sets of few words, where these have room for its attributes.
+/// The rows and columns of a table in sets of few words, where these have room for its attributes.
 #[derive(Drop)]
 pub(crate) enum NarrowRows {
-    One(RowsOf<1>),
-    Four(RowsOf<4>),
+    One(Sheet<1>),
+    Four(Sheet<4>),
     /// The attributes are more. None are kept.
     Wide,
 }
@@ -23,10 +24,10 @@ pub(crate) fn narrow_rows(alloc: Global, rows: &Rows) -> Result<NarrowRows, Memo
 {
     let width = rows.width();
     if width <= ONE_WORD {
-        return Ok(NarrowRows::One(rows.resized(alloc)?));
+        return Ok(NarrowRows::One(Sheet::new(alloc, rows.resized(alloc)?)?));
     }
     if width <= FOUR_WORDS {
-        return Ok(NarrowRows::Four(rows.resized(alloc)?));
+        return Ok(NarrowRows::Four(Sheet::new(alloc, rows.resized(alloc)?)?));
     }
     Ok(NarrowRows::Wide)
 }

@@ -1,8 +1,8 @@
 //! Oracles: experts who know a table.
 
-ghost use Rattle.std.specs.Prelude.{◌≡◌, ◌<◌, Some, None, IfOk, IfSome, length, map, position, slice_get};
+ghost use Rattle.std.specs.Prelude.{◌≡◌, ◌<◌, true, Some, None, IfOk, IfSome, length, map, position, slice_get};
 ghost use Rattle.std.specs.List.{zip};
-ghost use Rattle.fca_model.specs.Implications.{rule};
+ghost use Rattle.fca_model.specs.Implications.{rule, holds};
 ghost use Rattle.fca_model.specs.Widths.{IsWide};
 ghost use Rattle.oracle_expert.specs.Answers.{HasWideAnswer};
 ghost use Rattle.oracle_expert.specs.Narrow.{AreRowsOf};
@@ -14,6 +14,7 @@ use attr_bits::{Attrs, Bits};
 use context_table::Table;
 use derivation::RowsOf;
 use explore_state::{Question, Reply};
+use extent_blocks::{Near, Sheet};
 use fca_model::Memory;
 use std::alloc::{AllocError, Global};
 use std::marker::Model;
@@ -85,8 +86,8 @@ impl Expert for Oracle {
 
     ghost learns = { Learns };
 
-    fn answer(&mut self, _alloc: Global, question: &Question) -> Result<Answer, Memory> {
-        let place = counterexample(&self.table, &self.narrow, &self.conflicts, question);
+    fn answer(&mut self, alloc: Global, question: &Question) -> Result<Answer, Memory> {
+        let place = counterexample(alloc, &self.table, &self.narrow, &self.conflicts, question);
         let answer = answer_with(&self.table, place)?;
         self.given = place;
         Ok(answer)
@@ -108,6 +109,7 @@ fn undropped(alloc: Global, rows: &[Attrs]) -> Result<Vec<Option<usize>>, AllocE
 
 /// The place of the first row that refutes the question and was not dropped.
 fn counterexample(
+    alloc: Global,
     table: &Table,
     narrow: &NarrowRows,
     conflicts: &[Option<usize>],
@@ -118,9 +120,49 @@ fn counterexample(
     ensures { result ≡ counterexample table.now conflicts.now question.now }
 {
     match narrow {
-        NarrowRows::One(rows) => counterexample_among(rows, conflicts, question),
-        NarrowRows::Four(rows) => counterexample_among(rows, conflicts, question),
+        NarrowRows::One(sheet) => counterexample_on(alloc, sheet, conflicts, question),
+        NarrowRows::Four(sheet) => counterexample_on(alloc, sheet, conflicts, question),
         NarrowRows::Wide => counterexample_among(table.rows(), conflicts, question),
+    }
+}
+
+/// The same, on a sheet of W words: where the columns tell that no row refutes the question, the rows are not gone through.
+fn counterexample_on<const W: usize>(
+    alloc: Global,
+    sheet: &Sheet<W>,
+    conflicts: &[Option<usize>],
+    question: &Question,
+) -> Option<usize>
+    requires { IsWide sheet.now.width question.now }
+    ensures { result ≡ position (is_counterexample question.now) (zip sheet.now.rows conflicts.now) }
+{
+    let _width = sheet.rows().width();
+    let premise = question.premise.resized();
+    let conclusion = question.conclusion.resized();
+    if is_seen_to_hold(alloc, sheet, &premise, &conclusion) {
+        return None;
+    }
+    first_refuting(sheet.rows().as_slice(), conflicts, &premise, &conclusion)
+}
+
+/// Whether the columns tell that the implication holds. It may hold where they do not: where the premise is empty, or there is no memory to look.
+fn is_seen_to_hold<const W: usize>(
+    alloc: Global,
+    sheet: &Sheet<W>,
+    premise: &Bits<W>,
+    conclusion: &Bits<W>,
+) -> bool
+    requires premise { length premise.now ≡ sheet.now.width }
+    requires conclusion { length conclusion.now ≡ sheet.now.width }
+    ensures { result ≡ true → holds sheet.now (rule premise.now conclusion.now) ≡ true }
+{
+    let _width = sheet.rows().width();
+    let Some(i) = premise.first_missing(&Bits::empty(premise.width())) else {
+        return false;
+    };
+    match Near::of(alloc, sheet, premise) {
+        Ok(near) => conclusion.within(&near.closure_with(sheet, i, premise)),
+        Err(_) => false,
     }
 }
 
