@@ -19,7 +19,8 @@ use Rattle.concept_lines.proofs.NumberingLemmas.{pieces-flat, sum-lengths}
 use Rattle.concept_lines.specs.Pages.{Fills, IsPage}
 use Rattle.concept_lines.specs.declared.page.Page.{Page}
 
-lines_from-append : (t : NamedContext) (n : ℕ) (Xs Ys : List Set) → lines_from t n (Xs ++ Ys) ≡ lines_from t n Xs ++ lines_from t (n + length Xs) Ys
+-- some lines, and those behind them
+pub lines_from-append : (t : NamedContext) (n : ℕ) (Xs Ys : List Set) → lines_from t n (Xs ++ Ys) ≡ lines_from t n Xs ++ lines_from t (n + length Xs) Ys
 lines_from-append t n [] Ys = ap (λ k. lines_from t k Ys) (omega arith)
 lines_from-append t n (X ∷ Xs) Ys =
     let line : Text = concept_line t n (concept_of t.context X) in
@@ -103,15 +104,21 @@ Adds-plain t a b A E plain is made one still long = record {
   lens = long ∙ ap (λ F. a.lens ++ length (line_of t [] A F) ∷ []) is ∙ ap (λ v. a.lens ++ lens_of t v (A ∷ [])) (sym plain);
 }
 
--- the lines of a page, each put behind its number
+-- the lines of a page, each put behind its number, are those of the intents
+pub numbered-page : (t : NamedContext) (keeps : Bool) {W : ℕ} (n : ℕ) (page : Page W) (Xs : List Set) → IsPage t keeps page Xs → numbered_from n (pieces page.lines.text page.lines.lens) ≡ lines_from t n Xs
+numbered-page t keeps n page Xs is = ap₂ (λ T ns. numbered_from n (pieces T ns)) is.text is.lens ∙ ap (numbered_from n) (pieces-flat (body_of t) Xs) ∙ numbered-bodies t n Xs
+
+-- there are as many as intents
+pub length-page : (t : NamedContext) (keeps : Bool) {W : ℕ} (page : Page W) (Xs : List Set) → IsPage t keeps page Xs → length page.lines.lens ≡ length Xs
+length-page t keeps page Xs is = ap length is.lens ∙ length-map Xs (λ X. length (body_of t X))
+
+-- a page added
 pub Adds-page : (t : NamedContext) (keeps : Bool) {W : ℕ} (a b : LinesText) (page : Page W) (Xs : List Set) → a.numbered ≡ true → IsPage t keeps page Xs
     → b.text ≡ a.text ++ numbered_from a.count (pieces page.lines.text page.lines.lens) → b.count ≡ a.count + length page.lines.lens → b.numbered ≡ true → b.lens ≡ a.lens → Adds t a b Xs
 Adds-page t keeps a b page Xs numbered is made counted still same =
-    let fall : pieces page.lines.text page.lines.lens ≡ map (body_of t) Xs = ap₂ pieces is.text is.lens ∙ pieces-flat (body_of t) Xs in
-    let long : length page.lines.lens ≡ length Xs = ap length is.lens ∙ length-map Xs (λ X. length (body_of t X)) in
     record {
-      text = made ∙ ap (λ Bs. a.text ++ numbered_from a.count Bs) fall ∙ ap (λ z. a.text ++ z) (numbered-bodies t a.count Xs) ∙ ap (λ v. a.text ++ shown t v a.count Xs) (sym numbered);
-      count = omega (arith, counted, long);
+      text = made ∙ ap (λ z. a.text ++ z) (numbered-page t keeps a.count page Xs is) ∙ ap (λ v. a.text ++ shown t v a.count Xs) (sym numbered);
+      count = let long = length-page t keeps page Xs is in omega (arith, counted, long);
       numbered = still ∙ sym numbered;
       lens = same ∙ sym (append-nil a.lens) ∙ ap (λ v. a.lens ++ lens_of t v Xs) (sym numbered);
     }

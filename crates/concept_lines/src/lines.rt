@@ -29,6 +29,9 @@ const ROOM: usize = 64 << 20;
 /// How many bytes are left free in front of the lines: those of a first line that counts in six digits, after a word of eight letters and a space.
 const FRONT: usize = 16;
 
+/// The most digits of a number.
+const DIGITS: usize = 20;
+
 /// Lines, and how many they are, behind their numbers or, where those are not known yet, without. They stand in the bytes up to an end, which is grown in
 /// large steps; those with numbers behind room for a first line.
 #[derive(Drop)]
@@ -191,6 +194,25 @@ impl Lines {
         self.end = self.bytes.len();
         self.count = count;
         Ok(())
+    }
+
+    /// How many lines there are, of lines without numbers.
+    pub fn plain_count(&self) -> usize
+        ensures { result ≡ length self.now.lens }
+    {
+        self.lens.len()
+    }
+
+    /// The lines, each behind its number, as a text of its own. The first is that of the place. Room is asked for all of it at once.
+    pub fn numbered_piece(&self, alloc: Global, first: usize) -> Result<Vec<u8>, Memory>
+        requires plain { self.now.numbered ≡ false }
+        requires fits { sum self.now.lens ≡ length self.now.text }
+        ensures { IfOk result (λ piece. piece.items ≡ numbered_from first (pieces self.now.text self.now.lens)) }
+    {
+        let numbers = self.lens.len().saturating_mul(DIGITS);
+        let mut piece = Vec::with_capacity(alloc, self.end.saturating_add(numbers))?;
+        append_pieces(&mut piece, first, &self.bytes[..self.end], &self.lens)?;
+        Ok(piece)
     }
 
     /// The lines, which stand behind their numbers, behind one that says in these words how many they are. It is written last, into the room in front,
