@@ -1,1 +1,2 @@
 pub mod TopLemmas
+pub mod PieceLemmas

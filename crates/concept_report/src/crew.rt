@@ -63,7 +63,7 @@ fn write_side_by_side<R: Threads + Sync, const W: usize>(
 }
 
 /// Pages with no line.
-fn pages_of<const W: usize>(alloc: Global) -> Result<Vec<Page<W>>, Memory>
+pub(crate) fn pages_of<const W: usize>(alloc: Global) -> Result<Vec<Page<W>>, Memory>
     requires { W ≤ 1024 }
     ensures { IfOk result (λ pages. length pages.items ≡ PAGES) }
 {
@@ -127,7 +127,7 @@ fn write_batch<R: Threads + Sync, const W: usize>(
 }
 
 /// Fills each page with the lines of the job at its place.
-fn fill_pages<R: Threads + Sync, const W: usize>(
+pub(crate) fn fill_pages<R: Threads + Sync, const W: usize>(
     rt: &R,
     alloc: Global,
     sheet: &Sheet<'_, W>,
@@ -172,7 +172,7 @@ fn fill_page<const W: usize>(
 }
 
 /// Writes the lines of the branches.
-fn write_tops<const W: usize>(
+pub(crate) fn write_tops<const W: usize>(
     alloc: Global,
     sheet: &Sheet<'_, W>,
     job: &[Top<W>],

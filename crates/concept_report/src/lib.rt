@@ -5,11 +5,13 @@ mod appended;
 mod basis_lines;
 mod cover_lines;
 mod crew;
+mod in_pieces;
 mod jobs;
 mod numerals;
 mod tops;
 
 ghost use Rattle.std.specs.Prelude.{◌≡◌, ◌++◌, true, codes, IfOk};
+ghost use Rattle.std.specs.List.{flat_map};
 ghost use Rattle.fca_model.specs.Pseudo.{basis, covers, intents};
 ghost use Rattle.lectic_concepts.specs.Concepts.{concepts};
 ghost use Rattle.basis_report.specs.Reports.{counted, basis_text, concepts_text, lattice_text};
@@ -21,6 +23,7 @@ use cover_lines::with_covers;
 use crew::write_all;
 use derivation::RowsOf;
 use fca_model::Memory;
+use in_pieces::pieces_in;
 use lattice_covers::covers_of;
 use lectic_basis::TWO_WORDS;
 use lectic_concepts::{FOUR_WORDS, ONE_WORD};
@@ -47,6 +50,29 @@ pub fn table_concepts_text<R: Threads + Sync>(
         return concepts_in(rt, alloc, table, &rows.resized::<4>(alloc)?);
     }
     concepts_in(rt, alloc, table, rows)
+}
+
+/// All concepts of the table, one a line, as [`table_concepts_text`], in pieces that stand one behind the other. Where it pays several threads make them, and
+/// else there is one.
+pub fn table_concepts_pieces<R: Threads + Sync>(
+    rt: &R,
+    alloc: Global,
+    table: &Table,
+) -> Result<Vec<Vec<u8>>, Memory>
+    ensures { IfOk result (λ pieces. flat_map (λ piece. piece.items) pieces.items ≡ concepts_text table.now (concepts table.now.context)) }
+{
+    let rows = table.rows();
+    let width = rows.width();
+    if width <= ONE_WORD {
+        return pieces_in(rt, alloc, table, &rows.resized::<1>(alloc)?);
+    }
+    if width <= TWO_WORDS {
+        return pieces_in(rt, alloc, table, &rows.resized::<2>(alloc)?);
+    }
+    if width <= FOUR_WORDS {
+        return pieces_in(rt, alloc, table, &rows.resized::<4>(alloc)?);
+    }
+    pieces_in(rt, alloc, table, rows)
 }
 
 /// All concepts of the table and then the covers, one a line, as [`table_concepts_text`].

@@ -20,6 +20,9 @@ const ENOUGH: usize = 2_048;
 /// So many branches are many.
 const MANY: usize = 24;
 
+/// So many branches are enough where the lines stay in pieces.
+const MANY_IN_PIECES: usize = 12;
+
 /// So many objects that all pairs of branches share are next to none.
 const NEXT_TO_NONE: usize = 512;
 
@@ -52,20 +55,40 @@ pub(crate) fn root_of<const W: usize>(
     Ok(tops)
 }
 
-/// Whether it pays to write the branches side by side: there are many of them, and two of them share few objects, but not next to none, so that there
-/// are many short lines. What is written is the same either way.
+/// Whether it pays to write the branches side by side, and then to put all lines together: there are many of them, and two of them share few objects, but not
+/// next to none, so that there are many short lines. What is written is the same either way.
 pub(crate) fn pays<const W: usize>(tops: &[Top<W>]) -> bool {
-    let mut squares = 0usize;
-    let mut most = 0usize;
-    for top in tops {
-        let len = top.places.len();
-        squares = squares.saturating_add(len.saturating_mul(len));
-        most = most.max(len);
-    }
-    let shared = squares.saturating_sub(most.saturating_mul(most));
+    let most = most_objects(tops);
+    let shared = shared_objects(tops, most);
     MANY <= tops.len()
         && NEXT_TO_NONE.saturating_mul(most) <= shared
         && shared <= FEW.saturating_mul(most).saturating_mul(tops.len())
+}
+
+/// Whether it pays to write the branches side by side where the lines stay in pieces: there are some of them, and two of them share not next to no objects.
+/// What is written is the same either way.
+pub(crate) fn pays_in_pieces<const W: usize>(tops: &[Top<W>]) -> bool {
+    let most = most_objects(tops);
+    MANY_IN_PIECES <= tops.len() && NEXT_TO_NONE.saturating_mul(most) <= shared_objects(tops, most)
+}
+
+/// How many objects the branch with the most has.
+fn most_objects<const W: usize>(tops: &[Top<W>]) -> usize {
+    let mut most = 0usize;
+    for top in tops {
+        most = most.max(top.places.len());
+    }
+    most
+}
+
+/// About how many objects all pairs of branches share, times how many one has at most.
+fn shared_objects<const W: usize>(tops: &[Top<W>], most: usize) -> usize {
+    let mut squares = 0usize;
+    for top in tops {
+        let len = top.places.len();
+        squares = squares.saturating_add(len.saturating_mul(len));
+    }
+    squares.saturating_sub(most.saturating_mul(most))
 }
 
 /// The intent that all others contain.
