@@ -4,5 +4,6 @@ pub mod Readings
 pub mod Forms
 pub mod Known
 pub mod Endings
+pub mod Texts
 pub mod Explorations
 pub mod Streams

@@ -1,6 +1,7 @@
 //! What a command comes to, and what a call does with it.
 
 ghost use Rattle.std.specs.Prelude.{◌≡◌};
+ghost use Rattle.std.specs.List.{flat_map};
 ghost use Rattle.explore_state.specs.History.{open_of};
 ghost use Rattle.command_io.specs.Endings.{finished, ending_of, ending_status};
 ghost use Rattle.command_io.specs.ErrLines.{ending_line};
@@ -8,8 +9,9 @@ ghost use Rattle.command_io.specs.Streams.{moment, GainsLine, HasConcluded};
 
 use crate::err_line::{TURNS_SPENT, report, report_plain};
 use crate::stop::Stop;
+use crate::text::Text;
 use explore_state::Explore;
-use fca_io::{Sink, WRITE_FAULT, write_text};
+use fca_io::{Sink, WRITE_FAULT};
 use std::marker::Model;
 
 /// The status where a fault of out cut off the text.
@@ -53,7 +55,7 @@ impl Ending {
 /// A whole text, and how it ends.
 #[derive(Drop)]
 pub struct Answer {
-    pub text: Vec<u8>,
+    pub text: Text,
     pub ending: Ending,
 }
 
@@ -62,7 +64,7 @@ impl Model for Answer {
 
     ghost Value = { Output };
 
-    ghost view = { λ a. record { text = a.text.items; ending = a.ending } };
+    ghost view = { λ a. record { text = a.text; ending = a.ending } };
 }
 
 impl Answer {
@@ -71,7 +73,17 @@ impl Answer {
         ensures { result ≡ finished text.items }
     {
         Answer {
-            text,
+            text: Text::whole(text),
+            ending: Ending::Finished,
+        }
+    }
+
+    /// A text in pieces, one behind the other, that leaves nothing open.
+    pub fn in_pieces(pieces: Vec<Vec<u8>>) -> Answer
+        ensures { result ≡ finished (flat_map (λ piece. piece.items) pieces.items) }
+    {
+        Answer {
+            text: Text::in_pieces(pieces),
             ending: Ending::Finished,
         }
     }
@@ -89,7 +101,7 @@ pub fn conclude<K: Sink, E: Sink>(
 {
     match answer {
         Ok(answer) => {
-            if write_text(out, &answer.text).is_err() {
+            if answer.text.write(out).is_err() {
                 report_plain(err, WRITE_FAULT);
                 return CUT_OFF;
             }

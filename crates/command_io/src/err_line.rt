@@ -196,7 +196,8 @@ fn write_parts<E: Sink>(err: &mut E, parts: &[&[u8]]) -> Result<(), Put>
     Ok(())
 }
 
-fn write_part<E: Sink>(err: &mut E, part: &[u8]) -> Result<(), Put>
+/// Appends the part to a stream, as err. After an `Err` the stream holds a front of it.
+pub(crate) fn write_part<E: Sink>(err: &mut E, part: &[u8]) -> Result<(), Put>
     ensures { Writes (E.held err.old) (E.held err.new) (E.faults err.old) (E.faults err.new) (E.beside err.old) (E.beside err.new)
         (E.asked_beside err.old) (E.asked_beside err.new) part.now result }
 {

@@ -7,6 +7,7 @@ mod known;
 mod readings;
 mod scalings;
 mod stop;
+mod text;
 
 pub use answer::{Answer, Ending, conclude};
 pub use err_line::report;
@@ -14,3 +15,4 @@ pub use known::{Start, check_known, known_under, start_under};
 pub use readings::{script_on, table_under};
 pub use scalings::{plan_under, values_under};
 pub use stop::{Origin, Stop, file_at_fault};
+pub use text::Text;

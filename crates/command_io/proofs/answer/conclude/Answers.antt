@@ -1,4 +1,4 @@
-use Rattle.std.proofs.Common.{rules, ◌≡◌, ◌∙◌, Result, inl, inr, refl, sym, ap, subst}
+use Rattle.std.proofs.Common.{rules, ◌≡◌, Result, inl, inr, refl, sym, ap, subst}
 use Rattle.std.specs.Io.KnownBytes.{Appends}
 use Rattle.fca_model.specs.Tables.{Text}
 use Rattle.fca_io.specs.Faults.{Rose}
@@ -11,24 +11,24 @@ use Rattle.command_io.proofs.answer.conclude.Goals as goal
 pub returns-then-is_err : goal.returns-then-is_err
 returns-then-is_err g c =
     let answer : Output = c.in-Ok.answer in
-    let same : c.deref.result.now ≡ answer.text = c.deref.ensures.value ∙ ap (λ (o : Output). o.text) c.answer.view_is in
-    let Began : Text → Type 0 = AppendsFront (g.K.Sink.held c.args.out.now) (g.K.Sink.held c.write_text.new.sink) in
-    let rose : Rose (g.K.Sink.faults c.args.out.now) (g.K.Sink.faults c.write_text.new.sink) = search rules in
+    let same : c.answer.inside.text ≡ answer.text = ap (λ (o : Output). o.text) c.answer.view_is in
+    let Began : Text → Type 0 = AppendsFront (g.K.Sink.held c.args.out.now) (g.K.Sink.held c.write.new.out) in
+    let rose : Rose (g.K.Sink.faults c.args.out.now) (g.K.Sink.faults c.write.new.out) = search rules in
     let Becomes : Result Output Stop → Type 0 = λ came. MayBecome came (CutOff answer) in
     record {
       outcome = CutOff answer;
       became = subst Becomes (sym c.in-Ok.is) (inr refl);
       status = refl;
-      text = (subst Began same c.write_text.ensures.front, rose);
+      text = (subst Began same c.write.ensures.front, rose);
       line = c.report_plain.ensures;
     }
 
 pub returns-else-is_err : goal.returns-else-is_err
 returns-else-is_err g c =
     let answer : Output = c.in-Ok.answer in
-    let same : c.deref.result.now ≡ answer.text = c.deref.ensures.value ∙ ap (λ (o : Output). o.text) c.answer.view_is in
-    let Gained : Text → Type 0 = Appends (g.K.Sink.held c.args.out.now) (g.K.Sink.held c.write_text.new.sink) in
-    let whole : Gained c.deref.result.now = search rules in
+    let same : c.answer.inside.text ≡ answer.text = ap (λ (o : Output). o.text) c.answer.view_is in
+    let Gained : Text → Type 0 = Appends (g.K.Sink.held c.args.out.now) (g.K.Sink.held c.write.new.out) in
+    let whole : Gained c.answer.inside.text = search rules in
     let Becomes : Result Output Stop → Type 0 = λ came. MayBecome came (Written answer) in
     record {
       outcome = Written answer;

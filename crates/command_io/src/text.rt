@@ -1,0 +1,73 @@
+//! A text to be written, whole or in pieces.
+
+ghost use Rattle.std.specs.Prelude.{◌≡◌};
+ghost use Rattle.std.specs.List.{flat_map};
+ghost use Rattle.expert_wire.specs.Parts.{Writes};
+
+use crate::err_line::write_part;
+use fca_io::{Put, Sink};
+use std::marker::Model;
+
+/// How the bytes of a text stand.
+#[derive(Drop)]
+enum Layout {
+    Whole(Vec<u8>),
+    Pieces(Vec<Vec<u8>>),
+}
+
+/// A text, as one list of bytes or as pieces that stand one behind the other.
+#[derive(Drop)]
+pub struct Text {
+    layout: Layout,
+}
+
+impl Model for Text {
+    ghost use Rattle.std.specs.Prelude.{ℕ, List};
+    ghost use Rattle.command_io.specs.Texts.{bytes_of};
+
+    ghost Value = { List ℕ };
+
+    ghost view = { λ t. bytes_of t.layout };
+}
+
+impl Text {
+    /// The text of these bytes.
+    pub fn whole(bytes: Vec<u8>) -> Text
+        ensures { result ≡ bytes.items }
+    {
+        Text {
+            layout: Layout::Whole(bytes),
+        }
+    }
+
+    /// The text of these pieces, one behind the other.
+    pub fn in_pieces(pieces: Vec<Vec<u8>>) -> Text
+        ensures { result ≡ flat_map (λ piece. piece.items) pieces.items }
+    {
+        Text {
+            layout: Layout::Pieces(pieces),
+        }
+    }
+
+    /// Appends the whole text to out. After an `Err` out holds a front of it.
+    pub(crate) fn write<K: Sink>(&self, out: &mut K) -> Result<(), Put>
+        ensures { Writes (K.held out.old) (K.held out.new) (K.faults out.old) (K.faults out.new) (K.beside out.old) (K.beside out.new)
+            (K.asked_beside out.old) (K.asked_beside out.new) self.now result }
+    {
+        match &self.layout {
+            Layout::Whole(bytes) => write_part(out, bytes),
+            Layout::Pieces(pieces) => write_pieces(out, pieces),
+        }
+    }
+}
+
+/// The pieces, one behind the other.
+fn write_pieces<K: Sink>(out: &mut K, pieces: &[Vec<u8>]) -> Result<(), Put>
+    ensures { Writes (K.held out.old) (K.held out.new) (K.faults out.old) (K.faults out.new) (K.beside out.old) (K.beside out.new)
+        (K.asked_beside out.old) (K.asked_beside out.new) (flat_map (λ piece. piece.items) pieces.now) result }
+{
+    for piece in pieces {
+        write_part(out, piece)?;
+    }
+    Ok(())
+}
