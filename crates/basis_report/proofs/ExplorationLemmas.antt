@@ -1,17 +1,18 @@
 -- The text of an exploration by its parts.
-use Rattle.std.proofs.Common.{◌≡◌, ◌++◌, ◌∷◌, ◌+◌, ◌<◌, ℕ, List, arith, codes, ap, sym, ◌∙◌, length, drop, get_or, append_assoc}
+use Rattle.std.proofs.Common.{◌≡◌, ◌++◌, ◌∷◌, ◌+◌, ◌<◌, ℕ, List, arith, codes, refl, ap, sym, ◌∙◌, [], length, drop, get_or, append_assoc, append-nil}
 use Rattle.std.proofs.lemmas.List.{drop_more}
 use Rattle.fca_model.specs.Tables.{Text, NamedContext}
 use Rattle.fca_model.specs.Implications.{Rule}
 use Rattle.fca_model.specs.Questions.{open_questions}
 use Rattle.fca_model.specs.Exploration.{State, SetEntry, Settings, opening, events_of}
 use Rattle.fca_model.proofs.CourseLemmas.{run_settings}
+use Rattle.explore_state.specs.History.{History, state_of, open_of}
 use Rattle.expert_wire.specs.Replies.{numbered_rule}
 use Rattle.expert_wire.specs.Texts.{line_end}
 use Rattle.expert_scripts.specs.Transcripts.{transcript}
 use Rattle.basis_report.specs.Reports.{counted}
 use Rattle.std.specs.List.{flat_map, enumerate_from}
-use Rattle.basis_report.specs.Explorations.{recorded_section, accepted_section, open_section, basis_section, sections, state_of_text, explore_text}
+use Rattle.basis_report.specs.Explorations.{recorded_section, accepted_section, open_section, basis_section, sections, state_of_text, explore_text, transcript_of, lists_of, basis_of}
 
 pub sections-known : (attributes : List Text) (H : List SetEntry) (s : State) (S : List Rule) → s.settings.known ≡ S
     → sections attributes H s
@@ -63,3 +64,40 @@ explore_text-parts t settings H T eT G eG S eS J eJ J' eJ' A eA Q eQ A' eA' Q' e
     ∙ ap (λ x. written t settings k x J' A Q A' Q') eJ ∙ ap (λ x. written t settings k H x A Q A' Q') eJ'
     ∙ ap (λ x. written t settings k H H x Q A' Q') eA ∙ ap (λ x. written t settings k H H s.accepted x A' Q') eQ ∙ ap (λ x. written t settings k H H s.accepted open_ x Q') eA' ∙ ap (λ x. written t settings k H H s.accepted open_ s.accepted x) eQ'
     ∙ ap (λ (S : Settings). written t settings (length S.known) H H s.accepted (open_questions S.known s.context s.accepted) s.accepted (open_questions S.known s.context s.accepted)) (sym (run_settings (opening t.context t.objects settings) (events_of H)))
+
+-- ---- the text by its pieces
+
+pub explore_text-pieces : (h : History) → transcript_of h ++ (lists_of h ++ basis_of h) ≡ explore_text h.opening.table h.opening.settings h.journal
+explore_text-pieces h =
+    let t = h.opening.table in
+    let s = h.opening.settings in
+    let H = h.journal in
+    let recorded = recorded_section H in
+    let accepted = accepted_section t.attributes (length s.known) (state_of h).accepted in
+    let open_ = open_section t.attributes (open_of h) in
+    let apart : lists_of h ++ basis_of h ≡ recorded ++ (accepted ++ (open_ ++ basis_of h)) =
+    append_assoc recorded (accepted ++ open_) (basis_of h) ∙ ap (λ z. recorded ++ z) (append_assoc accepted open_ (basis_of h)) in
+    ap (λ z. transcript_of h ++ z) apart
+    ∙ explore_text-parts t s H t refl s refl s.known refl H refl H refl (state_of h).accepted refl (open_of h) refl (state_of h).accepted refl (open_of h) refl
+
+abbrev lists : NamedContext → ℕ → List SetEntry → List Rule → List Rule → Text
+lists T k J A Q = recorded_section J ++ (accepted_section T.attributes k A ++ open_section T.attributes Q)
+
+-- three texts that were appended one by one
+pub three_parts : (d0 d1 d2 d3 a b c : Text) → d0 ≡ [] → d1 ≡ d0 ++ a → d2 ≡ d1 ++ b → d3 ≡ d2 ++ c → d3 ≡ a ++ (b ++ c)
+three_parts d0 d1 d2 d3 a b c e0 e1 e2 e3 =
+    let all : d3 ≡ (([] ++ a) ++ b) ++ c = e3 ∙ ap (λ z. z ++ c) (e2 ∙ ap (λ z. z ++ b) (e1 ∙ ap (λ z. z ++ a) e0)) in
+    all ∙ append_assoc a b c
+
+pub lists_of-parts : (h : History) (T : NamedContext) → T ≡ h.opening.table → (J : List SetEntry) → J ≡ h.journal → (S : List Rule) → S ≡ h.opening.settings.known
+    → (A : List Rule) → A ≡ (state_of h).accepted → (Q : List Rule) → Q ≡ open_of h
+    → recorded_section J ++ (accepted_section T.attributes (length S) A ++ open_section T.attributes Q) ≡ lists_of h
+lists_of-parts h T eT J eJ S eS A eA Q eQ =
+    let t = h.opening.table in
+    let k = length h.opening.settings.known in
+    ap (λ x. lists x (length S) J A Q) eT ∙ ap (λ x. lists t (length S) x A Q) eJ ∙ ap (λ (x : List Rule). lists t (length x) h.journal A Q) eS
+    ∙ ap (λ x. lists t k h.journal x Q) eA ∙ ap (λ x. lists t k h.journal (state_of h).accepted x) eQ
+
+-- the pieces in a list, one behind the other
+pub joined-three : (a b c x y z : Text) → a ≡ x → b ≡ y → c ≡ z → a ++ (b ++ (c ++ [])) ≡ x ++ (y ++ z)
+joined-three a b c x y z ea eb ec = ap (λ w. w ++ (b ++ (c ++ []))) ea ∙ ap (λ w. x ++ (w ++ (c ++ []))) eb ∙ ap (λ w. x ++ (y ++ w)) (append-nil c ∙ ec)

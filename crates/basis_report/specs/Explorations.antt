@@ -8,6 +8,7 @@ use Rattle.fca_model.specs.Implications.{Rule, rule}
 use Rattle.fca_model.specs.Exploration.{State, Settings, SetEvent, SetReply, SetEntry, plain, opening, open_in, state_after, events_of, journal_of}
 use Rattle.fca_model.specs.declared.Event.TheVariants.{Row}
 use Rattle.fca_model.specs.declared.Reply.TheVariants.{Taken}
+use Rattle.explore_state.specs.History.{History, state_of, open_of}
 use Rattle.expert_wire.specs.Texts.{line_end, ordinal, pattern, full_text}
 use Rattle.expert_wire.specs.Replies.{numbered_rule}
 use Rattle.expert_scripts.specs.declared.fault.ScriptFault.{ScriptFault}
@@ -68,6 +69,21 @@ state_of_text t settings H = state_after (opening t.context t.objects settings) 
 -- the text of a history that began with the table under these settings
 unfoldable pub explore_text : NamedContext → Settings → List SetEntry → Text
 explore_text t settings H = transcript t.attributes settings H ++ sections t.attributes H (state_of_text t settings H)
+
+-- ---- its pieces
+
+abbrev pub transcript_of : History → Text
+transcript_of h = transcript h.opening.table.attributes h.opening.settings h.journal
+
+-- the sections between the transcript and the basis
+abbrev pub lists_of : History → Text
+lists_of h =
+    recorded_section h.journal
+    ++ (accepted_section h.opening.table.attributes (length h.opening.settings.known) (state_of h).accepted ++ open_section h.opening.table.attributes (open_of h))
+
+-- the section of the basis
+abbrev pub basis_of : History → Text
+basis_of h = basis_section h.opening.table.attributes (state_of h).accepted (open_of h)
 
 -- ---- the history that a text spells
 

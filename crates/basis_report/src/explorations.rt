@@ -52,7 +52,11 @@ fn write_exploration(alloc: Global, draft: &mut Draft, explore: &Explore) -> Res
     )
 }
 
-fn write_recorded(draft: &mut Draft, table: &Table, journal: &[Entry]) -> Result<(), Memory>
+pub(crate) fn write_recorded(
+    draft: &mut Draft,
+    table: &Table,
+    journal: &[Entry],
+) -> Result<(), Memory>
     ensures { OnOk result (draft.new ≡ draft.old ++ recorded_section journal.now) }
 {
     write_counted(draft, table, b"# recorded ", recorded_count(journal))?;
@@ -99,7 +103,7 @@ fn write_row(draft: &mut Draft, table: &Table, entry: &Entry) -> Result<(), Memo
 }
 
 /// The accepted implications, with their numbers among all rules: what is known comes first.
-fn write_accepted(
+pub(crate) fn write_accepted(
     draft: &mut Draft,
     table: &Table,
     known: &[Implication],
@@ -114,7 +118,11 @@ fn write_accepted(
     Ok(())
 }
 
-fn write_open(draft: &mut Draft, table: &Table, questions: &[Question]) -> Result<(), Memory>
+pub(crate) fn write_open(
+    draft: &mut Draft,
+    table: &Table,
+    questions: &[Question],
+) -> Result<(), Memory>
     ensures { OnOk result (draft.new ≡ draft.old ++ open_section table.now.attributes questions.now) }
 {
     write_counted(draft, table, b"# open ", questions.len())?;
@@ -125,7 +133,7 @@ fn write_open(draft: &mut Draft, table: &Table, questions: &[Question]) -> Resul
 }
 
 /// The accepted implications in the lectic order of their premises, where no question is open.
-fn write_basis(
+pub(crate) fn write_basis(
     alloc: Global,
     draft: &mut Draft,
     table: &Table,
