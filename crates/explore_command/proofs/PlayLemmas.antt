@@ -1,8 +1,9 @@
 -- The text of an exploration by oracles: the conflicts that the oracles have are those of their entries, lines of conflicts change nothing of what the text
 -- spells, and what is promised of the oracles is said of the tables of the experts.
-use Rattle.std.proofs.Common.{◌≡◌, ◌↔◌, ◌⊎◌, ◌≤◌, ◌<◌, ◌∙◌, ◌+◌, ◌++◌, ◌∷◌, [], ℕ, suc, List, Bool, true, false, All, map, length, append_assoc, Option, Some, None, Result, Ok, Err, inl, inr, refl, sym, ap, subst, arith}
+use Rattle.std.proofs.Common.{◌≡◌, ◌↔◌, ◌⊎◌, ◌≤◌, ◌<◌, ◌∙◌, ◌+◌, ◌++◌, ◌∷◌, [], ℕ, suc, List, Vec, Global, Bool, true, false, All, map, length, append_assoc, append-nil, Option, Some, None, Result, Ok, Err, inl, inr, refl, sym, ap, subst, arith}
 use Rattle.std.specs.Prelude.{◌^◌, slice_get, option_map, codes, IfOk}
 use Rattle.std.specs.List.{flat_map, enumerate_from}
+use Rattle.std.proofs.lemmas.Grind.{flat_map-append}
 use Rattle.std.proofs.lemmas.Option.{slice_get-map}
 use Rattle.std.proofs.lemmas.List.{length-map}
 use Rattle.std.proofs.lemmas.List.Elements.{All-head, All-tail}
@@ -115,6 +116,13 @@ spelled-conflicts explore conflicts text told spells comments joined =
     let first = explore_text explore.opening.table explore.opening.settings explore.journal in
     let commented : text ≡ first ++ comments_of comments.lines = joined ∙ ap (λ l. first ++ l) comments.text_is in
     subst (Spells explore.opening.table explore.opening.settings explore.journal) (sym commented) (spells comments.lines comments.whole told)
+
+-- one piece more stands behind the others
+pub pieces-more : (pieces grown : List (Vec ℕ Global)) (piece : Vec ℕ Global) (text : Text) → grown ≡ pieces ++ piece ∷ [] → flat_map (λ (p : Vec ℕ Global). p.items) pieces ≡ text
+    → flat_map (λ (p : Vec ℕ Global). p.items) grown ≡ text ++ piece.items
+pieces-more pieces grown piece text more told =
+    let f : Vec ℕ Global → Text = λ p. p.items in
+    ap (flat_map f) more ∙ flat_map-append f pieces (piece ∷ []) ∙ ap (λ z. z ++ (piece.items ++ [])) told ∙ ap (λ z. text ++ z) (append-nil piece.items)
 
 -- ---- oracles who know one table
 

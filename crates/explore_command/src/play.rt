@@ -13,8 +13,8 @@ ghost use Rattle.explore_command.specs.Panels.{panel_read, IsPanelStop};
 ghost use Rattle.explore_command.specs.Played.{panel_ending, text_with_conflicts, IsPlay, MayPlay};
 
 use crate::panel::{Panel, panel_under};
-use basis_report::{conflicts_text, explore_text};
-use command_io::{Answer, Ending, Stop};
+use basis_report::{conflicts_text, explore_pieces, explore_text};
+use command_io::{Answer, Ending, Stop, Text};
 use context_table::Table;
 use expert_panel::{Explored, explore_with_oracles};
 use explore_state::{Explore, Settings};
@@ -55,7 +55,7 @@ fn play<R: Threads + Wait + Sync>(rt: &R, alloc: Global, panel: Panel) -> Result
     ensures { IfOk result (MayPlay (Read panel)) }
 {
     let explored = explored(rt, alloc, panel)?;
-    let answer = answer_of(alloc, &explored);
+    let answer = answer_of(rt, alloc, &explored);
     drop(explored);
     answer
 }
@@ -76,20 +76,48 @@ fn explored<R: Threads + Wait + Sync>(
 }
 
 /// The text of the exploration, the conflicts of its oracles, and how it ended.
-fn answer_of(alloc: Global, explored: &Explored) -> Result<Answer, Memory>
+fn answer_of<R: Threads>(rt: &R, alloc: Global, explored: &Explored) -> Result<Answer, Memory>
     requires count { vec_len explored.now.oracles ≤ explored.now.explore.opening.experts }
     requires told { CanBeTold explored.now.explore.opening.table.context.width explored.now.explore.opening.settings }
     ensures text { IfOk result (λ answer. answer.text ≡ text_with_conflicts explored.now.explore explored.now.oracles.items) }
     ensures spells { IfOk result (λ answer. Spells explored.now.explore.opening.table explored.now.explore.opening.settings explored.now.explore.journal answer.text) }
     ensures ending { IfOk result (λ answer. answer.ending ≡ panel_ending explored.now.spent) }
 {
-    let mut text = explore_text(alloc, &explored.explore)?;
-    let conflicts = conflicts_text(alloc, &explored.explore, &explored.oracles)?;
-    text.extend_from_slice(&conflicts)?;
+    let text = if explored.oracles.len() > 1 {
+        text_in_pieces(rt, alloc, explored)?
+    } else {
+        whole_text(alloc, explored)?
+    };
     Ok(Answer {
         text,
         ending: ending_of(explored.spent),
     })
+}
+
+/// The text of the exploration, whose pieces are written side by side, and the conflicts of its oracles.
+fn text_in_pieces<R: Threads>(rt: &R, alloc: Global, explored: &Explored) -> Result<Text, Memory>
+    requires count { vec_len explored.now.oracles ≤ explored.now.explore.opening.experts }
+    requires told { CanBeTold explored.now.explore.opening.table.context.width explored.now.explore.opening.settings }
+    ensures text { IfOk result (λ text. text ≡ text_with_conflicts explored.now.explore explored.now.oracles.items) }
+    ensures spells { IfOk result (Spells explored.now.explore.opening.table explored.now.explore.opening.settings explored.now.explore.journal) }
+{
+    let mut pieces = explore_pieces(rt, alloc, &explored.explore)?;
+    let conflicts = conflicts_text(alloc, &explored.explore, &explored.oracles)?;
+    pieces.push(conflicts)?;
+    Ok(Text::in_pieces(pieces))
+}
+
+/// The text of the exploration and the conflicts of its oracles, in one list.
+fn whole_text(alloc: Global, explored: &Explored) -> Result<Text, Memory>
+    requires count { vec_len explored.now.oracles ≤ explored.now.explore.opening.experts }
+    requires told { CanBeTold explored.now.explore.opening.table.context.width explored.now.explore.opening.settings }
+    ensures text { IfOk result (λ text. text ≡ text_with_conflicts explored.now.explore explored.now.oracles.items) }
+    ensures spells { IfOk result (Spells explored.now.explore.opening.table explored.now.explore.opening.settings explored.now.explore.journal) }
+{
+    let mut text = explore_text(alloc, &explored.explore)?;
+    let conflicts = conflicts_text(alloc, &explored.explore, &explored.oracles)?;
+    text.extend_from_slice(&conflicts)?;
+    Ok(Text::whole(text))
 }
 
 /// How the text ends, where an expert took all its turns or none did.
