@@ -17,7 +17,7 @@ ghost use Rattle.replay_command.specs.Replayed.{explored, explored_by, replayed,
 
 use crate::settings::settled;
 use basis_report::explore_text;
-use command_io::{Answer, Ending, Start, Stop, script_on, start_under};
+use command_io::{Answer, Ending, Start, Stop, Text, script_on, start_under};
 use context_table::Table;
 use explore_state::{Event, Explore, Settings};
 use fca_io::{Shelf, Source};
@@ -115,7 +115,7 @@ fn exploration_answer(alloc: Global, explore: &Explore) -> Result<Answer, Stop>
     ensures cause { IfErr result (λ stop. stop ≡ Stop.Memory) }
 {
     Ok(Answer {
-        text: explore_text(alloc, explore)?,
+        text: Text::whole(explore_text(alloc, explore)?),
         ending: Ending::of(explore),
     })
 }

@@ -18,7 +18,7 @@ use crate::accepting::{ends_at, give_back};
 use crate::endings::words_of_all;
 use crate::opening::opened;
 use basis_report::{explore_text, sessions_text};
-use command_io::{Answer, Ending, Stop, start_under};
+use command_io::{Answer, Ending, Stop, Text, start_under};
 use expert_sessions::{Ended, Served, Unserved, serve_ends};
 use explore_state::Explore;
 use fca_io::{Listener, Shelf};
@@ -117,7 +117,7 @@ fn text_of(alloc: Global, explore: &Explore, endings: &[Ended]) -> Result<Answer
     let sessions = sessions_text(alloc, explore.table(), &words)?;
     text.extend_from_slice(&sessions)?;
     Ok(Answer {
-        text,
+        text: Text::whole(text),
         ending: Ending::of(explore),
     })
 }

@@ -13,6 +13,7 @@ returns-clause-spells c =
     let items = c.in_ok-extend_from_slice.ensures.items in
     let first = c.in_ok-text.ensures.text in
     let behind = c.deref-2.ensures.value in
-    let joined : c.extend_from_slice.new.self.items
+    let whole = c.whole.ensures in
+    let joined : c.whole.result
     ≡ explore_text c.args.explore.now.opening.table c.args.explore.now.opening.settings c.args.explore.now.journal ++ c.in_ok-sessions.sessions.items = cc in
-    spelled-sessions c.in_ok-sessions.sessions.items c.extend_from_slice.new.self.items c.args.explore.now c.requires c.in_ok-text.ensures.reads_back skipped joined
+    spelled-sessions c.in_ok-sessions.sessions.items c.whole.result c.args.explore.now c.requires c.in_ok-text.ensures.reads_back skipped joined
