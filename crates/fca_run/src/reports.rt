@@ -2,6 +2,9 @@
 //! table itself, whole or reduced.
 
 ghost use Rattle.std.specs.Prelude.{◌≡◌, ◌⊎◌, true, Some, IfOk, IfErr, length, is_some};
+ghost use Rattle.std.specs.List.{flat_map};
+ghost use Rattle.lectic_concepts.specs.Concepts.{concepts};
+ghost use Rattle.basis_report.specs.Reports.{concepts_text};
 ghost use Rattle.fca_command.specs.Commands.{reported};
 ghost use Rattle.command_io.specs.Readings.{then, MayRead, MayRefuse, Rises};
 ghost use Rattle.command_io.specs.Readings.Reading.{Refused, Read};
@@ -42,11 +45,11 @@ pub fn report_answer<R: Threads + Sync, H: Shelf>(
         (Rises (H.faults shelf.old) (H.faults shelf.new) file.now)) }
 {
     let table = table_under(alloc, shelf, file, Origin::File)?;
-    answer_on(rt, alloc, command, &table)
+    report_on(rt, alloc, command, &table)
 }
 
-/// The answer with what the command reports of the table.
-fn answer_on<R: Threads + Sync>(
+/// What the command reports of the table.
+fn report_on<R: Threads + Sync>(
     rt: &R,
     alloc: Global,
     command: &Command,
@@ -58,34 +61,19 @@ fn answer_on<R: Threads + Sync>(
     ensures refused { IfErr result (λ stop. IsRefusal stop → MayRefuse (table_report command.now table.now)) }
     ensures cause { IfErr result (λ stop. (stop ≡ Stop.Memory) ⊎ ((stop ≡ Stop.UnknownAttribute) × (table_report command.now table.now ≡ Refused))) }
 {
-    Ok(Answer::finished(report_on(rt, alloc, command, table)?))
-}
-
-/// What the command reports of the table.
-fn report_on<R: Threads + Sync>(
-    rt: &R,
-    alloc: Global,
-    command: &Command,
-    table: &Table,
-) -> Result<Vec<u8>, Stop>
-    requires { is_some (reported command.now) ≡ true }
-    ensures text { IfOk result (λ text. MayRead (table_report command.now table.now) text.items) }
-    ensures refused { IfErr result (λ stop. IsRefusal stop → MayRefuse (table_report command.now table.now)) }
-    ensures cause { IfErr result (λ stop. (stop ≡ Stop.Memory) ⊎ ((stop ≡ Stop.UnknownAttribute) × (table_report command.now table.now ≡ Refused))) }
-{
     match command {
         Command::Concepts { json, .. } => Ok(table_concepts(rt, alloc, *json, table)?),
-        Command::Lattice { .. } => Ok(table_lattice_text(rt, alloc, table)?),
-        Command::Basis { json, .. } => Ok(table_basis(rt, alloc, *json, table)?),
-        Command::Direct { .. } => Ok(table_direct(alloc, table)?),
+        Command::Lattice { .. } => Ok(Answer::finished(table_lattice_text(rt, alloc, table)?)),
+        Command::Basis { json, .. } => Ok(Answer::finished(table_basis(rt, alloc, *json, table)?)),
+        Command::Direct { .. } => Ok(Answer::finished(table_direct(alloc, table)?)),
         Command::Follows {
             premise,
             conclusion,
             ..
-        } => verdict(rt, alloc, table, premise, conclusion),
-        Command::Convert { to, .. } => Ok(table_written(alloc, *to, table)?),
-        Command::Reduce { .. } => Ok(table_reduced(alloc, table)?),
-        Command::Arrows { .. } => Ok(table_arrows(alloc, table)?),
+        } => Ok(Answer::finished(verdict(rt, alloc, table, premise, conclusion)?)),
+        Command::Convert { to, .. } => Ok(Answer::finished(table_written(alloc, *to, table)?)),
+        Command::Reduce { .. } => Ok(Answer::finished(table_reduced(alloc, table)?)),
+        Command::Arrows { .. } => Ok(Answer::finished(table_arrows(alloc, table)?)),
         _ => unreachable!(),
     }
 }
@@ -96,15 +84,26 @@ fn table_concepts<R: Threads + Sync>(
     alloc: Global,
     json: bool,
     table: &Table,
-) -> Result<Vec<u8>, Memory>
-    ensures { IfOk result (λ text. text.items ≡ table_concepts json table.now) }
+) -> Result<Answer, Memory>
+    ensures { IfOk result (λ answer. answer ≡ finished (table_concepts json table.now)) }
 {
     if json {
         let concepts = all_concepts(alloc, table.rows())?;
-        concepts_json(alloc, table, &concepts)
-    } else {
-        table_concepts_text(rt, alloc, table)
+        return Ok(Answer::finished(concepts_json(alloc, table, &concepts)?));
     }
+    Ok(Answer::in_pieces(concepts_pieces(rt, alloc, table)?))
+}
+
+/// The concepts of the table as a list, in pieces.
+fn concepts_pieces<R: Threads + Sync>(
+    rt: &R,
+    alloc: Global,
+    table: &Table,
+) -> Result<Vec<Vec<u8>>, Memory>
+    ensures { IfOk result (λ pieces. flat_map (λ piece. piece.items) pieces.items ≡ concepts_text table.now (concepts table.now.context)) }
+{
+    let text = table_concepts_text(rt, alloc, table)?;
+    Ok(vec![in alloc; text]?)
 }
 
 /// The basis of the table.
