@@ -2,9 +2,6 @@
 //! table itself, whole or reduced.
 
 ghost use Rattle.std.specs.Prelude.{◌≡◌, ◌⊎◌, true, Some, IfOk, IfErr, length, is_some};
-ghost use Rattle.std.specs.List.{flat_map};
-ghost use Rattle.lectic_concepts.specs.Concepts.{concepts};
-ghost use Rattle.basis_report.specs.Reports.{concepts_text};
 ghost use Rattle.fca_command.specs.Commands.{reported};
 ghost use Rattle.command_io.specs.Readings.{then, MayRead, MayRefuse, Rises};
 ghost use Rattle.command_io.specs.Readings.Reading.{Refused, Read};
@@ -16,7 +13,7 @@ use attr_bits::Attrs;
 use basis_report::{basis_json, concepts_json, direct_text, verdict_text};
 use canonical_basis::basis;
 use command_io::{Answer, Ending, Origin, Stop, table_under};
-use concept_report::{table_basis_text, table_concepts_text, table_lattice_text};
+use concept_report::{table_basis_text, table_concepts_pieces, table_lattice_text};
 use context_reduce::{arrows, arrows_text, irreducible, part};
 use context_table::Table;
 use csv_context::write_csv;
@@ -91,19 +88,7 @@ fn table_concepts<R: Threads + Sync>(
         let concepts = all_concepts(alloc, table.rows())?;
         return Ok(Answer::finished(concepts_json(alloc, table, &concepts)?));
     }
-    Ok(Answer::in_pieces(concepts_pieces(rt, alloc, table)?))
-}
-
-/// The concepts of the table as a list, in pieces.
-fn concepts_pieces<R: Threads + Sync>(
-    rt: &R,
-    alloc: Global,
-    table: &Table,
-) -> Result<Vec<Vec<u8>>, Memory>
-    ensures { IfOk result (λ pieces. flat_map (λ piece. piece.items) pieces.items ≡ concepts_text table.now (concepts table.now.context)) }
-{
-    let text = table_concepts_text(rt, alloc, table)?;
-    Ok(vec![in alloc; text]?)
+    Ok(Answer::in_pieces(table_concepts_pieces(rt, alloc, table)?))
 }
 
 /// The basis of the table.
