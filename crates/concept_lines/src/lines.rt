@@ -196,6 +196,16 @@ impl Lines {
         Ok(())
     }
 
+    /// How many bytes the lines take.
+    pub fn text_len(&self) -> usize
+        ensures { result ≡ length self.now.text }
+    {
+        if self.numbered {
+            return self.end - FRONT;
+        }
+        self.end
+    }
+
     /// How many lines there are, of lines without numbers.
     pub fn plain_count(&self) -> usize
         ensures { result ≡ length self.now.lens }
