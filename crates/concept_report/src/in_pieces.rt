@@ -21,6 +21,9 @@ use std::alloc::Global;
 use std::thread;
 use std::thread::Threads;
 
+/// Lines of fewer bytes stand behind their numbers before several threads have begun.
+const FEW_BYTES: usize = 524_288;
+
 /// Lines behind their numbers, in pieces that stand one behind the other, and how many lines these are.
 #[derive(Drop)]
 pub(crate) struct PiecedLines {
@@ -207,8 +210,60 @@ fn place_behind_page<const W: usize>(
     first.checked_add(page.lines.plain_count()).ok_or(Memory)
 }
 
-/// Of each page the lines behind their numbers, as a text of its own, made side by side. The first line of all is at that place.
+/// Of each page the lines behind their numbers, as a text of its own. The first line of all is at that place. Short ones are made by one
+/// thread, which waits for no other.
 fn numbered_pieces<R: Threads + Sync, const W: usize>(
+    rt: &R,
+    alloc: Global,
+    sheet: &Sheet<'_, W>,
+    jobs: &[&[Top<W>]],
+    pages: &[Page<W>],
+    first: usize,
+) -> Result<Vec<Result<Vec<u8>, Memory>>, Memory>
+    requires even { length pages.now ≡ length jobs.now }
+    requires pages { EachWrote sheet.now false pages.now jobs.now }
+    ensures even { IfOk result (λ made. length made.items ≡ length jobs.now) }
+    ensures pieces { IfOk result (λ made. EachPieceAt sheet.now first jobs.now made.items) }
+{
+    let _words = sheet.rows().width();
+    if bytes_on(pages) < FEW_BYTES {
+        return in_turn(alloc, sheet, jobs, pages, first);
+    }
+    side_by_side(rt, alloc, sheet, jobs, pages, first)
+}
+
+/// How many bytes the lines of the pages take.
+fn bytes_on<const W: usize>(pages: &[Page<W>]) -> usize {
+    let mut bytes = 0usize;
+    for page in pages {
+        bytes = bytes.saturating_add(page.lines.text_len());
+    }
+    bytes
+}
+
+/// Of each page the lines behind their numbers, as a text of its own, one after the other. The first line of all is at that place.
+fn in_turn<const W: usize>(
+    alloc: Global,
+    sheet: &Sheet<'_, W>,
+    jobs: &[&[Top<W>]],
+    pages: &[Page<W>],
+    first: usize,
+) -> Result<Vec<Result<Vec<u8>, Memory>>, Memory>
+    requires even { length pages.now ≡ length jobs.now }
+    requires pages { EachWrote sheet.now false pages.now jobs.now }
+    ensures even { IfOk result (λ made. length made.items ≡ length jobs.now) }
+    ensures pieces { IfOk result (λ made. EachPieceAt sheet.now first jobs.now made.items) }
+{
+    let _words = sheet.rows().width();
+    let mut made = Vec::new(alloc);
+    for i in 0..jobs.len() {
+        made.push(piece_at(alloc, sheet, jobs, pages, first, i))?;
+    }
+    Ok(made)
+}
+
+/// Of each page the lines behind their numbers, as a text of its own, made side by side. The first line of all is at that place.
+fn side_by_side<R: Threads + Sync, const W: usize>(
     rt: &R,
     alloc: Global,
     sheet: &Sheet<'_, W>,
