@@ -21,8 +21,8 @@ use std::alloc::Global;
 use std::thread;
 use std::thread::Threads;
 
-/// Lines of fewer bytes stand behind their numbers before several threads have begun.
-const FEW_BYTES: usize = 524_288;
+/// Lines of fewer bytes stand behind their numbers about as soon as several threads have begun and ended.
+const FEW_BYTES: usize = 2 << 20;
 
 /// Lines behind their numbers, in pieces that stand one behind the other, and how many lines these are.
 #[derive(Drop)]
