@@ -16,7 +16,7 @@ use std::thread::Threads;
 use std::{mem, thread};
 
 /// How many pages are filled at a time.
-const PAGES: usize = 16;
+pub(crate) const PAGES: usize = 16;
 
 /// By how many threads they are filled, where so many can be made: each fills its share of the pages, one after the other.
 const THREADS: usize = 8;

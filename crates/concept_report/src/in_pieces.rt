@@ -10,7 +10,7 @@ ghost use Rattle.concept_lines.specs.Lines.{Adds, lines_from};
 ghost use Rattle.concept_report.specs.Tops.{IsTop, branches, all_branches, EachWrote, Wrote};
 ghost use Rattle.concept_report.specs.InPieces.{as_one, IsPieceAt, EachPieceAt};
 
-use crate::crew::{fill_pages, pages_of, write_tops};
+use crate::crew::{PAGES, fill_pages, pages_of, write_tops};
 use crate::jobs::{density_of, jobs_of};
 use crate::tops::{Top, laid_out, pays_in_pieces, root_of};
 use concept_lines::{Page, Sheet, head_of};
@@ -23,6 +23,12 @@ use std::thread::Threads;
 
 /// Lines of fewer bytes stand behind their numbers about as soon as several threads have begun and ended.
 const FEW_BYTES: usize = 2 << 20;
+
+/// From how many bytes on the pages of a batch on there are few pages in the next one.
+const LONG: usize = 16 << 20;
+
+/// How many pages are few.
+const FEW_PAGES: usize = 6;
 
 /// Lines behind their numbers, in pieces that stand one behind the other, and how many lines these are.
 #[derive(Drop)]
@@ -118,9 +124,11 @@ fn add_jobs<R: Threads + Sync, const W: usize>(
 {
     let _words = sheet.rows().width();
     let mut done = 0;
+    let mut at_once = pages.len();
     while done < jobs.len() {
-        let end = jobs.len().min(done.saturating_add(pages.len()));
-        add_batch(
+        let few = at_once.min(pages.len());
+        let end = jobs.len().min(done.saturating_add(few));
+        at_once = add_batch(
             rt,
             alloc,
             sheet,
@@ -133,7 +141,7 @@ fn add_jobs<R: Threads + Sync, const W: usize>(
     Ok(())
 }
 
-/// Adds the lines of so many jobs as there are pages, which each fill one first.
+/// Adds the lines of so many jobs as there are pages, which each fill one first, and tells how many pages to fill next.
 fn add_batch<R: Threads + Sync, const W: usize>(
     rt: &R,
     alloc: Global,
@@ -141,16 +149,29 @@ fn add_batch<R: Threads + Sync, const W: usize>(
     jobs: &[&[Top<W>]],
     pages: &mut [Page<W>],
     lines: &mut PiecedLines,
-) -> Result<(), Memory>
+) -> Result<usize, Memory>
     requires tops { All (λ job. All (IsTop sheet.now.context) job.now) jobs.now }
     requires even { length pages.old ≡ length jobs.now }
     ensures even { length pages.new ≡ length jobs.now }
     ensures lines { OnOk result (Adds sheet.now (as_one lines.old) (as_one lines.new) (all_branches sheet.now.context jobs.now)) }
+    ensures some { IfOk result (λ next. 0 < next) }
 {
     let _words = sheet.rows().width();
     fill_pages(rt, alloc, sheet, jobs, false, pages);
+    let next = pages_at_once(pages);
     add_pages(rt, alloc, sheet, jobs, pages, lines)?;
-    Ok(())
+    Ok(next)
+}
+
+/// How many pages to fill next: few where those before had long texts, since a page keeps room for the longest that it had.
+fn pages_at_once<const W: usize>(pages: &[Page<W>]) -> usize
+    ensures { 0 < result }
+{
+    if bytes_on(pages) < LONG {
+        PAGES
+    } else {
+        FEW_PAGES
+    }
 }
 
 /// Adds the lines of the jobs from the pages, of each page as a piece, unless a line of one is missing.

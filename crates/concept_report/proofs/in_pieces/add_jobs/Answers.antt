@@ -19,13 +19,14 @@ loop-done-preserved g c =
     let end = c.min-end.result in
     let inside : end ≤ length jobs = omega (arith, c.min-end.ensures) in
     let further : done ≤ end = omega (arith, c.min-end.ensures, c.saturating_add.ensures, c.loop-done-test.true) in
-    let few : end - done ≤ length c.loop-done.pages = omega (arith, c.min-end.ensures, c.saturating_add.ensures) in
+    let few : end - done ≤ length c.loop-done.pages = omega (arith, c.min-end.ensures, c.saturating_add.ensures, c.min-few.ensures) in
     let batch : length (take (end - done) (drop done jobs)) ≡ end - done = length-take-le (end - done) (drop done jobs) (omega (arith, inside, further, length-drop done jobs)) in
     let behind = length-drop (end - done) c.loop-done.pages in
     record {
       inside = inside;
-      pages = let both = length-append c.add_batch.new.pages (drop (end - done) c.loop-done.pages) in omega (arith, both, behind, few, batch, c.in_ok-add_batch.ensures.even, c.loop-done.invariant.pages);
+      pages = let both = length-append c.add_batch.new.pages (drop (end - done) c.loop-done.pages) in omega (arith, both, behind, few, batch, c.in_ok-at_once.ensures.even, c.loop-done.invariant.pages);
+      some = c.in_ok-at_once.ensures.some;
       lines = subst (λ (Xs : List Set). Adds c.args.sheet.now (as_one c.args.lines.now) (as_one c.add_batch.new.lines) Xs)
           (sym (flat_map-parts (λ (job : Bor (List (Top g.row.W))). branches K job.now) jobs done end further))
-          (Adds-append c.args.sheet.now (as_one c.args.lines.now) (as_one c.loop-done.lines) (as_one c.add_batch.new.lines) (all_branches K (take done jobs)) (all_branches K (take (end - done) (drop done jobs))) c.loop-done.invariant.lines c.in_ok-add_batch.ensures.lines);
+          (Adds-append c.args.sheet.now (as_one c.args.lines.now) (as_one c.loop-done.lines) (as_one c.add_batch.new.lines) (all_branches K (take done jobs)) (all_branches K (take (end - done) (drop done jobs))) c.loop-done.invariant.lines c.in_ok-at_once.ensures.lines);
     }

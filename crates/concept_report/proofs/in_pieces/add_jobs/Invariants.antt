@@ -1,4 +1,4 @@
-use Rattle.std.proofs.Common.{◌≡◌, ◌≤◌, ◌-◌, length, take}
+use Rattle.std.proofs.Common.{◌≡◌, ◌<◌, ◌≤◌, ◌-◌, length, take}
 use Rattle.concept_lines.specs.Lines.{Adds}
 use Rattle.concept_report.specs.Tops.{all_branches}
 use Rattle.concept_report.specs.InPieces.{as_one}
@@ -8,6 +8,7 @@ abbrev pub invariant-loop-done : goal.invariant-loop-done
 invariant-loop-done g l = record {
   inside : l.done ≤ length l.jobs;
   pages : length l.pages ≡ length l.fn.pages;
+  some : 0 < l.at_once;
   lines : Adds l.sheet (as_one l.fn.lines) (as_one l.lines) (all_branches l.sheet.context (take l.done l.jobs));
 }
 
