@@ -5,13 +5,12 @@ use Rattle.std.proofs.lemmas.List.{get_or_default}
 use Rattle.fca_model.specs.Sets.{Set, within}
 use Rattle.fca_model.specs.Implications.{Rule}
 use Rattle.fca_model.specs.Exploration.{first_missing}
-use Rattle.fca_model.proofs.SetLemmas.{within_trans, within_at_place, set_within}
+use Rattle.fca_model.proofs.SetLemmas.{within_trans, within_at_place, within_set, set_within}
 use Rattle.attr_bits.proofs.DifferenceLemmas.{first_missing-parts}
 use Rattle.lectic_concepts.specs.Branches.{agree_before}
 use Rattle.lectic_concepts.proofs.BranchLemmas.{agree_at}
 use Rattle.lectic_basis.specs.Forced.{AreForced, IsLonger}
 use Rattle.lectic_basis.specs.Watches.{Differs, IsBounded}
-use Rattle.lectic_basis.proofs.PlaceLemmas.{within_set}
 
 beyond : (xs : List ℕ) (k : ℕ) → length xs ≤ k → get_or xs k k ≡ k
 beyond xs k le = go xs k k le

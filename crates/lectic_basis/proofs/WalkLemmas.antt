@@ -10,7 +10,7 @@ use Rattle.std.specs.Option.{is_some}
 use Rattle.fca_model.specs.Sets.{Set, same, within}
 use Rattle.fca_model.specs.Context.{Context, closure, is_closed}
 use Rattle.fca_model.specs.Implications.{Rule, rule, respects, respects_all, holds}
-use Rattle.fca_model.proofs.SetLemmas.{same-true, same_from, within_refl, within_trans, within_at_place}
+use Rattle.fca_model.proofs.SetLemmas.{same-true, same_from, within_refl, within_trans, within_at_place, within_set}
 use Rattle.fca_model.proofs.ClosureLemmas.{length-closure, closure_extensive}
 use Rattle.implication_closure.specs.Closing.{RuleList, IsClosure}
 use Rattle.lectic_concepts.specs.Branches.{agree_before}
@@ -20,7 +20,7 @@ use Rattle.lectic_basis.specs.Trees.{InFamily, IsLeastBehind, up_to, members_whe
 use Rattle.lectic_basis.specs.Walks.{IsVisit, IsBelow, IsTrying, HasFound, IsPart, IsPartBefore}
 use Rattle.lectic_basis.specs.Forced.{AreForced, IsLastTried, IsLonger, NoneTried, is_tried}
 use Rattle.lectic_basis.specs.Watches.{Watched, IsFiled, IsGood, CanClose, HasMoved, IsClosedBefore, Differs, IsPutBefore, Covers}
-use Rattle.lectic_basis.proofs.PlaceLemmas.{up_to_member, within_set, agree_with, agree_less, up_to_less}
+use Rattle.lectic_basis.proofs.PlaceLemmas.{up_to_member, agree_with, agree_less, up_to_less}
 use Rattle.lectic_basis.proofs.FamilyLemmas.{family_of_closed, closed_closure, same_where, where_all, where_at, where_known, closed_respects_where}
 use Rattle.lectic_basis.proofs.TreeLemmas as tree
 use Rattle.lectic_basis.proofs.ForcedLemmas.{forced_larger, forced_more, forced_differs}

@@ -1,7 +1,7 @@
 -- The closure under members that wait. A member of the bucket of an attribute z of the set has either an attribute of its premise outside the set, and waits
 -- for that from now on; or its premise lies within the set, and its conclusion is joined. Once each attribute of the set was looked through, the premise of
 -- each member that still waits for an attribute outside does not lie within the set.
-use Rattle.std.proofs.Common.{◌≡◌, ℕ, ◌+◌, ◌-◌, ◌<◌, ◌≤◌, Bool, true, false, not, ◌&&◌, ◌||◌, Some, None, List, [], ◌∷◌, ◌++◌, length, get_or, set, take, refl, sym, ap, ◌∙◌, subst, arith, inl, inr, get_or-set_same, get_or-set_other, length-set, eqb, eqb-true}
+use Rattle.std.proofs.Common.{◌≡◌, ℕ, ◌+◌, ◌-◌, ◌<◌, ◌≤◌, Bool, true, false, not, ◌&&◌, ◌||◌, Some, None, List, [], ◌∷◌, ◌++◌, length, get_or, set, take, refl, sym, ap, ◌∙◌, subst, arith, inl, inr, get_or-set_other, length-set, eqb, eqb-true}
 use Rattle.std.proofs.lemmas.Bool.{false≢true, and_parts, and_from, cases_Bool, cases_eq, or_left, or_right, false_from_ne_true}
 use Rattle.std.proofs.lemmas.List.{take_more, get_or_default}
 use Rattle.std.proofs.lemmas.List.Sums.{AllPass-from_list_all}
@@ -10,7 +10,7 @@ use Rattle.std.specs.List.{list_all}
 use Rattle.fca_model.specs.Sets.{Set, within, join, size}
 use Rattle.fca_model.specs.Implications.{Rule, rule, respects, respects_all}
 use Rattle.fca_model.specs.Exploration.{first_missing}
-use Rattle.fca_model.proofs.SetLemmas.{within_refl, within_trans, within_antisymm, within_from_places, within_at_place, not_within_at, set_within, length-join, within-join, within-join_right, join_within, size-set, size_le}
+use Rattle.fca_model.proofs.SetLemmas.{within_refl, within_trans, within_antisymm, within_set, within_at_place, not_within_at, set_within, length-join, within-join, within-join_right, join_within, size-set, size_le}
 use Rattle.fca_model.proofs.ClosureLemmas.{respects_at}
 use Rattle.fca_model.proofs.StepLemmas.{first_missing_none}
 use Rattle.fca_model.proofs.ListLemmas.{list_all-mono, bool_iff}
@@ -222,10 +222,7 @@ module _ {n : ℕ} {J : List Rule} {limit : ℕ} {A X : Set} {old : List (List R
         z_inside = omega (arith, member_below D z z_has, c.d_wide, c.p_wide)
 
         wider : within P (set P z true) ≡ true
-        wider = within_from_places P (set P z true) (λ j l t. elim (cases_eq j z) [
-          | inl e ↦ ap (λ m. get_or (set P z true) m false) e ∙ get_or-set_same P z true false z_inside
-          | inr other ↦ get_or-set_other P z j true false other ∙ t
-        ])
+        wider = within_set P z
 
         covers_next : Covers J new (set P z true) E
         covers_next p out =

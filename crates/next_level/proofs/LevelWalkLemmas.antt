@@ -12,7 +12,7 @@ use Rattle.std.proofs.lemmas.Simd.{length-replicate}
 use Rattle.fca_model.specs.Sets.{Set, same, size, within}
 use Rattle.fca_model.specs.Context.{Context, closure, is_closed}
 use Rattle.fca_model.specs.Implications.{Rule, rule, respects_all}
-use Rattle.fca_model.proofs.SetLemmas.{same-true, same_from, within_at_place, within_refl, within_trans, within_antisymm}
+use Rattle.fca_model.proofs.SetLemmas.{same-true, same_from, within_at_place, within_set, within_refl, within_trans, within_antisymm}
 use Rattle.fca_model.proofs.ClosureLemmas.{length-closure, closure_extensive, closure_monotone, closure_idempotent}
 use Rattle.implication_closure.specs.Closing.{RuleList, IsClosure}
 use Rattle.lectic_concepts.specs.Branches.{agree_before}
@@ -23,7 +23,7 @@ use Rattle.next_level.specs.NextLevel.{IsLeastUnder, IsOpen, everything, open_wh
 use Rattle.next_level.specs.Among.{AreAmong, AllAmong, may_be_open, stands_at}
 use Rattle.next_level.specs.LevelWalks.{IsInside, IsEntered, IsLeft, IsTrying, HasLevel, IsSteady}
 use Rattle.lectic_basis.specs.Watches.{Watched, IsFiled, IsGood, CanClose, HasMoved, IsClosedBefore, Differs}
-use Rattle.lectic_basis.proofs.PlaceLemmas.{within_set, agree_with, agree_less, agree_same, within_not_before}
+use Rattle.lectic_basis.proofs.PlaceLemmas.{agree_with, agree_less, agree_same, within_not_before}
 use Rattle.lectic_basis.proofs.TreeLemmas.{root_least}
 use Rattle.next_level.proofs.NextLevelLemmas as bound
 use Rattle.lectic_basis.proofs.WaitLemmas.{kept_good, good_covers}

@@ -1,6 +1,6 @@
 -- Where an implication holds in all rows, none is a counterexample.
-use Rattle.std.proofs.Common.{◌≡◌, ℕ, ◌+◌, ◌<◌, Bool, true, false, not, ◌&&◌, ◌||◌, List, [], ◌∷◌, Option, None, Some, length, get_or, set, length-set, get_or-set_same, get_or-set_other, inl, inr, cond, refl, sym, ap, ◌∙◌, subst}
-use Rattle.std.proofs.lemmas.Bool.{and_parts, cases_eq}
+use Rattle.std.proofs.Common.{◌≡◌, ℕ, ◌+◌, ◌<◌, Bool, true, false, not, ◌&&◌, ◌||◌, List, [], ◌∷◌, Option, None, Some, length, get_or, set, length-set, cond, refl, sym, ap, ◌∙◌, subst}
+use Rattle.std.proofs.lemmas.Bool.{and_parts}
 use Rattle.std.proofs.lemmas.Iterator.Adapters.{position_from-zero}
 use Rattle.std.specs.Prelude.{position}
 use Rattle.std.specs.List.{zip, list_all, position_from}
@@ -8,7 +8,7 @@ use Rattle.std.specs.Option.{is_none}
 use Rattle.fca_model.specs.Sets.{Set, within}
 use Rattle.fca_model.specs.Context.{Context, closure}
 use Rattle.fca_model.specs.Implications.{Rule, respects, holds}
-use Rattle.fca_model.proofs.SetLemmas.{within_from_places, within_refl, within_trans, set_within}
+use Rattle.fca_model.proofs.SetLemmas.{within_set, within_refl, within_trans, set_within}
 use Rattle.fca_model.proofs.ClosureLemmas.{within-closure, closure_extensive}
 use Rattle.attr_bits.proofs.PlaceLemmas.{member_below}
 use Rattle.extent_blocks.specs.Blocks.{Part, IsExtent, IsExtentWith}
@@ -30,12 +30,6 @@ respecting_none i (row ∷ rows) (c ∷ cs) h k =
 
 pub no_counterexample : (K : Context) (i : Rule) (cs : List (Option ℕ)) → length i.conclusion ≡ K.width → holds K i ≡ true → position (is_counterexample i) (zip K.rows cs) ≡ None
 no_counterexample K i cs wide h = position_from-zero (is_counterexample i) (zip K.rows cs) ∙ respecting_none i K.rows cs (sym (within-closure K i.premise i.conclusion wide) ∙ h) 0
-
-within_set : (A : Set) (i : ℕ) → within A (set A i true) ≡ true
-within_set A i = within_from_places A (set A i true) (λ j l t. elim (cases_eq j i) [
-  | inl e ↦ ap (λ m. get_or (set A i true) m false) e ∙ get_or-set_same A i true false (subst (λ m. m < length A) e l)
-  | inr other ↦ get_or-set_other A i j true false other ∙ t
-])
 
 -- of the rows that contain a set each has each of its attributes
 pub extent_with_own : (K : Context) (P : Set) (i : ℕ) (Ps : List Part) → length P ≡ K.width → get_or P i false ≡ true → IsExtent K P Ps → IsExtentWith K P i Ps
