@@ -8,7 +8,7 @@ ghost use Rattle.expert_wire.specs.Texts.{ordinal};
 ghost use Rattle.concept_lines.specs.Lines.{line_of, numbered_from, Adds};
 ghost use Rattle.concept_lines.specs.Numbering.{pieces};
 
-use crate::numbering::append_pieces;
+use crate::numbering::{append_pieces, have_digits, put_numbers};
 use crate::pieces::{PIECE_ROOM, put_bytes};
 use crate::sheet::Sheet;
 use attr_bits::Bits;
@@ -29,11 +29,14 @@ const ROOM: usize = 64 << 20;
 /// How many bytes are left free in front of the lines: those of a first line that counts in six digits, after a word of eight letters and a space.
 const FRONT: usize = 16;
 
-/// The most digits of a number.
-const DIGITS: usize = 20;
+/// How many bytes are left free before a line without its number at most.
+const DIGITS: u32 = 20;
+
+/// Bytes that are left free.
+const FREE: [u8; 20] = [0; 20];
 
 /// Lines, and how many they are, behind their numbers or, where those are not known yet, without. They stand in the bytes up to an end, which is grown in
-/// large steps; those with numbers behind room for a first line.
+/// large steps; those with numbers behind room for a first line, and each of those without behind room for some digits.
 #[derive(Drop)]
 pub struct Lines {
     bytes: Vec<u8>,
@@ -41,20 +44,25 @@ pub struct Lines {
     count: usize,
     numbered: bool,
     lens: Vec<usize>,
+    digits: u32,
 }
 
 impl Model for Lines {
-    ghost use Rattle.std.specs.Prelude.{◌≡◌, ◌≤◌, true, length, take, drop, cond};
+    ghost use Rattle.std.specs.Prelude.{◌≡◌, ◌≤◌, ◌+◌, ◌*◌, true, false, length, take};
+    ghost use Rattle.std.specs.List.{sum};
     ghost use Rattle.concept_lines.specs.Lines.{LinesText};
+    ghost use Rattle.concept_lines.specs.Numbering.{text_in};
     ghost use Rattle.concept_lines.specs.declared.lines.TheConstants.{FRONT};
 
     ghost Value = { LinesText };
 
-    ghost view = { λ l. record { text = drop (cond l.numbered FRONT 0) (take l.end l.bytes.items); count = l.count; numbered = l.numbered; lens = l.lens.items } };
+    ghost view = { λ l. record { text = text_in l.numbered l.digits (take l.end l.bytes.items) l.lens.items; count = l.count; numbered = l.numbered; lens = l.lens.items } };
 
     ghost invariant = { λ l. record {
       front : l.numbered ≡ true → FRONT ≤ l.end;
       ends : l.end ≤ length l.bytes.items;
+      fits : l.numbered ≡ false → sum l.lens.items + l.digits * length l.lens.items ≡ l.end;
+      digits : l.digits ≤ 20;
     } };
 }
 
@@ -72,6 +80,7 @@ impl Lines {
             count: 0,
             numbered: true,
             lens: Vec::new(alloc),
+            digits: 0,
         })
     }
 
@@ -85,17 +94,22 @@ impl Lines {
             count: 0,
             numbered: false,
             lens: Vec::new(alloc),
+            digits: 0,
         }
     }
 
-    /// Takes all lines away, and keeps the room for others, without numbers.
-    pub fn clear(&mut self)
+    /// Takes all lines away, and keeps the room for others, without numbers. As many digits are left free before each, and room is asked for so many
+    /// bytes.
+    pub fn clear(&mut self, digits: u32, bytes: usize)
         ensures { self.new ≡ record { text = []; count = 0; numbered = false; lens = [] } }
     {
         self.end = 0;
         self.count = 0;
         self.numbered = false;
         self.lens.clear();
+        self.digits = digits.min(DIGITS);
+        // Where so much is refused, less may do.
+        let _refused = self.bytes.reserve(bytes);
     }
 
     /// Adds the line of the concept of a, whose objects stand at these places.
@@ -165,9 +179,11 @@ impl Lines {
             return Err(Memory);
         };
         let start = self.end;
-        self.end = append_line(&mut self.bytes, start, sheet, b"", a, places)?;
+        let free = &FREE[..self.digits as usize];
+        let end = append_line(&mut self.bytes, start, sheet, free, a, places)?;
+        self.lens.push(end - start - self.digits as usize)?;
+        self.end = end;
         self.count = number;
-        self.lens.push(self.end - start)?;
         Ok(())
     }
 
@@ -188,6 +204,7 @@ impl Lines {
         append_pieces(
             &mut self.bytes,
             self.count,
+            others.digits as usize,
             &others.bytes[..others.end],
             &others.lens,
         )?;
@@ -203,7 +220,7 @@ impl Lines {
         if self.numbered {
             return self.end - FRONT;
         }
-        self.end
+        self.end - self.digits as usize * self.lens.len()
     }
 
     /// How many lines there are, of lines without numbers.
@@ -213,15 +230,46 @@ impl Lines {
         self.lens.len()
     }
 
+    /// The lines, each behind its number, as a text. The first is that of the place. Where as many digits as the numbers have were left free, they are put
+    /// there, and else the text is a second one.
+    pub fn into_numbered(self, alloc: Global, first: usize) -> Result<Vec<u8>, Memory>
+        requires plain { self.numbered ≡ false }
+        ensures { IfOk result (λ piece. piece.items ≡ numbered_from first (pieces self.text self.lens)) }
+    {
+        let Some(behind) = first.checked_add(self.lens.len()) else {
+            return Err(Memory);
+        };
+        if !have_digits(first, behind, self.digits) {
+            return self.copied(alloc, first);
+        }
+        let Lines {
+            mut bytes,
+            end,
+            lens,
+            digits,
+            ..
+        } = self;
+        bytes.truncate(end);
+        put_numbers(&mut bytes, first, digits as usize, &lens);
+        bytes.shrink_to_fit();
+        Ok(bytes)
+    }
+
     /// The lines, each behind its number, as a text of its own. The first is that of the place. Room is asked for all of it at once.
-    pub fn numbered_piece(&self, alloc: Global, first: usize) -> Result<Vec<u8>, Memory>
+    fn copied(&self, alloc: Global, first: usize) -> Result<Vec<u8>, Memory>
         requires plain { self.now.numbered ≡ false }
-        requires fits { sum self.now.lens ≡ length self.now.text }
         ensures { IfOk result (λ piece. piece.items ≡ numbered_from first (pieces self.now.text self.now.lens)) }
     {
-        let numbers = self.lens.len().saturating_mul(DIGITS);
+        let numbers = self.lens.len().saturating_mul(DIGITS as usize);
         let mut piece = Vec::with_capacity(alloc, self.end.saturating_add(numbers))?;
-        append_pieces(&mut piece, first, &self.bytes[..self.end], &self.lens)?;
+        append_pieces(
+            &mut piece,
+            first,
+            self.digits as usize,
+            &self.bytes[..self.end],
+            &self.lens,
+        )?;
+        piece.shrink_to_fit();
         Ok(piece)
     }
 

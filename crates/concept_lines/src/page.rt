@@ -51,13 +51,14 @@ impl<const W: usize> Page<W> {
         }
     }
 
-    /// Takes all lines away, and keeps the room for others, without numbers.
-    pub fn clear(&mut self, keeps: bool)
+    /// Takes all lines away, and keeps the room for others, without numbers. As many digits are left free before each, and room is asked for so many
+    /// bytes.
+    pub fn clear(&mut self, keeps: bool, digits: u32, bytes: usize)
         ensures lines { self.new.lines ≡ record { text = []; count = 0; numbered = false; lens = [] } }
         ensures keeps { self.new.keeps ≡ keeps }
         ensures kept { self.new.kept.items ≡ [] }
     {
-        self.lines.clear();
+        self.lines.clear(digits, bytes);
         self.keeps = keeps;
         self.kept.clear();
     }

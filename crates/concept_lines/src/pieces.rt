@@ -97,6 +97,7 @@ pub fn tail_of(alloc: Global, text: &[u8]) -> Result<Vec<u8>, Memory>
 pub fn put_bytes(text: &mut [u8], start: usize, bytes: &[u8]) -> usize
     requires { start + length bytes.now ≤ length text.old }
     ensures text { take result text.new ≡ take start text.old ++ bytes.now }
+    ensures rest { drop result text.new ≡ drop result text.old }
     ensures ends { result ≡ start + length bytes.now }
     ensures room { length text.new ≡ length text.old }
 {

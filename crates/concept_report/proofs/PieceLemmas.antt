@@ -1,6 +1,6 @@
 -- Lines in pieces, of which each has those of a job.
-use Rattle.std.proofs.Common.{◌≡◌, ℕ, ◌+◌, ◌<◌, Bool, List, [], ◌∷◌, ◌++◌, map, length, take, drop, suc, refl, sym, ap, ap₂, subst, ◌∙◌, arith, length-append}
-use Rattle.std.proofs.lemmas.List.{get_or-take, length-map, length-take-le}
+use Rattle.std.proofs.Common.{◌≡◌, ℕ, ◌+◌, ◌<◌, Bool, true, false, List, [], ◌∷◌, ◌++◌, All, map, length, take, drop, suc, refl, sym, ap, ap₂, subst, ◌∙◌, arith, length-append, append_assoc}
+use Rattle.std.proofs.lemmas.List.{append-nil, length-map}
 use Rattle.std.proofs.lemmas.List.Concat.{flat_map-append}
 use Rattle.std.specs.List.{flat_map}
 use Rattle.std.specs.Prelude.{Result, Ok, Vec, IfOk, slice_index_or}
@@ -10,20 +10,49 @@ use Rattle.fca_model.specs.Tables.{NamedContext}
 use Rattle.fca_model.specs.declared.Memory.{Memory}
 use Rattle.fca_model.specs.Context.{Context}
 use Rattle.concept_lines.specs.Lines.{Adds, lines_from}
+use Rattle.concept_lines.specs.Pages.{IsPage}
 use Rattle.concept_lines.specs.declared.page.Page.{Page}
-use Rattle.concept_lines.proofs.LineLemmas.{lines_from-append}
-use Rattle.concept_report.specs.Tops.{branches, all_branches, Wrote, EachWrote}
-use Rattle.concept_report.specs.InPieces.{as_one, EachPieceAt}
+use Rattle.concept_lines.proofs.LineLemmas.{lines_from-append, numbered-page, length-page}
+use Rattle.concept_report.specs.Tops.{branches, all_branches, EachWrote}
+use Rattle.concept_report.specs.InPieces.{as_one, numbered_part, numbered_pages, lines_on, IsNumbered}
 use Rattle.concept_report.specs.declared.tops.Top.{Top}
+use Rattle.concept_report.specs.declared.in_pieces.Part.{Part}
 use Rattle.concept_report.specs.declared.in_pieces.PiecedLines.{PiecedLines}
 
--- the pages before one, and the jobs before one
-pub EachWrote-take : (t : NamedContext) (keeps : Bool) {W : ℕ} (pages : List (Page W)) (jobs : List (Bor (List (Top W)))) (n : ℕ) → n < length jobs → EachWrote t keeps pages jobs → EachWrote t keeps (take n pages) (take n jobs)
-EachWrote-take t keeps {W} pages jobs n l each = λ i p j inside.
-    let many : length (take n jobs) ≡ n = length-take-le n jobs (omega arith) in
-    let before : i < n = omega arith in
-    subst (λ (page : Page W). Wrote t keeps page (slice_index_or (take n jobs) i j).now) (sym (get_or-take n pages i p before))
-    (subst (λ (job : Bor (List (Top W))). Wrote t keeps (slice_index_or pages i p) job.now) (sym (get_or-take n jobs i j before)) (each i p j (omega arith)))
+-- the pages behind the first, and the jobs behind the first
+EachWrote-behind : (t : NamedContext) (keeps : Bool) {W : ℕ} (p : Page W) (ps : List (Page W)) (j : Bor (List (Top W))) (js : List (Bor (List (Top W)))) → EachWrote t keeps (p ∷ ps) (j ∷ js) → EachWrote t keeps ps js
+EachWrote-behind t keeps p ps j js each = λ i q k l. each (suc i) q k (omega arith)
+
+-- lines of which none is missing stand without their numbers
+pub plain-pages : (t : NamedContext) {W : ℕ} (pages : List (Page W)) (jobs : List (Bor (List (Top W)))) → length pages ≡ length jobs → EachWrote t false pages jobs → All (λ page. page.whole ≡ true → page.lines.numbered ≡ false) pages
+plain-pages t [] jobs even each = All-nil (λ page. page.whole ≡ true → page.lines.numbered ≡ false)
+plain-pages t (p ∷ ps) [] even each = absurd (omega arith)
+plain-pages t (p ∷ ps) (j ∷ js) even each =
+    All-cons (λ page. page.whole ≡ true → page.lines.numbered ≡ false) p ps (λ whole. (each 0 p j (omega arith) whole).plain) (plain-pages t ps js (omega arith) (EachWrote-behind t false p ps j js each))
+
+-- how many lines there are
+pub length-pages : (t : NamedContext) {W : ℕ} (pages : List (Page W)) (jobs : List (Bor (List (Top W)))) → length pages ≡ length jobs → EachWrote t false pages jobs → All (λ page. page.whole ≡ true) pages → lines_on pages ≡ length (all_branches t.context jobs)
+length-pages t [] [] even each whole = refl
+length-pages t [] (j ∷ js) even each whole = absurd (omega arith)
+length-pages t (p ∷ ps) [] even each whole = absurd (omega arith)
+length-pages t (p ∷ ps) (j ∷ js) even each whole =
+    let Xs = branches t.context j.now in
+    let first : length p.lines.lens ≡ length Xs = length-page t false p Xs (each 0 p j (omega arith) (whole 0 p (omega arith))) in
+    let rest = length-pages t ps js (omega arith) (EachWrote-behind t false p ps j js each) (λ k d l. whole (suc k) d (omega arith)) in
+    let both = length-append Xs (all_branches t.context js) in
+    omega (arith, first, rest, both)
+
+-- behind their numbers they are those of all jobs
+pub lines-pages : (t : NamedContext) {W : ℕ} (n : ℕ) (pages : List (Page W)) (jobs : List (Bor (List (Top W)))) → length pages ≡ length jobs → EachWrote t false pages jobs → All (λ page. page.whole ≡ true) pages → numbered_pages n pages ≡ lines_from t n (all_branches t.context jobs)
+lines-pages t n [] [] even each whole = refl
+lines-pages t n [] (j ∷ js) even each whole = absurd (omega arith)
+lines-pages t n (p ∷ ps) [] even each whole = absurd (omega arith)
+lines-pages t n (p ∷ ps) (j ∷ js) even each whole =
+    let Xs = branches t.context j.now in
+    let is : IsPage t false p Xs = each 0 p j (omega arith) (whole 0 p (omega arith)) in
+    ap₂ (λ u v. u ++ v) (numbered-page t false n p Xs is)
+    (ap (λ k. numbered_pages (n + k) ps) (length-page t false p Xs is) ∙ lines-pages t (n + length Xs) ps js (omega arith) (EachWrote-behind t false p ps j js each) (λ k d l. whole (suc k) d (omega arith)))
+    ∙ sym (lines_from-append t n Xs (all_branches t.context js))
 
 -- what was made, put behind other pieces
 behind : {A E : Type 0} (news olds : List A) (made : List (Result A E)) → map (λ x. Ok x) news ≡ map (λ x. Ok x) olds ++ made → news ≡ olds ++ drop (length olds) news
@@ -37,36 +66,51 @@ all_made news [] made e = e
 all_made [] (x ∷ xs) made e = cc
 all_made (y ∷ ys) (x ∷ xs) made e = let rest : map (λ z. Ok z) ys ≡ map (λ z. Ok z) xs ++ made = cc in all_made ys xs made rest
 
--- the pieces of the jobs, one behind the other, are the lines of all
-lines-pieces : (t : NamedContext) {W : ℕ} (n : ℕ) (jobs : List (Bor (List (Top W)))) (ps : List (Vec ℕ Global)) → length ps ≡ length jobs → EachPieceAt t n jobs (map (λ p. Ok p) ps)
-    → flat_map (λ p. p.items) ps ≡ lines_from t n (all_branches t.context jobs)
-lines-pieces t n [] [] l each = refl
-lines-pieces t n [] (p ∷ ps) l each = absurd (omega arith)
-lines-pieces t n (j ∷ js) [] l each = absurd (omega arith)
-lines-pieces t {W} n (j ∷ js) (p ∷ ps) l each =
-    let K : Context = t.context in
-    let Xs = branches K j.now in
-    let Ys = all_branches K js in
-    let zero : n + 0 ≡ n = omega arith in
-    let first : p.items ≡ lines_from t n Xs = each 0 (Ok p) (omega arith) j ∙ ap (λ k. lines_from t k Xs) zero in
-    let further = λ (i : ℕ) (r : Result (Vec ℕ Global) Memory) (h : i < length js) (k : Bor (List (Top W))).
-    let both = length-append Xs (all_branches K (take i js)) in
-    let place : n + length (all_branches K (take (suc i) (j ∷ js))) ≡ (n + length Xs) + length (all_branches K (take i js)) = omega (arith, both) in
-    subst (λ m. IfOk (slice_index_or (map (λ q. Ok q) ps) i r) (λ (piece : Vec ℕ Global). piece.items ≡ lines_from t m (branches K (slice_index_or js i k).now))) place (each (suc i) r (omega arith) k) in
-    ap₂ (λ u v. u ++ v) first (lines-pieces t (n + length Xs) js ps (omega arith) further) ∙ sym (lines_from-append t n Xs Ys)
+-- each of the results has the lines of the part at its place
+abbrev pub EachNumbered : List Part → List (Result (Vec ℕ Global) Memory) → Type 0
+EachNumbered parts made = (i : ℕ) (part : Part) (r : Result (Vec ℕ Global) Memory) → i < length parts → IsNumbered (slice_index_or parts i part) (slice_index_or made i r)
 
--- the pieces of the jobs, put behind other lines
-pub Adds-pieces : (t : NamedContext) {W : ℕ} (old new : PiecedLines) (jobs : List (Bor (List (Top W)))) (made : List (Result (Vec ℕ Global) Memory)) → map (λ p. Ok p) new.pieces.items ≡ map (λ p. Ok p) old.pieces.items ++ made
-    → length made ≡ length jobs → EachPieceAt t old.count jobs made → new.count ≡ old.count + length (all_branches t.context jobs) → Adds t (as_one old) (as_one new) (all_branches t.context jobs)
-Adds-pieces t old new jobs made put even each counted =
-    let olds : List (Vec ℕ Global) = old.pieces.items in
-    let ps : List (Vec ℕ Global) = drop (length olds) new.pieces.items in
-    let is : map (λ p. Ok p) ps ≡ made = all_made new.pieces.items olds made put in
-    let many : length ps ≡ length jobs = sym (length-map ps (λ p. Ok p)) ∙ ap length is ∙ even in
-    record {
-      text = ap (flat_map (λ p. p.items)) (behind new.pieces.items olds made put) ∙ flat_map-append (λ p. p.items) olds ps
-          ∙ ap (λ z. flat_map (λ p. p.items) olds ++ z) (lines-pieces t old.count jobs ps many (subst (EachPieceAt t old.count jobs) (sym is) each));
-      count = counted;
-      numbered = refl;
-      lens = refl;
-    }
+-- the pieces, one behind the other, have the lines of all parts
+pieces-parts : (parts : List Part) (ps : List (Vec ℕ Global)) → length ps ≡ length parts → EachNumbered parts (map (λ p. Ok p) ps) → flat_map (λ p. p.items) ps ≡ flat_map numbered_part parts
+pieces-parts [] [] even each = refl
+pieces-parts [] (p ∷ ps) even each = absurd (omega arith)
+pieces-parts (part ∷ parts) [] even each = absurd (omega arith)
+pieces-parts (part ∷ parts) (p ∷ ps) even each =
+    let first : p.items ≡ numbered_part part = each 0 part (Ok p) (omega arith) in
+    ap₂ (λ u v. u ++ v) first (pieces-parts parts ps (omega arith) (λ i q r l. each (suc i) q r (omega arith)))
+
+pub put-parts : (news olds : List (Vec ℕ Global)) (made : List (Result (Vec ℕ Global) Memory)) (parts : List Part) → map (λ p. Ok p) news ≡ map (λ p. Ok p) olds ++ made → length made ≡ length parts → EachNumbered parts made
+    → flat_map (λ p. p.items) news ≡ flat_map (λ p. p.items) olds ++ flat_map numbered_part parts
+put-parts news olds made parts put even each =
+    let ps : List (Vec ℕ Global) = drop (length olds) news in
+    let is : map (λ p. Ok p) ps ≡ made = all_made news olds made put in
+    let many : length ps ≡ length parts = sym (length-map ps (λ p. Ok p)) ∙ ap length is ∙ even in
+    ap (flat_map (λ p. p.items)) (behind news olds made put) ∙ flat_map-append (λ p. p.items) olds ps
+    ∙ ap (λ z. flat_map (λ p. p.items) olds ++ z) (pieces-parts parts ps many (subst (EachNumbered parts) (sym is) each))
+
+-- the piece of a part, put last
+pub put-part : (news ps : List (Vec ℕ Global)) (p : Vec ℕ Global) (part : Part) (rest : List Part) → news ≡ ps ++ p ∷ [] → p.items ≡ numbered_part part → flat_map (λ q. q.items) news ++ flat_map numbered_part rest ≡ flat_map (λ q. q.items) ps ++ flat_map numbered_part (part ∷ rest)
+put-part news ps p part rest put is =
+    let own : flat_map (λ q. q.items) (p ∷ []) ≡ numbered_part part = append-nil p.items ∙ is in
+    ap (λ (qs : List (Vec ℕ Global)). flat_map (λ q. q.items) qs ++ flat_map numbered_part rest) put
+    ∙ ap (λ z. z ++ flat_map numbered_part rest) (flat_map-append (λ q. q.items) ps (p ∷ []) ∙ ap (λ z. flat_map (λ q. q.items) ps ++ z) own) ∙ append_assoc (flat_map (λ q. q.items) ps) (numbered_part part) (flat_map numbered_part rest)
+
+-- a page more: its lines behind those of the parts, and before those of the other pages
+pub put-page : {W : ℕ} (news parts : List Part) (part : Part) (page : Page W) (rest : List (Page W)) (place behind : ℕ) → news ≡ parts ++ part ∷ [] → part ≡ record { lines = page.lines; first = place } → behind ≡ place + length page.lines.lens
+    → flat_map numbered_part news ++ numbered_pages behind rest ≡ flat_map numbered_part parts ++ numbered_pages place (page ∷ rest)
+put-page news parts part page rest place behind put is next =
+    let own : flat_map numbered_part (part ∷ []) ≡ numbered_part part = append-nil (numbered_part part) in
+    ap₂ (λ (ps : List Part) k. flat_map numbered_part ps ++ numbered_pages k rest) put next
+    ∙ ap (λ z. z ++ numbered_pages (place + length page.lines.lens) rest) (flat_map-append numbered_part parts (part ∷ []) ∙ ap (λ z. flat_map numbered_part parts ++ z) (own ∙ ap numbered_part is))
+    ∙ append_assoc (flat_map numbered_part parts) (numbered_part (record { lines = page.lines; first = place })) (numbered_pages (place + length page.lines.lens) rest)
+
+-- the lines of the jobs were added
+pub Adds-pages : (t : NamedContext) {W : ℕ} (old new : PiecedLines) (pages : List (Page W)) (jobs : List (Bor (List (Top W)))) (parts : List Part) → length pages ≡ length jobs → EachWrote t false pages jobs → All (λ page. page.whole ≡ true) pages
+    → flat_map numbered_part parts ≡ numbered_pages old.count pages → flat_map (λ p. p.items) new.pieces.items ≡ flat_map (λ p. p.items) old.pieces.items ++ flat_map numbered_part parts → new.count ≡ old.count + lines_on pages
+    → Adds t (as_one old) (as_one new) (all_branches t.context jobs)
+Adds-pages t old new pages jobs parts even each whole numbered put counted = record {
+  text = put ∙ ap (λ z. flat_map (λ p. p.items) old.pieces.items ++ z) (numbered ∙ lines-pages t old.count pages jobs even each whole);
+  count = counted ∙ ap (λ n. old.count + n) (length-pages t pages jobs even each whole);
+  numbered = refl;
+  lens = refl;
+}

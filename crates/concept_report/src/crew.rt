@@ -7,6 +7,7 @@ ghost use Rattle.concept_lines.specs.Pages.{Fills};
 ghost use Rattle.concept_report.specs.Tops.{IsTop, branches, all_branches, Wrote, EachWrote};
 
 use crate::appended::append_pages;
+use crate::expected::Expected;
 use crate::jobs::{density_of, jobs_of};
 use crate::tops::{Top, laid_out, pays, root_of};
 use concept_lines::{Desks, Page, Sheet, write_branch};
@@ -15,11 +16,8 @@ use std::alloc::Global;
 use std::thread::Threads;
 use std::{mem, thread};
 
-/// How many pages are filled at a time.
+/// How many pages are filled at a time, at first.
 pub(crate) const PAGES: usize = 16;
-
-/// By how many threads they are filled, where so many can be made: each fills its share of the pages, one after the other.
-const THREADS: usize = 8;
 
 /// Writes the lines of all concepts.
 pub(crate) fn write_all<R: Threads + Sync, const W: usize>(
@@ -33,7 +31,7 @@ pub(crate) fn write_all<R: Threads + Sync, const W: usize>(
 {
     let _words = sheet.rows().width();
     let root = root_of(alloc, sheet)?;
-    let children = laid_out(alloc, sheet, &root)?;
+    let children = laid_out(alloc, sheet, &root, 0)?;
     if pays(&children) {
         write_side_by_side(rt, alloc, sheet, &children, page)?;
     } else {
@@ -55,20 +53,20 @@ fn write_side_by_side<R: Threads + Sync, const W: usize>(
     ensures { OnOk result (Fills sheet.now page.old page.new (branches sheet.now.context tops.now)) }
 {
     let _words = sheet.rows().width();
-    let more = laid_out(alloc, sheet, tops)?;
+    let more = laid_out(alloc, sheet, tops, 0)?;
     let jobs = jobs_of(alloc, sheet, &more, density_of(tops))?;
-    let mut pages = pages_of(alloc)?;
+    let mut pages = pages_of(alloc, PAGES)?;
     write_jobs(rt, alloc, sheet, &jobs, &mut pages, page)?;
     Ok(())
 }
 
-/// Pages with no line.
-pub(crate) fn pages_of<const W: usize>(alloc: Global) -> Result<Vec<Page<W>>, Memory>
+/// So many pages with no line.
+pub(crate) fn pages_of<const W: usize>(alloc: Global, count: usize) -> Result<Vec<Page<W>>, Memory>
     requires { W ≤ 1024 }
-    ensures { IfOk result (λ pages. length pages.items ≡ PAGES) }
+    ensures { IfOk result (λ pages. length pages.items ≡ count) }
 {
     let mut pages = Vec::new(alloc);
-    for _ in 0..PAGES {
+    for _ in 0..count {
         pages.push(Page::plain(alloc))?;
     }
     Ok(pages)
@@ -121,18 +119,27 @@ fn write_batch<R: Threads + Sync, const W: usize>(
     ensures lines { OnOk result (Fills sheet.now page.old page.new (all_branches sheet.now.context jobs.now)) }
 {
     let _words = sheet.rows().width();
-    fill_pages(rt, alloc, sheet, jobs, page.keeps, pages);
+    fill_pages(
+        rt,
+        alloc,
+        sheet,
+        jobs,
+        page.keeps,
+        Expected::nothing(),
+        pages,
+    );
     append_pages(sheet, page, jobs, pages)?;
     Ok(())
 }
 
-/// Fills each page with the lines of the job at its place.
+/// Fills each page with the lines of the job at its place, in a thread of its own where so many can be made.
 pub(crate) fn fill_pages<R: Threads + Sync, const W: usize>(
     rt: &R,
     alloc: Global,
     sheet: &Sheet<'_, W>,
     jobs: &[&[Top<W>]],
     keeps: bool,
+    expected: Expected,
     pages: &mut [Page<W>],
 )
     requires tops { All (λ job. All (IsTop sheet.now.context) job.now) jobs.now }
@@ -141,23 +148,26 @@ pub(crate) fn fill_pages<R: Threads + Sync, const W: usize>(
     ensures pages { EachWrote sheet.now keeps pages.new jobs.now }
 {
     let _words = sheet.rows().width();
+    let threads = jobs.len().max(1);
     thread::for_each_mut(
         rt,
         pages,
-        THREADS,
+        threads,
         &|i: usize, page: &mut Page<W>|
             requires { (i < length jobs.now) × All (λ job. All (IsTop sheet.now.context) job.now) jobs.now }
             ensures { (d : _) → Wrote sheet.entry.now keeps page.new (slice_index_or jobs.entry.now i d).now }
-        { fill_page(alloc, sheet, jobs[i], keeps, page) },
+        { fill_page(alloc, sheet, jobs[i], keeps, expected, i, page) },
     );
 }
 
-/// Fills the page with the lines of the branches alone. Pages of other threads stand beside it, so it is written on where this one has its own values.
+/// Fills the page, which is at that place, with the lines of the branches alone. Pages of other threads stand beside it, so it is written on where this one has its own values.
 fn fill_page<const W: usize>(
     alloc: Global,
     sheet: &Sheet<'_, W>,
     job: &[Top<W>],
     keeps: bool,
+    expected: Expected,
+    place: usize,
     page: &mut Page<W>,
 )
     requires { All (IsTop sheet.now.context) job.now }
@@ -166,7 +176,7 @@ fn fill_page<const W: usize>(
     let _words = sheet.rows().width();
     let mut own = Page::plain(alloc);
     mem::swap(page, &mut own);
-    own.clear(keeps);
+    own.clear(keeps, expected.digits_on(place), expected.bytes());
     own.whole = write_tops(alloc, sheet, job, &mut own).is_ok();
     mem::swap(page, &mut own);
 }

@@ -5,6 +5,7 @@ mod appended;
 mod basis_lines;
 mod cover_lines;
 mod crew;
+mod expected;
 mod in_pieces;
 mod jobs;
 mod numerals;

@@ -17,6 +17,9 @@ use std::alloc::Global;
 /// How many branches are enough, so that none is laid out again.
 const ENOUGH: usize = 2_048;
 
+/// A large branch seems this part of all.
+const LARGE: usize = 128;
+
 /// So many branches are many.
 const MANY: usize = 24;
 
@@ -36,6 +39,24 @@ pub(crate) struct Top<const W: usize> {
     pub(crate) from: u32,
     pub(crate) places: Vec<u16>,
     pub(crate) seen: Vec<u32>,
+}
+
+impl<const W: usize> Top<W> {
+    /// How large the branch seems: the pairs of its objects, times the attributes that are left.
+    fn size(&self) -> usize {
+        let left = self.intent.width().saturating_sub(self.from) as usize;
+        let objects = self.places.len();
+        objects.saturating_mul(objects).saturating_mul(left)
+    }
+}
+
+/// What a branch seems at least that is a large part of these.
+pub(crate) fn large_part<const W: usize>(tops: &[Top<W>]) -> usize {
+    let mut whole = 0usize;
+    for top in tops {
+        whole = whole.saturating_add(top.size());
+    }
+    whole / LARGE
 }
 
 /// The branch of all intents.
@@ -101,11 +122,12 @@ fn least_intent<const W: usize>(sheet: &Sheet<'_, W>) -> Bits<W>
     rows.closure(&Bits::empty(rows.width()))
 }
 
-/// The same branches, each laid out as its intent alone and the branches of its children, until there are enough.
+/// The same branches, each that seems at least so large laid out as its intent alone and the branches of its children, until there are enough.
 pub(crate) fn laid_out<const W: usize>(
     alloc: Global,
     sheet: &Sheet<'_, W>,
     tops: &[Top<W>],
+    least: usize,
 ) -> Result<Vec<Top<W>>, Memory>
     requires tops { All (IsTop sheet.now.context) tops.now }
     ensures tops { IfOk result (λ more. All (IsTop sheet.now.context) more.items) }
@@ -114,16 +136,17 @@ pub(crate) fn laid_out<const W: usize>(
     let _words = sheet.rows().width();
     let mut more = Vec::new(alloc);
     for top in tops {
-        lay_out_if_few(alloc, sheet, top, &mut more)?;
+        lay_out_if_large(alloc, sheet, top, least, &mut more)?;
     }
     Ok(more)
 }
 
-/// Puts the branch last, laid out where there are not enough yet.
-fn lay_out_if_few<const W: usize>(
+/// Puts the branch last, laid out where it seems at least so large and there are not enough yet.
+fn lay_out_if_large<const W: usize>(
     alloc: Global,
     sheet: &Sheet<'_, W>,
     top: &Top<W>,
+    least: usize,
     more: &mut Vec<Top<W>>,
 ) -> Result<(), Memory>
     requires top { IsTop sheet.now.context top.now }
@@ -133,7 +156,7 @@ fn lay_out_if_few<const W: usize>(
         ≡ branches sheet.now.context more.old.items ++ branch sheet.now.context top.now.intent top.now.from) }
 {
     let _words = sheet.rows().width();
-    if more.len() < ENOUGH {
+    if least <= top.size() && more.len() < ENOUGH {
         return lay_out(alloc, sheet, top, more);
     }
     add_top(

@@ -1,5 +1,7 @@
-use Rattle.std.proofs.Common.{◌≡◌, ◌≤◌, ◌-◌, List, length, take, drop, sym, subst, arith, length-append}
-use Rattle.std.proofs.lemmas.List.{length-drop, length-take-le}
+use Rattle.std.proofs.Common.{◌≡◌, ◌++◌, ◌∙◌, List, take, drop, sym, ap, subst}
+use Rattle.std.proofs.lemmas.List.{take-append-drop}
+use Rattle.std.proofs.lemmas.List.Concat.{flat_map-append}
+use Rattle.std.proofs.lemmas.Result.{OnOk-weaker}
 use denote.Ref.{Bor}
 use Rattle.fca_model.specs.Sets.{Set}
 use Rattle.fca_model.specs.Context.{Context}
@@ -8,25 +10,7 @@ use Rattle.concept_report.specs.Tops.{branches, all_branches}
 use Rattle.concept_report.specs.InPieces.{as_one}
 use Rattle.concept_report.specs.declared.tops.Top.{Top}
 use Rattle.concept_lines.proofs.LineLemmas.{Adds-append}
-use Rattle.concept_report.proofs.TopLemmas.{flat_map-parts}
 use Rattle.concept_report.proofs.in_pieces.add_jobs.Goals as goal
 
-pub loop-done-preserved : goal.loop-done-preserved
-loop-done-preserved g c =
-    let K : Context = c.args.sheet.now.context in
-    let jobs = c.args.jobs.now in
-    let done = c.loop-done.done in
-    let end = c.min-end.result in
-    let inside : end ≤ length jobs = omega (arith, c.min-end.ensures) in
-    let further : done ≤ end = omega (arith, c.min-end.ensures, c.saturating_add.ensures, c.loop-done-test.true) in
-    let few : end - done ≤ length c.loop-done.pages = omega (arith, c.min-end.ensures, c.saturating_add.ensures, c.min-few.ensures) in
-    let batch : length (take (end - done) (drop done jobs)) ≡ end - done = length-take-le (end - done) (drop done jobs) (omega (arith, inside, further, length-drop done jobs)) in
-    let behind = length-drop (end - done) c.loop-done.pages in
-    record {
-      inside = inside;
-      pages = let both = length-append c.add_batch.new.pages (drop (end - done) c.loop-done.pages) in omega (arith, both, behind, few, batch, c.in_ok-at_once.ensures.even, c.loop-done.invariant.pages);
-      some = c.in_ok-at_once.ensures.some;
-      lines = subst (λ (Xs : List Set). Adds c.args.sheet.now (as_one c.args.lines.now) (as_one c.add_batch.new.lines) Xs)
-          (sym (flat_map-parts (λ (job : Bor (List (Top g.row.W))). branches K job.now) jobs done end further))
-          (Adds-append c.args.sheet.now (as_one c.args.lines.now) (as_one c.loop-done.lines) (as_one c.add_batch.new.lines) (all_branches K (take done jobs)) (all_branches K (take (end - done) (drop done jobs))) c.loop-done.invariant.lines c.in_ok-at_once.ensures.lines);
-    }
+pub returns : goal.returns
+returns g c = ?
