@@ -1,14 +1,14 @@
 -- Lines in pieces, of which each has those of a job.
-use Rattle.std.proofs.Common.{◌≡◌, ℕ, ◌+◌, ◌<◌, Bool, true, false, List, [], ◌∷◌, ◌++◌, All, map, length, take, drop, suc, refl, sym, ap, ap₂, subst, ◌∙◌, arith, length-append, append_assoc}
+use Rattle.std.proofs.Common.{◌≡◌, ℕ, ◌+◌, ◌<◌, Bool, true, false, List, [], ◌∷◌, ◌++◌, All, map, length, drop, suc, refl, sym, ap, ap₂, subst, ◌∙◌, arith, length-append, append_assoc}
 use Rattle.std.proofs.lemmas.List.{append-nil, length-map}
 use Rattle.std.proofs.lemmas.List.Concat.{flat_map-append}
+use Rattle.std.proofs.lemmas.List.Elements.{All-nil, All-cons}
 use Rattle.std.specs.List.{flat_map}
-use Rattle.std.specs.Prelude.{Result, Ok, Vec, IfOk, slice_index_or}
+use Rattle.std.specs.Prelude.{Result, Ok, Vec, slice_index_or}
 use Rattle.std.specs.Global.{Global}
 use denote.Ref.{Bor}
 use Rattle.fca_model.specs.Tables.{NamedContext}
 use Rattle.fca_model.specs.declared.Memory.{Memory}
-use Rattle.fca_model.specs.Context.{Context}
 use Rattle.concept_lines.specs.Lines.{Adds, lines_from}
 use Rattle.concept_lines.specs.Pages.{IsPage}
 use Rattle.concept_lines.specs.declared.page.Page.{Page}

@@ -38,7 +38,7 @@ impl Expected {
         let bytes = lines.len() / pages.max(1);
         Expected {
             before: lines.count,
-            lines: lines.count / pages.max(1) + 1,
+            lines: (lines.count / pages.max(1)).max(1),
             bytes: bytes.saturating_add(bytes / 4),
         }
     }

@@ -157,11 +157,7 @@ fn add_batch<R: Threads + Sync, const W: usize>(
     fill_pages(rt, alloc, sheet, jobs, false, expected, &mut pages);
     let bytes = bytes_on(&pages);
     let (parts, count) = parts_of(alloc, pages, lines.count)?;
-    if bytes < FEW_BYTES {
-        number_in_turn(alloc, &mut lines.pieces, parts)?;
-    } else {
-        number_side_by_side(rt, alloc, &mut lines.pieces, parts)?;
-    }
+    number(rt, alloc, &mut lines.pieces, parts, bytes)?;
     lines.count = count;
     Ok(())
 }
@@ -205,7 +201,25 @@ fn parts_of<const W: usize>(
     Ok((parts, place))
 }
 
-/// Puts the lines last, behind their numbers, each part as a piece, one after the other.
+/// Puts the lines last, behind their numbers, each part as a piece. They take about so many bytes.
+fn number<R: Threads + Sync>(
+    rt: &R,
+    alloc: Global,
+    pieces: &mut Vec<Vec<u8>>,
+    parts: Vec<Part>,
+    bytes: usize,
+) -> Result<(), Memory>
+    requires { All (λ part. part.lines.numbered ≡ false) parts.items }
+    ensures { OnOk result (flat_map (λ piece. piece.items) pieces.new.items
+        ≡ flat_map (λ piece. piece.items) pieces.old.items ++ flat_map numbered_part parts.items) }
+{
+    if bytes < FEW_BYTES {
+        return number_in_turn(alloc, pieces, parts);
+    }
+    number_side_by_side(rt, alloc, pieces, parts)
+}
+
+/// The same, one after the other.
 fn number_in_turn(alloc: Global, pieces: &mut Vec<Vec<u8>>, parts: Vec<Part>) -> Result<(), Memory>
     requires { All (λ part. part.lines.numbered ≡ false) parts.items }
     ensures { OnOk result (flat_map (λ piece. piece.items) pieces.new.items
@@ -217,7 +231,7 @@ fn number_in_turn(alloc: Global, pieces: &mut Vec<Vec<u8>>, parts: Vec<Part>) ->
     Ok(())
 }
 
-/// Puts the lines last, behind their numbers, each part as a piece, made side by side.
+/// The same, side by side.
 fn number_side_by_side<R: Threads + Sync>(
     rt: &R,
     alloc: Global,

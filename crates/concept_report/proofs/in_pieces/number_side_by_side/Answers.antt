@@ -1,8 +1,7 @@
-use Rattle.std.proofs.Common.{◌≡◌, ◌++◌, ◌∙◌, List, length, map, sym, subst, arith}
+use Rattle.std.proofs.Common.{◌≡◌, List, length, sym, subst, arith}
 use Rattle.std.proofs.lemmas.Result.{on_ok_weaker}
-use Rattle.std.specs.List.{flat_map}
-use Rattle.std.specs.Prelude.{Ok, slice_index_or}
-use Rattle.concept_report.specs.InPieces.{numbered_part, IsNumbered}
+use Rattle.std.specs.Prelude.{slice_index_or}
+use Rattle.concept_report.specs.InPieces.{IsNumbered}
 use Rattle.concept_report.specs.declared.in_pieces.Part.{Part}
 use Rattle.concept_report.proofs.PieceLemmas.{put-parts, EachNumbered}
 use Rattle.concept_report.proofs.in_pieces.number_side_by_side.Goals as goal

@@ -11,7 +11,7 @@ loop-top-preserved g c =
     let K : Context = c.args.sheet.now.context in
     let top : Top g.row.W = c.top-item.result in
     record {
-      tops = c.in_ok-lay_out_if_few.ensures.tops;
-      laid = c.in_ok-lay_out_if_few.ensures.branches ∙ ap (λ (Xs : List Set). Xs ++ branch K top.intent top.from) c.loop-top.invariant.laid
+      tops = c.in_ok-lay_out_if_large.ensures.tops;
+      laid = c.in_ok-lay_out_if_large.ensures.branches ∙ ap (λ (Xs : List Set). Xs ++ branch K top.intent top.from) c.loop-top.invariant.laid
           ∙ sym (flat_map-next (λ (x : Top g.row.W). branch K x.intent x.from) c.args.tops.now c.loop-top.top-index top c.loop-top-test.true c.top-item.is);
     }
