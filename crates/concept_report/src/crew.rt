@@ -16,8 +16,8 @@ use std::alloc::Global;
 use std::thread::Threads;
 use std::{mem, thread};
 
-/// How many pages are filled at a time, at first.
-pub(crate) const PAGES: usize = 16;
+/// How many pages are filled at a time.
+const PAGES: usize = 16;
 
 /// Writes the lines of all concepts.
 pub(crate) fn write_all<R: Threads + Sync, const W: usize>(

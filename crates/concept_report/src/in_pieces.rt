@@ -10,7 +10,7 @@ ghost use Rattle.concept_lines.specs.Lines.{Adds};
 ghost use Rattle.concept_report.specs.Tops.{IsTop, branches, all_branches};
 ghost use Rattle.concept_report.specs.InPieces.{as_one, numbered_part, numbered_pages, lines_on, IsNumbered};
 
-use crate::crew::{PAGES, fill_pages, pages_of, write_tops};
+use crate::crew::{fill_pages, pages_of, write_tops};
 use crate::expected::Expected;
 use crate::jobs::{density_of, jobs_of};
 use crate::tops::{Top, laid_out, large_part, pays_in_pieces, root_of};
@@ -23,7 +23,10 @@ use std::thread;
 use std::thread::Threads;
 
 /// The numbers of lines of fewer bytes are put down about as soon as several threads have begun and ended.
-const FEW_BYTES: usize = 2 << 20;
+const FEW_BYTES: usize = 16 << 20;
+
+/// How many jobs are written before it is known what to expect of pages.
+const FIRST_JOBS: usize = 8;
 
 /// Lines behind their numbers, in pieces that stand one behind the other, and how many lines these are.
 #[derive(Drop)]
@@ -134,7 +137,7 @@ fn add_jobs<R: Threads + Sync, const W: usize>(
     ensures { OnOk result (Adds sheet.now (as_one lines.old) (as_one lines.new) (all_branches sheet.now.context jobs.now)) }
 {
     let _words = sheet.rows().width();
-    let (first, others) = jobs.split_at(jobs.len().min(PAGES));
+    let (first, others) = jobs.split_at(jobs.len().min(FIRST_JOBS));
     add_batch(rt, alloc, sheet, first, Expected::at_first(), lines)?;
     let expected = Expected::after(first.len(), lines);
     add_batch(rt, alloc, sheet, others, expected, lines)

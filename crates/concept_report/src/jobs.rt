@@ -11,7 +11,7 @@ use fca_model::Memory;
 use std::alloc::Global;
 
 /// About how many jobs are made.
-const JOBS: usize = 128;
+const JOBS: usize = 64;
 
 /// In how many parts each expected object is counted.
 const PARTS: usize = 4;
