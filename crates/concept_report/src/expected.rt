@@ -33,13 +33,13 @@ impl Expected {
         }
     }
 
-    /// What pages are expected to have after so many that became these lines: a quarter more room for bytes.
-    pub(crate) fn after(pages: usize, lines: &PiecedLines) -> Expected {
-        let bytes = lines.len() / pages.max(1);
+    /// What pages are expected to have after so many that became these lines, but for the first so many lines and bytes: as much, and a quarter more room.
+    pub(crate) fn after(pages: usize, lines: &PiecedLines, count: usize, bytes: usize) -> Expected {
+        let each = lines.len().saturating_sub(bytes) / pages.max(1);
         Expected {
             before: lines.count,
-            lines: (lines.count / pages.max(1)).max(1),
-            bytes: bytes.saturating_add(bytes / 4),
+            lines: (lines.count.saturating_sub(count) / pages.max(1)).max(1),
+            bytes: each.saturating_add(each / 4),
         }
     }
 

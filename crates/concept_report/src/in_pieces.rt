@@ -1,7 +1,7 @@
 //! The lines of all concepts as several texts that stand one behind the other. Of some jobs at a time each fills a page, and when these are full, the lines
 //! of each are put behind their numbers, where they stand if as many digits were left free, also side by side: no thread has to write all lines.
 
-ghost use Rattle.std.specs.Prelude.{◌≡◌, ◌+◌, ◌++◌, true, false, All, Ok, OnOk, IfOk, map, codes};
+ghost use Rattle.std.specs.Prelude.{◌≡◌, ◌+◌, ◌<◌, ◌++◌, true, false, All, Ok, OnOk, IfOk, map, codes};
 ghost use Rattle.std.specs.List.{flat_map};
 ghost use Rattle.fca_model.specs.Pseudo.{intents};
 ghost use Rattle.lectic_concepts.specs.Concepts.{concepts};
@@ -125,7 +125,8 @@ fn headed(alloc: Global, lines: PiecedLines) -> Result<Vec<Vec<u8>>, Memory>
     Ok(pieces)
 }
 
-/// Adds the lines of the jobs, in their order: those of some jobs first, and then, as it is known what to expect of pages, those of all others.
+/// Adds the lines of the jobs, in their order: those of some jobs first, then of half of the others, then of the rest. What is expected of pages is known
+/// from those before.
 fn add_jobs<R: Threads + Sync, const W: usize>(
     rt: &R,
     alloc: Global,
@@ -137,10 +138,29 @@ fn add_jobs<R: Threads + Sync, const W: usize>(
     ensures { OnOk result (Adds sheet.now (as_one lines.old) (as_one lines.new) (all_branches sheet.now.context jobs.now)) }
 {
     let _words = sheet.rows().width();
-    let (first, others) = jobs.split_at(jobs.len().min(FIRST_JOBS));
-    add_batch(rt, alloc, sheet, first, Expected::at_first(), lines)?;
-    let expected = Expected::after(first.len(), lines);
-    add_batch(rt, alloc, sheet, others, expected, lines)
+    let mut done = 0;
+    let mut expected = Expected::at_first();
+    while done < jobs.len() {
+        let (count, bytes) = (lines.count, lines.len());
+        let end = jobs
+            .len()
+            .min(done.saturating_add(jobs_at_once(done, jobs.len())));
+        add_batch(rt, alloc, sheet, &jobs[done..end], expected, lines)?;
+        expected = Expected::after(end - done, lines, count, bytes);
+        done = end;
+    }
+    Ok(())
+}
+
+/// How many jobs are written at once after so many of all.
+fn jobs_at_once(done: usize, all: usize) -> usize
+    ensures { 0 < result }
+{
+    match done {
+        0 => FIRST_JOBS,
+        FIRST_JOBS => (all / 2).max(1),
+        _ => all.max(1),
+    }
 }
 
 /// Adds the lines of the jobs, which each fill a page first.
