@@ -54,6 +54,7 @@ def main():
     for job, cases in CASES.items():
         if job not in wanted:
             continue
+        measure.set_tunables(job)
         for case in cases:
             report(job, "%dx%dx%dx%d" % case, measure.table(*case), folder)
         for path in sys.argv[2:]:

@@ -11,8 +11,18 @@ import time
 TOP = os.path.dirname(os.path.dirname(os.path.abspath(__file__)))
 FCA = os.environ.get("BENCH_FCA", os.path.join(TOP, "fca"))
 LIMIT = int(os.environ.get("BENCH_LIMIT", "60"))
-# As `fca` has it, also where another program is measured.
-os.environ.setdefault("GLIBC_TUNABLES", "glibc.malloc.hugetlb=1")
+TUNABLES = "glibc.malloc.hugetlb=1"
+AREAS = ":glibc.malloc.arena_max=1:glibc.malloc.mmap_threshold=4194304"
+SET_BY_CALLER = "GLIBC_TUNABLES" in os.environ
+
+
+def set_tunables(command):
+    """Has the C library do as `fca` has it for that command, also where another program is measured, unless the caller has set that."""
+    if not SET_BY_CALLER:
+        os.environ["GLIBC_TUNABLES"] = TUNABLES + (AREAS if command == "concepts" else "")
+
+
+set_tunables(None)
 
 
 def tables_folder():

@@ -1,13 +1,15 @@
 #!/usr/bin/env python3
-"""Clients of `serve` at once: serve.py [--hostile] [CLIENTS [LINES]], 64 clients of 1,000 lines each where nothing is said.
+"""Clients of `serve` at once: serve.py [--hostile] [--draws] [--processes N] [CLIENTS [LINES]], 64 clients of 1,000 lines each where nothing is said.
 
 Each client is an expert who knows a table of its own: it draws, answers by the first of its rows that refutes the
-question, and else confirms; it sends a line once the one before it was answered. All clients are in one thread, which
-waits for whichever is answered next. With --hostile three of them are others: one says nothing, one resets its connection
+question, and else confirms; with --draws it draws and never answers. It sends a line once the one before it was answered. The clients
+are shared out to N processes (1), each of one thread, which waits for whichever of its clients is answered next. With --hostile three of them are others: one says nothing, one resets its connection
 after a draw, and one sends as many lines as it may and never reads. At the end the text is checked: it has what each
 client was told was accepted or taken, in that place, and replayed it gives itself.
 """
+import argparse
 import os
+import pickle
 import random
 import selectors
 import socket
@@ -44,14 +46,14 @@ def connect(port):
 class Client:
     """One connection, and the expert at it, whose last line is `quit`."""
 
-    def __init__(self, port, seed, lines):
+    def __init__(self, port, seed, lines, only_draws):
         draws = random.Random(seed)
         self.rows = [draws.getrandbits(ATTRIBUTES) for _ in range(40)]
         self.link = connect(port)
         self.link.setsockopt(socket.IPPROTO_TCP, socket.TCP_NODELAY, 1)
         self.greeting, self.left, self.replies = 3 + ATTRIBUTES, lines, 0
         self.part, self.question, self.row = "", None, None
-        self.recorded, self.is_done = [], False
+        self.recorded, self.is_done, self.only_draws = [], False, only_draws
 
     def refuting(self):
         """The first of the rows that refutes the question."""
@@ -65,7 +67,7 @@ class Client:
         self.left -= 1
         if self.left == 0:
             return "quit"
-        if self.question is None:
+        if self.question is None or self.only_draws:
             return "draw"
         self.row = self.refuting()
         return "confirm" if self.row is None else "row %s r%d" % (pattern(self.row), self.row)
@@ -148,6 +150,36 @@ def talk(clients):
                 key.fileobj.close()
 
 
+class Group:
+    """A process with some of the clients. They connect at once, and talk when told to."""
+
+    def __init__(self, port, seeds, lines, only_draws):
+        ready, is_ready = os.pipe()
+        go, self.go = os.pipe()
+        self.results, results = os.pipe()
+        self.process = os.fork()
+        if self.process == 0:
+            clients = [Client(port, seed, lines, only_draws) for seed in seeds]
+            os.write(is_ready, b"!")
+            os.read(go, 1)
+            talk(clients)
+            with os.fdopen(results, "wb") as out:
+                pickle.dump([(client.replies, client.recorded) for client in clients], out)
+            os._exit(0)
+        os.close(results)
+        os.read(ready, 1)
+
+    def begin(self):
+        os.write(self.go, b"!")
+
+    def end(self):
+        """How many replies each client had, and which answers it was told of as recorded."""
+        with os.fdopen(self.results, "rb") as results:
+            found = pickle.load(results)
+        os.waitpid(self.process, 0)
+        return found
+
+
 def missing(said, record):
     """How many of the lines that clients were told of have no such line in the sections of the text."""
     sections = record[record.index(b"# recorded ") :].splitlines(keepends=True)
@@ -163,10 +195,14 @@ def other_endings(sessions):
 
 
 def main():
-    words = [word for word in sys.argv[1:] if word != "--hostile"]
-    hostile = len(words) + 1 < len(sys.argv)
-    count = int(words[0]) if words else 64
-    lines = int(words[1]) if len(words) > 1 else 1000
+    parser = argparse.ArgumentParser()
+    parser.add_argument("--hostile", action="store_true")
+    parser.add_argument("--draws", action="store_true")
+    parser.add_argument("--processes", type=int, default=1)
+    parser.add_argument("clients", type=int, nargs="?", default=64)
+    parser.add_argument("lines", type=int, nargs="?", default=1000)
+    said = parser.parse_args()
+    count, lines = said.clients, said.lines
     table = measure.table(1, 0, ATTRIBUTES, 0)
     with socket.socket() as free:
         free.bind(("127.0.0.1", 0))
@@ -174,10 +210,13 @@ def main():
     words = [measure.FCA, "serve", table, "--experts", str(count), "--listen", "127.0.0.1:%d" % port]
     with tempfile.TemporaryFile() as out:
         server = subprocess.Popen(words, stdout=out)
-        others = [Silent(port), Deaf(port, 100000), Resetting(port)] if hostile else []
-        clients = [Client(port, seed, lines) for seed in range(count - len(others))]
+        others = [Silent(port), Deaf(port, 100000), Resetting(port)] if said.hostile else []
+        seeds = range(count - len(others))
+        groups = [Group(port, seeds[place :: said.processes], lines, said.draws) for place in range(said.processes)]
         begin = time.time()
-        talk(clients)
+        for group in groups:
+            group.begin()
+        found = [one for group in groups for one in group.end()]
         took = time.time() - begin
         for other in others:
             other.end()
@@ -189,14 +228,14 @@ def main():
     begin = time.time()
     replayed = subprocess.run([measure.FCA, "replay", table], input=text, stdout=subprocess.PIPE).stdout
     again = time.time() - begin
-    replies = sum(client.replies for client in clients)
-    served = sum(client.replies == lines for client in clients)
+    replies = sum(one[0] for one in found)
+    served = sum(one[0] == lines for one in found)
     print("clients %d, of whom %d hostile, lines each %d, replies %d, status %d" % (count, len(others), lines, replies, status))
-    print("clients whose every line was answered: %d of %d" % (served, len(clients)))
+    print("clients whose every line was answered: %d of %d" % (served, len(found)))
     print("seconds %.2f, lines a second %.0f, bytes of text %d" % (took, replies / took, len(text)))
     print("processor seconds %.2f, peak of memory %d bytes" % (usage.ru_utime + usage.ru_stime, usage.ru_maxrss * 1024))
-    said = [line for client in clients for line in client.recorded]
-    print("answers told as recorded %d, missing from the text %d" % (len(said), missing(said, record)))
+    told = [line for one in found for line in one[1]]
+    print("answers told as recorded %d, missing from the text %d" % (len(told), missing(told, record)))
     print("sessions that ended by quit: %d, others: %s" % (sessions.count(b" quit\n"), other_endings(sessions)))
     print("replays to itself: %s, in %.2f seconds" % (replayed == record, again))
 

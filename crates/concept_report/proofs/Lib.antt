@@ -1,2 +1,3 @@
 pub mod TopLemmas
 pub mod PieceLemmas
+pub mod TeamLemmas

@@ -4,20 +4,22 @@ use Rattle.std.proofs.lemmas.List.{append-nil, length-map}
 use Rattle.std.proofs.lemmas.List.Concat.{flat_map-append}
 use Rattle.std.proofs.lemmas.List.Elements.{All-nil, All-cons}
 use Rattle.std.specs.List.{flat_map}
-use Rattle.std.specs.Prelude.{Result, Ok, Vec, slice_index_or}
+use Rattle.std.specs.Prelude.{Result, Ok, Vec, codes, slice_index_or}
 use Rattle.std.specs.Global.{Global}
 use denote.Ref.{Bor}
 use Rattle.fca_model.specs.Tables.{NamedContext}
 use Rattle.fca_model.specs.declared.Memory.{Memory}
-use Rattle.concept_lines.specs.Lines.{Adds, lines_from}
+use Rattle.fca_model.specs.Pseudo.{intents}
+use Rattle.lectic_concepts.specs.Concepts.{concepts}
+use Rattle.basis_report.specs.Reports.{counted, concepts_text}
+use Rattle.concept_lines.specs.Lines.{LinesText, lines_from}
 use Rattle.concept_lines.specs.Pages.{IsPage}
 use Rattle.concept_lines.specs.declared.page.Page.{Page}
-use Rattle.concept_lines.proofs.LineLemmas.{lines_from-append, numbered-page, length-page}
+use Rattle.concept_lines.proofs.LineLemmas.{lines_from-append, numbered-page, length-page, text_whole}
 use Rattle.concept_report.specs.Tops.{branches, all_branches, EachWrote}
-use Rattle.concept_report.specs.InPieces.{as_one, numbered_part, numbered_pages, lines_on, IsNumbered}
+use Rattle.concept_report.specs.InPieces.{numbered_part, numbered_pages, lines_on, IsNumbered}
 use Rattle.concept_report.specs.declared.tops.Top.{Top}
 use Rattle.concept_report.specs.declared.in_pieces.Part.{Part}
-use Rattle.concept_report.specs.declared.in_pieces.PiecedLines.{PiecedLines}
 
 -- the pages behind the first, and the jobs behind the first
 EachWrote-behind : (t : NamedContext) (keeps : Bool) {W : ℕ} (p : Page W) (ps : List (Page W)) (j : Bor (List (Top W))) (js : List (Bor (List (Top W)))) → EachWrote t keeps (p ∷ ps) (j ∷ js) → EachWrote t keeps ps js
@@ -104,13 +106,17 @@ put-page news parts part page rest place behind put is next =
     ∙ ap (λ z. z ++ numbered_pages (place + length page.lines.lens) rest) (flat_map-append numbered_part parts (part ∷ []) ∙ ap (λ z. flat_map numbered_part parts ++ z) (own ∙ ap numbered_part is))
     ∙ append_assoc (flat_map numbered_part parts) (numbered_part (record { lines = page.lines; first = place })) (numbered_pages (place + length page.lines.lens) rest)
 
--- the lines of the jobs were added
-pub Adds-pages : (t : NamedContext) {W : ℕ} (old new : PiecedLines) (pages : List (Page W)) (jobs : List (Bor (List (Top W)))) (parts : List Part) → length pages ≡ length jobs → EachWrote t false pages jobs → All (λ page. page.whole ≡ true) pages
-    → flat_map numbered_part parts ≡ numbered_pages old.count pages → flat_map (λ p. p.items) new.pieces.items ≡ flat_map (λ p. p.items) old.pieces.items ++ flat_map numbered_part parts → new.count ≡ old.count + lines_on pages
-    → Adds t (as_one old) (as_one new) (all_branches t.context jobs)
-Adds-pages t old new pages jobs parts even each whole numbered put counted = record {
-  text = put ∙ ap (λ z. flat_map (λ p. p.items) old.pieces.items ++ z) (numbered ∙ lines-pages t old.count pages jobs even each whole);
-  count = counted ∙ ap (λ n. old.count + n) (length-pages t pages jobs even each whole);
-  numbered = refl;
-  lens = refl;
-}
+-- the lines of all intents, each behind its number, behind the line that says how many they are
+pub text-pages : (t : NamedContext) {W : ℕ} (pages : List (Page W)) (jobs : List (Bor (List (Top W)))) → length pages ≡ length jobs → EachWrote t false pages jobs → All (λ page. page.whole ≡ true) pages → all_branches t.context jobs ≡ intents t.context
+    → counted (codes "concepts ") (lines_on pages) ++ numbered_pages 0 pages ≡ concepts_text t (concepts t.context)
+text-pages t pages jobs even each whole all =
+    let none : LinesText = record { text = []; count = 0; numbered = true; lens = [] } in
+    let some : LinesText = record { text = numbered_pages 0 pages; count = lines_on pages; numbered = true; lens = [] } in
+    let count : lines_on pages ≡ length (intents t.context) = length-pages t pages jobs even each whole ∙ ap length all in
+    text_whole t none some refl
+    (record {
+      text = lines-pages t 0 pages jobs even each whole ∙ ap (lines_from t 0) all;
+      count = omega (arith, count);
+      numbered = refl;
+      lens = refl;
+    })

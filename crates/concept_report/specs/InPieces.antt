@@ -1,18 +1,12 @@
 -- Lines in pieces that stand one behind the other.
-use Rattle.std.specs.Prelude.{◌≡◌, ◌+◌, ◌++◌, ℕ, true, List, [], ◌∷◌, Result, Vec, IfOk, length}
-use Rattle.std.specs.List.{flat_map}
+use Rattle.std.specs.Prelude.{◌≡◌, ◌+◌, ◌++◌, ℕ, List, [], ◌∷◌, Result, Vec, IfOk, length}
 use Rattle.std.specs.Global.{Global}
 use Rattle.fca_model.specs.Tables.{Text}
 use Rattle.fca_model.specs.declared.Memory.{Memory}
-use Rattle.concept_lines.specs.Lines.{LinesText, numbered_from}
+use Rattle.concept_lines.specs.Lines.{numbered_from}
 use Rattle.concept_lines.specs.Numbering.{pieces}
 use Rattle.concept_lines.specs.declared.page.Page.{Page}
 use Rattle.concept_report.specs.declared.in_pieces.Part.{Part}
-use Rattle.concept_report.specs.declared.in_pieces.PiecedLines.{PiecedLines}
-
--- the lines, as one text
-abbrev pub as_one : PiecedLines → LinesText
-as_one p = record { text = flat_map (λ piece. piece.items) p.pieces.items; count = p.count; numbered = true; lens = [] }
 
 -- the lines of the part, each behind its number
 abbrev pub numbered_part : Part → Text

@@ -1,3 +1,4 @@
 pub mod Numerals
 pub mod Tops
 pub mod InPieces
+pub mod Teams

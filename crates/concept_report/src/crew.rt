@@ -7,7 +7,6 @@ ghost use Rattle.concept_lines.specs.Pages.{Fills};
 ghost use Rattle.concept_report.specs.Tops.{IsTop, branches, all_branches, Wrote, EachWrote};
 
 use crate::appended::append_pages;
-use crate::expected::Expected;
 use crate::jobs::{density_of, jobs_of};
 use crate::tops::{Top, laid_out, pays, root_of};
 use concept_lines::{Desks, Page, Sheet, write_branch};
@@ -61,7 +60,7 @@ fn write_side_by_side<R: Threads + Sync, const W: usize>(
 }
 
 /// So many pages with no line.
-pub(crate) fn pages_of<const W: usize>(alloc: Global, count: usize) -> Result<Vec<Page<W>>, Memory>
+fn pages_of<const W: usize>(alloc: Global, count: usize) -> Result<Vec<Page<W>>, Memory>
     requires { W ≤ 1024 }
     ensures { IfOk result (λ pages. length pages.items ≡ count) }
 {
@@ -119,27 +118,18 @@ fn write_batch<R: Threads + Sync, const W: usize>(
     ensures lines { OnOk result (Fills sheet.now page.old page.new (all_branches sheet.now.context jobs.now)) }
 {
     let _words = sheet.rows().width();
-    fill_pages(
-        rt,
-        alloc,
-        sheet,
-        jobs,
-        page.keeps,
-        Expected::nothing(),
-        pages,
-    );
+    fill_pages(rt, alloc, sheet, jobs, page.keeps, pages);
     append_pages(sheet, page, jobs, pages)?;
     Ok(())
 }
 
 /// Fills each page with the lines of the job at its place, in a thread of its own where so many can be made.
-pub(crate) fn fill_pages<R: Threads + Sync, const W: usize>(
+fn fill_pages<R: Threads + Sync, const W: usize>(
     rt: &R,
     alloc: Global,
     sheet: &Sheet<'_, W>,
     jobs: &[&[Top<W>]],
     keeps: bool,
-    expected: Expected,
     pages: &mut [Page<W>],
 )
     requires tops { All (λ job. All (IsTop sheet.now.context) job.now) jobs.now }
@@ -156,18 +146,19 @@ pub(crate) fn fill_pages<R: Threads + Sync, const W: usize>(
         &|i: usize, page: &mut Page<W>|
             requires { (i < length jobs.now) × All (λ job. All (IsTop sheet.now.context) job.now) jobs.now }
             ensures { (d : _) → Wrote sheet.entry.now keeps page.new (slice_index_or jobs.entry.now i d).now }
-        { fill_page(alloc, sheet, jobs[i], keeps, expected, i, page) },
+        { fill_page(alloc, sheet, jobs[i], keeps, 0, 0, page) },
     );
 }
 
-/// Fills the page, which is at that place, with the lines of the branches alone. Pages of other threads stand beside it, so it is written on where this one has its own values.
-fn fill_page<const W: usize>(
+/// Fills the page with the lines of the branches alone, with so many digits left free before each, after room was asked for so many bytes. Pages of other
+/// threads may stand beside it, so it is written on where this one has its own values.
+pub(crate) fn fill_page<const W: usize>(
     alloc: Global,
     sheet: &Sheet<'_, W>,
     job: &[Top<W>],
     keeps: bool,
-    expected: Expected,
-    place: usize,
+    digits: u32,
+    bytes: usize,
     page: &mut Page<W>,
 )
     requires { All (IsTop sheet.now.context) job.now }
@@ -176,7 +167,7 @@ fn fill_page<const W: usize>(
     let _words = sheet.rows().width();
     let mut own = Page::plain(alloc);
     mem::swap(page, &mut own);
-    own.clear(keeps, expected.digits_on(place), expected.bytes());
+    own.clear(keeps, digits, bytes);
     own.whole = write_tops(alloc, sheet, job, &mut own).is_ok();
     mem::swap(page, &mut own);
 }

@@ -1,18 +1,17 @@
-//! The lines of all concepts as several texts that stand one behind the other. Of some jobs at a time each fills a page, and when these are full, the lines
-//! of each are put behind their numbers, where they stand if as many digits were left free, also side by side: no thread has to write all lines.
+//! The lines of all concepts as several texts that stand one behind the other. Each job fills a page, and when all are full, the lines of each are put
+//! behind their numbers, where they stand if as many digits were left free, also side by side: no thread has to write all lines.
 
-ghost use Rattle.std.specs.Prelude.{◌≡◌, ◌+◌, ◌<◌, ◌++◌, true, false, All, Ok, OnOk, IfOk, map, codes};
+ghost use Rattle.std.specs.Prelude.{◌≡◌, ◌++◌, true, false, All, Ok, OnOk, IfOk, map, codes};
 ghost use Rattle.std.specs.List.{flat_map};
 ghost use Rattle.fca_model.specs.Pseudo.{intents};
 ghost use Rattle.lectic_concepts.specs.Concepts.{concepts};
 ghost use Rattle.basis_report.specs.Reports.{counted, concepts_text};
-ghost use Rattle.concept_lines.specs.Lines.{Adds};
-ghost use Rattle.concept_report.specs.Tops.{IsTop, branches, all_branches};
-ghost use Rattle.concept_report.specs.InPieces.{as_one, numbered_part, numbered_pages, lines_on, IsNumbered};
+ghost use Rattle.concept_report.specs.Tops.{IsTop, branches};
+ghost use Rattle.concept_report.specs.InPieces.{numbered_part, numbered_pages, lines_on, IsNumbered};
 
-use crate::crew::{fill_pages, pages_of, write_tops};
-use crate::expected::Expected;
+use crate::crew::write_tops;
 use crate::jobs::{density_of, jobs_of};
+use crate::teams::filled_pages;
 use crate::tops::{Top, laid_out, large_part, pays_in_pieces, root_of};
 use concept_lines::{Lines, Page, Sheet, head_of};
 use context_table::Table;
@@ -24,27 +23,6 @@ use std::thread::Threads;
 
 /// The numbers of lines of fewer bytes are put down about as soon as several threads have begun and ended.
 const FEW_BYTES: usize = 16 << 20;
-
-/// How many jobs are written before it is known what to expect of pages.
-const FIRST_JOBS: usize = 8;
-
-/// Lines behind their numbers, in pieces that stand one behind the other, and how many lines these are.
-#[derive(Drop)]
-pub(crate) struct PiecedLines {
-    pub(crate) pieces: Vec<Vec<u8>>,
-    pub(crate) count: usize,
-}
-
-impl PiecedLines {
-    /// How many bytes the lines take.
-    pub(crate) fn len(&self) -> usize {
-        let mut len = 0usize;
-        for piece in &self.pieces {
-            len = len.saturating_add(piece.len());
-        }
-        len
-    }
-}
 
 /// Lines without their numbers, and the place of the first.
 #[derive(Drop)]
@@ -107,82 +85,29 @@ fn many_pieces<R: Threads + Sync, const W: usize>(
     let more = laid_out(alloc, sheet, tops, 0)?;
     let finer = laid_out(alloc, sheet, &more, large_part(&more))?;
     let jobs = jobs_of(alloc, sheet, &finer, density_of(tops))?;
-    let mut lines = PiecedLines {
-        pieces: Vec::new(alloc),
-        count: 0,
-    };
-    add_jobs(rt, alloc, sheet, &jobs, &mut lines)?;
-    headed(alloc, lines)
-}
-
-/// The pieces behind one more, the line that says how many concepts there are.
-fn headed(alloc: Global, lines: PiecedLines) -> Result<Vec<Vec<u8>>, Memory>
-    ensures { IfOk result (λ pieces. flat_map (λ piece. piece.items) pieces.items ≡ counted (codes "concepts ") lines.count ++ (as_one lines).text) }
-{
-    let head = head_of(alloc, b"concepts ", lines.count)?;
-    let mut pieces = lines.pieces;
-    pieces.insert(0, head)?;
+    let pages = filled_pages(rt, alloc, sheet, &jobs)?;
+    let pieces = pieces_of(rt, alloc, pages)?;
     Ok(pieces)
 }
 
-/// Adds the lines of the jobs, in their order: those of some jobs first, then of half of the others, then of the rest. What is expected of pages is known
-/// from those before.
-fn add_jobs<R: Threads + Sync, const W: usize>(
+/// The lines of the pages, each behind its number, unless one is missing, behind one more that says how many they are.
+fn pieces_of<R: Threads + Sync, const W: usize>(
     rt: &R,
     alloc: Global,
-    sheet: &Sheet<'_, W>,
-    jobs: &[&[Top<W>]],
-    lines: &mut PiecedLines,
-) -> Result<(), Memory>
-    requires { All (λ job. All (IsTop sheet.now.context) job.now) jobs.now }
-    ensures { OnOk result (Adds sheet.now (as_one lines.old) (as_one lines.new) (all_branches sheet.now.context jobs.now)) }
+    pages: Vec<Page<W>>,
+) -> Result<Vec<Vec<u8>>, Memory>
+    requires plain { All (λ page. page.whole ≡ true → page.lines.numbered ≡ false) pages.items }
+    ensures whole { IfOk result (λ pieces. All (λ page. page.whole ≡ true) pages.entry.items) }
+    ensures text { IfOk result (λ pieces. flat_map (λ piece. piece.items) pieces.items
+        ≡ counted (codes "concepts ") (lines_on pages.entry.items) ++ numbered_pages 0 pages.entry.items) }
 {
-    let _words = sheet.rows().width();
-    let mut done = 0;
-    let mut expected = Expected::at_first();
-    while done < jobs.len() {
-        let (count, bytes) = (lines.count, lines.len());
-        let end = jobs
-            .len()
-            .min(done.saturating_add(jobs_at_once(done, jobs.len())));
-        add_batch(rt, alloc, sheet, &jobs[done..end], expected, lines)?;
-        expected = Expected::after(end - done, lines, count, bytes);
-        done = end;
-    }
-    Ok(())
-}
-
-/// How many jobs are written at once after so many of all.
-fn jobs_at_once(done: usize, all: usize) -> usize
-    ensures { 0 < result }
-{
-    match done {
-        0 => FIRST_JOBS,
-        FIRST_JOBS => (all / 2).max(1),
-        _ => all.max(1),
-    }
-}
-
-/// Adds the lines of the jobs, which each fill a page first.
-fn add_batch<R: Threads + Sync, const W: usize>(
-    rt: &R,
-    alloc: Global,
-    sheet: &Sheet<'_, W>,
-    jobs: &[&[Top<W>]],
-    expected: Expected,
-    lines: &mut PiecedLines,
-) -> Result<(), Memory>
-    requires { All (λ job. All (IsTop sheet.now.context) job.now) jobs.now }
-    ensures { OnOk result (Adds sheet.now (as_one lines.old) (as_one lines.new) (all_branches sheet.now.context jobs.now)) }
-{
-    let _words = sheet.rows().width();
-    let mut pages = pages_of(alloc, jobs.len())?;
-    fill_pages(rt, alloc, sheet, jobs, false, expected, &mut pages);
     let bytes = bytes_on(&pages);
-    let (parts, count) = parts_of(alloc, pages, lines.count)?;
-    number(rt, alloc, &mut lines.pieces, parts, bytes)?;
-    lines.count = count;
-    Ok(())
+    let (parts, count) = parts_of(alloc, pages)?;
+    let head = head_of(alloc, b"concepts ", count)?;
+    let mut pieces = Vec::new(alloc);
+    pieces.push(head)?;
+    number(rt, alloc, &mut pieces, parts, bytes)?;
+    Ok(pieces)
 }
 
 /// How many bytes the lines of the pages take.
@@ -194,20 +119,19 @@ fn bytes_on<const W: usize>(pages: &[Page<W>]) -> usize {
     bytes
 }
 
-/// The lines of the pages, unless one is missing, of which the first is at that place, and the place behind them.
+/// The lines of the pages, unless one is missing, and how many they are.
 fn parts_of<const W: usize>(
     alloc: Global,
     pages: Vec<Page<W>>,
-    first: usize,
 ) -> Result<(Vec<Part>, usize), Memory>
     requires plain { All (λ page. page.whole ≡ true → page.lines.numbered ≡ false) pages.items }
     ensures whole { IfOk result (λ made. All (λ page. page.whole ≡ true) pages.entry.items) }
     ensures plain { IfOk result (λ made. All (λ part. part.lines.numbered ≡ false) made.0.items) }
-    ensures text { IfOk result (λ made. flat_map numbered_part made.0.items ≡ numbered_pages first pages.entry.items) }
-    ensures behind { IfOk result (λ made. made.1 ≡ first + lines_on pages.entry.items) }
+    ensures text { IfOk result (λ made. flat_map numbered_part made.0.items ≡ numbered_pages 0 pages.entry.items) }
+    ensures count { IfOk result (λ made. made.1 ≡ lines_on pages.entry.items) }
 {
     let mut parts = Vec::new(alloc);
-    let mut place = first;
+    let mut place = 0usize;
     for page in pages {
         if !page.whole {
             return Err(Memory);

@@ -5,10 +5,11 @@ mod appended;
 mod basis_lines;
 mod cover_lines;
 mod crew;
-mod expected;
 mod in_pieces;
 mod jobs;
 mod numerals;
+mod progress;
+mod teams;
 mod tops;
 
 ghost use Rattle.std.specs.Prelude.{◌≡◌, ◌++◌, true, codes, IfOk};

@@ -10,6 +10,6 @@ invariant-loop-page g l = record {
   to_come : All (λ page. page.whole ≡ true → page.lines.numbered ≡ false) (into_iter_items l.page-iterator);
   whole : All (λ page. page.whole ≡ true) (into_iter_items l.page-iterator) → All (λ page. page.whole ≡ true) l.fn.pages.items;
   plain : All (λ part. part.lines.numbered ≡ false) l.parts.items;
-  text : flat_map numbered_part l.parts.items ++ numbered_pages l.place (into_iter_items l.page-iterator) ≡ numbered_pages l.first l.fn.pages.items;
-  behind : l.place + lines_on (into_iter_items l.page-iterator) ≡ l.first + lines_on l.fn.pages.items;
+  text : flat_map numbered_part l.parts.items ++ numbered_pages l.place (into_iter_items l.page-iterator) ≡ numbered_pages 0 l.fn.pages.items;
+  behind : l.place + lines_on (into_iter_items l.page-iterator) ≡ lines_on l.fn.pages.items;
 }
