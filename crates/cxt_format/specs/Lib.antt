@@ -1,4 +1,5 @@
 pub mod Words
 pub mod Form
+pub mod Narrow
 pub mod Written
 pub mod Faults

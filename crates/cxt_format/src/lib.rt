@@ -3,11 +3,13 @@
 
 ghost use Rattle.std.specs.Prelude.{◌≡◌};
 
+mod narrow;
 mod read;
 mod words;
 mod write;
 
 use fca_model::{Memory, NO_MEMORY};
+pub use narrow::read_narrow;
 pub use read::read_cxt;
 use std::alloc::{AllocError, AllocFailed};
 use std::error::Error;

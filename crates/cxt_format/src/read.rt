@@ -1,6 +1,6 @@
 //! The reader.
 
-ghost use Rattle.std.specs.Prelude.{◌≡◌, ◌<◌, ◌≤◌, ◌-◌, ◌^◌, [], IfOk, false, length, vec_len, bytes_eq};
+ghost use Rattle.std.specs.Prelude.{◌≡◌, ◌<◌, ◌≤◌, ◌-◌, ◌*◌, ◌^◌, [], IfOk, false, length, vec_len, bytes_eq};
 ghost use Rattle.std.specs.List.{list_any};
 ghost use Rattle.text_pieces.specs.Lines.{lines};
 ghost use Rattle.cxt_format.specs.Words as word;
@@ -9,9 +9,9 @@ ghost use Rattle.cxt_format.specs.Form.{Tells, Takes};
 
 use crate::CxtFault;
 use crate::words::{count_of, is_b_line, name_of, row_of, title_of};
-use attr_bits::Attrs;
+use attr_bits::{Attrs, WORDS};
 use context_table::Table;
-use derivation::Rows;
+use derivation::RowsOf;
 use fca_model::{MAX_ATTRIBUTES, MAX_OBJECTS, Name};
 use indexmap::IndexSet;
 use std::alloc::Global;
@@ -21,8 +21,8 @@ use text_pieces::Lines;
 #[derive(Drop)]
 pub struct Head {
     title: Option<Name>,
-    objects: usize,
-    attributes: usize,
+    pub(crate) objects: usize,
+    pub(crate) attributes: usize,
 }
 
 /// The table that the bytes of a file write.
@@ -45,13 +45,13 @@ fn read_text(alloc: Global, text: &str) -> Result<Table, CxtFault>
 }
 
 /// The text without the byte order mark before it.
-fn without_mark(text: &str) -> &str
+pub(crate) fn without_mark(text: &str) -> &str
     ensures { result.now ≡ form.without_mark text.now }
 {
     text.strip_prefix('\u{FEFF}').unwrap_or(text)
 }
 
-fn read_head(alloc: Global, lines: &mut Lines<'_>) -> Result<Head, CxtFault>
+pub(crate) fn read_head(alloc: Global, lines: &mut Lines<'_>) -> Result<Head, CxtFault>
     ensures form { Takes (λ head. head) result (form.head_form lines.old) lines.new }
     ensures objects { IfOk result (λ head. head.objects ≤ MAX_OBJECTS) }
     ensures attributes { IfOk result (λ head. head.attributes ≤ MAX_ATTRIBUTES) }
@@ -75,7 +75,7 @@ fn read_body(alloc: Global, head: Head, lines: &mut Lines<'_>) -> Result<Table, 
 {
     let objects = read_objects(alloc, head.objects, lines)?;
     let attributes = read_attributes(alloc, head.attributes, lines)?;
-    let rows = read_rows(alloc, head.attributes as u32, head.objects, lines)?;
+    let rows = read_rows::<WORDS>(alloc, head.attributes as u32, head.objects, lines)?;
     read_end(lines)?;
     match Table::new(alloc, head.title, objects, attributes, rows) {
         Ok(table) => Ok(table),
@@ -144,7 +144,11 @@ fn next_row(width: u32, lines: &mut Lines<'_>) -> Result<Attrs, CxtFault>
     }
 }
 
-fn read_objects(alloc: Global, count: usize, lines: &mut Lines<'_>) -> Result<Vec<Name>, CxtFault>
+pub(crate) fn read_objects(
+    alloc: Global,
+    count: usize,
+    lines: &mut Lines<'_>,
+) -> Result<Vec<Name>, CxtFault>
     ensures form { Takes (λ names. names.items) result (form.objects_form [] count lines.old) lines.new }
     ensures counted { IfOk result (λ names. vec_len names ≡ count) }
 {
@@ -155,7 +159,7 @@ fn read_objects(alloc: Global, count: usize, lines: &mut Lines<'_>) -> Result<Ve
     Ok(names)
 }
 
-fn read_attributes(
+pub(crate) fn read_attributes(
     alloc: Global,
     count: usize,
     lines: &mut Lines<'_>,
@@ -204,26 +208,29 @@ fn next_attribute(
     }
 }
 
-fn read_rows(
+/// The rows, in as many words as the caller wants.
+pub(crate) fn read_rows<const W: usize>(
     alloc: Global,
     width: u32,
     count: usize,
     lines: &mut Lines<'_>,
-) -> Result<Rows, CxtFault>
-    requires { width ≤ MAX_ATTRIBUTES }
+) -> Result<RowsOf<W>, CxtFault>
+    requires width { width ≤ MAX_ATTRIBUTES }
+    requires narrow { width ≤ 64 * W }
+    requires words { W ≤ 1024 }
     ensures form { Takes (λ rows. rows.rows) result (form.rows_form width [] count lines.old) lines.new }
     ensures width { IfOk result (λ rows. rows.width ≡ width) }
     ensures counted { IfOk result (λ rows. length rows.rows ≡ count) }
 {
-    let mut rows = Rows::new(alloc, width)?;
+    let mut rows = RowsOf::new(alloc, width)?;
     for _place in 0..count {
-        rows.push(next_row(width, lines)?)?;
+        rows.push(next_row(width, lines)?.resized())?;
     }
     Ok(rows)
 }
 
 /// Only blank lines are left.
-fn read_end(lines: &mut Lines<'_>) -> Result<(), CxtFault>
+pub(crate) fn read_end(lines: &mut Lines<'_>) -> Result<(), CxtFault>
     ensures { result ≡ form.end_form lines.old }
 {
     match lines.next_filled() {

@@ -1,0 +1,75 @@
+//! The reader of tables without the names of their objects.
+
+ghost use Rattle.std.specs.Prelude.{◌≡◌, ◌<◌, ◌≤◌, ◌^◌, [], IfOk, length};
+ghost use Rattle.text_pieces.specs.Lines.{lines};
+ghost use Rattle.narrow_tables.specs.Narrow.{context_in};
+ghost use Rattle.cxt_format.specs.Form as form;
+ghost use Rattle.cxt_format.specs.Form.{Tells, Takes};
+ghost use Rattle.cxt_format.specs.Narrow.{nameless};
+
+use crate::CxtFault;
+use crate::read::{
+    Head, read_attributes, read_end, read_head, read_objects, read_rows, without_mark,
+};
+use fca_model::{MAX_ATTRIBUTES, MAX_OBJECTS};
+use narrow_tables::{FOUR_WORDS, NarrowRows, NarrowTable, ONE_WORD, TWO_WORDS};
+use std::alloc::Global;
+use text_pieces::Lines;
+
+/// The table that the bytes of a file write, without its title and the names of its objects. Its rows are put into sets as narrow as the table at once.
+pub fn read_narrow(alloc: Global, bytes: &[u8]) -> Result<NarrowTable, CxtFault>
+    ensures { Tells result (nameless (form.cxt_form bytes.now)) }
+{
+    match str::from_utf8(bytes) {
+        Ok(text) => read_text(alloc, text),
+        Err(fault) => Err(CxtFault::NotUtf8(fault.valid_up_to())),
+    }
+}
+
+fn read_text(alloc: Global, text: &str) -> Result<NarrowTable, CxtFault>
+    requires { length text.now < 2 ^ 63 }
+    ensures { Tells result (nameless (form.table_form (lines (form.without_mark text.now)))) }
+{
+    let mut lines = Lines::new(without_mark(text));
+    let head = read_head(alloc, &mut lines)?;
+    read_body(alloc, head, &mut lines)
+}
+
+/// What stands behind the head. The names of the objects are dropped before the others are read.
+fn read_body(alloc: Global, head: Head, lines: &mut Lines<'_>) -> Result<NarrowTable, CxtFault>
+    requires objects { head.objects ≤ MAX_OBJECTS }
+    requires attributes { head.attributes ≤ MAX_ATTRIBUTES }
+    ensures { Tells result (nameless (form.body_form head lines.old)) }
+{
+    read_objects(alloc, head.objects, lines)?;
+    let attributes = read_attributes(alloc, head.attributes, lines)?;
+    let rows = read_narrow_rows(alloc, head.attributes as u32, head.objects, lines)?;
+    read_end(lines)?;
+    match NarrowTable::new(alloc, attributes, rows) {
+        Ok(table) => Ok(table),
+        Err(_) => Err(CxtFault::Memory),
+    }
+}
+
+/// The rows, in as few words as have room for them.
+fn read_narrow_rows(
+    alloc: Global,
+    width: u32,
+    count: usize,
+    lines: &mut Lines<'_>,
+) -> Result<NarrowRows, CxtFault>
+    requires { width ≤ MAX_ATTRIBUTES }
+    ensures form { Takes (λ rows. (context_in rows).rows) result (form.rows_form width [] count lines.old) lines.new }
+    ensures width { IfOk result (λ rows. (context_in rows).width ≡ width) }
+{
+    if width <= ONE_WORD {
+        return Ok(NarrowRows::One(read_rows(alloc, width, count, lines)?));
+    }
+    if width <= TWO_WORDS {
+        return Ok(NarrowRows::Two(read_rows(alloc, width, count, lines)?));
+    }
+    if width <= FOUR_WORDS {
+        return Ok(NarrowRows::Four(read_rows(alloc, width, count, lines)?));
+    }
+    Ok(NarrowRows::All(read_rows(alloc, width, count, lines)?))
+}
