@@ -1,7 +1,10 @@
 -- One reading after the other: what may be read or refused behind a first reading.
-use Rattle.std.proofs.Common.{subst}
+use Rattle.std.proofs.Common.{◌≡◌, ◌∙◌, ap, subst}
+use Rattle.fca_model.specs.Tables.{NamedContext}
+use Rattle.narrow_tables.specs.Narrow.{NamedAttributes, without_objects}
 use Rattle.command_io.specs.Readings.{Reading, then, MayRead, MayRefuse, IfRead}
 use Rattle.command_io.specs.Readings.Reading.{Untold, Missing, Refused, Read}
+use Rattle.command_io.specs.Narrow.{nameless}
 
 pub refused_then : {X Y : Type 0} (r : Reading X) (next : X → Reading Y) → MayRefuse r → MayRefuse (then r next)
 refused_then Untold next may = tt
@@ -27,3 +30,11 @@ if_read-may Untold x P may holds = tt
 if_read-may Missing x P may holds = may
 if_read-may Refused x P may holds = may
 if_read-may (Read y) x P may holds = subst P may holds
+
+-- what is told of a table without the names of its objects is told of the table
+pub read_nameless : {Y : Type 0} (r : Reading NamedContext) (n : NamedAttributes) (told : NamedAttributes → Y) (y : Y)
+    → MayRead (nameless r) n → y ≡ told n → MayRead (then r (λ t. Read (told (without_objects t)))) y
+read_nameless Untold n told y here is = tt
+read_nameless Missing n told y here is = here
+read_nameless Refused n told y here is = here
+read_nameless (Read t) n told y here is = is ∙ ap told here

@@ -2,6 +2,7 @@ pub mod Causes
 pub mod ErrLines
 pub mod Readings
 pub mod Forms
+pub mod Narrow
 pub mod Known
 pub mod Endings
 pub mod Texts

@@ -70,13 +70,14 @@ fn table_of(alloc: Global, bytes: &[u8], name: &[u8], origin: Origin) -> Result<
 }
 
 /// Whether a file of this name is in the CSV form.
-fn is_csv(name: &[u8]) -> bool
+pub(crate) fn is_csv(name: &[u8]) -> bool
     ensures { result ≡ is_csv name.now }
 {
     name.ends_with(b".csv")
 }
 
-fn csv_table(alloc: Global, bytes: &[u8], origin: Origin) -> Result<Table, Stop>
+/// The table that the bytes are in the CSV form.
+pub(crate) fn csv_table(alloc: Global, bytes: &[u8], origin: Origin) -> Result<Table, Stop>
     ensures table { IfOk result (λ table. MayRead (formed (csv_form bytes.now)) table) }
     ensures refused { IfErr result (λ stop. IsRefusal stop → MayRefuse (formed (csv_form bytes.now))) }
     ensures cause { (name : List ℕ) → is_csv name ≡ true → IfErr result (IsFormStop name origin bytes.now) }

@@ -1,4 +1,4 @@
-use Rattle.std.proofs.Common.{◌≡◌, inl, inr}
+use Rattle.std.proofs.Common.{inl, inr}
 use Rattle.std.specs.Prelude.{option_copied}
 use Rattle.command_io.specs.Endings.{IsRefusal}
 use Rattle.command_io.specs.Forms.{table_read}
