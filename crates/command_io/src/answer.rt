@@ -1,7 +1,6 @@
 //! What a command comes to, and what a call does with it.
 
 ghost use Rattle.std.specs.Prelude.{◌≡◌};
-ghost use Rattle.std.specs.List.{flat_map};
 ghost use Rattle.explore_state.specs.History.{open_of};
 ghost use Rattle.command_io.specs.Endings.{finished, ending_of, ending_status};
 ghost use Rattle.command_io.specs.ErrLines.{ending_line};
@@ -12,6 +11,7 @@ use crate::stop::Stop;
 use crate::text::Text;
 use explore_state::Explore;
 use fca_io::{Sink, WRITE_FAULT};
+use packed_concepts::ConceptsText;
 use std::marker::Model;
 
 /// The status where a fault of out cut off the text.
@@ -78,12 +78,12 @@ impl Answer {
         }
     }
 
-    /// A text in pieces, one behind the other, that leaves nothing open.
-    pub fn in_pieces(pieces: Vec<Vec<u8>>) -> Answer
-        ensures { result ≡ finished (flat_map (λ piece. piece.items) pieces.items) }
+    /// The text of concepts, which leaves nothing open.
+    pub fn packed(text: ConceptsText) -> Answer
+        ensures { result ≡ finished text }
     {
         Answer {
-            text: Text::in_pieces(pieces),
+            text: Text::packed(text),
             ending: Ending::Finished,
         }
     }
@@ -101,12 +101,13 @@ pub fn conclude<K: Sink, E: Sink>(
 {
     match answer {
         Ok(answer) => {
+            let ending = answer.ending;
             if answer.text.write(out).is_err() {
                 report_plain(err, WRITE_FAULT);
                 return CUT_OFF;
             }
-            tell_ending(err, answer.ending);
-            answer.ending.status()
+            tell_ending(err, ending);
+            ending.status()
         }
         Err(stop) => {
             report(err, file, &stop);

@@ -1,4 +1,4 @@
-//! A text to be written, whole or in pieces.
+//! A text to be written: whole, in pieces, or packed.
 
 ghost use Rattle.std.specs.Prelude.{◌≡◌};
 ghost use Rattle.std.specs.List.{flat_map};
@@ -6,6 +6,7 @@ ghost use Rattle.expert_wire.specs.Parts.{Writes};
 
 use crate::err_line::write_part;
 use fca_io::{Put, Sink};
+use packed_concepts::ConceptsText;
 use std::marker::Model;
 
 /// How the bytes of a text stand.
@@ -13,9 +14,10 @@ use std::marker::Model;
 enum Layout {
     Whole(Vec<u8>),
     Pieces(Vec<Vec<u8>>),
+    Packed(ConceptsText),
 }
 
-/// A text, as one list of bytes or as pieces that stand one behind the other.
+/// A text, as one list of bytes, as pieces that stand one behind the other, or packed.
 #[derive(Drop)]
 pub struct Text {
     layout: Layout,
@@ -49,14 +51,24 @@ impl Text {
         }
     }
 
-    /// Appends the whole text to out. After an `Err` out holds a front of it.
-    pub(crate) fn write<K: Sink>(&self, out: &mut K) -> Result<(), Put>
-        ensures { Writes (K.held out.old) (K.held out.new) (K.faults out.old) (K.faults out.new) (K.beside out.old) (K.beside out.new)
-            (K.asked_beside out.old) (K.asked_beside out.new) self.now result }
+    /// The text of these concepts. Its bytes are put down as it is written, which takes no memory.
+    pub fn packed(text: ConceptsText) -> Text
+        ensures { result ≡ text }
     {
-        match &self.layout {
-            Layout::Whole(bytes) => write_part(out, bytes),
-            Layout::Pieces(pieces) => write_pieces(out, pieces),
+        Text {
+            layout: Layout::Packed(text),
+        }
+    }
+
+    /// Appends the whole text to out. After an `Err` out holds a front of it.
+    pub(crate) fn write<K: Sink>(self, out: &mut K) -> Result<(), Put>
+        ensures { Writes (K.held out.old) (K.held out.new) (K.faults out.old) (K.faults out.new) (K.beside out.old) (K.beside out.new)
+            (K.asked_beside out.old) (K.asked_beside out.new) self result }
+    {
+        match self.layout {
+            Layout::Whole(bytes) => write_part(out, &bytes),
+            Layout::Pieces(pieces) => write_pieces(out, &pieces),
+            Layout::Packed(text) => text.write(out),
         }
     }
 }

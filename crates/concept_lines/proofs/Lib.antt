@@ -1,5 +1,1 @@
-pub mod ListingLemmas
-pub mod PieceLemmas
 pub mod LineLemmas
-pub mod FrontLemmas
-pub mod NumberingLemmas

@@ -1,5 +1,1 @@
-pub mod Listing
-pub mod Pieces
-pub mod Lines
-pub mod Numbering
 pub mod Pages

@@ -1,25 +1,19 @@
-//! The lines of concepts, written along the tree of intents. What goes down the tree is the extent, as places in the table; a name lies ready as a block that
-//! is put down in one move.
+//! The concepts of a table, gathered along the tree of intents. What goes down the tree is the extent, as places in the table.
 #![tactic(auto)]
 
-mod block;
 mod branch;
 mod desks;
 mod few_branch;
-mod lines;
+mod heads;
 mod names;
 mod notes;
-mod numbering;
 mod page;
-mod pieces;
 mod sheet;
 
-pub use block::{Block, HEAD, put_block};
 pub use branch::{Child, next_child, places_of, write_branch};
 pub use desks::{Desk, Desks};
-pub use lines::{Lines, MARKS, add_head, head_of, make_room, room_of};
-pub use names::attribute_pieces;
+pub use heads::{add_head, head_of};
+pub use names::{attribute_pieces, put_attributes, table_names};
 pub use notes::known;
 pub use page::Page;
-pub use pieces::{PIECE_ROOM, Pieces, block_of, put_bytes};
-pub use sheet::{Sheet, put_attributes};
+pub use sheet::Sheet;

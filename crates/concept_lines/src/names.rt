@@ -1,14 +1,24 @@
 //! The names of a table as pieces, each with what stands between two names of a list behind it.
 
-ghost use Rattle.std.specs.Prelude.{◌≡◌, ◌≤◌, ◌++◌, ◌∷◌, [], map, length, IfOk, OnOk};
-ghost use Rattle.concept_lines.specs.Listing.{parted};
-ghost use Rattle.concept_lines.specs.Pieces.{ArePieces, piece_texts};
+ghost use Rattle.std.specs.Prelude.{◌≡◌, ◌+◌, ◌*◌, ◌≤◌, ◌++◌, ◌∷◌, [], map, take, length, IfOk, OnOk};
+ghost use Rattle.expert_wire.specs.Texts.{listed, names_of};
+ghost use Rattle.packed_concepts.specs.Listing.{parted};
+ghost use Rattle.packed_concepts.specs.Pieces.{ArePieces, piece_texts};
 
-use crate::block::Block;
-use crate::pieces::{Pieces, block_of, tail_of};
+use attr_bits::Bits;
 use context_table::Table;
 use fca_model::{MAX_NAME_BYTES, Memory};
+use packed_concepts::{Block, Names, PIECE_BYTES, PIECE_ROOM, Pieces, block_of, put_set, tail_of};
 use std::alloc::Global;
+
+/// The names of the attributes and of the objects.
+pub fn table_names(alloc: Global, table: &Table) -> Result<Names, Memory>
+    ensures { IfOk result (λ names. names ≡ record { attributes = table.now.attributes; objects = table.now.objects }) }
+{
+    let attributes = attribute_pieces(alloc, table)?;
+    let objects = object_pieces(alloc, table)?;
+    Ok(Names::new(attributes, objects))
+}
 
 /// The names of the attributes.
 pub fn attribute_pieces(alloc: Global, table: &Table) -> Result<Pieces, Memory>
@@ -25,7 +35,7 @@ pub fn attribute_pieces(alloc: Global, table: &Table) -> Result<Pieces, Memory>
 }
 
 /// The names of the objects.
-pub fn object_pieces(alloc: Global, table: &Table) -> Result<Pieces, Memory>
+fn object_pieces(alloc: Global, table: &Table) -> Result<Pieces, Memory>
     ensures { IfOk result (λ pieces. pieces ≡ map parted table.now.objects) }
 {
     let count = table.rows().len();
@@ -64,4 +74,22 @@ fn parted(alloc: Global, name: &[u8]) -> Result<Vec<u8>, Memory>
     let mut text = Vec::from_slice(alloc, name)?;
     text.extend_from_slice(b", ")?;
     Ok(text)
+}
+
+/// Puts the names of the attributes in the set down, and tells where they end.
+pub fn put_attributes<const W: usize>(
+    table: &Table,
+    names: &Pieces,
+    text: &mut [u8],
+    start: usize,
+    set: &Bits<W>,
+) -> usize
+    requires names { names.now ≡ map parted table.now.attributes }
+    requires few { length set.now ≤ length table.now.attributes }
+    requires room { start + PIECE_ROOM * length set.now ≤ length text.old }
+    ensures text { take result text.new ≡ take start text.old ++ listed (names_of table.now.attributes set.now) }
+    ensures ends { result ≤ start + PIECE_BYTES * length set.now }
+    ensures room { length text.new ≡ length text.old }
+{
+    put_set(names, text, start, set)
 }

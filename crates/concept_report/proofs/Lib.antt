@@ -1,3 +1,3 @@
 pub mod TopLemmas
-pub mod PieceLemmas
+pub mod PackedLemmas
 pub mod TeamLemmas

@@ -10,15 +10,15 @@ use Rattle.concept_report.specs.Teams.{IsFilled}
 use Rattle.concept_report.specs.declared.tops.Top.{Top}
 use Rattle.concept_report.specs.declared.teams.Filled.{Filled}
 
--- pages on which lines are missing have them of any jobs
-pub missing-wrote : (t : NamedContext) {W : ℕ} (pages : List (Page W)) (jobs : List (Bor (List (Top W)))) → length pages ≡ length jobs → All (λ page. page.whole ≡ false) pages → EachWrote t false pages jobs
+-- pages on which concepts are missing have them of any jobs
+pub missing-wrote : (t : NamedContext) {W : ℕ} (pages : List (Page W)) (jobs : List (Bor (List (Top W)))) → length pages ≡ length jobs → All (λ page. page.whole ≡ false) pages → EachWrote t pages jobs
 missing-wrote t pages jobs even missing = λ i p j l whole. absurd (false≢true (sym (missing i p (omega (arith, even, l))) ∙ whole))
 
 -- a page is put at the place of a job
-pub wrote-set : (t : NamedContext) {W : ℕ} (pages : List (Page W)) (jobs : List (Bor (List (Top W)))) (f : Filled W) → length pages ≡ length jobs → EachWrote t false pages jobs → IsFilled t jobs f → EachWrote t false (slice_set pages f.place f.page) jobs
+pub wrote-set : (t : NamedContext) {W : ℕ} (pages : List (Page W)) (jobs : List (Bor (List (Top W)))) (f : Filled W) → length pages ≡ length jobs → EachWrote t pages jobs → IsFilled t jobs f → EachWrote t (slice_set pages f.place f.page) jobs
 wrote-set t {W} pages jobs f even each filled = λ i p j l. elim (cases_eq i f.place) [
-  | inl here ↦ subst (λ (q : Page W). Wrote t false q (slice_index_or jobs i j).now)
+  | inl here ↦ subst (λ (q : Page W). Wrote t q (slice_index_or jobs i j).now)
       (sym (ap (λ k. slice_index_or (slice_set pages f.place f.page) k p) here ∙ get_or-set_same pages f.place f.page p (omega (arith, even, filled.inside))))
-      (subst (λ k. Wrote t false f.page (slice_index_or jobs k j).now) (sym here) (filled.wrote j))
-  | inr other ↦ subst (λ (q : Page W). Wrote t false q (slice_index_or jobs i j).now) (sym (get_or-set_other pages f.place i f.page p other)) (each i p j l)
+      (subst (λ k. Wrote t f.page (slice_index_or jobs k j).now) (sym here) (filled.wrote j))
+  | inr other ↦ subst (λ (q : Page W). Wrote t q (slice_index_or jobs i j).now) (sym (get_or-set_other pages f.place i f.page p other)) (each i p j l)
 ]

@@ -1,4 +1,3 @@
 pub mod Numerals
 pub mod Tops
-pub mod InPieces
 pub mod Teams

@@ -1,7 +1,7 @@
 -- Numerals of places as blocks.
 use Rattle.std.specs.Prelude.{◌≡◌, ◌<◌, ◌≤◌, ℕ, List, length, take, slice_index_or}
 use Rattle.expert_wire.specs.Texts.{ordinal}
-use Rattle.concept_lines.specs.declared.block.Block.{Block}
+use Rattle.packed_concepts.specs.declared.block.Block.{Block}
 
 -- the number of a place, counted from 1
 pub record IsNumeral (place : ℕ) (b : Block) : Type 0 where

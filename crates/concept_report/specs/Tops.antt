@@ -1,5 +1,5 @@
 -- Branches of the tree of intents that are still to be written.
-use Rattle.std.specs.Prelude.{◌≡◌, ◌<◌, ◌≤◌, ℕ, Bool, true, List, length, slice_index_or}
+use Rattle.std.specs.Prelude.{◌≡◌, ◌<◌, ◌≤◌, ℕ, true, List, length, slice_index_or}
 use Rattle.std.specs.List.{flat_map}
 use denote.Ref.{Bor}
 use Rattle.fca_model.specs.Sets.{Set}
@@ -26,10 +26,10 @@ branches K tops = flat_map (λ top. branch K top.intent top.from) tops
 abbrev pub all_branches : Context → {W : ℕ} → List (Bor (List (Top W))) → List Set
 all_branches K jobs = flat_map (λ job. branches K job.now) jobs
 
--- the page has the lines of the branches, unless one is missing
-abbrev pub Wrote : NamedContext → Bool → {W : ℕ} → Page W → List (Top W) → Type 0
-Wrote t keeps page job = page.whole ≡ true → IsPage t keeps page (branches t.context job)
+-- the page has the concepts of the branches, unless one is missing
+abbrev pub Wrote : NamedContext → {W : ℕ} → Page W → List (Top W) → Type 0
+Wrote t page job = page.whole ≡ true → IsPage t page (branches t.context job)
 
 -- each page has those of the job at its place
-abbrev pub EachWrote : NamedContext → Bool → {W : ℕ} → List (Page W) → List (Bor (List (Top W))) → Type 0
-EachWrote t keeps pages jobs = (i : ℕ) (p : _) (j : _) → i < length jobs → Wrote t keeps (slice_index_or pages i p) (slice_index_or jobs i j).now
+abbrev pub EachWrote : NamedContext → {W : ℕ} → List (Page W) → List (Bor (List (Top W))) → Type 0
+EachWrote t pages jobs = (i : ℕ) (p : _) (j : _) → i < length jobs → Wrote t (slice_index_or pages i p) (slice_index_or jobs i j).now

@@ -5,28 +5,26 @@ ghost use Rattle.fca_model.specs.Pseudo.{basis};
 ghost use Rattle.implication_closure.specs.Closing.{HaveWidth};
 ghost use Rattle.expert_wire.specs.Texts.{arrow_text, line_end};
 ghost use Rattle.basis_report.specs.Reports.{arrow_line, basis_text};
-ghost use Rattle.concept_lines.specs.Listing.{parted};
+ghost use Rattle.packed_concepts.specs.Listing.{parted};
 
 use attr_bits::Bits;
 use canonical_basis::basis_in_words;
-use concept_lines::{
-    MARKS, PIECE_ROOM, Pieces, attribute_pieces, head_of, make_room, put_attributes, put_bytes,
-    room_of,
-};
+use concept_lines::{attribute_pieces, head_of, put_attributes};
 use context_table::Table;
 use derivation::RowsOf;
 use fca_model::{Implication, Memory};
 use itoa::Buffer;
+use packed_concepts::{MARKS, PIECE_ROOM, Pieces, make_room, put_bytes, room_of};
 use std::alloc::Global;
 
-/// The basis of the table with these rows, one member a line. What it is found by is dropped before the text is written.
+/// The basis of these rows, one member a line, with the names of the table's attributes. What it is found by is dropped before the text is written.
 pub(crate) fn basis_in<const W: usize>(
     alloc: Global,
     table: &Table,
     rows: RowsOf<W>,
 ) -> Result<Vec<u8>, Memory>
-    requires { rows ≡ table.now.context }
-    ensures { IfOk result (λ v. v.items ≡ basis_text table.now.attributes (basis table.now.context)) }
+    requires { rows.width ≡ table.now.context.width }
+    ensures { IfOk result (λ v. v.items ≡ basis_text table.now.attributes (basis rows.entry)) }
 {
     let _width = table.rows().width();
     let list = basis_in_words(alloc, rows)?;

@@ -6,8 +6,9 @@ ghost use Rattle.basis_report.specs.Reports.{counted, cover_line};
 ghost use Rattle.concept_report.specs.Numerals.{AreNumerals};
 
 use crate::numerals::count_up_to;
-use concept_lines::{Block, HEAD, add_head, make_room, put_block, put_bytes};
+use concept_lines::add_head;
 use fca_model::Memory;
+use packed_concepts::{Block, HEAD, make_room, put_block, put_bytes};
 use std::alloc::Global;
 
 /// How many bytes have to be free where a line is put down: two numerals, and what stands behind each.

@@ -3,9 +3,9 @@
 ghost use Rattle.std.specs.Prelude.{◌≡◌, ◌≤◌, OnOk, IfOk, length};
 ghost use Rattle.concept_report.specs.Numerals.{IsNumeral, AreNumerals};
 
-use concept_lines::{Block, HEAD, block_of};
 use fca_model::Memory;
 use itoa::Buffer;
+use packed_concepts::{Block, HEAD, block_of};
 
 /// Makes the list at least so long.
 pub(crate) fn count_up_to(numerals: &mut Vec<Block>, len: usize) -> Result<(), Memory>

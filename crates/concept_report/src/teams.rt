@@ -4,23 +4,23 @@ ghost use Rattle.std.specs.Prelude.{◌≡◌, ◌≤◌, [], false, All, IfOk, 
 ghost use Rattle.concept_report.specs.Tops.{IsTop, Wrote, EachWrote};
 ghost use Rattle.concept_report.specs.Teams.{IsFilled};
 
-use crate::crew::fill_page;
-use crate::progress::Progress;
+use crate::filling::page_of;
 use crate::tops::Top;
 use concept_lines::{Page, Sheet};
 use fca_model::Memory;
 use std::alloc::Global;
+use std::sync::atomic::{AtomicUsize, Ordering};
 use std::thread;
 use std::thread::{Threads, available_parallelism};
 
-/// A page, and the place of the job whose lines it has.
+/// A page, and the place of the job whose concepts it has.
 #[derive(Drop)]
 pub(crate) struct Filled<const W: usize> {
     pub(crate) place: usize,
     pub(crate) page: Page<W>,
 }
 
-/// For each job a page with its lines, without numbers. There is a thread for each processor.
+/// For each job a page with its concepts. There is a thread for each processor.
 pub(crate) fn filled_pages<R: Threads + Sync, const W: usize>(
     rt: &R,
     alloc: Global,
@@ -29,10 +29,10 @@ pub(crate) fn filled_pages<R: Threads + Sync, const W: usize>(
 ) -> Result<Vec<Page<W>>, Memory>
     requires { All (λ job. All (IsTop sheet.now.context) job.now) jobs.now }
     ensures even { IfOk result (λ pages. length pages.items ≡ length jobs.now) }
-    ensures pages { IfOk result (λ pages. EachWrote sheet.now false pages.items jobs.now) }
+    ensures pages { IfOk result (λ pages. EachWrote sheet.now pages.items jobs.now) }
 {
     let _words = sheet.rows().width();
-    let progress = Progress::none();
+    let taken = AtomicUsize::new(0);
     let mut team = team_of(alloc, processors(rt))?;
     let threads = team.len().max(1);
     thread::for_each_mut(
@@ -43,8 +43,8 @@ pub(crate) fn filled_pages<R: Threads + Sync, const W: usize>(
             requires { All (λ job. All (IsTop sheet.now.context) job.now) jobs.now × All (IsFilled sheet.now jobs.now) filled.old.items }
             ensures { All (IsFilled sheet.entry.now jobs.entry.now) filled.new.items }
         {
-            // A page that is not kept is one on which lines are missing.
-            let _kept = take_jobs(alloc, sheet, jobs, &progress, filled);
+            // A page that is not kept is one on which concepts are missing.
+            let _kept = take_jobs(alloc, sheet, jobs, &taken, filled);
         },
     );
     let mut pages = missing_pages(alloc, jobs.len())?;
@@ -68,12 +68,12 @@ fn team_of<const W: usize>(alloc: Global, count: usize) -> Result<Vec<Vec<Filled
     Ok(team)
 }
 
-/// Takes one job after the other, as long as there are some, and puts the page with its lines last.
+/// Takes one job after the other, as long as there are some, and puts the page with its concepts last. Which is the next one is told by what all count up.
 fn take_jobs<const W: usize>(
     alloc: Global,
     sheet: &Sheet<'_, W>,
     jobs: &[&[Top<W>]],
-    progress: &Progress,
+    taken: &AtomicUsize,
     filled: &mut Vec<Filled<W>>,
 ) -> Result<(), Memory>
     requires tops { All (λ job. All (IsTop sheet.now.context) job.now) jobs.now }
@@ -82,36 +82,17 @@ fn take_jobs<const W: usize>(
 {
     let _words = sheet.rows().width();
     for _ in 0..jobs.len() {
-        let place = progress.take();
+        let place = taken.fetch_add(1, Ordering::Relaxed);
         if jobs.len() <= place {
             return Ok(());
         }
-        let page = page_of(alloc, sheet, jobs[place], place, progress);
+        let page = page_of(alloc, sheet, jobs[place]);
         filled.push(Filled { place, page })?;
     }
     Ok(())
 }
 
-/// A page with the lines of the job at that place.
-fn page_of<const W: usize>(
-    alloc: Global,
-    sheet: &Sheet<'_, W>,
-    job: &[Top<W>],
-    place: usize,
-    progress: &Progress,
-) -> Page<W>
-    requires { All (IsTop sheet.now.context) job.now }
-    ensures { Wrote sheet.now false result job.now }
-{
-    let _words = sheet.rows().width();
-    let mut page = Page::plain(alloc);
-    let digits = progress.digits_on(place);
-    fill_page(alloc, sheet, job, false, digits, progress.room(), &mut page);
-    progress.add(&page);
-    page
-}
-
-/// So many pages on which lines are missing.
+/// So many pages on which concepts are missing.
 fn missing_pages<const W: usize>(alloc: Global, count: usize) -> Result<Vec<Page<W>>, Memory>
     requires { W ≤ 1024 }
     ensures even { IfOk result (λ pages. length pages.items ≡ count) }
@@ -119,7 +100,7 @@ fn missing_pages<const W: usize>(alloc: Global, count: usize) -> Result<Vec<Page
 {
     let mut pages = Vec::with_capacity(alloc, count)?;
     for _ in 0..count {
-        let mut page = Page::plain(alloc);
+        let mut page = Page::new(alloc);
         page.whole = false;
         pages.push(page)?;
     }
@@ -135,9 +116,9 @@ fn put_all<const W: usize>(
 )
     requires filled { All (λ filled. All (IsFilled sheet.now jobs.now) filled.items) team.items }
     requires even { length pages.old ≡ length jobs.now }
-    requires pages { EachWrote sheet.now false pages.old jobs.now }
+    requires pages { EachWrote sheet.now pages.old jobs.now }
     ensures even { length pages.new ≡ length jobs.now }
-    ensures pages { EachWrote sheet.now false pages.new jobs.now }
+    ensures pages { EachWrote sheet.now pages.new jobs.now }
 {
     let _words = sheet.rows().width();
     for filled in team {
@@ -154,9 +135,9 @@ fn put_pages<const W: usize>(
 )
     requires filled { All (IsFilled sheet.now jobs.now) filled.items }
     requires even { length pages.old ≡ length jobs.now }
-    requires pages { EachWrote sheet.now false pages.old jobs.now }
+    requires pages { EachWrote sheet.now pages.old jobs.now }
     ensures even { length pages.new ≡ length jobs.now }
-    ensures pages { EachWrote sheet.now false pages.new jobs.now }
+    ensures pages { EachWrote sheet.now pages.new jobs.now }
 {
     let _words = sheet.rows().width();
     for one in filled {

@@ -21,16 +21,10 @@ const ENOUGH: usize = 2_048;
 const LARGE: usize = 128;
 
 /// So many branches are many.
-const MANY: usize = 24;
-
-/// So many branches are enough where the lines stay in pieces.
-const MANY_IN_PIECES: usize = 12;
+const MANY: usize = 12;
 
 /// So many objects that all pairs of branches share are next to none.
 const NEXT_TO_NONE: usize = 512;
-
-/// So many objects that two branches share are few.
-const FEW: usize = 512;
 
 /// The branch of an intent from an attribute on, with the places of the objects of the intent, and with what is seen of its closures.
 #[derive(Drop)]
@@ -76,21 +70,11 @@ pub(crate) fn root_of<const W: usize>(
     Ok(tops)
 }
 
-/// Whether it pays to write the branches side by side, and then to put all lines together: there are many of them, and two of them share few objects, but not
-/// next to none, so that there are many short lines. What is written is the same either way.
+/// Whether it pays to go through the branches side by side: there are some of them, and two of them share not next to no objects. What is found is the same
+/// either way.
 pub(crate) fn pays<const W: usize>(tops: &[Top<W>]) -> bool {
     let most = most_objects(tops);
-    let shared = shared_objects(tops, most);
-    MANY <= tops.len()
-        && NEXT_TO_NONE.saturating_mul(most) <= shared
-        && shared <= FEW.saturating_mul(most).saturating_mul(tops.len())
-}
-
-/// Whether it pays to write the branches side by side where the lines stay in pieces: there are some of them, and two of them share not next to no objects.
-/// What is written is the same either way.
-pub(crate) fn pays_in_pieces<const W: usize>(tops: &[Top<W>]) -> bool {
-    let most = most_objects(tops);
-    MANY_IN_PIECES <= tops.len() && NEXT_TO_NONE.saturating_mul(most) <= shared_objects(tops, most)
+    MANY <= tops.len() && NEXT_TO_NONE.saturating_mul(most) <= shared_objects(tops, most)
 }
 
 /// How many objects the branch with the most has.

@@ -1,10 +1,13 @@
 //! What the commands report of one table: its concepts, its lattice, its bases, whether an implication holds in it, its arrows, and the
 //! table itself, whole or reduced.
 
-ghost use Rattle.std.specs.Prelude.{◌≡◌, ◌⊎◌, true, Some, IfOk, IfErr, length, is_some};
+ghost use Rattle.std.specs.Prelude.{◌≡◌, ◌⊎◌, true, false, Some, IfOk, IfErr, length, is_some};
 ghost use Rattle.fca_command.specs.Commands.{reported};
 ghost use Rattle.command_io.specs.Readings.{then, MayRead, MayRefuse, Rises};
 ghost use Rattle.command_io.specs.Readings.Reading.{Refused, Read};
+ghost use Rattle.fca_io.specs.Faults.{Rose};
+ghost use Rattle.command_io.specs.Causes.{IsFileStop};
+ghost use Rattle.command_io.specs.Forms.{table_read};
 ghost use Rattle.command_io.specs.Endings.{finished, IsRefusal};
 ghost use Rattle.fca_run.specs.Reports.{attributes_read, table_concepts, table_basis, table_direct, table_verdict, verdict_read, table_written, table_reduced, table_arrows, table_report, report_read};
 ghost use Rattle.fca_run.specs.Causes.{IsReportStop};
@@ -12,8 +15,10 @@ ghost use Rattle.fca_run.specs.Causes.{IsReportStop};
 use attr_bits::Attrs;
 use basis_report::{basis_json, concepts_json, direct_text, verdict_text};
 use canonical_basis::basis;
-use command_io::{Answer, Ending, Origin, Stop, table_under};
-use concept_report::{table_basis_text, table_concepts_pieces, table_lattice_text};
+use command_io::{Answer, Ending, Origin, Stop, narrow_under, table_under};
+use concept_report::{
+    narrow_basis_text, packed_table_concepts, table_basis_text, table_lattice_text,
+};
 use context_reduce::{arrows, arrows_text, irreducible, part};
 use context_table::Table;
 use csv_context::write_csv;
@@ -41,6 +46,39 @@ pub fn report_answer<R: Threads + Sync, H: Shelf>(
     ensures cause { IfErr result (IsReportStop command.now file.now (H.tells shelf.old file.now)
         (Rises (H.faults shelf.old) (H.faults shelf.new) file.now)) }
 {
+    match command {
+        Command::Basis { json: false, .. } => basis_lines(alloc, shelf, file),
+        _ => table_answer(rt, alloc, command, shelf, file),
+    }
+}
+
+/// The basis of the table in the file, one member a line. The names of its objects and the bytes of the file are dropped before the basis is found.
+fn basis_lines<H: Shelf>(alloc: Global, shelf: &mut H, file: &Word) -> Result<Answer, Stop>
+    ensures output { IfOk result (λ answer. MayRead (then (table_read file.now (H.tells shelf.old file.now)) (λ table. Read (finished (table_basis false table)))) answer) }
+    ensures finished { IfOk result (λ answer. answer.ending ≡ Ending.Finished) }
+    ensures refused { IfErr result (λ stop. IsRefusal stop → MayRefuse (table_read file.now (H.tells shelf.old file.now))) }
+    ensures cause { IfErr result (IsFileStop file.now (H.tells shelf.old file.now)
+        (Rose (H.faults shelf.old file.now) (H.faults shelf.new file.now)) Origin.File) }
+{
+    let table = narrow_under(alloc, shelf, file, Origin::File)?;
+    Ok(Answer::finished(narrow_basis_text(alloc, table)?))
+}
+
+/// What the command reports of the table in the file, which is read whole.
+fn table_answer<R: Threads + Sync, H: Shelf>(
+    rt: &R,
+    alloc: Global,
+    command: &Command,
+    shelf: &mut H,
+    file: &Word,
+) -> Result<Answer, Stop>
+    requires { is_some (reported command.now) ≡ true }
+    ensures output { IfOk result (λ answer. MayRead (report_read command.now file.now (H.tells shelf.old)) answer) }
+    ensures finished { IfOk result (λ answer. answer.ending ≡ Ending.Finished) }
+    ensures refused { IfErr result (λ stop. IsRefusal stop → MayRefuse (report_read command.now file.now (H.tells shelf.old))) }
+    ensures cause { IfErr result (IsReportStop command.now file.now (H.tells shelf.old file.now)
+        (Rises (H.faults shelf.old) (H.faults shelf.new) file.now)) }
+{
     let table = table_under(alloc, shelf, file, Origin::File)?;
     report_on(rt, alloc, command, &table)
 }
@@ -60,7 +98,7 @@ fn report_on<R: Threads + Sync>(
 {
     match command {
         Command::Concepts { json, .. } => Ok(table_concepts(rt, alloc, *json, table)?),
-        Command::Lattice { .. } => Ok(Answer::finished(table_lattice_text(rt, alloc, table)?)),
+        Command::Lattice { .. } => Ok(Answer::finished(table_lattice_text(alloc, table)?)),
         Command::Basis { json, .. } => Ok(Answer::finished(table_basis(rt, alloc, *json, table)?)),
         Command::Direct { .. } => Ok(Answer::finished(table_direct(alloc, table)?)),
         Command::Follows {
@@ -88,7 +126,7 @@ fn table_concepts<R: Threads + Sync>(
         let concepts = all_concepts(alloc, table.rows())?;
         return Ok(Answer::finished(concepts_json(alloc, table, &concepts)?));
     }
-    Ok(Answer::in_pieces(table_concepts_pieces(rt, alloc, table)?))
+    Ok(Answer::packed(packed_table_concepts(rt, alloc, table)?))
 }
 
 /// The basis of the table.

@@ -1,7 +1,7 @@
 use Rattle.std.proofs.Common.{◌∙◌, ℕ, Vec, Global, length, map, take, drop, min, ap}
 use Rattle.std.proofs.lemmas.List.{map_push}
 use Rattle.fca_model.specs.Tables.{Text}
-use Rattle.concept_lines.proofs.PieceLemmas.{piece_added}
+use Rattle.packed_concepts.proofs.PieceLemmas.{piece_added}
 use Rattle.concept_lines.proofs.names.add_name.Goals as goal
 
 pub returns-clause-pieces : goal.returns-clause-pieces

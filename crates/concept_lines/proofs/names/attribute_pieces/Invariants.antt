@@ -1,5 +1,5 @@
 use Rattle.std.proofs.Common.{map}
-use Rattle.concept_lines.proofs.PieceLemmas.{AreNames}
+use Rattle.packed_concepts.proofs.PieceLemmas.{AreNames}
 use Rattle.concept_lines.proofs.names.attribute_pieces.Given as goal
 
 abbrev pub invariant-loop-attribute : goal.invariant-loop-attribute

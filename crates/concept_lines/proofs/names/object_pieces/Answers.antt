@@ -2,10 +2,10 @@ use Rattle.std.proofs.Common.{◌≡◌, ◌∙◌, ◌++◌, ◌∷◌, [], ℕ
 use Rattle.std.proofs.lemmas.List.{take_all}
 use Rattle.fca_model.specs.Context.{Context}
 use Rattle.fca_model.specs.Tables.{Text}
-use Rattle.concept_lines.specs.Listing.{parted}
-use Rattle.concept_lines.specs.Pieces.{piece_texts}
-use Rattle.concept_lines.proofs.ListingLemmas.{name_short}
-use Rattle.concept_lines.proofs.PieceLemmas.{names_none, names_more}
+use Rattle.packed_concepts.specs.Listing.{parted}
+use Rattle.packed_concepts.specs.Pieces.{piece_texts}
+use Rattle.packed_concepts.proofs.ListingLemmas.{name_short}
+use Rattle.packed_concepts.proofs.PieceLemmas.{names_none, names_more}
 use Rattle.concept_lines.proofs.names.object_pieces.Goals as goal
 
 pub loop-object-init : goal.loop-object-init

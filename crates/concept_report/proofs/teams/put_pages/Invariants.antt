@@ -1,5 +1,5 @@
 -- Those still to come have the lines of the jobs at their places.
-use Rattle.std.proofs.Common.{◌≡◌, false, All, length}
+use Rattle.std.proofs.Common.{◌≡◌, All, length}
 use Rattle.std.specs.Vec.Iter.{into_iter_items}
 use Rattle.concept_report.specs.Tops.{EachWrote}
 use Rattle.concept_report.specs.Teams.{IsFilled}
@@ -9,5 +9,5 @@ abbrev pub invariant-loop-one : goal.invariant-loop-one
 invariant-loop-one g l = record {
   to_come : All (IsFilled l.sheet l.jobs) (into_iter_items l.one-iterator);
   even : length l.pages ≡ length l.jobs;
-  pages : EachWrote l.sheet false l.pages l.jobs;
+  pages : EachWrote l.sheet l.pages l.jobs;
 }

@@ -1,0 +1,27 @@
+//! The line that heads a list.
+
+ghost use Rattle.std.specs.Prelude.{◌≡◌, ◌++◌, OnOk, IfOk};
+ghost use Rattle.basis_report.specs.Reports.{counted};
+
+use fca_model::Memory;
+use itoa::Buffer;
+use std::alloc::Global;
+
+/// The line that says in these words how many there are.
+pub fn head_of(alloc: Global, words: &[u8], count: usize) -> Result<Vec<u8>, Memory>
+    ensures { IfOk result (λ head. head.items ≡ counted words.now count) }
+{
+    let mut head = Vec::new(alloc);
+    add_head(&mut head, words, count)?;
+    Ok(head)
+}
+
+/// Appends that line.
+pub fn add_head(text: &mut Vec<u8>, words: &[u8], count: usize) -> Result<(), Memory>
+    ensures { OnOk result (text.new.items ≡ text.old.items ++ counted words.now count) }
+{
+    text.extend_from_slice(words)?;
+    text.extend_from_slice(Buffer::new().format(count).as_bytes())?;
+    text.extend_from_slice(b"\n")?;
+    Ok(())
+}

@@ -1,0 +1,23 @@
+//! The text of the basis of a table that is given up.
+
+ghost use Rattle.std.specs.Prelude.{◌≡◌, IfOk};
+ghost use Rattle.fca_model.specs.Pseudo.{basis};
+ghost use Rattle.basis_report.specs.Reports.{basis_text};
+
+use crate::basis_lines::basis_in;
+use fca_model::Memory;
+use narrow_tables::{NarrowRows, NarrowTable};
+use std::alloc::Global;
+
+/// The basis of the table, one member a line, as [`table_basis_text`](crate::table_basis_text). The rows of the table are dropped before the text is written.
+pub fn narrow_basis_text(alloc: Global, table: NarrowTable) -> Result<Vec<u8>, Memory>
+    ensures { IfOk result (λ v. v.items ≡ basis_text table.attributes (basis table.context)) }
+{
+    let (names, rows) = table.into_parts();
+    match rows {
+        NarrowRows::One(rows) => basis_in(alloc, &names, rows),
+        NarrowRows::Two(rows) => basis_in(alloc, &names, rows),
+        NarrowRows::Four(rows) => basis_in(alloc, &names, rows),
+        NarrowRows::All(rows) => basis_in(alloc, &names, rows),
+    }
+}

@@ -1,0 +1,52 @@
+-- Concepts of which the places stand one behind the other, one more and one less.
+use Rattle.std.proofs.Common.{◌≡◌, ℕ, suc, ◌+◌, ◌<◌, ◌≤◌, All, List, [], ◌∷◌, ◌++◌, length, map, take, drop, get_or, refl, sym, ap, ap₂, ◌∙◌, arith}
+use Rattle.std.proofs.lemmas.List.{take_all, take-append-le, drop-append-le, length-drop, length-take, drop_more}
+use Rattle.std.proofs.lemmas.List.Elements.{All-head, All-tail, All-cons, All-append}
+use Rattle.packed_concepts.specs.Packing.{total, unpacked}
+use Rattle.packed_concepts.specs.declared.page.Packed.{Packed}
+
+pub total-append : {W : ℕ} (ps qs : List (Packed W)) → total (ps ++ qs) ≡ total ps + total qs
+total-append [] qs = omega arith
+total-append (p ∷ ps) qs = let more = total-append ps qs in omega (arith, more)
+
+-- one concept more
+pub unpacked-more : {W : ℕ} (ps : List (Packed W)) (T E : List ℕ) (p : Packed W) → total ps ≡ length T → p.count ≡ length E
+    → unpacked (ps ++ p ∷ []) (T ++ E) ≡ unpacked ps T ++ (p.intent, E) ∷ []
+unpacked-more [] [] E p fits long = ap (λ F. (p.intent, F) ∷ []) (ap (λ n. take n E) long ∙ take_all (length E) E (omega arith))
+unpacked-more [] (x ∷ T) E p fits long = absurd (omega (arith, fits))
+unpacked-more (q ∷ ps) T E p fits long =
+    let rest = length-drop q.count T in
+    ap₂ (λ F cs. (q.intent, F) ∷ cs) (take-append-le q.count T E (omega (arith, fits)))
+    (ap (unpacked (ps ++ p ∷ [])) (drop-append-le q.count T E (omega (arith, fits))) ∙ unpacked-more ps (drop q.count T) E p (omega (arith, fits, rest)) long)
+
+pub length-unpacked : {W : ℕ} (ps : List (Packed W)) (T : List ℕ) → length (unpacked ps T) ≡ length ps
+length-unpacked [] T = refl
+length-unpacked (p ∷ ps) T = ap suc (length-unpacked ps (drop p.count T))
+
+pub intents-unpacked : {W : ℕ} (ps : List (Packed W)) (T : List ℕ) → map (λ c. c.0) (unpacked ps T) ≡ map (λ p. p.intent) ps
+intents-unpacked [] T = refl
+intents-unpacked (p ∷ ps) T = ap (λ Xs. p.intent ∷ Xs) (intents-unpacked ps (drop p.count T))
+
+-- the places that are behind them change nothing
+pub most-unpacked : {W : ℕ} (ps : List (Packed W)) (T : List ℕ) (most : ℕ) → All (λ p. p.count ≤ most) ps → All (λ c. length c.1 ≤ most) (unpacked ps T)
+most-unpacked [] T most h = λ k d l. absurd (omega arith)
+most-unpacked (p ∷ ps) T most h = All-cons (λ c. length c.1 ≤ most) (p.intent, take p.count T) (unpacked ps (drop p.count T))
+    (let first = All-head (λ q. q.count ≤ most) p ps h in let long = length-take p.count T in omega (arith, first, long))
+    (most-unpacked ps (drop p.count T) most (All-tail (λ q. q.count ≤ most) p ps h))
+
+pub most-more : {W : ℕ} (ps : List (Packed W)) (p : Packed W) (most more : ℕ) → All (λ q. q.count ≤ most) ps → most ≤ more → p.count ≤ more → All (λ q. q.count ≤ more) (ps ++ p ∷ [])
+most-more ps p most more h wider last = All-append (λ q. q.count ≤ more) ps (p ∷ []) (λ k d l. let b = h k d l in omega (arith, b, wider)) (All-cons (λ q. q.count ≤ more) p [] last (λ k d l. absurd (omega arith)))
+
+-- the concept at place i, and those behind it
+module _ {W : ℕ} (ps : List (Packed W)) (i : ℕ) (p : Packed W) (inside : i < length ps) (is : p ≡ get_or ps i p) where
+  left : drop i ps ≡ p ∷ drop (i + 1) ps
+  left = drop_more ps i p inside ∙ ap (λ q. q ∷ drop (i + 1) ps) (sym is)
+
+  pub total-left : total (drop i ps) ≡ p.count + total (drop (i + 1) ps)
+  total-left = ap total left
+
+  pub unpacked-left : (T : List ℕ) → unpacked (drop i ps) T ≡ (p.intent, take p.count T) ∷ unpacked (drop (i + 1) ps) (drop p.count T)
+  unpacked-left T = ap (λ qs. unpacked qs T) left
+
+  pub length-left : length (drop i ps) ≡ suc (length (drop (i + 1) ps))
+  length-left = ap (λ (qs : List (Packed W)). length qs) left

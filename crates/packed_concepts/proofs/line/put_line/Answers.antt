@@ -1,0 +1,54 @@
+use Rattle.std.proofs.Common.{◌≡◌, ◌∙◌, ◌++◌, take, ap, arith}
+use Rattle.std.specs.Prelude.{codes}
+use Rattle.fca_model.specs.Tables.{Text}
+use Rattle.expert_wire.specs.Texts.{listed, names_of}
+use Rattle.packed_concepts.specs.Lines.{Named, names_at}
+use Rattle.packed_concepts.proofs.LineLemmas.{line-parts}
+use Rattle.packed_concepts.proofs.line.put_line.Goals as goal
+
+pub put_extent-extent-requires : goal.put_extent-extent-requires
+put_extent-extent-requires g c = record {
+  inside = c.requires.named.inside;
+  room = omega (
+    arith,
+    c.requires.room,
+    c.put_bytes-number.ensures.ends,
+    c.put_bytes-opened.ensures.ends,
+    c.put_intent-intent.ensures.ends,
+    c.put_bytes-parted.ensures.ends,
+    c.put_bytes-number.ensures.room,
+    c.put_bytes-opened.ensures.room,
+    c.put_intent-intent.ensures.room,
+    c.put_bytes-parted.ensures.room,
+  );
+}
+
+pub returns : goal.returns
+returns g c =
+    let t : Named = c.args.names.now in
+    let old : Text = take c.args.start c.args.text.now in
+    let number : take c.put_bytes-opened.result c.put_bytes-opened.new.text ≡ (old ++ c.args.digits.now) ++ codes " {" =
+    c.put_bytes-opened.ensures.text ∙ ap (λ (z : Text). z ++ codes " {") c.put_bytes-number.ensures.text in
+    let intent : take c.put_bytes-parted.result c.put_bytes-parted.new.text ≡ (((old ++ c.args.digits.now) ++ codes " {") ++ listed (names_of t.attributes c.args.a.now)) ++ codes "} | {" =
+    c.put_bytes-parted.ensures.text ∙ ap (λ (z : Text). z ++ codes "} | {") (c.put_intent-intent.ensures.text ∙ ap (λ (z : Text). z ++ listed (names_of t.attributes c.args.a.now)) number) in
+    record {
+      text = c.put_bytes.ensures.text ∙ ap (λ (z : Text). z ++ codes "}\n") (c.put_extent-extent.ensures.text ∙ ap (λ (z : Text). z ++ listed (names_at t.objects c.args.places.now)) intent)
+          ∙ line-parts t old c.args.digits.now c.args.a.now c.args.places.now;
+      ends = omega (
+        arith,
+        c.requires.room,
+        c.put_bytes-number.ensures.ends,
+        c.put_bytes-opened.ensures.ends,
+        c.put_intent-intent.ensures.ends,
+        c.put_bytes-parted.ensures.ends,
+        c.put_extent-extent.ensures.ends,
+        c.put_bytes.ensures.ends,
+        c.put_bytes-number.ensures.room,
+        c.put_bytes-opened.ensures.room,
+        c.put_intent-intent.ensures.room,
+        c.put_bytes-parted.ensures.room,
+        c.put_extent-extent.ensures.room,
+        c.put_bytes.ensures.room,
+      );
+      room = c.put_bytes.ensures.room ∙ c.put_extent-extent.ensures.room ∙ c.put_bytes-parted.ensures.room ∙ c.put_intent-intent.ensures.room ∙ c.put_bytes-opened.ensures.room ∙ c.put_bytes-number.ensures.room;
+    }

@@ -1,0 +1,35 @@
+use Rattle.std.proofs.Common.{◌≡◌, ◌∙◌, ◌++◌, ℕ, List, All, length, take, sym, ap, subst, arith}
+use Rattle.std.specs.List.{flat_map}
+use Rattle.std.proofs.lemmas.Result.{err_from_is_err_and}
+use Rattle.fca_model.specs.Sets.{Set}
+use Rattle.fca_model.specs.Tables.{Text}
+use Rattle.expert_wire.proofs.WriteLemmas.{Writes-then, Writes-equal}
+use Rattle.packed_concepts.specs.Lines.{lines_from, head_of}
+use Rattle.packed_concepts.specs.Packing.{Holds}
+use Rattle.packed_concepts.proofs.text.write_all.Goals as goal
+
+pub pass_pages-requires : goal.pass_pages-requires
+pass_pages-requires g c = (
+  omega arith,
+  (
+    c.requires.named,
+    (
+      subst (λ n. All (λ (page : List (Set × List ℕ)). All (Holds n) page) c.args.pages.now) (sym c.put_head-head.ensures.room) c.requires.holds,
+      (c.put_head-head.ensures.end, omega (arith, c.requires.count, c.ranges.count.fits)),
+    ),
+  ),
+)
+
+pub returns-in_err-end : goal.returns-in_err-end
+returns-in_err-end g c =
+    let all : List (Set × List ℕ) = flat_map (λ x. x) c.args.pages.now in
+    let p = err_from_is_err_and c.from_residual.result c.from_residual.ensures.1 in
+    let head : take c.put_head-head.result c.put_head-head.new.buffer ≡ head_of (length all) = c.put_head-head.ensures.text ∙ ap head_of c.requires.count in
+    rw (p.1, p.2) (Writes-equal (ap (λ (u : Text). u ++ lines_from c.args.names.now 0 all) head) c.in_err-end.ensures.failed)
+
+pub returns : goal.returns
+returns g c =
+    let all : List (Set × List ℕ) = flat_map (λ x. x) c.args.pages.now in
+    let head : take c.put_head-head.result c.put_head-head.new.buffer ≡ head_of (length all) = c.put_head-head.ensures.text ∙ ap head_of c.requires.count in
+    let passed = c.in_ok-end.ensures.passed in
+    Writes-equal (passed.split ∙ ap (λ (u : Text). u ++ lines_from c.args.names.now 0 all) head) (Writes-then c.write_part.result passed.written c.write_part.ensures)

@@ -1,0 +1,6 @@
+pub mod Listing
+pub mod Pieces
+pub mod Lines
+pub mod Packing
+pub mod Passing
+pub mod Narrow

@@ -1,0 +1,146 @@
+//! How the lines of packed concepts are written through a buffer.
+
+ghost use Rattle.std.specs.Prelude.{◌≡◌, ◌+◌, ◌*◌, ◌^◌, ◌<◌, ◌≤◌, ◌++◌, [], All, IfOk, IfErr, OnOk, length, take};
+ghost use Rattle.std.specs.List.{flat_map};
+ghost use Rattle.expert_wire.specs.Parts.{Writes};
+ghost use Rattle.expert_wire.specs.Texts.{ordinal};
+ghost use Rattle.packed_concepts.specs.Lines.{line_of, lines_from};
+ghost use Rattle.packed_concepts.specs.Packing.{IsNamed, Holds};
+ghost use Rattle.packed_concepts.specs.Passing.{HasPassed};
+
+use crate::line::{MARKS, put_line};
+use crate::names::Names;
+use crate::page::ConceptPage;
+use crate::pieces::PIECE_ROOM;
+use attr_bits::Bits;
+use fca_io::{Put, Sink, write_text};
+use itoa::Buffer;
+
+/// The most digits of a number.
+pub(crate) const DIGITS: usize = 20;
+
+/// The most bytes of a line beside its names.
+const LINE: usize = MARKS + DIGITS;
+
+/// From so many bytes on that wait they are written.
+pub(crate) const MANY_BYTES: usize = 1 << 18;
+
+/// Appends the part to the sink. After an `Err` the sink holds a front of it.
+pub(crate) fn write_part<K: Sink>(out: &mut K, part: &[u8]) -> Result<(), Put>
+    ensures { Writes (K.held out.old) (K.held out.new) (K.faults out.old) (K.faults out.new) (K.beside out.old) (K.beside out.new)
+        (K.asked_beside out.old) (K.asked_beside out.new) part.now result }
+{
+    write_text(out, part)
+}
+
+/// Makes way for so many bytes behind those that wait in the buffer up to the end, and tells where these end from then on.
+fn make_way<K: Sink>(out: &mut K, buffer: &[u8], end: usize, room: usize) -> Result<usize, Put>
+    requires end { end ≤ length buffer.now }
+    requires room { room ≤ length buffer.now }
+    ensures passed { IfOk result (λ start. HasPassed (K.held out.old) (K.held out.new) (K.faults out.old) (K.faults out.new) (K.beside out.old) (K.beside out.new)
+        (K.asked_beside out.old) (K.asked_beside out.new) (take end buffer.now) (take start buffer.now) []) }
+    ensures room { IfOk result (λ start. start + room ≤ length buffer.now) }
+    ensures failed { IfErr result (λ fault. Writes (K.held out.old) (K.held out.new) (K.faults out.old) (K.faults out.new) (K.beside out.old) (K.beside out.new)
+        (K.asked_beside out.old) (K.asked_beside out.new) (take end buffer.now) (Err fault)) }
+{
+    if end < MANY_BYTES && room <= buffer.len() - end {
+        return Ok(end);
+    }
+    write_part(out, &buffer[..end])?;
+    Ok(0)
+}
+
+/// Puts the line of the concept at the place behind what waits in the buffer up to the end, and tells where it ends there. What waited is written before, where it
+/// is much or leaves no room.
+fn pass_line<K: Sink, const W: usize>(
+    out: &mut K,
+    names: &Names,
+    buffer: &mut [u8],
+    end: usize,
+    place: usize,
+    intent: &Bits<W>,
+    places: &[u16],
+) -> Result<usize, Put>
+    requires named { IsNamed names.now (intent.now, places.now) }
+    requires holds { Holds (length buffer.old) (intent.now, places.now) }
+    requires end { end ≤ length buffer.old }
+    requires few { place + 1 < 2 ^ 64 }
+    ensures passed { IfOk result (λ new_end. HasPassed (K.held out.old) (K.held out.new) (K.faults out.old) (K.faults out.new) (K.beside out.old) (K.beside out.new)
+        (K.asked_beside out.old) (K.asked_beside out.new) (take end buffer.old) (take new_end buffer.new)
+        (line_of names.now (ordinal place) intent.now places.now)) }
+    ensures end { IfOk result (λ new_end. new_end ≤ length buffer.new) }
+    ensures failed { IfErr result (λ fault. Writes (K.held out.old) (K.held out.new) (K.faults out.old) (K.faults out.new) (K.beside out.old) (K.beside out.new)
+        (K.asked_beside out.old) (K.asked_beside out.new) (take end buffer.old) (Err fault)) }
+    ensures room { length buffer.new ≡ length buffer.old }
+{
+    let room = LINE + PIECE_ROOM * (intent.width() as usize + places.len());
+    let start = make_way(out, buffer, end, room)?;
+    let mut digits = Buffer::new();
+    let number = digits.format(place + 1).as_bytes();
+    Ok(put_line(buffer, start, names, number, intent, places))
+}
+
+/// Puts the lines of the page down in the same way, the first of which is at the place, and tells where they end in the buffer.
+fn pass_page<K: Sink, const W: usize>(
+    out: &mut K,
+    names: &Names,
+    buffer: &mut [u8],
+    end: usize,
+    place: usize,
+    page: &ConceptPage<W>,
+) -> Result<usize, Put>
+    requires named { All (IsNamed names.now) page.now }
+    requires holds { All (Holds (length buffer.old)) page.now }
+    requires end { end ≤ length buffer.old }
+    requires few { place + length page.now < 2 ^ 64 }
+    ensures passed { IfOk result (λ new_end. HasPassed (K.held out.old) (K.held out.new) (K.faults out.old) (K.faults out.new) (K.beside out.old) (K.beside out.new)
+        (K.asked_beside out.old) (K.asked_beside out.new) (take end buffer.old) (take new_end buffer.new)
+        (lines_from names.now place page.now)) }
+    ensures end { IfOk result (λ new_end. new_end ≤ length buffer.new) }
+    ensures failed { IfErr result (λ fault. Writes (K.held out.old) (K.held out.new) (K.faults out.old) (K.faults out.new) (K.beside out.old) (K.beside out.new)
+        (K.asked_beside out.old) (K.asked_beside out.new) (take end buffer.old ++ lines_from names.now place page.now) (Err fault)) }
+    ensures room { length buffer.new ≡ length buffer.old }
+{
+    let _count = page.len();
+    let (packed, all) = page.parts();
+    let mut rest = all;
+    let mut waits = end;
+    let mut next = place;
+    for one in packed {
+        let (places, behind) = rest.split_at(one.count as usize);
+        waits = pass_line(out, names, buffer, waits, next, &one.intent, places)?;
+        next += 1;
+        rest = behind;
+    }
+    Ok(waits)
+}
+
+/// Puts the lines of all pages down in the same way, the first of which is at the first place.
+pub(crate) fn pass_pages<K: Sink, const W: usize>(
+    out: &mut K,
+    names: &Names,
+    buffer: &mut [u8],
+    end: usize,
+    pages: &[ConceptPage<W>],
+) -> Result<usize, Put>
+    requires named { All (λ page. All (IsNamed names.now) page) pages.now }
+    requires holds { All (λ page. All (Holds (length buffer.old)) page) pages.now }
+    requires end { end ≤ length buffer.old }
+    requires few { length (flat_map (λ page. page) pages.now) < 2 ^ 64 }
+    ensures passed { IfOk result (λ new_end. HasPassed (K.held out.old) (K.held out.new) (K.faults out.old) (K.faults out.new) (K.beside out.old) (K.beside out.new)
+        (K.asked_beside out.old) (K.asked_beside out.new) (take end buffer.old) (take new_end buffer.new)
+        (lines_from names.now 0 (flat_map (λ page. page) pages.now))) }
+    ensures end { IfOk result (λ new_end. new_end ≤ length buffer.new) }
+    ensures failed { IfErr result (λ fault. Writes (K.held out.old) (K.held out.new) (K.faults out.old) (K.faults out.new) (K.beside out.old) (K.beside out.new)
+        (K.asked_beside out.old) (K.asked_beside out.new) (take end buffer.old ++ lines_from names.now 0 (flat_map (λ page. page) pages.now)) (Err fault)) }
+    ensures room { length buffer.new ≡ length buffer.old }
+{
+    let mut waits = end;
+    let mut next = 0;
+    for page in pages {
+        let count = page.len();
+        waits = pass_page(out, names, buffer, waits, next, page)?;
+        next += count;
+    }
+    Ok(waits)
+}
