@@ -13,13 +13,15 @@ FCA = os.environ.get("BENCH_FCA", os.path.join(TOP, "fca"))
 LIMIT = int(os.environ.get("BENCH_LIMIT", "60"))
 TUNABLES = "glibc.malloc.hugetlb=1"
 AREAS = ":glibc.malloc.arena_max=1:glibc.malloc.mmap_threshold=4194304"
+GIVEN_BACK = "glibc.malloc.mmap_threshold=65536:glibc.malloc.trim_threshold=65536"
 SET_BY_CALLER = "GLIBC_TUNABLES" in os.environ
 
 
 def set_tunables(command):
     """Has the C library do as `fca` has it for that command, also where another program is measured, unless the caller has set that."""
     if not SET_BY_CALLER:
-        os.environ["GLIBC_TUNABLES"] = TUNABLES + (AREAS if command == "concepts" else "")
+        tunables = {"concepts": TUNABLES + AREAS, "basis": GIVEN_BACK}
+        os.environ["GLIBC_TUNABLES"] = tunables.get(command, TUNABLES)
 
 
 set_tunables(None)
