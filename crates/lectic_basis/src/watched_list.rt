@@ -12,18 +12,11 @@ use implication_closure::ImplicationList;
 use std::alloc::Global;
 use std::marker::Model;
 
-/// A member that waits: its premise, and its place in the list.
-#[derive(Clone, Copy)]
-struct Entry<const W: usize> {
-    premise: Bits<W>,
-    place: usize,
-}
-
-/// The list, and for each attribute the members that wait for it.
+/// The list, and for each attribute the places of the members that wait for it.
 #[derive(Drop)]
 pub struct WatchedList<const W: usize> {
     list: NarrowList<W>,
-    buckets: Vec<Vec<Entry<W>>>,
+    buckets: Vec<Vec<usize>>,
 }
 
 impl<const W: usize> Model for WatchedList<W> {
@@ -33,9 +26,9 @@ impl<const W: usize> Model for WatchedList<W> {
 
     ghost Value = { Watched };
 
-    ghost view = { λ a. record { list = a.list; buckets = map (map (λ e. member_at a.list.members e.place)) (map (λ v. v.items) a.buckets.items) } };
+    ghost view = { λ a. record { list = a.list; buckets = map (map (member_at a.list.members)) (map (λ v. v.items) a.buckets.items) } };
 
-    ghost invariant = { λ a. record { words : W ≤ 1024; entries : HaveEntries (λ e. e.premise) (λ e. e.place) a.list.members (map (λ v. v.items) a.buckets.items) } };
+    ghost invariant = { λ a. record { words : W ≤ 1024; entries : HaveEntries a.list.members (map (λ v. v.items) a.buckets.items) } };
 }
 
 impl<const W: usize> WatchedList<W> {
@@ -111,25 +104,13 @@ impl<const W: usize> WatchedList<W> {
         self.buckets[w as usize].len()
     }
 
-    /// The entry at place k of the bucket of attribute w.
-    fn entry(&self, w: u32, k: usize) -> Entry<W>
-        requires inside { w < length self.now.buckets }
-        requires there { k < length (bucket w self.now.buckets) }
-        ensures place { result.place < length self.now.list.members }
-        ensures member { member_at self.now.list.members result.place ≡ waiting_at w k self.now.buckets }
-        ensures premise { result.premise ≡ (waiting_at w k self.now.buckets).premise }
-    {
-        self.buckets[w as usize][k]
-    }
-
     /// The premise at place k of the bucket of attribute w.
     pub(crate) fn premise(&self, w: u32, k: usize) -> Bits<W>
         requires inside { w < length self.now.buckets }
         requires there { k < length (bucket w self.now.buckets) }
         ensures { result ≡ (waiting_at w k self.now.buckets).premise }
     {
-        let _width = self.width();
-        self.entry(w, k).premise
+        self.waiting(w, k).premise
     }
 
     /// The conclusion at place k of the bucket of attribute w.
@@ -138,9 +119,17 @@ impl<const W: usize> WatchedList<W> {
         requires there { k < length (bucket w self.now.buckets) }
         ensures { result ≡ (waiting_at w k self.now.buckets).conclusion }
     {
-        let _width = self.width();
-        let place = self.entry(w, k).place;
-        self.list.as_slice()[place].conclusion
+        self.waiting(w, k).conclusion
+    }
+
+    /// The member at place k of the bucket of attribute w.
+    fn waiting(&self, w: u32, k: usize) -> &Implication<Bits<W>>
+        requires inside { w < length self.now.buckets }
+        requires there { k < length (bucket w self.now.buckets) }
+        ensures { result.now ≡ waiting_at w k self.now.buckets }
+    {
+        let place = self.buckets[w as usize][k];
+        &self.list.as_slice()[place]
     }
 
     /// Moves the member at place k of bucket w to another bucket.
@@ -152,8 +141,8 @@ impl<const W: usize> WatchedList<W> {
         ensures list { self.new.list ≡ self.old.list }
         ensures moved { OnOk result (IsMoved self.old.buckets self.new.buckets w k other (waiting_at w k self.old.buckets)) }
     {
-        let entry = self.buckets[w as usize][k];
-        self.buckets[other as usize].push(entry)?;
+        let place = self.buckets[w as usize][k];
+        self.buckets[other as usize].push(place)?;
         self.buckets[w as usize].swap_remove(k);
         Ok(())
     }
@@ -192,15 +181,13 @@ impl<const W: usize> WatchedList<W> {
         ensures list { self.new.list ≡ self.old.list }
         ensures put { OnOk result (IsPut self.old.buckets self.new.buckets w (member_at self.old.list.members place)) }
     {
-        let premise = self.list.as_slice()[place].premise;
-        self.buckets[w as usize].push(Entry { premise, place })?;
+        self.buckets[w as usize].push(place)?;
         Ok(())
     }
 }
 
 /// As many empty buckets.
-fn empty_buckets<const W: usize>(alloc: Global, n: u32) -> Result<Vec<Vec<Entry<W>>>, Memory>
-    requires words { W ≤ 1024 }
+fn empty_buckets(alloc: Global, n: u32) -> Result<Vec<Vec<usize>>, Memory>
     ensures room { IfOk result (λ buckets. length buckets.items ≡ n) }
     ensures empty { IfOk result (λ buckets. (w : ℕ) → bucket w (map (λ v. v.items) buckets.items) ≡ []) }
 {
