@@ -10,10 +10,11 @@ ghost use Rattle.expert_wire.specs.Replies.{reply_line, numbered_rule};
 
 use crate::parts::{Part, write_parts};
 use crate::replies::{write_question, write_reply, write_rule};
+use attr_bits::Attrs;
 use context_table::Table;
-use explore_state::{Implication, Reply};
 use fca_io::{Failed, Sink};
-use fca_model::Memory;
+use fca_model::{Memory, Reply};
+use implication_closure::Implication;
 use itoa::Buffer;
 use std::alloc::Global;
 use std::marker::Model;
@@ -84,7 +85,7 @@ impl Draft {
     }
 
     /// Appends the line of the reply.
-    pub fn reply(&mut self, table: &Table, reply: &Reply) -> Result<(), Memory>
+    pub fn reply(&mut self, table: &Table, reply: &Reply<Attrs>) -> Result<(), Memory>
         ensures whole { OnOk result (self.new ≡ self.old ++ reply_line table.now.attributes reply.now) }
         ensures front { AppendsFront (Some self.old) (Some self.new) (reply_line table.now.attributes reply.now) }
     {

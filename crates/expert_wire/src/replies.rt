@@ -11,11 +11,12 @@ ghost use Rattle.expert_wire.specs.Parts.{Writes};
 use crate::parts::{Part, write_parts};
 use attr_bits::Attrs;
 use context_table::Table;
-use explore_state::{Implication, Reply};
 use fca_io::{Put, Sink};
+use fca_model::Reply;
+use implication_closure::Implication;
 
 /// Writes the line of the reply, part by part; it takes no memory. After an `Err` the sink holds a front of the line.
-pub fn write_reply<K: Sink>(sink: &mut K, table: &Table, reply: &Reply) -> Result<(), Put>
+pub fn write_reply<K: Sink>(sink: &mut K, table: &Table, reply: &Reply<Attrs>) -> Result<(), Put>
     ensures whole { OnOk result (Appends (K.held sink.old) (K.held sink.new) (reply_line table.now.attributes reply.now)) }
     ensures front { AppendsFront (K.held sink.old) (K.held sink.new) (reply_line table.now.attributes reply.now) }
 
