@@ -5,7 +5,8 @@ In a fenced block a line that begins with `$ ` is a command, and the lines behin
 one document run in one new folder, which has the program and the examples. A command `./fca serve` or
 `examples/expert.sh` is a terminal that stays open, numbered from 1; a row `| 2 | typed | answered |` of a table types a
 line at terminal 2. The port 7000 becomes a free one.
-Each script of `examples/` is replayed too, and its text is fed back. The status is 0 where all is as shown.
+Each script of `examples/` is replayed too, and its text is fed back. The status is 0 where all is as shown. The program is
+./fca of this repository, or what the variable FCA names.
 """
 import os
 import re
@@ -16,7 +17,7 @@ import tempfile
 import time
 
 TOP = os.path.dirname(os.path.dirname(os.path.abspath(__file__)))
-FCA = os.path.join(TOP, "fca")
+FCA = os.path.abspath(os.environ.get("FCA") or os.path.join(TOP, "fca"))
 DOCUMENTS = ["README.md", "docs/TUTORIAL.md", "docs/FORMATS.md"]
 SECONDS = 60
 TYPED = re.compile(r"\| (\d+) \| `(.*)` \| `(.*)` \|\n")
@@ -116,8 +117,8 @@ class Run:
 
 def check_document(name):
     with tempfile.TemporaryDirectory() as folder:
-        for linked in ("fca", "examples"):
-            os.symlink(os.path.join(TOP, linked), os.path.join(folder, linked))
+        os.symlink(FCA, os.path.join(folder, "fca"))
+        os.symlink(os.path.join(TOP, "examples"), os.path.join(folder, "examples"))
         run = Run(name, folder)
         run.all()
     print("%s: %d examples, %d not as shown" % (name, run.count, run.wrong))
