@@ -2,10 +2,13 @@
 //! they hold.
 #![tactic(auto)]
 
+mod address;
+mod connection;
 mod ends;
 mod link;
 mod words;
 
+pub use address::is_address;
 pub use ends::{FileShelf, StdFault, StdInput, StdOutput};
 pub use link::{TcpEnd, TcpLink};
 pub use words::words_of;

@@ -3,15 +3,16 @@
 ghost use Rattle.std.specs.Prelude.{◌≡◌, ◌≤◌, true, false};
 ghost use Rattle.fca_io.specs.Faults.{one_more};
 
+use crate::address::is_address;
+use crate::connection::Connection;
 use fca_io::{Duplex, Failed, Listener, Sink, Source};
-use std::io::{Read, Write};
 use std::marker::Model;
 use std::net::{Net, OpenListener, TcpListener, TcpStream};
 
 /// A socket that was accepted. It counts its reads, and a write that takes nothing is a fault.
 #[derive(Drop)]
 pub struct TcpEnd {
-    stream: TcpStream,
+    connection: Connection,
     reads: u64,
     read_faults: u64,
     write_faults: u64,
@@ -32,7 +33,7 @@ impl Source for TcpEnd {
 
     fn read(&mut self, into: &mut [u8]) -> Result<usize, Failed> {
         self.reads = self.reads.saturating_add(1);
-        match self.stream.read(into) {
+        match self.connection.read(into) {
             Ok(count) => Ok(count),
             Err(_) => {
                 self.read_faults = self.read_faults.saturating_add(1);
@@ -54,7 +55,7 @@ impl Sink for TcpEnd {
     ghost asked_beside = { λ e. record { reads = Some e.reads; faults = e.read_faults } };
 
     fn write(&mut self, from: &[u8]) -> Result<usize, Failed> {
-        match self.stream.write(from) {
+        match self.connection.write(from) {
             Ok(count) if count > 0 => Ok(count),
             _ => {
                 self.write_faults = self.write_faults.saturating_add(1);
@@ -81,6 +82,7 @@ impl Duplex for TcpEnd {
 pub struct TcpLink<'a, R: Net<Listener = TcpListener, Stream = TcpStream>> {
     rt: &'a R,
     listener: Option<TcpListener>,
+    door: Option<TcpListener>,
     faults: u64,
 }
 
@@ -101,6 +103,7 @@ impl<'a, R: Net<Listener = TcpListener, Stream = TcpStream>> TcpLink<'a, R> {
         TcpLink {
             rt,
             listener: None,
+            door: None,
             faults: 0,
         }
     }
@@ -134,8 +137,12 @@ impl<'a, R: Net<Listener = TcpListener, Stream = TcpStream>> Listener for TcpLin
         let Ok(address) = str::from_utf8(address) else {
             return Err(self.count_fault());
         };
+        if !is_address(address.as_bytes()) {
+            return Err(self.count_fault());
+        }
         match TcpListener::bind(self.rt, address) {
             Ok(listener) => {
+                self.door = listener.try_clone().ok();
                 self.listener = Some(listener);
                 Ok(())
             }
@@ -151,9 +158,8 @@ impl<'a, R: Net<Listener = TcpListener, Stream = TcpStream>> Listener for TcpLin
         let Some((stream, _)) = accepted else {
             return Err(self.count_fault());
         };
-        let _ = stream.set_nodelay(true);
         Ok(TcpEnd {
-            stream,
+            connection: Connection::new(stream, self.door.take()),
             reads: 0,
             read_faults: 0,
             write_faults: 0,
