@@ -1,26 +1,32 @@
 #!/usr/bin/env python3
-"""Runs the examples of the documents and compares what comes with what they show: check.py [DOCUMENT ..]
+"""Runs the examples of the documents and compares what comes with what they show: check.py [WHAT ..]
 
 In a fenced block a line that begins with `$ ` is a command, and the lines behind it are what it writes. The commands of
-one document run in one new folder, which has the program and the examples. A command `./fca serve` or
-`examples/expert.sh` is a terminal that stays open, numbered from 1; a row `| 2 | typed | answered |` of a table types a
-line at terminal 2. The port 7000 becomes a free one.
-Each script of `examples/` is replayed too, and its text is fed back. The status is 0 where all is as shown. The program is
+one document run in one new folder, which has the program and the examples. A command `./fca serve`, `examples/chair.py` or
+`examples/expert.sh` is a terminal that stays open, numbered from 1, and so is one with `examples/student.py`; a row
+`| 2 | typed | answered |` of a table types a line at terminal 2, and `| 1 | Ctrl-C | |` presses that. The port 7000 becomes a free one.
+Each script of `examples/` is replayed too, and its text is fed back; other scripts have cases of their own. WHAT is a document,
+`scripts` or `chair`, and all of them where nothing is said. The status is 0 where all is as shown. The program is
 ./fca of this repository, or what the variable FCA names.
 """
 import os
 import re
+import signal
 import socket
 import subprocess
 import sys
 import tempfile
 import time
 
+import check_chair
+
 TOP = os.path.dirname(os.path.dirname(os.path.abspath(__file__)))
 FCA = os.path.abspath(os.environ.get("FCA") or os.path.join(TOP, "fca"))
 DOCUMENTS = ["README.md", "docs/TUTORIAL.md", "docs/FORMATS.md"]
 SECONDS = 60
 TYPED = re.compile(r"\| (\d+) \| `(.*)` \| `(.*)` \|\n")
+PRESSED = re.compile(r"\| (\d+) \| Ctrl-C \| \|\n")
+TERMINALS = ("./fca serve ", "examples/chair.py ", "examples/expert.sh ")
 
 
 class Terminal:
@@ -28,21 +34,38 @@ class Terminal:
 
     def __init__(self, number, command, shown, folder):
         self.number, self.shown = number, shown
-        self.out = tempfile.TemporaryFile()
-        self.child = subprocess.Popen(["bash", "-c", command], cwd=folder, stdin=subprocess.PIPE, stdout=self.out)
+        self.out, self.err, self.is_chair = tempfile.TemporaryFile(), None, command.startswith("examples/chair.py ")
+        if self.is_chair:
+            self.err = tempfile.TemporaryFile()
+        self.child = subprocess.Popen(["bash", "-c", command], cwd=folder, stdin=subprocess.PIPE, stdout=self.out, stderr=self.err)
+
+    def is_listening(self):
+        return b" seats at " in os.pread(self.err.fileno(), 1 << 16, 0)
 
     def written(self):
         return os.pread(self.out.fileno(), 1 << 24, 0).decode().splitlines()
 
+    def wait(self, is_so):
+        end = time.time() + SECONDS
+        while not is_so() and time.time() < end:
+            time.sleep(0.05)
+
+    def has_written(self):
+        """Whether as many lines are written as should be there."""
+        return len(self.written()) >= len(self.shown)
+
     def type(self, line, answer):
-        """Types a line, and waits until as many lines are written as should be there then."""
+        """Types a line, and waits for its answer."""
         self.child.stdin.write((line + "\n").encode())
         self.child.stdin.flush()
         self.shown = self.shown + [answer]
-        end = time.time() + SECONDS
-        while len(self.written()) < len(self.shown) and time.time() < end:
-            time.sleep(0.05)
+        self.wait(self.has_written)
         time.sleep(0.2)  # a session gives back what it holds behind its last answer
+
+    def press(self):
+        """Ctrl-C, and waits for the end."""
+        self.child.send_signal(signal.SIGINT)
+        self.child.wait(SECONDS)
 
     def end(self):
         self.child.stdin.close()
@@ -54,7 +77,7 @@ def steps(path):
     found, shown, in_block = [], [], False
     with open(path) as text:
         for number, line in enumerate(text, 1):
-            typed = TYPED.fullmatch(line)
+            typed, pressed = TYPED.fullmatch(line), PRESSED.fullmatch(line)
             if line.startswith("```"):
                 shown, in_block = [], not in_block
             elif in_block and line.startswith("$ "):
@@ -64,6 +87,8 @@ def steps(path):
                 shown.append(line.rstrip("\n"))
             elif typed:
                 found.append((number, int(typed[1]), (typed[2], typed[3])))
+            elif pressed:
+                found.append((number, int(pressed[1]), None))
     return found
 
 
@@ -87,8 +112,14 @@ class Run:
             print("%s:%d: shown are\n  %s\nand written were\n  %s" % (self.name, number, "\n  ".join(shown), "\n  ".join(written)))
 
     def open(self, number, command, shown):
-        self.terminals.append(Terminal(number, command, shown, self.folder))
-        time.sleep(1)  # so that the next terminal finds this one listening, or connected
+        terminal = Terminal(number, command, shown, self.folder)
+        self.terminals.append(terminal)
+        if terminal.is_chair:
+            terminal.wait(terminal.is_listening)
+        elif self.terminals[0].is_chair:
+            terminal.wait(terminal.has_written)  # a chair greets at once
+        else:
+            time.sleep(1)  # so that the next terminal finds this one listening, or connected
 
     def close(self):
         for terminal in reversed(self.terminals):
@@ -98,7 +129,7 @@ class Run:
 
     def command(self, number, command, shown):
         command = command.replace("7000", self.port)
-        if command.startswith(("./fca serve ", "examples/expert.sh ")):
+        if command.startswith(TERMINALS) or "examples/student.py " in command:
             self.open(number, command, shown)
             return
         self.close()
@@ -108,7 +139,9 @@ class Run:
 
     def all(self):
         for number, what, shown in steps(os.path.join(TOP, self.name)):
-            if isinstance(what, int):
+            if isinstance(what, int) and shown is None:
+                self.terminals[what - 1].press()
+            elif isinstance(what, int):
                 self.terminals[what - 1].type(*shown)
             else:
                 self.command(number, what, shown)
@@ -146,9 +179,13 @@ def check_scripts():
     return wrong
 
 
+CASES = {"scripts": check_scripts, "chair": lambda: check_chair.check(FCA)}
+
+
 def main():
     subprocess.run([FCA], stderr=subprocess.DEVNULL)  # builds the program where it is not built
-    wrong = sum(check_document(name) for name in sys.argv[1:] or DOCUMENTS) + check_scripts()
+    what = sys.argv[1:] or DOCUMENTS + list(CASES)
+    wrong = sum(CASES[name]() if name in CASES else check_document(name) for name in what)
     sys.exit(1 if wrong else 0)
 
 

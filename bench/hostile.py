@@ -1,0 +1,478 @@
+#!/usr/bin/env python3
+"""The program where the system refuses: hostile.py [--quick] [PART ..], all parts where none is said.
+
+    stacks     the ordinal scale of 1,024 in both orders, every command, with stacks from 256 KB up; the threads of the program have such stacks, too
+    addresses  every command with a limit on addresses, in steps up to what it needs
+    files      every command with 0 to 12 open files
+    threads    the commands that use threads, with 1 to 24 of them; as root, by a user that nobody else is, and else not
+    memory     every command with each of its allocations refused in turn (bench/refused_memory.py, which wants cc)
+    calls      every command with each call that asks the system for memory, and each that begins a thread, refused in turn (wants strace)
+    streams    every command with closed and full streams
+
+Each run has to come to the whole answer, or to one of the ends that docs/FORMATS.md names, with its line on err and nothing on out but a front of
+the text where the output fails. Where the system does not begin the program at all (its loader is refused), the run does not count. A part that the
+machine does not have is told as not tried. The program is that of the variable BENCH_FCA, or of this repository, without its script `fca`.
+
+The last line sums up. KNOWN lists what is known to be wrong; the status is 0 where nothing else is.
+"""
+import argparse
+import collections
+import os
+import resource
+import shutil
+import socket
+import subprocess
+import sys
+import tempfile
+import threading
+import time
+
+sys.path.insert(0, os.path.dirname(os.path.abspath(__file__)))
+import measure
+import refused_memory
+
+SECONDS = 120
+ORDINAL = 1024
+STACKS = [256, 288, 320, 384, 512, 768, 1024, 1536, 2048, 8192]  # in KB
+NOBODY = 61234  # the number of a user that has no other processes
+LOADER = (b"error while loading shared libraries", b"cannot execute", b"Cannot allocate memory", b"Resource temporarily unavailable", b"Too many open files")
+NO_MEMORY = b"fca: no memory\n"
+
+# What is known to be wrong: a part, and the first words of its commands. The list is empty where all is right.
+KNOWN = []
+
+SMALL = refused_memory.COMMANDS + [
+    ("replay empty.cxt --known empty.known", "draw 1\n"),
+    ("explore bare.cxt --known bare.known --names --expert beings.cxt", ""),
+    ("convert beings.cxt cxt", ""),
+    ("convert beings.csv cxt", ""),
+    ("direct beings.cxt", ""),
+    ("concepts beings.cxt", ""),
+]
+FILES = dict(refused_memory.FILES)
+FILES["empty.known"] = "X. XX\n"
+FILES["bare.known"] = "........X ......XX.\n"
+FILES["beings.csv"] = "object,a,b\nleech,X,\nfrog,,X\n"
+THREADED = ("explore", "survey", "concepts")
+
+Ran = collections.namedtuple("Ran", "status out err")
+
+
+def found_program():
+    """The program itself; `fca` is asked first, which builds it where that is needed."""
+    if "BENCH_FCA" in os.environ:
+        return os.path.abspath(measure.FCA)
+    subprocess.run([measure.FCA], stderr=subprocess.DEVNULL)
+    return os.path.join(measure.TOP, "crates", "fca_program", "out", "fca_program")
+
+
+class Place:
+    """A folder with the program and the files of the commands, which every user may read."""
+
+    def __init__(self, folder):
+        self.folder, self.program = folder, os.path.join(folder, "program")
+        os.chmod(folder, 0o755)
+        shutil.copy(found_program(), self.program)
+        os.chmod(self.program, 0o755)
+        for name, text in FILES.items():
+            self.write(name, text)
+
+    def write(self, name, text):
+        with open(os.path.join(self.folder, name), "w") as out:
+            out.write(text)
+
+    def run(self, words, stdin="", limit=None, before=None, begin=None):
+        """What a run came to; `limit` are words of ulimit, `begin` words before the program, `before` is done in the new process."""
+        command = (begin or []) + [self.program] + words.split()
+        if limit:
+            command = ["bash", "-c", 'ulimit %s && exec "$@"' % limit, "bash"] + command
+        measure.set_tunables(words.split()[0])
+        try:
+            ran = subprocess.run(command, input=stdin.encode(), stdout=subprocess.PIPE, stderr=subprocess.PIPE, cwd=self.folder, preexec_fn=before, timeout=SECONDS)
+        except subprocess.TimeoutExpired:
+            return Ran(None, b"", b"")
+        return Ran(ran.returncode, ran.stdout, ran.stderr)
+
+
+# ---- what a run came to
+
+
+def is_same(words, out, whole):
+    """Whether it is the whole text; explorations by threads end alike, whoever was asked first."""
+    return out == whole or words.startswith("explore") and b"# open " in out and refused_memory.is_same_end(out, whole)
+
+
+def is_read_fault(words, stdin, ran):
+    """Whether a file of the command, or its input, could not be read."""
+    names = words.split()[1:] + ["input"]
+    return ran.status == 3 and ran.out == b"" and ran.err in [("fca: %s: read fault\n" % name).encode() for name in names]
+
+
+def is_write_fault(ran, whole):
+    return ran.status == 4 and whole.startswith(ran.out) and ran.err in (b"fca: write fault\n", b"")
+
+
+def end_of(words, stdin, ran, whole, may=()):
+    """`answered`, `refused`, `not begun` or `wrong`; `may` says which further ends are right."""
+    if ran.status == whole.status and is_same(words, ran.out, whole.out):
+        return "answered"
+    if (ran.status, ran.out, ran.err) == (5, b"", NO_MEMORY):
+        return "refused"
+    if "read" in may and is_read_fault(words, stdin, ran):
+        return "refused"
+    if "write" in may and is_write_fault(ran, whole.out):
+        return "refused"
+    is_loaders = ran.status in (126, 127, -9, -11, -6) and (not ran.err.startswith(b"fca: ") and any(part in ran.err for part in LOADER) or ran.err == b"" and "loader" in may)
+    return "not begun" if ran.out == b"" and is_loaders else "wrong"
+
+
+class Report:
+    """Counts how runs ended, by part."""
+
+    def __init__(self):
+        self.all, self.known, self.part, self.ends = collections.Counter(), 0, "", collections.Counter()
+
+    def begin(self, part):
+        self.part, self.ends, self.since = part, collections.Counter(), time.time()
+
+    def add(self, end, words, what, ran=None):
+        self.ends[end] += 1
+        if end == "wrong":
+            is_known = any(self.part == part and words.startswith(command) for part, command in KNOWN)
+            self.known += is_known
+            told = "" if ran is None else ": status %s, %d bytes, %r" % (ran.status, len(ran.out), ran.err[-100:])
+            print("%s: %s: %s, %s%s" % ("known" if is_known else "wrong", self.part, words, what, told), flush=True)
+
+    def end(self):
+        self.all.update(self.ends)
+        print("%-10s %s, in %.0f seconds" % (self.part, told(self.ends), time.time() - self.since), flush=True)
+
+    def skip(self, why):
+        print("%-10s not tried: %s" % (self.part, why), flush=True)
+
+
+def told(ends):
+    return "runs %d, answered %d, refused %d, not begun %d, wrong %d" % (sum(ends.values()), *(ends[end] for end in ("answered", "refused", "not begun", "wrong")))
+
+
+# ---- small stacks
+
+
+def ordinal(is_first_special):
+    """The ordinal scale, whose row i has i crosses; the first attribute is the rarest, or the last one."""
+    head = "B\n\n%d\n%d\n\n" % (ORDINAL, ORDINAL) + "".join("%s%d\n" % (kind, place) for kind in "gm" for place in range(ORDINAL))
+    rows = (("X" * (ORDINAL - i) + "." * i)[:: 1 if is_first_special else -1] for i in range(ORDINAL))
+    return head + "".join(row + "\n" for row in rows)
+
+
+def tall_commands(order):
+    """Every command over the ordinal scale of this order; what it reads besides stands in the folder."""
+    table, bare = order + ".cxt", order + "-bare.cxt"
+    return [
+        ("concepts " + table, ""),
+        ("concepts %s --json" % table, ""),
+        ("lattice " + table, ""),
+        ("basis " + table, ""),
+        ("basis %s --json" % table, ""),
+        ("direct " + table, ""),
+        ("follows %s m5 m9" % table, ""),
+        ("follows %s m9 m5" % table, ""),
+        ("convert %s csv" % table, ""),
+        ("convert %s cxt" % table, ""),
+        ("reduce " + table, ""),
+        ("arrows " + table, ""),
+        ("replay " + bare, "draw 1\nconfirm 1\ndraw 2\n"),
+        ("replay " + table, "draw 1\nconfirm 1\ndraw 1\nconfirm 1\ndraw 2\n"),
+        ("replay %s --known %s.known" % (table, order), "draw 1\n"),
+        ("explore %s --expert %s" % (bare, table), ""),
+        ("explore %s --known %s.known --expert %s --expert %s" % (bare, order, table, table), ""),
+        ("scale values.csv plan.csv", ""),
+        ("make 7 1024 1024 4", ""),
+        ("survey 7 60 46 4 8", ""),
+    ]
+
+
+def write_tall(place, order):
+    table = ordinal(order == "first")
+    place.write(order + ".cxt", table)
+    head = table.split("\n")
+    place.write(order + "-bare.cxt", "\n".join(["B", "", "0", str(ORDINAL), ""] + head[5 + ORDINAL : 5 + 2 * ORDINAL]) + "\n")
+    rarer = (7, 8) if order == "first" else (8, 7)
+    place.write(order + ".known", "%s %s\n" % tuple("".join("X" if k == member else "." for k in range(ORDINAL)) for member in reversed(rarer)))
+
+
+def stacks(place, report, is_quick):
+    """Every command over both orders with small stacks; the threads of a program have stacks of the size of the limit."""
+    sizes = STACKS[:1] + STACKS[6:7] if is_quick else STACKS
+    for order in ("first", "last"):
+        write_tall(place, order)
+        for words, stdin in tall_commands(order):
+            whole = place.run(words, stdin, limit="-s %d" % 65536)
+            if whole.status not in (0, 6):
+                report.add("wrong", words, "with a stack of 64 MB", whole)
+                continue
+            for size in sizes:
+                ran = place.run(words, stdin, limit="-s %d" % size)
+                report.add(end_of(words, stdin, ran, whole), words, "stack %d KB" % size, ran)
+        for size in sizes:
+            report.add(served(place, order + ".cxt", 64, limit="-s %d" % size), "serve %s.cxt --experts 64" % order, "stack %d KB" % size)
+
+
+# ---- limits in steps
+
+
+def least(place, words, stdin, whole):
+    """About the least limit on addresses, in KB, with which the command is answered."""
+    low, high = 1024, 1 << 22
+    while high - low > 256:
+        middle = (low + high) // 2
+        ran = place.run(words, stdin, limit="-v %d" % middle)
+        low, high = (low, middle) if (ran.status, ran.out) == (whole.status, whole.out) else (middle, high)
+    return high
+
+
+def addresses(place, report, is_quick):
+    for words, stdin in SMALL:
+        whole = place.run(words, stdin)
+        most = least(place, words, stdin, whole) + 1024
+        steps = 16 if is_quick else 64
+        for step in range(steps):
+            limit = 1024 + (most - 1024) * (step + 1) // steps
+            ran = place.run(words, stdin, limit="-v %d" % limit)
+            report.add(end_of(words, stdin, ran, whole, may=("loader",)), words, "addresses %d KB" % limit, ran)
+    for step in range(4 if is_quick else 24):
+        limit = 8192 + 16384 * step
+        report.add(served(place, "empty.cxt", 8, limit="-v %d" % limit), "serve empty.cxt --experts 8", "addresses %d KB" % limit)
+
+
+def files(place, report, is_quick):
+    for words, stdin in SMALL:
+        whole = place.run(words, stdin)
+        for count in range(13):
+            ran = place.run(words, stdin, limit="-n %d" % count)
+            report.add(end_of(words, stdin, ran, whole, may=("read", "loader")), words, "files %d" % count, ran)
+    for count in range(3, 16):
+        report.add(served(place, "empty.cxt", 8, limit="-n %d" % count), "serve empty.cxt --experts 8", "files %d" % count)
+
+
+def as_nobody(count):
+    """In the new process: a user that nobody else is, who may have so many threads."""
+
+    def before():
+        resource.setrlimit(resource.RLIMIT_NPROC, (count, count))
+        os.setgid(NOBODY)
+        os.setuid(NOBODY)
+
+    return before
+
+
+def threads(place, report, is_quick):
+    if os.getuid() != 0:
+        report.skip("it wants root, to run as a user that nobody else is")
+        return
+    for words, stdin in [case for case in SMALL if case[0].startswith(THREADED)]:
+        whole = place.run(words, stdin)
+        for count in range(1, 9 if is_quick else 25):
+            ran = place.run(words, stdin, before=as_nobody(count))
+            report.add(end_of(words, stdin, ran, whole), words, "threads %d" % count, ran)
+    for count in range(1, 9 if is_quick else 25):
+        report.add(served(place, "empty.cxt", 8, before=as_nobody(count)), "serve empty.cxt --experts 8", "threads %d" % count)
+
+
+# ---- one by one
+
+
+def memory(place, report, is_quick):
+    if shutil.which("cc") is None:
+        report.skip("it wants cc")
+        return
+    library = refused_memory.build(place.folder)
+    for words, stdin in SMALL:
+        whole, counted = refused_memory.ran(words.split(), stdin, place.folder, library, 0), 0
+        for refused in range(1, whole[3] + 1, 8 if is_quick else 1):
+            ran = Ran(*refused_memory.ran(words.split(), stdin, place.folder, library, refused)[:3])
+            report.add(end_of(words, stdin, ran, Ran(*whole[:3])), words, "allocation %d refused" % refused, ran)
+    calls, wrong = refused_memory.report_session(place.folder, library)
+    report.ends.update({"wrong": wrong, "answered": calls - wrong})
+
+
+CALLS = (("mmap,brk,mremap", "ENOMEM"), ("clone,clone3", "EAGAIN"))
+
+
+def refusing(calls, error, place):
+    """The words that have strace refuse the call of this place."""
+    return ["strace", "-f", "-q", "-o", "/dev/null", "-e", "trace=" + calls, "-e", "inject=%s:error=%s:when=%d" % (calls, error, place)]
+
+
+def count_of(place, words, stdin, calls):
+    """How many such calls a run makes, those of the loader and of bash among them."""
+    path = os.path.join(place.folder, "calls")
+    place.run(words, stdin, begin=["strace", "-f", "-q", "-o", path, "-e", "trace=" + calls])
+    with open(path, errors="replace") as lines:
+        return sum("(" in line and "resumed" not in line for line in lines)
+
+
+def calls(place, report, is_quick):
+    probe = subprocess.run(refusing("mmap", "ENOMEM", 1000) + ["true"], stderr=subprocess.DEVNULL) if shutil.which("strace") else None
+    if probe is None or probe.returncode != 0:
+        report.skip("it wants strace, and the right to use it")
+        return
+    for words, stdin in SMALL:
+        whole = place.run(words, stdin)
+        for names, error in CALLS:
+            for number in range(1, count_of(place, words, stdin, names) + 1, 4 if is_quick else 1):
+                ran = place.run(words, stdin, begin=refusing(names, error, number))
+                report.add(end_of(words, stdin, ran, whole, may=("loader",)), words, "%s %d refused" % (names, number), ran)
+
+
+# ---- streams
+
+
+STREAMS = [
+    ("out closed", ">&-"),
+    ("out full", ">/dev/full"),
+    ("out into a pipe that nobody reads", "| true"),
+    ("err closed", "2>&-"),
+    ("err full", "2>/dev/full"),
+    ("input closed", "<&-"),
+    ("input a folder", "</"),
+    ("all closed", "<&- >&- 2>&-"),
+]
+
+
+def streamed(place, words, stdin, form):
+    """A run whose streams the shell closes; its status is that of the program, also before a pipe."""
+    measure.set_tunables(words.split()[0])
+    command = "set -o pipefail; %s %s %s" % (place.program, words, form)
+    try:
+        ran = subprocess.run(["bash", "-c", command], input=stdin.encode(), stdout=subprocess.PIPE, stderr=subprocess.PIPE, cwd=place.folder, timeout=SECONDS)
+    except subprocess.TimeoutExpired:
+        return Ran(None, b"", b"")
+    return Ran(ran.returncode, ran.stdout, ran.stderr)
+
+
+def is_streams_end(words, name, ran, whole):
+    """Whether the run ended as it should, where a stream is closed or full."""
+    if name.startswith("out"):
+        return ran.status == 4 and ran.err == b"fca: write fault\n" or name.endswith("reads") and ran.status == whole.status
+    if name.startswith("err"):
+        return ran.status == whole.status and is_same(words, ran.out, whole.out)
+    if name == "all closed":
+        return ran.status in (3, 4) and ran.out + ran.err == b""
+    if words.startswith("replay"):
+        return (ran.status, ran.out, ran.err) == (3, b"", b"fca: input: read fault\n")
+    return ran.status == whole.status and is_same(words, ran.out, whole.out)
+
+
+def streams(place, report, is_quick):
+    for words, stdin in SMALL:
+        whole = place.run(words, stdin)
+        for name, form in STREAMS:
+            ran = streamed(place, words, stdin, form)
+            is_right = is_streams_end(words, name, ran, whole)
+            report.add("wrong" if not is_right else "answered" if ran.status == whole.status else "refused", words, name, ran)
+    refused = place.run("concepts missing.cxt")
+    for name, form in STREAMS[3:5]:
+        ran = streamed(place, "concepts missing.cxt", "", form)
+        report.add("answered" if (ran.status, ran.out) == (refused.status, refused.out) else "wrong", "concepts missing.cxt", name, ran)
+
+
+# ---- sessions
+
+
+LINES = [b"draw\n", b"confirm\n", b"draw\n", b"leave\n", b"quit\n"]
+
+
+def talk(port, replies):
+    """A session of some lines, as far as it comes."""
+    try:
+        with socket.create_connection(("127.0.0.1", port)) as link, link.makefile("rb") as lines:
+            link.settimeout(SECONDS)
+            head = [lines.readline() for _ in range(3)]
+            if not head[2]:
+                return
+            for _ in range(int(head[2].split()[1])):
+                lines.readline()
+            for line in LINES:
+                link.sendall(line)
+                reply = lines.readline()
+                if not reply.endswith(b"\n"):
+                    return
+                replies.append(reply)
+    except OSError:
+        pass
+
+
+def is_listening(child, port):
+    """Waits until the program listens; whether it does, and has not ended."""
+    end = time.time() + SECONDS
+    line = " %08X:%04X " % (0x0100007F, port)
+    while child.poll() is None and time.time() < end:
+        with open("/proc/net/tcp") as sockets:
+            if any(line in one and " 0A " in one for one in sockets):
+                return True
+        time.sleep(0.002)
+    return False
+
+
+def served(place, table, experts, limit=None, before=None):
+    """How sessions of so many experts end under a limit."""
+    port = refused_memory.free_port()
+    words = ["serve", table, "--experts", str(experts), "--listen", "127.0.0.1:%d" % port]
+    command = (["bash", "-c", 'ulimit %s && exec "$@"' % limit, "bash"] if limit else []) + [place.program] + words
+    measure.set_tunables("serve")
+    with tempfile.TemporaryFile() as out, tempfile.TemporaryFile() as err:
+        child = subprocess.Popen(command, stdin=subprocess.DEVNULL, stdout=out, stderr=err, cwd=place.folder, preexec_fn=before)
+        if is_listening(child, port):
+            clients = [threading.Thread(target=talk, args=(port, [])) for _ in range(experts)]
+            for client in clients:
+                client.start()
+            for client in clients:
+                client.join()
+        try:
+            status = child.wait(SECONDS)
+        except subprocess.TimeoutExpired:
+            child.kill()
+            status = child.wait() and None
+        out.seek(0)
+        err.seek(0)
+        ran = Ran(status, out.read(), err.read())
+    return session_end(place, table, experts, ran)
+
+
+def session_end(place, table, experts, ran):
+    """As `end_of`, of sessions: their text is whole and replays to itself."""
+    if (ran.status, ran.out, ran.err) in ((5, b"", NO_MEMORY), (7, b"", b"fca: listener fault\n"), (3, b"", ("fca: %s: read fault\n" % table).encode())):
+        return "refused"
+    if ran.status in (126, 127, -9, -11, -6) and ran.out == b"" and any(part in ran.err for part in LOADER):
+        return "not begun"
+    record, _, sessions = ran.out.partition(b"# sessions %d\n" % experts)
+    again = subprocess.run([place.program, "replay", table], input=record, stdout=subprocess.PIPE, cwd=place.folder).stdout
+    if ran.status in (0, 6) and sessions.count(b"\n") == experts and again == record:
+        return "answered"
+    print("wrong: serve %s, %d experts: status %s, %d bytes, %r" % (table, experts, ran.status, len(ran.out), ran.err[-100:]), flush=True)
+    return "wrong"
+
+
+PARTS = {"stacks": stacks, "addresses": addresses, "files": files, "threads": threads, "memory": memory, "calls": calls, "streams": streams}
+
+
+def main():
+    parser = argparse.ArgumentParser(description=__doc__, formatter_class=argparse.RawDescriptionHelpFormatter)
+    parser.add_argument("--quick", action="store_true", help="fewer steps, a minute or two")
+    parser.add_argument("parts", nargs="*", metavar="PART", default=list(PARTS), help=", ".join(PARTS))
+    said = parser.parse_args()
+    report, begin = Report(), time.time()
+    with tempfile.TemporaryDirectory() as folder:
+        place = Place(folder)
+        measure.FCA = place.program
+        for part in said.parts:
+            report.begin(part)
+            PARTS[part](place, report, said.quick)
+            report.end()
+    print("in all: %s, of which known %d, in %.0f seconds" % (told(report.all), report.known, time.time() - begin))
+    sys.exit(1 if report.all["wrong"] > report.known else 0)
+
+
+if __name__ == "__main__":
+    main()
