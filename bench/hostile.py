@@ -35,7 +35,6 @@ SECONDS = 120
 ORDINAL = 1024
 STACKS = [256, 288, 320, 384, 512, 768, 1024, 1536, 2048, 8192]  # in KB
 NOBODY = 61234  # the number of a user that has no other processes
-LOADER = (b"error while loading shared libraries", b"cannot execute", b"Cannot allocate memory", b"Resource temporarily unavailable", b"Too many open files")
 NO_MEMORY = b"fca: no memory\n"
 
 # What is known to be wrong: a part, and the first words of its commands. The list is empty where all is right.
@@ -86,7 +85,7 @@ class Place:
         command = (begin or []) + [self.program] + words.split()
         if limit:
             command = ["bash", "-c", 'ulimit %s && exec "$@"' % limit, "bash"] + command
-        measure.set_tunables(words.split()[0])
+        measure.set_tunables(words.partition(" ")[0])
         try:
             ran = subprocess.run(command, input=stdin.encode(), stdout=subprocess.PIPE, stderr=subprocess.PIPE, cwd=self.folder, preexec_fn=before, timeout=SECONDS)
         except subprocess.TimeoutExpired:
@@ -102,28 +101,24 @@ def is_same(words, out, whole):
     return out == whole or words.startswith("explore") and b"# open " in out and refused_memory.is_same_end(out, whole)
 
 
-def is_read_fault(words, stdin, ran):
+def is_read_fault(words, ran):
     """Whether a file of the command, or its input, could not be read."""
     names = words.split()[1:] + ["input"]
     return ran.status == 3 and ran.out == b"" and ran.err in [("fca: %s: read fault\n" % name).encode() for name in names]
 
 
-def is_write_fault(ran, whole):
-    return ran.status == 4 and whole.startswith(ran.out) and ran.err in (b"fca: write fault\n", b"")
-
-
-def end_of(words, stdin, ran, whole, may=()):
-    """`answered`, `refused`, `not begun` or `wrong`; `may` says which further ends are right."""
+def end_of(words, ran, whole, may=()):
+    """`answered`, `refused`, `not begun` or `wrong`; `may` says which ends are right besides."""
     if ran.status == whole.status and is_same(words, ran.out, whole.out):
         return "answered"
-    if (ran.status, ran.out, ran.err) == (5, b"", NO_MEMORY):
+    if (ran.status, ran.out, ran.err) == (5, b"", NO_MEMORY) or "read" in may and is_read_fault(words, ran):
         return "refused"
-    if "read" in may and is_read_fault(words, stdin, ran):
-        return "refused"
-    if "write" in may and is_write_fault(ran, whole.out):
-        return "refused"
-    is_loaders = ran.status in (126, 127, -9, -11, -6) and (not ran.err.startswith(b"fca: ") and any(part in ran.err for part in LOADER) or ran.err == b"" and "loader" in may)
-    return "not begun" if ran.out == b"" and is_loaders else "wrong"
+    return "not begun" if "not begun" in may and ran.out == b"" and not ran.err.startswith(b"fca: ") else "wrong"
+
+
+def below(limit, begins):
+    """Below the least limit with which the program says a word, the system may not begin it."""
+    return ("not begun",) if limit < begins else ()
 
 
 class Report:
@@ -135,13 +130,14 @@ class Report:
     def begin(self, part):
         self.part, self.ends, self.since = part, collections.Counter(), time.time()
 
-    def add(self, end, words, what, ran=None):
+    def add(self, end, words, *told):
+        """Counts a run; `told` is what it came to and under which limit, in any order."""
         self.ends[end] += 1
         if end == "wrong":
             is_known = any(self.part == part and words.startswith(command) for part, command in KNOWN)
             self.known += is_known
-            told = "" if ran is None else ": status %s, %d bytes, %r" % (ran.status, len(ran.out), ran.err[-100:])
-            print("%s: %s: %s, %s%s" % ("known" if is_known else "wrong", self.part, words, what, told), flush=True)
+            what = ["status %s, %d bytes, %r" % (it.status, len(it.out), it.err[-100:]) if isinstance(it, Ran) else it for it in told]
+            print("%s: %s: %s: %s" % ("known" if is_known else "wrong", self.part, words, ", ".join(what)), flush=True)
 
     def end(self):
         self.all.update(self.ends)
@@ -213,46 +209,50 @@ def stacks(place, report, is_quick):
                 continue
             for size in sizes:
                 ran = place.run(words, stdin, limit="-s %d" % size)
-                report.add(end_of(words, stdin, ran, whole), words, "stack %d KB" % size, ran)
+                report.add(end_of(words, ran, whole), words, "stack %d KB" % size, ran)
         for size in sizes:
-            report.add(served(place, order + ".cxt", 64, limit="-s %d" % size), "serve %s.cxt --experts 64" % order, "stack %d KB" % size)
+            report.add(*served(place, order + ".cxt", 64, limit="-s %d" % size), "stack %d KB" % size)
 
 
 # ---- limits in steps
 
 
-def least(place, words, stdin, whole):
-    """About the least limit on addresses, in KB, with which the command is answered."""
-    low, high = 1024, 1 << 22
-    while high - low > 256:
+def least(is_enough, low, high, step):
+    """About the least limit that is enough."""
+    while high - low > step:
         middle = (low + high) // 2
-        ran = place.run(words, stdin, limit="-v %d" % middle)
-        low, high = (low, middle) if (ran.status, ran.out) == (whole.status, whole.out) else (middle, high)
+        low, high = (low, middle) if is_enough(middle) else (middle, high)
     return high
 
 
+def begins(place, letter, high, step):
+    """The least limit with which the program says that no word is no command."""
+    return least(lambda limit: place.run("", limit="-%s %d" % (letter, limit)).err == b"fca: no such command\n", 0, high, step)
+
+
 def addresses(place, report, is_quick):
+    begin, steps = begins(place, "v", 1 << 22, 16), 16 if is_quick else 64
     for words, stdin in SMALL:
         whole = place.run(words, stdin)
-        most = least(place, words, stdin, whole) + 1024
-        steps = 16 if is_quick else 64
+        most = least(lambda limit: end_of(words, place.run(words, stdin, limit="-v %d" % limit), whole) == "answered", 1024, 1 << 22, 256) + 1024
         for step in range(steps):
             limit = 1024 + (most - 1024) * (step + 1) // steps
             ran = place.run(words, stdin, limit="-v %d" % limit)
-            report.add(end_of(words, stdin, ran, whole, may=("loader",)), words, "addresses %d KB" % limit, ran)
+            report.add(end_of(words, ran, whole, below(limit, begin)), words, "addresses %d KB" % limit, ran)
     for step in range(4 if is_quick else 24):
         limit = 8192 + 16384 * step
-        report.add(served(place, "empty.cxt", 8, limit="-v %d" % limit), "serve empty.cxt --experts 8", "addresses %d KB" % limit)
+        report.add(*served(place, "empty.cxt", 8, below(limit, begin), limit="-v %d" % limit), "addresses %d KB" % limit)
 
 
 def files(place, report, is_quick):
+    begin = begins(place, "n", 64, 1)
     for words, stdin in SMALL:
         whole = place.run(words, stdin)
         for count in range(13):
             ran = place.run(words, stdin, limit="-n %d" % count)
-            report.add(end_of(words, stdin, ran, whole, may=("read", "loader")), words, "files %d" % count, ran)
-    for count in range(3, 16):
-        report.add(served(place, "empty.cxt", 8, limit="-n %d" % count), "serve empty.cxt --experts 8", "files %d" % count)
+            report.add(end_of(words, ran, whole, ("read",) + below(count, begin)), words, "files %d" % count, ran)
+    for count in range(begin, begin + 13):
+        report.add(*served(place, "empty.cxt", 8, limit="-n %d" % count), "files %d" % count)
 
 
 def as_nobody(count):
@@ -274,9 +274,9 @@ def threads(place, report, is_quick):
         whole = place.run(words, stdin)
         for count in range(1, 9 if is_quick else 25):
             ran = place.run(words, stdin, before=as_nobody(count))
-            report.add(end_of(words, stdin, ran, whole), words, "threads %d" % count, ran)
+            report.add(end_of(words, ran, whole), words, "threads %d" % count, ran)
     for count in range(1, 9 if is_quick else 25):
-        report.add(served(place, "empty.cxt", 8, before=as_nobody(count)), "serve empty.cxt --experts 8", "threads %d" % count)
+        report.add(*served(place, "empty.cxt", 8, before=as_nobody(count)), "threads %d" % count)
 
 
 # ---- one by one
@@ -288,10 +288,10 @@ def memory(place, report, is_quick):
         return
     library = refused_memory.build(place.folder)
     for words, stdin in SMALL:
-        whole, counted = refused_memory.ran(words.split(), stdin, place.folder, library, 0), 0
+        whole = refused_memory.ran(words.split(), stdin, place.folder, library, 0)
         for refused in range(1, whole[3] + 1, 8 if is_quick else 1):
             ran = Ran(*refused_memory.ran(words.split(), stdin, place.folder, library, refused)[:3])
-            report.add(end_of(words, stdin, ran, Ran(*whole[:3])), words, "allocation %d refused" % refused, ran)
+            report.add(end_of(words, ran, Ran(*whole[:3])), words, "allocation %d refused" % refused, ran)
     calls, wrong = refused_memory.report_session(place.folder, library)
     report.ends.update({"wrong": wrong, "answered": calls - wrong})
 
@@ -305,7 +305,7 @@ def refusing(calls, error, place):
 
 
 def count_of(place, words, stdin, calls):
-    """How many such calls a run makes, those of the loader and of bash among them."""
+    """How many such calls a run makes, those of the loader among them."""
     path = os.path.join(place.folder, "calls")
     place.run(words, stdin, begin=["strace", "-f", "-q", "-o", path, "-e", "trace=" + calls])
     with open(path, errors="replace") as lines:
@@ -317,12 +317,13 @@ def calls(place, report, is_quick):
     if probe is None or probe.returncode != 0:
         report.skip("it wants strace, and the right to use it")
         return
-    for words, stdin in SMALL:
-        whole = place.run(words, stdin)
-        for names, error in CALLS:
+    for names, error in CALLS:
+        begin = count_of(place, "", "", names)
+        for words, stdin in SMALL:
+            whole = place.run(words, stdin)
             for number in range(1, count_of(place, words, stdin, names) + 1, 4 if is_quick else 1):
                 ran = place.run(words, stdin, begin=refusing(names, error, number))
-                report.add(end_of(words, stdin, ran, whole, may=("loader",)), words, "%s %d refused" % (names, number), ran)
+                report.add(end_of(words, ran, whole, below(number, begin + 1)), words, "%s %d refused" % (names, number), ran)
 
 
 # ---- streams
@@ -415,11 +416,11 @@ def is_listening(child, port):
     return False
 
 
-def served(place, table, experts, limit=None, before=None):
-    """How sessions of so many experts end under a limit."""
+def served(place, table, experts, may=(), limit=None, before=None):
+    """How sessions of so many experts end under a limit, the words, and what the run came to."""
     port = refused_memory.free_port()
-    words = ["serve", table, "--experts", str(experts), "--listen", "127.0.0.1:%d" % port]
-    command = (["bash", "-c", 'ulimit %s && exec "$@"' % limit, "bash"] if limit else []) + [place.program] + words
+    words = "serve %s --experts %d --listen 127.0.0.1:%d" % (table, experts, port)
+    command = (["bash", "-c", 'ulimit %s && exec "$@"' % limit, "bash"] if limit else []) + [place.program] + words.split()
     measure.set_tunables("serve")
     with tempfile.TemporaryFile() as out, tempfile.TemporaryFile() as err:
         child = subprocess.Popen(command, stdin=subprocess.DEVNULL, stdout=out, stderr=err, cwd=place.folder, preexec_fn=before)
@@ -437,21 +438,18 @@ def served(place, table, experts, limit=None, before=None):
         out.seek(0)
         err.seek(0)
         ran = Ran(status, out.read(), err.read())
-    return session_end(place, table, experts, ran)
+    return session_end(place, table, experts, ran, may), words, ran
 
 
-def session_end(place, table, experts, ran):
+def session_end(place, table, experts, ran, may):
     """As `end_of`, of sessions: their text is whole and replays to itself."""
     if (ran.status, ran.out, ran.err) in ((5, b"", NO_MEMORY), (7, b"", b"fca: listener fault\n"), (3, b"", ("fca: %s: read fault\n" % table).encode())):
         return "refused"
-    if ran.status in (126, 127, -9, -11, -6) and ran.out == b"" and any(part in ran.err for part in LOADER):
+    if "not begun" in may and ran.out == b"" and not ran.err.startswith(b"fca: "):
         return "not begun"
     record, _, sessions = ran.out.partition(b"# sessions %d\n" % experts)
     again = subprocess.run([place.program, "replay", table], input=record, stdout=subprocess.PIPE, cwd=place.folder).stdout
-    if ran.status in (0, 6) and sessions.count(b"\n") == experts and again == record:
-        return "answered"
-    print("wrong: serve %s, %d experts: status %s, %d bytes, %r" % (table, experts, ran.status, len(ran.out), ran.err[-100:]), flush=True)
-    return "wrong"
+    return "answered" if ran.status in (0, 6) and sessions.count(b"\n") == experts and again == record else "wrong"
 
 
 PARTS = {"stacks": stacks, "addresses": addresses, "files": files, "threads": threads, "memory": memory, "calls": calls, "streams": streams}

@@ -26,7 +26,7 @@ OTHERS = {
     "left": "The question is given back.",
     "no memory": "The program has no memory for that just now.",
 }
-WAIT_SECONDS = 2  # until it draws again, while others think about all questions
+WAIT_SECONDS = (2, 15)  # until it draws again, while others think about all questions: at first, and at most
 
 
 class Ended(Exception):
@@ -228,20 +228,14 @@ class Talk:
             if reply is not None and not self.tell(reply):
                 return
 
-    def wait(self):
-        try:
-            time.sleep(WAIT_SECONDS)
-        except KeyboardInterrupt:
-            raise Quits()
-
     def next_question(self):
         """Draws until there is a question, or none is open; how long it waits for others is not known."""
-        reply, is_told = self.line.ask("draw"), False
+        reply, (seconds, most) = self.line.ask("draw"), WAIT_SECONDS
+        if reply in ("all held", "no memory"):
+            self.tell(reply)
         while reply in ("all held", "no memory"):
-            if not is_told:
-                self.tell(reply)
-            is_told = True
-            self.wait()
+            time.sleep(seconds)
+            seconds = min(2 * seconds, most)
             reply = self.line.ask("draw")
         word, _, patterns = reply.partition(" ")
         return Question(self.line.attributes, *patterns.split(" ")[:2]) if word == "ask" else None
@@ -268,7 +262,7 @@ class Talk:
         print("You are number %d. There are %d attributes: %s." % (self.line.expert, len(self.line.attributes), listed(self.line.attributes)))
         try:
             self.questions()
-        except Quits:
+        except (Quits, KeyboardInterrupt):
             pass
         self.line.ask("quit")
         print("Goodbye.")
@@ -284,6 +278,8 @@ def main():
         Talk(Line(said.address, said.name), said.one).all()
     except Ended as ended:
         print(ended)
+        sys.exit(1)
+    except KeyboardInterrupt:
         sys.exit(1)
 
 
