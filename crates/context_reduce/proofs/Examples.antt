@@ -4,7 +4,7 @@ use Rattle.std.specs.Prelude.{codes}
 use Rattle.std.specs.List.{flat_map}
 use Rattle.fca_model.specs.Context.{Context}
 use Rattle.fca_model.specs.Tables.{NamedContext}
-use Rattle.fca_model.proofs.Examples.{s}
+use Rattle.fca_model.proofs.DrawnSets.{s}
 use Rattle.context_reduce.specs.Reduce.{part, distinct_objects, distinct_attributes, irreducible_objects, irreducible_attributes}
 use Rattle.context_reduce.specs.Arrows.{arrow_table}
 use Rattle.context_reduce.specs.Texts.{object_line}

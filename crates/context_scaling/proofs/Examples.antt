@@ -1,7 +1,7 @@
 -- Worked examples: two people with their age and size, by two plans, and what the rows give back.
 use Rattle.std.proofs.Common.{◌≡◌, [], ◌∷◌, Some, None, List, map, pos, refl, codes}
 use Rattle.std.specs.Fmt.{digits}
-use Rattle.fca_model.proofs.Examples.{s}
+use Rattle.fca_model.proofs.DrawnSets.{s}
 use Rattle.value_tables.specs.Values.{ObjectValues}
 use Rattle.context_scaling.specs.Scaling.{Scaling, made_names, scaled_row}
 use Rattle.context_scaling.specs.Back.{back_at}

@@ -71,7 +71,8 @@ impl ImplicationList {
 
     /// Takes the last implication away, if there is one.
     pub fn pop(&mut self)
-        ensures { (J : RuleList) (i : Rule) → self.old ≡ record { width = J.width; members = J.members ++ i ∷ [] } → self.new ≡ J }
+        ensures last { (J : RuleList) (i : Rule) → self.old ≡ record { width = J.width; members = J.members ++ i ∷ [] } → self.new ≡ J }
+        ensures none { self.old.members ≡ [] → self.new ≡ self.old }
     {
         self.members.pop();
     }

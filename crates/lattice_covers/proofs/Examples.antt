@@ -2,7 +2,7 @@
 use Rattle.std.proofs.Common.{◌≡◌, refl, [], ◌∷◌, List}
 use Rattle.std.specs.Prelude.{codes}
 use Rattle.fca_model.specs.Sets.{Set}
-use Rattle.fca_model.proofs.Examples.{s}
+use Rattle.fca_model.proofs.DrawnSets.{s}
 use Rattle.lattice_covers.specs.Neighbours.{pairs_with}
 
 abbrev three : List Set

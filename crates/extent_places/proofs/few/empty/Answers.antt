@@ -7,11 +7,11 @@ pub loop-rows-smaller : goal.loop-rows-smaller
 loop-rows-smaller g c =
     let J : Context = c.loop-rows.rows in
     let some : 0 < length J.rows = omega (arith, c.len.ensures, c.loop-rows-test.true) in
-    subst (λ (X : Context). length X.rows < length J.rows) (sym (c.pop.ensures (but_last J) (last_row J) (with_last J some)))
+    subst (λ (X : Context). length X.rows < length J.rows) (sym (c.pop.ensures.last (but_last J) (last_row J) (with_last J some)))
     (omega (arith, ap (λ (X : Context). length X.rows) (with_last J some), length-append (but_last J).rows (last_row J ∷ [])))
 
 pub loop-rows-preserved : goal.loop-rows-preserved
 loop-rows-preserved g c =
     let J : Context = c.loop-rows.rows in
     let some : 0 < length J.rows = omega (arith, c.len.ensures, c.loop-rows-test.true) in
-    ap (λ (X : Context). X.width) (c.pop.ensures (but_last J) (last_row J) (with_last J some)) ∙ c.loop-rows.invariant
+    ap (λ (X : Context). X.width) (c.pop.ensures.last (but_last J) (last_row J) (with_last J some)) ∙ c.loop-rows.invariant
