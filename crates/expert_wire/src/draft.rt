@@ -143,6 +143,8 @@ impl Sink for Growing {
 
     ghost faults = { λ s. s.faults };
 
+    ghost whole_writes = { λ _. None };
+
     ghost beside = { λ _. None };
 
     ghost asked_beside = { λ _. record { reads = None; faults = 0 } };

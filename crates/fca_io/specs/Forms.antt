@@ -32,11 +32,12 @@ pub record Stream : Type 0 where
   pub most : ℕ
   pub plan : Plan
 
--- a sink that holds no more than its room
+-- a sink that holds no more than its room, and counts the writes that it took whole
 pub record Roomy : Type 0 where
   pub bytes : List ℕ
   pub most : ℕ
   pub room : ℕ
+  pub whole_writes : ℕ
   pub plan : Plan
 
 -- the files of a shelf, the newest first

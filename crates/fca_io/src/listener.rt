@@ -1,6 +1,6 @@
 //! Ends that are read and written, and listeners that accept them.
 
-ghost use Rattle.std.specs.Prelude.{◌≡◌, ◌≤◌, ℕ, Bool, true, false, List, Option, Result, OnOk, OnErr, IfOk};
+ghost use Rattle.std.specs.Prelude.{◌≡◌, ◌≤◌, ℕ, Bool, true, false, List, Option, is_some, Result, OnOk, OnErr, IfOk};
 ghost use Rattle.std.specs.Option.{option_map};
 ghost use Rattle.fca_io.specs.Faults.{Rose};
 ghost use Rattle.fca_io.specs.Links.{Ends, GivesFirst, with_given, IsWithinRoom, MayListenAt};
@@ -43,9 +43,12 @@ pub trait Listener {
 
         ensures opened { OnOk result ((listens self.new ≡ true) × MayListenAt (listens_at self.new) address.now) }
         ensures closed { OnErr result ((listens self.new ≡ false) × (listens_at self.new ≡ listens_at self.old)) }
+        ensures tells { is_some (listens_at self.new) ≡ is_some (listens_at self.old) }
         ensures ends { ends self.new ≡ ends self.old }
         ensures within { IsWithinRoom (ends self.old) }
 
+        ensures quiet { OnOk result ((other : List ℕ) → open_faults self.new other ≡ open_faults self.old other) }
+        ensures quiet_accept { OnOk result (accept_faults self.new ≡ accept_faults self.old) }
         ensures failed { OnErr result (Rose (open_faults self.old address.now) (open_faults self.new address.now)) }
         ensures later { (other : List ℕ) → open_faults self.old other ≤ open_faults self.new other }
         ensures later_accept { accept_faults self.old ≤ accept_faults self.new };
@@ -59,6 +62,8 @@ pub trait Listener {
         ensures within { IsWithinRoom (ends self.old) }
         ensures same { (listens self.new ≡ listens self.old) × (listens_at self.new ≡ listens_at self.old) }
 
+        ensures quiet { OnOk result (accept_faults self.new ≡ accept_faults self.old) }
+        ensures quiet_open { OnOk result ((other : List ℕ) → open_faults self.new other ≡ open_faults self.old other) }
         ensures failed { OnErr result (Rose (accept_faults self.old) (accept_faults self.new)) }
         ensures later { (other : List ℕ) → open_faults self.old other ≤ open_faults self.new other }
         ensures later_accept { accept_faults self.old ≤ accept_faults self.new };

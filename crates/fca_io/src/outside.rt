@@ -4,7 +4,7 @@ ghost use Rattle.std.specs.Prelude.{◌≡◌, ◌<◌, ◌≤◌, ℕ, List, le
 ghost use Rattle.std.specs.Option.{option_map};
 ghost use Rattle.std.specs.Io.{ReadsAtMost};
 ghost use Rattle.std.specs.Io.KnownBytes.{Keeps, ReadConsumes, WriteAppends};
-ghost use Rattle.fca_io.specs.Faults.{Rose, Asked, one_more};
+ghost use Rattle.fca_io.specs.Faults.{Rose, Asked, one_more, counts_whole};
 ghost use Rattle.fca_io.specs.Shelves.{Told, MayHold, MayExceed};
 
 use fca_model::NO_MEMORY;
@@ -108,6 +108,9 @@ pub trait Sink {
     // bytes that stand beside the sink, as those still to come the other way, where it tells them
     ghost beside: { Self → Option (List ℕ) };
 
+    // how many writes were taken whole, where that is counted
+    ghost whole_writes: { Self → Option ℕ };
+
     // the counts that stand beside the sink, as those of what is read the other way
     ghost asked_beside: { Self → Asked };
 
@@ -118,6 +121,8 @@ pub trait Sink {
         ensures some { IfOk result (λ count. 0 < count) }
         ensures bound { IfOk result (λ count. count ≤ length from.now) }
         ensures bytes { WriteAppends (held self.old) (held self.new) result from.now }
+
+        ensures counted { whole_writes self.new ≡ counts_whole (length from.now) result (whole_writes self.old) }
 
         ensures quiet { OnOk result (faults self.new ≡ faults self.old) }
         ensures failed { OnErr result (Rose (faults self.old) (faults self.new)) }
@@ -142,6 +147,7 @@ pub trait Shelf {
         ensures long { IsErrOf result Taken.Long → MayExceed (tells self.old name.now) limit }
         ensures kept { (other : List ℕ) → tells self.new other ≡ tells self.old other }
 
+        ensures quiet { ¬ IsErrOf result Taken.Failed → (other : List ℕ) → faults self.new other ≡ faults self.old other }
         ensures failed { IsErrOf result Taken.Failed → Rose (faults self.old name.now) (faults self.new name.now) }
         ensures later { (other : List ℕ) → faults self.old other ≤ faults self.new other };
 }

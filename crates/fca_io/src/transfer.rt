@@ -1,8 +1,9 @@
 //! Whole transfers: all that a source has, and the whole of a text.
 
-ghost use Rattle.std.specs.Prelude.{◌≡◌, ◌≤◌, ℕ, [], vec_len, Result, OnOk, OnErr, IfOk, IfSome, IsErrOf};
+ghost use Rattle.std.specs.Prelude.{◌≡◌, ◌≢◌, ◌≤◌, ◌+◌, ℕ, [], vec_len, Result, OnOk, OnErr, IfOk, IfSome, IsErrOf};
+ghost use Rattle.std.specs.Option.{option_map};
 ghost use Rattle.std.specs.Io.KnownBytes.{Appends, IsAtEnd, Keeps};
-ghost use Rattle.fca_io.specs.Faults.{Rose};
+ghost use Rattle.fca_io.specs.Faults.{Rose, RoseAtMost, one_more};
 ghost use Rattle.fca_io.specs.Transfers.{Takes, AppendsFront};
 
 use crate::outside::{Put, Sink, Source, Taken};
@@ -11,14 +12,18 @@ use std::alloc::Global;
 /// How many bytes are asked for at once.
 const CHUNK: usize = 4096;
 
-/// All bytes up to the end of the source. An `Err` leaves the bytes taken until then out of the source.
+/// All bytes up to the end of the source, which is read at most once more than there are bytes. An `Err` leaves the bytes taken until
+/// then out of the source.
 pub fn read_all<S: Source>(alloc: Global, source: &mut S, limit: usize) -> Result<Vec<u8>, Taken>
     ensures bytes { IfOk result (λ v. IfSome (S.left source.old) (λ bytes. v.items ≡ bytes)) }
     ensures within { IfOk result (λ v. vec_len v ≤ limit) }
     ensures end { OnOk result (IsAtEnd (S.left source.new)) }
     ensures taken { Takes (S.left source.old) (S.left source.new) limit (IsErrOf result Taken.Long) }
 
-    ensures quiet { OnOk result (S.faults source.new ≡ S.faults source.old) }
+    ensures few { RoseAtMost (S.reads source.old) (S.reads source.new) (limit + 1) }
+    ensures no_more { IfOk result (λ v. RoseAtMost (S.reads source.old) (S.reads source.new) (vec_len v + 1)) }
+
+    ensures quiet { ¬ IsErrOf result Taken.Failed → S.faults source.new ≡ S.faults source.old }
     ensures failed { IsErrOf result Taken.Failed → Rose (S.faults source.old) (S.faults source.new) }
     ensures later { S.faults source.old ≤ S.faults source.new }
 
@@ -39,11 +44,15 @@ pub fn read_all<S: Source>(alloc: Global, source: &mut S, limit: usize) -> Resul
     }
 }
 
-/// Appends the whole text to the sink. After an `Err` the sink holds a front of the text.
+/// Appends the whole text to the sink. Each write is handed all that is left of the text, so the last alone is taken whole. After an
+/// `Err` the sink holds a front of the text.
 pub fn write_text<K: Sink>(sink: &mut K, text: &[u8]) -> Result<(), Put>
     ensures whole { OnOk result (Appends (K.held sink.old) (K.held sink.new) text.now) }
     ensures front { AppendsFront (K.held sink.old) (K.held sink.new) text.now }
     ensures none { text.now ≡ [] → sink.new ≡ sink.old }
+
+    ensures at_once { OnOk result (text.now ≢ [] → K.whole_writes sink.new ≡ option_map one_more (K.whole_writes sink.old)) }
+    ensures in_part { OnErr result (K.whole_writes sink.new ≡ K.whole_writes sink.old) }
 
     ensures quiet { OnOk result (K.faults sink.new ≡ K.faults sink.old) }
     ensures failed { OnErr result (Rose (K.faults sink.old) (K.faults sink.new)) }

@@ -90,6 +90,8 @@ impl<T: Write> Sink for StdOutput<T> {
 
     ghost faults = { λ count. count };
 
+    ghost whole_writes = { λ _. None };
+
     ghost beside = { λ _. None };
 
     ghost asked_beside = { λ _. record { reads = None; faults = 0 } };

@@ -50,6 +50,8 @@ impl Sink for TcpEnd {
 
     ghost faults = { λ e. e.write_faults };
 
+    ghost whole_writes = { λ _. None };
+
     ghost beside = { λ _. None };
 
     ghost asked_beside = { λ e. record { reads = Some e.reads; faults = e.read_faults } };

@@ -3,7 +3,7 @@
 ghost use Rattle.std.specs.Prelude.{◌≡◌, ◌≤◌, ◌<◌, ◌-◌, ◌↔◌, ◌⊎◌, [], false, length, min, Some, Result, IfOk, IsErr, IsTrue, OnOk, OnErr};
 ghost use Rattle.std.specs.Io.{ReadsAtMost};
 ghost use Rattle.std.specs.Io.KnownBytes.{ReadConsumes, WriteAppends, Keeps};
-ghost use Rattle.fca_io.specs.Faults.{Rose};
+ghost use Rattle.fca_io.specs.Faults.{Rose, counts_whole};
 ghost use Rattle.fca_io.specs.Forms.{planned, fails_next, called, with_fault};
 
 use super::sink::MemorySink;
@@ -42,7 +42,7 @@ impl MemoryEnd {
     ) -> Result<MemoryEnd, Memory>
         requires { 0 < most }
         ensures incoming { IfOk result (λ end. end.incoming ≡ record { bytes = bytes.now; most = most; plan = planned read_fails.now }) }
-        ensures outgoing { IfOk result (λ end. end.outgoing ≡ record { bytes = []; most = most; room = room; plan = planned write_fails.now }) }
+        ensures outgoing { IfOk result (λ end. end.outgoing ≡ record { bytes = []; most = most; room = room; whole_writes = 0; plan = planned write_fails.now }) }
     {
         Ok(MemoryEnd {
             source: MemorySource::new(alloc, bytes, read_fails, most)?,
@@ -78,6 +78,7 @@ impl Source for MemoryEnd {
         ensures fails { IsErr result ↔ IsTrue (fails_next self.old.incoming.plan) }
         ensures count { IfOk result (λ count. count ≡ min (min (length into.old) self.old.incoming.most) (length self.old.incoming.bytes)) }
         ensures plan { self.new.incoming.plan ≡ called self.old.incoming.plan }
+        ensures most { self.new.incoming.most ≡ self.old.incoming.most }
 
         ensures bound { ReadsAtMost result into.new }
         ensures bytes { ReadConsumes (Some self.old.incoming.bytes) (Some self.new.incoming.bytes) result into.new }
@@ -100,6 +101,8 @@ impl Sink for MemoryEnd {
 
     ghost beside = { λ e. Some e.incoming.bytes };
 
+    ghost whole_writes = { λ e. Some e.outgoing.whole_writes };
+
     ghost asked_beside = { λ e. record { reads = Some e.incoming.plan.made; faults = e.incoming.plan.faults } };
 
     fn write(&mut self, from: &[u8]) -> Result<usize, Failed>
@@ -111,10 +114,13 @@ impl Sink for MemoryEnd {
         ensures plan { OnOk result (self.new.outgoing.plan ≡ called self.old.outgoing.plan) }
         ensures failing { IsTrue (fails_next self.old.outgoing.plan) → self.new.outgoing.plan ≡ called self.old.outgoing.plan }
         ensures full { fails_next self.old.outgoing.plan ≡ false → OnErr result (self.new.outgoing.plan ≡ with_fault (called self.old.outgoing.plan)) }
+        ensures most { self.new.outgoing.most ≡ self.old.outgoing.most }
+        ensures room { self.new.outgoing.room ≡ self.old.outgoing.room }
 
         ensures some { IfOk result (λ count. 0 < count) }
         ensures bound { IfOk result (λ count. count ≤ length from.now) }
         ensures bytes { WriteAppends (Some self.old.outgoing.bytes) (Some self.new.outgoing.bytes) result from.now }
+        ensures counted { Some self.new.outgoing.whole_writes ≡ counts_whole (length from.now) result (Some self.old.outgoing.whole_writes) }
         ensures quiet { OnOk result (self.new.outgoing.plan.faults ≡ self.old.outgoing.plan.faults) }
         ensures failed { OnErr result (Rose self.old.outgoing.plan.faults self.new.outgoing.plan.faults) }
         ensures later { self.old.outgoing.plan.faults ≤ self.new.outgoing.plan.faults }

@@ -1,6 +1,6 @@
 //! A listener in memory.
 
-ghost use Rattle.std.specs.Prelude.{◌≡◌, ◌≤◌, ◌↔◌, ◌⊎◌, ℕ, true, false, [], List, Some, Result, vec_len, IfOk, OnOk, OnErr, IsOk, IsErr, IsTrue};
+ghost use Rattle.std.specs.Prelude.{◌≡◌, ◌≤◌, ◌↔◌, ◌⊎◌, ℕ, true, false, [], List, Some, is_some, Result, vec_len, IfOk, OnOk, OnErr, IsOk, IsErr, IsTrue};
 ghost use Rattle.std.specs.Option.{option_map};
 ghost use Rattle.fca_io.specs.Faults.{Rose};
 ghost use Rattle.fca_io.specs.Forms.{planned, fails_next, called, with_fault};
@@ -95,8 +95,10 @@ impl Listener for MemoryLink {
 
         ensures opened { OnOk result ((self.new.listens ≡ true) × (self.new.address ≡ address.now)) }
         ensures closed { OnErr result ((self.new.listens ≡ false) × (self.new.address ≡ self.old.address)) }
+        ensures tells { is_some (Some self.new.address) ≡ is_some (Some self.old.address) }
         ensures ends { self.new.ends ≡ self.old.ends }
         ensures within { IsWithinRoom (Some self.old.ends) }
+        ensures quiet { OnOk result (self.new.plan.faults ≡ self.old.plan.faults) }
         ensures failed { OnErr result (Rose self.old.plan.faults self.new.plan.faults) }
         ensures later { self.old.plan.faults ≤ self.new.plan.faults }
     {
@@ -124,6 +126,7 @@ impl Listener for MemoryLink {
         ensures none { OnErr result (self.new.ends ≡ self.old.ends) }
         ensures within { IsWithinRoom (Some self.old.ends) }
         ensures same { (self.new.listens ≡ self.old.listens) × (self.new.address ≡ self.old.address) }
+        ensures quiet { OnOk result (self.new.plan.faults ≡ self.old.plan.faults) }
         ensures failed { OnErr result (Rose self.old.plan.faults self.new.plan.faults) }
         ensures later { self.old.plan.faults ≤ self.new.plan.faults }
     {
@@ -137,7 +140,14 @@ impl Listener for MemoryLink {
         Ok(self.to_come.remove(0))
     }
 
-    fn give_back(&mut self, end: MemoryEnd) {
+    fn give_back(&mut self, end: MemoryEnd)
+        ensures plan { self.new.plan ≡ self.old.plan }
+
+        ensures given { Some self.new.ends ≡ option_map (with_given end) (Some self.old.ends) }
+        ensures within { IsWithinRoom (Some self.old.ends) }
+        ensures same { (self.new.listens ≡ self.old.listens) × (self.new.address ≡ self.old.address) }
+        ensures later { self.old.plan.faults ≤ self.new.plan.faults }
+    {
         if self.given.len() + self.to_come.len() < self.room {
             self.given.push_reserved(end);
         }

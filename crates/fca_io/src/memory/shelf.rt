@@ -97,8 +97,10 @@ impl Shelf for MemoryShelf {
         ensures bytes { IfOk result (λ v. MayHold (Some (bytes_under self.old.files name.now)) v.items) }
         ensures within { IfOk result (λ v. vec_len v ≤ limit) }
         ensures long { IsErrOf result Taken.Long → MayExceed (Some (bytes_under self.old.files name.now)) limit }
+        ensures files { self.new.files ≡ self.old.files }
         ensures kept { (other : List ℕ) → Some (bytes_under self.new.files other) ≡ Some (bytes_under self.old.files other) }
 
+        ensures quiet { ¬ IsErrOf result Taken.Failed → (other : List ℕ) → self.new.plan.faults ≡ self.old.plan.faults }
         ensures failed { IsErrOf result Taken.Failed → Rose self.old.plan.faults self.new.plan.faults }
         ensures later { (other : List ℕ) → self.old.plan.faults ≤ self.new.plan.faults }
     {

@@ -2,7 +2,7 @@
 
 ghost use Rattle.std.specs.Prelude.{◌≡◌, ◌≤◌, ◌<◌, ◌-◌, ◌↔◌, ◌⊎◌, [], false, length, min, Some, Result, IfOk, IsErr, IsTrue, OnOk, OnErr};
 ghost use Rattle.std.specs.Io.KnownBytes.{WriteAppends, Keeps};
-ghost use Rattle.fca_io.specs.Faults.{Rose};
+ghost use Rattle.fca_io.specs.Faults.{Rose, counts_whole};
 ghost use Rattle.fca_io.specs.Forms.{planned, fails_next, called, with_fault, Roomy};
 
 use super::plan::FailingCalls;
@@ -17,18 +17,19 @@ pub struct MemorySink {
     bytes: Vec<u8>,
     room: usize,
     most: usize,
+    whole_writes: usize,
     calls: FailingCalls,
 }
 
 impl Model for MemorySink {
-    ghost use Rattle.std.specs.Prelude.{◌<◌, ◌≤◌, vec_len, vec_capacity};
+    ghost use Rattle.std.specs.Prelude.{◌<◌, ◌≤◌, ◌^◌, vec_len, vec_capacity};
     ghost use Rattle.fca_io.specs.Forms.{Roomy};
 
     ghost Value = { Roomy };
 
-    ghost view = { λ s. record { bytes = s.bytes.items; most = s.most; room = s.room; plan = s.calls } };
+    ghost view = { λ s. record { bytes = s.bytes.items; most = s.most; room = s.room; whole_writes = s.whole_writes; plan = s.calls } };
 
-    ghost invariant = { λ s. record { moves : 0 < s.most; fits : vec_len s.bytes ≤ s.room; made : s.room ≤ vec_capacity s.bytes } };
+    ghost invariant = { λ s. record { moves : 0 < s.most; fits : vec_len s.bytes ≤ s.room; made : s.room ≤ vec_capacity s.bytes; counted : s.whole_writes < 2 ^ 64 } };
 }
 
 impl MemorySink {
@@ -41,12 +42,13 @@ impl MemorySink {
         most: usize,
     ) -> Result<MemorySink, Memory>
         requires { 0 < most }
-        ensures { IfOk result (λ sink. sink ≡ record { bytes = []; most = most; room = room; plan = planned fails.now }) }
+        ensures { IfOk result (λ sink. sink ≡ record { bytes = []; most = most; room = room; whole_writes = 0; plan = planned fails.now }) }
     {
         Ok(MemorySink {
             bytes: Vec::with_capacity(alloc, room)?,
             room,
             most,
+            whole_writes: 0,
             calls: FailingCalls::new(alloc, fails)?,
         })
     }
@@ -68,6 +70,8 @@ impl Sink for MemorySink {
 
     ghost beside = { λ _. None };
 
+    ghost whole_writes = { λ s. Some s.whole_writes };
+
     ghost asked_beside = { λ _. record { reads = None; faults = 0 } };
 
     fn write(&mut self, from: &[u8]) -> Result<usize, Failed>
@@ -79,10 +83,13 @@ impl Sink for MemorySink {
         ensures plan { OnOk result (self.new.plan ≡ called self.old.plan) }
         ensures failing { IsTrue (fails_next self.old.plan) → self.new.plan ≡ called self.old.plan }
         ensures full { fails_next self.old.plan ≡ false → OnErr result (self.new.plan ≡ with_fault (called self.old.plan)) }
+        ensures most { self.new.most ≡ self.old.most }
+        ensures room { self.new.room ≡ self.old.room }
 
         ensures some { IfOk result (λ count. 0 < count) }
         ensures bound { IfOk result (λ count. count ≤ length from.now) }
         ensures bytes { WriteAppends (Some self.old.bytes) (Some self.new.bytes) result from.now }
+        ensures counted { Some self.new.whole_writes ≡ counts_whole (length from.now) result (Some self.old.whole_writes) }
         ensures quiet { OnOk result (self.new.plan.faults ≡ self.old.plan.faults) }
         ensures failed { OnErr result (Rose self.old.plan.faults self.new.plan.faults) }
         ensures later { self.old.plan.faults ≤ self.new.plan.faults }
@@ -94,6 +101,9 @@ impl Sink for MemorySink {
         if count == 0 || self.bytes.extend_from_slice(&from[..count]).is_err() {
             self.calls.count_fault();
             return Err(Failed);
+        }
+        if count == from.len() {
+            self.whole_writes = self.whole_writes.saturating_add(1);
         }
         Ok(count)
     }

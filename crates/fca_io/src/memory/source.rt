@@ -112,6 +112,7 @@ impl Source for MemorySource {
         ensures fails { IsErr result ↔ IsTrue (fails_next self.old.plan) }
         ensures count { IfOk result (λ count. count ≡ min (min (length into.old) self.old.most) (length self.old.bytes)) }
         ensures plan { self.new.plan ≡ called self.old.plan }
+        ensures most { self.new.most ≡ self.old.most }
 
         ensures bound { ReadsAtMost result into.new }
         ensures bytes { ReadConsumes (Some self.old.bytes) (Some self.new.bytes) result into.new }
