@@ -11,8 +11,9 @@ use crate::CxtFault;
 use crate::read::{
     Head, read_attributes, read_end, read_head, read_objects, read_rows, without_mark,
 };
+use attr_bits::WordCount;
 use fca_model::{MAX_ATTRIBUTES, MAX_OBJECTS};
-use narrow_tables::{FOUR_WORDS, NarrowRows, NarrowTable, ONE_WORD, TWO_WORDS};
+use narrow_tables::{NarrowRows, NarrowTable};
 use std::alloc::Global;
 use text_pieces::Lines;
 
@@ -62,14 +63,10 @@ fn read_narrow_rows(
     ensures form { Takes (λ rows. (context_in rows).rows) result (form.rows_form width [] count lines.old) lines.new }
     ensures width { IfOk result (λ rows. (context_in rows).width ≡ width) }
 {
-    if width <= ONE_WORD {
-        return Ok(NarrowRows::One(read_rows(alloc, width, count, lines)?));
-    }
-    if width <= TWO_WORDS {
-        return Ok(NarrowRows::Two(read_rows(alloc, width, count, lines)?));
-    }
-    if width <= FOUR_WORDS {
-        return Ok(NarrowRows::Four(read_rows(alloc, width, count, lines)?));
-    }
-    Ok(NarrowRows::All(read_rows(alloc, width, count, lines)?))
+    Ok(match WordCount::of(width) {
+        WordCount::One => NarrowRows::One(read_rows(alloc, width, count, lines)?),
+        WordCount::Two => NarrowRows::Two(read_rows(alloc, width, count, lines)?),
+        WordCount::Four => NarrowRows::Four(read_rows(alloc, width, count, lines)?),
+        WordCount::All => NarrowRows::All(read_rows(alloc, width, count, lines)?),
+    })
 }

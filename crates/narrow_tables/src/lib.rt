@@ -1,7 +1,7 @@
 //! Tables without the names of their objects, with rows in sets as narrow as the table.
 #![tactic(auto)]
 
-ghost use Rattle.std.specs.Prelude.{◌≡◌, ◌≤◌, ℕ, None, Some, IfOk, OnOk, vec_len};
+ghost use Rattle.std.specs.Prelude.{◌≡◌, ◌≤◌, ℕ, None, Some, IfOk, OnOk, IsErrOf, vec_len};
 ghost use Rattle.context_table.specs.Table.{first_repeat};
 ghost use Rattle.narrow_tables.specs.Narrow.{context_in, without_objects};
 
@@ -10,7 +10,7 @@ mod rows;
 use context_table::{Table, TableFault};
 use derivation::Rows;
 use fca_model::{MAX_ATTRIBUTES, Memory, Name};
-pub use rows::{FOUR_WORDS, NarrowRows, ONE_WORD, TWO_WORDS, narrow_rows};
+pub use rows::{NarrowRows, narrow_rows};
 use std::alloc::Global;
 use std::marker::Model;
 
@@ -43,6 +43,7 @@ impl NarrowTable {
         requires attributes { vec_len attributes ≡ (context_in rows).width }
         requires few { vec_len attributes ≤ MAX_ATTRIBUTES }
         ensures table { IfOk result (λ table. table ≡ record { attributes = attributes.items; context = context_in rows }) }
+        ensures narrow { ¬ IsErrOf result TableFault.TooMany }
         ensures repeated { (i : ℕ) → result ≡ Err (TableFault.DuplicateAttribute i) → first_repeat attributes.items ≡ Some i }
         ensures differing { OnOk result (first_repeat attributes.items ≡ None) }
     {
