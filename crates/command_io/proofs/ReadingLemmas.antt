@@ -1,7 +1,7 @@
 -- One reading after the other: what may be read or refused behind a first reading.
 use Rattle.std.proofs.Common.{◌≡◌, ◌∙◌, ap, subst}
 use Rattle.fca_model.specs.Tables.{NamedContext}
-use Rattle.narrow_tables.specs.Narrow.{NamedAttributes, without_objects}
+use Rattle.context_table.specs.Narrow.{NamedAttributes, without_objects}
 use Rattle.command_io.specs.Readings.{Reading, then, MayRead, MayRefuse, IfRead}
 use Rattle.command_io.specs.Readings.Reading.{Untold, Missing, Refused, Read}
 use Rattle.command_io.specs.Narrow.{nameless}

@@ -1,6 +1,6 @@
 -- Tables whose objects' names are not kept.
 use Rattle.fca_model.specs.Tables.{NamedContext}
-use Rattle.narrow_tables.specs.Narrow.{NamedAttributes, without_objects}
+use Rattle.context_table.specs.Narrow.{NamedAttributes, without_objects}
 use Rattle.command_io.specs.Readings.{Reading, then}
 use Rattle.command_io.specs.Readings.Reading.{Read}
 

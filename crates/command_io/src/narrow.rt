@@ -12,10 +12,10 @@ ghost use Rattle.command_io.specs.Endings.{IsRefusal};
 
 use crate::readings::{csv_table, is_csv, not_taken};
 use crate::stop::{Origin, Stop};
+use context_table::NarrowTable;
 use cxt_format::{CxtFault, read_narrow};
 use fca_io::Shelf;
 use fca_model::{FILE_BYTES, Word};
-use narrow_tables::NarrowTable;
 use std::alloc::Global;
 
 /// The table in the file of the name, which comes from the origin, without its title and the names of its objects. It is refused as

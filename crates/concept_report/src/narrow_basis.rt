@@ -5,8 +5,8 @@ ghost use Rattle.fca_model.specs.Pseudo.{basis};
 ghost use Rattle.basis_report.specs.Reports.{basis_text};
 
 use crate::basis_lines::basis_in;
+use context_table::{NarrowRows, NarrowTable};
 use fca_model::Memory;
-use narrow_tables::{NarrowRows, NarrowTable};
 use std::alloc::Global;
 
 /// The basis of the table, one member a line, as [`table_basis_text`](crate::table_basis_text). The rows of the table are dropped before the text is written.

@@ -1,4 +1,4 @@
-//! Tables: contexts whose objects and attributes have names.
+//! Tables: contexts whose objects and attributes have names, and what is left of one without the names of its objects.
 #![tactic(auto)]
 
 ghost use Rattle.std.specs.Prelude.{◌≡◌, ◌<◌, ◌≤◌, ◌↔◌, ◌∷◌, ◌++◌, ℕ, List, [], None, Some, All, IfOk, IfErr, OnOk, IsErrOf, IsTrue, not, true, length, vec_len, slice_get, option_copied, position, bytes_eq};
@@ -7,11 +7,15 @@ ghost use Rattle.context_table.specs.Table.{IsTable, first_repeat};
 ghost use Rattle.context_table.specs.Generated.{made_table};
 
 mod generated;
+mod narrow;
+mod rows;
 
 use derivation::Rows;
 use fca_model::{MAX_ATTRIBUTES, MAX_OBJECTS, Memory, NO_MEMORY, Name};
 use generated::{Cells, numbered};
 use indexmap::IndexSet;
+pub use narrow::NarrowTable;
+pub use rows::{NarrowRows, narrow_rows};
 use std::alloc::{AllocError, Global};
 use std::marker::Model;
 use thiserror::Error;

@@ -2,7 +2,7 @@
 
 ghost use Rattle.std.specs.Prelude.{◌≡◌, ◌<◌, ◌≤◌, ◌^◌, [], IfOk, length};
 ghost use Rattle.text_pieces.specs.Lines.{lines};
-ghost use Rattle.narrow_tables.specs.Narrow.{context_in};
+ghost use Rattle.context_table.specs.Narrow.{context_in};
 ghost use Rattle.cxt_format.specs.Form as form;
 ghost use Rattle.cxt_format.specs.Form.{Tells, Takes};
 ghost use Rattle.cxt_format.specs.Narrow.{nameless};
@@ -12,8 +12,8 @@ use crate::read::{
     Head, read_attributes, read_end, read_head, read_objects, read_rows, without_mark,
 };
 use attr_bits::WordCount;
+use context_table::{NarrowRows, NarrowTable};
 use fca_model::{MAX_ATTRIBUTES, MAX_OBJECTS};
-use narrow_tables::{NarrowRows, NarrowTable};
 use std::alloc::Global;
 use text_pieces::Lines;
 

@@ -2,7 +2,7 @@ use Rattle.std.proofs.Common.{◌≡◌, ◌∙◌, ◌<◌, ◌==◌, ℕ, List
 use Rattle.std.proofs.lemmas.Bool.{ne_eqb}
 use Rattle.std.specs.Str.Lossy.{utf8_valid_len}
 use Rattle.std.proofs.lemmas.Str.{utf8_valid_len-IsUtf8}
-use Rattle.narrow_tables.specs.Narrow.{NamedAttributes}
+use Rattle.context_table.specs.Narrow.{NamedAttributes}
 use Rattle.text_pieces.specs.Lines.{lines}
 use Rattle.cxt_format.specs.Form.{Tells, table_form, without_mark, cxt_form}
 use Rattle.cxt_format.specs.Narrow.{nameless}

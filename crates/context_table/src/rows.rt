@@ -1,7 +1,7 @@
 //! Rows in as few words as have room for them.
 
 ghost use Rattle.std.specs.Prelude.{◌≡◌, IfOk};
-ghost use Rattle.narrow_tables.specs.Narrow.{context_in};
+ghost use Rattle.context_table.specs.Narrow.{context_in};
 
 use attr_bits::{WORDS, WordCount};
 use derivation::{Rows, RowsOf};

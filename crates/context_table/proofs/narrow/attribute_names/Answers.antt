@@ -1,7 +1,7 @@
 use Rattle.std.proofs.Common.{◌≡◌, ◌∙◌, ℕ, ◌+◌, suc, List, ◌∷◌, [], ◌++◌, Some, take, slice_get, vec_len, ap, sym, arith}
 use Rattle.std.proofs.lemmas.Option.{slice_get_within, get_or_from_slice_get}
 use Rattle.fca_model.specs.Tables.{Text}
-use Rattle.narrow_tables.proofs.attribute_names.Goals as goal
+use Rattle.context_table.proofs.narrow.attribute_names.Goals as goal
 use lib.Seq.{take-suc}
 
 -- one name more of the first ones

@@ -1,16 +1,13 @@
 //! Tables without the names of their objects, with rows in sets as narrow as the table.
-#![tactic(auto)]
 
 ghost use Rattle.std.specs.Prelude.{◌≡◌, ◌≤◌, ℕ, None, Some, IfOk, OnOk, IsErrOf, vec_len};
 ghost use Rattle.context_table.specs.Table.{first_repeat};
-ghost use Rattle.narrow_tables.specs.Narrow.{context_in, without_objects};
+ghost use Rattle.context_table.specs.Narrow.{context_in, without_objects};
 
-mod rows;
-
-use context_table::{Table, TableFault};
+use crate::rows::{NarrowRows, narrow_rows};
+use crate::{Table, TableFault};
 use derivation::Rows;
 use fca_model::{MAX_ATTRIBUTES, Memory, Name};
-pub use rows::{NarrowRows, narrow_rows};
 use std::alloc::Global;
 use std::marker::Model;
 
@@ -24,7 +21,7 @@ pub struct NarrowTable {
 
 impl Model for NarrowTable {
     ghost use Rattle.std.specs.Prelude.{◌≡◌};
-    ghost use Rattle.narrow_tables.specs.Narrow.{NamedAttributes, context_in};
+    ghost use Rattle.context_table.specs.Narrow.{NamedAttributes, context_in};
 
     ghost Value = { NamedAttributes };
 

@@ -2,8 +2,8 @@
 use Rattle.std.specs.Prelude.{List}
 use Rattle.fca_model.specs.Context.{Context}
 use Rattle.fca_model.specs.Tables.{Text, NamedContext}
-use Rattle.narrow_tables.specs.declared.rows.NarrowRows.{NarrowRows}
-use Rattle.narrow_tables.specs.declared.rows.NarrowRows.TheVariants.{One, Two, Four, All}
+use Rattle.context_table.specs.declared.rows.NarrowRows.{NarrowRows}
+use Rattle.context_table.specs.declared.rows.NarrowRows.TheVariants.{One, Two, Four, All}
 
 -- a context with the names of its attributes
 pub record NamedAttributes : Type 0 where
