@@ -58,7 +58,8 @@ pub fn is_child<const W: usize>(rows: &RowsOf<W>, a: &Bits<W>, i: u32, closed: &
     closed.first_missing(a) == Some(i)
 }
 
-/// Notes the first attribute that the closure of a with attribute i has and a lacks.
+/// Notes the last attribute before i that the closure of a with attribute i has and a lacks. In scales, where an attribute implies those before it, no other
+/// stays outside the intents below for so long.
 pub fn note<const W: usize>(
     rows: &RowsOf<W>,
     a: &Bits<W>,
@@ -70,7 +71,7 @@ pub fn note<const W: usize>(
     requires seen { AreSeen rows.now a.now seen.old.items }
     ensures { AreSeen rows.now a.now seen.new.items }
 {
-    if let Some(member) = closed.first_missing(a) {
+    if let Some(member) = closed.last_missing(a, i) {
         put(seen, i, member);
     }
 }

@@ -1,13 +1,10 @@
-use Rattle.std.proofs.Common.{◌≡◌, true, false, Some, get_or, sym, ◌∙◌, subst}
+use Rattle.std.proofs.Common.{◌≡◌, true, false, get_or, sym, subst}
 use Rattle.fca_model.specs.Sets.{Set}
-use Rattle.fca_model.specs.Exploration.{first_missing}
-use Rattle.attr_bits.proofs.DifferenceLemmas.{first_missing-parts}
 use Rattle.lectic_concepts.specs.Branches.{AreSeen}
 use Rattle.lectic_concepts.proofs.SeenLemmas.{seen_set}
 use Rattle.lectic_concepts.proofs.failures.note.Goals as goal
 
 pub returns-in-Some : goal.returns-in-Some
 returns-in-Some g c =
-    let first : first_missing 0 c.args.closed.now c.args.a.now ≡ Some c.in-Some.member = sym c.first_missing.ensures ∙ c.in-Some.is in
     subst (AreSeen c.args.rows.now c.args.a.now) (sym c.put.ensures) (seen_set c.args.rows.now c.args.a.now c.args.seen.now.items c.args.i c.in-Some.member c.requires.seen
-    (subst (λ (X : Set). get_or X c.in-Some.member false ≡ true) c.requires.closed (first_missing-parts c.args.closed.now c.args.a.now c.in-Some.member first).0))
+    (subst (λ (X : Set). get_or X c.in-Some.member false ≡ true) c.requires.closed c.in-Some.ensures.member))
