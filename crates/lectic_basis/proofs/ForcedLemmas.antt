@@ -4,9 +4,7 @@ use Rattle.std.proofs.lemmas.Bool.{false≢true, false_from_ne_true, cases_eq, c
 use Rattle.std.proofs.lemmas.List.{get_or_default}
 use Rattle.fca_model.specs.Sets.{Set, within}
 use Rattle.fca_model.specs.Implications.{Rule}
-use Rattle.fca_model.specs.Exploration.{first_missing}
 use Rattle.fca_model.proofs.SetLemmas.{within_trans, within_at_place, within_set, set_within}
-use Rattle.attr_bits.proofs.DifferenceLemmas.{first_missing-parts}
 use Rattle.lectic_concepts.specs.Branches.{agree_before}
 use Rattle.lectic_concepts.proofs.BranchLemmas.{agree_at}
 use Rattle.lectic_basis.specs.Forced.{AreForced, IsLonger}
@@ -37,12 +35,12 @@ pub forced_more : (J M : List Rule) (A : Set) (ws : List ℕ) → IsLonger J M �
 forced_more J M A ws more f i T a has r = f i T a has (more T r)
 
 -- an attribute of the closure
-pub forced_set : (J : List Rule) (A X C : Set) (ws : List ℕ) (i w : ℕ) → X ≡ set A i true → IsBounded J X C → first_missing 0 C A ≡ Some w → AreForced J A ws → AreForced J A (set ws i w)
-forced_set J A X C ws i w x bounded found f k T a has r = elim (cases_eq k i) [
+pub forced_set : (J : List Rule) (A X C : Set) (ws : List ℕ) (i w : ℕ) → X ≡ set A i true → IsBounded J X C → get_or C w false ≡ true → AreForced J A ws → AreForced J A (set ws i w)
+forced_set J A X C ws i w x bounded member f k T a has r = elim (cases_eq k i) [
   | inl here ↦ elim (cases_lt i (length ws)) [
     | inl inside ↦
         let is : get_or (set ws i w) k k ≡ w = ap (λ j. get_or (set ws i w) j k) here ∙ get_or-set_same ws i w k inside in
-        subst (λ v. get_or T v false ≡ true) (sym is) (within_at_place C T (bounded T (subst (λ Y. within Y T ≡ true) (sym x) (set_within A T i a (subst (λ j. get_or T j false ≡ true) here has))) r) w (first_missing-parts C A w found).0)
+        subst (λ v. get_or T v false ≡ true) (sym is) (within_at_place C T (bounded T (subst (λ Y. within Y T ≡ true) (sym x) (set_within A T i a (subst (λ j. get_or T j false ≡ true) here has))) r) w member)
     | inr outside ↦ subst (λ v. get_or T v false ≡ true) (sym (beyond (set ws i w) k (omega (arith, outside, here, length-set ws i w)))) has
   ]
   | inr other ↦ subst (λ v. get_or T v false ≡ true) (sym (get_or-set_other ws i k w k other)) (f k T a has r)

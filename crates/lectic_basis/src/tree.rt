@@ -281,11 +281,12 @@ fn first_forced<const W: usize>(
     Ok(forced)
 }
 
-/// Notes that attribute i forces the first attribute of the set that a lacks.
+/// Notes that attribute i forces the last attribute before it that the set has and a lacks. In scales, where an attribute implies those before it, no other stays
+/// outside the sets below for so long.
 fn note<const W: usize>(forced: &mut Vec<u32>, a: &Bits<W>, i: u32, closed: &Bits<W>)
     ensures { (J : List Rule) → IsBounded J (slice_set a.now i true) closed.now → AreForced J a.now forced.old.items → AreForced J a.now forced.new.items }
 {
-    if let Some(new) = closed.first_missing(a) {
+    if let Some(new) = closed.last_missing(a, i) {
         put(forced, i, new);
     }
 }
