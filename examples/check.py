@@ -47,7 +47,7 @@ class Terminal:
 
     def wait(self, is_so):
         end = time.time() + SECONDS
-        while not is_so() and time.time() < end:
+        while not is_so() and self.child.poll() is None and time.time() < end:
             time.sleep(0.05)
 
     def has_written(self):
@@ -56,9 +56,12 @@ class Terminal:
 
     def type(self, line, answer):
         """Types a line, and waits for its answer."""
-        self.child.stdin.write((line + "\n").encode())
-        self.child.stdin.flush()
         self.shown = self.shown + [answer]
+        try:
+            self.child.stdin.write((line + "\n").encode())
+            self.child.stdin.flush()
+        except BrokenPipeError:
+            return  # its end is found when all that it wrote is compared
         self.wait(self.has_written)
         time.sleep(0.2)  # a session gives back what it holds behind its last answer
 
@@ -68,7 +71,10 @@ class Terminal:
         self.child.wait(SECONDS)
 
     def end(self):
-        self.child.stdin.close()
+        try:
+            self.child.stdin.close()
+        except BrokenPipeError:
+            pass  # a line that it did not read any more
         self.child.wait(SECONDS)
 
 
@@ -92,6 +98,16 @@ def steps(path):
     return found
 
 
+LISTENS, IS_CONNECTED = "0A", "01"
+
+
+def sockets(port, state):
+    """How many sockets of this machine at the port are in this state."""
+    with open("/proc/net/tcp") as table:
+        fields = [line.split() for line in table]
+    return sum(line[1].endswith(":%04X" % int(port)) and line[3] == state for line in fields)
+
+
 def free_port():
     with socket.socket() as free:
         free.bind(("127.0.0.1", 0))
@@ -112,14 +128,17 @@ class Run:
             print("%s:%d: shown are\n  %s\nand written were\n  %s" % (self.name, number, "\n  ".join(shown), "\n  ".join(written)))
 
     def open(self, number, command, shown):
-        terminal = Terminal(number, command, shown, self.folder)
+        """Opens a terminal, and waits until the next one finds it listening, or connected. A chair greets at once."""
+        terminal, others = Terminal(number, command, shown, self.folder), len(self.terminals)
         self.terminals.append(terminal)
         if terminal.is_chair:
             terminal.wait(terminal.is_listening)
+        elif others == 0:
+            terminal.wait(lambda: sockets(self.port, LISTENS) > 0)
         elif self.terminals[0].is_chair:
-            terminal.wait(terminal.has_written)  # a chair greets at once
+            terminal.wait(terminal.has_written)
         else:
-            time.sleep(1)  # so that the next terminal finds this one listening, or connected
+            terminal.wait(lambda: sockets(self.port, IS_CONNECTED) >= others)
 
     def close(self):
         for terminal in reversed(self.terminals):
