@@ -1,12 +1,10 @@
 -- The closure of A with an attribute contains that of a part L of A with it.
-use Rattle.std.proofs.Common.{◌≡◌, ℕ, ◌<◌, Bool, true, false, not, ◌&&◌, List, length, get_or, set, refl, sym, ap, ◌∙◌, subst, arith, inl, inr, get_or-set_same, get_or-set_other, length-set}
-use Rattle.std.proofs.lemmas.Bool.{cases_eq, false≢true}
+use Rattle.std.proofs.Common.{◌≡◌, ℕ, ◌<◌, true, false, List, length, get_or, set, refl, sym, ap, ◌∙◌, subst, arith, inl, inr, get_or-set_same, get_or-set_other, length-set}
+use Rattle.std.proofs.lemmas.Bool.{cases_eq}
 use Rattle.fca_model.specs.Sets.{Set, within}
 use Rattle.fca_model.specs.Context.{Context, closure}
 use Rattle.fca_model.proofs.SetLemmas.{within_at_place, within_from_places}
 use Rattle.fca_model.proofs.ClosureLemmas.{closure_extensive, closure_monotone}
-use Rattle.attr_bits.specs.Difference.{minus}
-use Rattle.attr_bits.proofs.DifferenceLemmas.{get_or-minus}
 use Rattle.object_sets.specs.Objects.{AreColumns, HasObjects}
 use Rattle.lattice_covers.specs.declared.chain.Sheet.{Sheet}
 use Rattle.lattice_covers.specs.Neighbours.{AreImplied, IsOnSheet}
@@ -34,15 +32,6 @@ implied_first K A ws wide long f = record {
       (within_at_place (set A i true) (closure K (set A i true)) (closure_extensive K (set A i true) (length-set A i true ∙ wide)) i
       (get_or-set_same A i true false (omega (arith, wide))));
 }
-
--- a member of the difference
-pub lacked : (A B : Set) (i : ℕ) → get_or (minus A B) i false ≡ true → (get_or A i false ≡ true) × (get_or B i false ≡ false)
-lacked A B i h = both (get_or A i false) (get_or B i false) (sym (get_or-minus A B i) ∙ h)
-  where
-    both : (a b : Bool) → (a && not b) ≡ true → (a ≡ true) × (b ≡ false)
-    both true false h = (refl, refl)
-    both true true h = absurd (false≢true h)
-    both false b h = absurd (false≢true h)
 
 -- another member for attribute i
 pub implied_set : (K : Context) (A : Set) (ws : List ℕ) (i w : ℕ) → i < K.width → AreImplied K A ws → get_or (closure K (set A i true)) w false ≡ true → AreImplied K A (set ws i w)

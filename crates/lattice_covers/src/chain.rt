@@ -331,11 +331,23 @@ pub(crate) fn closure_if_allowed<const W: usize>(
     match closed.first_missing(allowed) {
         None => Some(closed),
         Some(known) => {
-            let later = later_missing(&closed, allowed, known, i);
-            link.implied[i as usize] = later;
-            link.further = later;
+            let last = last_missing(&closed, allowed, known, i);
+            link.implied[i as usize] = last;
+            link.further = later_missing(&closed, allowed, known, i);
             None
         }
+    }
+}
+
+/// A member of the closure, of which one is known: the last before attribute i that is not allowed, if there is one. In scales, where an attribute implies those
+/// before it, no other stays outside the intents above for so long.
+fn last_missing<const W: usize>(closed: &Bits<W>, allowed: &Bits<W>, known: u32, i: u32) -> u32
+    requires { slice_index_or closed.now known false ≡ true }
+    ensures { slice_index_or closed.now result false ≡ true }
+{
+    match closed.last_missing(allowed, i) {
+        None => known,
+        Some(last) => last,
     }
 }
 

@@ -40,8 +40,12 @@ returns-in-None-clause-closed g c =
     let closed : c.closure_with-closed.result ≡ closure K (set A c.args.i true) = c.closure_with-closed.ensures in
     (closed, first_missing_none 0 c.closure_with-closed.result c.args.allowed.now (sym c.first_missing.ensures ∙ c.in-None.is))
 
-pub later_missing-later-requires : goal.later_missing-later-requires
-later_missing-later-requires g c =
+pub last_missing-last-requires : goal.last_missing-last-requires
+last_missing-last-requires g c =
+    (search rules, (first_missing-parts c.closure_with-closed.result c.args.allowed.now c.in-Some.known (sym c.first_missing.ensures ∙ c.in-Some.is)).0)
+
+pub later_missing-link-requires : goal.later_missing-link-requires
+later_missing-link-requires g c =
     let K : Context = c.args.rows.now in
     let A : Set = c.args.link.now.intent in
     let closed : c.closure_with-closed.result ≡ closure K (set A c.args.i true) = c.closure_with-closed.ensures in
@@ -54,17 +58,17 @@ returns-in-Some-clause-closed g c =
     let K : Context = c.args.rows.now in
     let A : Set = c.args.link.now.intent in
     let closed : c.closure_with-closed.result ≡ closure K (set A c.args.i true) = c.closure_with-closed.ensures in
-    let later = c.later_missing-later.result in
-    not_within_at (closure K (set A c.args.i true)) c.args.allowed.now later (subst (λ (D : Set). get_or D later false ≡ true) closed c.later_missing-later.ensures.member) c.later_missing-later.ensures.lacks
+    let later = c.later_missing-link.result in
+    not_within_at (closure K (set A c.args.i true)) c.args.allowed.now later (subst (λ (D : Set). get_or D later false ≡ true) closed c.later_missing-link.ensures.member) c.later_missing-link.ensures.lacks
 
 pub returns-in-Some-clause-link : goal.returns-in-Some-clause-link
 returns-in-Some-clause-link g c =
     let K : Context = c.args.rows.now in
     let A : Set = c.args.link.now.intent in
     let closed : c.closure_with-closed.result ≡ closure K (set A c.args.i true) = c.closure_with-closed.ensures in
-    let later = c.later_missing-later.result in
+    let last = c.last_missing-last.result in
     record {
       wide = c.requires.link.wide;
       above = c.requires.link.above;
-      implied = implied_set K A c.args.link.now.implied.items c.args.i later c.requires.inside c.requires.link.implied (subst (λ (D : Set). get_or D later false ≡ true) closed c.later_missing-later.ensures.member);
+      implied = implied_set K A c.args.link.now.implied.items c.args.i last c.requires.inside c.requires.link.implied (subst (λ (D : Set). get_or D last false ≡ true) closed c.last_missing-last.ensures);
     }

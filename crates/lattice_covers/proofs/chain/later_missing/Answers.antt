@@ -1,8 +1,7 @@
 use Rattle.std.proofs.Common.{◌≡◌, rules, true, false, length, get_or, ap, subst, arith}
 use Rattle.fca_model.specs.Sets.{Set}
 use Rattle.attr_bits.specs.Difference.{minus}
-use Rattle.attr_bits.proofs.DifferenceLemmas.{length-minus}
-use Rattle.lattice_covers.proofs.ChainLemmas.{lacked}
+use Rattle.attr_bits.proofs.DifferenceLemmas.{length-minus, lacked}
 use Rattle.lattice_covers.proofs.chain.later_missing.Goals as goal
 
 pub next_member-requires : goal.next_member-requires
