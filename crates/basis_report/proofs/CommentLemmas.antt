@@ -16,7 +16,7 @@ use Rattle.expert_wire.proofs.ReadLemmas.{pattern_no_break}
 use Rattle.expert_wire.proofs.SkipLemmas.{Skips, Skips-nil, Skips-append, Skips-comment, no_break-append, no_break-decimal, no_break-name, no_break-rule}
 use Rattle.expert_scripts.specs.Transcripts.{AreNames, CanBeTold}
 use Rattle.oracle_expert.specs.Oracles.{Conflicts}
-use Rattle.basis_report.specs.Reports.{counted}
+use Rattle.report_texts.specs.Reports.{counted}
 use Rattle.basis_report.specs.Comments.{comment_line, comments, are_lines, AreComments}
 use Rattle.basis_report.specs.Conflicts.{Dropped, dropped_at, dropped_of, dropped_from, conflict_words, conflict_line, conflicts_text}
 use Rattle.basis_report.specs.Sessions.{session_line, sessions_text}

@@ -10,7 +10,7 @@ use Rattle.explore_state.specs.History.{History, state_of, open_of}
 use Rattle.expert_wire.specs.Replies.{numbered_rule}
 use Rattle.expert_wire.specs.Texts.{line_end}
 use Rattle.expert_scripts.specs.Transcripts.{transcript}
-use Rattle.basis_report.specs.Reports.{counted}
+use Rattle.report_texts.specs.Reports.{counted}
 use Rattle.std.specs.List.{flat_map, enumerate_from}
 use Rattle.basis_report.specs.Explorations.{recorded_section, accepted_section, open_section, basis_section, sections, state_of_text, explore_text, transcript_of, lists_of, basis_of}
 

@@ -23,7 +23,7 @@ use Rattle.fca_model.proofs.DoneLemmas.{accepted_sorted, accepted_length}
 use Rattle.fca_model.proofs.RunLemmas.{legal_valid}
 use Rattle.fca_model.proofs.ValidLemmas.{opening_valid}
 use Rattle.fca_model.proofs.CourseLemmas.{run_settings}
-use Rattle.basis_report.specs.Reports.{counted, arrow_lines}
+use Rattle.report_texts.specs.Reports.{counted, arrow_lines}
 use Rattle.basis_report.specs.Explorations.{in_lectic_order, basis_section, state_of_text}
 
 -- a pair of the tree, as an implication

@@ -18,7 +18,7 @@ use Rattle.expert_wire.proofs.SkipLemmas.{Skips, Skips-nil, Skips-append, Skips-
 use Rattle.expert_scripts.specs.Scripts.{EachCanBeSaid, IsNamed, script_form}
 use Rattle.expert_scripts.specs.Transcripts.{AreNames, CanBeTold, transcript}
 use Rattle.expert_scripts.proofs.TranscriptLemmas.{are_names, script_form-transcript}
-use Rattle.basis_report.specs.Reports.{counted, arrow_line, arrow_lines}
+use Rattle.report_texts.specs.Reports.{counted, arrow_line, arrow_lines}
 use Rattle.basis_report.specs.Explorations.{is_recorded, recorded_line, recorded_section, accepted_section, open_section, in_lectic_order, basis_section, sections, state_of_text, explore_text, said_in, Spells, EachNamed}
 
 -- ---- each section is skipped

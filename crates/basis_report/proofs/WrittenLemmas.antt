@@ -11,7 +11,7 @@ use Rattle.fca_model.specs.Implications.{Rule}
 use Rattle.attr_bits.specs.Difference.{minus}
 use Rattle.lectic_concepts.specs.declared.Concept.{Concept}
 use Rattle.expert_wire.specs.Texts.{line_end, names_of}
-use Rattle.basis_report.specs.Reports.{names_at}
+use Rattle.report_texts.specs.Reports.{names_at}
 use Rattle.basis_report.specs.Json.{names_data, concept_data, implication_data, concepts_json, basis_json, followed, bracketed, names_written, concept_written, concepts_written, implication_written, basis_written}
 
 followed-items : {X : Type 0} (f : X → Data) (g : X → Text) → ((x : X) → compact_text (f x) ≡ g x) → (xs : List X) → items_text true (items_of (map f xs)) ≡ followed (map g xs) ++ codes "]"

@@ -10,7 +10,7 @@ use Rattle.fca_model.specs.Implications.{Rule, rule}
 use Rattle.expert_wire.specs.Texts.{ordinal, pattern}
 use Rattle.expert_wire.specs.Replies.{numbered_rule}
 use Rattle.oracle_expert.specs.Oracles.{Conflicts}
-use Rattle.basis_report.specs.Reports.{counted}
+use Rattle.report_texts.specs.Reports.{counted}
 use Rattle.basis_report.specs.Comments.{comment_line}
 
 -- a dropped row: whose it is, its place in that expert's table, the row and its object's name there, and the place of the implication that it broke

@@ -14,7 +14,7 @@ use Rattle.expert_wire.specs.Replies.{numbered_rule}
 use Rattle.expert_scripts.specs.declared.fault.ScriptFault.{ScriptFault}
 use Rattle.expert_scripts.specs.Scripts.{Said, IsNamed, script_form}
 use Rattle.expert_scripts.specs.Transcripts.{transcript}
-use Rattle.basis_report.specs.Reports.{counted, arrow_lines}
+use Rattle.report_texts.specs.Reports.{counted, arrow_lines}
 use Rattle.basis_report.specs.Comments.{comments}
 
 -- ---- the recorded rows

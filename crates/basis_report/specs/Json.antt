@@ -11,7 +11,7 @@ use Rattle.fca_model.specs.Implications.{Rule}
 use Rattle.attr_bits.specs.Difference.{minus}
 use Rattle.lectic_concepts.specs.declared.Concept.{Concept}
 use Rattle.expert_wire.specs.Texts.{line_end, names_of}
-use Rattle.basis_report.specs.Reports.{names_at}
+use Rattle.report_texts.specs.Reports.{names_at}
 
 -- names as an array of strings
 abbrev pub names_data : List Text → Data

@@ -1,4 +1,3 @@
-pub mod Reports
 pub mod Explorations
 pub mod Comments
 pub mod Conflicts

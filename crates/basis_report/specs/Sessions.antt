@@ -5,7 +5,7 @@ use Rattle.std.specs.Prelude.{ℕ, List, ◌++◌, length, codes}
 use Rattle.std.specs.List.{flat_map, enumerate_from}
 use Rattle.fca_model.specs.Tables.{Text}
 use Rattle.expert_wire.specs.Texts.{ordinal}
-use Rattle.basis_report.specs.Reports.{counted}
+use Rattle.report_texts.specs.Reports.{counted}
 use Rattle.basis_report.specs.Comments.{comment_line}
 
 -- the number of the expert at a place, and the words for the ending

@@ -5,7 +5,7 @@ use Rattle.std.specs.Prelude.{ℕ, ◌++◌, length, codes, sum_by}
 use Rattle.fca_model.specs.Sets.{size}
 use Rattle.fca_model.specs.Context.{Context}
 use Rattle.fca_model.specs.Tables.{Text, NamedContext}
-use Rattle.basis_report.specs.Reports.{counted}
+use Rattle.report_texts.specs.Reports.{counted}
 
 -- the number of crosses: of pairs of an object and an attribute that it has (Ganter and Wille, the incidence of a context)
 abbrev pub crosses : Context → ℕ

@@ -9,7 +9,7 @@ use Rattle.fca_model.specs.Tables.{Text, NamedContext}
 use Rattle.fca_model.specs.Implications.{Rule, rule, refutes}
 use Rattle.canonical_basis.specs.Derivations.{derivation}
 use Rattle.expert_wire.specs.Texts.{line_end, ordinal, pattern}
-use Rattle.basis_report.specs.Reports.{counted, arrow_line}
+use Rattle.report_texts.specs.Reports.{counted, arrow_line}
 
 -- a step of a derivation: the number of the implication that is used, and its arrow text
 abbrev pub step_line : List Text → List Rule → ℕ → Text

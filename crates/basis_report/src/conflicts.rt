@@ -9,7 +9,6 @@ ghost use Rattle.explore_state.specs.History.{state_of};
 ghost use Rattle.basis_report.specs.Comments.{AreComments};
 ghost use Rattle.basis_report.specs.Conflicts.{dropped_at, dropped_of, dropped_from, conflict_line, conflicts_text};
 
-use crate::concepts::{object_text, write_counted};
 use crate::names::{look_at_attributes, look_at_oracles};
 use attr_bits::Attrs;
 use context_table::Table;
@@ -17,6 +16,7 @@ use expert_wire::{Draft, Part};
 use explore_state::{Explore, Implication};
 use fca_model::Memory;
 use oracle_expert::Oracle;
+use report_texts::{object_text, write_counted};
 use std::alloc::Global;
 
 /// The rows that the oracles of the experts dropped, each with the rule that it broke.

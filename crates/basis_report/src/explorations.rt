@@ -7,8 +7,6 @@ ghost use Rattle.expert_scripts.specs.Transcripts.{CanBeTold};
 ghost use Rattle.basis_report.specs.Comments.{are_lines};
 ghost use Rattle.basis_report.specs.Explorations.{SpellsBefore, is_recorded, recorded_line, recorded_section, accepted_section, open_section, by_premise, in_lectic_order, basis_section, explore_text};
 
-use crate::concepts::write_counted;
-use crate::implications::write_arrows;
 use crate::names::{look_at_attributes, look_at_rows};
 use attr_bits::Attrs;
 use context_table::Table;
@@ -16,6 +14,7 @@ use expert_scripts::write_transcript;
 use expert_wire::{Draft, Part};
 use explore_state::{Entry, Event, Explore, Implication, Question, Reply};
 use fca_model::Memory;
+use report_texts::{write_arrows, write_counted};
 use std::alloc::Global;
 use std::collections::BTreeMap;
 

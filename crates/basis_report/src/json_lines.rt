@@ -5,15 +5,15 @@ ghost use Rattle.serde_json.specs.Data.{string};
 ghost use Rattle.serde_json.specs.View.{view};
 ghost use Rattle.serde_json.specs.Written.{compact_text, has_float};
 ghost use Rattle.expert_wire.specs.Texts.{line_end, names_of};
-ghost use Rattle.basis_report.specs.Reports.{names_at};
+ghost use Rattle.report_texts.specs.Reports.{names_at};
 ghost use Rattle.basis_report.specs.Json.{names_data, concept_data, concepts_data, implication_data, basis_data, concepts_json, basis_json};
 
-use crate::concepts::object_text;
 use attr_bits::Attrs;
 use context_table::Table;
 use fca_model::Memory;
 use implication_closure::{Implication, ImplicationList};
 use lectic_concepts::Concept;
+use report_texts::object_text;
 use serde_json::{Value, json};
 use std::alloc::{AllocError, Global};
 

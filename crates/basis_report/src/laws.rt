@@ -11,7 +11,7 @@ ghost use Rattle.fca_model.specs.Invariant.{rows_respect};
 ghost use Rattle.fca_model.specs.Sets.{Set};
 ghost use Rattle.fca_model.specs.Implications.{Rule, rule, holds};
 ghost use Rattle.canonical_basis.specs.Derivations.{is_sound};
-ghost use Rattle.basis_report.specs.Reports.{counted, arrow_lines};
+ghost use Rattle.report_texts.specs.Reports.{counted, arrow_lines};
 ghost use Rattle.basis_report.specs.Comments.{comments, are_lines};
 ghost use Rattle.oracle_expert.specs.Oracles.{Conflicts};
 ghost use Rattle.basis_report.specs.Conflicts.{conflicts_text};

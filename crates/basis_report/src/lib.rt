@@ -1,10 +1,8 @@
-//! Every text that is printed: concepts, lattices, bases, verdicts and explorations.
+//! Every text that is printed: JSON, verdicts, explorations and surveys, beside the lists of concepts and implications from below.
 #![tactic(auto)]
 
-mod concepts;
 mod conflicts;
 mod explorations;
-mod implications;
 mod json_lines;
 pub mod laws;
 mod names;
@@ -13,12 +11,11 @@ mod sessions;
 mod surveys;
 mod verdicts;
 
-pub use concepts::{concepts_text, lattice_text};
 pub use conflicts::conflicts_text;
 pub use explorations::explore_text;
-pub use implications::{basis_text, direct_text};
 pub use json_lines::{basis_json, concepts_json};
 pub use pieces::explore_pieces;
+pub use report_texts::{basis_text, concepts_text, direct_text, lattice_text};
 pub use sessions::sessions_text;
 pub use surveys::survey_text;
 pub use verdicts::{follows_text, verdict_text};

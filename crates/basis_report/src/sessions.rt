@@ -4,10 +4,10 @@ ghost use Rattle.std.specs.Prelude.{◌≡◌, ◌++◌, true, map, IfOk, OnOk};
 ghost use Rattle.basis_report.specs.Comments.{are_lines, AreComments};
 ghost use Rattle.basis_report.specs.Sessions.{session_line, sessions_text};
 
-use crate::concepts::write_counted;
 use context_table::Table;
 use expert_wire::{Draft, Part};
 use fca_model::Memory;
+use report_texts::write_counted;
 use std::alloc::Global;
 
 /// The endings of the sessions of all experts in the exploration of the table, in words.

@@ -3,10 +3,10 @@
 ghost use Rattle.std.specs.Prelude.{◌≡◌, ◌++◌, IfOk, OnOk};
 ghost use Rattle.basis_report.specs.Surveys.{crosses, survey_text};
 
-use crate::concepts::write_counted;
 use context_table::Table;
 use expert_wire::Draft;
 use fca_model::Memory;
+use report_texts::write_counted;
 use std::alloc::Global;
 
 /// How many objects, attributes and crosses the table has, how many concepts and how many implications in its basis; and how many

@@ -7,14 +7,13 @@ ghost use Rattle.fca_model.specs.Pseudo.{basis};
 ghost use Rattle.canonical_basis.specs.Derivations.{derivation, is_sound};
 ghost use Rattle.basis_report.specs.Verdicts.{step_line, held_text, refuted_text, follows_text};
 
-use crate::concepts::{object_text, write_counted};
-use crate::implications::write_arrow;
 use attr_bits::Attrs;
 use canonical_basis::{Derivation, derive};
 use context_table::Table;
 use expert_wire::{Draft, Part};
 use fca_model::Memory;
 use implication_closure::{Implication, ImplicationList};
+use report_texts::{object_text, write_arrow, write_counted};
 use std::alloc::Global;
 use std::thread::Threads;
 

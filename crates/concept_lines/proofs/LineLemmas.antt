@@ -11,7 +11,7 @@ use Rattle.attr_bits.specs.Difference.{minus}
 use Rattle.fca_model.specs.Pseudo.{intents}
 use Rattle.expert_wire.specs.Texts.{line_end, ordinal, listed, names_of, braces_text, arrow_text}
 use Rattle.lectic_concepts.specs.Concepts.{concept_of, concepts}
-use Rattle.basis_report.specs.Reports.{names_at, concept_line, concepts_text}
+use Rattle.report_texts.specs.Reports.{names_at, concept_line, concepts_text}
 use Rattle.packed_concepts.specs.Lines.{Named, line_of, lines_from, lines_text}
 use Rattle.concept_lines.specs.Pages.{Fills, concept_at}
 use Rattle.concept_lines.specs.declared.page.Page.{Page}

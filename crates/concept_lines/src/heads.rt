@@ -1,7 +1,7 @@
 //! The line that heads a list.
 
 ghost use Rattle.std.specs.Prelude.{◌≡◌, ◌++◌, OnOk, IfOk};
-ghost use Rattle.basis_report.specs.Reports.{counted};
+ghost use Rattle.report_texts.specs.Reports.{counted};
 
 use fca_model::Memory;
 use itoa::Buffer;

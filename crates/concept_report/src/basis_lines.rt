@@ -4,7 +4,7 @@ ghost use Rattle.std.specs.Prelude.{◌≡◌, ◌+◌, ◌*◌, ◌≤◌, ◌+
 ghost use Rattle.fca_model.specs.Pseudo.{basis};
 ghost use Rattle.implication_closure.specs.Closing.{HaveWidth};
 ghost use Rattle.expert_wire.specs.Texts.{arrow_text, line_end};
-ghost use Rattle.basis_report.specs.Reports.{arrow_line, basis_text};
+ghost use Rattle.report_texts.specs.Reports.{arrow_line, basis_text};
 ghost use Rattle.packed_concepts.specs.Listing.{parted};
 
 use attr_bits::Bits;

@@ -2,7 +2,7 @@
 
 ghost use Rattle.std.specs.Prelude.{◌≡◌, ◌+◌, ◌≤◌, ◌<◌, ◌++◌, IfOk, OnOk, length, take, codes};
 ghost use Rattle.std.specs.List.{flat_map};
-ghost use Rattle.basis_report.specs.Reports.{counted, cover_line};
+ghost use Rattle.report_texts.specs.Reports.{counted, cover_line};
 ghost use Rattle.concept_report.specs.Numerals.{AreNumerals};
 
 use crate::numerals::count_up_to;

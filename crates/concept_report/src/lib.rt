@@ -14,7 +14,7 @@ mod tops;
 ghost use Rattle.std.specs.Prelude.{◌≡◌, IfOk, map};
 ghost use Rattle.fca_model.specs.Pseudo.{basis, covers, intents};
 ghost use Rattle.lectic_concepts.specs.Concepts.{concepts};
-ghost use Rattle.basis_report.specs.Reports.{basis_text, concepts_text, lattice_text};
+ghost use Rattle.report_texts.specs.Reports.{basis_text, concepts_text, lattice_text};
 ghost use Rattle.concept_lines.specs.Pages.{concept_at};
 
 use basis_lines::basis_in;

@@ -2,7 +2,7 @@
 
 ghost use Rattle.std.specs.Prelude.{◌≡◌, IfOk};
 ghost use Rattle.fca_model.specs.Pseudo.{basis};
-ghost use Rattle.basis_report.specs.Reports.{basis_text};
+ghost use Rattle.report_texts.specs.Reports.{basis_text};
 
 use crate::basis_lines::basis_in;
 use context_table::{NarrowRows, NarrowTable};

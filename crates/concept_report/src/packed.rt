@@ -4,7 +4,7 @@ ghost use Rattle.std.specs.Prelude.{◌≡◌, ◌≤◌, true, All, IfOk, map};
 ghost use Rattle.std.specs.List.{flat_map};
 ghost use Rattle.fca_model.specs.Pseudo.{intents};
 ghost use Rattle.lectic_concepts.specs.Concepts.{concepts};
-ghost use Rattle.basis_report.specs.Reports.{concepts_text};
+ghost use Rattle.report_texts.specs.Reports.{concepts_text};
 ghost use Rattle.concept_lines.specs.Pages.{concept_at};
 ghost use Rattle.concept_report.specs.Tops.{IsTop, branches};
 

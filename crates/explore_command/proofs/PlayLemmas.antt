@@ -24,7 +24,7 @@ use Rattle.expert_panel.specs.Explorations.{IsOraclesShare, EachNumbered, HasAgr
 use Rattle.explore_state.specs.History.{Opening, History, opening_state, state_of, open_of}
 use Rattle.basis_report.specs.Comments.{comments as comments_of, are_lines, AreComments}
 use Rattle.expert_scripts.specs.Transcripts.{CanBeTold, transcript}
-use Rattle.basis_report.specs.Reports.{counted, arrow_lines}
+use Rattle.report_texts.specs.Reports.{counted, arrow_lines}
 use Rattle.basis_report.specs.Explorations.{recorded_section, accepted_section, open_section, basis_section, state_of_text, explore_text, Spells, SpellsBefore}
 use Rattle.basis_report.specs.Conflicts.{dropped_at, dropped_of, dropped_from, conflicts_section, conflicts_text}
 use Rattle.basis_report.proofs.ExplorationLemmas.{sections-known}

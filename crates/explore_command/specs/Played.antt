@@ -11,7 +11,7 @@ use Rattle.oracle_expert.specs.Oracles.{Recall, Conflicts}
 use Rattle.oracle_expert.specs.Runs.{IsOracleFront, ends_done, conflicts_of}
 use Rattle.expert_panel.specs.Explorations.{IsOraclesShare, EachNumbered, HasAgreed, is_part}
 use Rattle.expert_scripts.specs.Transcripts.{transcript}
-use Rattle.basis_report.specs.Reports.{counted, arrow_lines}
+use Rattle.report_texts.specs.Reports.{counted, arrow_lines}
 use Rattle.basis_report.specs.Explorations.{recorded_section, accepted_section, open_section, explore_text, spelled, spelled_settings}
 use Rattle.basis_report.specs.Conflicts.{conflicts_section, conflicts_text}
 use Rattle.command_io.specs.Endings.{Output}

@@ -12,7 +12,7 @@ use Rattle.context_reduce.specs.Texts.{arrows_text}
 use Rattle.cxt_format.specs.Written.{cxt_text}
 use Rattle.csv_context.specs.Written.{csv_text}
 use Rattle.basis_report.specs.Json.{concepts_json, basis_json}
-use Rattle.basis_report.specs.Reports.{concepts_text, lattice_text, basis_text, direct_text}
+use Rattle.report_texts.specs.Reports.{concepts_text, lattice_text, basis_text, direct_text}
 use Rattle.basis_report.specs.Verdicts.{follows_text}
 use Rattle.fca_command.specs.Attributes.{attributes_said}
 use Rattle.fca_command.specs.declared.command.Command.{Command}

@@ -7,7 +7,7 @@ use Rattle.fca_model.specs.Sets.{Set}
 use Rattle.fca_model.specs.Tables.{Text, NamedContext}
 use Rattle.fca_model.specs.Pseudo.{covers, intents}
 use Rattle.lectic_concepts.specs.Concepts.{concepts}
-use Rattle.basis_report.specs.Reports.{counted, cover_line, lattice_text}
+use Rattle.report_texts.specs.Reports.{counted, cover_line, lattice_text}
 use Rattle.concept_report.proofs.PackedLemmas.{intents-at}
 use Rattle.concept_report.proofs.lattice_in.Goals as goal
 

@@ -1,6 +1,6 @@
 use Rattle.std.proofs.Common.{map, ap, ◌∙◌}
 use Rattle.serde_json.specs.Data.{string}
-use Rattle.basis_report.specs.Reports.{names_at}
+use Rattle.report_texts.specs.Reports.{names_at}
 use Rattle.basis_report.proofs.JsonLemmas.{placed_more}
 use Rattle.basis_report.proofs.json_lines.object_names.Goals as goal
 

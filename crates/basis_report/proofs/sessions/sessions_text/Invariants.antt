@@ -1,6 +1,6 @@
 use Rattle.std.proofs.Common.{◌≡◌, ◌++◌, map, drop, length, codes}
 use Rattle.std.specs.List.{flat_map, enumerate_from}
-use Rattle.basis_report.specs.Reports.{counted}
+use Rattle.report_texts.specs.Reports.{counted}
 use Rattle.basis_report.specs.Sessions.{session_line}
 use Rattle.basis_report.proofs.sessions.sessions_text.Given as goal
 

@@ -1,6 +1,6 @@
 use Rattle.std.proofs.Common.{◌≡◌, ◌≤◌, ◌++◌, [], drop, length, take}
 use Rattle.std.specs.List.{flat_map, enumerate_from}
-use Rattle.basis_report.specs.Reports.{arrow_line, basis_text}
+use Rattle.report_texts.specs.Reports.{arrow_line, basis_text}
 use Rattle.concept_report.proofs.basis_lines.arrows_text.Given as goal
 
 abbrev pub invariant-loop-place : goal.invariant-loop-place

@@ -1,6 +1,6 @@
 use Rattle.std.proofs.Common.{◌≡◌, ◌≤◌, ◌++◌, drop, length, take}
 use Rattle.std.specs.List.{flat_map}
-use Rattle.basis_report.specs.Reports.{cover_line}
+use Rattle.report_texts.specs.Reports.{cover_line}
 use Rattle.concept_report.specs.Numerals.{AreNumerals}
 use Rattle.concept_report.proofs.cover_lines.add_covers.Given as goal
 

@@ -1,7 +1,7 @@
 use Rattle.std.proofs.Common.{◌∙◌, ap}
 use Rattle.fca_model.specs.Pseudo.{basis}
 use Rattle.context_table.specs.Narrow.{NamedAttributes}
-use Rattle.basis_report.specs.Reports.{basis_text}
+use Rattle.report_texts.specs.Reports.{basis_text}
 use Rattle.command_io.specs.Forms.{table_read}
 use Rattle.command_io.specs.Endings.{Output, finished}
 use Rattle.command_io.proofs.ReadingLemmas.{read_nameless}

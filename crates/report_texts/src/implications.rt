@@ -1,16 +1,16 @@
 //! The texts of lists of implications.
 
 ghost use Rattle.std.specs.Prelude.{◌≡◌, ◌++◌, ℕ, codes, IfOk, OnOk};
-ghost use Rattle.basis_report.specs.Reports.{arrow_line, arrow_lines, basis_text, direct_text};
+ghost use Rattle.report_texts.specs.Reports.{arrow_line, arrow_lines, basis_text, direct_text};
 
-use crate::concepts::write_counted;
+use crate::counted::write_counted;
 use context_table::Table;
 use expert_wire::{Draft, Part};
 use fca_model::Memory;
 use implication_closure::{Implication, ImplicationList};
 use std::alloc::Global;
 
-/// The members of the list, one a line.
+/// The members of a basis, one a line.
 pub fn basis_text(alloc: Global, table: &Table, list: &ImplicationList) -> Result<Vec<u8>, Memory>
     ensures { IfOk result (λ v. v.items ≡ basis_text table.now.attributes list.now.members) }
 {
@@ -20,7 +20,7 @@ pub fn basis_text(alloc: Global, table: &Table, list: &ImplicationList) -> Resul
     Ok(draft.into_bytes())
 }
 
-/// The same of a direct basis.
+/// The members of a direct basis, one a line.
 pub fn direct_text(alloc: Global, table: &Table, list: &ImplicationList) -> Result<Vec<u8>, Memory>
     ensures { IfOk result (λ v. v.items ≡ direct_text table.now.attributes list.now.members) }
 {
@@ -30,8 +30,8 @@ pub fn direct_text(alloc: Global, table: &Table, list: &ImplicationList) -> Resu
     Ok(draft.into_bytes())
 }
 
-/// The implications, one a line behind the words, numbered from 1.
-pub(crate) fn write_arrows(
+/// Appends the implications, one a line behind the words, numbered from 1.
+pub fn write_arrows(
     draft: &mut Draft,
     table: &Table,
     words: &[u8],
@@ -45,7 +45,8 @@ pub(crate) fn write_arrows(
     Ok(())
 }
 
-pub(crate) fn write_arrow(
+/// Appends the line of one implication: the words, its number from 1, and its arrow text.
+pub fn write_arrow(
     draft: &mut Draft,
     table: &Table,
     words: &[u8],

@@ -3,8 +3,9 @@
 ghost use Rattle.std.specs.Prelude.{◌≡◌, ◌++◌, ℕ, [], length, codes, IfOk, OnOk, slice_get, unwrap_or};
 ghost use Rattle.std.specs.List.{flat_map, enumerate_from};
 ghost use Rattle.expert_wire.specs.Texts.{braced, braces_text};
-ghost use Rattle.basis_report.specs.Reports.{counted, names_at, concept_line, concepts_text, cover_line, lattice_text};
+ghost use Rattle.report_texts.specs.Reports.{counted, names_at, concept_line, concepts_text, cover_line, lattice_text};
 
+use crate::counted::write_counted;
 use attr_bits::Bits;
 use context_table::Table;
 use expert_wire::{Draft, Part};
@@ -65,25 +66,6 @@ fn write_covers(draft: &mut Draft, covers: &[(usize, usize)]) -> Result<(), Memo
     Ok(())
 }
 
-/// The line that heads a list of so many members.
-pub(crate) fn write_counted(
-    draft: &mut Draft,
-    table: &Table,
-    words: &[u8],
-    count: usize,
-) -> Result<(), Memory>
-    ensures { OnOk result (draft.new ≡ draft.old ++ counted words.now count) }
-{
-    draft.parts(
-        table,
-        &[
-            Part::Bytes(words),
-            Part::Number(count as u64),
-            Part::Bytes(b"\n"),
-        ],
-    )
-}
-
 /// The line of the concept with that intent and extent.
 fn write_line<const W: usize>(
     draft: &mut Draft,
@@ -138,7 +120,7 @@ fn write_objects(draft: &mut Draft, table: &Table, places: &[usize]) -> Result<(
 }
 
 /// The name of the object, or nothing where there is none.
-pub(crate) fn object_text(table: &Table, place: usize) -> &str
+pub fn object_text(table: &Table, place: usize) -> &str
     ensures { result.now ≡ unwrap_or (slice_get table.now.objects place) [] }
 {
     if place < table.rows().len() {

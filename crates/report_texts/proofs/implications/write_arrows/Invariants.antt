@@ -1,7 +1,7 @@
 use Rattle.std.proofs.Common.{◌≡◌, ◌++◌, drop}
 use Rattle.std.specs.List.{flat_map, enumerate_from}
-use Rattle.basis_report.specs.Reports.{arrow_line, arrow_lines}
-use Rattle.basis_report.proofs.implications.write_arrows.Given as goal
+use Rattle.report_texts.specs.Reports.{arrow_line, arrow_lines}
+use Rattle.report_texts.proofs.implications.write_arrows.Given as goal
 
 abbrev pub invariant-loop-place : goal.invariant-loop-place
 invariant-loop-place l =

@@ -1,7 +1,7 @@
 use Rattle.std.proofs.Common.{◌≡◌, ◌++◌, codes}
 use Rattle.expert_wire.specs.Texts.{braces_text}
 use Rattle.expert_wire.proofs.ListedLemmas.{bridged, names_from}
-use Rattle.basis_report.proofs.concepts.write_attributes.Given as goal
+use Rattle.report_texts.proofs.concepts.write_attributes.Given as goal
 
 abbrev pub invariant-loop-attribute : goal.invariant-loop-attribute
 invariant-loop-attribute g l =

@@ -1,8 +1,8 @@
 use Rattle.std.proofs.Common.{◌≡◌, ◌++◌, codes, drop}
 use Rattle.expert_wire.specs.Texts.{braced}
 use Rattle.expert_wire.proofs.ListedLemmas.{bridged}
-use Rattle.basis_report.specs.Reports.{names_at}
-use Rattle.basis_report.proofs.concepts.write_objects.Given as goal
+use Rattle.report_texts.specs.Reports.{names_at}
+use Rattle.report_texts.proofs.concepts.write_objects.Given as goal
 
 abbrev pub invariant-loop-place : goal.invariant-loop-place
 invariant-loop-place l =

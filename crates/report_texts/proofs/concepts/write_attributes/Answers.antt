@@ -3,7 +3,7 @@ use Rattle.std.proofs.Math.Nat.{min-le_left, min-le_right}
 use Rattle.expert_wire.proofs.ListedLemmas.{bridged, bridged-member, names_from, names_from-none, names_from-end}
 use Rattle.std.proofs.lemmas.Result.{on_ok_weaker}
 use Rattle.fca_model.specs.Tables.{Text}
-use Rattle.basis_report.proofs.concepts.write_attributes.Goals as goal
+use Rattle.report_texts.proofs.concepts.write_attributes.Goals as goal
 
 -- behind what is there come the comma and the name
 name_more : (old between name rest new : Text) → new ≡ (old ++ between) ++ name → new ++ rest ≡ old ++ ((between ++ name) ++ rest)

@@ -1,7 +1,7 @@
 use Rattle.std.proofs.Common.{◌≡◌, ◌++◌, drop}
 use Rattle.std.specs.List.{flat_map}
-use Rattle.basis_report.specs.Reports.{cover_line}
-use Rattle.basis_report.proofs.concepts.write_covers.Given as goal
+use Rattle.report_texts.specs.Reports.{cover_line}
+use Rattle.report_texts.proofs.concepts.write_covers.Given as goal
 
 abbrev pub invariant-loop-pair : goal.invariant-loop-pair
 invariant-loop-pair l = l.draft ++ flat_map cover_line (drop l.pair-index l.covers) ≡ l.fn.draft ++ flat_map cover_line l.covers

@@ -1,0 +1,27 @@
+//! The line that heads a list.
+
+ghost use Rattle.std.specs.Prelude.{◌≡◌, ◌++◌, OnOk};
+ghost use Rattle.report_texts.specs.Reports.{counted};
+
+use context_table::Table;
+use expert_wire::{Draft, Part};
+use fca_model::Memory;
+
+/// Appends the line that heads a list: the words, and how many members it has.
+pub fn write_counted(
+    draft: &mut Draft,
+    table: &Table,
+    words: &[u8],
+    count: usize,
+) -> Result<(), Memory>
+    ensures { OnOk result (draft.new ≡ draft.old ++ counted words.now count) }
+{
+    draft.parts(
+        table,
+        &[
+            Part::Bytes(words),
+            Part::Number(count as u64),
+            Part::Bytes(b"\n"),
+        ],
+    )
+}
