@@ -5,7 +5,7 @@ ghost use Rattle.std.specs.List.{list_all};
 ghost use Rattle.std.specs.Io.KnownBytes.{IsAtEnd};
 ghost use Rattle.fca_model.specs.declared.TheConstants.{MAX_ATTRIBUTES, FILE_BYTES};
 ghost use Rattle.fca_io.specs.Faults.{Rose};
-ghost use Rattle.explore_state.specs.Settings.{settings_of};
+ghost use Rattle.exploration_terms.specs.Settings.{settings_of};
 ghost use Rattle.expert_scripts.specs.Scripts.{said_of, script_form, may_apply};
 ghost use Rattle.expert_scripts.specs.Transcripts.{CanBeTold};
 ghost use Rattle.cxt_format.specs.Form.{cxt_form};

@@ -20,7 +20,7 @@ use Rattle.fca_model.specs.Exploration.{SetEvent, is_expert}
 use Rattle.fca_model.specs.declared.TheConstants.{MAX_EXPERTS}
 use Rattle.fca_model.specs.declared.Event.TheVariants.{Draw, Confirm, Row, Leave}
 use Rattle.implication_closure.specs.Closing.{has_width}
-use Rattle.explore_state.specs.Settings.{name_of}
+use Rattle.exploration_terms.specs.Settings.{name_of}
 use Rattle.expert_wire.specs.declared.requests.RequestFault.{RequestFault}
 use Rattle.expert_wire.specs.declared.requests.RequestFault.TheVariants.{Line, Width, Memory as RequestMemory}
 use Rattle.text_pieces.specs.Lines.{lines}

@@ -12,7 +12,7 @@ use Rattle.fca_model.specs.Names.{IsName}
 use Rattle.fca_model.specs.Exploration.{RowName}
 use Rattle.fca_model.specs.declared.TheConstants.{MAX_EXPERTS}
 use Rattle.fca_model.specs.Tables.{Text}
-use Rattle.explore_state.specs.Settings.{name_of}
+use Rattle.exploration_terms.specs.Settings.{name_of}
 use Rattle.expert_scripts.specs.Transcripts.{AreNamed, name_line, line_named, lines_named, names_text}
 
 -- ---- one name more

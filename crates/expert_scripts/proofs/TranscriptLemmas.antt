@@ -19,7 +19,7 @@ use Rattle.fca_model.specs.declared.TheConstants.{MAX_EXPERTS}
 use Rattle.fca_model.specs.declared.Event.TheVariants.{Draw, Confirm, Row, Leave}
 use Rattle.attr_bits.specs.Difference.{minus}
 use Rattle.implication_closure.specs.Closing.{has_width, HaveWidth}
-use Rattle.explore_state.specs.Settings.{name_of}
+use Rattle.exploration_terms.specs.Settings.{name_of}
 use Rattle.text_pieces.specs.Lines.{lines}
 use Rattle.expert_wire.specs.Lines.{is_skipped, said_from}
 use Rattle.expert_wire.specs.Texts.{line_end, pattern, names_of, continued, braced, braces_text, arrow_text, full_text}

@@ -15,7 +15,7 @@ use Rattle.fca_model.specs.Implications.{Rule}
 use Rattle.fca_model.specs.Exploration.{Settings, RowName, SetEvent, SetEntry, expert_of, has_width, is_expert}
 use Rattle.fca_model.specs.declared.TheConstants.{MAX_EXPERTS}
 use Rattle.fca_model.specs.declared.Event.TheVariants.{Draw, Confirm, Row, Leave}
-use Rattle.explore_state.specs.Settings.{settings_of, name_of}
+use Rattle.exploration_terms.specs.Settings.{settings_of, name_of}
 use Rattle.expert_wire.specs.declared.requests.RequestFault.{RequestFault}
 use Rattle.expert_wire.specs.declared.requests.RequestFault.TheVariants.{Line, Width, Memory as RequestMemory}
 use Rattle.text_pieces.specs.Lines.{lines}

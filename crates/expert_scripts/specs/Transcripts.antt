@@ -11,7 +11,7 @@ use Rattle.fca_model.specs.Exploration.{Settings, RowName, SetEvent, SetEntry, i
 use Rattle.fca_model.specs.declared.TheConstants.{MAX_EXPERTS}
 use Rattle.fca_model.specs.declared.Event.TheVariants.{Draw, Confirm, Row, Leave}
 use Rattle.implication_closure.specs.Closing.{HaveWidth}
-use Rattle.explore_state.specs.Settings.{name_of}
+use Rattle.exploration_terms.specs.Settings.{name_of}
 use Rattle.expert_wire.specs.Texts.{line_end, pattern, full_text}
 use Rattle.expert_wire.specs.Replies.{heading, reply_line}
 use Rattle.expert_scripts.specs.Scripts.{second_heading}

@@ -6,7 +6,7 @@ ghost use Rattle.expert_scripts.specs.Scripts.{event_of, event_of_words, expert_
 
 use crate::fault::ScriptFault;
 use expert_wire::{RequestFault, expert_of, read_row, text_of};
-use explore_state::Event;
+use exploration_terms::Event;
 use std::alloc::Global;
 use text_pieces::{is_numeral, split_word};
 

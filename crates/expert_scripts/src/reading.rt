@@ -12,7 +12,7 @@ use crate::fault::ScriptFault;
 use crate::scripts::{Events, Script};
 use crate::told::Told;
 use expert_wire::text_of;
-use explore_state::Event;
+use exploration_terms::Event;
 use fca_model::Memory;
 use std::alloc::Global;
 use text_pieces::split_word;

@@ -3,14 +3,14 @@
 ghost use Rattle.std.specs.Prelude.{◌≡◌, ◌≤◌, ◌⊎◌, Ok, Err, IfOk, IfErr, true};
 ghost use Rattle.std.specs.List.{list_all};
 ghost use Rattle.fca_model.specs.declared.TheConstants.{MAX_ATTRIBUTES};
-ghost use Rattle.explore_state.specs.Settings.{settings_of};
+ghost use Rattle.exploration_terms.specs.Settings.{settings_of};
 ghost use Rattle.expert_scripts.specs.Scripts.{said_of, script_form, may_apply};
 ghost use Rattle.expert_scripts.specs.Transcripts.{CanBeTold};
 
 use crate::fault::ScriptFault;
 use crate::reading::Reading;
 use expert_wire::is_skipped;
-use explore_state::{Event, Settings};
+use exploration_terms::{Event, Settings};
 use std::alloc::Global;
 use std::marker::Model;
 use text_pieces::bytes::split_line;

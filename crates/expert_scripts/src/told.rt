@@ -2,14 +2,14 @@
 
 ghost use Rattle.std.specs.Prelude.{◌≡◌, ◌≤◌, ◌⊎◌, Some, None, Ok, Err, IfOk, IfErr, OnOk, true, false};
 ghost use Rattle.fca_model.specs.declared.TheConstants.{MAX_ATTRIBUTES};
-ghost use Rattle.explore_state.specs.Settings.{settings_of};
+ghost use Rattle.exploration_terms.specs.Settings.{settings_of};
 ghost use Rattle.expert_scripts.specs.Scripts.{nothing_told, settings_told, holders_told, name_told, rule_told, setting_of_words};
 ghost use Rattle.expert_scripts.specs.Stages.{told_of};
 ghost use Rattle.known_rules.specs.Known.{known_rule};
 
 use crate::fault::ScriptFault;
 use expert_wire::expert_of;
-use explore_state::{ExpertNames, Settings};
+use exploration_terms::{ExpertNames, Settings};
 use fca_model::{MAX_EXPERTS, Memory, Name, NameFault};
 use implication_closure::ImplicationList;
 use known_rules::read_rule;

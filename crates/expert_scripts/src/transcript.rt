@@ -3,15 +3,16 @@
 ghost use Rattle.std.specs.Prelude.{◌≡◌, ◌++◌, ◌≤◌, Some, codes, decimal, IfOk, OnOk};
 ghost use Rattle.std.specs.List.{flat_map};
 ghost use Rattle.fca_io.specs.Transfers.{AppendsFront};
-ghost use Rattle.explore_state.specs.Settings.{settings_of, name_of};
+ghost use Rattle.exploration_terms.specs.Settings.{settings_of, name_of};
 ghost use Rattle.expert_wire.specs.Texts.{line_end};
 ghost use Rattle.fca_model.specs.Exploration.{is_expert};
 ghost use Rattle.expert_scripts.specs.Transcripts.{event_text, entries_text, entry_lines, known_line, line_named, names_text, settings_text, opening_text, transcript};
 
 use context_table::Table;
 use expert_wire::{Draft, Part};
-use explore_state::{Entry, Event, ExpertNames, Implication, Settings};
+use exploration_terms::{Entry, Event, ExpertNames, Settings};
 use fca_model::{MAX_EXPERTS, Memory};
+use implication_closure::Implication;
 use std::alloc::Global;
 
 /// The transcript of the journal of an exploration under the settings.

@@ -6,7 +6,7 @@ ghost use Rattle.std.specs.BTreeMap.{insert_entry};
 ghost use Rattle.std.specs.Str.{is_utf8};
 ghost use Rattle.fca_model.specs.declared.TheConstants.{MAX_EXPERTS};
 ghost use Rattle.fca_model.specs.Exploration.{is_expert};
-ghost use Rattle.explore_state.specs.Settings.{name_of};
+ghost use Rattle.exploration_terms.specs.Settings.{name_of};
 ghost use Rattle.expert_wire.specs.Words.{is_name};
 ghost use Rattle.explore_command.specs.Panels.{is_named, names_told};
 

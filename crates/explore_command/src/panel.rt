@@ -26,7 +26,7 @@ pub struct Panel {
 
 impl Model for Panel {
     ghost use Rattle.std.specs.Prelude.{◌≡◌};
-    ghost use Rattle.explore_state.specs.Settings.{settings_of};
+    ghost use Rattle.exploration_terms.specs.Settings.{settings_of};
     ghost use Rattle.explore_command.specs.Panels.{Panel as TheTables, MayExplore};
 
     ghost Value = { TheTables };

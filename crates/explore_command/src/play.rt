@@ -2,7 +2,7 @@
 
 ghost use Rattle.std.specs.Prelude.{◌≡◌, ◌≤◌, true, [], All, Bool, IfOk, IfErr, length, option_copied, vec_len};
 ghost use Rattle.fca_model.specs.Exploration.{is_expert};
-ghost use Rattle.explore_state.specs.Settings.{settings_of};
+ghost use Rattle.exploration_terms.specs.Settings.{settings_of};
 ghost use Rattle.basis_report.specs.Explorations.{Spells};
 ghost use Rattle.expert_scripts.specs.Transcripts.{CanBeTold};
 ghost use Rattle.command_io.specs.Readings.{MayRefuse, Rises};

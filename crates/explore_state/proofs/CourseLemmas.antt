@@ -1,4 +1,4 @@
--- What the course of an exploration shows a caller: the rows of the table stay in front, a draw records nothing, and where no question
+-- What the course of an exploration shows a caller: the rows of the table stay in front, and where no question
 -- is open the accepted implications are the basis beside what is known.
 use Rattle.std.proofs.Common.{◌≡◌, ◌≢◌, ℕ, Bool, true, false, cond, Option, Some, None, List, [], ◌∷◌, ◌++◌, refl, sym, ap, ◌∙◌, subst, append-nil, ◌↔◌}
 use Rattle.std.proofs.lemmas.List.{append_assoc}
@@ -20,7 +20,7 @@ use Rattle.fca_model.proofs.ValidLemmas.{never_all_held}
 use Rattle.fca_model.proofs.RunLemmas.{legal_events}
 use Rattle.fca_model.proofs.CourseLemmas.{exploration_count, draw_done, run_width}
 use Rattle.fca_model.proofs.DoneLemmas.{accepted_members, accepted_length, accepted_sorted, accepted_complete, accepted_least}
-use Rattle.explore_state.specs.History.{Opening, opening_state, Admits, is_recorded}
+use Rattle.explore_state.specs.History.{Opening, opening_state, Admits}
 use Rattle.explore_state.specs.Kept.{IsKept}
 use Rattle.explore_state.specs.Basis.{IsBasisBeside, IsRecorded}
 use Rattle.explore_state.proofs.KeptLemmas.{kept_settings, kept_known, kept_opened, kept_valid, admitted_expert}
@@ -39,25 +39,6 @@ run_rows s (event ∷ events) =
     let one = next_rows s event in
     let more = run_rows (next s event) events in
     (one.0 ++ more.0, more.1 ∙ ap (λ rows. rows ++ more.0) one.1 ∙ append_assoc s.context.rows one.0 more.0)
-
--- ---- no draw and no leave records an answer
-
-pub draw_not_recorded : (s : State) (e : ℕ) → is_recorded (reply_to s (Draw e)) ≡ false
-unfolding reply_to
-draw_not_recorded s e = go s.settings.holders (given_back e s.holds) (open_in s)
-  where
-    choice : (b : Bool) (o : Option Rule) → is_recorded (cond b AllHeld (asked o)) ≡ false
-    choice true o = refl
-    choice false None = refl
-    choice false (Some q) = refl
-
-    go : (most : ℕ) (hs : List SetHold) (J : List Rule) → is_recorded (draw_reply most hs J) ≡ false
-    go most hs [] = refl
-    go most hs (i ∷ J) = choice (all_held most hs (i ∷ J)) (least_held hs (i ∷ J))
-
-pub leave_not_recorded : (s : State) (e : ℕ) → is_recorded (reply_to s (Leave e)) ≡ false
-unfolding reply_to
-leave_not_recorded s e = refl
 
 -- ---- what callers see
 

@@ -1,7 +1,6 @@
 -- An exploration, as its opening and its journal.
 use Rattle.std.specs.Prelude.{◌≡◌, ◌≤◌, ℕ, Bool, true, false, List, [], ◌∷◌, ◌++◌}
 use Rattle.fca_model.specs.Tables.{NamedContext}
-use Rattle.fca_model.specs.declared.Reply.TheVariants.{Accepted, Taken}
 use Rattle.fca_model.specs.Implications.{Rule}
 use Rattle.fca_model.specs.Questions.{open_questions}
 use Rattle.fca_model.specs.Exploration.{State, Settings, SetEvent, SetReply, SetEntry, opening, reply_to, next, state_after, events_of, expert_of, has_width}
@@ -47,9 +46,3 @@ pub record IsStep (old new : History) (event : SetEvent) (answer : SetReply) : T
 pub record IsSame (old new : History) : Type 0 where
   pub journal : new.journal ≡ old.journal
   pub opening : new.opening ≡ old.opening
-
--- the reply says that an answer was recorded
-abbrev pub is_recorded : SetReply → Bool
-is_recorded (Accepted k) = true
-is_recorded (Taken k) = true
-is_recorded reply = false

@@ -2,5 +2,4 @@ pub mod History
 pub mod Basis
 pub mod Fewest
 pub mod Kept
-pub mod Settings
 pub mod Faults

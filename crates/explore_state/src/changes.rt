@@ -7,7 +7,7 @@ ghost use Rattle.fca_model.specs.declared.Event.TheVariants.{Confirm};
 ghost use Rattle.fca_model.specs.declared.Reply.TheVariants.{Taken};
 ghost use Rattle.fca_model.specs.declared.TheConstants.{MAX_EXPERTS};
 ghost use Rattle.fca_model.specs.Exploration.{State, RowName, held_by, given_back, after, after_draw, after_confirm, after_row};
-ghost use Rattle.explore_state.specs.History.{is_recorded};
+ghost use Rattle.exploration_terms.specs.Recorded.{is_recorded};
 ghost use Rattle.explore_state.specs.Kept.{IsShown, IsDue, IsTimely, with_held};
 
 use crate::holds::{give_back, held_in};

@@ -2,12 +2,12 @@
 
 ghost use Rattle.std.specs.Prelude.{◌≡◌};
 ghost use Rattle.fca_model.specs.Exploration.{is_expert};
-ghost use Rattle.explore_state.specs.Settings.{settings_of};
+ghost use Rattle.exploration_terms.specs.Settings.{settings_of};
 ghost use Rattle.explore_state.specs.Faults.{open_fault, first_break};
 
-use crate::settings::Settings;
 use attr_bits::Attrs;
 use context_table::Table;
+use exploration_terms::Settings;
 use fca_model::{MAX_EXPERTS, Memory, NO_MEMORY};
 use implication_closure::ImplicationList;
 use std::alloc::AllocError;

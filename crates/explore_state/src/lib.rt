@@ -11,28 +11,26 @@ ghost use Rattle.fca_model.specs.declared.Event.TheVariants.{Draw, Confirm, Row,
 ghost use Rattle.fca_model.specs.declared.Reply.TheVariants.{Ask, Done, AllHeld};
 ghost use Rattle.fca_model.specs.Exploration.{plain, rules_of, reply_to, held_by, is_expert, IsLegal};
 ghost use Rattle.fca_model.specs.Widths.{HasWideReply};
-ghost use Rattle.explore_state.specs.History.{opening_state, state_of, open_of, Admits, IsStep, IsSame, is_recorded};
+ghost use Rattle.exploration_terms.specs.Recorded.{is_recorded};
+ghost use Rattle.exploration_terms.specs.Settings.{settings_of};
+ghost use Rattle.explore_state.specs.History.{opening_state, state_of, open_of, Admits, IsStep, IsSame};
 ghost use Rattle.explore_state.specs.Basis.{IsBasisBeside, IsRecorded};
-ghost use Rattle.explore_state.specs.Settings.{settings_of};
 ghost use Rattle.explore_state.specs.Faults.{open_fault};
 
 mod changes;
 mod fault;
 mod holds;
-mod names;
 mod replies;
-mod settings;
 
 use crate::changes::change;
 pub use crate::fault::{OpenFault, first_break};
 use crate::fault::{is_expert, open_fault};
 use crate::holds::held_in;
-pub use crate::names::ExpertNames;
 use crate::replies::{reply_to_confirmation, reply_to_draw, reply_to_row};
-pub use crate::settings::Settings;
 use attr_bits::Attrs;
 use context_table::Table;
 use derivation::Rows;
+pub use exploration_terms::{Entry, Event, ExpertNames, Hold, Reply, Settings};
 use fca_model::{MAX_EXPERTS, Memory, Name};
 use implication_closure::ImplicationList;
 pub use implication_closure::{Implication, Question};
@@ -40,18 +38,6 @@ use level_queue::LevelQueue;
 pub use level_queue::{LevelSearch, OneThread, SideBySide};
 use std::alloc::{AllocError, Global};
 use std::marker::Model;
-
-/// What an expert does.
-pub type Event = fca_model::Event<Name, Attrs>;
-
-/// What is answered.
-pub type Reply = fca_model::Reply<Attrs>;
-
-/// An event with its reply.
-pub type Entry = fca_model::Entry<Name, Attrs>;
-
-/// A question that an expert holds.
-pub type Hold = fca_model::Hold<Attrs>;
 
 /// A table that is explored by experts.
 #[derive(Drop)]
@@ -70,7 +56,7 @@ impl Model for Explore {
     ghost use Rattle.fca_model.specs.Exploration.{is_expert};
     ghost use Rattle.explore_state.specs.History.{History};
     ghost use Rattle.explore_state.specs.Kept.{IsKept};
-    ghost use Rattle.explore_state.specs.Settings.{settings_of};
+    ghost use Rattle.exploration_terms.specs.Settings.{settings_of};
 
     ghost Value = { History };
 

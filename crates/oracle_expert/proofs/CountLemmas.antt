@@ -28,8 +28,8 @@ use Rattle.fca_model.proofs.StepLemmas.{by_change}
 use Rattle.fca_model.proofs.ValidLemmas.{next_valid, opening_valid}
 use Rattle.fca_model.proofs.CourseLemmas.{next_settings, exploration_count}
 use Rattle.fca_model.proofs.RunLemmas.{legal_events}
-use Rattle.explore_state.specs.History.{is_recorded}
-use Rattle.explore_state.proofs.CourseLemmas.{draw_not_recorded}
+use Rattle.exploration_terms.specs.Recorded.{is_recorded}
+use Rattle.exploration_terms.proofs.RecordedLemmas.{draw_not_recorded}
 use Rattle.oracle_expert.specs.Answers.{event_of}
 use Rattle.oracle_expert.specs.Oracles.{Conflicts, Recall, Answers, Learns, no_conflict, conflicts_told, counterexample, answer_with, drop_given, drop_at}
 use Rattle.oracle_expert.specs.Runs.{Moment, SeatRun, IsOracleFront, conflicts_of, row_due, OracleRunsFrom, StopsAtDone, event_due, moment_after, moment_at, is_done}

@@ -16,7 +16,7 @@ use Rattle.fca_model.proofs.StepLemmas.{by_change}
 use Rattle.fca_model.proofs.ValidLemmas.{next_valid}
 use Rattle.fca_model.proofs.CourseLemmas.{next_settings}
 use Rattle.fca_model.proofs.RunLemmas.{legal_events}
-use Rattle.explore_state.specs.History.{is_recorded}
+use Rattle.exploration_terms.specs.Recorded.{is_recorded}
 use Rattle.oracle_expert.specs.declared.expert.Answer.{Answer}
 use Rattle.oracle_expert.specs.declared.expert.Answer.TheVariants.{Confirm, Row}
 use Rattle.oracle_expert.specs.Answers.{event_of}

@@ -1,7 +1,7 @@
 -- What is counted of an exploration by oracles.
 use Rattle.std.specs.Prelude.{ℕ, suc, Some, None, List, [], ◌∷◌, filter, length}
 use Rattle.fca_model.specs.Exploration.{SetEntry}
-use Rattle.explore_state.specs.History.{is_recorded}
+use Rattle.exploration_terms.specs.Recorded.{is_recorded}
 use Rattle.oracle_expert.specs.Oracles.{Conflicts}
 
 -- how many answers were recorded in a history: rows that were taken and implications that were accepted

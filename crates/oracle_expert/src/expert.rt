@@ -3,8 +3,9 @@
 ghost use Rattle.std.specs.Prelude.{◌≡◌, ℕ, IfOk, OnErr};
 
 use attr_bits::Attrs;
-use explore_state::{Question, Reply};
+use exploration_terms::Reply;
 use fca_model::{Memory, Name};
+use implication_closure::Question;
 use std::alloc::Global;
 
 /// An answer to a question.

@@ -13,9 +13,10 @@ use crate::narrow::{NarrowRows, narrow_rows};
 use attr_bits::{Attrs, Bits};
 use context_table::Table;
 use derivation::RowsOf;
-use explore_state::{Question, Reply};
+use exploration_terms::Reply;
 use extent_blocks::{Near, Sheet};
 use fca_model::Memory;
+use implication_closure::Question;
 use std::alloc::{AllocError, Global};
 use std::marker::Model;
 

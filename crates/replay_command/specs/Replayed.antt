@@ -10,8 +10,8 @@ use Rattle.fca_model.specs.Exploration.{Settings, SetEvent, plain, journal_of}
 use Rattle.fca_io.specs.Shelves.{Told}
 use Rattle.explore_state.specs.History.{Opening, opening_state}
 use Rattle.explore_state.specs.Faults.{first_break}
-use Rattle.explore_state.specs.Settings.{settings_of}
-use Rattle.explore_state.specs.declared.settings.Settings as told
+use Rattle.exploration_terms.specs.Settings.{settings_of}
+use Rattle.exploration_terms.specs.declared.settings.Settings as told
 use Rattle.expert_scripts.specs.Scripts.{Said}
 use Rattle.expert_scripts.specs.Transcripts.{CanBeTold}
 use Rattle.expert_scripts.specs.declared.fault.ScriptFault.TheVariants.{BadLine}

@@ -4,7 +4,7 @@ ghost use Rattle.std.specs.Prelude.{◌≡◌, [], ℕ, IfOk, IfErr, OnOk, Some,
 ghost use Rattle.fca_model.specs.declared.TheConstants.{MAX_EXPERTS};
 ghost use Rattle.implication_closure.specs.Closing.{HaveWidth};
 ghost use Rattle.explore_state.specs.Faults.{first_break};
-ghost use Rattle.explore_state.specs.Settings.{settings_of};
+ghost use Rattle.exploration_terms.specs.Settings.{settings_of};
 ghost use Rattle.expert_scripts.specs.Scripts.{said_of};
 ghost use Rattle.expert_scripts.specs.Transcripts.{CanBeTold};
 ghost use Rattle.expert_scripts.specs.declared.fault.ScriptFault.TheVariants.{BadLine};

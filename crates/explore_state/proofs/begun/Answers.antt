@@ -3,7 +3,7 @@ use Rattle.std.specs.List.{list_all}
 use Rattle.fca_model.specs.Implications.{holds}
 use Rattle.fca_model.proofs.ClosureLemmas.{known_hold}
 use Rattle.implication_closure.specs.Closing.{HaveWidth}
-use Rattle.explore_state.specs.Settings.{settings_of}
+use Rattle.exploration_terms.specs.Settings.{settings_of}
 use Rattle.explore_state.proofs.OpenLemmas.{no_fault, wide_conclusions}
 use Rattle.explore_state.proofs.begun.Goals as goal
 

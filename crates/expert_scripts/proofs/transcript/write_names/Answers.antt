@@ -1,7 +1,7 @@
 use Rattle.std.proofs.Common.{◌≤◌, ◌<◌, ◌+◌, sym, arith}
 use Rattle.std.proofs.lemmas.Result.{err_from_is_err_and}
 use Rattle.fca_model.specs.declared.TheConstants.{MAX_EXPERTS}
-use Rattle.explore_state.specs.Settings.{name_of}
+use Rattle.exploration_terms.specs.Settings.{name_of}
 use Rattle.expert_scripts.specs.Transcripts.{line_named, names_text}
 use Rattle.expert_scripts.proofs.DraftLemmas.{Drafting-start, Drafting-equal, Drafting-more, Drafting-fault, Drafting-end, front-whole}
 use Rattle.expert_scripts.proofs.NamedLemmas.{names_left, names_left-start, names_left-next, names_left-end}

@@ -1,7 +1,7 @@
 use Rattle.std.proofs.Common.{◌++◌, sym, ap, ◌∙◌, append_assoc}
 use Rattle.std.proofs.lemmas.Result.{on_ok_weaker}
 use Rattle.std.proofs.lemmas.Bool.{false≢true}
-use Rattle.explore_state.specs.Settings.{settings_of}
+use Rattle.exploration_terms.specs.Settings.{settings_of}
 use Rattle.expert_wire.specs.Texts.{line_end}
 use Rattle.expert_scripts.specs.Scripts.{second_heading}
 use Rattle.expert_scripts.specs.Transcripts.{opening_text, settings_text}

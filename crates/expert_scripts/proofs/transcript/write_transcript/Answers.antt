@@ -1,4 +1,4 @@
-use Rattle.explore_state.specs.Settings.{settings_of}
+use Rattle.exploration_terms.specs.Settings.{settings_of}
 use Rattle.expert_scripts.specs.Transcripts.{entries_text, opening_text, transcript}
 use Rattle.expert_scripts.proofs.DraftLemmas.{Drafting, Drafting-start, Drafting-more, Drafting-fault, Drafting-last}
 use Rattle.expert_scripts.proofs.transcript.write_transcript.Goals as goal

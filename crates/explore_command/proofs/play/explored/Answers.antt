@@ -2,7 +2,7 @@ use Rattle.std.proofs.Common.{◌≡◌, ◌∙◌, ℕ, sym, ap, subst}
 use Rattle.std.specs.Prelude.{All, length, IfOk}
 use Rattle.fca_model.specs.Tables.{NamedContext}
 use Rattle.explore_state.specs.History.{Opening}
-use Rattle.explore_state.specs.Settings.{settings_of}
+use Rattle.exploration_terms.specs.Settings.{settings_of}
 use Rattle.expert_panel.specs.declared.explored.Explored.{Explored}
 use Rattle.command_io.specs.Explorations.{opening_of}
 use Rattle.explore_command.specs.Panels.{Panel}

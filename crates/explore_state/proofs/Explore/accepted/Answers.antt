@@ -6,7 +6,7 @@ use Rattle.fca_model.specs.Exploration.{state_after, events_of}
 use Rattle.implication_closure.specs.Closing.{RuleList}
 use Rattle.explore_state.specs.History.{Opening, History, opening_state, state_of, open_of}
 use Rattle.explore_state.specs.Basis.{IsBasisBeside}
-use Rattle.explore_state.specs.Settings.{settings_of}
+use Rattle.exploration_terms.specs.Settings.{settings_of}
 use Rattle.explore_state.proofs.CourseLemmas.{accepted_is, accepted_hold, basis_is}
 use Rattle.explore_state.proofs.Explore.accepted.Goals as goal
 

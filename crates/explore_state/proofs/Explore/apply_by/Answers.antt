@@ -2,7 +2,7 @@ use Rattle.std.proofs.Common.{◌∙◌, ap, sym, subst, arith, [], ◌∷◌, �
 use Rattle.fca_model.specs.Exploration.{reply_to, next, state_after, events_of}
 use Rattle.explore_state.specs.History.{Opening, History, Admits, opening_state, state_of}
 use Rattle.explore_state.specs.Kept.{IsDue}
-use Rattle.explore_state.specs.Settings.{settings_of}
+use Rattle.exploration_terms.specs.Settings.{settings_of}
 use Rattle.explore_state.proofs.KeptLemmas.{kept_due, kept_push, entry_put, state_moves}
 use Rattle.explore_state.proofs.Explore.apply_by.Goals as goal
 

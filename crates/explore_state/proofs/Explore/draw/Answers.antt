@@ -7,8 +7,9 @@ use Rattle.fca_model.specs.Implications.{Rule}
 use Rattle.fca_model.specs.Invariant.{Among}
 use Rattle.fca_model.specs.Exploration.{reply_to}
 use Rattle.explore_state.specs.History.{Opening, History, Admits, IsStep, state_of, open_of}
-use Rattle.explore_state.specs.Settings.{settings_of}
-use Rattle.explore_state.proofs.CourseLemmas.{draw_is_done, draw_is_open, draw_is_free, draw_not_recorded}
+use Rattle.exploration_terms.specs.Settings.{settings_of}
+use Rattle.exploration_terms.proofs.RecordedLemmas.{draw_not_recorded}
+use Rattle.explore_state.proofs.CourseLemmas.{draw_is_done, draw_is_open, draw_is_free}
 use Rattle.explore_state.proofs.Explore.draw.Goals as goal
 
 pub returns-clause-done : goal.returns-clause-done

@@ -4,7 +4,7 @@ use Rattle.fca_model.specs.Exploration.{SetEntry}
 use Rattle.fca_model.specs.Widths.{IsWide, HasWideReply}
 use Rattle.fca_model.proofs.WidthLemmas.{legal_wide}
 use Rattle.explore_state.specs.History.{Opening, History, opening_state, state_of}
-use Rattle.explore_state.specs.Settings.{settings_of}
+use Rattle.exploration_terms.specs.Settings.{settings_of}
 use Rattle.implication_closure.specs.Closing.{HaveWidth}
 use Rattle.explore_state.proofs.OpenLemmas.{wide_rules}
 use Rattle.explore_state.proofs.KeptLemmas.{kept_opened, kept_valid}

@@ -1,5 +1,5 @@
 use Rattle.explore_state.specs.History.{state_of}
-use Rattle.explore_state.proofs.CourseLemmas.{leave_not_recorded}
+use Rattle.exploration_terms.proofs.RecordedLemmas.{leave_not_recorded}
 use Rattle.explore_state.proofs.Explore.leave.Goals as goal
 
 pub returns-clause-spare : goal.returns-clause-spare

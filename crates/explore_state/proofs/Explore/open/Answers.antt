@@ -1,6 +1,6 @@
 use Rattle.std.proofs.Common.{◌≡◌, ◌⊎◌, ◌∙◌, sym, inr}
 use Rattle.std.proofs.lemmas.Result.{IfErr-weaker}
-use Rattle.explore_state.specs.Settings.{settings_of}
+use Rattle.exploration_terms.specs.Settings.{settings_of}
 use Rattle.explore_state.specs.declared.fault.OpenFault.TheVariants.{BadExperts, Memory}
 use Rattle.explore_state.proofs.OpenLemmas.{only_memory}
 use Rattle.explore_state.proofs.Explore.open.Goals as goal

@@ -1,6 +1,6 @@
 use Rattle.std.proofs.Common.{ap, arith}
 use Rattle.level_queue.specs.Queue.{Base}
-use Rattle.explore_state.specs.Settings.{settings_of}
+use Rattle.exploration_terms.specs.Settings.{settings_of}
 use Rattle.explore_state.proofs.KeptLemmas.{kept_opening}
 use Rattle.explore_state.proofs.OpenLemmas.{no_fault}
 use Rattle.explore_state.proofs.Explore.open_with.Goals as goal

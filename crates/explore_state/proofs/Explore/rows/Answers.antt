@@ -3,7 +3,7 @@ use Rattle.fca_model.specs.Context.{Context}
 use Rattle.fca_model.specs.Exploration.{state_after, events_of}
 use Rattle.explore_state.specs.History.{Opening, History, opening_state, state_of}
 use Rattle.explore_state.specs.Basis.{IsRecorded}
-use Rattle.explore_state.specs.Settings.{settings_of}
+use Rattle.exploration_terms.specs.Settings.{settings_of}
 use Rattle.explore_state.proofs.CourseLemmas.{recorded_is}
 use Rattle.explore_state.proofs.Explore.rows.Goals as goal
 

@@ -2,7 +2,7 @@ use Rattle.std.proofs.Common.{◌≡◌, ◌∙◌, ◌++◌, ap, sym, subst}
 use Rattle.fca_model.specs.Exploration.{rules_of}
 use Rattle.implication_closure.specs.Closing.{RuleList}
 use Rattle.explore_state.specs.History.{Opening, state_of}
-use Rattle.explore_state.specs.Settings.{settings_of}
+use Rattle.exploration_terms.specs.Settings.{settings_of}
 use Rattle.explore_state.proofs.KeptLemmas.{kept_rules}
 use Rattle.explore_state.proofs.Explore.rules.Goals as goal
 

@@ -3,7 +3,7 @@ use Rattle.std.proofs.lemmas.Bool.{and_parts}
 use Rattle.std.specs.List.{list_all}
 use Rattle.std.specs.Vec.Iter.{into_iter_items}
 use Rattle.fca_model.specs.Exploration.{SetEvent}
-use Rattle.explore_state.specs.Settings.{settings_of}
+use Rattle.exploration_terms.specs.Settings.{settings_of}
 use Rattle.expert_scripts.specs.Scripts.{may_apply}
 use Rattle.command_io.specs.Explorations.{recorded}
 use Rattle.replay_command.specs.Replayed.{explored}

@@ -2,7 +2,7 @@
 use Rattle.std.proofs.Common.{◌≡◌, ◌++◌, length, true}
 use Rattle.std.specs.List.{list_all}
 use Rattle.std.specs.Vec.Iter.{into_iter_items, into_iter_len}
-use Rattle.explore_state.specs.Settings.{settings_of}
+use Rattle.exploration_terms.specs.Settings.{settings_of}
 use Rattle.expert_scripts.specs.Scripts.{may_apply}
 use Rattle.command_io.specs.Explorations.{recorded}
 use Rattle.replay_command.specs.Replayed.{explored}

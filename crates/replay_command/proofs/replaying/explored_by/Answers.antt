@@ -2,7 +2,7 @@ use Rattle.std.proofs.Common.{◌≡◌, ◌∙◌, ℕ, List, true, sym, ap, su
 use Rattle.std.specs.List.{list_all}
 use Rattle.fca_model.specs.Context.{Context}
 use Rattle.fca_model.specs.Exploration.{SetEvent}
-use Rattle.explore_state.specs.Settings.{settings_of}
+use Rattle.exploration_terms.specs.Settings.{settings_of}
 use Rattle.expert_scripts.specs.Scripts.{may_apply}
 use Rattle.command_io.specs.Explorations.{IsExplored}
 use Rattle.replay_command.proofs.CourseLemmas.{explored-course}

@@ -4,7 +4,7 @@ use Rattle.std.specs.Ordering.{nat_cmp}
 use Rattle.std.specs.BTreeMap.{is_at}
 use Rattle.std.specs.Map.{lookup}
 use Rattle.fca_model.specs.Exploration.{Settings, RowName}
-use Rattle.explore_state.specs.declared.settings.Settings as told
+use Rattle.exploration_terms.specs.declared.settings.Settings as told
 
 -- the settings that are told, without the width of the list of known implications
 abbrev pub settings_of : told.Settings → Settings

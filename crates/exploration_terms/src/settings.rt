@@ -2,7 +2,7 @@
 
 ghost use Rattle.std.specs.Prelude.{◌≡◌, ◌≤◌, ◌↔◌, IfOk, true};
 ghost use Rattle.fca_model.specs.Exploration.{plain};
-ghost use Rattle.explore_state.specs.Settings.{settings_of};
+ghost use Rattle.exploration_terms.specs.Settings.{settings_of};
 
 use crate::names::ExpertNames;
 use fca_model::{MAX_ATTRIBUTES, MAX_EXPERTS, Memory};

@@ -4,7 +4,7 @@ ghost use Rattle.std.specs.Prelude.{◌≡◌, ◌↔◌, [], IfOk, OnErr, None,
 ghost use Rattle.std.specs.Ordering.{nat_cmp};
 ghost use Rattle.std.specs.BTreeMap.{insert_entry};
 ghost use Rattle.fca_model.specs.Exploration.{is_expert};
-ghost use Rattle.explore_state.specs.Settings.{name_of};
+ghost use Rattle.exploration_terms.specs.Settings.{name_of};
 
 use fca_model::{Memory, Name};
 use std::alloc::Global;
