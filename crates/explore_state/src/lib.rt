@@ -40,7 +40,6 @@ use std::alloc::{AllocError, Global};
 use std::marker::Model;
 
 /// A table that is explored by experts.
-#[derive(Drop)]
 pub struct Explore {
     table: Table,
     experts: u8,
@@ -48,6 +47,20 @@ pub struct Explore {
     queue: LevelQueue,
     held: Vec<Hold>,
     journal: Vec<Entry>,
+}
+
+/// Written out, so that letting an exploration go is one call and not the dropping of each list where it happens.
+impl Drop for Explore {
+    fn drop(self) {
+        let Self {
+            table: _,
+            experts: _,
+            settings: _,
+            queue: _,
+            held: _,
+            journal: _,
+        } = self;
+    }
 }
 
 impl Model for Explore {
