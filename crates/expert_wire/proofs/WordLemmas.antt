@@ -1,8 +1,8 @@
 -- Bytes that are text, the numbers of experts, and rows whose names are names.
-use Rattle.std.proofs.Common.{◌≡◌, ◌≢◌, ◌≤◌, ◌^◌, ◌∙◌, ◌==◌, ℕ, Bool, true, false, cond, length, nat_lt, List, Some, None, Result, Ok, Err, refl, sym, ap, ap₂, inl, inr, arith, nat_le}
+use Rattle.std.proofs.Common.{◌≡◌, ◌≢◌, ◌≤◌, ◌^◌, ◌∙◌, ◌==◌, ℕ, Bool, true, false, cond, length, nat_lt, List, Some, None, Result, Ok, Err, refl, sym, ap, ap₂, subst, inl, inr, arith, nat_le}
 use Rattle.std.proofs.lemmas.Bool.{and_parts, cases_Bool, leb-true}
 use Rattle.std.specs.Borrow.{Bor}
-use Rattle.std.specs.Prelude.{MatchResult, MatchOption, IsUtf8, is_none}
+use Rattle.std.specs.Prelude.{MatchResult, MatchOption, IsUtf8, is_none, IsOk, ◌⊎◌}
 use Rattle.std.specs.List.{list_any}
 use Rattle.std.specs.Result.{result_ok}
 use Rattle.std.specs.Str.{is_utf8}
@@ -14,7 +14,8 @@ use Rattle.fca_model.specs.Sets.{Set}
 use Rattle.fca_model.specs.Tables.{Text}
 use Rattle.fca_model.specs.Exploration.{is_expert}
 use Rattle.text_pieces.specs.Words.{first_word, later_words}
-use Rattle.expert_wire.specs.declared.requests.RequestFault.TheVariants.{Line, Width}
+use Rattle.expert_wire.specs.declared.requests.RequestFault.{RequestFault}
+use Rattle.expert_wire.specs.declared.requests.RequestFault.TheVariants.{Line, Width, Memory}
 use Rattle.expert_wire.specs.Words.{is_name, named_row, row_of_width, set_marked}
 
 -- a number of more than 64 bits is no expert's
@@ -52,17 +53,26 @@ is_name-faultless text = by (length text == 0) (nat_lt MAX_NAME_BYTES (length te
     by false false true some few unbroken = absurd (unbroken refl)
     by false false false some few unbroken = refl
 
-row_of_width-shaped : (n : ℕ) (text : Text) (r : Set) → row_of_width n text (Some r) ≢ Err Line
-row_of_width-shaped n text r = by (text, r) (length r == n)
-  where
-    by : (row : Text × Set) (wide : Bool) → cond wide (Ok row) (Err Width) ≢ Err Line
-    by row true = λ e. cc e
-    by row false = λ e. cc e
+-- marks with a name behind them are a row, if they have the width
+module _ (n : ℕ) (text word later : Text) (r : Set) (first : word ≡ first_word text) (behind : later ≡ later_words text) (marked : set_marked word ≡ Some r)
+    (named : is_name later ≡ true) (fault : RequestFault) (said : fault ≡ cond (length r == n) Memory Width) where
+  shaped : named_row n text ≡ cond (length r == n) (Ok (later, r)) (Err Width)
+  shaped =
+      ap₂ (λ w t. cond (is_name t) (row_of_width n t (set_marked w)) (Err Line)) (sym first) (sym behind)
+      ∙ ap₂ (λ b m. cond b (row_of_width n later m) (Err Line)) named marked
 
--- marks with a name behind them have the shape of a row
-pub named_row-shaped : (n : ℕ) (text word later : Text) (r : Set) → word ≡ first_word text → later ≡ later_words text → set_marked word ≡ Some r → is_name later ≡ true → named_row n text ≢ Err Line
-named_row-shaped n text word later r first behind marked named =
-    let shape : named_row n text ≡ row_of_width n later (Some r) =
-    ap₂ (λ w t. cond (is_name t) (row_of_width n t (set_marked w)) (Err Line)) (sym first) (sym behind)
-    ∙ ap₂ (λ b m. cond b (row_of_width n later m) (Err Line)) named marked in
-    λ e. row_of_width-shaped n later r (sym shape ∙ e)
+  -- what is said without memory for the name is that, or the fault of the row
+  pub unnamed_row : (fault ≡ Memory) ⊎ (named_row n text ≡ Err fault)
+  unnamed_row = elim (cases_Bool (length r == n)) [
+    | inl wide ↦ inl (said ∙ ap (λ b. cond b Memory Width) wide)
+    | inr other ↦
+        let is : fault ≡ Width = said ∙ ap (λ b. cond b Memory Width) other in
+        inr (shaped ∙ ap (λ b. cond b (Ok (later, r)) (Err Width)) other ∙ ap (λ f. Err f) (sym is))
+  ]
+
+  -- that there is none is said only of a row
+  pub unnamed_only_row : fault ≡ Memory → IsOk (named_row n text)
+  unnamed_only_row none = elim (cases_Bool (length r == n)) [
+    | inl wide ↦ subst IsOk (sym (shaped ∙ ap (λ b. cond b (Ok (later, r)) (Err Width)) wide)) refl
+    | inr other ↦ let is : Width ≡ Memory = sym (said ∙ ap (λ b. cond b Memory Width) other) ∙ none in cc is
+  ]

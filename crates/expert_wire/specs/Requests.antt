@@ -30,9 +30,7 @@ abbrev pub request_form : Text → ℕ → Result Request RequestFault
 request_form line n =
     cond (is_utf8 (strip_carriage_return line)) (request_of n (strip_carriage_return line)) (Err Line)
 
--- to read it takes memory: that of the name, where the line is a row
+-- to read it takes memory: that of the name, where the line is a row of the width
 abbrev pub TakesMemory : Result Request RequestFault → Type 0
 TakesMemory (Ok (Row name row)) = ⊤
-TakesMemory (Ok request) = ⊥
-TakesMemory (Err Line) = ⊥
-TakesMemory (Err fault) = ⊤
+TakesMemory form = ⊥

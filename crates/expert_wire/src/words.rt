@@ -1,6 +1,6 @@
 //! The words of a line.
 
-ghost use Rattle.std.specs.Prelude.{◌≡◌, ◌≢◌, ◌≤◌, ◌⊎◌, true, false, cond, Some, None, Ok, Err, IfOk, IfErr, IsErrOf, MatchOption, map};
+ghost use Rattle.std.specs.Prelude.{◌≡◌, ◌≤◌, ◌⊎◌, true, false, cond, Some, None, Ok, IsOk, IfOk, IfErr, IsErrOf, MatchOption, map};
 ghost use Rattle.std.specs.Str.{is_utf8};
 ghost use Rattle.fca_model.specs.declared.TheConstants.{MAX_ATTRIBUTES};
 ghost use Rattle.fca_model.specs.Exploration.{is_expert};
@@ -60,19 +60,31 @@ pub fn read_row(alloc: Global, text: &str, n: u32) -> Result<(Name, Attrs), Requ
     requires { n ≤ MAX_ATTRIBUTES }
     ensures ok { IfOk result (λ x. named_row n text.now ≡ Ok x) }
     ensures refused { IfErr result (λ e. (e ≡ RequestFault.Memory) ⊎ (named_row n text.now ≡ Err e)) }
-    ensures memory { IsErrOf result RequestFault.Memory → named_row n text.now ≢ Err RequestFault.Line }
+    ensures memory { IsErrOf result RequestFault.Memory → IsOk (named_row n text.now) }
 {
     let (word, name) = split_word(text);
     let Some(marks) = marks(word.as_bytes()) else {
         return Err(RequestFault::Line);
     };
+    let fits = marks.len() == n as usize;
     let name = match Name::new(alloc, name) {
         Ok(name) => name,
-        Err(NameFault::Memory) => return Err(RequestFault::Memory),
+        Err(NameFault::Memory) => return Err(unnamed(fits)),
         Err(_) => return Err(RequestFault::Line),
     };
-    if marks.len() != n as usize {
+    if !fits {
         return Err(RequestFault::Width);
     }
     Ok((name, crossed(marks)))
+}
+
+/// What is said of a row with a name for which there is no memory. Another width is told without it.
+fn unnamed(fits: bool) -> RequestFault
+    ensures { result ≡ cond fits RequestFault.Memory RequestFault.Width }
+{
+    if fits {
+        RequestFault::Memory
+    } else {
+        RequestFault::Width
+    }
 }
