@@ -1,7 +1,7 @@
 -- The basis at the end of a text is the basis of all rows beside what is known, from scratch. What is listed are the accepted implications in the lectic order of their
 -- premises: a tree takes them one by one, each new premise comes besides those that are there and keeps the order. Where no question is open, a list with the
 -- members of what was accepted whose premises are in order is the basis.
-use Rattle.std.proofs.Common.{◌≡◌, Bool, true, false, not, ◌&&◌, ◌||◌, List, [], ◌∷◌, ◌++◌, map, fold, length, refl, sym, ap, ap₂, ◌∙◌, subst, Ordering, Less, Equal, Greater}
+use Rattle.std.proofs.Common.{◌≡◌, Bool, true, false, not, ◌&&◌, ◌||◌, List, [], ◌∷◌, ◌++◌, map, fold, length, append_assoc, refl, sym, ap, ap₂, ◌∙◌, subst, Ordering, Less, Equal, Greater}
 use Rattle.std.specs.Prelude.{codes}
 use Rattle.std.specs.Ordering.{is_lt, ordering_reverse, match_ordering}
 use Rattle.std.specs.BTreeMap.{insert_entry}
@@ -23,8 +23,10 @@ use Rattle.fca_model.proofs.DoneLemmas.{accepted_sorted, accepted_length}
 use Rattle.fca_model.proofs.RunLemmas.{legal_valid}
 use Rattle.fca_model.proofs.ValidLemmas.{opening_valid}
 use Rattle.fca_model.proofs.CourseLemmas.{run_settings}
+use Rattle.expert_scripts.specs.Transcripts.{transcript}
 use Rattle.report_texts.specs.Reports.{counted, arrow_lines}
-use Rattle.basis_report.specs.Explorations.{in_lectic_order, basis_section, state_of_text}
+use Rattle.basis_report.specs.Explorations.{recorded_section, accepted_section, open_section, in_lectic_order, basis_lines, basis_section, state_of_text, explore_text, text_before_basis}
+use Rattle.basis_report.proofs.ExplorationLemmas.{sections-known}
 
 -- a pair of the tree, as an implication
 abbrev ruled : Set × Set → Rule
@@ -188,15 +190,14 @@ in_lectic_order-basis S K acc h done = accepted_sorted S K acc h done (in_lectic
     (ap increasing (premises-ruled (with_all [] acc)) ∙ in_order-with_all [] acc refl)
 
 pub basis_section-basis : (attributes : List Text) (S : List Rule) (K : Context) (acc : List Rule) → IsAccepted S K acc → open_questions S K acc ≡ []
-    → basis_section attributes acc [] ≡ counted (codes "# basis ") (length (basis_known S K)) ++ arrow_lines (codes "# ") attributes (basis_known S K)
+    → basis_section attributes acc [] ≡ basis_lines attributes (basis_known S K)
 basis_section-basis attributes S K acc h done =
     ap₂ (λ n J. counted (codes "# basis ") n ++ arrow_lines (codes "# ") attributes J) (accepted_length S K acc h done) (in_lectic_order-basis S K acc h done)
 
 -- a legal history that leaves no question open
 pub finished_basis : (t : NamedContext) (settings : Settings) (H : List SetEntry) → rows_respect settings.known t.context ≡ true → IsLegal (opening t.context t.objects settings) H
-    → open_in (state_of_text t settings H) ≡ [] → basis_section t.attributes (state_of_text t settings H).accepted []
-    ≡ counted (codes "# basis ") (length (basis_known settings.known (state_of_text t settings H).context))
-    ++ arrow_lines (codes "# ") t.attributes (basis_known settings.known (state_of_text t settings H).context)
+    → open_in (state_of_text t settings H) ≡ []
+    → basis_section t.attributes (state_of_text t settings H).accepted [] ≡ basis_lines t.attributes (basis_known settings.known (state_of_text t settings H).context)
 finished_basis t settings H respect legal done =
     let start : State = opening t.context t.objects settings in
     let s : State = state_after start (events_of H) in
@@ -204,3 +205,22 @@ finished_basis t settings H respect legal done =
     let valid = legal_valid start H (opening_valid t.context t.objects settings respect) legal in
     let accepted = subst (λ S. IsAccepted S s.context s.accepted) known valid.accepted in
     basis_section-basis t.attributes settings.known s.context s.accepted accepted (ap (λ S. open_questions S s.context s.accepted) (sym known) ∙ done)
+
+regrouped : (t r a o b : Text) → t ++ (r ++ (a ++ (o ++ b))) ≡ (t ++ (r ++ (a ++ o))) ++ b
+regrouped t r a o b = simp append_assoc
+
+-- its text ends with that basis
+pub finished_text : (t : NamedContext) (settings : Settings) (H : List SetEntry) → rows_respect settings.known t.context ≡ true → IsLegal (opening t.context t.objects settings) H
+    → open_in (state_of_text t settings H) ≡ []
+    → explore_text t settings H ≡ text_before_basis t settings H ++ basis_lines t.attributes (basis_known settings.known (state_of_text t settings H).context)
+unfolding explore_text
+finished_text t settings H respect legal done =
+    let s : State = state_of_text t settings H in
+    let known : s.settings.known ≡ settings.known = ap (λ (g : Settings). g.known) (run_settings (opening t.context t.objects settings) (events_of H)) in
+    let none : open_questions settings.known s.context s.accepted ≡ [] = ap (λ S. open_questions S s.context s.accepted) (sym known) ∙ done in
+    let accepted = accepted_section t.attributes (length settings.known) s.accepted in
+    let section : List Rule → Text = λ Q. recorded_section H ++ (accepted ++ (open_section t.attributes Q ++ basis_section t.attributes s.accepted Q)) in
+    ap (λ l. transcript t.attributes settings H ++ l)
+    (sections-known t.attributes H s settings.known known ∙ ap section none
+    ∙ ap (λ l. recorded_section H ++ (accepted ++ (open_section t.attributes [] ++ l))) (finished_basis t settings H respect legal done))
+    ∙ regrouped (transcript t.attributes settings H) (recorded_section H) accepted (open_section t.attributes []) (basis_lines t.attributes (basis_known settings.known s.context))

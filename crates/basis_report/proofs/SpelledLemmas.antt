@@ -1,6 +1,6 @@
 -- The text of an exploration spells its settings and its history: each line of the sections begins with `#` and is skipped, so a script reads just the
 -- settings and the events of the transcript, and a legal history is the journal of its events.
-use Rattle.std.proofs.Common.{◌≡◌, ℕ, ◌+◌, true, false, List, [], ◌∷◌, ◌++◌, length, filter, Ok, refl, ap, ◌∙◌, subst, append_assoc, append-nil}
+use Rattle.std.proofs.Common.{◌≡◌, ℕ, ◌+◌, true, false, List, [], ◌∷◌, ◌++◌, length, filter, Ok, refl, sym, ap, ◌∙◌, subst, append_assoc, append-nil}
 use Rattle.std.specs.Prelude.{codes, decimal, is_none}
 use Rattle.std.specs.List.{list_any, list_all, flat_map, enumerate_from}
 use Rattle.std.proofs.lemmas.Bool.{and_parts}
@@ -101,6 +101,7 @@ spelled-more t settings H more names can named legal skips =
     let behind = Skips-append found more (Skips-sections t.attributes H (state_of_text t settings H) (are_names t.attributes names) named) skips in
     let said = ap (λ text. script_form text n) (append_assoc (transcript t.attributes settings H) found more)
     ∙ script_form-transcript n t.attributes settings H (found ++ more) names can (each_said n H legal.experts legal.widths named) behind in record {
+      script = said ∙ ap (λ r. Ok (said_in r)) (sym said);
       history = ap (λ r. journal_of (opening t.context t.objects (said_in r).settings) (said_in r).events) said ∙ legal.replayed;
       settings = ap (λ r. (said_in r).settings) said;
     }

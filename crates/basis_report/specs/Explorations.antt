@@ -52,6 +52,10 @@ by_premise J = fold (λ entries i. insert_entry lectic_cmp entries i.premise i.c
 abbrev pub in_lectic_order : List Rule → List Rule
 in_lectic_order J = map (λ entry. rule entry.0 entry.1) (by_premise J)
 
+-- the lines of the basis J: how many members it has, and each of them with its number
+abbrev pub basis_lines : List Text → List Rule → Text
+basis_lines attributes J = counted (codes "# basis ") (length J) ++ arrow_lines (codes "# ") attributes J
+
 -- the basis, where no question is open
 abbrev pub basis_section : List Text → List Rule → List Rule → Text
 basis_section attributes acc [] = counted (codes "# basis ") (length acc) ++ arrow_lines (codes "# ") attributes (in_lectic_order acc)
@@ -69,6 +73,12 @@ state_of_text t settings H = state_after (opening t.context t.objects settings) 
 -- the text of a history that began with the table under these settings
 unfoldable pub explore_text : NamedContext → Settings → List SetEntry → Text
 explore_text t settings H = transcript t.attributes settings H ++ sections t.attributes H (state_of_text t settings H)
+
+-- what such a text says before the basis, where no question is open
+abbrev pub text_before_basis : NamedContext → Settings → List SetEntry → Text
+text_before_basis t settings H =
+    transcript t.attributes settings H
+    ++ (recorded_section H ++ (accepted_section t.attributes (length settings.known) (state_of_text t settings H).accepted ++ open_section t.attributes []))
 
 -- ---- its pieces
 
@@ -109,8 +119,9 @@ abbrev pub EachNamed : List SetEntry → Type 0
 EachNamed [] = ⊤
 EachNamed (entry ∷ H) = IsNamed entry.event × EachNamed H
 
--- the text spells the settings and the history
+-- the text is a script, which spells the settings and the history
 pub record Spells (t : NamedContext) (s : Settings) (H : List SetEntry) (text : Text) : Type 0 where
+  pub script : script_form text t.context.width ≡ Ok (said_by t text)
   pub history : spelled t text ≡ H
   pub settings : spelled_settings t text ≡ s
 

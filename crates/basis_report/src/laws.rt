@@ -1,6 +1,6 @@
 //! Laws of the texts, each the contract of a function that does nothing.
 
-ghost use Rattle.std.specs.Prelude.{◌≡◌, ◌++◌, ℕ, [], List, true, false, Some, length, codes};
+ghost use Rattle.std.specs.Prelude.{◌≡◌, ◌++◌, ℕ, [], List, true, false, Some, length};
 ghost use Rattle.std.specs.List.{list_all};
 ghost use Rattle.fca_model.specs.Tables.{Text, NamedContext};
 ghost use Rattle.fca_model.specs.Exploration.{Settings, SetEntry, IsLegal, opening, open_in};
@@ -11,7 +11,6 @@ ghost use Rattle.fca_model.specs.Invariant.{rows_respect};
 ghost use Rattle.fca_model.specs.Sets.{Set};
 ghost use Rattle.fca_model.specs.Implications.{Rule, rule, holds};
 ghost use Rattle.canonical_basis.specs.Derivations.{is_sound};
-ghost use Rattle.report_texts.specs.Reports.{counted, arrow_lines};
 ghost use Rattle.basis_report.specs.Comments.{comments, are_lines};
 ghost use Rattle.oracle_expert.specs.Oracles.{Conflicts};
 ghost use Rattle.basis_report.specs.Conflicts.{conflicts_text};
@@ -19,7 +18,7 @@ ghost use Rattle.lectic_concepts.specs.declared.Concept.{Concept};
 ghost use Rattle.basis_report.specs.Json.{concepts_json, basis_json, concepts_written, basis_written};
 ghost use Rattle.basis_report.specs.Sessions.{sessions_text};
 ghost use Rattle.basis_report.specs.Verdicts.{first_refuting, held_text, refuted_text, follows_text};
-ghost use Rattle.basis_report.specs.Explorations.{EachNamed, explore_text, Spells, SpellsBefore, state_of_text, basis_section};
+ghost use Rattle.basis_report.specs.Explorations.{EachNamed, explore_text, Spells, SpellsBefore, state_of_text, basis_lines, basis_section, text_before_basis};
 
 /// The text of an exploration spells its settings and its history.
 pub fn exploration_reads_back()
@@ -40,10 +39,12 @@ pub fn comments_change_nothing()
 
 /// Where no question is open, the text of an exploration ends with the basis of all rows beside what is known, from scratch.
 pub fn finished_ends_with_basis()
-    ensures { (t : NamedContext) (settings : Settings) (H : List SetEntry) → rows_respect settings.known t.context ≡ true → IsLegal (opening t.context t.objects settings) H
+    ensures section { (t : NamedContext) (settings : Settings) (H : List SetEntry) → rows_respect settings.known t.context ≡ true → IsLegal (opening t.context t.objects settings) H
         → open_in (state_of_text t settings H) ≡ [] → basis_section t.attributes (state_of_text t settings H).accepted []
-        ≡ counted (codes "# basis ") (length (basis_known settings.known (state_of_text t settings H).context))
-        ++ arrow_lines (codes "# ") t.attributes (basis_known settings.known (state_of_text t settings H).context) }
+        ≡ basis_lines t.attributes (basis_known settings.known (state_of_text t settings H).context) }
+    ensures text { (t : NamedContext) (settings : Settings) (H : List SetEntry) → rows_respect settings.known t.context ≡ true → IsLegal (opening t.context t.objects settings) H
+        → open_in (state_of_text t settings H) ≡ [] → explore_text t settings H
+        ≡ text_before_basis t settings H ++ basis_lines t.attributes (basis_known settings.known (state_of_text t settings H).context) }
 {}
 
 /// The verdict on an implication is right: where it holds, a sound derivation from the basis is told, and else the first row that refutes it.
