@@ -1,6 +1,6 @@
 -- Why a table, a table of values, a plan or a script could not be read: which stop it is. A fault comes only where a count of faults rose
--- for this file, or for the input.
-use Rattle.std.specs.Prelude.{◌≡◌, ⊤, ℕ, true, false, Option, None, Some, Err, length, ◌<◌}
+-- for this file, or for the input, and a form is refused only of bytes that are not too many.
+use Rattle.std.specs.Prelude.{◌≡◌, ⊤, ℕ, true, false, Option, None, Some, Err, length, ◌<◌, ◌≤◌}
 use Rattle.fca_model.specs.Tables.{Text}
 use Rattle.fca_model.specs.declared.TheConstants.{FILE_BYTES}
 use Rattle.fca_io.specs.Shelves.{Told, MayExceed}
@@ -31,14 +31,14 @@ IsFormStop name origin bytes (NoCsv at fault) = (at ≡ origin) × (is_csv name 
 IsFormStop name origin bytes Memory = ⊤
 IsFormStop name origin bytes _ = ⊥
 
--- where it is told what a file holds, P holds of it
+-- where it is told what a file holds, that is no longer than a file may be, and P holds of it
 abbrev pub IfHeld : Told → (Text → Type 0) → Type 0
 IfHeld None P = ⊤
 IfHeld (Some None) P = ⊥
-IfHeld (Some (Some bytes)) P = P bytes
+IfHeld (Some (Some bytes)) P = (length bytes ≤ FILE_BYTES) × P bytes
 
 -- The stop of the file of this name, of which this is told and which comes from the origin: it could not be read, and a count of faults
--- rose; it is too long; or its bytes are not of the form
+-- rose; it is too long; or it is not, and its bytes are not of the form
 abbrev pub IsFileStop : Text → Told → Type 0 → Origin → Stop → Type 0
 IsFileStop name told rose origin (Fault at) = (at ≡ origin) × rose
 IsFileStop name told rose origin (TooLong at) = (at ≡ origin) × MayExceed told FILE_BYTES
@@ -68,10 +68,10 @@ abbrev pub MayBeLonger : Option Text → ℕ → Type 0
 MayBeLonger None limit = ⊤
 MayBeLonger (Some bytes) limit = limit < length bytes
 
--- where the input tells what is left, P holds of it
+-- where the input tells what is left, that is no longer than a file may be, and P holds of it
 abbrev pub IfLeft : Option Text → (Text → Type 0) → Type 0
 IfLeft None P = ⊤
-IfLeft (Some bytes) P = P bytes
+IfLeft (Some bytes) P = (length bytes ≤ FILE_BYTES) × P bytes
 
 -- the stop of a script on this input, whose rows have width n
 abbrev pub IsScriptStop : ℕ → Option Text → Type 0 → Stop → Type 0

@@ -6,6 +6,8 @@ use Rattle.fca_model.specs.Tables.{Text}
 use Rattle.fca_model.specs.Implications.{Rule}
 use Rattle.command_io.specs.declared.answer.Ending.{Ending}
 use Rattle.command_io.specs.declared.answer.Ending.TheVariants.{Finished, Open, Spent}
+use Rattle.command_io.specs.declared.stop.Origin.{Origin}
+use Rattle.command_io.specs.declared.stop.Origin.TheVariants.{Input}
 use Rattle.command_io.specs.declared.stop.Stop.{Stop}
 use Rattle.command_io.specs.declared.stop.Stop.TheVariants.{NoCommand, TooLong, NoTable, NoCsv, BadValues, BadPlan, NoKnown}
 use Rattle.command_io.specs.declared.stop.Stop.TheVariants.{RowBreaks, NoScript, UnknownAttribute, OtherAttributes, Fault, Listener, Memory}
@@ -40,6 +42,24 @@ IsUnread NoCommand = ⊥
 IsUnread Listener = ⊥
 IsUnread Memory = ⊥
 IsUnread _ = ⊤
+
+-- what comes of the input is of no file
+abbrev pub IsFile : Origin → Type 0
+IsFile Input = ⊥
+IsFile _ = ⊤
+
+-- a file of the command was refused, or could not be read
+abbrev pub IsOfFile : Stop → Type 0
+IsOfFile (TooLong origin) = IsFile origin
+IsOfFile (NoTable origin fault) = IsFile origin
+IsOfFile (NoCsv origin fault) = IsFile origin
+IsOfFile (BadValues origin fault) = IsFile origin
+IsOfFile (BadPlan origin fault) = IsFile origin
+IsOfFile (NoKnown fault) = ⊤
+IsOfFile (RowBreaks origin row rule) = IsFile origin
+IsOfFile (OtherAttributes origin) = IsFile origin
+IsOfFile (Fault origin) = IsFile origin
+IsOfFile _ = ⊥
 
 -- ---- what a call did
 

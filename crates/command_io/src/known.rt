@@ -1,7 +1,7 @@
 //! What is known of a table beforehand: implications in a file, which every row of the table respects.
 
-ghost use Rattle.std.specs.Prelude.{◌≡◌, ◌≤◌, ℕ, List, IfOk, IfErr, OnOk, Some, None, option_copied};
-ghost use Rattle.fca_model.specs.declared.TheConstants.{MAX_ATTRIBUTES};
+ghost use Rattle.std.specs.Prelude.{◌≡◌, ◌≤◌, ℕ, List, IfOk, IfErr, OnOk, Some, None, option_copied, length};
+ghost use Rattle.fca_model.specs.declared.TheConstants.{MAX_ATTRIBUTES, FILE_BYTES};
 ghost use Rattle.fca_io.specs.Faults.{Rose};
 ghost use Rattle.implication_closure.specs.Closing.{HaveWidth};
 ghost use Rattle.explore_state.specs.Faults.{first_break};
@@ -118,7 +118,8 @@ fn known_said<H: Shelf>(
 
 /// The implications between sets of width n that the bytes say.
 fn known_of(alloc: Global, bytes: &[u8], n: u32) -> Result<ImplicationList, Stop>
-    requires { n ≤ MAX_ATTRIBUTES }
+    requires width { n ≤ MAX_ATTRIBUTES }
+    requires within { length bytes.now ≤ FILE_BYTES }
     ensures known { IfOk result (λ list. MayRead (formed (known_form bytes.now n)) list.members) }
     ensures width { IfOk result (λ list. list.width ≡ n) }
     ensures refused { IfErr result (λ stop. IsRefusal stop → MayRefuse (formed (known_form bytes.now n))) }

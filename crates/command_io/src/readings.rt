@@ -121,7 +121,8 @@ pub fn script_on<S: Source>(alloc: Global, input: &mut S, n: u32) -> Result<Scri
 
 /// What the script that the bytes are says.
 fn script_of(alloc: Global, bytes: &[u8], n: u32) -> Result<Script, Stop>
-    requires { n ≤ MAX_ATTRIBUTES }
+    requires width { n ≤ MAX_ATTRIBUTES }
+    requires within { length bytes.now ≤ FILE_BYTES }
     ensures script { IfOk result (λ script. MayRead (formed (script_form bytes.now n)) (said_of script)) }
     ensures width { IfOk result (λ script. script.settings.known.width ≡ n) }
     ensures told { IfOk result (λ script. CanBeTold n (settings_of script.settings)) }

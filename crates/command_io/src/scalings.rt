@@ -1,6 +1,7 @@
 //! A file as a table of values, and one as a plan for it.
 
-ghost use Rattle.std.specs.Prelude.{◌≡◌, ◌≤◌, ℕ, List, IfOk, IfErr, Some};
+ghost use Rattle.std.specs.Prelude.{◌≡◌, ◌≤◌, ℕ, List, IfOk, IfErr, Some, length};
+ghost use Rattle.fca_model.specs.declared.TheConstants.{FILE_BYTES};
 ghost use Rattle.fca_io.specs.Faults.{Rose};
 ghost use Rattle.value_tables.specs.Form.{values_form};
 ghost use Rattle.context_scaling.specs.PlanForm.{plan_form};
@@ -41,6 +42,7 @@ pub fn values_under<H: Shelf>(
 
 /// The table of values whose form the bytes are.
 fn values_of(alloc: Global, bytes: &[u8], origin: Origin) -> Result<Values, Stop>
+    requires { length bytes.now ≤ FILE_BYTES }
     ensures values { IfOk result (λ values. MayRead (formed (values_form bytes.now)) values) }
     ensures refused { IfErr result (λ stop. IsRefusal stop → MayRefuse (formed (values_form bytes.now))) }
     ensures cause { IfErr result (IsValuesStop (Some (Some bytes.now)) ⊥ origin) }
@@ -77,6 +79,7 @@ pub fn plan_under<H: Shelf>(
 
 /// The plan for the values whose form the bytes are.
 fn plan_of(alloc: Global, bytes: &[u8], origin: Origin, values: &Values) -> Result<Plan, Stop>
+    requires { length bytes.now ≤ FILE_BYTES }
     ensures plan { IfOk result (λ plan. MayRead (formed (plan_form values.now bytes.now)) plan) }
     ensures fits { IfOk result (λ plan. Fits plan values.now) }
     ensures refused { IfErr result (λ stop. IsRefusal stop → MayRefuse (formed (plan_form values.now bytes.now))) }
