@@ -1,6 +1,6 @@
 -- The run of one expert. What is known between two turns is the way on: whatever run goes on from here makes, behind the entries so far, a run from the
 -- start. A turn moves this by one entry, and a run that stops here is the whole one.
-use Rattle.std.proofs.Common.{◌≡◌, ℕ, ◌+◌, ◌⊎◌, true, false, Option, Some, None, IfSome, List, [], ◌∷◌, ◌++◌, length, append_assoc, inl, inr, sym, ap, ◌∙◌, refl, subst, arith, length-append}
+use Rattle.std.proofs.Common.{◌≡◌, ℕ, ◌+◌, ◌<◌, ◌⊎◌, true, false, Option, Some, None, IfSome, List, [], ◌∷◌, ◌++◌, length, append_assoc, inl, inr, sym, ap, ◌∙◌, refl, subst, arith, length-append}
 use Rattle.std.proofs.lemmas.List.{append-nil}
 use Rattle.fca_model.specs.declared.Reply.TheVariants.{Ask, Done, Breaks}
 use Rattle.fca_model.specs.Implications.{Rule}
@@ -156,12 +156,13 @@ module _ {X M : Type 0} (width_of : X → ℕ) (memory_of : X → M) (Answering 
       | inr none ↦
           let at_rest = unchanged none.1 in
           let number = ap (λ (b : Badge Opening). b.number) a.pass.same in
-          let unanswered = subst (λ (n : ℕ). IsUnanswered Answering Learning n due (memory_of expert) (memory_of next)) number none.2 in
+          let unanswered = subst (λ (n : ℕ). IsUnanswered Answering Learning n due (memory_of expert) (memory_of next)) number none.3 in
+          let left : r.made < r.turns = subst (λ (k : Known Opening SetEntry). k.made < k.turns) (sym none.1) none.2 in
           record {
             entries = a.entries;
             run = its_run stopped.stops;
             pass = at_rest.0;
-            end = (a.unfinished, inl at_rest.1);
+            end = (a.unfinished, inl (at_rest.1, left));
             silent = λ _ _. subst (λ xs. Silent None (memory_of old) xs (memory_of next)) (append-nil a.entries) (a.falling_silent [] (memory_of next) unanswered);
             width = kept ∙ a.width;
           }

@@ -170,7 +170,7 @@ module _ (o : Opening) (old new : Seat Recall) (respecting : rows_respect o.sett
   by_end n Done e end few = inl (let took = end.1 in omega arith)
   by_end n Spent e end few = inl (let took = end.1 in omega arith)
   by_end n Memory e end few = elim end.1 [
-    | inl took ↦ inl (omega arith)
+    | inl took ↦ inl (let made = took.0 in omega arith)
     | inr took ↦ inr (e, omega arith)
   ]
 

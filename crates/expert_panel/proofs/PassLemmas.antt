@@ -1,6 +1,6 @@
 -- Turn after turn of one pass. Each turn goes on from the history that the pass has seen, and what the pass knows after a turn is right whatever it knew
 -- before, so the turns of a run add up.
-use Rattle.std.proofs.Common.{◌≡◌, List, [], ◌∷◌, ◌++◌, append_assoc, sym, ap, ◌∙◌, refl, arith}
+use Rattle.std.proofs.Common.{◌≡◌, ◌<◌, ◌⊎◌, List, [], ◌∷◌, ◌++◌, append_assoc, sym, ap, ◌∙◌, refl, inl, inr, arith}
 use Rattle.std.proofs.lemmas.List.{append-nil}
 use Rattle.fca_model.specs.Exploration.{SetEvent, SetReply, SetEntry}
 use Rattle.explore_state.specs.History.{Opening}
@@ -25,7 +25,11 @@ starts_on a b c h k = (h.0 ++ k.0, k.1 ∙ ap (λ xs. xs ++ k.0) h.1 ∙ append_
 
 module _ (o : Opening) (p : Known Opening SetEntry) where
   pub HasMade-none : HasMade o p [] p
-  HasMade-none = record { same = refl; own = sym (append-nil p.own); seen = ([], sym (append-nil p.seen)); in_it = λ h. h; is_legal = λ h. h }
+  HasMade-none = record { same = refl; own = sym (append-nil p.own); seen = ([], sym (append-nil p.seen)); in_it = still; is_legal = still }
+    where
+      still : {P : Type 0} → P ⊎ (p.made < p.made) → P
+      still (inl h) = h
+      still (inr none) = absurd (omega (arith, none))
 
   -- one entry more
   pub HasMade-entry : (entries : List SetEntry) (q r : Known Opening SetEntry) (event : SetEvent) (reply : SetReply) → HasMade o p entries q → Answers o q event reply r → badge r ≡ badge q

@@ -1,19 +1,19 @@
 -- What turns do to a pass.
-use Rattle.std.specs.Prelude.{◌≡◌, ◌+◌, List, ◌++◌, length}
+use Rattle.std.specs.Prelude.{◌≡◌, ◌+◌, ◌<◌, ◌⊎◌, List, ◌++◌, length}
 use Rattle.fca_model.specs.Exploration.{SetEntry}
 use Rattle.explore_state.specs.History.{Opening}
 use Rattle.turn_lock.specs.Histories.{StartsWith, own_of}
 use Rattle.turn_lock.specs.Passes.{Known, badge}
 use Rattle.expert_gate.specs.Histories.{by_expert, IsHistory}
 
--- From p to q, turns that made these entries. The pass has seen a history that goes on from what it had seen; where that was legal and had exactly the
--- pass's own entries, so has this
+-- From p to q, turns that made these entries. The pass has seen a history that goes on from what it had seen. It is legal and has exactly the pass's own
+-- entries once a turn was made, and where none was, if it was so before
 pub record HasMade (o : Opening) (p : Known Opening SetEntry) (entries : List SetEntry) (q : Known Opening SetEntry) : Type 0 where
   pub same : badge q ≡ badge p
   pub own : q.own ≡ p.own ++ entries
   pub seen : StartsWith q.seen p.seen
-  pub in_it : p.own ≡ own_of by_expert p.number p.seen → q.own ≡ own_of by_expert q.number q.seen
-  pub is_legal : IsHistory o p.seen → IsHistory o q.seen
+  pub in_it : (p.own ≡ own_of by_expert p.number p.seen) ⊎ (p.made < q.made) → q.own ≡ own_of by_expert q.number q.seen
+  pub is_legal : IsHistory o p.seen ⊎ (p.made < q.made) → IsHistory o q.seen
 
 -- a turn for each entry, and no other
 abbrev pub TookTurns : Known Opening SetEntry → List SetEntry → Known Opening SetEntry → Type 0

@@ -1,5 +1,5 @@
 -- Seats of a panel: what each does in one call.
-use Rattle.std.specs.Prelude.{◌≡◌, ℕ, ◌⊎◌, true, false, Some, List, [], ◌∷◌}
+use Rattle.std.specs.Prelude.{◌≡◌, ℕ, ◌<◌, ◌⊎◌, true, false, Some, List, [], ◌∷◌}
 use Rattle.fca_model.specs.Implications.{Rule}
 use Rattle.fca_model.specs.Exploration.{SetReply, SetEntry}
 use Rattle.explore_state.specs.History.{Opening}
@@ -16,11 +16,12 @@ pub record IsSeatOf {X : Type 0} (width : X → ℕ) (gate : Lock Opening) (seat
   pub pass : Belongs gate seat.pass
   pub expert : width seat.expert ≡ gate.base.table.context.width
 
--- why a seat ended: Done exactly where its last reply is Done; Spent where no turn was left; Memory where a turn was refused for memory, or an answer
+-- why a seat ended: Done exactly where its last reply is Done; Spent where no turn was left; Memory where a turn was refused for memory,
+-- or an answer, with a turn left
 abbrev pub IsEnd : SeatEnd → Known Opening SetEntry → List SetEntry → Known Opening SetEntry → Type 0
 IsEnd Done p entries q = (ends_done entries ≡ true) × TookTurns p entries q
 IsEnd Spent p entries q = (ends_done entries ≡ false) × TookTurns p entries q × (q.made ≡ q.turns)
-IsEnd Memory p entries q = (ends_done entries ≡ false) × (TookTurns p entries q ⊎ TookOneMore p entries q)
+IsEnd Memory p entries q = (ends_done entries ≡ false) × ((TookTurns p entries q × (q.made < q.turns)) ⊎ TookOneMore p entries q)
 
 module _ {X M : Type 0} (width_of : X → ℕ) (memory_of : X → M) (Answering : M → Rule → Answer → M → Type 0) (Learning : M → SetReply → M → Type 0) (o : Opening) where
   -- from p to q, and from one expert to the other, a run of an expert at a gate that was opened so

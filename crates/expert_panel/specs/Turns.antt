@@ -1,5 +1,5 @@
 -- One turn of a seat.
-use Rattle.std.specs.Prelude.{◌≡◌, ◌⊎◌, Option}
+use Rattle.std.specs.Prelude.{◌≡◌, ◌<◌, ◌⊎◌, Option}
 use Rattle.fca_model.specs.Implications.{Rule}
 use Rattle.fca_model.specs.Exploration.{SetEvent, SetReply, SetEntry}
 use Rattle.explore_state.specs.History.{Opening}
@@ -23,9 +23,9 @@ module _ {M : Type 0} (Answering : M → Rule → Answer → M → Type 0) (Lear
     pub turn : Answers o p event reply q
     pub entry : IsTurn Answering Learning p.number due old (record { event = event; reply = reply }) new
 
-  -- no turn was made, since the expert gave no answer for want of memory
+  -- no turn was made though one was left, since the expert gave no answer for want of memory
   abbrev pub IsSilent : Option Rule → Known Opening SetEntry → M → TurnFault → Known Opening SetEntry → M → Type 0
-  IsSilent due p old fault q new = (fault ≡ Memory) × (q ≡ p) × IsUnanswered Answering Learning p.number due old new
+  IsSilent due p old fault q new = (fault ≡ Memory) × (q ≡ p) × (p.made < p.turns) × IsUnanswered Answering Learning p.number due old new
 
   -- nothing was said: the expert may have answered
   pub record IsStopped (due : Option Rule) (p : Known Opening SetEntry) (old : M) (fault : TurnFault) (q : Known Opening SetEntry) (new : M) : Type 0 where

@@ -71,7 +71,7 @@ fn take_turn<X: Expert, R: Wait, S: LevelSearch>(
     }
 }
 
-/// The expert answers the question, and is told the reply.
+/// The expert answers the question, and is told the reply. Where no turn is left for the answer, it is not asked.
 fn answer<X: Expert, R: Wait, S: LevelSearch>(
     rt: &R,
     alloc: Global,
@@ -90,6 +90,9 @@ fn answer<X: Expert, R: Wait, S: LevelSearch>(
     ensures wide { IfOk result (HasWideReply gate.now.base.table.context.width) }
     ensures stopped { IfErr result (λ fault. IsStopped X.answers X.learns gate.now.base (Some question.now) pass.old (X.memory expert.old) fault pass.new (X.memory expert.new)) }
 {
+    if pass.is_spent() {
+        return Err(TurnFault::Spent);
+    }
     let answer = expert.answer(alloc, question)?;
     let reply = give(rt, search, gate, pass, answer)?;
     expert.told(&reply);

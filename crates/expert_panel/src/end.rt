@@ -6,6 +6,6 @@ pub enum SeatEnd {
     Done,
     /// The pass has made all its turns.
     Spent,
-    /// A turn or an answer was refused for memory.
+    /// A turn was refused for memory, or an answer for which a turn was left.
     Memory,
 }

@@ -1,6 +1,6 @@
 //! The right to take turns.
 
-ghost use Rattle.std.specs.Prelude.{◌≡◌, ◌≤◌};
+ghost use Rattle.std.specs.Prelude.{◌≡◌, ◌≤◌, ◌<◌, ◌↔◌, true, false};
 
 use crate::logged::Logged;
 use crate::view::View;
@@ -41,5 +41,13 @@ impl<V: Logged> Pass<V> {
         ensures most { result ≤ self.now.turns }
     {
         self.made
+    }
+
+    /// Whether all its turns are made.
+    pub fn is_spent(&self) -> bool
+        ensures spent { (result ≡ true) ↔ (self.now.made ≡ self.now.turns) }
+        ensures left { result ≡ false → self.now.made < self.now.turns }
+    {
+        self.made == self.turns
     }
 }
