@@ -9,7 +9,7 @@ use Rattle.std.proofs.lemmas.List.{append-nil}
 use Rattle.std.proofs.Math.Seq.{set-append_seam}
 use Rattle.std.specs.List.{list_any}
 use Rattle.context_table.specs.Table.{first_repeat, repeat_from}
-use Rattle.cxt_format.proofs.TextLemmas.{drop-item}
+use Rattle.text_pieces.proofs.ItemLemmas.{drop-item}
 use Rattle.csv_context.specs.Records.{Record}
 use Rattle.csv_context.specs.Form.{TellsBy, then, attribute_form, attributes_form, cell_form, row_form, object_form, objects_form}
 use Rattle.csv_context.specs.Cells.{ReadTo}

@@ -13,8 +13,8 @@ use Rattle.fca_model.specs.Sets.{Set}
 use Rattle.fca_model.specs.Tables.{Text, NamedContext}
 use Rattle.fca_model.specs.declared.TheConstants.{MAX_ATTRIBUTES, MAX_OBJECTS}
 use Rattle.context_table.specs.Table.{IsTable, repeat_from}
-use Rattle.cxt_format.specs.Written.{EachName}
-use Rattle.cxt_format.proofs.ReadBack.{EachWide, EachWide-from_All}
+use Rattle.text_pieces.specs.Lists.{EachName, EachWide}
+use Rattle.text_pieces.proofs.ItemLemmas.{EachWide-from_All}
 use Rattle.text_pieces.proofs.TextLemmas.{IsUtf8-one}
 use Rattle.csv.proofs.RoundTrip.{read-write}
 use Rattle.csv.specs.Machine.{next_record}

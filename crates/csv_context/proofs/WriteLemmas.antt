@@ -6,8 +6,8 @@ use Rattle.std.proofs.lemmas.List.{take-set, take_more_set}
 use Rattle.fca_model.specs.Names.{IsName, name_fault}
 use Rattle.fca_model.specs.Sets.{Set}
 use Rattle.fca_model.specs.Tables.{Text}
-use Rattle.cxt_format.specs.Written.{EachName}
-use Rattle.cxt_format.proofs.TextLemmas.{drop-item, written-all}
+use Rattle.text_pieces.specs.Lists.{EachName}
+use Rattle.text_pieces.proofs.ItemLemmas.{drop-item, written-all}
 use Rattle.csv.specs.Writing.{default_writer, escaped, field_text, fields_text, is_blank, needs_byte, needs_quotes, row_text}
 use Rattle.csv_context.specs.Records.{Record}
 use Rattle.csv_context.specs.Written.{cell_text, cells_text, object_record, object_records, text_of}

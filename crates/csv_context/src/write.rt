@@ -3,7 +3,7 @@
 ghost use Rattle.std.specs.Prelude.{◌≡◌, ◌≤◌, ◌+◌, ◌-◌, ◌*◌, ◌++◌, ◌∷◌, [], IfOk, OnOk, Ok, drop, length, map, take};
 ghost use Rattle.fca_model.specs.Names.{IsName};
 ghost use Rattle.context_table.specs.Table.{IsTable};
-ghost use Rattle.cxt_format.specs.Written.{EachName};
+ghost use Rattle.text_pieces.specs.Lists.{EachName};
 ghost use Rattle.csv.specs.Writing as csv;
 ghost use Rattle.csv.specs.Writing.{default_writer, row_text};
 ghost use Rattle.csv_context.specs.Form.{csv_form};

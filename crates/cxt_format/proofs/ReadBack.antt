@@ -18,7 +18,9 @@ use Rattle.text_pieces.specs.Lines.{Line, lines}
 use Rattle.cxt_format.specs.Words.{title_form, row_of}
 use Rattle.cxt_format.specs.Form.{Taken, objects_form, attributes_form, rows_form, head_form, body_form, table_form, end_form, without_mark, cxt_form}
 use Rattle.text_pieces.specs.Marks.{marks_of}
-use Rattle.cxt_format.specs.Written.{EachName, title_line, head_lines, cxt_lines, cxt_text}
+use Rattle.text_pieces.specs.Lists.{EachName, EachWide}
+use Rattle.text_pieces.proofs.ItemLemmas.{EachWide-from_All}
+use Rattle.cxt_format.specs.Written.{title_line, head_lines, cxt_lines, cxt_text}
 use Rattle.cxt_format.specs.declared.CxtFault.{CxtFault}
 use Rattle.text_pieces.proofs.LineLemmas.{IsLine, IsLine-more, EachLine, EachLine-append, IsLine-nil, IsLine-name, lines-text_of, IsUtf8-text_of}
 use Rattle.text_pieces.proofs.MarkLemmas.{IsLine-marks_of}
@@ -54,14 +56,6 @@ EachLine-names [] h = tt
 EachLine-names (name ∷ names) h = (IsLine-name name h.0, EachLine-names names h.1)
 
 -- ---- rows
-
-abbrev pub EachWide : ℕ → List Set → Type 0
-EachWide width [] = Unit {0}
-EachWide width (row ∷ rows) = (length row ≡ width) × EachWide width rows
-
-pub EachWide-from_All : (width : ℕ) (rows : List Set) → All (λ row. length row ≡ width) rows → EachWide width rows
-EachWide-from_All width [] h = tt
-EachWide-from_All width (row ∷ rows) h = (h zero row (omega arith), EachWide-from_All width rows (λ k d below. h (suc k) d (omega arith)))
 
 EachLine-rows : (rows : List Set) → EachLine (map marks_of rows)
 EachLine-rows [] = tt

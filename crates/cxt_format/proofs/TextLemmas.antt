@@ -4,16 +4,8 @@ use Rattle.std.proofs.lemmas.List.{append-nil, drop_all}
 use Rattle.fca_model.specs.Names.{IsName}
 use Rattle.fca_model.specs.Tables.{Text}
 use Rattle.text_pieces.specs.Lines.{Line, text_of}
-use Rattle.cxt_format.specs.Written.{EachName}
-
-drop-item_suc : {X : Type 0} (xs : List X) (i : ℕ) (x : X) → slice_get xs i ≡ Some x → drop i xs ≡ x ∷ drop (suc i) xs
-drop-item_suc [] i x h = cc h
-drop-item_suc (y ∷ ys) zero x h = cc h
-drop-item_suc (y ∷ ys) (suc i) x h = drop-item_suc ys i x h
-
--- what is left at place i begins with the item there
-pub drop-item : {X : Type 0} (xs : List X) (i : ℕ) (x : X) → slice_get xs i ≡ Some x → drop i xs ≡ x ∷ drop (i + 1) xs
-drop-item xs i x h = let one : i + 1 ≡ suc i = omega arith in rw one (drop-item_suc xs i x h)
+use Rattle.text_pieces.specs.Lists.{EachName}
+use Rattle.text_pieces.proofs.ItemLemmas.{drop-item}
 
 -- a line after the text
 pub append-line : (text : List ℕ) (line : Line) (rest : List ℕ) → text ++ line ++ 10 ∷ [] ++ rest ≡ text ++ (line ++ 10 ∷ rest)
@@ -26,10 +18,6 @@ written-line text more line rest all is so_far = rw is (append-line text line re
 pub text_of-append : (xs ys : List Line) → text_of (xs ++ ys) ≡ text_of xs ++ text_of ys
 text_of-append [] ys = refl
 text_of-append (x ∷ xs) ys = ap (λ rest. x ++ 10 ∷ rest) (text_of-append xs ys) ∙ sym (append_assoc x (10 ∷ text_of xs) (text_of ys))
-
--- all lines were written
-pub written-all : {X : Type 0} (f : List X → List ℕ) (xs : List X) (i : ℕ) (text all : List ℕ) → length xs ≤ i → f [] ≡ [] → text ++ f (drop i xs) ≡ all → text ≡ all
-written-all f xs i text all done none so_far = sym (append-nil text) ∙ ap (λ rest. text ++ rest) (sym none ∙ ap f (sym (drop_all i xs done))) ∙ so_far
 
 abbrev NamesAt : List Text → List ℕ → List ℕ → List Text → Type 0
 NamesAt names text all left = (text ++ text_of left ≡ all) × (EachName left → EachName names)

@@ -1,7 +1,6 @@
 -- The written form of a table.
 use Rattle.std.specs.Prelude.{ℕ, List, [], ◌∷◌, ◌++◌, Option, Some, None, length, map, codes}
 use Rattle.std.specs.Fmt.{decimal}
-use Rattle.fca_model.specs.Names.{IsName}
 use Rattle.fca_model.specs.Tables.{Text, NamedContext}
 use Rattle.text_pieces.specs.Lines.{Line, text_of}
 use Rattle.text_pieces.specs.Marks.{marks_of}
@@ -22,8 +21,3 @@ cxt_lines t = head_lines t ++ t.objects ++ t.attributes ++ map marks_of t.contex
 -- the bytes of the file
 abbrev pub cxt_text : NamedContext → List ℕ
 cxt_text t = text_of (cxt_lines t)
-
--- each of the texts is a name
-abbrev pub EachName : List Text → Type 0
-EachName [] = Unit {0}
-EachName (name ∷ names) = IsName name × EachName names

@@ -7,7 +7,8 @@ ghost use Rattle.fca_model.specs.Names.{IsName};
 ghost use Rattle.text_pieces.specs.Lines.{text_of};
 ghost use Rattle.text_pieces.specs.Marks.{marks_of};
 ghost use Rattle.cxt_format.specs.Form.{cxt_form};
-ghost use Rattle.cxt_format.specs.Written.{EachName, cxt_text, head_lines, title_line};
+ghost use Rattle.text_pieces.specs.Lists.{EachName};
+ghost use Rattle.cxt_format.specs.Written.{cxt_text, head_lines, title_line};
 
 use attr_bits::Attrs;
 use context_table::Table;

@@ -4,3 +4,4 @@ pub mod WordLemmas
 pub mod LineLemmas
 pub mod NumeralLemmas
 pub mod MarkLemmas
+pub mod ItemLemmas

@@ -5,3 +5,4 @@ pub mod Words
 pub mod Numerals
 pub mod Marks
 pub mod Faults
+pub mod Lists

@@ -9,7 +9,7 @@ use Rattle.fca_model.specs.Names.{is_line_break, name_fault}
 use Rattle.fca_model.specs.declared.TheConstants.{MAX_NAME_BYTES}
 use Rattle.fca_model.specs.declared.names.NameFault.{NameFault}
 use Rattle.fca_model.specs.Tables.{Text}
-use Rattle.cxt_format.proofs.TextLemmas.{drop-item}
+use Rattle.text_pieces.proofs.ItemLemmas.{drop-item}
 use Rattle.csv_context.specs.Lines.{fields_in, joined, is_comma}
 use Rattle.csv_context.specs.Records.{Record}
 use Rattle.csv_context.proofs.LineLemmas.{any_drop, any_take}

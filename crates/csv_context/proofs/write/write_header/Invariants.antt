@@ -1,5 +1,5 @@
 use Rattle.std.proofs.Common.{◌≡◌, ◌++◌, codes, drop}
-use Rattle.cxt_format.specs.Written.{EachName}
+use Rattle.text_pieces.specs.Lists.{EachName}
 use Rattle.csv.specs.Writing.{default_writer, fields_text}
 use Rattle.csv_context.proofs.write.write_header.Given as goal
 

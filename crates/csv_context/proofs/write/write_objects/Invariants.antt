@@ -1,5 +1,5 @@
 use Rattle.std.proofs.Common.{◌≡◌, ◌++◌, drop}
-use Rattle.cxt_format.specs.Written.{EachName}
+use Rattle.text_pieces.specs.Lists.{EachName}
 use Rattle.csv_context.specs.Written.{object_records, text_of}
 use Rattle.csv_context.proofs.write.write_objects.Given as goal
 

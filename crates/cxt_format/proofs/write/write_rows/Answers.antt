@@ -2,7 +2,8 @@ use Rattle.std.proofs.Common.{◌≡◌, ◌≤◌, ◌++◌, ◌+◌, ℕ, List
 use Rattle.fca_model.specs.Sets.{Set}
 use Rattle.text_pieces.specs.Lines.{text_of}
 use Rattle.text_pieces.specs.Marks.{marks_of}
-use Rattle.cxt_format.proofs.TextLemmas.{drop-item, written-line, written-all}
+use Rattle.text_pieces.proofs.ItemLemmas.{drop-item, written-all}
+use Rattle.cxt_format.proofs.TextLemmas.{written-line}
 use Rattle.cxt_format.proofs.write.write_rows.Goals as goal
 
 pub loop-i-preserved : goal.loop-i-preserved

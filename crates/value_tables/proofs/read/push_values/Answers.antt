@@ -1,7 +1,7 @@
 use Rattle.std.proofs.Common.{◌∙◌, ◌+◌, ◌++◌, ◌∷◌, [], List, drop, refl, sym, ap, append_assoc}
 use Rattle.csv.specs.Records.{fields_of}
 use Rattle.fca_model.specs.Tables.{Text}
-use Rattle.cxt_format.proofs.TextLemmas.{drop-item}
+use Rattle.text_pieces.proofs.ItemLemmas.{drop-item}
 use Rattle.value_tables.specs.Cells.{texts}
 use Rattle.value_tables.specs.declared.fields.FieldKind.TheVariants as kind
 use Rattle.value_tables.proofs.FieldLemmas.{bad_field_none, first_bad_more, first_bad_none, value_short}

@@ -5,7 +5,7 @@ use Rattle.std.proofs.lemmas.Option.{slice_get-get_or}
 use Rattle.std.specs.List.{list_any}
 use Rattle.std.specs.Str.{bytes_eq}
 use Rattle.csv.specs.Records.{fields_of}
-use Rattle.cxt_format.proofs.TextLemmas.{drop-item}
+use Rattle.text_pieces.proofs.ItemLemmas.{drop-item}
 use Rattle.context_table.specs.Table.{first_repeat}
 use Rattle.fca_model.specs.Tables.{Text}
 use Rattle.value_tables.specs.declared.ValuesFault.{ValuesFault}
