@@ -43,6 +43,8 @@ LINE_BYTES = 4096  # before a line feed, as `serve` has it
 SEAT_LINES = 1000000  # in the life of a seat, as `serve` has it; the last two are kept for `leave` and `quit`
 UNREAD_BYTES = 65536  # so much may wait for a student who does not read; then no further line of that student is served
 STRANGERS = 64  # may be there at once before they have said a name
+ANSWERED_OTHERWISE = """event %d of the record, `%s`, was answered `%s`, and is now answered `%s`.
+Either the record is of another table, or a line was taken out of it: then replay it first, and go on from what that writes."""
 ASKS_NAME = b"send your name first: name NAME\n"
 NAME_SECONDS = 10  # to say a name
 FAREWELL_SECONDS = 5  # to read the last reply
@@ -325,13 +327,17 @@ class Chair:
         return reply
 
     def give_again(self, events):
-        """Gives the events of an earlier record through their seats."""
+        """Gives the events of an earlier record through their seats. Where it broke off, what was held then is given back."""
+        last = {}
         for place, event in enumerate(events, 1):
             reply = self.event(self.program.seats[event.expert - 1], event.line.encode("utf-8", "surrogateescape"))
             answer = None if reply is None else reply.decode("utf-8", "surrogateescape")
             if answer is None or answer in NOT_RECORDED or event.reply not in (None, answer):
-                raise Refused("event %d of the record, `%s`, was answered `%s` and is now answered `%s`: is it of another table?"
-                              % (place, event.script_line(), event.reply, answer))
+                raise Refused(ANSWERED_OTHERWISE % (place, event.script_line(), event.reply, answer))
+            last[event.expert] = event.line
+        for expert in sorted(last):
+            if last[expert] != "leave":
+                self.event(self.program.seats[expert - 1], b"leave")
 
     # -- coming and going
 

@@ -7,6 +7,9 @@ import subprocess
 import sys
 import tempfile
 import time
+import types
+
+import student
 
 HERE = os.path.dirname(os.path.abspath(__file__))
 VEHICLES = os.path.join(HERE, "vehicles.cxt")
@@ -194,6 +197,24 @@ def record_py(program, what, record):
     return subprocess.run(words, stdout=subprocess.PIPE, check=True).stdout
 
 
+def broken_off(program, folder):
+    """The chair itself is killed: its record has all that was answered, the program writes its text, and the next chair goes on from it."""
+    chair = Chair(folder, program, VEHICLES, "--experts", "2", "--holders", "1", "--record", "broken").begun()
+    question = Client(chair.port).ask("draw")
+    wait_until(lambda: "leaves seat 1" in chair.said(), "the first leaves")
+    holding = Client(chair.port)
+    expect(holding.ask("draw") == question, "the question was not given back")
+    chair.ended(signal.SIGKILL)
+    record = os.path.join(folder, "broken")
+    wait_until(lambda: "# sessions 2\n" in read(record + ".text"), "the program writes its text")
+    expect(without_head(read(record + ".text")).startswith(without_head(read(record))), "the record is not a front of the text")
+    chair = Chair(folder, program, VEHICLES, "--experts", "2", "--record", "mended", "--after", "broken").begun()
+    Client(chair.port).ask("draw")
+    expect(Client(chair.port).ask("draw") == question, "a question is held by nobody")
+    expect(chair.ended(signal.SIGINT) == 0, chair.said())
+    expect_whole(program, os.path.join(folder, "mended"))
+
+
 def anew(program, folder):
     """From a record to a table and a known file: over them the same questions are open, and the rules go on from the same number."""
     for name, open_count in (("monday", None), ("tuesday", 0)):
@@ -282,7 +303,7 @@ def connected(program, folder):
     words = ["--connect", "127.0.0.1:%d" % port, *known, "--holders", "1", "--experts", "2", "--record", "numbers"]
     chair = once_listening(lambda: Chair(folder, program, *words))
     typed = ["no", "8", "no", "no", "yes", "no", "no", "1", "no", "no", "no", "no", "yes", "quit"]
-    said = student(chair.port, "\n".join(typed) + "\n")
+    said = typed_to_student(chair.port, "\n".join(typed) + "\n")
     for part in ("it breaks rule 1, that every number that has", "Noted, as row 1: 1 says no", "Noted, as rule 3: every number", "Goodbye."):
         expect(part in said, "the student is not told: %s\n%s" % (part, said))
     expect(chair.ended(signal.SIGINT) == 0, chair.said())
@@ -301,9 +322,34 @@ def once_listening(begin):
         time.sleep(0.1)
 
 
-def student(port, typed):
+def typed_to_student(port, typed):
     words = [sys.executable, os.path.join(HERE, "student.py"), "127.0.0.1:%d" % port, "--one", "number"]
     return subprocess.run(words, input=typed.encode(), stdout=subprocess.PIPE, timeout=SECONDS).stdout.decode()
+
+
+SENTENCES = [  # a reply, what the student is told, and whether the question stays
+    ("accepted 7", "Noted, as rule 7: every pet that has \"barks\" has \"has fur\".", False),
+    ("taken 7", "Noted, as row 7: Rex says no to this question.", False),
+    ("refuted 3 .X", "Somebody was quicker. Row 3, which has \"barks\", says no to this question already.", False),
+    ("superseded row 3 ..", "Somebody was quicker. Row 3, which has nothing, says no to this question already.", False),
+    ("superseded accepted 2 .X XX {barks} -> {has fur}", "Somebody was quicker. Rule 2 is noted already: every pet that has \"barks\" has \"has fur\".", False),
+    ("misses 2 barks", "Rex does not count here: it lacks \"barks\", and the question is only about what has that.", True),
+    ("keeps", "Rex does not count here: it has all that the question asks for, so it speaks for yes.", True),
+    ("breaks 2 .. XX {} -> {has fur, barks}", "Rex cannot be noted: it breaks rule 2, that every pet has \"has fur\" and \"barks\".", True),
+    ("not held", "You do not hold a question any more.", False),
+    ("bad line", "The program says: bad line.", True),
+    ("no memory", "The program has no memory for that just now.", True),
+    ("all held", "Others think about each question that is open.", False),
+]
+
+
+def sentences(program, folder):
+    """What student.py says to each kind of reply."""
+    talk = student.Talk(types.SimpleNamespace(attributes=["has fur", "barks"]), "pet")
+    talk.question, talk.name = student.Question(talk.line.attributes, ".X", "XX"), "Rex"
+    for reply, sentence, stays in SENTENCES:
+        expect(talk.sentence(reply).startswith(sentence), "%s: %s" % (reply, talk.sentence(reply)))
+        expect(student.stays(reply) == stays, "%s: whether the question stays" % reply)
 
 
 def at_a_time(program, folder):
@@ -325,7 +371,7 @@ def end_all():
 
 def check(program):
     """How many cases are not as they should be."""
-    wrong, cases = 0, (two_days, anew, hostile, refusals, connected, at_a_time)
+    wrong, cases = 0, (two_days, broken_off, anew, hostile, refusals, connected, sentences, at_a_time)
     with tempfile.TemporaryDirectory() as folder:
         for case in cases:
             try:

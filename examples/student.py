@@ -148,6 +148,11 @@ class Question:
         return "every %s%s has %s" % (one, who, listed(self.asked))
 
 
+def stays(reply):
+    """Whether the question stays with the student."""
+    return reply.split(" ")[0] in ("misses", "keeps", "breaks", "bad") or reply == "no memory"
+
+
 class Talk:
     """The talk of one student with the program."""
 
@@ -215,24 +220,21 @@ class Talk:
         has = [name for name, mark in zip(self.line.attributes, pattern) if mark == "X"]
         return "Somebody was quicker. Row %s, which has %s, says no to this question already." % (number, listed(has))
 
-    def tell(self, reply):
-        """Says what a reply says; whether the question stays."""
-        print(self.sentence(reply))
-        return reply.split(" ")[0] in ("misses", "keeps", "breaks", "bad") or reply == "no memory"
-
     def answer(self):
         """One question, until it is answered or given back."""
         while True:
             print()
             reply = self.line.ask("confirm") if is_yes(self.question.in_words(self.one)) else self.counterexample()
-            if reply is not None and not self.tell(reply):
+            if reply is not None:
+                print(self.sentence(reply))
+            if reply is not None and not stays(reply):
                 return
 
     def next_question(self):
         """Draws until there is a question, or none is open; how long it waits for others is not known."""
         reply, (seconds, most) = self.line.ask("draw"), WAIT_SECONDS
         if reply in ("all held", "no memory"):
-            self.tell(reply)
+            print(self.sentence(reply))
         while reply in ("all held", "no memory"):
             time.sleep(seconds)
             seconds = min(2 * seconds, most)
@@ -241,7 +243,7 @@ class Talk:
         return Question(self.line.attributes, *patterns.split(" ")[:2]) if word == "ask" else None
 
     def skip(self):
-        self.tell(self.line.ask("leave"))
+        print(self.sentence(self.line.ask("leave")))
         try:
             typed("Press Enter for the next question. ")
         except Skips:
