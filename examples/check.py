@@ -6,7 +6,7 @@ one document run in one new folder, which has the program and the examples. A co
 `examples/expert.sh` is a terminal that stays open, numbered from 1, and so is one with `examples/student.py`; a row
 `| 2 | typed | answered |` of a table types a line at terminal 2, and `| 1 | Ctrl-C | |` presses that. The port 7000 becomes a free one.
 Each script of `examples/` is replayed too, and its text is fed back; other scripts have cases of their own. WHAT is a document,
-`scripts`, `chair` or `plans`, and all of them where nothing is said. The status is 0 where all is as shown. The program is
+`scripts`, `chair`, `plans` or `rules`, and all of them where nothing is said. The status is 0 where all is as shown. The program is
 ./fca of this repository, or what the variable FCA names.
 """
 import os
@@ -20,6 +20,7 @@ import time
 
 import check_chair
 import check_plans
+import check_rules
 
 TOP = os.path.dirname(os.path.dirname(os.path.abspath(__file__)))
 FCA = os.path.abspath(os.environ.get("FCA") or os.path.join(TOP, "fca"))
@@ -199,7 +200,7 @@ def check_scripts():
     return wrong
 
 
-CASES = {"scripts": check_scripts, "chair": lambda: check_chair.check(FCA), "plans": lambda: check_plans.check(FCA)}
+CASES = {"scripts": check_scripts, "chair": lambda: check_chair.check(FCA), "plans": lambda: check_plans.check(FCA), "rules": lambda: check_rules.check(FCA)}
 
 
 def main():

@@ -19,7 +19,7 @@ from planning.scales import made_by
 
 TOP = os.path.dirname(os.path.dirname(os.path.abspath(__file__)))
 SECONDS = 60
-PAIRS = 400
+PAIRS = 600
 KINDS_OF_MISTAKE = {
     "too long", "not UTF-8", "no header", "too many", "ragged", "bad field", "duplicate attribute",
     "bad kind", "unknown attribute", "bad scale value", "bad value", "bad name",

@@ -108,8 +108,9 @@ def tell_made(table, columns, values, plan):
     print("%s: %d attributes" % (plan, sum(column.crosses() for column in columns)))
     for column in columns:
         print("  %s: %s" % (column.name, column.remark))
-    if any("," in field for row in making.plan_rows(columns) for field in row):
-        print("note: some names have a comma, and cannot be given to `follows`")
+    with_comma = [field for row in making.plan_rows(columns) for field in row[1:] if "," in field]
+    if with_comma:
+        print("note: a name with a comma cannot be given to `follows`, as of `%s`" % with_comma[0])
 
 
 # ---- known

@@ -5,7 +5,7 @@
                                            with how many objects have its premise, most first, those of no object apart
     rules.py T A B                         whether the attributes A imply the attributes B, and of how many objects
     rules.py undo RECORD LINE --table T    the exploration of T in RECORD without the answer in that line; what changes
-                                           behind it is told on the error stream, event by event
+                                           after it is told on the error stream, event by event
 
 That a rule holds, that all rules follow from those shown, and what an exploration answers is the program's, which is
 proved: it is called as ./fca of this repository, or as --program or the variable FCA say. This script is not proved; it counts
@@ -205,7 +205,7 @@ def events_in(text):
 
 
 def held_after(event):
-    """The question that the expert holds behind the event, as its patterns and words; it is None if there is none."""
+    """The question that the expert holds after the event, as its patterns and words, if it holds one."""
     if event.reply.startswith("ask "):
         return event.reply[4:]
     if event.kind == "row" and event.reply.split(" ")[0] in ("misses", "keeps", "breaks"):
@@ -229,7 +229,8 @@ def undo(words):
     if words.cut:
         text = replay(words, script_of(cut_lines(lines, words.line, pairs)))
     sys.stdout.write(text)
-    for line in changes(before[at], pairs):
+    sys.stdout.flush()
+    for line in changes(before[at], pairs, words.cut):
         print(line, file=sys.stderr)
     return 0
 
@@ -247,21 +248,24 @@ def check_answer(words, lines):
 def cut_lines(lines, line, pairs):
     """The lines without this one, up to the first confirmation that would confirm another question."""
     kept = next((number for number, pair in enumerate(pairs) if confirms_another(*pair)), len(pairs))
-    behind = [each for each in lines[line:] if is_event(each)]
-    return lines[: line - 1] + behind[:kept]
+    after = [each for each in lines[line:] if is_event(each)]
+    return lines[: line - 1] + after[:kept]
 
 
 def confirms_another(old, new):
     return new.kind == "confirm" and new.reply.startswith("accepted ") and new.held != old.held
 
 
-def changes(gone, pairs):
-    """What is told of the events behind the answer that is gone."""
+def changes(gone, pairs, cut):
+    """What is told of the events after the answer that is gone; `cut` says that the text was cut."""
     yield "without `%s`, which was answered `%s`:" % (gone.line, gone.reply)
     told = [change for pair in pairs for change in change_of(*pair)]
-    yield from told or ["  the %d events behind it are answered as before" % len(pairs)]
-    if any(confirms_another(*pair) for pair in pairs):
-        yield "an answer confirms another question now; --cut ends the text before the first of these"
+    yield from told or ["  the %d events after it are answered as before" % len(pairs)]
+    another = next((new.number for old, new in pairs if confirms_another(old, new)), None)
+    if another is not None and cut:
+        yield "the text ends before line %d, which would confirm another question" % another
+    elif another is not None:
+        yield "line %d confirms another question now: cut the text there, or say --cut" % another
 
 
 def change_of(old, new):

@@ -36,12 +36,15 @@ class Mistake(NamedTuple):
 
 
 class Values(NamedTuple):
-    """A table of values, as far as it can be read: record 1, a corner and the names of the attributes, and the others."""
+    """A table of values, as far as it can be read: record 1, and the others."""
 
     file: str
-    corner: List[bytes]
-    attributes: List[bytes]
+    header: List[bytes]
     objects: List[Record]
+
+    @property
+    def attributes(self) -> List[bytes]:
+        return self.header[1:]
 
     def column(self, place: int) -> List[bytes]:
         """The values of an attribute; what is not there is empty."""
@@ -69,24 +72,23 @@ def bytes_mistakes(file: str, data: bytes) -> Iterator[Mistake]:
 
 def read_values(file: str, data: bytes) -> Values:
     rows = list(records(data))
-    header = rows[0].fields if rows else []
-    return Values(file, header[:1], header[1:], rows[1:])
+    return Values(file, rows[0].fields if rows else [], rows[1:])
 
 
 def values_mistakes(file: str, data: bytes) -> Iterator[Mistake]:
     """The mistakes in a table of values."""
     yield from bytes_mistakes(file, data)
-    width = None
+    header = None
     for number, record in enumerate(records(data), 1):
         if number > MOST_OBJECTS + 1:
             yield Mistake(file, place_of(number, record), "too many", "a table has at most %d objects" % MOST_OBJECTS)
             return
-        if width is None:
-            width = len(record.fields)
+        if header is None:
+            header = record
             yield from header_mistakes(file, record)
         else:
-            yield from object_mistakes(file, number, record, width)
-    if width is None:
+            yield from object_mistakes(file, number, record, header)
+    if header is None:
         yield Mistake(file, "", "no header", "write a first record: a corner, and the names of the attributes")
 
 
@@ -107,10 +109,11 @@ def header_mistakes(file: str, record: Record) -> Iterator[Mistake]:
             yield Mistake(file, place_of(1, record, field), what, "field %d has this name: write another" % first)
 
 
-def object_mistakes(file: str, number: int, record: Record, width: int) -> Iterator[Mistake]:
-    fields = record.fields
+def object_mistakes(file: str, number: int, record: Record, header: Record) -> Iterator[Mistake]:
+    fields, width = record.fields, len(header.fields)
     if len(fields) != width:
-        yield Mistake(file, place_of(number, record), "ragged, there are %d fields, and %d in record 1" % (len(fields), width), for_ragged(fields, width))
+        what = "ragged, there are %d fields, and %d in record 1" % (len(fields), width)
+        yield Mistake(file, place_of(number, record), what, for_ragged(fields, header.fields))
         return
     for field, value in enumerate(fields, 1):
         if not (is_name(value) if field == 1 else is_value(value)):
@@ -121,14 +124,20 @@ def bad_field(file: str, number: int, record: Record, field: int, remedy: str) -
     return Mistake(file, place_of(number, record, field), "bad field, there is %s" % shown(record.fields[field - 1]), remedy)
 
 
-def for_ragged(fields: List[bytes], width: int) -> str:
-    if len(fields) > width and not any(fields[width:]):
-        return "take away the last %s" % ("comma" if len(fields) == width + 1 else "%d commas" % (len(fields) - width))
-    if len(fields) > width:
+def for_ragged(fields: List[bytes], header: List[bytes]) -> str:
+    more = len(fields) - len(header)
+    if is_parted_otherwise(header) or is_parted_otherwise(fields):
+        return "part the fields by commas; `plan.py make` does so"
+    if more > 0 and not any(fields[-more:]):
+        return "take away the last %s" % ("comma" if more == 1 else "%d commas" % more)
+    if more > 0:
         return "put a field that has a comma in double quotes"
-    if len(fields) == 1 and any(mark in fields[0] for mark in (b";", b"\t")):
-        return "part the fields by commas"
     return "put a comma for each value that is missing"
+
+
+def is_parted_otherwise(fields: List[bytes]) -> bool:
+    """Whether a record of one field has separators other than commas."""
+    return len(fields) == 1 and any(mark in fields[0] for mark in (b";", b"\t"))
 
 
 # ---- plans
@@ -257,7 +266,7 @@ def for_made(name: bytes) -> str:
 
 def values_notes(values: Values) -> Iterator[str]:
     """What a look at the table of values shows."""
-    if not values.attributes and any(mark in name for name in values.corner for mark in (b";", b"\t")):
+    if is_parted_otherwise(values.header):
         yield "%s has no attribute, as its fields are not parted by commas; `plan.py make` reads it as it is" % values.file
     for place, attribute in enumerate(values.attributes):
         missing = collections.Counter(value for value in values.column(place) if value in MISSING_BYTES)

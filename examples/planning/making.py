@@ -6,8 +6,8 @@ from .numbers import decimal_of, have_decimal_comma, places_for, places_of, whol
 from .raw import MOST_NAME, BadTable, RawTable
 from .records import LARGEST_NUMBER, LEAST_NUMBER, MOST_ATTRIBUTES, MOST_NAME_BYTES, MOST_OBJECTS
 
-YES_NO = {"true": "false", "t": "f", "yes": "no", "y": "n"}
-FEW_VALUES = 6  # numbers with as many values or fewer get a cross for each
+YES_NO = {"true": "false", "t": "f", "yes": "no", "y": "n", "ja": "nein", "oui": "non", "sí": "no", "si": "no"}
+FEW_VALUES = 6  # numbers with as many values or fewer get a cross for each, if most values repeat
 MOST_TEXTS = 26  # texts with more values are left out of the plan
 MOST_VALUE = MOST_NAME_BYTES - MOST_NAME - len("1000000*") - len(" >= ")  # bytes
 
@@ -79,10 +79,11 @@ def number_column(name: str, values: List[str], numbers, cuts: int) -> Column:
         name = "%d*%s" % (10 ** places, name)
     values = [str(whole_numbers[value]) if value else "" for value in values]
     remark = ", rounded to %d decimals" % places if rounded else ""
-    distinct = sorted(set(whole_numbers.values()))
-    if len(distinct) <= FEW_VALUES:
+    present = sorted(int(value) for value in values if value)
+    distinct = sorted(set(present))
+    if len(distinct) < 3 or len(distinct) <= min(FEW_VALUES, len(present) // 2):
         return Column(name, values, ["nominal", *map(str, distinct)], "nominal, %s%s" % (of("number", len(distinct)), remark))
-    scale = cuts_of(sorted(int(value) for value in values if value), cuts)
+    scale = cuts_of(present, cuts)
     return Column(name, values, ["interordinal", *map(str, scale)], "interordinal, from %d to %d%s" % (distinct[0], distinct[-1], remark))
 
 

@@ -7,7 +7,7 @@ from typing import Iterable, Optional
 MISSING = frozenset(["NA", "N/A", "#N/A", "<NA>", "NaN", "nan", "?", "NULL", "null"])
 DECIMAL = re.compile(r"[-+]?([0-9]+(\.[0-9]*)?|\.[0-9]+)([eE][-+]?[0-9]{1,3})?")
 GROUPED = re.compile(r"[-+]?[0-9]{1,3}([ ,'\u00a0\u202f][0-9]{3})+(\.[0-9]+)?")
-MOST_PLACES = 6  # behind the point; what has more is rounded
+MOST_PLACES = 6  # after the point; what has more is rounded
 
 
 def decimal_of(text: str, comma: bool = False) -> Optional[decimal.Decimal]:
