@@ -9,3 +9,5 @@ pub mod WaitLemmas
 pub mod WalkLemmas
 pub mod ForcedLemmas
 pub mod WidthLemmas
+pub mod RoomLemmas
+pub mod StepLemmas

@@ -4,3 +4,5 @@ pub mod Walks
 pub mod Watches
 pub mod Forced
 pub mod Concerns
+pub mod Room
+pub mod Steps

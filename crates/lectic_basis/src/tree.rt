@@ -9,6 +9,7 @@ ghost use Rattle.extent_blocks.specs.Blocks.{IsExtent, IsExtentWith};
 ghost use Rattle.lectic_basis.specs.Forced.{AreForced, IsLastTried, IsLonger, NoneTried, is_tried};
 ghost use Rattle.lectic_basis.specs.Watches.{Watched, IsBounded};
 ghost use Rattle.lectic_basis.specs.Walks.{IsVisit, IsBelow, IsTrying, HasFound, IsPart, IsPartBefore};
+ghost use Rattle.lectic_basis.specs.Steps.{IsStep, IsBegun, HasTried};
 
 use crate::closing::{agrees, close};
 use crate::watched_list::WatchedList;
@@ -20,9 +21,18 @@ use std::alloc::Global;
 
 /// What goes down the tree with an intent: the places of the rows that contain it, and what attributes force. The lists of a step are used again by later ones.
 #[derive(Drop)]
-struct Desk {
-    near: Near,
-    forced: Vec<u32>,
+pub(crate) struct Desk {
+    pub(crate) near: Near,
+    pub(crate) forced: Vec<u32>,
+}
+
+/// An intent below which more may be. From attribute `end` on all were tried, and none before `from` is to be.
+#[derive(Drop)]
+pub(crate) struct Step<const W: usize> {
+    pub(crate) intent: Bits<W>,
+    pub(crate) from: u32,
+    pub(crate) end: u32,
+    pub(crate) desk: Desk,
 }
 
 /// Visits a, and then all that agree with it before attribute `from`.
@@ -42,86 +52,103 @@ pub(crate) fn visit_all<const W: usize>(
     match visit(sheet, known, found, a, &closed, from)? {
         None => Ok(()),
         Some(intent) => {
-            let mut desk = first_desk(alloc, sheet, found, &intent)?;
-            let mut desks = Vec::new(alloc);
-            let before = sheet.rows().width();
-            spread(
-                alloc, sheet, known, found, &intent, from, before, &mut desk, &mut desks,
-            )
+            let first = first_step(alloc, sheet, found, &intent, from)?;
+            spread(alloc, sheet, known, found, first)
         }
     }
 }
 
-/// Visits all that agree with the intent a before attribute `from` and come behind it. No attribute from `end` on is to be tried.
-#[cycle(spread)]
+/// Visits all that agree with the intent of the step before its first attribute and come behind it. The steps that are not done wait in a list, so a tree that
+/// is deep takes no more stack than one that is not.
 fn spread<const W: usize>(
     alloc: Global,
     sheet: &Sheet<W>,
     known: &ImplicationList,
     found: &mut WatchedList<W>,
-    a: &Bits<W>,
-    from: u32,
-    end: u32,
-    desk: &mut Desk,
-    desks: &mut Vec<Desk>,
+    first: Step<W>,
 ) -> Result<(), Memory>
-    requires below { IsBelow known.now.members sheet.now sheet.now a.now from found.old }
-    requires near { IsExtent sheet.now a.now desk.old.near }
-    requires forced { AreForced found.old.list.members a.now desk.old.forced.items }
-    requires order { from ≤ end }
-    requires inside { end ≤ sheet.now.width }
-    requires none { NoneTried a.now desk.old.forced.items end sheet.now.width }
-    ensures { OnOk result (HasFound known.now.members sheet.now a.now from (IsPart a.now) found.old found.new) }
+    requires { IsStep known.now.members sheet.now first found.old found.old }
+    ensures { OnOk result (HasFound known.now.members sheet.now first.entry.intent first.entry.from (IsPart first.entry.intent) found.old found.new) }
 {
     let _width = sheet.rows().width();
-    let mut before = end;
-    while let Some(i) = last_tried(a, &desk.forced, from, before) {
-        if let Some(child) = child_at(sheet, &desk.near, known, found, a, i, &mut desk.forced)? {
-            spread_below(alloc, sheet, known, found, &child, i, desk, desks)?;
-        }
-        before = i;
+    let mut desks = Vec::new(alloc);
+    let mut steps = vec![in alloc; first]?;
+    while let Some(mut step) = steps.pop() {
+        let Some(i) = last_tried(&step.intent, &step.desk.forced, step.from, step.end) else {
+            desks.push(step.desk)?;
+            continue;
+        };
+        let below = next_below(alloc, sheet, known, found, &mut step, i, &mut desks)?;
+        steps.push(step)?;
+        let Some(below) = below else {
+            continue;
+        };
+        steps.push(below)?;
     }
     Ok(())
 }
 
-/// Visits all that agree with the intent a before attribute i + 1 and come behind it, where attribute i was tried at the desk above. Where none of them is to be
-/// tried, no rows are looked for.
-#[cycle(spread)]
-fn spread_below<const W: usize>(
+/// Tries attribute i at the step, and tells the step below that comes of it, if there may be more there.
+fn next_below<const W: usize>(
     alloc: Global,
     sheet: &Sheet<W>,
     known: &ImplicationList,
     found: &mut WatchedList<W>,
+    step: &mut Step<W>,
+    i: u32,
+    desks: &mut Vec<Desk>,
+) -> Result<Option<Step<W>>, Memory>
+    requires trying { IsTrying known.now.members sheet.now sheet.now step.old.intent i found.old }
+    requires lacks { slice_index_or step.old.intent i false ≡ false }
+    requires near { IsExtent sheet.now step.old.intent step.old.desk.near }
+    requires forced { AreForced found.old.list.members step.old.intent step.old.desk.forced.items }
+    ensures { IfOk result (λ below. HasTried known.now.members sheet.now i found.old found.new step.old step.new below) }
+{
+    let _width = found.width();
+    step.end = i;
+    let child = child_at(
+        sheet,
+        &step.desk.near,
+        known,
+        found,
+        &step.intent,
+        i,
+        &mut step.desk.forced,
+    )?;
+    match child {
+        None => Ok(None),
+        Some(intent) => step_below(alloc, sheet, &intent, i, &step.desk, desks),
+    }
+}
+
+/// The step at the intent a, where attribute i was tried at the desk above. Where no attribute behind it is to be tried, no rows are looked for.
+fn step_below<const W: usize>(
+    alloc: Global,
+    sheet: &Sheet<W>,
     a: &Bits<W>,
     i: u32,
     above: &Desk,
     desks: &mut Vec<Desk>,
-) -> Result<(), Memory>
+) -> Result<Option<Step<W>>, Memory>
     requires inside { i < sheet.now.width }
-    requires below { IsBelow known.now.members sheet.now sheet.now a.now (i + 1) found.old }
+    requires wide { length a.now ≡ sheet.now.width }
     requires near { IsExtentWith sheet.now a.now i above.now.near }
-    requires forced { AreForced found.old.list.members a.now above.now.forced.items }
-    ensures { OnOk result (HasFound known.now.members sheet.now a.now (i + 1) (IsPart a.now) found.old found.new) }
+    ensures { IfOk result (λ step. MatchOption step
+        (NoneTried a.now above.now.forced.items (i + 1) sheet.now.width)
+        (IsBegun sheet.now a.now (i + 1) above.now.forced.items)) }
 {
-    let _width = found.width();
-    let Some(last) = last_tried(a, &above.forced, i + 1, sheet.rows().width()) else {
-        return Ok(());
+    let width = sheet.rows().width();
+    let Some(last) = last_tried(a, &above.forced, i + 1, width) else {
+        return Ok(None);
     };
     let mut desk = taken(alloc, desks);
     fill(&mut desk, sheet, a, i, above)?;
-    spread(
-        alloc,
-        sheet,
-        known,
-        found,
-        a,
-        i + 1,
-        last + 1,
-        &mut desk,
-        desks,
-    )?;
-    desks.push(desk)?;
-    Ok(())
+    Ok(Some(Step {
+        intent: *a,
+        from: i + 1,
+        end: last + 1,
+        desk,
+    }))
 }
 
 /// The last attribute of these that is tried below a.
@@ -220,19 +247,28 @@ fn visit<const W: usize>(
     Ok(Some(*closed))
 }
 
-/// The desk of the first intent.
-fn first_desk<const W: usize>(
+/// The step at the first intent.
+fn first_step<const W: usize>(
     alloc: Global,
     sheet: &Sheet<W>,
     found: &WatchedList<W>,
     a: &Bits<W>,
-) -> Result<Desk, Memory>
-    ensures near { IfOk result (λ desk. IsExtent sheet.now a.now desk.near) }
-    ensures forced { IfOk result (λ desk. AreForced found.now.list.members a.now desk.forced.items) }
+    from: u32,
+) -> Result<Step<W>, Memory>
+    ensures intent { IfOk result (λ step. step.intent ≡ a.now) }
+    ensures from { IfOk result (λ step. step.from ≡ from) }
+    ensures end { IfOk result (λ step. step.end ≡ sheet.now.width) }
+    ensures near { IfOk result (λ step. IsExtent sheet.now a.now step.desk.near) }
+    ensures forced { IfOk result (λ step. AreForced found.now.list.members a.now step.desk.forced.items) }
 {
-    Ok(Desk {
-        near: Near::of(alloc, sheet, a)?,
-        forced: first_forced(alloc, found, a)?,
+    let end = sheet.rows().width();
+    let near = Near::of(alloc, sheet, a)?;
+    let forced = first_forced(alloc, found, a)?;
+    Ok(Step {
+        intent: *a,
+        from,
+        end,
+        desk: Desk { near, forced },
     })
 }
 
