@@ -28,7 +28,6 @@ use std::alloc::Global;
 use std::marker::Model;
 
 /// The rows, the rules and the open questions, whose premises have one size; and sets among which later ones may be known to be.
-#[derive(Drop)]
 pub struct LevelQueue {
     alloc: Global,
     rows: Rows,
@@ -36,6 +35,20 @@ pub struct LevelQueue {
     questions: OpenQuestions,
     level: u32,
     ahead: Ahead,
+}
+
+/// Written out, so that letting a queue go is one call and not the dropping of each list where it happens.
+impl Drop for LevelQueue {
+    fn drop(self) {
+        let Self {
+            alloc: _,
+            rows: _,
+            rules: _,
+            questions: _,
+            level: _,
+            ahead: _,
+        } = self;
+    }
 }
 
 impl Model for LevelQueue {
