@@ -61,4 +61,5 @@ def main():
             report(job, os.path.basename(path), path, folder)
 
 
-main()
+if __name__ == "__main__":
+    main()
