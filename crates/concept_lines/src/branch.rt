@@ -7,15 +7,15 @@ ghost use Rattle.lectic_concepts.specs.Branches.{branch, AreSeen};
 ghost use Rattle.concept_lines.specs.Pages.{Fills};
 ghost use Rattle.extent_places.specs.Tries.{AreTries};
 
-use crate::desks::{Desk, Desks, taken};
-use crate::few_branch::write_apart;
+use crate::desks::{Desk, Desks};
 use crate::notes::{begin_notes, known};
 use crate::page::Page;
 use crate::sheet::Sheet;
+use crate::steps::{Met, begun, enter, next_step, put_back};
 use attr_bits::Bits;
-use extent_places::{closure_at, last_member, pays_apart, tries_of};
+use extent_places::{closure_at, last_member};
 use fca_model::Memory;
-use lectic_concepts::{is_child, is_open, note, seen_above};
+use lectic_concepts::{is_child, is_open, note};
 use std::alloc::Global;
 
 /// An intent below another, with the attribute that it comes from and the number of the places that were found for it.
@@ -30,7 +30,8 @@ pub struct Child<const W: usize> {
 }
 
 /// Writes the lines of the intents that contain a and agree with it before attribute `from`. The extent of a child is found among that of a, and
-/// what was seen of the closures of a goes down with it. Where a has few objects, they are set apart.
+/// what was seen of the closures of a goes down with it. Where a has few objects, they are set apart. The steps that are not done wait in a list, so a tree
+/// that is deep takes no more stack than one that is not.
 pub fn write_branch<const W: usize>(
     alloc: Global,
     sheet: &Sheet<'_, W>,
@@ -48,34 +49,21 @@ pub fn write_branch<const W: usize>(
     requires seen { AreSeen sheet.now.context a.now seen.now }
     ensures { OnOk result (Fills sheet.now page.old page.new (branch sheet.now.context a.now from)) }
 {
-    let rows = sheet.rows();
-    if pays_apart(places.len(), rows.width().saturating_sub(from)) {
-        return write_apart(alloc, sheet, page, a, places, from, seen, desks);
+    let _words = sheet.rows().width();
+    let count = places.len();
+    let mut found = Vec::from_slice(alloc, places)?;
+    let first = enter(alloc, sheet, page, a, &mut found, count, from, seen, desks)?;
+    let mut steps = begun(alloc, first)?;
+    while let Some(mut step) = steps.pop() {
+        match next_step(alloc, sheet, page, &mut step, desks)? {
+            Met::Nothing => put_back(step, &mut desks.free)?,
+            Met::Whole => steps.push(step)?,
+            Met::Below(below) => {
+                steps.push(step)?;
+                steps.push(below)?;
+            }
+        }
     }
-    page.add(sheet, a, places)?;
-    let tries = tries_of(rows, a, places);
-    let mut desk = taken(alloc, &mut desks.free);
-    let mut end = rows.width();
-    while from < end {
-        let met = next_child(sheet, a, places, &tries, from, end, seen, &mut desk)?;
-        let Some(child) = met else {
-            break;
-        };
-        end = child.attribute;
-        let below = places_of(sheet, &child, &desk.found);
-        let passed = seen_above(rows, a, known(sheet, a, seen, &desk.noted), &child.intent);
-        write_branch(
-            alloc,
-            sheet,
-            page,
-            &child.intent,
-            below,
-            end + 1,
-            passed,
-            desks,
-        )?;
-    }
-    desks.free.push(desk)?;
     Ok(())
 }
 

@@ -9,6 +9,7 @@ mod names;
 mod notes;
 mod page;
 mod sheet;
+mod steps;
 
 pub use branch::{Child, next_child, places_of, write_branch};
 pub use desks::{Desk, Desks};
