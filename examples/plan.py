@@ -46,8 +46,8 @@ def check(words):
         print("note: " + note)
     if found:
         return REFUSED
-    print("no mistake: %d objects, %d attributes with values" % (len(values.objects), len(values.attributes)), end="")
-    print("".join(", of which the plan makes %d attributes" % len(known.made_of(plan)) for _, plan in files[1:]))
+    print("no mistake: %s, %s with values" % (of(len(values.objects), "object"), of(len(values.attributes), "attribute")), end="")
+    print("".join(", of which the plan makes %s" % of(len(known.made_of(plan)), "attribute") for _, plan in files[1:]))
     return 0
 
 
@@ -56,6 +56,10 @@ def mistakes_in(values, plan=None):
     yield from checking.values_mistakes(*values)
     if plan is not None:
         yield from checking.plan_mistakes(*plan, checking.read_values(*values))
+
+
+def of(count, word):
+    return "%d %s" % (count, word if count == 1 else word + "s")
 
 
 def tell_mistakes(found, most):
@@ -97,6 +101,8 @@ def make(words):
         with open(path, "wb") as file:
             file.write(text)
     tell_made(table, columns, *files)
+    if making.has_crosses_alone(table):
+        print("note: %s has crosses alone, and the commands of the program may take it as it is" % words.table)
     print("next: ./fca scale %s %s > %s.cxt" % (*map(shlex.quote, files), shlex.quote(to)))
     return 0
 
@@ -104,8 +110,8 @@ def make(words):
 def tell_made(table, columns, values, plan):
     for remark in table.remarks:
         print(remark)
-    print("%s: %d objects, %s" % (values, len(table.objects), table.named))
-    print("%s: %d attributes" % (plan, sum(column.crosses() for column in columns)))
+    print("%s: %s, %s" % (values, of(len(table.objects), "object"), table.named))
+    print("%s: %s" % (plan, of(sum(column.crosses() for column in columns), "attribute")))
     for column in columns:
         print("  %s: %s" % (column.name, column.remark))
     with_comma = [field for row in making.plan_rows(columns) for field in row[1:] if "," in field]

@@ -147,16 +147,20 @@ def list_rules(words):
         known, rules = basis_beside(words.program, words.table, words.known)
     counted = [(table.count(premise), premise, conclusion) for premise, conclusion in rules]
     counted.sort(key=lambda rule: -rule[0])
-    print("%d rules, %d objects; the number is of the objects with the premise" % (len(rules), len(table.objects)))
+    print("%s, %s; the number is of the objects with the premise" % (several(len(rules), "rule"), several(len(table.objects), "object")))
     for count, premise, conclusion in counted:
         if count:
             print("%6d  %s" % (count, arrow(table, *without_known((premise, conclusion), known))))
     nobody = [premise for count, premise, _ in counted if not count]
     if nobody:
-        print("%d of the rules are of no object: none has" % len(nobody))
+        print("%s of no object: none has" % several(len(nobody), "rule"))
     for premise in nobody:
         print("        %s" % table.braces(without_known((premise, frozenset()), known)[0]))
     return 0
+
+
+def several(count, word):
+    return "%d %s" % (count, word if count == 1 else word + "s")
 
 
 def explain(words):

@@ -213,7 +213,7 @@ def scale_mistakes(file: str, meant: PlanRecord, values: Optional[Values]) -> It
         if scale_value(meant.kind, value) is not None:
             continue
         if not value:
-            remedy = TAKEN_AWAY
+            remedy = TAKEN_AWAY if any(scale) else "write a scale value"
         elif meant.kind == b"nominal":
             remedy = remedies.for_name(value)
         else:

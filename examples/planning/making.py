@@ -25,7 +25,7 @@ class Column(NamedTuple):
 
 
 def columns_of(table: RawTable, cuts: int) -> List[Column]:
-    columns = [column_of(name, values, table.decimal_comma, cuts) for name, values in table.columns]
+    columns = [column_of(name, values, table.separator == ";", cuts) for name, values in table.columns]
     return list(within_limit(columns))
 
 
@@ -52,7 +52,7 @@ def text_column(name: str, values: List[str], counts) -> Column:
     if yes is not None:
         return Column(name, values, ["nominal", yes], "yes or no")
     if len(counts) > MOST_TEXTS:
-        return Column(name, values, [], "left out of the plan, %d texts" % len(counts))
+        return Column(name, values, [], "left out of the plan, %d texts as `%s`" % (len(counts), min(counts)))
     return Column(name, values, ["nominal", *sorted(counts)], "nominal, %s" % of("text", len(counts)))
 
 
@@ -130,6 +130,12 @@ def values_rows(table: RawTable, columns: List[Column]) -> Iterator[List[str]]:
     yield ["object"] + [column.name for column in columns]
     for place, name in enumerate(table.objects):
         yield [name] + [column.values[place] for column in columns]
+
+
+def has_crosses_alone(table: RawTable) -> bool:
+    """Whether the program reads the table as one of crosses."""
+    cells = {value for _, values in table.columns for value in values}
+    return table.separator == "," and cells <= {"X", "x", "1", "", ".", "0"}
 
 
 def plan_rows(columns: List[Column]) -> List[List[str]]:

@@ -20,7 +20,7 @@ class RawTable(NamedTuple):
 
     objects: List[str]
     columns: List[Tuple[str, List[str]]]
-    decimal_comma: bool
+    separator: str
     named: str  # how the objects got their names
     remarks: List[str]
 
@@ -51,7 +51,7 @@ def read_raw(data: bytes, options: Options) -> RawTable:
     objects, named = take_names(header, rows, options.names)
     missing = MISSING.union(options.missing)
     columns = [(name, ["" if row[place] in missing else row[place] for row in rows]) for place, name in enumerate(header)]
-    return RawTable(objects, columns, separator == ";", named, remarks)
+    return RawTable(objects, columns, separator, named, remarks)
 
 
 def text_of(data: bytes) -> Tuple[str, List[str]]:
@@ -101,19 +101,20 @@ def fitted(row: List[str], width: int, line: int) -> List[str]:
 
 
 def read_arff(text: str) -> Tuple[List[str], List[List[str]]]:
-    names, rows, in_data = [""], [], False
+    names, usual, rows, in_data = [], [], [], False
     for number, line in enumerate(text.splitlines(), 1):
         line = line.strip()
         found = ATTRIBUTE.match(line)
         if not line or line.startswith("%"):
             continue
         if in_data:
-            fields = sparse(line, len(names) - 1) if line.startswith("{") else arff_fields(line)
-            rows.append(fitted(["o%d" % (len(rows) + 1)] + fields, len(names), number))
+            fields = sparse(line, usual) if line.startswith("{") else arff_fields(line)
+            rows.append(fitted(fields, len(names), number))
         elif found:
             names.append(unquoted(found[1]))
+            usual.append(first_value(line[found.end() :].strip()))
         in_data = in_data or line.lower().startswith("@data")
-    if len(names) == 1:
+    if not names:
         raise BadTable("there is no @attribute")
     return names, rows
 
@@ -131,13 +132,18 @@ def arff_fields(line: str) -> List[str]:
     return fields
 
 
-def sparse(line: str, width: int) -> List[str]:
-    """The fields of a line that names those alone that are not 0."""
-    fields = ["0"] * width
+def first_value(kind: str) -> str:
+    """What a line that leaves the attribute out says of it: of listed values the first, else 0."""
+    return arff_fields(kind[1:].rstrip("}"))[0] if kind.startswith("{") else "0"
+
+
+def sparse(line: str, usual: List[str]) -> List[str]:
+    """The fields of a line that names those alone that are not as usual."""
+    fields = list(usual)
     inside = line.strip("{} ")
     for piece in arff_fields(inside) if inside else []:
         place, _, value = piece.partition(" ")
-        if not place.isdigit() or int(place) >= width:
+        if not place.isdigit() or int(place) >= len(fields):
             raise BadTable("there is no attribute of the number `%s`" % place)
         fields[int(place)] = unquoted(value.strip())
     return fields

@@ -62,7 +62,7 @@ def for_attribute(field: bytes, attributes: List[bytes]) -> str:
 
 
 def for_number(field: bytes, missing: str, places: int) -> str:
-    """For a field that is no number. `missing` says what to do if it stands for no value, and `places` how many decimals the numbers beside it have."""
+    """For a field that is no number; `missing` is for one that stands for no value, and numbers beside it have so many decimals."""
     text = decoded(field)
     if not text.strip() or text.strip() in MISSING:
         return missing
