@@ -154,6 +154,8 @@ RAW = {
     "with long texts": b"name,a,b\nx," + b"y" * 300 + b",1\n" + b"z" * 300 + b",,2\n",
     "with long names": b"name," + b"q" * 300 + b",b\nx,1.25,1\n",
     "with many numbers": b"name,a,b\n" + b"".join(b"x%d,%d.5,%d\n" % (n, n, n * n % 7) for n in range(50)),
+    "with commas": b'name,"a, b",c\nx,"p, q",1\ny,r,2\n',
+    "with commas that have to stay": b'name,a\nx,"p, q"\ny,p; q\n',
     "with large numbers": b"name,a\nx,123456789012345678901234\ny,1e300\nz,1e-9\n",
     "that says its separator": b"sep=;\r\nname;a\r\nNA;1\r\n",
     "with numbers in its first column": b"a,b\n21,s\n35,l\n",

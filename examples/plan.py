@@ -114,9 +114,6 @@ def tell_made(table, columns, values, plan):
     print("%s: %s" % (plan, of(sum(column.crosses() for column in columns), "attribute")))
     for column in columns:
         print("  %s: %s" % (column.name, column.remark))
-    with_comma = [field for row in making.plan_rows(columns) for field in row[1:] if "," in field]
-    if with_comma:
-        print("note: a name with a comma cannot be given to `follows`, as of `%s`" % with_comma[0])
 
 
 # ---- known
@@ -185,6 +182,8 @@ def main():
     except BrokenPipeError:  # who reads has enough, as `head` has
         os.dup2(os.open(os.devnull, os.O_WRONLY), sys.stdout.fileno())
         status = 4
+    except KeyboardInterrupt:
+        status = 130
     except OSError as fault:
         print("plan.py: %s: %s" % (fault.filename, fault.strerror), file=sys.stderr)
         status = FAULT

@@ -339,6 +339,8 @@ def main():
     except BrokenPipeError:  # who reads has enough, as `head` has
         os.dup2(os.open(os.devnull, os.O_WRONLY), sys.stdout.fileno())
         status = 4
+    except KeyboardInterrupt:
+        status = 130
     except OSError as fault:
         print("rules.py: %s: %s" % (fault.filename, fault.strerror), file=sys.stderr)
         status = 3

@@ -1,6 +1,6 @@
 """A table of values, and a plan to be edited, from a raw table."""
-import collections
-from typing import Iterator, List, NamedTuple, Optional
+import decimal
+from typing import Dict, Iterator, List, NamedTuple, Optional
 
 from .numbers import decimal_of, have_decimal_comma, places_for, places_of, whole
 from .raw import MOST_NAME, BadTable, RawTable
@@ -10,6 +10,7 @@ YES_NO = {"true": "false", "t": "f", "yes": "no", "y": "n", "ja": "nein", "oui":
 FEW_VALUES = 6  # numbers with as many values or fewer get a cross for each, if most values repeat
 MOST_TEXTS = 26  # texts with more values are left out of the plan
 MOST_VALUE = MOST_NAME_BYTES - MOST_NAME - len("1000000*") - len(" >= ")  # bytes
+SEMICOLONS = ", with `;` for `,`"  # names with commas cannot be given to `follows`
 
 
 class Column(NamedTuple):
@@ -30,51 +31,64 @@ def columns_of(table: RawTable, cuts: int) -> List[Column]:
 
 
 def column_of(name: str, values: List[str], comma: bool, cuts: int) -> Column:
-    counts = collections.Counter(value for value in values if value)
-    numbers = {value: decimal_of(value, comma or have_decimal_comma(counts)) for value in counts}
-    if not counts:
-        return Column(name, values, [], "left out of the plan, no value")
-    if any(len(value.encode()) > MOST_VALUE for value in counts):
-        return Column(name, [""] * len(values), [], "left out, values of more than %d bytes" % MOST_VALUE)
-    if None not in numbers.values():
-        return number_column(name, values, numbers, cuts)
-    column = text_column(name, values, counts)
-    texts = [text for text, number in numbers.items() if number is None]
-    if 2 * len(texts) < len(counts):  # mostly numbers
-        text = next((text for text in texts if decimal_of(text, comma=True) is None), texts[0])
-        hint = "; most are numbers and `%s` is none: correct it, or say it by --missing if it stands for no value" % text
-        column = column._replace(remark=column.remark + hint)
-    return column
+    texts = sorted(set(values) - {""})
+    numbers = {text: decimal_of(text, comma or have_decimal_comma(texts)) for text in texts}
+    if not texts:
+        column = Column(name, values, [], "left out of the plan, no value")
+    elif any(len(text.encode()) > MOST_VALUE for text in texts):
+        column = Column(name, [""] * len(values), [], "left out, values of more than %d bytes" % MOST_VALUE)
+    elif None in numbers.values():
+        column = text_column(name, values, texts)
+        column = column._replace(remark=column.remark + stray_remark(numbers))
+    else:
+        column = number_column(name, values, numbers, cuts)
+    if "," not in name:
+        return column
+    remark = column.remark if SEMICOLONS in column.remark else column.remark + SEMICOLONS
+    return column._replace(name=column.name.replace(",", ";"), remark=remark)
 
 
-def text_column(name: str, values: List[str], counts) -> Column:
-    yes = yes_of(counts)
+def stray_remark(numbers: Dict[str, Optional[decimal.Decimal]]) -> str:
+    """What is said of a column with more numbers than other texts."""
+    others = [text for text, number in numbers.items() if number is None]
+    if 2 * len(others) >= len(numbers):
+        return ""
+    stray = next((text for text in others if decimal_of(text, comma=True) is None), others[0])
+    return "; most are numbers and `%s` is none: correct it, or say it by --missing if it stands for no value" % stray
+
+
+def text_column(name: str, values: List[str], texts: List[str]) -> Column:
+    yes = yes_of(texts)
     if yes is not None:
         return Column(name, values, ["nominal", yes], "yes or no")
-    if len(counts) > MOST_TEXTS:
-        return Column(name, values, [], "left out of the plan, %d texts as `%s`" % (len(counts), min(counts)))
-    return Column(name, values, ["nominal", *sorted(counts)], "nominal, %s" % of("text", len(counts)))
+    if len(texts) > MOST_TEXTS:
+        return Column(name, values, [], "left out of the plan, %d texts as `%s`" % (len(texts), texts[0]))
+    written = {text: text.replace(",", ";") for text in texts}
+    remark = "nominal, %s" % of("text", len(texts))
+    if len(set(written.values())) == len(texts) and texts != list(written.values()):
+        values, texts, remark = [written.get(value, "") for value in values], list(written.values()), remark + SEMICOLONS
+    return Column(name, values, ["nominal", *texts], remark)
 
 
 def of(word: str, count: int) -> str:
     return "%d %s" % (count, word if count == 1 else word + "s")
 
 
-def yes_of(counts) -> Optional[str]:
-    """The value that says yes, if there are no values beside yes and no."""
-    folded = {value.casefold(): value for value in counts}
+def yes_of(texts: List[str]) -> Optional[str]:
+    """The text that says yes, if there are none beside yes and no."""
+    folded = {text.casefold(): text for text in texts}
     for yes, no in YES_NO.items():
-        if yes in folded and len(counts) == len(folded) and folded.keys() <= {yes, no}:
+        if yes in folded and len(texts) == len(folded) and folded.keys() <= {yes, no}:
             return folded[yes]
     return None
 
 
-def number_column(name: str, values: List[str], numbers, cuts: int) -> Column:
+def number_column(name: str, values: List[str], numbers: Dict[str, decimal.Decimal], cuts: int) -> Column:
     places = places_for(numbers.values())
     rounded = any(places_of(number) > places for number in numbers.values())
     whole_numbers = {text: whole(number, places) for text, number in numbers.items()}
     if not all(LEAST_NUMBER <= number <= LARGEST_NUMBER for number in whole_numbers.values()):
-        return text_column(name, values, collections.Counter(value for value in values if value))
+        return text_column(name, values, sorted(numbers))
     if places:
         name = "%d*%s" % (10 ** places, name)
     values = [str(whole_numbers[value]) if value else "" for value in values]
