@@ -1,2 +1,3 @@
 pub mod ReplayLemmas
 pub mod CourseLemmas
+pub mod FedBackLemmas

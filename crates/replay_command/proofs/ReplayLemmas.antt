@@ -1,18 +1,20 @@
 -- One event more on the journal of an exploration that was opened with a table.
-use Rattle.std.proofs.Common.{◌≡◌, ◌++◌, ◌∷◌, [], List, Result, Ok, Err, true, nat_le, length, refl, sym, ap, ◌∙◌, subst, arith}
+use Rattle.std.proofs.Common.{◌≡◌, ◌++◌, ◌∷◌, [], List, ℕ, Option, Some, None, Result, Ok, Err, inl, inr, true, nat_le, length, refl, sym, ap, ◌∙◌, subst, arith}
 use Rattle.std.proofs.lemmas.Bool.{and_parts, leb-true}
 use Rattle.std.specs.Prelude.{IfOk, OnOk}
-use Rattle.fca_model.specs.Tables.{NamedContext}
+use Rattle.fca_model.specs.Tables.{Text, NamedContext}
 use Rattle.fca_model.specs.declared.TheConstants.{MAX_EXPERTS}
 use Rattle.fca_model.specs.Exploration.{State, Settings, SetEvent, SetReply, SetEntry, is_expert, expert_of, has_width, reply_to, state_after, journal_of, events_of}
 use Rattle.fca_model.proofs.RunLemmas.{journal_of-push, events_of-journal_of}
 use Rattle.explore_state.specs.History.{Opening, History, opening_state, state_of, Admits, IsStep}
-use Rattle.expert_scripts.specs.Scripts.{may_apply}
+use Rattle.expert_scripts.specs.Scripts.{Said, may_apply}
 use Rattle.command_io.specs.Readings.{Reading, MayRead}
-use Rattle.command_io.specs.Endings.{Output}
+use Rattle.command_io.specs.Causes.{IsScriptStop}
+use Rattle.command_io.specs.Endings.{Output, IsFile, IsOfFile}
 use Rattle.command_io.specs.Explorations.{Recorded, recorded, IsExplored}
 use Rattle.command_io.specs.declared.stop.Stop.{Stop}
-use Rattle.replay_command.specs.Replayed.{replay_opening, explored, exploration_output, SpellsItself, MayReplay}
+use Rattle.command_io.specs.declared.stop.Stop.TheVariants.{TooLong, NoScript, Fault, Memory}
+use Rattle.replay_command.specs.Replayed.{replay_opening, explored, exploration_output, SpellsItself, MayReplay, IsSettingsStop, IsInputStop}
 
 -- the parts of an exploration that is as far as these events
 opened : (table : NamedContext) (settings : Settings) (events : List SetEvent) (h : History) → recorded h ≡ explored table settings events → h.opening ≡ replay_opening table settings
@@ -63,3 +65,20 @@ pub MayReplay-made : (reading : Reading Recorded) (made : Recorded) (r : Result 
     → IfOk r (λ answer. answer ≡ exploration_output made) → OnOk r (SpellsItself made) → IfOk r (MayReplay reading)
 MayReplay-made reading made (Ok answer) may course output spells = record { made = made; read = may; is = record { course = course; spells = spells }; output = output }
 MayReplay-made reading made (Err stop) may course output spells = tt
+
+-- ---- the stop of an input is of no file
+
+script-of_input : (n : ℕ) (input : Option Text) (rose : Type 0) (s : Stop) → IsScriptStop n input rose s → IsOfFile s → ⊥
+script-of_input n input rose (Fault at) is file = subst IsFile is.0 file
+script-of_input n input rose (TooLong at) is file = subst IsFile is.0 file
+script-of_input n input rose (NoScript fault) is file = file
+script-of_input n input rose Memory is file = file
+script-of_input n input rose _ is file = is
+
+settings-of_input : (known : Option Text) (table : NamedContext) (said : Said) (s : Stop) → IsSettingsStop known table said s → IsOfFile s → ⊥
+settings-of_input None table said s is file = subst IsOfFile is.2 file
+settings-of_input (Some known) table said s is file = subst IsOfFile is.2 file
+
+pub stop-of_input : (known : Option Text) (table : NamedContext) (input : Option Text) (rose : Type 0) (s : Stop) → IsInputStop known table input rose s → IsOfFile s → ⊥
+stop-of_input known table input rose s (inl is) file = script-of_input table.context.width input rose s is file
+stop-of_input known table input rose s (inr later) file = settings-of_input known table later.0 s later.2 file

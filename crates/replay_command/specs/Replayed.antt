@@ -18,7 +18,7 @@ use Rattle.expert_scripts.specs.declared.fault.ScriptFault.TheVariants.{BadLine}
 use Rattle.basis_report.specs.Explorations.{explore_text, Spells}
 use Rattle.command_io.specs.Readings.{Reading, then, MayRead}
 use Rattle.command_io.specs.Readings.Reading.{Refused, Read}
-use Rattle.command_io.specs.Forms.{script_read}
+use Rattle.command_io.specs.Forms.{table_read, script_read}
 use Rattle.command_io.specs.Causes.{IsScriptStop}
 use Rattle.command_io.specs.Known.{Start, respected, start_read, IsBreakStop, IsStartStop}
 use Rattle.command_io.specs.Endings.{Output, ending_of}
@@ -73,6 +73,12 @@ exploration_output r = record { text = explore_text r.opening.table r.opening.se
 -- what `replay` writes
 abbrev pub replay_output : Text → Option Text → (Text → Told) → Option Text → Reading Output
 replay_output file known files input = then (replayed file known files input) (λ r. Read (exploration_output r))
+
+-- Replayed on the text, the table of the exploration, whatever file has it, comes to just this exploration, where no file says what is known: to its
+-- transcript and what came of it, without the lines behind
+abbrev pub IsFedBack : Recorded → Text → Type 0
+IsFedBack r text = (file : Text) (files : Text → Told) → table_read file (files file) ≡ Read r.opening.table
+    → replay_output file None files (Some text) ≡ Read (exploration_output r)
 
 -- its text spells its settings and its history
 abbrev pub SpellsItself : Recorded → Type 0

@@ -12,7 +12,7 @@ ghost use Rattle.expert_scripts.specs.Transcripts.{CanBeTold};
 ghost use Rattle.command_io.specs.Readings.{MayRead, MayRefuse, Rises};
 ghost use Rattle.command_io.specs.Known.{start_of};
 ghost use Rattle.command_io.specs.Explorations.{IsExplored, recorded};
-ghost use Rattle.command_io.specs.Endings.{IsRefusal};
+ghost use Rattle.command_io.specs.Endings.{IsRefusal, IsOfFile};
 ghost use Rattle.replay_command.specs.Replayed.{explored, explored_by, replayed, replay_output, exploration_output, SpellsItself, MayReplay, IsInputStop, IsReplayStop};
 
 use crate::settings::settled;
@@ -24,7 +24,8 @@ use fca_io::{Shelf, Source};
 use fca_model::{MAX_EXPERTS, Memory, Word};
 use std::alloc::Global;
 
-/// What the exploration of the table in the file comes to, by the script on the input, where there may be a file of what is known.
+/// What the exploration of the table in the file comes to, by the script on the input, where there may be a file of what is known. The
+/// input is read once the files were.
 pub fn replay<H: Shelf, S: Source>(
     alloc: Global,
     shelf: &mut H,
@@ -35,6 +36,7 @@ pub fn replay<H: Shelf, S: Source>(
     ensures output { IfOk result (λ answer. MayRead (replay_output file.now (option_copied known.entry) (H.tells shelf.old) (S.left input.old)) answer) }
     ensures replayed { IfOk result (MayReplay (replayed file.now (option_copied known.entry) (H.tells shelf.old) (S.left input.old))) }
     ensures end { OnOk result (IsAtEnd (S.left input.new)) }
+    ensures unread { IfErr result (λ stop. IsOfFile stop → input.new ≡ input.old) }
     ensures refused { IfErr result (λ stop. IsRefusal stop → MayRefuse (replay_output file.now (option_copied known.entry) (H.tells shelf.old) (S.left input.old))) }
     ensures cause { IfErr result (IsReplayStop file.now (option_copied known.entry) (H.tells shelf.old) (S.left input.old)
         (Rises (H.faults shelf.old) (H.faults shelf.new)) (Rose (S.faults input.old) (S.faults input.new))) }
@@ -55,6 +57,7 @@ fn exploration<H: Shelf, S: Source>(
     ensures course { IfOk result (λ explore. IsExplored (recorded explore)) }
     ensures told { IfOk result (λ explore. CanBeTold explore.opening.table.context.width explore.opening.settings) }
     ensures end { OnOk result (IsAtEnd (S.left input.new)) }
+    ensures unread { IfErr result (λ stop. IsOfFile stop → input.new ≡ input.old) }
     ensures refused { IfErr result (λ stop. IsRefusal stop → MayRefuse (replayed file.now (option_copied known.entry) (H.tells shelf.old) (S.left input.old))) }
     ensures cause { IfErr result (IsReplayStop file.now (option_copied known.entry) (H.tells shelf.old) (S.left input.old)
         (Rises (H.faults shelf.old) (H.faults shelf.new)) (Rose (S.faults input.old) (S.faults input.new))) }

@@ -4,7 +4,7 @@ use Rattle.std.proofs.lemmas.Result.{IfOk-weaker, IfErr-weaker}
 use Rattle.fca_io.specs.Faults.{Rose}
 use Rattle.command_io.specs.Readings.{MayRefuse, Rises}
 use Rattle.command_io.specs.Readings.Reading.{Read}
-use Rattle.command_io.specs.Endings.{Output, IsRefusal}
+use Rattle.command_io.specs.Endings.{Output, IsRefusal, IsOfFile}
 use Rattle.command_io.specs.Explorations.{recorded}
 use Rattle.command_io.specs.declared.stop.Stop.{Stop}
 use Rattle.command_io.specs.declared.stop.Stop.TheVariants.{Memory}
@@ -43,3 +43,6 @@ returns-clause-cause g c =
     let Stops : Stop → Type 0 = IsReplayStop c.args.file.now (option_copied c.args.known) (g.H.Shelf.tells c.args.shelf.now) (g.S.Source.left c.args.input.now)
     (Rises (g.H.Shelf.faults c.args.shelf.now) (g.H.Shelf.faults c.exploration.new.shelf)) (Rose (g.S.Source.faults c.args.input.now) (g.S.Source.faults c.exploration.new.input)) in
     IfErr-weaker c.exploration_answer.result (λ (s : Stop). s ≡ Memory) Stops (λ s e. subst Stops (sym e) (inl (inl tt))) c.exploration_answer.ensures.cause
+
+pub returns-clause-unread : goal.returns-clause-unread
+returns-clause-unread g c = IfErr-weaker c.exploration_answer.result (λ (s : Stop). s ≡ Memory) _ (λ s e. λ file. absurd (subst IsOfFile e file)) c.exploration_answer.ensures.cause
