@@ -3,6 +3,7 @@
 
     stacks     the ordinal scale of 1,024 in both orders, every command, with stacks from 256 KB up; the threads of the program have such stacks, too
     addresses  every command with a limit on addresses, in steps up to what it needs
+    growth     a session that records more and more, until it is told `no memory`; it goes on, and ends by `quit`
     files      every command with 0 to 12 open files
     threads    the commands that use threads, with 1 to 24 of them; as root, by a user that nobody else is, and else not
     memory     every command with each of its allocations refused in turn (bench/refused_memory.py, which wants cc)
@@ -31,9 +32,9 @@ sys.path.insert(0, os.path.dirname(os.path.abspath(__file__)))
 import measure
 import refused_memory
 
-SECONDS = 120
+SECONDS = 600
 ORDINAL = 1024
-STACKS = [256, 288, 320, 384, 512, 768, 1024, 1536, 2048, 8192]  # in KB
+STACKS = [256, 320, 512, 1024, 8192]  # in KB
 NOBODY = 61234  # the number of a user that has no other processes
 NO_MEMORY = b"fca: no memory\n"
 
@@ -199,7 +200,7 @@ def write_tall(place, order):
 
 def stacks(place, report, is_quick):
     """Every command over both orders with small stacks; the threads of a program have stacks of the size of the limit."""
-    sizes = STACKS[:1] + STACKS[6:7] if is_quick else STACKS
+    sizes = STACKS[:1] if is_quick else STACKS
     for order in ("first", "last"):
         write_tall(place, order)
         for words, stdin in tall_commands(order):
@@ -242,6 +243,16 @@ def addresses(place, report, is_quick):
     for step in range(4 if is_quick else 24):
         limit = 8192 + 16384 * step
         report.add(*served(place, "empty.cxt", 8, below(limit, begin), limit="-v %d" % limit), "addresses %d KB" % limit)
+
+
+def growth(place, report, is_quick):
+    """In steps of 512 KB above what a session needs."""
+    enough = least(lambda limit: served(place, "empty.cxt", 1, limit="-v %d" % limit)[0] == "answered", 1024, 1 << 20, 1024)
+    for step in range(1, 5 if is_quick else 17):
+        replies, limit = [], enough + 512 * step
+        end, words, ran = served(place, "empty.cxt", 1, limit="-v %d" % limit, given=LONG, replies=replies)
+        is_right = end == "answered" and b"no memory\n" in replies and replies[-1] == b"bye\n"
+        report.add(end if is_right or end != "answered" else "wrong", words, "addresses %d KB" % limit, "last reply %r" % replies[-1:], ran)
 
 
 def files(place, report, is_quick):
@@ -382,24 +393,23 @@ def streams(place, report, is_quick):
 
 
 LINES = [b"draw\n", b"confirm\n", b"draw\n", b"leave\n", b"quit\n"]
+LONG = [b"row .. %s\n" % (b"n" * 255)] * 100000  # each is recorded with its name, also where nothing is held
 
 
-def talk(port, replies):
-    """A session of some lines, as far as it comes."""
+def talk(port, given, replies):
+    """A session of these lines, as far as it comes; `quit` follows the third `no memory`."""
     try:
         with socket.create_connection(("127.0.0.1", port)) as link, link.makefile("rb") as lines:
             link.settimeout(SECONDS)
             head = [lines.readline() for _ in range(3)]
-            if not head[2]:
-                return
-            for _ in range(int(head[2].split()[1])):
+            for _ in range(int(head[2].split()[1]) if head[2] else 0):
                 lines.readline()
-            for line in LINES:
-                link.sendall(line)
-                reply = lines.readline()
-                if not reply.endswith(b"\n"):
+            for line in given:
+                is_last = replies.count(b"no memory\n") >= 3
+                link.sendall(b"quit\n" if is_last else line)
+                replies.append(lines.readline())
+                if is_last or not replies[-1].endswith(b"\n"):
                     return
-                replies.append(reply)
     except OSError:
         pass
 
@@ -416,8 +426,8 @@ def is_listening(child, port):
     return False
 
 
-def served(place, table, experts, may=(), limit=None, before=None):
-    """How sessions of so many experts end under a limit, the words, and what the run came to."""
+def served(place, table, experts, may=(), limit=None, before=None, given=LINES, replies=None):
+    """How sessions of so many experts end under a limit, the words, and what the run came to; `replies` are those of all."""
     port = refused_memory.free_port()
     words = "serve %s --experts %d --listen 127.0.0.1:%d" % (table, experts, port)
     command = (["bash", "-c", 'ulimit %s && exec "$@"' % limit, "bash"] if limit else []) + [place.program] + words.split()
@@ -425,7 +435,7 @@ def served(place, table, experts, may=(), limit=None, before=None):
     with tempfile.TemporaryFile() as out, tempfile.TemporaryFile() as err:
         child = subprocess.Popen(command, stdin=subprocess.DEVNULL, stdout=out, stderr=err, cwd=place.folder, preexec_fn=before)
         if is_listening(child, port):
-            clients = [threading.Thread(target=talk, args=(port, [])) for _ in range(experts)]
+            clients = [threading.Thread(target=talk, args=(port, given, [] if replies is None else replies)) for _ in range(experts)]
             for client in clients:
                 client.start()
             for client in clients:
@@ -452,7 +462,7 @@ def session_end(place, table, experts, ran, may):
     return "answered" if ran.status in (0, 6) and sessions.count(b"\n") == experts and again == record else "wrong"
 
 
-PARTS = {"stacks": stacks, "addresses": addresses, "files": files, "threads": threads, "memory": memory, "calls": calls, "streams": streams}
+PARTS = {"stacks": stacks, "addresses": addresses, "growth": growth, "files": files, "threads": threads, "memory": memory, "calls": calls, "streams": streams}
 
 
 def main():
