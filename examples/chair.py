@@ -23,7 +23,8 @@ With --connect ADDRESS in place of F the chair starts nothing, and takes all N e
 --holders must be as that `serve` has them, and the text is written where that `serve` writes it.
 
 What it trusts: the program for every reply, and the order of coming or a name for who is who. There is no password and no encryption.
-It says nothing of what the network does, and what it wrote into R outlives the chair, but perhaps not the machine.
+It says nothing of what the network does. What it wrote into R outlives the chair, even one that is killed; R is put on the disk about once a
+second, so where the power fails the last second may be lost.
 """
 import argparse
 import contextlib
@@ -188,7 +189,7 @@ class Record:
     """The file R: what is set, and each event with its reply, written as it happens."""
 
     def __init__(self, path, script):
-        self.path, self.script, self.events = path, script, []
+        self.path, self.script, self.events, self.kept = path, script, [], time.monotonic()
         try:
             self.file = open(path, "x", encoding="utf-8", errors="surrogateescape", newline="\n")
         except FileExistsError:
@@ -203,6 +204,15 @@ class Record:
             self.file.flush()
         except OSError as error:
             raise Refused("%s: %s" % (self.path, error.strerror))
+
+    def keep(self):
+        """Has the system put what was written on the disk, about once a second."""
+        if time.monotonic() - self.kept > 1:
+            self.kept = time.monotonic()
+            try:
+                os.fsync(self.file.fileno())
+            except OSError as error:
+                raise Refused("%s: %s" % (self.path, error.strerror))
 
     def add(self, event):
         self.events.append(event.text())
@@ -485,6 +495,7 @@ class Chair:
                 self.look_after(student)
             if self.doors in reads:
                 self.come()
+            self.record.keep()
 
     def close(self):
         """Sends what is taken at once, and closes."""
