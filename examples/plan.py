@@ -144,6 +144,12 @@ def cuts(text):
     return number
 
 
+def separator(text):
+    if len(text) != 1:
+        raise argparse.ArgumentTypeError("a separator has one character; of a tab that is $'\\t'")
+    return text
+
+
 def parsed(arguments):
     parser = Words(description=__doc__, formatter_class=argparse.RawDescriptionHelpFormatter)
     commands = parser.add_subparsers(dest="command", metavar="COMMAND")
@@ -170,7 +176,7 @@ def add_make(commands):
     makes.add_argument("--names", metavar="COLUMN", help="the column that names the objects; '' for none")
     makes.add_argument("--count", metavar="COLUMN", help="the column that says how many objects a line stands for")
     makes.add_argument("--missing", nargs="+", default=[], metavar="WORD", help="more words that stand for no value")
-    makes.add_argument("--separator", metavar="C", help="the separator, where it is not seen by itself")
+    makes.add_argument("--separator", type=separator, metavar="C", help="the separator, where it is not seen by itself")
     makes.set_defaults(run=make)
 
 

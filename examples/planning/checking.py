@@ -208,22 +208,22 @@ def attribute_mistakes(file: str, number: int, record: Record, attributes: List[
 def scale_mistakes(file: str, meant: PlanRecord, values: Optional[Values]) -> Iterator[Mistake]:
     """The scale values that are none of the kind."""
     scale = meant.record.fields[2:]
-    column = [] if values is None else values.column(values.attributes.index(meant.attribute))
-    for field, value in enumerate(scale, 3):
-        if scale_value(meant.kind, value) is not None:
-            continue
+    bad = [(field, value) for field, value in enumerate(scale, 3) if scale_value(meant.kind, value) is None]
+    decimals = decimals_beside(meant, values) if bad else 0
+    for field, value in bad:
         if not value:
             remedy = TAKEN_AWAY if any(scale) else "write a scale value"
         elif meant.kind == b"nominal":
             remedy = remedies.for_name(value)
         else:
-            remedy = remedies.for_number(value, TAKEN_AWAY, decimals_of(column + scale))
+            remedy = remedies.for_number(value, TAKEN_AWAY, decimals)
         yield Mistake(file, meant.place(field), "bad scale value, there is %s" % shown(value), remedy)
 
 
-def decimals_of(fields: List[bytes]) -> int:
-    """How many decimals the numbers among these have."""
-    numbers = [decimal_of(decoded(field)) for field in fields]
+def decimals_beside(meant: PlanRecord, values: Optional[Values]) -> int:
+    """How many decimals the numbers of the scale have, and those of the attribute."""
+    column = [] if values is None else values.column(values.attributes.index(meant.attribute))
+    numbers = [decimal_of(decoded(field)) for field in column + meant.record.fields[2:]]
     return places_for(number for number in numbers if number is not None)
 
 
@@ -233,7 +233,7 @@ def column_mistakes(meant: PlanRecord, values: Optional[Values]) -> Iterator[Mis
         return
     place = values.attributes.index(meant.attribute)
     column = values.column(place)
-    decimals = decimals_of(column + meant.record.fields[2:])
+    decimals = decimals_beside(meant, values)
     for number, (record, value) in enumerate(zip(values.objects, column), 2):
         if value and number_of(value) is None:
             what = "bad value of %s under `%s`, there is %s" % (shown(meant.attribute), decoded(meant.kind), shown(value))
