@@ -9,6 +9,9 @@
     memory     every command with each of its allocations refused in turn (bench/refused_memory.py, which wants cc)
     calls      every command with each call that asks the system for memory, and each that begins a thread, refused in turn (wants strace)
     streams    every command with closed and full streams
+    endless    tables whose concepts, or whose direct basis, no machine can list, within 256 MB of addresses
+    replies    replies to lines that were sent at once, with bytes behind `quit` or a line that is too long; and a client too many
+    listen     addresses that are none
 
 Each run has to come to the whole answer, or to one of the ends that docs/FORMATS.md names, with its line on err and nothing on out but a front of
 the text where the output fails. Where the system does not begin the program at all (its loader is refused), the run does not count. A part that the
@@ -462,7 +465,124 @@ def session_end(place, table, experts, ran, may):
     return "answered" if ran.status in (0, 6) and sessions.count(b"\n") == experts and again == record else "wrong"
 
 
-PARTS = {"stacks": stacks, "addresses": addresses, "growth": growth, "files": files, "threads": threads, "memory": memory, "calls": calls, "streams": streams}
+# ---- what no machine can list
+
+
+def without_one(count):
+    """The table in which object i has all but attribute i: each set of attributes is an intent."""
+    return table_of(count, ["X" * i + "." + "X" * (count - i - 1) for i in range(count)])
+
+
+def without_pairs(count):
+    """Object i has all but two attributes of its own and the last one, which is implied by whatever has one of each pair."""
+    return table_of(2 * count + 1, ["X" * (2 * i) + ".." + "X" * (2 * (count - i - 1)) + "." for i in range(count)])
+
+
+def table_of(width, rows):
+    names = ["g%d" % i for i in range(len(rows))] + ["m%d" % i for i in range(width)]
+    return "".join(line + "\n" for line in ["B", "", str(len(rows)), str(width), ""] + names + rows)
+
+
+def endless(place, report, is_quick):
+    place.write("sets.cxt", without_one(48))
+    place.write("pairs.cxt", without_pairs(40))
+    for words in ("concepts sets.cxt", "concepts sets.cxt --json", "lattice sets.cxt", "direct pairs.cxt"):
+        ran = place.run(words, limit="-v %d" % (256 * 1024))
+        report.add("refused" if ran == Ran(5, b"", NO_MEMORY) else "wrong", words, ran)
+
+
+# ---- the door
+
+
+def connections(place, experts, count):
+    """A session for so many experts, and so many connections to it."""
+    port = refused_memory.free_port()
+    words = [place.program, "serve", "empty.cxt", "--experts", str(experts), "--listen", "127.0.0.1:%d" % port]
+    measure.set_tunables("serve")
+    child = subprocess.Popen(words, stdin=subprocess.DEVNULL, stdout=subprocess.DEVNULL, cwd=place.folder)
+    links = [socket.create_connection(("127.0.0.1", port)) for _ in range(count)] if is_listening(child, port) else []
+    for link in links:
+        link.settimeout(SECONDS)
+    return child, links
+
+
+def lines_until_closed(link):
+    """How many lines come."""
+    count = 0
+    try:
+        while True:
+            came = link.recv(65536)
+            if not came:
+                return count
+            count += came.count(b"\n")
+    except OSError:
+        return count
+
+
+def arrive(place, behind):
+    """How many replies arrive to 20,000 lines that are sent at once with these bytes behind them."""
+    child, links = connections(place, 1, 1)
+    text = b"draw\n" * 20000 + behind
+    sender = threading.Thread(target=send_all, args=(links[0], text))
+    sender.start()
+    count = lines_until_closed(links[0]) - 5
+    sender.join()
+    links[0].close()
+    child.wait(SECONDS)
+    return count
+
+
+def send_all(link, text):
+    try:
+        link.sendall(text)
+    except OSError:
+        pass  # the program has closed the connection
+
+
+def is_door_closed(place):
+    """Whether one too many is let go while the others are still there."""
+    child, links = connections(place, 2, 3)
+    links[0].recv(1)
+    links[2].settimeout(10)
+    try:
+        is_closed = links[2].recv(1) == b""
+    except socket.timeout:
+        is_closed = False
+    except OSError:
+        is_closed = True
+    is_running = child.poll() is None
+    for link in links:
+        link.close()
+    child.wait(SECONDS)
+    return is_closed and is_running
+
+
+def replies(place, report, is_quick):
+    for behind, expected in ((b"quit\n" + b"draw\n" * 2000, 20001), (b"x" * 9000, 20000)):
+        for _ in range(2 if is_quick else 10):
+            count = arrive(place, behind)
+            report.add("answered" if count == expected else "wrong", "serve", "%d of %d replies arrive, behind them %r .." % (count, expected, behind[:5]))
+    report.add("answered" if is_door_closed(place) else "wrong", "serve", "a client too many waits")
+
+
+ADDRESSES = ["127.0.0.1:0", "127.0.0.1:+48397", "127.0.0.1:048397", "127.0.0.1:65536", "127.0.0.1:", "127.0.0.1", ":48397", "127.0.0.1:48397 ", "no.such.host.invalid:48397"]
+
+
+def listen(place, report, is_quick):
+    for address in ADDRESSES:
+        measure.set_tunables("serve")
+        words = [place.program, "serve", "empty.cxt", "--experts", "1", "--listen", address]
+        try:
+            ran = subprocess.run(words, stdin=subprocess.DEVNULL, stdout=subprocess.PIPE, stderr=subprocess.PIPE, cwd=place.folder, timeout=30)
+            ran = Ran(ran.returncode, ran.stdout, ran.stderr)
+        except subprocess.TimeoutExpired:
+            ran = Ran(None, b"", b"")
+        report.add("refused" if ran == Ran(7, b"", b"fca: listener fault\n") else "wrong", "serve --listen " + repr(address), ran)
+
+
+PARTS = {
+    part.__name__: part for part in (stacks, addresses, growth, files, threads, memory, calls, streams, endless, replies, listen)
+}
 
 
 def main():
