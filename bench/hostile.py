@@ -590,6 +590,8 @@ def main():
     parser.add_argument("--quick", action="store_true", help="fewer steps, a minute or two")
     parser.add_argument("parts", nargs="*", metavar="PART", default=list(PARTS), help=", ".join(PARTS))
     said = parser.parse_args()
+    if not set(said.parts) <= set(PARTS):
+        parser.error("a part is one of " + ", ".join(PARTS))
     report, begin = Report(), time.time()
     with tempfile.TemporaryDirectory() as folder:
         place = Place(folder)

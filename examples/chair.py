@@ -30,6 +30,7 @@ import argparse
 import contextlib
 import errno
 import os
+import re
 import select
 import signal
 import socket
@@ -55,8 +56,8 @@ NOT_RECORDED = ("bad line", "bad width", "no memory")
 
 
 def say(text):
-    """Tells who leads the class; what a student sent cannot move the cursor."""
-    print("chair: " + "".join(mark if mark.isprintable() else "?" for mark in text), file=sys.stderr, flush=True)
+    """Tells who leads the class. What could move the cursor is not shown."""
+    print("chair: " + re.sub(r"[\x00-\x1f\x7f-\x9f]", "?", text), file=sys.stderr, flush=True)
 
 
 # ---- the program's side

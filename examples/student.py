@@ -10,6 +10,7 @@ What it trusts: the program at the other end for every question and reply, and t
 not to send a counterexample that cannot count: one that lacks what the question is about, or has all that is asked.
 """
 import argparse
+import re
 import socket
 import sys
 import time
@@ -26,6 +27,7 @@ OTHERS = {
     "left": "The question is given back.",
     "no memory": "The program has no memory for that just now.",
 }
+CONTROL = re.compile(r"[\x00-\x1f\x7f-\x9f]")  # what could move the cursor is not shown
 WAIT_SECONDS = (2, 15)  # until it draws again, while others think about all questions: at first, and at most
 
 
@@ -36,7 +38,7 @@ class Ended(Exception):
 def address_of(text):
     """The host and the port of HOST:PORT."""
     host, _, port = text.rpartition(":")
-    if not host or not port.isdigit():
+    if not host or not port.isdigit() or int(port) > 65535:
         raise argparse.ArgumentTypeError("%s is not HOST:PORT, as 127.0.0.1:7000" % text)
     return host.strip("[]"), int(port)
 
@@ -84,7 +86,7 @@ class Line:
             line = ""
         if not line.endswith("\n"):
             raise Ended("The exploration has ended.")
-        return line[:-1]
+        return CONTROL.sub("?", line[:-1])
 
     def ask(self, line):
         self.send(line)
@@ -163,23 +165,19 @@ class Talk:
         premise, conclusion = patterns.split(" ")[:2]
         return Question(self.line.attributes, premise, conclusion).rule(self.one)
 
-    def pattern(self, name):
-        """The pattern of a counterexample, attribute by attribute; None where it cannot count."""
-        has = {}
-        for place, attribute in enumerate(self.question.premise, 1):
-            has[attribute] = is_yes('Does %s have "%s"?' % (name, attribute))
-            if not has[attribute]:
+    def pattern(self):
+        """The pattern of a counterexample, attribute by attribute, first those of the question; None where it cannot count."""
+        question, has = self.question, {}
+        others = [name for name in self.line.attributes if name not in question.premise + question.asked]
+        for attribute in question.premise + question.asked + others:
+            has[attribute] = is_yes('Does %s have "%s"?' % (self.name, attribute))
+            if attribute in question.premise and not has[attribute]:
                 print(self.missing(attribute))
                 return None
-        for attribute in self.question.asked:
-            has[attribute] = is_yes('Does %s have "%s"?' % (name, attribute))
-        if all(has.values()):
-            print(self.keeping())
-            return None
-        for attribute in self.line.attributes:
-            if attribute not in has:
-                has[attribute] = is_yes('Does %s have "%s"?' % (name, attribute))
-        return "".join("X" if has[attribute] else "." for attribute in self.line.attributes) or "-"
+            if attribute == question.asked[-1] and all(has.values()):
+                print(self.keeping())
+                return None
+        return "".join("X" if has[attribute] else "." for attribute in self.line.attributes)
 
     def missing(self, attribute):
         return '%s does not count here: it lacks "%s", and the question is only about what has that.' % (self.name, attribute)
@@ -194,7 +192,7 @@ class Talk:
             print("That name is too long.")
         if not 0 < len(self.name.encode("utf-8", "surrogateescape")) < 256:
             return None
-        pattern = self.pattern(self.name)
+        pattern = self.pattern()
         return pattern and self.line.ask("row %s %s" % (pattern, self.name))
 
     def sentence(self, reply):
