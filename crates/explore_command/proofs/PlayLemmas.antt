@@ -1,10 +1,11 @@
 -- The text of an exploration by oracles: the conflicts that the oracles have are those of their entries, lines of conflicts change nothing of what the text
 -- spells, and what is promised of the oracles is said of the tables of the experts.
-use Rattle.std.proofs.Common.{◌≡◌, ◌↔◌, ◌⊎◌, ◌≤◌, ◌<◌, ◌∙◌, ◌+◌, ◌++◌, ◌∷◌, [], ℕ, suc, List, Vec, Global, Bool, true, false, All, map, length, append_assoc, append-nil, Option, Some, None, Result, Ok, Err, inl, inr, refl, sym, ap, subst, arith}
-use Rattle.std.specs.Prelude.{◌^◌, slice_get, option_map, codes, IfOk}
+use Rattle.std.proofs.Common.{◌≡◌, ◌↔◌, ◌⊎◌, ◌≤◌, ◌<◌, ◌∙◌, ◌+◌, ◌++◌, ◌∷◌, [], ℕ, suc, List, Vec, Global, Bool, true, false, All, map, length, append_assoc, append-nil, Option, Some, None, Result, Ok, Err, inl, inr, refl, sym, ap, subst, arith, leb-true, le-leb}
+use Rattle.std.specs.Prelude.{◌^◌, nat_le, slice_get, option_map, IfOk}
 use Rattle.std.specs.List.{flat_map, enumerate_from}
 use Rattle.std.proofs.lemmas.Grind.{flat_map-append}
-use Rattle.std.proofs.lemmas.Option.{slice_get-map}
+use Rattle.std.proofs.lemmas.Bool.{and_parts, and_from}
+use Rattle.std.proofs.lemmas.Option.{slice_get-map, slice_get_within}
 use Rattle.std.proofs.lemmas.List.{length-map}
 use Rattle.std.proofs.lemmas.List.Elements.{All-head, All-tail}
 use Rattle.fca_model.specs.Sets.{Set}
@@ -14,21 +15,26 @@ use Rattle.fca_model.specs.Implications.{Rule}
 use Rattle.fca_model.specs.Questions.{open_questions}
 use Rattle.fca_model.specs.Pseudo.{basis_known}
 use Rattle.fca_model.specs.Invariant.{rows_respect}
+use Rattle.fca_model.specs.declared.Event.TheVariants.{Draw}
+use Rattle.fca_model.specs.declared.TheConstants.{MAX_EXPERTS}
 use Rattle.fca_model.specs.Exploration.{Settings, SetEntry, own, rules_of, opening, open_in, state_after, events_of, is_expert, IsLegal}
 use Rattle.fca_model.proofs.CourseLemmas.{run_settings}
+use Rattle.fca_model.proofs.RunLemmas.{own-append, legal_events}
+use Rattle.fca_model.proofs.ValidLemmas.{opening_valid}
+use Rattle.oracle_expert.specs.Counts.{recorded_in}
 use Rattle.oracle_expert.specs.Oracles.{Recall, Conflicts, no_conflict}
-use Rattle.oracle_expert.specs.Runs.{ends_done, conflicts_of}
+use Rattle.oracle_expert.specs.Runs.{Moment, start, moment_after, moment_at, OracleRunsFrom, IsOracleFront, ends_done, conflicts_of}
+use Rattle.oracle_expert.proofs.CountLemmas.{oracle_turns}
+use Rattle.oracle_expert.proofs.DrawLemmas.{recorded_between}
 use Rattle.fca_model.specs.declared.Memory.{Memory}
 use Rattle.expert_panel.specs.declared.explored.Explored.{Explored}
 use Rattle.expert_panel.specs.Explorations.{IsOraclesShare, EachNumbered, HasAgreed, is_part}
 use Rattle.explore_state.specs.History.{Opening, History, opening_state, state_of, open_of}
 use Rattle.basis_report.specs.Comments.{comments as comments_of, are_lines, AreComments}
 use Rattle.expert_scripts.specs.Transcripts.{CanBeTold, transcript}
-use Rattle.report_texts.specs.Reports.{counted, arrow_lines}
-use Rattle.basis_report.specs.Explorations.{recorded_section, accepted_section, open_section, basis_section, state_of_text, explore_text, Spells, SpellsBefore}
+use Rattle.basis_report.specs.Explorations.{recorded_section, accepted_section, open_section, basis_lines, state_of_text, explore_text, text_before_basis, Spells, SpellsBefore}
 use Rattle.basis_report.specs.Conflicts.{dropped_at, dropped_of, dropped_from, conflicts_section, conflicts_text}
-use Rattle.basis_report.proofs.ExplorationLemmas.{sections-known}
-use Rattle.basis_report.proofs.OrderLemmas.{finished_basis}
+use Rattle.basis_report.proofs.OrderLemmas.{finished_text}
 use Rattle.command_io.specs.Endings.{Output}
 use Rattle.command_io.specs.Readings.{Reading, MayRead}
 use Rattle.command_io.specs.Readings.Reading.{Read}
@@ -50,16 +56,50 @@ dropped-oracles H e (oracle ∷ oracles) h =
     subst Q behind (h (suc k) other at)) in
     ap (λ c. (oracle.table, c) ∷ map with_conflicts oracles) here ∙ ap (λ l. (oracle.table, conflicts_of oracle.table (own H e)) ∷ l) rest
 
-share-by : (H : List SetEntry) (k : ℕ) (D : NamedContext) (found : Option Recall) → ((oracle : Recall) → found ≡ Some oracle → IsOraclesShare turns H (k + 1) oracle)
-    → option_map (λ (oracle : Recall). oracle.table) found ≡ Some D → IsShare H (k + 1) D
-share-by H k D None h e = cc
-share-by H k D (Some oracle) h e =
+-- the part of an oracle is one of its table
+part-by : (H : List SetEntry) (k : ℕ) (D : NamedContext) (found : Option Recall) → ((oracle : Recall) → found ≡ Some oracle → IsOraclesShare turns H (k + 1) oracle)
+    → option_map (λ (oracle : Recall). oracle.table) found ≡ Some D
+    → IsOracleFront D (k + 1) (own H (k + 1)) × ((ends_done (own H (k + 1)) ≡ true) ⊎ ((ends_done (own H (k + 1)) ≡ false) × (length (own H (k + 1)) ≡ turns)))
+part-by H k D None h e = cc
+part-by H k D (Some oracle) h e =
     let same : oracle.table ≡ D = cc in
     let share = h oracle refl in
-    subst (IsShare H (k + 1)) same (record { front = share.front; end = share.end })
+    (subst (λ T. IsOracleFront T (k + 1) (own H (k + 1))) same share.front, share.end)
 
-shares-tables : (H : List SetEntry) (oracles : List Recall) → EachNumbered (IsOraclesShare turns H) oracles → EachNumbered (IsShare H) (map (λ oracle. oracle.table) oracles)
-shares-tables H oracles h = λ k D e. share-by H k D (slice_get oracles k) (λ oracle at. h k oracle at) (sym (slice_get-map (λ (oracle : Recall). oracle.table) oracles k) ∙ e)
+-- an expert's number is one
+is_number : {X : Type 0} (experts : List X) → is_expert (length experts) ≡ true → (k : ℕ) (x : X) → slice_get experts k ≡ Some x → is_expert (k + 1) ≡ true
+is_number experts few k x at =
+    let most = leb-true (length experts) MAX_EXPERTS (and_parts (nat_le 1 (length experts)) (nat_le (length experts) MAX_EXPERTS) few).1 in
+    let within = slice_get_within experts k x at in
+    and_from (nat_le 1 (k + 1)) (nat_le (k + 1) MAX_EXPERTS) (le-leb 1 (k + 1) (omega arith)) (le-leb (k + 1) MAX_EXPERTS (omega arith))
+
+-- of the run of an oracle what is behind some entries is one
+runs-on : (D : NamedContext) (e : ℕ) (m : Moment) (xs ys : List SetEntry) → OracleRunsFrom D e m (xs ++ ys) → OracleRunsFrom D e (moment_at D m xs) ys
+runs-on D e m [] ys run = run
+runs-on D e m (x ∷ xs) ys run = runs-on D e (moment_after D m x.reply) xs ys run.2
+
+-- of a legal history from the table under these settings, where all experts may hold one question
+module _ (T : NamedContext) (G : Settings) (H : List SetEntry) (respecting : rows_respect G.known T.context ≡ true) (most : G.holders ≡ MAX_EXPERTS) (legal : IsLegal (opening T.context T.objects G) H) where
+  drawn-apart : (D : NamedContext) (e : ℕ) → is_expert e ≡ true → IsOracleFront D e (own H e) → (before between after : List SetEntry) (first second : SetEntry)
+      → H ≡ before ++ (first ∷ between ++ second ∷ after) → first.event ≡ Draw e → second.event ≡ Draw e → 1 ≤ recorded_in between
+  drawn-apart D e expert front before between after first second cut draw again =
+      let from : List SetEntry = first ∷ between ++ second ∷ after in
+      let parted : own H e ≡ own before e ++ own from e = ap (λ J. own J e) cut ∙ own-append before from e in
+      let on = runs-on D e (start D) (own before e) (own from e) (subst (OracleRunsFrom D e (start D)) parted front) in
+      recorded_between D e expert (events_of H) (opening T.context T.objects G) (opening_valid T.context T.objects G respecting) most (legal_events (opening T.context T.objects G) H legal).0
+      (moment_at D (start D) (own before e)) before between after first second (legal.replayed ∙ cut) draw again on
+
+  shares-tables : (oracles : List Recall) → is_expert (length oracles) ≡ true → EachNumbered (IsOraclesShare turns H) oracles → EachNumbered (IsShare H) (map (λ oracle. oracle.table) oracles)
+  shares-tables oracles few h = λ k D at.
+      let tables : List NamedContext = map (λ (oracle : Recall). oracle.table) oracles in
+      let expert : is_expert (k + 1) ≡ true = is_number tables (ap is_expert (length-map oracles (λ (oracle : Recall). oracle.table)) ∙ few) k D at in
+      let part = part-by H k D (slice_get oracles k) (λ oracle there. h k oracle there) (sym (slice_get-map (λ (oracle : Recall). oracle.table) oracles k) ∙ at) in
+      record {
+        front = part.0;
+        end = part.1;
+        within = oracle_turns T.context T.objects G H respecting most legal D (k + 1) expert [] (own H (k + 1)) refl part.0;
+        apart = drawn-apart D (k + 1) expert part.0;
+      }
 
 -- what its settings are can be told
 pub told-play : (p : Panel) (explore : History) (oracles : List Recall) (spent : Bool) → IsPlay p explore oracles spent
@@ -143,7 +183,7 @@ no_conflicts : (attributes : List Text) (J L : List Rule) (oracles : List Recall
 unfolding conflicts_text
 no_conflicts attributes J L oracles kept = ap (conflicts_section attributes J) (none_dropped-from 0 oracles kept)
 
-regrouped : (t r a o b c : Text) → (t ++ (r ++ (a ++ (o ++ b)))) ++ c ≡ (t ++ (r ++ a)) ++ (o ++ (b ++ c))
+regrouped : (t r a o b c : Text) → ((t ++ (r ++ (a ++ o))) ++ b) ++ c ≡ (t ++ (r ++ a)) ++ (o ++ (b ++ c))
 regrouped t r a o b c = simp append_assoc
 
 -- the text of an exploration at whose end no question is open, before such conflicts
@@ -151,21 +191,14 @@ agreed_text : (T : NamedContext) (G : Settings) (H : List SetEntry) (C : Context
     → open_questions G.known (state_of_text T G H).context (state_of_text T G H).accepted ≡ [] → basis_known G.known (state_of_text T G H).context ≡ basis_known G.known C
     → explore_text T G H ++ conflicts
     ≡ (transcript T.attributes G H ++ (recorded_section H ++ accepted_section T.attributes (length G.known) (state_of_text T G H).accepted))
-    ++ (open_section T.attributes [] ++ ((counted (codes "# basis ") (length (basis_known G.known C)) ++ arrow_lines (codes "# ") T.attributes (basis_known G.known C)) ++ conflicts))
-unfolding explore_text
+    ++ (open_section T.attributes [] ++ (basis_lines T.attributes (basis_known G.known C) ++ conflicts))
 agreed_text T G H C conflicts respected legal done same =
     let s = state_of_text T G H in
-    let S = G.known in
-    let B = basis_known S C in
-    let settled : s.settings.known ≡ S = ap (λ (x : Settings). x.known) (run_settings (opening T.context T.objects G) (events_of H)) in
+    let settled : s.settings.known ≡ G.known = ap (λ (x : Settings). x.known) (run_settings (opening T.context T.objects G) (events_of H)) in
     let none : open_in s ≡ [] = ap (λ K. open_questions K s.context s.accepted) settled ∙ done in
-    let at_end : basis_section T.attributes s.accepted [] ≡ counted (codes "# basis ") (length B) ++ arrow_lines (codes "# ") T.attributes B =
-    finished_basis T G H respected legal none ∙ ap (λ (J : List Rule). counted (codes "# basis ") (length J) ++ arrow_lines (codes "# ") T.attributes J) same in
-    let head = accepted_section T.attributes (length S) s.accepted in
-    ap (λ l. (transcript T.attributes G H ++ l) ++ conflicts)
-    (sections-known T.attributes H s S settled ∙ ap (λ (Q : List Rule). recorded_section H ++ (head ++ (open_section T.attributes Q ++ basis_section T.attributes s.accepted Q))) done
-    ∙ ap (λ l. recorded_section H ++ (head ++ (open_section T.attributes [] ++ l))) at_end)
-    ∙ regrouped (transcript T.attributes G H) (recorded_section H) head (open_section T.attributes []) (counted (codes "# basis ") (length B) ++ arrow_lines (codes "# ") T.attributes B) conflicts
+    ap (λ l. l ++ conflicts) (finished_text T G H respected legal none ∙ ap (λ (J : List Rule). text_before_basis T G H ++ basis_lines T.attributes J) same)
+    ∙ regrouped (transcript T.attributes G H) (recorded_section H) (accepted_section T.attributes (length G.known) s.accepted) (open_section T.attributes [])
+    (basis_lines T.attributes (basis_known G.known C)) conflicts
 
 panel_text-play : (p : Panel) (explore : History) (oracles : List Recall) (spent : Bool) → IsPlay p explore oracles spent
     → text_with_conflicts explore oracles ≡ panel_text p explore.journal
@@ -209,10 +242,11 @@ IsPanelText-play p explore oracles spent text expert play whole spelled =
     record {
       history = H;
       whole = whole ∙ panel_text-play p explore oracles spent play;
-      spells = spells.history;
-      settings = spells.settings;
+      spells = spells;
       course = legal-course p.table (length p.experts) p.settings H expert play.may.respected play.may.told.known legal;
-      shares = (let P : List NamedContext → Type 0 = EachNumbered (IsShare H) in subst P play.tables (shares-tables H oracles play.shares));
+      shares = (let P : List NamedContext → Type 0 = EachNumbered (IsShare H) in
+          let few : is_expert (length oracles) ≡ true = ap is_expert (sym (length-map oracles (λ (oracle : Recall). oracle.table)) ∙ ap length play.tables) ∙ expert in
+          subst P play.tables (shares-tables p.table p.settings H play.may.respected play.may.free legal oracles few play.shares));
       others = play.others;
       unfinished = play.unfinished;
       finished = subst Open play.opening play.finished;

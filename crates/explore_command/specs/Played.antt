@@ -1,5 +1,5 @@
 -- What `explore` writes: the text of one legal history, which the oracles of the experts' tables made, and the conflicts in which rows of theirs were dropped.
-use Rattle.std.specs.Prelude.{◌≡◌, ◌↔◌, ◌⊎◌, ◌≤◌, ◌<◌, ◌+◌, ◌^◌, ℕ, Bool, true, false, cond, List, [], ◌∷◌, ◌++◌, length, map, All, codes}
+use Rattle.std.specs.Prelude.{◌≡◌, ◌↔◌, ◌⊎◌, ◌≤◌, ◌<◌, ◌+◌, ◌*◌, ◌^◌, ℕ, Bool, true, false, cond, List, [], ◌∷◌, ◌++◌, length, map, All}
 use Rattle.fca_model.specs.Context.{Context}
 use Rattle.fca_model.specs.Tables.{Text, NamedContext}
 use Rattle.fca_model.specs.Implications.{Rule}
@@ -7,12 +7,13 @@ use Rattle.fca_model.specs.Pseudo.{basis_known}
 use Rattle.fca_model.specs.Invariant.{rows_respect}
 use Rattle.fca_model.specs.Exploration.{SetEntry, rules_of, own, IsLegal}
 use Rattle.explore_state.specs.History.{History, opening_state, state_of, open_of}
+use Rattle.fca_model.specs.declared.Event.TheVariants.{Draw}
+use Rattle.oracle_expert.specs.Counts.{recorded_in, dropped}
 use Rattle.oracle_expert.specs.Oracles.{Recall, Conflicts}
 use Rattle.oracle_expert.specs.Runs.{IsOracleFront, ends_done, conflicts_of}
 use Rattle.expert_panel.specs.Explorations.{IsOraclesShare, EachNumbered, HasAgreed, is_part}
 use Rattle.expert_scripts.specs.Transcripts.{transcript}
-use Rattle.report_texts.specs.Reports.{counted, arrow_lines}
-use Rattle.basis_report.specs.Explorations.{recorded_section, accepted_section, open_section, explore_text, spelled, spelled_settings}
+use Rattle.basis_report.specs.Explorations.{recorded_section, accepted_section, open_section, explore_text, basis_lines, Spells}
 use Rattle.basis_report.specs.Conflicts.{conflicts_section, conflicts_text}
 use Rattle.command_io.specs.Endings.{Output}
 use Rattle.command_io.specs.Readings.{Reading, MayRead}
@@ -25,10 +26,14 @@ use Rattle.explore_command.specs.Panels.{Panel, MayExplore}
 abbrev pub turns : ℕ
 turns = 2 ^ 48
 
--- Of the history H, the entries of expert e are what is due for an oracle of D. Its last reply is Done; or it is not, and it has taken all its turns
+-- Of the history H, the entries of expert e are what is due for an oracle of D. Its last reply is Done; or it is not, and it has taken all its turns. It has
+-- taken at most two for each answer that was recorded, one for each row that it dropped, and one more; and between two of its draws an answer was recorded
 pub record IsShare (H : List SetEntry) (e : ℕ) (D : NamedContext) : Type 0 where
   pub front : IsOracleFront D e (own H e)
   pub end : (ends_done (own H e) ≡ true) ⊎ ((ends_done (own H e) ≡ false) × (length (own H e) ≡ turns))
+  pub within : length (own H e) ≤ 2 * recorded_in H + dropped (conflicts_of D (own H e)) + 1
+  pub apart : (before between after : List SetEntry) (first second : SetEntry) → H ≡ before ++ (first ∷ between ++ second ∷ after)
+      → first.event ≡ Draw e → second.event ≡ Draw e → 1 ≤ recorded_in between
 
 -- the tables of the experts from number e on, each with its rows that were dropped in the history
 abbrev pub dropped_in : List SetEntry → ℕ → List NamedContext → List (NamedContext × Conflicts)
@@ -48,10 +53,10 @@ abbrev pub recorded_text : Panel → List SetEntry → Text
 recorded_text p H =
     transcript p.table.attributes p.settings H ++ (recorded_section H ++ accepted_section p.table.attributes (length p.settings.known) (last_state (played p H)).accepted)
 
--- `# open 0`; then `# basis N`, and these N implications with their numbers; then `# conflicts 0`
+-- `# open 0`; then the lines of the basis; then `# conflicts 0`
 abbrev pub basis_alone : List Text → List Rule → Text
 basis_alone attributes J =
-    open_section attributes [] ++ ((counted (codes "# basis ") (length J) ++ arrow_lines (codes "# ") attributes J) ++ conflicts_section attributes J [])
+    open_section attributes [] ++ (basis_lines attributes J ++ conflicts_section attributes J [])
 
 -- The text spells the panel's settings and one legal history, which has no entries but those of the panel's oracles. Where one of them took all its turns,
 -- the exploration is spent; else no question is open at its end. With at most 46 attributes it is never spent. Where all experts'
@@ -60,8 +65,7 @@ basis_alone attributes J =
 pub record IsPanelText (p : Panel) (text : Text) (spent : Bool) : Type 0 where
   pub history : List SetEntry
   pub whole : text ≡ panel_text p history
-  pub spells : spelled p.table text ≡ history
-  pub settings : spelled_settings p.table text ≡ p.settings
+  pub spells : Spells p.table p.settings history text
   pub course : IsExplored (played p history)
   pub shares : EachNumbered (IsShare history) p.experts
   pub others : (e : ℕ) → (e ≡ 0) ⊎ (length p.experts < e) → own history e ≡ []
