@@ -4,6 +4,7 @@ ghost use Rattle.std.specs.Prelude.{◌≡◌, ◌≤◌, ◌<◌, ◌+◌, [], 
 ghost use Rattle.std.specs.Thread.{IsSync};
 ghost use Rattle.turn_lock.specs.Passes.{Belongs, IsFresh, badge};
 ghost use Rattle.expert_sessions.specs.Moves.{Wire, Place};
+ghost use Rattle.expert_sessions.specs.Order.{ReadsInTurn};
 ghost use Rattle.expert_sessions.specs.Talks.{HasTalked};
 ghost use Rattle.expert_sessions.specs.Serving.{IsReady, EachSeat, HasSat, entered};
 
@@ -47,7 +48,7 @@ pub(crate) fn run_seats<R: Threads + Wait + Sync, E: Duplex + Send>(
     requires ready { All (IsReady gate.now) seats.old.items }
     requires width { gate.now.base.table.context.width ≡ terms.now.table.context.width }
     requires turns { terms.now.lines + 1 < gate.now.turns }
-    ensures { EachSeat (HasSat E.Source.left E.Sink.held E.Source.faults E.Sink.faults terms.now.table terms.now.lines) seats.old.items seats.new.items }
+    ensures { EachSeat (HasSat E.Source.left E.Sink.held E.Source.reads E.Source.faults E.Sink.faults terms.now.table terms.now.lines) seats.old.items seats.new.items }
 {
     run_halves(rt, &alloc, gate, terms, seats.as_mut_slice())
 }
@@ -63,7 +64,7 @@ fn run_halves<R: Threads + Wait + Sync, E: Duplex + Send>(
     requires ready { All (IsReady gate.now) seats.old }
     requires width { gate.now.base.table.context.width ≡ terms.now.table.context.width }
     requires turns { terms.now.lines + 1 < gate.now.turns }
-    ensures { EachSeat (HasSat E.Source.left E.Sink.held E.Source.faults E.Sink.faults terms.now.table terms.now.lines) seats.old seats.new }
+    ensures { EachSeat (HasSat E.Source.left E.Sink.held E.Source.reads E.Source.faults E.Sink.faults terms.now.table terms.now.lines) seats.old seats.new }
 {
     if seats.len() == 0 {
         return;
@@ -77,11 +78,11 @@ fn run_halves<R: Threads + Wait + Sync, E: Duplex + Send>(
         rt,
         &mut ||
             requires { IsSync R.row × All (IsReady gate.now) front.now × (gate.now.base.table.context.width ≡ terms.now.table.context.width) × (terms.now.lines + 1 < gate.now.turns) }
-            ensures { EachSeat (HasSat E.Source.left E.Sink.held E.Source.faults E.Sink.faults terms.entry.now.table terms.entry.now.lines) front.entry.now front.exit.now }
+            ensures { EachSeat (HasSat E.Source.left E.Sink.held E.Source.reads E.Source.faults E.Sink.faults terms.entry.now.table terms.entry.now.lines) front.entry.now front.exit.now }
         { run_halves(rt, alloc, gate, terms, front) },
         &mut ||
             requires { IsSync R.row × All (IsReady gate.now) back.now × (gate.now.base.table.context.width ≡ terms.now.table.context.width) × (terms.now.lines + 1 < gate.now.turns) }
-            ensures { EachSeat (HasSat E.Source.left E.Sink.held E.Source.faults E.Sink.faults terms.entry.now.table terms.entry.now.lines) back.entry.now back.exit.now }
+            ensures { EachSeat (HasSat E.Source.left E.Sink.held E.Source.reads E.Source.faults E.Sink.faults terms.entry.now.table terms.entry.now.lines) back.entry.now back.exit.now }
         { run_halves(rt, alloc, gate, terms, back) },
     );
 }
@@ -97,7 +98,7 @@ fn run_seat<R: Threads + Wait + Sync, E: Duplex>(
     requires ready { IsReady gate.now seat.old }
     requires width { gate.now.base.table.context.width ≡ terms.now.table.context.width }
     requires turns { terms.now.lines + 1 < gate.now.turns }
-    ensures { HasSat E.Source.left E.Sink.held E.Source.faults E.Sink.faults terms.now.table terms.now.lines seat.old seat.new }
+    ensures { HasSat E.Source.left E.Sink.held E.Source.reads E.Source.faults E.Sink.faults terms.now.table terms.now.lines seat.old seat.new }
 {
     seat.ended = serve_one(rt, alloc, gate, terms, &mut seat.pass, &mut seat.end);
 }
@@ -120,6 +121,7 @@ fn serve_one<R: Threads + Wait + Sync, E: Duplex>(
         (record { left = E.Source.left end.old; held = E.Sink.held end.old; reads = E.Source.faults end.old; writes = E.Sink.faults end.old })
         (record { left = E.Source.left end.new; held = E.Sink.held end.new; reads = E.Source.faults end.new; writes = E.Sink.faults end.new })
         (entered []) (entered pass.new.own) result }
+    ensures order { ReadsInTurn E.Source.left E.Sink.held E.Source.reads E.Source.faults E.Sink.faults terms.now.table pass.new.number end.old end.new }
 {
     let expert = pass.number();
     let search = SideBySide {

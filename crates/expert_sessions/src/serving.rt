@@ -50,7 +50,7 @@ pub fn serve_ends<R: Threads + Wait + Sync, E: Duplex + Send + Drop>(
     requires turns { (lines + 1 < turns) × (turns ≤ 2 ^ 48) }
     ensures opening { IfOk result (λ r. r.explore.opening ≡ explore.opening) }
     ensures history { IfOk result (λ r. IsHistory r.explore.opening r.explore.journal) }
-    ensures talks { IfOk result (λ r. EachTalks E.Source.left E.Sink.held E.Source.faults E.Sink.faults explore.opening.table lines
+    ensures talks { IfOk result (λ r. EachTalks E.Source.left E.Sink.held E.Source.reads E.Source.faults E.Sink.faults explore.opening.table lines
         r.explore.journal 1 ends.items r.ends.items r.endings.items) }
     ensures others { IfOk result (λ r. (e : ℕ) → (e ≡ 0) ⊎ (vec_len ends < e) → own r.explore.journal e ≡ []) }
     ensures untouched { IfErr result (λ e. e.ends ≡ ends) }

@@ -7,11 +7,7 @@ use Rattle.fca_model.specs.Tables.{Text}
 use Rattle.fca_model.specs.Implications.{Rule}
 use Rattle.fca_io.specs.Faults.{Rose}
 use Rattle.fca_io.specs.Links.{Ends, MayListenAt}
-use Rattle.explore_state.specs.History.{Opening}
-use Rattle.basis_report.specs.Explorations.{explore_text, Spells}
-use Rattle.basis_report.specs.Conflicts.{conflicts_text}
-use Rattle.basis_report.specs.Sessions.{sessions_text}
-use Rattle.fca_model.specs.Exploration.{rules_of}
+use Rattle.fca_io.specs.Shelves.{Told}
 use Rattle.fca_command.specs.Commands.{reported, files_of, first_of, reads_input, may_end_open, is_plain}
 use Rattle.fca_command.specs.declared.command.Command.{Command}
 use Rattle.fca_command.specs.declared.command.Command.TheVariants.{Concepts, Lattice, Basis, Direct, Follows, Convert, Reduce, Arrows, Scale, Replay, Explore, Serve, Make, Survey}
@@ -19,12 +15,12 @@ use Rattle.fca_command.specs.declared.recipe.Recipe.{Recipe}
 use Rattle.command_io.specs.Readings.{Reading, then, MayRead, MayRefuse, Rises}
 use Rattle.command_io.specs.Readings.Reading.{Read}
 use Rattle.command_io.specs.Known.{Start, start_read}
-use Rattle.command_io.specs.Endings.{Output, Outcome, finished, ending_of, IsRefusal, IsUnread, MayBecome}
+use Rattle.command_io.specs.Endings.{Output, Outcome, finished, ending_of, IsRefusal, IsUnread, IsOfFile, MayBecome}
 use Rattle.command_io.specs.Endings.Outcome.{Written, CutOff, Stopped}
 use Rattle.command_io.specs.ErrLines.{stop_line, stop_origin, file_from, line_of}
 use Rattle.command_io.specs.declared.stop.Origin.{Origin}
 use Rattle.command_io.specs.declared.stop.Origin.TheVariants.{File, Known, Later, Input}
-use Rattle.command_io.specs.Explorations.{Recorded, last_state, open_at}
+use Rattle.command_io.specs.Explorations.{Recorded, open_at}
 use Rattle.command_io.specs.Streams.{Moment, GainsLine, HasConcluded}
 use Rattle.command_io.specs.declared.answer.Ending.{Ending}
 use Rattle.command_io.specs.declared.answer.Ending.TheVariants.{Finished, Open, Spent}
@@ -33,13 +29,15 @@ use Rattle.command_io.specs.declared.stop.Stop.TheVariants.{Listener, Memory}
 use Rattle.command_io.proofs.ReadingLemmas.{refused_then}
 use Rattle.replay_command.specs.Replayed.{replayed, exploration_output, MayReplay}
 use Rattle.explore_command.specs.Panels.{Panel, panel_read, IsPanelStop}
-use Rattle.explore_command.specs.Played.{dropped_in, played, panel_ending, MayPlay}
+use Rattle.explore_command.specs.Played.{panel_ending, MayPlay}
 use Rattle.serve_command.specs.Openings.{opened_by}
-use Rattle.serve_command.specs.Served.{served, words_of, MayServe, IsServeStop, GaveAllBack}
+use Rattle.serve_command.specs.Served.{served, MayServe, IsServeStop, GaveAllBack}
 use Rattle.serve_command.proofs.AcceptedLemmas.{TookAndGave-none}
 use Rattle.fca_run.specs.Causes.{fault_file}
 use Rattle.fca_run.specs.Outputs.{output, survey_output}
-use Rattle.fca_run.specs.Calls.{ShelfMoment, LinkMoment, Sides, Outside, outside, unlinked, TellsExploration, HasCourse, MayEnd, read_by, IsGiven, IsBlamed, FaultRose, LinkFaultRose, IsCommandStop, HasGivenBack, MayListen, ComesTo, CallComesTo}
+use Rattle.fca_run.specs.Calls.{ShelfMoment, LinkMoment, Sides, Outside, outside, unlinked, no_sides, MayEnd, read_by, IsGiven, IsBlamed, FaultRose, LinkFaultRose, IsCommandStop, HasGivenBack, MayListen, ComesTo, CallComesTo}
+use Rattle.fca_run.specs.Courses.{HasCourse}
+use Rattle.fca_run.proofs.CourseLemmas.{play-tells, serve-tells}
 use Rattle.fca_run.proofs.BlameLemmas.{stop-blamed, given-comes}
 
 -- ---- results
@@ -51,34 +49,6 @@ any-err (Err e) P all = all e
 pub any-ok : {X F : Type 0} (r : Result X F) (P : Type 0) → P → OnOk r P
 any-ok (Ok x) P p = p
 any-ok (Err e) P p = tt
-
--- ---- the headline
-
--- the text of a panel tells of one exploration
-play-tells : (reading : Reading Panel) (answer : Output) → MayPlay reading answer → TellsExploration answer.text
-play-tells reading answer play =
-    let p = play.panel in
-    let is = play.is in
-    record {
-      told = played p is.history;
-      later = conflicts_text p.table.attributes (rules_of (last_state (played p is.history))) (dropped_in is.history 1 p.experts);
-      printed = is.whole;
-      spells = record { history = is.spells; settings = is.settings };
-      explored = is.course;
-    }
-
-pub replay-tells : (reading : Reading Recorded) (answer : Output) → MayReplay reading answer → TellsExploration answer.text
-replay-tells reading answer replay =
-    let r = replay.made in
-    let text : Text = explore_text r.opening.table r.opening.settings r.journal in
-    let is : answer.text ≡ text = ap (λ (o : Output). o.text) replay.output in
-    record {
-      told = r;
-      later = [];
-      printed = is ∙ sym (append-nil text);
-      spells = subst (Spells r.opening.table r.opening.settings r.journal) (sym is) replay.is.spells;
-      explored = replay.is.course;
-    }
 
 -- ---- how texts end
 
@@ -119,7 +89,7 @@ module _ {H S D E : Type 0} (talk : Sides E) (s s' : ShelfMoment H) (input : Mom
         answer = answers;
         ending = IfOk-weaker came (MayPlay reading) (λ answer. MayEnd command answer.ending)
             (λ answer play. subst (MayEnd command) (sym play.ending) (panel-ends file known names experts play.spent)) answers;
-        course = IfOk-weaker came (MayPlay reading) (λ answer. HasCourse command answer.text) (λ answer play. play-tells reading answer play) answers;
+        course = IfOk-weaker came (MayPlay reading) (λ answer. HasCourse command s.tells input.bytes answer.text) (λ answer play. play-tells reading answer play) answers;
         cause = causes;
         refused = refusals;
         blamed = blames;
@@ -127,7 +97,7 @@ module _ {H S D E : Type 0} (talk : Sides E) (s s' : ShelfMoment H) (input : Mom
         read_to_end = λ reads. cc;
         input_kept = λ _. refl;
         link_kept = λ _. refl;
-        unheard = any-err came (λ stop. (IsUnread stop → link ≡ link)) (λ stop. λ _. refl);
+        unheard = any-err came (λ stop. (IsUnread stop → link ≡ link) × (IsOfFile stop → input ≡ input)) (λ stop. (λ _. refl, λ _. refl));
         listens = any-ok came (MayListen command link) tt;
         given_back = tt;
       }
@@ -135,30 +105,17 @@ module _ {H S D E : Type 0} (talk : Sides E) (s s' : ShelfMoment H) (input : Mom
 -- ---- sessions of experts
 
 module _ {E : Type 0} (talk : Sides E) where
-  serve-tells : (reading : Reading Start) (experts holders : ℕ) (old new : Option (Ends E)) (answer : Output)
-      → MayServe talk.left talk.held talk.reads talk.writes reading experts holders old new answer → TellsExploration answer.text
-  serve-tells reading experts holders old new answer serve =
-      let o : Opening = opened_by experts holders serve.0 in
-      let is = serve.2.is in
-      record {
-        told = served o is.history;
-        later = sessions_text (map words_of is.endings);
-        printed = is.text;
-        spells = record { history = is.spells; settings = is.settings };
-        explored = is.course;
-      }
-
   serve-ends : (file : Text) (known : Option Text) (listen : Text) (reading : Reading Start) (experts holders : ℕ) (old new : Option (Ends E)) (answer : Output)
-      → MayServe talk.left talk.held talk.reads talk.writes reading experts holders old new answer → MayEnd (Serve file known experts holders listen) answer.ending
+      → MayServe talk.left talk.held talk.calls talk.reads talk.writes reading experts holders old new answer → MayEnd (Serve file known experts holders listen) answer.ending
   serve-ends file known listen reading experts holders old new answer serve =
       let command : Command = Serve file known experts holders listen in
       let is = serve.2.is in
       subst (MayEnd command) (sym is.ending) (questions-end command (open_at (served (opened_by experts holders serve.0) is.history)) refl)
 
   serve-back : (reading : Reading Start) (experts holders : ℕ) (old new : Option (Ends E)) (came : Result Output Stop)
-      → IfOk came (MayServe talk.left talk.held talk.reads talk.writes reading experts holders old new)
-      → IfErr came (λ stop. GaveAllBack talk.left talk.held talk.reads talk.writes experts old new (stop ≡ Listener))
-      → GaveAllBack talk.left talk.held talk.reads talk.writes experts old new (came ≡ Err Listener)
+      → IfOk came (MayServe talk.left talk.held talk.calls talk.reads talk.writes reading experts holders old new)
+      → IfErr came (λ stop. GaveAllBack talk.left talk.held talk.calls talk.reads talk.writes experts old new (stop ≡ Listener))
+      → GaveAllBack talk.left talk.held talk.calls talk.reads talk.writes experts old new (came ≡ Err Listener)
   serve-back reading experts holders old new (Ok answer) serve back =
       let is = serve.2 in
       let many = is.count in
@@ -181,12 +138,12 @@ module _ {E : Type 0} (talk : Sides E) where
 
 module _ {H S D E : Type 0} (talk : Sides E) (s s' : ShelfMoment H) (input : Moment S) (link link' : LinkMoment D E) where
   pub serve-comes : (file : Text) (known : Option Text) (experts holders : ℕ) (listen : Text) (came : Result Output Stop)
-      → IfOk came (MayServe talk.left talk.held talk.reads talk.writes (start_read file known s.tells) experts holders link.ends link'.ends)
+      → IfOk came (MayServe talk.left talk.held talk.calls talk.reads talk.writes (start_read file known s.tells) experts holders link.ends link'.ends)
       → OnOk came ((link'.listens ≡ true) × MayListenAt link'.listens_at listen)
       → IfErr came (λ stop. (IsRefusal stop → MayRefuse (start_read file known s.tells)))
       → IfErr came (IsServeStop file known s.tells (Rises s.faults s'.faults) (Rises link.open_faults link'.open_faults listen ⊎ Rose link.accept_faults link'.accept_faults))
       → IfErr came (λ stop. (IsUnread stop → link' ≡ link))
-      → IfErr came (λ stop. GaveAllBack talk.left talk.held talk.reads talk.writes experts link.ends link'.ends (stop ≡ Listener))
+      → IfErr came (λ stop. GaveAllBack talk.left talk.held talk.calls talk.reads talk.writes experts link.ends link'.ends (stop ≡ Listener))
       → ComesTo talk (Serve file known experts holders listen) (outside s input link) (outside s' input link') came
   serve-comes file known experts holders listen came answers listening refuses causes unread back =
       let command : Command = Serve file known experts holders listen in
@@ -198,12 +155,12 @@ module _ {H S D E : Type 0} (talk : Sides E) (s s' : ShelfMoment H) (input : Mom
       IfErr-weaker came (λ stop. (IsRefusal stop → MayRefuse reading)) Refuses (λ stop may. λ refusal. refused_then reading (λ _. Read tt) (may refusal)) refuses in
       let blames : IfErr came (IsBlamed (FaultRose command old new) (LinkFaultRose command old new)) =
       IfErr-weaker came (IsCommandStop command old new) (IsBlamed (FaultRose command old new) (LinkFaultRose command old new)) (λ stop is. stop-blamed command old new stop is) causes in
-      let Serves : Output → Type 0 = MayServe talk.left talk.held talk.reads talk.writes reading experts holders link.ends link'.ends in
+      let Serves : Output → Type 0 = MayServe talk.left talk.held talk.calls talk.reads talk.writes reading experts holders link.ends link'.ends in
       record {
         answer = answers;
         ending = IfOk-weaker came Serves (λ answer. MayEnd command answer.ending)
             (λ answer serve. serve-ends talk file known listen reading experts holders link.ends link'.ends answer serve) answers;
-        course = IfOk-weaker came Serves (λ answer. HasCourse command answer.text)
+        course = IfOk-weaker came Serves (λ answer. HasCourse command s.tells input.bytes answer.text)
             (λ answer serve. serve-tells talk reading experts holders link.ends link'.ends answer serve) answers;
         cause = causes;
         refused = refusals;
@@ -212,7 +169,7 @@ module _ {H S D E : Type 0} (talk : Sides E) (s s' : ShelfMoment H) (input : Mom
         read_to_end = λ reads. cc;
         input_kept = λ _. refl;
         link_kept = λ unused. cc;
-        unheard = unread;
+        unheard = IfErr-weaker came (λ stop. (IsUnread stop → link' ≡ link)) (λ stop. (IsUnread stop → link' ≡ link) × (IsOfFile stop → input ≡ input)) (λ stop same. (same, λ _. refl)) unread;
         listens = listening;
         given_back = serve-back talk reading experts holders link.ends link'.ends came answers back;
       }
@@ -241,75 +198,102 @@ module _ {H S D E : Type 0} (talk : Sides E) (s : ShelfMoment H) (input : Moment
         read_to_end = λ reads. cc;
         input_kept = λ _. refl;
         link_kept = λ _. refl;
-        unheard = any-err came (λ stop. (IsUnread stop → link ≡ link)) (λ stop. λ _. refl);
+        unheard = any-err came (λ stop. (IsUnread stop → link ≡ link) × (IsOfFile stop → input ≡ input)) (λ stop. (λ _. refl, λ _. refl));
         listens = any-ok came (Unit {0}) tt;
         given_back = tt;
       }
 
 -- ---- commands that wait for nobody
 
-module _ {H S D E : Type 0} (talk : Sides E) (s s' : ShelfMoment H) (input input' : Moment S) (link : LinkMoment D E) where
-  module _ (came : Result Output Stop) where
-    -- the same of each of them
-    plainly : (command : Command) → is_plain command ≡ true
-        → IfOk came (MayRead (output command s.tells input.bytes))
-        → IfOk came (λ answer. MayEnd command answer.ending)
-        → IfOk came (λ answer. HasCourse command answer.text)
-        → IfErr came (IsCommandStop command (outside s input unlinked) (outside s' input' unlinked))
-        → IfErr came (λ stop. (IsRefusal stop → MayRefuse (then {Y = Unit {0}} (output command s.tells input.bytes) (λ _. Read tt))))
-        → IfErr came (IsBlamed (FaultRose command (outside s input unlinked) (outside s' input' unlinked)) ⊥)
-        → (IsGiven (then {Y = Unit {0}} (output command s.tells input.bytes) (λ _. Read tt))
-        → IfErr came (λ stop. (stop ≡ Memory) ⊎ (FaultRose command (outside s input unlinked) (outside s' input' unlinked) ⊎ ⊥)))
-        → (reads_input command ≡ true → OnOk came (IsAtEnd input'.bytes))
-        → (reads_input command ≡ false → input' ≡ input)
+module _ {H S : Type 0} (s s' : ShelfMoment H) (input input' : Moment S) (came : Result Output Stop) where
+  -- what there is without a link
+  abbrev before : Outside H S (Unit {0}) (Unit {0})
+  before = outside s input unlinked
+
+  abbrev behind : Outside H S (Unit {0}) (Unit {0})
+  behind = outside s' input' unlinked
+
+  -- the same of each of them
+  plainly : (command : Command) → is_plain command ≡ true
+      → IfOk came (MayRead (output command s.tells input.bytes))
+      → IfOk came (λ answer. MayEnd command answer.ending)
+      → IfOk came (λ answer. HasCourse command s.tells input.bytes answer.text)
+      → IfErr came (IsCommandStop command before behind)
+      → IfErr came (λ stop. (IsRefusal stop → MayRefuse (then {Y = Unit {0}} (output command s.tells input.bytes) (λ _. Read tt))))
+      → IfErr came (IsBlamed (FaultRose command before behind) ⊥)
+      → (IsGiven (then {Y = Unit {0}} (output command s.tells input.bytes) (λ _. Read tt)) → IfErr came (λ stop. (stop ≡ Memory) ⊎ (FaultRose command before behind ⊎ ⊥)))
+      → (reads_input command ≡ true → OnOk came (IsAtEnd input'.bytes))
+      → (reads_input command ≡ false → input' ≡ input)
+      → IfErr came (λ stop. (IsOfFile stop → input' ≡ input))
+      → ComesTo no_sides command before behind came
+  plainly (Explore file known names experts) plain answers ends courses causes refuses blames completes at_end kept unread = cc
+  plainly (Serve file known experts holders listen) plain answers ends courses causes refuses blames completes at_end kept unread = cc
+  plainly (Survey seed objects attributes density experts) plain answers ends courses causes refuses blames completes at_end kept unread = cc
+  plainly _ plain answers ends courses causes refuses blames completes at_end kept unread = record {
+    answer = answers;
+    ending = ends;
+    course = courses;
+    cause = causes;
+    refused = refuses;
+    blamed = blames;
+    complete = completes;
+    read_to_end = at_end;
+    input_kept = kept;
+    link_kept = λ _. refl;
+    unheard = IfErr-weaker came (λ stop. (IsOfFile stop → input' ≡ input)) _ (λ stop same. (λ _. refl, same)) unread;
+    listens = any-ok came (Unit {0}) tt;
+    given_back = tt;
+  }
+
+  plain-unlinked : (command : Command) (R : Type 0) (stop : Stop) → is_plain command ≡ true → IsBlamed R (LinkFaultRose command before behind) stop → IsBlamed R ⊥ stop
+  plain-unlinked (Explore file known names experts) R stop plain blamed = cc
+  plain-unlinked (Serve file known experts holders listen) R stop plain blamed = cc
+  plain-unlinked (Survey seed objects attributes density experts) R stop plain blamed = cc
+  plain-unlinked _ R stop plain blamed = blamed
+
+  pub plain-comes : (command : Command) → is_plain command ≡ true
+      → IfOk came (MayRead (output command s.tells input.bytes))
+      → IfOk came (λ answer. MayEnd command answer.ending)
+      → IfOk came (λ answer. HasCourse command s.tells input.bytes answer.text)
+      → IfErr came (IsCommandStop command before behind)
+      → IfErr came (λ stop. (IsRefusal stop → MayRefuse (output command s.tells input.bytes)))
+      → (reads_input command ≡ true → OnOk came (IsAtEnd input'.bytes))
+      → (reads_input command ≡ false → input' ≡ input)
+      → IfErr came (λ stop. (IsOfFile stop → input' ≡ input))
+      → ComesTo no_sides command before behind came
+  plain-comes command plain answers ends courses causes refuses at_end kept unread =
+      let R : Type 0 = FaultRose command before behind in
+      let reading : Reading (Unit {0}) = then (output command s.tells input.bytes) (λ _. Read tt) in
+      let Refuses : Stop → Type 0 = λ stop. (IsRefusal stop → MayRefuse reading) in
+      let refusals : IfErr came Refuses =
+      IfErr-weaker came (λ stop. (IsRefusal stop → MayRefuse (output command s.tells input.bytes))) Refuses
+      (λ stop may. λ refusal. refused_then (output command s.tells input.bytes) (λ _. Read tt) (may refusal)) refuses in
+      let blames : IfErr came (IsBlamed R ⊥) =
+      IfErr-weaker came (IsCommandStop command before behind) (IsBlamed R ⊥) (λ stop is. plain-unlinked command R stop plain (stop-blamed command before behind stop is)) causes in
+      plainly command plain answers ends courses causes refusals blames (λ given. given-comes reading R ⊥ came blames refusals given) at_end kept unread
+
+  -- a link that is there is left as it was
+  module _ {D E : Type 0} (talk : Sides E) (link : LinkMoment D E) where
+    pub plain-linked : (command : Command) → is_plain command ≡ true → ComesTo no_sides command before behind came
         → ComesTo talk command (outside s input link) (outside s' input' link) came
-    plainly (Explore file known names experts) plain answers ends courses causes refuses blames completes at_end kept = cc
-    plainly (Serve file known experts holders listen) plain answers ends courses causes refuses blames completes at_end kept = cc
-    plainly (Survey seed objects attributes density experts) plain answers ends courses causes refuses blames completes at_end kept = cc
-    plainly _ plain answers ends courses causes refuses blames completes at_end kept = record {
-      answer = answers;
-      ending = ends;
-      course = courses;
-      cause = causes;
-      refused = refuses;
-      blamed = blames;
-      complete = completes;
-      read_to_end = at_end;
-      input_kept = kept;
+    plain-linked (Explore file known names experts) plain comes = cc
+    plain-linked (Serve file known experts holders listen) plain comes = cc
+    plain-linked (Survey seed objects attributes density experts) plain comes = cc
+    plain-linked _ plain comes = record {
+      answer = comes.answer;
+      ending = comes.ending;
+      course = comes.course;
+      cause = comes.cause;
+      refused = comes.refused;
+      blamed = comes.blamed;
+      complete = comes.complete;
+      read_to_end = comes.read_to_end;
+      input_kept = comes.input_kept;
       link_kept = λ _. refl;
-      unheard = any-err came (λ stop. (IsUnread stop → link ≡ link)) (λ stop. λ _. refl);
+      unheard = IfErr-weaker came _ _ (λ stop same. (λ _. refl, same.1)) comes.unheard;
       listens = any-ok came (Unit {0}) tt;
       given_back = tt;
     }
-
-    plain-unlinked : (command : Command) (R : Type 0) (stop : Stop) → is_plain command ≡ true
-        → IsBlamed R (LinkFaultRose command (outside s input unlinked) (outside s' input' unlinked)) stop → IsBlamed R ⊥ stop
-    plain-unlinked (Explore file known names experts) R stop plain blamed = cc
-    plain-unlinked (Serve file known experts holders listen) R stop plain blamed = cc
-    plain-unlinked (Survey seed objects attributes density experts) R stop plain blamed = cc
-    plain-unlinked _ R stop plain blamed = blamed
-
-    pub plain-comes : (command : Command) → is_plain command ≡ true
-        → IfOk came (MayRead (output command s.tells input.bytes))
-        → IfOk came (λ answer. MayEnd command answer.ending)
-        → IfOk came (λ answer. HasCourse command answer.text)
-        → IfErr came (IsCommandStop command (outside s input unlinked) (outside s' input' unlinked))
-        → IfErr came (λ stop. (IsRefusal stop → MayRefuse (output command s.tells input.bytes)))
-        → (reads_input command ≡ true → OnOk came (IsAtEnd input'.bytes))
-        → (reads_input command ≡ false → input' ≡ input)
-        → ComesTo talk command (outside s input link) (outside s' input' link) came
-    plain-comes command plain answers ends courses causes refuses at_end kept =
-        let old : Outside H S (Unit {0}) (Unit {0}) = outside s input unlinked in
-        let new : Outside H S (Unit {0}) (Unit {0}) = outside s' input' unlinked in
-        let R : Type 0 = FaultRose command old new in
-        let reading : Reading (Unit {0}) = then (output command s.tells input.bytes) (λ _. Read tt) in
-        let Refuses : Stop → Type 0 = λ stop. (IsRefusal stop → MayRefuse reading) in
-        let refusals : IfErr came Refuses =
-        IfErr-weaker came (λ stop. (IsRefusal stop → MayRefuse (output command s.tells input.bytes))) Refuses
-        (λ stop may. λ refusal. refused_then (output command s.tells input.bytes) (λ _. Read tt) (may refusal)) refuses in
-        let blames : IfErr came (IsBlamed R ⊥) =
-        IfErr-weaker came (IsCommandStop command old new) (IsBlamed R ⊥) (λ stop is. plain-unlinked command R stop plain (stop-blamed command old new stop is)) causes in
-        plainly command plain answers ends courses causes refusals blames (λ given. given-comes reading R ⊥ came blames refusals given) at_end kept
 
 -- ---- want of memory for the words
 
@@ -347,7 +331,7 @@ module _ {H S D E : Type 0} (talk : Sides E) (old : Outside H S D E) where
     read_to_end = λ reads. tt;
     input_kept = λ _. refl;
     link_kept = λ _. refl;
-    unheard = λ _. refl;
+    unheard = (λ _. refl, λ _. refl);
     listens = tt;
     given_back = memory-back command;
   }
@@ -398,11 +382,11 @@ module _ {K F : Type 0} (out out' : Moment K) (err err' : Moment F) (result : �
 
 -- ---- commands that report on the table in a file do not explore, and do not read the input
 
-pub course-reported : (command : Command) (file text : Text) → reported command ≡ Some file → HasCourse command text
-course-reported (Replay f known) file text e = cc
-course-reported (Explore f known names experts) file text e = cc
-course-reported (Serve f known experts holders listen) file text e = cc
-course-reported _ file text e = tt
+pub course-reported : (command : Command) (files : Text → Told) (input : Option Text) (file text : Text) → reported command ≡ Some file → HasCourse command files input text
+course-reported (Replay f known) files input file text e = cc
+course-reported (Explore f known names experts) files input file text e = cc
+course-reported (Serve f known experts holders listen) files input file text e = cc
+course-reported _ files input file text e = tt
 
 pub reads_input-reported : (command : Command) (file : Text) → reported command ≡ Some file → reads_input command ≡ false
 reads_input-reported (Replay f known) file e = cc

@@ -1,3 +1,4 @@
 pub mod BlameLemmas
+pub mod CourseLemmas
 pub mod CallLemmas
 pub mod ScalingLemmas

@@ -1,20 +1,18 @@
 -- What a call of the program does. It has two parts: what its command comes to, an answer or a stop (`ComesTo`), and what is done with that
 -- (`HasConcluded`). What the outside does not tell is not spoken of.
-use Rattle.std.specs.Prelude.{◌≡◌, ◌⊎◌, ◌++◌, ⊤, ℕ, Bool, true, false, Option, None, Some, Result, Err, IfOk, IfErr, OnOk}
+use Rattle.std.specs.Prelude.{◌≡◌, ◌⊎◌, ⊤, ℕ, Bool, true, false, Option, None, Some, Result, Err, IfOk, IfErr, OnOk}
 use Rattle.std.specs.Io.KnownBytes.{IsAtEnd}
 use Rattle.fca_model.specs.Tables.{Text}
 use Rattle.fca_io.specs.Faults.{Rose}
 use Rattle.fca_io.specs.Links.{Ends, MayListenAt}
 use Rattle.fca_io.specs.Shelves.{Told}
-use Rattle.basis_report.specs.Explorations.{explore_text, Spells}
 use Rattle.fca_command.specs.Commands.{reported, files_of, reads_input, uses_link, may_end_open}
 use Rattle.fca_command.specs.declared.command.Command.{Command}
 use Rattle.fca_command.specs.declared.command.Command.TheVariants.{Scale, Replay, Explore, Serve}
 use Rattle.command_io.specs.Readings.{Reading, then, MayRead, MayRefuse, Rises, SomeRose}
 use Rattle.command_io.specs.Readings.Reading.{Untold, Missing, Refused, Read}
 use Rattle.command_io.specs.Known.{start_read}
-use Rattle.command_io.specs.Endings.{Output, IsRefusal, IsUnread}
-use Rattle.command_io.specs.Explorations.{Recorded, IsExplored}
+use Rattle.command_io.specs.Endings.{Output, IsRefusal, IsUnread, IsOfFile}
 use Rattle.command_io.specs.Streams.{Moment, HasConcluded}
 use Rattle.command_io.specs.declared.answer.Ending.{Ending}
 use Rattle.command_io.specs.declared.answer.Ending.TheVariants.{Finished, Open, Spent}
@@ -25,6 +23,7 @@ use Rattle.explore_command.specs.Panels.{panel_read, IsPanelStop}
 use Rattle.explore_command.specs.Played.{MayPlay}
 use Rattle.serve_command.specs.Served.{MayServe, IsServeStop, GaveAllBack}
 use Rattle.fca_run.specs.Outputs.{output}
+use Rattle.fca_run.specs.Courses.{HasCourse}
 use Rattle.fca_run.specs.Causes.{IsScaleStop, IsReportStop, fault_file}
 
 -- ---- the outside at one moment
@@ -55,19 +54,20 @@ link_moment listens listens_at ends open_faults accept_faults link =
 abbrev pub unlinked : LinkMoment (Unit {0}) (Unit {0})
 unlinked = record { it = tt; listens = false; listens_at = None; ends = None; open_faults = λ _. 0; accept_faults = 0 }
 
--- how an end shows what is left and what is held, and its counts of faults
+-- how an end shows what is left and what is held, how often it was read, where it counts that, and its counts of faults
 pub record Sides (E : Type 0) : Type 0 where
   pub left : E → Option Text
   pub held : E → Option Text
+  pub calls : E → Option ℕ
   pub reads : E → ℕ
   pub writes : E → ℕ
 
-abbrev pub sides : {E : Type 0} → (E → Option Text) → (E → Option Text) → (E → ℕ) → (E → ℕ) → Sides E
-sides left held reads writes = record { left = left; held = held; reads = reads; writes = writes }
+abbrev pub sides : {E : Type 0} → (E → Option Text) → (E → Option Text) → (E → Option ℕ) → (E → ℕ) → (E → ℕ) → Sides E
+sides left held calls reads writes = record { left = left; held = held; calls = calls; reads = reads; writes = writes }
 
 -- ends that nobody has
 abbrev pub no_sides : Sides (Unit {0})
-no_sides = record { left = λ _. None; held = λ _. None; reads = λ _. 0; writes = λ _. 0 }
+no_sides = record { left = λ _. None; held = λ _. None; calls = λ _. None; reads = λ _. 0; writes = λ _. 0 }
 
 -- all that a command reads, or talks to
 pub record Outside (H S L E : Type 0) : Type 0 where
@@ -77,25 +77,6 @@ pub record Outside (H S L E : Type 0) : Type 0 where
 
 abbrev pub outside : {H S L E : Type 0} → ShelfMoment H → Moment S → LinkMoment L E → Outside H S L E
 outside shelf input link = record { shelf = shelf; input = input; link = link }
-
--- ---- the headline
-
--- The text tells of one exploration: it begins with what is printed of it, and spells its settings and its history. The questions open at each
--- step of this history are the smallest pseudo-intents, relative to what is known, that are not accepted; where none is open at its end, the
--- accepted implications are the basis of the recorded context beside what is known
-pub record TellsExploration (text : Text) : Type 0 where
-  pub told : Recorded
-  pub later : Text
-  pub printed : text ≡ explore_text told.opening.table told.opening.settings told.journal ++ later
-  pub spells : Spells told.opening.table told.opening.settings told.journal text
-  pub explored : IsExplored told
-
--- where the command explores, the text tells of it
-abbrev pub HasCourse : Command → Text → Type 0
-HasCourse (Replay file known) text = TellsExploration text
-HasCourse (Explore file known names experts) text = TellsExploration text
-HasCourse (Serve file known experts holders listen) text = TellsExploration text
-HasCourse _ text = ⊤
 
 -- ---- how a text may end
 
@@ -133,7 +114,7 @@ module _ {L E : Type 0} where
   -- where the command serves experts at ends, those that it accepted are given back, and fewer than all where the listener failed
   abbrev pub HasGivenBack : Sides E → Command → LinkMoment L E → LinkMoment L E → Result Output Stop → Type 0
   HasGivenBack talk (Serve file known experts holders listen) old new came =
-      GaveAllBack talk.left talk.held talk.reads talk.writes experts old.ends new.ends (came ≡ Err Listener)
+      GaveAllBack talk.left talk.held talk.calls talk.reads talk.writes experts old.ends new.ends (came ≡ Err Listener)
   HasGivenBack talk _ old new came = ⊤
 
 module _ {H S L E : Type 0} where
@@ -183,17 +164,17 @@ module _ {H S L E : Type 0} where
   abbrev pub MayAnswer : Sides E → Command → Outside H S L E → Outside H S L E → Output → Type 0
   MayAnswer talk (Explore file known names experts) old new answer = MayPlay (panel_read file known names experts old.shelf.tells) answer
   MayAnswer talk (Serve file known experts holders listen) old new answer =
-      MayServe talk.left talk.held talk.reads talk.writes (start_read file known old.shelf.tells) experts holders old.link.ends new.link.ends answer
+      MayServe talk.left talk.held talk.calls talk.reads talk.writes (start_read file known old.shelf.tells) experts holders old.link.ends new.link.ends answer
   MayAnswer talk command old new answer = MayRead (output command old.shelf.tells old.input.bytes) answer
 
   -- ---- the first part of a call
 
   -- What a command comes to, and what it has touched by then
   pub record ComesTo (talk : Sides E) (command : Command) (old new : Outside H S L E) (came : Result Output Stop) : Type 0 where
-    -- an answer is one of the command, ends as its answers may, and tells of one exploration where the command explores
+    -- an answer is one of the command, ends as its answers may, and tells of the exploration of its table where the command explores
     pub answer : IfOk came (MayAnswer talk command old new)
     pub ending : IfOk came (λ answer. MayEnd command answer.ending)
-    pub course : IfOk came (λ answer. HasCourse command answer.text)
+    pub course : IfOk came (λ answer. HasCourse command old.shelf.tells old.input.bytes answer.text)
     -- a stop has its cause; it refuses only what may be refused; and a fault is blamed only where its count rose
     pub cause : IfErr came (IsCommandStop command old new)
     pub refused : IfErr came (λ stop. IsRefusal stop → MayRefuse (read_by command old))
@@ -203,9 +184,10 @@ module _ {H S L E : Type 0} where
     -- an input that is read is read to its end, and one that is not is as it was
     pub read_to_end : reads_input command ≡ true → OnOk came (IsAtEnd new.input.bytes)
     pub input_kept : reads_input command ≡ false → new.input ≡ old.input
-    -- a link is as it was where it is not used, or what is read before it was not had; one that is used listens, and has all its ends back
+    -- a link is as it was where it is not used, or what is read before it was not had, and the input where a file was not; a link that is used listens, and
+    -- has all its ends back
     pub link_kept : uses_link command ≡ false → new.link ≡ old.link
-    pub unheard : IfErr came (λ stop. IsUnread stop → new.link ≡ old.link)
+    pub unheard : IfErr came (λ stop. (IsUnread stop → new.link ≡ old.link) × (IsOfFile stop → new.input ≡ old.input))
     pub listens : OnOk came (MayListen command new.link)
     pub given_back : HasGivenBack talk command old.link new.link came
 

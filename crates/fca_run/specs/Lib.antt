@@ -1,4 +1,5 @@
 pub mod Reports
 pub mod Outputs
+pub mod Courses
 pub mod Causes
 pub mod Calls

@@ -1,5 +1,5 @@
 -- What a command reports of one table: a text, and where its words name attributes, none if some name is no attribute's.
-use Rattle.std.specs.Prelude.{Bool, cond}
+use Rattle.std.specs.Prelude.{Bool, false, not, cond}
 use Rattle.fca_model.specs.Sets.{Set}
 use Rattle.fca_model.specs.Tables.{Text, NamedContext}
 use Rattle.fca_model.specs.Pseudo.{basis, covers}
@@ -65,6 +65,11 @@ table_reduced table = cxt_text (table_part table (irreducible_objects table.cont
 -- the arrows between its objects and attributes
 abbrev pub table_arrows : NamedContext → Text
 table_arrows table = arrows_text table (arrow_table table.context)
+
+-- whether the command reads its table without the names of the objects
+abbrev pub reads_narrow : Command → Bool
+reads_narrow (Basis file json) = not json
+reads_narrow _ = false
 
 -- what the command reports of the table, where it is one that reports on a table
 abbrev pub table_report : Command → NamedContext → Reading Text

@@ -4,11 +4,12 @@ ghost use Rattle.std.specs.Prelude.{◌≡◌, true, false, None, Some, IfOk, If
 ghost use Rattle.std.specs.Io.KnownBytes.{IsAtEnd};
 ghost use Rattle.fca_command.specs.Commands.{command_form, reported, reads_input, is_plain, IsWithinLimits};
 ghost use Rattle.command_io.specs.Readings.{MayRead, MayRefuse};
-ghost use Rattle.command_io.specs.Endings.{IsRefusal};
-ghost use Rattle.command_io.specs.Streams.{moment};
+ghost use Rattle.command_io.specs.Endings.{IsRefusal, IsOfFile};
+ghost use Rattle.command_io.specs.Streams.{moment, HasConcluded};
 ghost use Rattle.fca_run.specs.Outputs.{output, other_output};
+ghost use Rattle.fca_run.specs.Courses.{HasCourse};
 ghost use Rattle.fca_run.specs.Causes.{fault_file};
-ghost use Rattle.fca_run.specs.Calls.{shelf_moment, link_moment, unlinked, sides, no_sides, outside, MayEnd, HasCourse, IsOtherStop, IsCommandStop, ComesTo, HasRun};
+ghost use Rattle.fca_run.specs.Calls.{shelf_moment, link_moment, unlinked, sides, no_sides, outside, MayEnd, IsOtherStop, IsCommandStop, HasRun};
 
 use crate::made::{made_answer, survey_answer};
 use crate::reports::report_answer;
@@ -36,7 +37,7 @@ pub fn run<R: Threads + Wait + Sync, H: Shelf, S: Source, K: Sink, E: Sink, L: L
     link: &mut L,
 ) -> u8
     requires { L.listens link.old ≡ false }
-    ensures ran { HasRun (sides L.End.Source.left L.End.Sink.held L.End.Source.faults L.End.Sink.faults) (command_form words.now)
+    ensures ran { HasRun (sides L.End.Source.left L.End.Sink.held L.End.Source.reads L.End.Source.faults L.End.Sink.faults) (command_form words.now)
         (outside (shelf_moment H.tells H.faults shelf.old) (moment S.left S.faults input.old)
         (link_moment L.listens L.listens_at L.ends L.open_faults L.accept_faults link.old))
         (outside (shelf_moment H.tells H.faults shelf.new) (moment S.left S.faults input.new)
@@ -68,7 +69,7 @@ fn run_command<R: Threads + Wait + Sync, H: Shelf, S: Source, K: Sink, E: Sink, 
 ) -> u8
     requires limits { IsWithinLimits command.now }
     requires closed { L.listens link.old ≡ false }
-    ensures { HasRun (sides L.End.Source.left L.End.Sink.held L.End.Source.faults L.End.Sink.faults) (Some command.now)
+    ensures { HasRun (sides L.End.Source.left L.End.Sink.held L.End.Source.reads L.End.Source.faults L.End.Sink.faults) (Some command.now)
         (outside (shelf_moment H.tells H.faults shelf.old) (moment S.left S.faults input.old)
         (link_moment L.listens L.listens_at L.ends L.open_faults L.accept_faults link.old))
         (outside (shelf_moment H.tells H.faults shelf.new) (moment S.left S.faults input.new)
@@ -76,60 +77,30 @@ fn run_command<R: Threads + Wait + Sync, H: Shelf, S: Source, K: Sink, E: Sink, 
         (moment K.held K.faults out.old) (moment K.held K.faults out.new)
         (moment E.held E.faults err.old) (moment E.held E.faults err.new) result }
 {
-    let answer = answer_to(rt, alloc, command, shelf, input, link);
-    let file = name_at_fault(command, &answer);
-    conclude(answer, file, out, err)
-}
-
-/// What the command comes to.
-fn answer_to<R: Threads + Wait + Sync, H: Shelf, S: Source, L: Listener>(
-    rt: &R,
-    alloc: Global,
-    command: &Command,
-    shelf: &mut H,
-    input: &mut S,
-    link: &mut L,
-) -> Result<Answer, Stop>
-    requires limits { IsWithinLimits command.now }
-    requires closed { L.listens link.old ≡ false }
-    ensures { ComesTo (sides L.End.Source.left L.End.Sink.held L.End.Source.faults L.End.Sink.faults) command.now
-        (outside (shelf_moment H.tells H.faults shelf.old) (moment S.left S.faults input.old)
-        (link_moment L.listens L.listens_at L.ends L.open_faults L.accept_faults link.old))
-        (outside (shelf_moment H.tells H.faults shelf.new) (moment S.left S.faults input.new)
-        (link_moment L.listens L.listens_at L.ends L.open_faults L.accept_faults link.new)) result }
-{
     match command {
         Command::Explore {
             file,
             known,
             names,
             experts,
-        } => explore(
-            rt,
-            alloc,
-            shelf,
-            file,
-            known.as_ref(),
-            *names,
-            experts.as_slice(),
-        ),
+        } => {
+            let known = known.as_ref();
+            let answer = explore(rt, alloc, shelf, file, known, *names, experts.as_slice());
+            finish(command, answer, out, err)
+        }
         Command::Serve {
             file,
             known,
             experts,
             holders,
             listen,
-        } => serve(
-            rt,
-            alloc,
-            shelf,
-            file,
-            known.as_ref(),
-            *experts,
-            *holders,
-            listen,
-            link,
-        ),
+        } => {
+            let known = known.as_ref();
+            let answer = serve(
+                rt, alloc, shelf, file, known, *experts, *holders, listen, link,
+            );
+            finish(command, answer, out, err)
+        }
         Command::Survey {
             seed,
             objects,
@@ -143,9 +114,10 @@ fn answer_to<R: Threads + Wait + Sync, H: Shelf, S: Source, L: Listener>(
                 attributes: *attributes,
                 density: *density,
             };
-            survey_answer(rt, alloc, &recipe, *experts)
+            let answer = survey_answer(rt, alloc, &recipe, *experts);
+            finish(command, answer, out, err)
         }
-        _ => plain_answer(rt, alloc, command, shelf, input),
+        _ => run_plain(rt, alloc, command, shelf, input, out, err),
     }
 }
 
@@ -168,6 +140,19 @@ pub fn run_plain<R: Threads + Sync, H: Shelf, S: Source, K: Sink, E: Sink>(
         (moment E.held E.faults err.old) (moment E.held E.faults err.new) result }
 {
     let answer = plain_answer(rt, alloc, command, shelf, input);
+    finish(command, answer, out, err)
+}
+
+/// Writes the answer of the command to out, or why there is none to err, by the name of the file at fault, and gives the status.
+fn finish<K: Sink, E: Sink>(
+    command: &Command,
+    answer: Result<Answer, Stop>,
+    out: &mut K,
+    err: &mut E,
+) -> u8
+    ensures { HasConcluded answer (fault_file (Some command.now)) (moment K.held K.faults out.old) (moment K.held K.faults out.new)
+        (moment E.held E.faults err.old) (moment E.held E.faults err.new) result }
+{
     let file = name_at_fault(command, &answer);
     conclude(answer, file, out, err)
 }
@@ -216,13 +201,14 @@ fn plain_answer<R: Threads + Sync, H: Shelf, S: Source>(
     requires limits { IsWithinLimits command.now }
     ensures output { IfOk result (λ answer. MayRead (output command.now (H.tells shelf.old) (S.left input.old)) answer) }
     ensures ending { IfOk result (λ answer. MayEnd command.now answer.ending) }
-    ensures course { IfOk result (λ answer. HasCourse command.now answer.text) }
+    ensures course { IfOk result (λ answer. HasCourse command.now (H.tells shelf.old) (S.left input.old) answer.text) }
     ensures cause { IfErr result (IsCommandStop command.now
         (outside (shelf_moment H.tells H.faults shelf.old) (moment S.left S.faults input.old) unlinked)
         (outside (shelf_moment H.tells H.faults shelf.new) (moment S.left S.faults input.new) unlinked)) }
     ensures refused { IfErr result (λ stop. IsRefusal stop → MayRefuse (output command.now (H.tells shelf.old) (S.left input.old))) }
     ensures read_to_end { reads_input command.now ≡ true → OnOk result (IsAtEnd (S.left input.new)) }
     ensures input_kept { reads_input command.now ≡ false → input.new ≡ input.old }
+    ensures unread { IfErr result (λ stop. IsOfFile stop → input.new ≡ input.old) }
 {
     match command.reported() {
         Some(file) => report_answer(rt, alloc, command, shelf, file),
@@ -242,13 +228,14 @@ fn other_answer<H: Shelf, S: Source>(
     requires other { reported command.now ≡ None }
     ensures output { IfOk result (λ answer. MayRead (other_output command.now (H.tells shelf.old) (S.left input.old)) answer) }
     ensures ending { IfOk result (λ answer. MayEnd command.now answer.ending) }
-    ensures course { IfOk result (λ answer. HasCourse command.now answer.text) }
+    ensures course { IfOk result (λ answer. HasCourse command.now (H.tells shelf.old) (S.left input.old) answer.text) }
     ensures cause { IfErr result (IsOtherStop command.now
         (outside (shelf_moment H.tells H.faults shelf.old) (moment S.left S.faults input.old) unlinked)
         (outside (shelf_moment H.tells H.faults shelf.new) (moment S.left S.faults input.new) unlinked)) }
     ensures refused { IfErr result (λ stop. IsRefusal stop → MayRefuse (other_output command.now (H.tells shelf.old) (S.left input.old))) }
     ensures read_to_end { reads_input command.now ≡ true → OnOk result (IsAtEnd (S.left input.new)) }
     ensures input_kept { reads_input command.now ≡ false → input.new ≡ input.old }
+    ensures unread { IfErr result (λ stop. IsOfFile stop → input.new ≡ input.old) }
 {
     match command {
         Command::Scale { values, plan } => scale_answer(alloc, shelf, values, plan),

@@ -9,16 +9,14 @@ ghost use Rattle.fca_io.specs.Faults.{Rose};
 ghost use Rattle.command_io.specs.Causes.{IsFileStop};
 ghost use Rattle.command_io.specs.Forms.{table_read};
 ghost use Rattle.command_io.specs.Endings.{finished, IsRefusal};
-ghost use Rattle.fca_run.specs.Reports.{attributes_read, table_concepts, table_basis, table_direct, table_verdict, verdict_read, table_written, table_reduced, table_arrows, table_report, report_read};
+ghost use Rattle.fca_run.specs.Reports.{attributes_read, table_concepts, table_basis, table_direct, table_verdict, verdict_read, table_written, table_reduced, table_arrows, table_report, reads_narrow, report_read};
 ghost use Rattle.fca_run.specs.Causes.{IsReportStop};
 
 use attr_bits::Attrs;
 use basis_report::{basis_json, concepts_json, direct_text, verdict_text};
 use canonical_basis::basis;
 use command_io::{Answer, Ending, Origin, Stop, narrow_under, table_under};
-use concept_report::{
-    narrow_basis_text, packed_table_concepts, table_basis_text, table_lattice_text,
-};
+use concept_report::{narrow_basis_text, packed_table_concepts, table_lattice_text};
 use context_reduce::{arrows, arrows_text, irreducible, part};
 use context_table::Table;
 use csv_context::write_csv;
@@ -72,7 +70,8 @@ fn table_answer<R: Threads + Sync, H: Shelf>(
     shelf: &mut H,
     file: &Word,
 ) -> Result<Answer, Stop>
-    requires { is_some (reported command.now) ≡ true }
+    requires reports { is_some (reported command.now) ≡ true }
+    requires whole { reads_narrow command.now ≡ false }
     ensures output { IfOk result (λ answer. MayRead (report_read command.now file.now (H.tells shelf.old)) answer) }
     ensures finished { IfOk result (λ answer. answer.ending ≡ Ending.Finished) }
     ensures refused { IfErr result (λ stop. IsRefusal stop → MayRefuse (report_read command.now file.now (H.tells shelf.old))) }
@@ -90,7 +89,8 @@ fn report_on<R: Threads + Sync>(
     command: &Command,
     table: &Table,
 ) -> Result<Answer, Stop>
-    requires { is_some (reported command.now) ≡ true }
+    requires reports { is_some (reported command.now) ≡ true }
+    requires whole { reads_narrow command.now ≡ false }
     ensures output { IfOk result (λ answer. MayRead (then (table_report command.now table.now) (λ text. Read (finished text))) answer) }
     ensures finished { IfOk result (λ answer. answer.ending ≡ Ending.Finished) }
     ensures refused { IfErr result (λ stop. IsRefusal stop → MayRefuse (table_report command.now table.now)) }
@@ -99,7 +99,7 @@ fn report_on<R: Threads + Sync>(
     match command {
         Command::Concepts { json, .. } => Ok(table_concepts(rt, alloc, *json, table)?),
         Command::Lattice { .. } => Ok(Answer::finished(table_lattice_text(alloc, table)?)),
-        Command::Basis { json, .. } => Ok(Answer::finished(table_basis(rt, alloc, *json, table)?)),
+        Command::Basis { json: true, .. } => { Ok(Answer::finished(json_basis(rt, alloc, table)?)) }
         Command::Direct { .. } => Ok(Answer::finished(table_direct(alloc, table)?)),
         Command::Follows {
             premise,
@@ -129,21 +129,12 @@ fn table_concepts<R: Threads + Sync>(
     Ok(Answer::packed(packed_table_concepts(rt, alloc, table)?))
 }
 
-/// The basis of the table.
-fn table_basis<R: Threads + Sync>(
-    rt: &R,
-    alloc: Global,
-    json: bool,
-    table: &Table,
-) -> Result<Vec<u8>, Memory>
-    ensures { IfOk result (λ text. text.items ≡ table_basis json table.now) }
+/// The basis of the table, as JSON.
+fn json_basis<R: Threads + Sync>(rt: &R, alloc: Global, table: &Table) -> Result<Vec<u8>, Memory>
+    ensures { IfOk result (λ text. text.items ≡ table_basis true table.now) }
 {
-    if json {
-        let basis = basis(rt, alloc, table.rows())?;
-        basis_json(alloc, table, &basis)
-    } else {
-        table_basis_text(alloc, table)
-    }
+    let basis = basis(rt, alloc, table.rows())?;
+    basis_json(alloc, table, &basis)
 }
 
 /// The direct basis of the table.

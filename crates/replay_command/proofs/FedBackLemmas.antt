@@ -48,7 +48,7 @@ unbroken S k (row ∷ rows) all =
     ap (λ m. break_at k m (first_break S (k + 1) rows)) (none-broken row S parts.0) ∙ unbroken S (k + 1) rows parts.1
 
 -- the rows of the table respect what is known, since they do at the first moment
-opened-respecting : (r : Recorded) → IsExplored r → rows_respect r.opening.settings.known r.opening.table.context ≡ true
+pub opened-respecting : (r : Recorded) → IsExplored r → rows_respect r.opening.settings.known r.opening.table.context ≡ true
 unfolding state_after
 opened-respecting r explored = (explored.moments [] r.journal refl).valid.known
 

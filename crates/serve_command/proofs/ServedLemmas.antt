@@ -59,10 +59,10 @@ new-opened experts holders start h is none expert most respecting even = record 
 
 -- ---- sessions
 
-module _ {E : Type 0} (left held : E → Option Text) (reads writes : E → ℕ) where
+module _ {E : Type 0} (left held : E → Option Text) (calls : E → Option ℕ) (reads writes : E → ℕ) where
   -- as many ends come back as went in
   pub talks-long : (table : NamedContext) (n : ℕ) (H : List SetEntry) (k : ℕ) (before after : List E) (endings : List Ended)
-      → EachTalks left held reads writes table n H k before after endings → length after ≡ length before
+      → EachTalks left held calls reads writes table n H k before after endings → length after ≡ length before
   talks-long table n H k [] [] [] talks = refl
   talks-long table n H k [] [] (e ∷ endings) talks = absurd talks
   talks-long table n H k [] (b ∷ after) [] talks = absurd talks
@@ -71,13 +71,13 @@ module _ {E : Type 0} (left held : E → Option Text) (reads writes : E → ℕ)
   talks-long table n H k (a ∷ before) [] (e ∷ endings) talks = absurd talks
   talks-long table n H k (a ∷ before) (b ∷ after) [] talks = absurd talks
   talks-long table n H k (a ∷ before) (b ∷ after) (e ∷ endings) talks =
-      let rest = talks-long table n H (suc k) before after endings talks.1 in omega arith
+      let rest = talks-long table n H (suc k) before after endings talks.2 in omega arith
 
   -- what sessions come to
   pub record IsOver (o : Opening) (before after : List E) (explore : History) (endings : List Ended) : Type 0 where
     pub opening : explore.opening ≡ o
     pub history : IsHistory explore.opening explore.journal
-    pub talks : EachTalks left held reads writes o.table lines explore.journal 1 before after endings
+    pub talks : EachTalks left held calls reads writes o.table lines explore.journal 1 before after endings
     pub others : (e : ℕ) → (e ≡ 0) ⊎ (length before < e) → own explore.journal e ≡ []
 
   -- the text that was made of it
@@ -88,20 +88,18 @@ module _ {E : Type 0} (left held : E → Option Text) (reads writes : E → ℕ)
 
   pub served-text : (o : Opening) (before after : List E) (explore : History) (endings : List Ended) (text : Text) (ending : Ending)
       → is_expert o.experts ≡ true → rows_respect o.settings.known o.table.context ≡ true → HaveWidth o.table.context.width o.settings.known → IsOver o before after explore endings → IsTextOf explore endings text ending
-      → IsServedText left held reads writes o before after text ending
+      → IsServedText left held calls reads writes o before after text ending
   served-text o before after explore endings text ending expert known even over made =
       let H = explore.journal in
       let legal : IsLegal (opening_state o) H = let P : Opening → Type 0 = λ x. IsLegal (opening_state x) H in subst P over.opening over.history.legal in
       let Joined : Opening → Type 0 = λ x. text ≡ explore_text x.table x.settings H ++ sessions_text (map words_of endings) in
       let Spelled : Opening → Type 0 = λ x. Spells x.table x.settings H text in
-      let spells = subst Spelled over.opening made.spells in
       let EndsSo : Opening → Type 0 = λ x. ending ≡ ending_of (open_of (record { opening = x; journal = H; spare = 0 })) in
       record {
         history = H;
         endings = endings;
         text = subst Joined over.opening made.joined;
-        spells = spells.history;
-        settings = spells.settings;
+        spells = subst Spelled over.opening made.spells;
         course = legal-course o.table o.experts o.settings H expert known even legal;
         talks = over.talks;
         others = over.others;
@@ -111,7 +109,7 @@ module _ {E : Type 0} (left held : E → Option Text) (reads writes : E → ℕ)
   pub has-sat : (o : Opening) (before after : List E) (old new : Option (Ends E)) (explore : History) (endings : List Ended) (answer : Output)
       → is_expert o.experts ≡ true → rows_respect o.settings.known o.table.context ≡ true → HaveWidth o.table.context.width o.settings.known → IsOver o before after explore endings
       → (HasRoomFor old (length after) → GaveBack old new after) → IsTextOf explore endings answer.text answer.ending
-      → HasSat left held reads writes o before old new answer
+      → HasSat left held calls reads writes o before old new answer
   has-sat o before after old new explore endings answer expert known even over gave made =
       let long = talks-long o.table lines explore.journal 1 before after endings over.talks in
       record {
@@ -122,11 +120,11 @@ module _ {E : Type 0} (left held : E → Option Text) (reads writes : E → ℕ)
       }
 
   pub risen-talks : (table : NamedContext) (H : List SetEntry) (before after : List E) (old new : Option (Ends E)) (endings : List Ended)
-      → EachTalks left held reads writes table lines H 1 before after endings → (HasRoomFor old (length after) → GaveBack old new after)
-      → HasRisen left held reads writes before old new
+      → EachTalks left held calls reads writes table lines H 1 before after endings → (HasRoomFor old (length after) → GaveBack old new after)
+      → HasRisen left held calls reads writes before old new
   risen-talks table H before after old new endings talks gave =
       let long = talks-long table lines H 1 before after endings talks in
       record { after = after; gave = gave; long = long; talked = inr (table, H, endings, talks) }
 
-  pub risen-same : (before after : List E) (old new : Option (Ends E)) → after ≡ before → (HasRoomFor old (length after) → GaveBack old new after) → HasRisen left held reads writes before old new
+  pub risen-same : (before after : List E) (old new : Option (Ends E)) → after ≡ before → (HasRoomFor old (length after) → GaveBack old new after) → HasRisen left held calls reads writes before old new
   risen-same before after old new same gave = record { after = after; gave = gave; long = ap length same; talked = inl same }

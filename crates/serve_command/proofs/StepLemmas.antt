@@ -54,8 +54,8 @@ heard s Same (inr e) unread = absurd (subst IsUnread e unread)
 -- ---- ends
 
 module _ {E : Type 0} where
-  pub early-back : (left held : E → Option Text) (reads writes : E → ℕ) (count : ℕ) (a : Option (Ends E)) (failed : Type 0) → 1 ≤ count → GaveAllBack left held reads writes count a a failed
-  early-back left held reads writes count a failed some = record {
+  pub early-back : (left held : E → Option Text) (calls : E → Option ℕ) (reads writes : E → ℕ) (count : ℕ) (a : Option (Ends E)) (failed : Type 0) → 1 ≤ count → GaveAllBack left held calls reads writes count a a failed
+  early-back left held calls reads writes count a failed some = record {
     before = [];
     after = [];
     ends = TookAndGave-none a;
@@ -64,9 +64,9 @@ module _ {E : Type 0} where
     fewer = λ _. (omega arith, refl);
   }
 
-  pub short-back : (left held : E → Option Text) (reads writes : E → ℕ) (count : ℕ) (a b : Option (Ends E)) (link_rose : Type 0) (s : Stop) → FallsShort count a b link_rose s
-      → GaveAllBack left held reads writes count a b (s ≡ Listener)
-  short-back left held reads writes count a b link_rose s short = record {
+  pub short-back : (left held : E → Option Text) (calls : E → Option ℕ) (reads writes : E → ℕ) (count : ℕ) (a b : Option (Ends E)) (link_rose : Type 0) (s : Stop) → FallsShort count a b link_rose s
+      → GaveAllBack left held calls reads writes count a b (s ≡ Listener)
+  short-back left held calls reads writes count a b link_rose s short = record {
     before = short.taken;
     after = short.taken;
     ends = short.served;
@@ -75,9 +75,9 @@ module _ {E : Type 0} where
     fewer = λ listener. (short.fewer listener, refl);
   }
 
-  risen-back : (left held : E → Option Text) (reads writes : E → ℕ) (count : ℕ) (a b c : Option (Ends E)) (before : List E) (s : Stop) → IsWithinRoom a → TookFirst a b before
-      → length before ≡ count → HasRisen left held reads writes before b c → s ≡ Memory → GaveAllBack left held reads writes count a c (s ≡ Listener)
-  risen-back left held reads writes count a b c before s within took many risen memory = record {
+  risen-back : (left held : E → Option Text) (calls : E → Option ℕ) (reads writes : E → ℕ) (count : ℕ) (a b c : Option (Ends E)) (before : List E) (s : Stop) → IsWithinRoom a → TookFirst a b before
+      → length before ≡ count → HasRisen left held calls reads writes before b c → s ≡ Memory → GaveAllBack left held calls reads writes count a c (s ≡ Listener)
+  risen-back left held calls reads writes count a b c before s within took many risen memory = record {
     before = before;
     after = risen.after;
     ends = TookAndGave-both a b c before risen.after within risen.long took risen.gave;
@@ -86,17 +86,17 @@ module _ {E : Type 0} where
     fewer = λ listener. cc;
   }
 
-  pub risen-ends : (left held : E → Option Text) (reads writes : E → ℕ) (count : ℕ) (a b c : Option (Ends E)) (before : List E) (r : Result Output Stop) → IsWithinRoom a
-      → TookFirst a b before → length before ≡ count → IfErr r (λ _. HasRisen left held reads writes before b c) → IfErr r (λ stop. stop ≡ Memory)
-      → IfErr r (λ stop. GaveAllBack left held reads writes count a c (stop ≡ Listener))
-  risen-ends left held reads writes count a b c before (Ok o) within took many risen memory = tt
-  risen-ends left held reads writes count a b c before (Err s) within took many risen memory =
-      risen-back left held reads writes count a b c before s within took many risen memory
+  pub risen-ends : (left held : E → Option Text) (calls : E → Option ℕ) (reads writes : E → ℕ) (count : ℕ) (a b c : Option (Ends E)) (before : List E) (r : Result Output Stop) → IsWithinRoom a
+      → TookFirst a b before → length before ≡ count → IfErr r (λ _. HasRisen left held calls reads writes before b c) → IfErr r (λ stop. stop ≡ Memory)
+      → IfErr r (λ stop. GaveAllBack left held calls reads writes count a c (stop ≡ Listener))
+  risen-ends left held calls reads writes count a b c before (Ok o) within took many risen memory = tt
+  risen-ends left held calls reads writes count a b c before (Err s) within took many risen memory =
+      risen-back left held calls reads writes count a b c before s within took many risen memory
 
-  pub sat-answer : (left held : E → Option Text) (reads writes : E → ℕ) (o : Opening) (a b c : Option (Ends E)) (before : List E) (answer : Output)
-      → IsWithinRoom a → TookFirst a b before → length before ≡ o.experts → HasSat left held reads writes o before b c answer
-      → IsAnswer left held reads writes o a c answer
-  sat-answer left held reads writes o a b c before answer within took many sat = record {
+  pub sat-answer : (left held : E → Option Text) (calls : E → Option ℕ) (reads writes : E → ℕ) (o : Opening) (a b c : Option (Ends E)) (before : List E) (answer : Output)
+      → IsWithinRoom a → TookFirst a b before → length before ≡ o.experts → HasSat left held calls reads writes o before b c answer
+      → IsAnswer left held calls reads writes o a c answer
+  sat-answer left held calls reads writes o a b c before answer within took many sat = record {
     before = before;
     after = sat.after;
     count = many;

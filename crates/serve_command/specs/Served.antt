@@ -12,7 +12,7 @@ use Rattle.expert_sessions.specs.Serving.{EachTalks}
 use Rattle.expert_sessions.specs.declared.ended.Ended.{Ended}
 use Rattle.expert_sessions.specs.declared.ended.Ended.TheVariants.{Quit, EndOfInput, ReadFault, WriteFault, LongLine, Limit, Spent, Memory}
 use Rattle.explore_state.specs.History.{Opening}
-use Rattle.basis_report.specs.Explorations.{explore_text, spelled, spelled_settings}
+use Rattle.basis_report.specs.Explorations.{explore_text, Spells}
 use Rattle.basis_report.specs.Sessions.{sessions_text}
 use Rattle.command_io.specs.Readings.{Reading, MayRead}
 use Rattle.fca_io.specs.Shelves.{Told}
@@ -49,18 +49,17 @@ served o H = record { opening = o; journal = H }
 abbrev pub served_text : Opening → List SetEntry → List Ended → Text
 served_text o H endings = explore_text o.table o.settings H ++ sessions_text (map words_of endings)
 
--- over ends that show what is left and what is held, and their counts of faults
-module _ {E : Type 0} (left held : E → Option Text) (reads writes : E → ℕ) where
+-- over ends that show what is left and what is held, how often they were read, where they count that, and their counts of faults
+module _ {E : Type 0} (left held : E → Option Text) (calls : E → Option ℕ) (reads writes : E → ℕ) where
   -- The text spells the settings of the exploration and one legal history, which has no entries but those of the experts at these ends: expert k has
-  -- talked over the k-th of them, and the text tells how that session ended. It ends open where a question is, after the last entry
+  -- talked over the k-th of them, which was read only where each whole line was answered, and the text tells how that session ended. It ends open where a question is, after the last entry
   pub record IsServedText (o : Opening) (before after : List E) (written : Text) (end : Ending) : Type 0 where
     pub history : List SetEntry
     pub endings : List Ended
     pub text : written ≡ served_text o history endings
-    pub spells : spelled o.table written ≡ history
-    pub settings : spelled_settings o.table written ≡ o.settings
+    pub spells : Spells o.table o.settings history written
     pub course : IsExplored (served o history)
-    pub talks : EachTalks left held reads writes o.table lines history 1 before after endings
+    pub talks : EachTalks left held calls reads writes o.table lines history 1 before after endings
     pub others : (e : ℕ) → (e ≡ 0) ⊎ (length before < e) → own history e ≡ []
     pub ending : end ≡ ending_of (open_at (served o history))
 
@@ -68,7 +67,7 @@ module _ {E : Type 0} (left held : E → Option Text) (reads writes : E → ℕ)
   abbrev pub MayHaveTalked : List E → List E → Type 0
   MayHaveTalked before after =
       (after ≡ before)
-      ⊎ ((table : NamedContext) × (H : List SetEntry) × (endings : List Ended) × EachTalks left held reads writes table lines H 1 before after endings)
+      ⊎ ((table : NamedContext) × (H : List SetEntry) × (endings : List Ended) × EachTalks left held calls reads writes table lines H 1 before after endings)
 
   -- an answer: the ends that were accepted, which are as many as there are experts, are given back, and the text is theirs
   pub record IsAnswer (o : Opening) (old new : Option (Ends E)) (answer : Output) : Type 0 where

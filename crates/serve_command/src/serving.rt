@@ -50,7 +50,7 @@ pub fn serve<R: Threads + Wait + Sync, H: Shelf, L: Listener>(
     requires holders { is_expert holders ≡ true }
     requires closed { L.listens link.old ≡ false }
 
-    ensures answer { IfOk result (MayServe L.End.Source.left L.End.Sink.held L.End.Source.faults L.End.Sink.faults
+    ensures answer { IfOk result (MayServe L.End.Source.left L.End.Sink.held L.End.Source.reads L.End.Source.faults L.End.Sink.faults
         (start_read file.now (option_copied known.entry) (H.tells shelf.old)) experts holders (L.ends link.old) (L.ends link.new)) }
     ensures listens { OnOk result ((L.listens link.new ≡ true) × MayListenAt (L.listens_at link.new) listen.now) }
 
@@ -59,7 +59,7 @@ pub fn serve<R: Threads + Wait + Sync, H: Shelf, L: Listener>(
     ensures cause { IfErr result (IsServeStop file.now (option_copied known.entry) (H.tells shelf.old) (Rises (H.faults shelf.old) (H.faults shelf.new))
         (Rises (L.open_faults link.old) (L.open_faults link.new) listen.now ⊎ Rose (L.accept_faults link.old) (L.accept_faults link.new))) }
     ensures unheard { IfErr result (λ stop. IsUnread stop → link.new ≡ link.old) }
-    ensures ends { IfErr result (λ stop. GaveAllBack L.End.Source.left L.End.Sink.held L.End.Source.faults L.End.Sink.faults
+    ensures ends { IfErr result (λ stop. GaveAllBack L.End.Source.left L.End.Sink.held L.End.Source.reads L.End.Source.faults L.End.Sink.faults
         experts (L.ends link.old) (L.ends link.new) (stop ≡ Stop.Listener)) }
 {
     let start = start_under(alloc, shelf, file, known)?;
@@ -79,9 +79,9 @@ fn explored<R: Threads + Wait + Sync, L: Listener>(
     requires new { IsNew explore }
     requires count { explore.opening.experts ≡ vec_len ends }
 
-    ensures sat { IfOk result (λ answer. HasSat L.End.Source.left L.End.Sink.held L.End.Source.faults L.End.Sink.faults
+    ensures sat { IfOk result (λ answer. HasSat L.End.Source.left L.End.Sink.held L.End.Source.reads L.End.Source.faults L.End.Sink.faults
         explore.opening ends.items (L.ends link.old) (L.ends link.new) answer) }
-    ensures risen { IfErr result (λ _. HasRisen L.End.Source.left L.End.Sink.held L.End.Source.faults L.End.Sink.faults
+    ensures risen { IfErr result (λ _. HasRisen L.End.Source.left L.End.Sink.held L.End.Source.reads L.End.Source.faults L.End.Sink.faults
         ends.items (L.ends link.old) (L.ends link.new)) }
     ensures cause { IfErr result (λ stop. stop ≡ Stop.Memory) }
     ensures same { (L.listens link.new ≡ L.listens link.old) × (L.listens_at link.new ≡ L.listens_at link.old) }

@@ -17,14 +17,14 @@ run_seats-requires-clause-ready g c κs within =
     let counts = c.in-Ok.ensures.counts in
     let some : 1 ≤ c.in-Ok.hall.gate.passes = c.in-Ok.ensures.some in
     let belong : All (Belongs c.in-Ok.hall.gate) c.in-Ok.hall.passes.items = roll-belongs c.in-Ok.hall.gate c.in-Ok.hall.passes.items (omega arith) c.in-Ok.ensures.passes in
-    seats_ready g.E.Source.left g.E.Sink.held g.E.Source.faults g.E.Sink.faults c.in-Ok.hall.terms.table c.in-Ok.hall.terms.lines c.in-Ok.hall.gate c.seated-seats.result.items
+    seats_ready g.E.Source.left g.E.Sink.held g.E.Source.reads g.E.Source.faults g.E.Sink.faults c.in-Ok.hall.terms.table c.in-Ok.hall.terms.lines c.in-Ok.hall.gate c.seated-seats.result.items
     (subst (All (Belongs c.in-Ok.hall.gate)) (sym c.seated-seats.ensures.passes) belong) (subst (All IsFresh) (sym c.seated-seats.ensures.passes) c.in-Ok.ensures.fresh)
 
 pub risen-passes-requires-clause-room : goal.risen-passes-requires-clause-room
 risen-passes-requires-clause-room g c =
     let counts = c.in-Ok.ensures.counts in
     let some : 1 ≤ c.in-Ok.hall.gate.passes = c.in-Ok.ensures.some in
-    let many = length-news g.E.Source.left g.E.Sink.held g.E.Source.faults g.E.Sink.faults c.args.explore.opening.table c.in-Ok.hall.terms.table c.args.lines c.in-Ok.hall.terms.lines c.in-Ok.hall.gate c.in-Ok.hall.passes.items (map (λ seat. seat.pass) c.run_seats.new.seats.items)
+    let many = length-news g.E.Source.left g.E.Sink.held g.E.Source.reads g.E.Source.faults g.E.Sink.faults c.args.explore.opening.table c.in-Ok.hall.terms.table c.args.lines c.in-Ok.hall.terms.lines c.in-Ok.hall.gate c.in-Ok.hall.passes.items (map (λ seat. seat.pass) c.run_seats.new.seats.items)
     c.seated-seats.result.items c.run_seats.new.seats.items some c.in-Ok.ensures.passes c.seated-seats.ensures.passes refl c.run_seats.ensures in
     let room = c.in-Ok.ensures.room in
     let passes = room.passes in
@@ -37,7 +37,7 @@ close-requires g c =
     let counts = c.in-Ok.ensures.counts in
     let some : 1 ≤ c.in-Ok.hall.gate.passes = c.in-Ok.ensures.some in
     record {
-      passes = roll_kept g.E.Source.left g.E.Sink.held g.E.Source.faults g.E.Sink.faults c.args.explore.opening.table c.in-Ok.hall.terms.table c.args.lines c.in-Ok.hall.terms.lines c.in-Ok.hall.gate c.in-Ok.hall.passes.items c.risen-passes.result.0.items
+      passes = roll_kept g.E.Source.left g.E.Sink.held g.E.Source.reads g.E.Source.faults g.E.Sink.faults c.args.explore.opening.table c.in-Ok.hall.terms.table c.args.lines c.in-Ok.hall.terms.lines c.in-Ok.hall.gate c.in-Ok.hall.passes.items c.risen-passes.result.0.items
           c.seated-seats.result.items c.run_seats.new.seats.items some c.in-Ok.ensures.passes c.seated-seats.ensures.passes c.risen-passes.ensures.passes c.run_seats.ensures;
     }
 
@@ -45,7 +45,7 @@ pub returns-clause-talks : goal.returns-clause-talks
 returns-clause-talks g c =
     let counts = c.in-Ok.ensures.counts in
     let some : 1 ≤ c.in-Ok.hall.gate.passes = c.in-Ok.ensures.some in
-    talks_told g.E.Source.left g.E.Sink.held g.E.Source.faults g.E.Sink.faults c.args.explore.opening.table c.in-Ok.hall.terms.table c.args.lines c.in-Ok.hall.terms.lines c.in-Ok.hall.gate c.in-Ok.hall.passes.items c.risen-passes.result.0.items
+    talks_told g.E.Source.left g.E.Sink.held g.E.Source.reads g.E.Source.faults g.E.Sink.faults c.args.explore.opening.table c.in-Ok.hall.terms.table c.args.lines c.in-Ok.hall.terms.lines c.in-Ok.hall.gate c.in-Ok.hall.passes.items c.risen-passes.result.0.items
     c.seated-seats.result.items c.run_seats.new.seats.items some c.in-Ok.ensures.passes c.seated-seats.ensures.passes c.risen-passes.ensures.passes c.run_seats.ensures
     c.close.result.journal c.close.ensures.told c.args.ends.items c.risen-passes.result.1.items c.risen-passes.result.2.items
     c.in-Ok.ensures.terms.0 c.in-Ok.ensures.terms.1 c.seated-seats.ensures.ends c.risen-passes.ensures.ends c.risen-passes.ensures.endings
@@ -54,7 +54,7 @@ pub returns-clause-others : goal.returns-clause-others
 returns-clause-others g c = λ e h.
     let counts = c.in-Ok.ensures.counts in
     let some : 1 ≤ c.in-Ok.hall.gate.passes = c.in-Ok.ensures.some in
-    others_told g.E.Source.left g.E.Sink.held g.E.Source.faults g.E.Sink.faults c.args.explore.opening.table c.in-Ok.hall.terms.table c.args.lines c.in-Ok.hall.terms.lines c.in-Ok.hall.gate c.in-Ok.hall.passes.items c.risen-passes.result.0.items
+    others_told g.E.Source.left g.E.Sink.held g.E.Source.reads g.E.Source.faults g.E.Sink.faults c.args.explore.opening.table c.in-Ok.hall.terms.table c.args.lines c.in-Ok.hall.terms.lines c.in-Ok.hall.gate c.in-Ok.hall.passes.items c.risen-passes.result.0.items
     c.seated-seats.result.items c.run_seats.new.seats.items some c.in-Ok.ensures.passes c.seated-seats.ensures.passes c.risen-passes.ensures.passes c.run_seats.ensures
     c.close.result.journal c.close.ensures.told e
     (elim h as (λ _. (e ≡ 0) ⊎ (c.in-Ok.hall.gate.passes < e)) [ inl none ↦ inl none | inr more ↦ inr (omega arith) ])

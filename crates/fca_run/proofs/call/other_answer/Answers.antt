@@ -6,8 +6,10 @@ use Rattle.fca_command.specs.declared.command.Command.{Command}
 use Rattle.fca_command.specs.declared.command.Command.TheVariants.{Replay}
 use Rattle.command_io.specs.Endings.{Output}
 use Rattle.replay_command.specs.Replayed.{replayed, MayReplay}
-use Rattle.fca_run.specs.Calls.{MayEnd, HasCourse}
-use Rattle.fca_run.proofs.CallLemmas.{finished-ends, replay-ends, replay-tells}
+use Rattle.fca_run.specs.Calls.{MayEnd}
+use Rattle.fca_run.specs.Courses.{HasCourse}
+use Rattle.fca_run.proofs.CourseLemmas.{replay-tells}
+use Rattle.fca_run.proofs.CallLemmas.{finished-ends, replay-ends}
 use Rattle.fca_run.proofs.call.other_answer.Goals as goal
 
 pub returns-in-Scale-clause-ending : goal.returns-in-Scale-clause-ending
@@ -24,8 +26,11 @@ returns-in-Replay-clause-ending g c =
 
 pub returns-in-Replay-clause-course : goal.returns-in-Replay-clause-course
 returns-in-Replay-clause-course g c =
-    let reading = replayed c.in-Replay.file (option_copied c.as_ref.result) (g.H.Shelf.tells c.args.shelf.now) (g.S.Source.left c.args.input.now) in
-    let Tells : Command → Type 0 = λ command. IfOk c.replay.result (λ (answer : Output). HasCourse command answer.text) in
-    subst Tells (sym c.in-Replay.is)
-    (IfOk-weaker c.replay.result (MayReplay reading) (λ (answer : Output). HasCourse (Replay c.in-Replay.file c.in-Replay.known) answer.text)
-    (λ answer replay. replay-tells reading answer replay) c.replay.ensures.replayed)
+    let files = g.H.Shelf.tells c.args.shelf.now in
+    let input = g.S.Source.left c.args.input.now in
+    let known = option_copied c.as_ref.result in
+    let Tells : Command → Type 0 = λ command. IfOk c.replay.result (λ (answer : Output). HasCourse command files input answer.text) in
+    let Beside : Option Text → Type 0 = λ known. Tells (Replay c.in-Replay.file known) in
+    subst Tells (sym c.in-Replay.is) (subst Beside c.as_ref.ensures.value
+    (IfOk-weaker c.replay.result (MayReplay (replayed c.in-Replay.file known files input)) (λ (answer : Output). HasCourse (Replay c.in-Replay.file known) files input answer.text)
+    (λ answer replay. replay-tells (replayed c.in-Replay.file known files input) answer replay) c.replay.ensures.replayed))

@@ -7,7 +7,7 @@ use Rattle.command_io.specs.Endings.{Output, IsRefusal}
 use Rattle.command_io.specs.Streams.{moment}
 use Rattle.fca_command.specs.Commands.{reads_input}
 use Rattle.fca_run.specs.Outputs.{output_by}
-use Rattle.fca_run.specs.Calls.{shelf_moment, unlinked, outside, IsStopBy, MayEnd, HasCourse}
+use Rattle.fca_run.specs.Calls.{shelf_moment, unlinked, outside, IsStopBy, MayEnd}
 use Rattle.fca_run.proofs.CallLemmas.{any-ok, finished-ends, course-reported, reads_input-reported}
 use Rattle.fca_run.proofs.call.plain_answer.Goals as goal
 
@@ -23,7 +23,7 @@ returns-in-Some-clause-ending g c =
 
 pub returns-in-Some-clause-course : goal.returns-in-Some-clause-course
 returns-in-Some-clause-course g c =
-    IfOk-weaker c.report_answer.result _ _ (λ answer finished. course-reported c.args.command.now _ answer.text (sym c.in-Some.ensures)) c.report_answer.ensures.finished
+    IfOk-weaker c.report_answer.result _ _ (λ answer finished. course-reported c.args.command.now (g.H.Shelf.tells c.args.shelf.now) (g.S.Source.left c.args.input.now) _ answer.text (sym c.in-Some.ensures)) c.report_answer.ensures.finished
 
 pub returns-in-Some-clause-cause : goal.returns-in-Some-clause-cause
 returns-in-Some-clause-cause g c =

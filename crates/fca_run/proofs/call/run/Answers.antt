@@ -10,7 +10,7 @@ use Rattle.fca_run.proofs.call.run.Goals as goal
 
 pub returns-in-Ok-Some : goal.returns-in-Ok-Some
 returns-in-Ok-Some g c =
-    let talk = sides g.L.End.Source.left g.L.End.Sink.held g.L.End.Source.faults g.L.End.Sink.faults in
+    let talk = sides g.L.End.Source.left g.L.End.Sink.held g.L.End.Source.reads g.L.End.Source.faults g.L.End.Sink.faults in
     let old = outside (shelf_moment g.H.Shelf.tells g.H.Shelf.faults c.args.shelf.now) (moment g.S.Source.left g.S.Source.faults c.args.input.now)
     (link_moment g.L.Listener.listens g.L.Listener.listens_at g.L.Listener.ends g.L.Listener.open_faults g.L.Listener.accept_faults c.args.link.now) in
     let new = outside (shelf_moment g.H.Shelf.tells g.H.Shelf.faults c.run_command-status.new.shelf) (moment g.S.Source.left g.S.Source.faults c.run_command-status.new.input)
@@ -22,7 +22,7 @@ returns-in-Ok-Some g c =
 
 pub returns-in-Ok-None : goal.returns-in-Ok-None
 returns-in-Ok-None g c =
-    let talk = sides g.L.End.Source.left g.L.End.Sink.held g.L.End.Source.faults g.L.End.Sink.faults in
+    let talk = sides g.L.End.Source.left g.L.End.Sink.held g.L.End.Source.reads g.L.End.Source.faults g.L.End.Sink.faults in
     let old = outside (shelf_moment g.H.Shelf.tells g.H.Shelf.faults c.args.shelf.now) (moment g.S.Source.left g.S.Source.faults c.args.input.now)
     (link_moment g.L.Listener.listens g.L.Listener.listens_at g.L.Listener.ends g.L.Listener.open_faults g.L.Listener.accept_faults c.args.link.now) in
     let none : command_form c.args.words.now ≡ None = sym c.in-Ok-None.ensures.command ∙ c.in-Ok-None.field-0-is in
@@ -33,7 +33,7 @@ returns-in-Ok-None g c =
 
 pub returns-in-Err : goal.returns-in-Err
 returns-in-Err g c =
-    let talk = sides g.L.End.Source.left g.L.End.Sink.held g.L.End.Source.faults g.L.End.Sink.faults in
+    let talk = sides g.L.End.Source.left g.L.End.Sink.held g.L.End.Source.reads g.L.End.Source.faults g.L.End.Sink.faults in
     let old = outside (shelf_moment g.H.Shelf.tells g.H.Shelf.faults c.args.shelf.now) (moment g.S.Source.left g.S.Source.faults c.args.input.now)
     (link_moment g.L.Listener.listens g.L.Listener.listens_at g.L.Listener.ends g.L.Listener.open_faults g.L.Listener.accept_faults c.args.link.now) in
     let call = command_form c.args.words.now in

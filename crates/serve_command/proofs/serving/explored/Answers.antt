@@ -12,7 +12,7 @@ pub returns-in-Ok-clause-risen : goal.returns-in-Ok-clause-risen
 returns-in-Ok-clause-risen g c =
     let Room : ℕ → Type 0 = HasRoomFor (g.L.Listener.ends c.args.link.now) in
     any-err c.text_of.result _ (λ s.
-    risen-talks g.L.End.Source.left g.L.End.Sink.held g.L.End.Source.faults g.L.End.Sink.faults c.args.explore.opening.table c.in-Ok.served.explore.journal
+    risen-talks g.L.End.Source.left g.L.End.Sink.held g.L.End.Source.reads g.L.End.Source.faults g.L.End.Sink.faults c.args.explore.opening.table c.in-Ok.served.explore.journal
     c.args.ends.items c.in-Ok.served.ends.items _ _ c.in-Ok.served.endings.items c.in-Ok.ensures.talks
     (λ room. c.give_back.ensures.given (subst Room (sym c.in-Ok.served.ends.ok.0) room)))
 
@@ -25,7 +25,7 @@ returns-in-Ok-clause-sat g c =
     let many = c.args.ends.ok.0 in
     let new = c.requires.new in
     let told = c.text_of.ensures in
-    let over : IsOver g.L.End.Source.left g.L.End.Sink.held g.L.End.Source.faults g.L.End.Sink.faults c.args.explore.opening c.args.ends.items c.in-Ok.served.ends.items
+    let over : IsOver g.L.End.Source.left g.L.End.Sink.held g.L.End.Source.reads g.L.End.Source.faults g.L.End.Sink.faults c.args.explore.opening c.args.ends.items c.in-Ok.served.ends.items
     explore c.in-Ok.served.endings.items = record {
       opening = c.in-Ok.ensures.opening;
       history = c.in-Ok.ensures.history;
@@ -33,7 +33,7 @@ returns-in-Ok-clause-sat g c =
       others = subst Others many c.in-Ok.ensures.others;
     } in
     ok-from-three c.text_of.result _ _ _ _ told.text told.spells told.ending (λ answer text spells ending.
-    has-sat g.L.End.Source.left g.L.End.Sink.held g.L.End.Source.faults g.L.End.Sink.faults c.args.explore.opening c.args.ends.items c.in-Ok.served.ends.items _ _
+    has-sat g.L.End.Source.left g.L.End.Sink.held g.L.End.Source.reads g.L.End.Source.faults g.L.End.Sink.faults c.args.explore.opening c.args.ends.items c.in-Ok.served.ends.items _ _
     explore c.in-Ok.served.endings.items answer new.experts new.respecting new.told.known over
     (λ room. c.give_back.ensures.given (subst Room (sym c.in-Ok.served.ends.ok.0) room))
     (record {

@@ -14,12 +14,12 @@ use Rattle.serve_command.proofs.serving.serve.Goals as goal
 pub returns-in_err-start-clause-ends : goal.returns-in_err-start-clause-ends
 returns-in_err-start-clause-ends g c =
     let range = expert-range c.args.experts c.requires.experts in
-    any-err c.from_residual.result _ (λ s. early-back _ _ _ _ c.args.experts _ _ range.0)
+    any-err c.from_residual.result _ (λ s. early-back _ _ _ _ _ c.args.experts _ _ range.0)
 
 pub returns-in_err-explore-clause-ends : goal.returns-in_err-explore-clause-ends
 returns-in_err-explore-clause-ends g c =
     let range = expert-range c.args.experts c.requires.experts in
-    any-err c.from_residual-in_err-explore.result _ (λ s. early-back _ _ _ _ c.args.experts _ _ range.0)
+    any-err c.from_residual-in_err-explore.result _ (λ s. early-back _ _ _ _ _ c.args.experts _ _ range.0)
 
 pub ends_at-requires-clause-some : goal.ends_at-requires-clause-some
 ends_at-requires-clause-some g c κs within = (expert-range c.args.experts c.requires.experts).0
@@ -32,7 +32,7 @@ returns-in_err-ends-clause-refused g c =
 pub returns-in_err-ends-clause-ends : goal.returns-in_err-ends-clause-ends
 returns-in_err-ends-clause-ends g c =
     err-passed c.from_residual-in_err-ends.result c.in_err-ends.field-0.0 _ c.from_residual-in_err-ends.ensures.1
-    (short-back _ _ _ _ _ _ _ _ _ c.in_err-ends.ensures.short)
+    (short-back _ _ _ _ _ _ _ _ _ _ c.in_err-ends.ensures.short)
 
 pub explored-requires-clause-count : goal.explored-requires-clause-count
 explored-requires-clause-count g c κs within =
@@ -48,8 +48,8 @@ returns-clause-answer g c =
     IfOk-weaker c.explored.result _ _ (λ answer sat. (
       start_of c.in_ok-start.start,
       c.in_ok-start.ensures.start,
-      subst (λ (p : Opening). IsAnswer g.L.End.Source.left g.L.End.Sink.held g.L.End.Source.faults g.L.End.Sink.faults p (g.L.Listener.ends c.args.link.now) (g.L.Listener.ends c.explored.new.link) answer) is
-          (sat-answer _ _ _ _ o _ _ _ _ _ c.in_ok-ends.ensures.within c.in_ok-ends.ensures.taken many sat),
+      subst (λ (p : Opening). IsAnswer g.L.End.Source.left g.L.End.Sink.held g.L.End.Source.reads g.L.End.Source.faults g.L.End.Sink.faults p (g.L.Listener.ends c.args.link.now) (g.L.Listener.ends c.explored.new.link) answer) is
+          (sat-answer _ _ _ _ _ o _ _ _ _ _ c.in_ok-ends.ensures.within c.in_ok-ends.ensures.taken many sat),
     ))
     c.explored.ensures.sat
 
@@ -59,7 +59,7 @@ returns-clause-refused g c = IfErr-weaker c.explored.result _ _ (λ stop memory.
 pub returns-clause-ends : goal.returns-clause-ends
 returns-clause-ends g c =
     let many = sym c.in_ok-ends.ends.ok.0 ∙ c.in_ok-ends.ensures.count in
-    risen-ends _ _ _ _ _ _ _ _ _ c.explored.result c.in_ok-ends.ensures.within c.in_ok-ends.ensures.taken many c.explored.ensures.risen c.explored.ensures.cause
+    risen-ends _ _ _ _ _ _ _ _ _ _ c.explored.result c.in_ok-ends.ensures.within c.in_ok-ends.ensures.taken many c.explored.ensures.risen c.explored.ensures.cause
 
 pub returns-in_err-ends-clause-cause : goal.returns-in_err-ends-clause-cause
 returns-in_err-ends-clause-cause g c =
