@@ -178,7 +178,8 @@ def started(said, script, known, text):
     try:
         return Program(("127.0.0.1", port), said.experts, child)
     except BaseException:
-        child.kill()
+        with contextlib.suppress(ProcessLookupError):
+            os.killpg(child.pid, signal.SIGTERM)  # with it goes what ./fca started to build the program
         child.wait()
         raise
 
@@ -605,6 +606,8 @@ def ended(program, record, text_path):
         say("%s and the program's text %s have not the same events; the text is right" % (record.path, text_path))
         return 1
     say("%s is whole, and %s is the program's own text" % (record.path, text_path))
+    if status == 6:
+        say("questions are open: to go on another day, give a new name to --record, and say --after %s" % record.path)
     return 0
 
 

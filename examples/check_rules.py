@@ -4,7 +4,7 @@
 Of tables that plans make, the rules that are shown beside what the scales say have to give, together with that, the closure
 of each set of attributes, and the count of each has to be that of the rows. Of each script of this folder each answer is
 taken back: what is written has to be the text of the script without it, and with --cut each confirmation has to be of the
-question that it was of. The status is 0 where all is as it should be.
+question that it was of. A rule as it is shown has to be read as it was meant. The status is 0 where all is as it should be.
 """
 import itertools
 import os
@@ -58,6 +58,30 @@ def check_rules(program, folder):
     return wrong
 
 
+# ---- rules in words
+
+
+def in_words(program, *words):
+    ran = subprocess.run([sys.executable, os.path.join(HERE, "rules.py"), *words, "--program", program], stdout=subprocess.PIPE, stderr=subprocess.PIPE, timeout=SECONDS)
+    return ran.returncode, ran.stdout.decode(), ran.stderr.decode()
+
+
+def check_words(program):
+    """A rule as it is shown, with its count, without braces, and with names that the table has not."""
+    table = os.path.join(HERE, "water.cxt")
+    basis = [rules.arrow(rules.table_of(program, table), *rule) for rule in rules.basis_of(program, table, rules.table_of(program, table))]
+    status, text, _ = in_words(program, "known", table, *basis)
+    told = [rules.implication_in(line.split(" ")[:2]) for line in text.splitlines()]
+    wrong = status != 0 or told != rules.basis_of(program, table, rules.table_of(program, table))
+    explained = in_words(program, table, "a, h", "g")
+    wrong += explained[0] != 0 or any(in_words(program, table, said) != explained for said in ("{a, h} -> {g}", "a,h->g", "  3  {a, h} -> {g}"))
+    for status, reason, said in ((2, '"A" is no attribute: write "a"', "A -> b"), (1, "a rule has two sides", "a")):
+        ended = in_words(program, table, said)
+        wrong += ended[0] != status or reason not in ended[2]
+    print("rules.py: rules in words, %d not read as they should be" % wrong)
+    return wrong
+
+
 # ---- answers taken back
 
 
@@ -93,7 +117,7 @@ def check_undone(program):
 
 def check(program):
     with tempfile.TemporaryDirectory() as folder:
-        return check_rules(program, folder) + check_undone(program)
+        return check_rules(program, folder) + check_words(program) + check_undone(program)
 
 
 def main():

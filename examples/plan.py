@@ -103,8 +103,14 @@ def make(words):
     tell_made(table, columns, *files)
     if making.has_crosses_alone(table):
         print("note: %s has crosses alone, and the commands of the program may take it as it is" % words.table)
-    print("next: ./fca scale %s %s > %s.cxt" % (*map(shlex.quote, files), shlex.quote(to)))
+    tell_next(*map(shlex.quote, (*files, to + ".cxt", to + ".known")))
     return 0
+
+
+def tell_next(values, plan, table, known_file):
+    print("next: ./fca scale %s %s > %s" % (values, plan, table))
+    print("      examples/plan.py known %s > %s" % (plan, known_file))
+    print("      examples/rules.py %s --known %s" % (table, known_file))
 
 
 def tell_made(table, columns, values, plan):

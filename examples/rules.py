@@ -4,21 +4,30 @@
     rules.py T [--known K]                 the basis of the table T, or what of it is left beside the known file K: each rule
                                            with how many objects have its premise, most first, those of no object apart
     rules.py T A B                         whether the attributes A imply the attributes B, and of how many objects
+    rules.py T "{A} -> {B}"                the same, as a rule is shown
+    rules.py known T "A -> B" ..           a known file for T, of rules that are said in words
     rules.py undo RECORD LINE --table T    the exploration of T in RECORD without the answer in that line; what changes
                                            after it is told on the error stream, event by event
 
 That a rule holds, that all rules follow from those shown, and what an exploration answers is the program's, which is
 proved: it is called as ./fca of this repository, or as --program or the variable FCA say. This script is not proved; it counts
-objects, sorts, compares, and leaves out of a rule what K says anyway. The status is 0; 1 for wrong words; else that of the program.
+objects, sorts, compares, looks up names, and leaves out of a rule what K says anyway. The status is 0; 1 for wrong words; 2 for a
+name that T has not; else that of the program.
 """
 import argparse
 import json
 import os
+import re
 import subprocess
 import sys
 
+from planning import remedies
+
 TOP = os.path.dirname(os.path.dirname(os.path.abspath(__file__)))
+REFUSED = 2  # the status for a file that is not as it should be
 OPEN_QUESTION = 6  # a status of replay, at which its whole text is written
+NO_TABLE = "crosses are wanted here. Of a table of values plan.py makes them, and of a record record.py makes a table."
+NOT_KNOWN = "the known file has to be one for this table. If its plan was edited since, make the table and the known file anew."
 
 
 class Stop(Exception):
@@ -29,14 +38,14 @@ class Stop(Exception):
         self.status = status
 
 
-def run_program(program, words, given=b""):
-    """What the program writes; where it stops, it has said why."""
+def run_program(program, words, given=b"", hint=""):
+    """What the program writes; where it stops, it has said why. The hint is for a file that it refuses."""
     try:
         ran = subprocess.run([program] + words, input=given, stdout=subprocess.PIPE)
     except OSError as fault:
         raise Stop(127, "%s: %s" % (program, fault.strerror)) from fault
     if ran.returncode not in (0, OPEN_QUESTION):
-        raise Stop(ran.returncode, "")
+        raise Stop(ran.returncode, hint if ran.returncode == REFUSED else "")
     return ran.stdout.decode()
 
 
@@ -65,6 +74,27 @@ class Table:
     def places(self, names):
         return frozenset(self.attributes.index(name) for name in names)
 
+    def names_in(self, side):
+        """The names in a side of a rule, with or without braces."""
+        side = side.strip(" \t")
+        if side == "everything" and side not in self.attributes:
+            return self.attributes
+        if side.startswith("{") and side.endswith("}") and side not in self.attributes:
+            side = side[1:-1]
+        names = [name.strip(" \t") for name in side.split(",")] if side.strip(" \t") else []
+        for name in names:
+            if name not in self.attributes:
+                raise Stop(REFUSED, self.unknown(name))
+        return names
+
+    def unknown(self, name):
+        known = [each.encode("utf-8", "surrogateescape") for each in self.attributes]
+        remedy = remedies.for_attribute(name.encode("utf-8", "surrogateescape"), known)
+        return '"%s" is no attribute: %s' % (name, remedy.replace("the table of values has", "there are"))
+
+    def pattern(self, places):
+        return "".join("X" if place in places else "." for place in range(len(self.attributes)))
+
     def braces(self, places):
         return "{%s}" % ", ".join(self.attributes[place] for place in sorted(places))
 
@@ -75,7 +105,7 @@ def bits(marks):
 
 
 def table_of(program, file):
-    return Table(run_program(program, ["convert", file, "cxt"]))
+    return Table(run_program(program, ["convert", file, "cxt"], hint=NO_TABLE))
 
 
 def members(pattern):
@@ -90,7 +120,7 @@ def basis_of(program, file, table):
 
 def basis_beside(program, file, known):
     """The known implications, and the basis relative to them: what an expert accepts who knows the table and explores it."""
-    lines = run_program(program, ["explore", file, "--known", known, "--expert", file]).split("\n")
+    lines = run_program(program, ["explore", file, "--known", known, "--expert", file], hint=NOT_KNOWN).split("\n")
     told = [implication_in(line.split(" ")[1:3]) for line in lines if line.startswith("known ")]
     start = next(number for number, line in enumerate(lines) if line.startswith("# accepted ") and not is_reply(lines, number))
     count = int(lines[start].split(" ")[2])
@@ -165,9 +195,11 @@ def several(count, word):
 
 def explain(words):
     """What `follows` says of one implication, and of how many objects."""
-    text = run_program(words.program, ["follows", words.table, words.premise, words.conclusion])
     table = table_of(words.program, words.table)
-    premise, conclusion = table.places(names_in(words.premise)), table.places(names_in(words.conclusion))
+    left, right = (words.premise, words.conclusion) if words.conclusion is not None else sides(words.premise)
+    left, right = table.names_in(left), table.names_in(right)
+    text = run_program(words.program, ["follows", words.table, ",".join(left), ",".join(right)])
+    premise, conclusion = table.places(left), table.places(right)
     having, both = table.count(premise), table.count(premise | conclusion)
     print(text, end="")
     print("%d of %d objects have %s" % (having, len(table.objects), table.braces(premise)), end="")
@@ -180,9 +212,21 @@ def explain(words):
     return 0
 
 
-def names_in(word):
-    """The names in a word of `follows`."""
-    return [name.strip(" \t") for name in word.split(",")] if word.strip(" \t") else []
+def sides(rule):
+    """The two sides of a rule in words; a count before it is that of the list."""
+    left, arrow, right = re.sub(r"^\s*[0-9]+ +(?=\{)", "", rule).partition("->")
+    if not arrow:
+        raise Stop(1, "a rule has two sides, as in `A -> B`; there is `%s`" % rule)
+    return left, right
+
+
+def write_known(words):
+    """A known file of rules in words."""
+    table = table_of(words.program, words.table)
+    for rule in words.rules:
+        premise, conclusion = (table.places(table.names_in(side)) for side in sides(rule))
+        print("%s %s %s -> %s" % (*map(table.pattern, (premise, conclusion)), *map(table.braces, (premise, conclusion))))
+    return 0
 
 
 # ---- an exploration without an answer
@@ -313,22 +357,32 @@ def undo_words(arguments):
     return parser.parse_args(arguments)
 
 
+def known_words(arguments):
+    parser = parser_of('rules.py known T "A -> B" ..')
+    parser.add_argument("table", metavar="T")
+    parser.add_argument("rules", metavar="RULE", nargs="+", help="the two sides with `->` between them, and commas between names")
+    parser.set_defaults(run=write_known)
+    return parser.parse_args(arguments)
+
+
 def rules_words(arguments):
-    parser = parser_of("rules.py T [--known K]\n       rules.py T A B\n       rules.py undo RECORD LINE --table T [--cut]")
+    others = ('rules.py T "{A} -> {B}"', 'rules.py known T "A -> B" ..', "rules.py undo RECORD LINE --table T [--cut]")
+    parser = parser_of("\n       ".join(("rules.py T [--known K]", "rules.py T A B") + others))
     parser.add_argument("table", metavar="T")
     parser.add_argument("premise", metavar="A", nargs="?")
     parser.add_argument("conclusion", metavar="B", nargs="?")
     parser.add_argument("--known", metavar="K", help="a known file, as plan.py known writes one")
     words = parser.parse_args(arguments)
-    if words.premise is not None and (words.conclusion is None or words.known is not None):
-        parser.error("an implication has two sides, and --known goes with the list of rules alone")
+    if words.premise is not None and words.known is not None:
+        parser.error("--known goes with the list of rules alone")
     words.run = list_rules if words.premise is None else explain
     return words
 
 
 def main():
     arguments = sys.argv[1:]
-    words = undo_words(arguments[1:]) if arguments[:1] == ["undo"] else rules_words(arguments)
+    others = {"undo": undo_words, "known": known_words}
+    words = others[arguments[0]](arguments[1:]) if arguments and arguments[0] in others else rules_words(arguments)
     try:
         status = words.run(words)
         sys.stdout.flush()

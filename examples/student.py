@@ -11,6 +11,7 @@ not to send a counterexample that cannot count: one that lacks what the question
 """
 import argparse
 import re
+import select
 import socket
 import sys
 import time
@@ -29,6 +30,8 @@ OTHERS = {
 }
 CONTROL = re.compile(r"[\x00-\x1f\x7f-\x9f]")  # what could move the cursor is not shown
 WAIT_SECONDS = (2, 15)  # until it draws again, while others think about all questions: at first, and at most
+GREETING_SECONDS = 3  # until it says that nobody has greeted it
+NO_NAME = " A chair may want your name: then leave by Ctrl-C, and start again with --name."
 
 
 class Ended(Exception):
@@ -63,6 +66,8 @@ class Line:
         self.replies = self.link.makefile("r", encoding="utf-8", errors="replace", newline="\n")
         if name:
             self.send("name " + name)
+        if not select.select([self.link], [], [], GREETING_SECONDS)[0]:
+            print("Nobody has greeted you yet. `serve` waits until all have come.%s" % ("" if name else NO_NAME), flush=True)
         self.expert, self.attributes = self.greeting()
 
     def greeting(self):

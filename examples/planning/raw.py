@@ -39,6 +39,8 @@ class BadTable(Exception):
 
 def read_raw(data: bytes, options: Options) -> RawTable:
     text, remarks = text_of(data)
+    if re.match(r"B\r?\n.*\r?\n[0-9]+\r?\n[0-9]+\r?\n", text):
+        raise BadTable("this is a table of crosses already, in the Burmeister form: the commands take it as it is")
     if re.match(r"(\s*(%.*)?\n)*\s*@relation", text, re.IGNORECASE):
         header, rows = read_arff(text)
         separator = ","
