@@ -19,7 +19,7 @@ import sys
 from planning import checking, known, making, raw
 from planning.records import number_of, written
 
-MOST_SHOWN = 20
+MOST_SHOWN, MOST_ALIKE = 20, 3
 REFUSED, FAULT = 2, 3
 
 
@@ -40,7 +40,10 @@ def read(path):
 def check(words):
     files = [(path, read(path)) for path in (words.values, words.plan) if path is not None]
     found = list(mistakes_in(*files))
-    tell_mistakes(found, len(found) if words.all else MOST_SHOWN)
+    if words.all:
+        print("".join(mistake.text() + "\n" for mistake in found), end="")
+    else:
+        tell_mistakes(found)
     values = checking.read_values(*files[0])
     for note in itertools.chain(checking.values_notes(values), *(checking.plan_notes(plan, values) for _, plan in files[1:])):
         print("note: " + note)
@@ -62,11 +65,22 @@ def of(count, word):
     return "%d %s" % (count, word if count == 1 else word + "s")
 
 
-def tell_mistakes(found, most):
-    for mistake in found[:most]:
-        print(mistake.text())
-    if len(found) > most:
-        print("and %d more, which --all shows" % (len(found) - most))
+def kind_of(mistake):
+    """What mistakes have in common that are mended alike."""
+    return mistake.file, mistake.what.split(", there ")[0], mistake.remedy.split("; here ")[0]
+
+
+def tell_mistakes(found):
+    """The first mistakes; of many alike, one behind the other, the first alone."""
+    groups = [list(group) for _, group in itertools.groupby(found, kind_of)]
+    for group in groups[:MOST_SHOWN]:
+        few = group if len(group) <= MOST_ALIKE else group[:1]
+        print("".join(mistake.text() + "\n" for mistake in few), end="")
+        if len(few) < len(group):
+            print("  and %d more like this, which --all shows" % (len(group) - 1))
+    rest = sum(map(len, groups[MOST_SHOWN:]))
+    if rest:
+        print("and %d more, which --all shows" % rest)
 
 
 # ---- make
@@ -163,7 +177,7 @@ def parsed(arguments):
     checks = commands.add_parser("check", help="find the mistakes in a table of values, and in a plan for it")
     checks.add_argument("values", metavar="F")
     checks.add_argument("plan", metavar="P", nargs="?")
-    checks.add_argument("--all", action="store_true", help="show all mistakes, not only the first %d" % MOST_SHOWN)
+    checks.add_argument("--all", action="store_true", help="show all mistakes, not only the first")
     checks.set_defaults(run=check)
     add_make(commands)
     knows = commands.add_parser("known", help="write what the scales of a plan say")
