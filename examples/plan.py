@@ -20,6 +20,7 @@ from planning import checking, known, making, raw
 from planning.records import number_of, written
 
 MOST_SHOWN, MOST_ALIKE = 20, 3
+MANY_ATTRIBUTES = 40
 REFUSED, FAULT = 2, 3
 
 
@@ -115,6 +116,8 @@ def make(words):
         with open(path, "wb") as file:
             file.write(text)
     tell_made(table, columns, *files)
+    if sum(column.crosses() for column in columns) > MANY_ATTRIBUTES:
+        print("note: so many attributes may have more rules than anybody waits for: begin with --only and a few columns, or with --cuts 1")
     if making.has_crosses_alone(table):
         print("note: %s has crosses alone, and the commands of the program may take it as it is" % words.table)
     tell_next(*map(shlex.quote, (*files, to + ".cxt", to + ".known")))
