@@ -352,6 +352,14 @@ def sentences(program, folder):
         expect(student.stays(reply) == stays, "%s: whether the question stays" % reply)
 
 
+def nameless(program, folder):
+    """A student who gives no name where names are wanted is told so; and the chair says how to go on while a question is open."""
+    chair = Chair(folder, program, VEHICLES, "--experts", "1", "--names", "--record", "nameless").begun()
+    said = typed_to_student(chair.port, "")
+    expect("start again with --name" in said and "There is no seat for you" in said, "the student is not told: %s" % said)
+    expect(chair.ended(signal.SIGINT) == 0 and "--after nameless" in chair.said(), chair.said())
+
+
 def at_a_time(program, folder):
     """A chair that ends by the clock."""
     until = time.localtime(time.time() + 60)
@@ -371,7 +379,7 @@ def end_all():
 
 def check(program):
     """How many cases are not as they should be."""
-    wrong, cases = 0, (two_days, broken_off, anew, hostile, refusals, connected, sentences, at_a_time)
+    wrong, cases = 0, (two_days, broken_off, anew, hostile, refusals, connected, sentences, nameless, at_a_time)
     with tempfile.TemporaryDirectory() as folder:
         for case in cases:
             try:
