@@ -3,7 +3,7 @@
 
 real.py [FOLDER]: writes the tables into BENCH_TABLES (/tmp/fca-bench), and times them as compare.py does; FOLDER has the other programs.
 real.py --make: only writes the tables and prints their paths.
-ONLY=WORD ..: only the tables whose names have one of the words.
+ONLY=WORD ..: only the tables whose names have one of the words. BENCH_JOBS names some of the commands.
 
 The tables are the tags of the packages of this system's distribution (`apt-cache dumpavail`: an object for each package, an attribute for each
 of the most frequent tags), the scales of Ganter and Wille's book in several orders of their attributes, and, if `Rscript` and its packages
@@ -133,21 +133,28 @@ def tables_of_r():
 
 def jobs_of(name):
     """The commands that are timed: the lattice only of tables with few concepts a program keeps at once."""
-    return ["concepts", "basis"] + ([] if name.startswith("tags-") and name not in ("tags-30", "tags-60") else ["lattice"])
+    every = ["concepts", "basis"] + ([] if name.startswith("tags-") and name not in ("tags-30", "tags-60") else ["lattice"])
+    return [job for job in every if job in os.environ.get("BENCH_JOBS", " ".join(every)).split()]
+
+
+def made_tables():
+    """The names and paths of the tables, which are made if they are not there yet."""
+    only = os.environ.get("ONLY", "").split()
+    for source in (tag_tables, scale_tables, tables_of_r):
+        for name, objects, attributes, rows in source():
+            if not only or any(word in name for word in only):
+                yield name, write(name, objects, attributes, rows)
 
 
 def main():
     words = [word for word in sys.argv[1:] if not word.startswith("--")]
-    only = os.environ.get("ONLY", "").split()
-    made = []
-    for source in (tag_tables, scale_tables, tables_of_r):
-        for name, objects, attributes, rows in source():
-            if not only or any(word in name for word in only):
-                made.append((name, write(name, objects, attributes, rows)))
     if "--make" in sys.argv[1:]:
-        print("\n".join(path for _, path in made))
+        for name, path in made_tables():
+            print(name, path, flush=True)
         return
-    for name, path in made:
+    # a process of its own makes them: what a child is seen to hold is never less than what its parent holds
+    said = subprocess.run([sys.executable, os.path.abspath(__file__), "--make"], stdout=subprocess.PIPE, check=True)
+    for name, path in (line.split(" ", 1) for line in said.stdout.decode().splitlines()):
         for job in jobs_of(name):
             measure.set_tunables(job)
             compare.report(job, name, path, words[0] if words else None)
