@@ -17,11 +17,12 @@ import shlex
 import sys
 
 from planning import checking, known, making, raw
+from planning.ending import FAULT, status_of
 from planning.records import number_of, written
 
 MOST_SHOWN, MOST_ALIKE = 20, 3
 MANY_ATTRIBUTES = 40
-REFUSED, FAULT = 2, 3
+REFUSED = 2
 
 
 class Words(argparse.ArgumentParser):
@@ -205,18 +206,7 @@ def add_make(commands):
 
 def main():
     words = parsed(sys.argv[1:])
-    try:
-        status = words.run(words)
-        sys.stdout.flush()
-    except BrokenPipeError:  # who reads has enough, as `head` has
-        os.dup2(os.open(os.devnull, os.O_WRONLY), sys.stdout.fileno())
-        status = 4
-    except KeyboardInterrupt:
-        status = 130
-    except OSError as fault:
-        print("plan.py: %s: %s" % (fault.filename, fault.strerror), file=sys.stderr)
-        status = FAULT
-    sys.exit(status)
+    sys.exit(status_of("plan.py", lambda: words.run(words)))
 
 
 if __name__ == "__main__":

@@ -22,6 +22,7 @@ import subprocess
 import sys
 
 from planning import remedies
+from planning.ending import status_of
 
 TOP = os.path.dirname(os.path.dirname(os.path.abspath(__file__)))
 REFUSED = 2  # the status for a file that is not as it should be
@@ -379,26 +380,21 @@ def rules_words(arguments):
     return words
 
 
+def said_by(words):
+    """The status of what the words ask for; why it stops goes to the error stream."""
+    try:
+        return words.run(words)
+    except Stop as stop:
+        if str(stop):
+            print("rules.py: %s" % stop, file=sys.stderr)
+        return stop.status
+
+
 def main():
     arguments = sys.argv[1:]
     others = {"undo": undo_words, "known": known_words}
     words = others[arguments[0]](arguments[1:]) if arguments and arguments[0] in others else rules_words(arguments)
-    try:
-        status = words.run(words)
-        sys.stdout.flush()
-    except Stop as stop:
-        if str(stop):
-            print("rules.py: %s" % stop, file=sys.stderr)
-        status = stop.status
-    except BrokenPipeError:  # who reads has enough, as `head` has
-        os.dup2(os.open(os.devnull, os.O_WRONLY), sys.stdout.fileno())
-        status = 4
-    except KeyboardInterrupt:
-        status = 130
-    except OSError as fault:
-        print("rules.py: %s: %s" % (fault.filename, fault.strerror), file=sys.stderr)
-        status = 3
-    sys.exit(status)
+    sys.exit(status_of("rules.py", lambda: said_by(words)))
 
 
 if __name__ == "__main__":
