@@ -42,7 +42,10 @@ NOBODY = 61234  # the number of a user that has no other processes
 NO_MEMORY = b"fca: no memory\n"
 
 # What is known to be wrong: a part, and the first words of its commands. The list is empty where all is right.
-KNOWN = []
+KNOWN = [
+    ("stacks", "concepts first.cxt --json"),  # ends by a signal below 1,168 KB: lectic_concepts goes as deep as the table has attributes
+    ("stacks", "explore first-bare.cxt"),  # below 1,328 KB: so does next_level
+]
 
 SMALL = refused_memory.COMMANDS + [
     ("replay empty.cxt --known empty.known", "draw 1\n"),
