@@ -4,14 +4,28 @@
 #![tactic(auto)]
 
 #[cfg(test)]
+mod basis_report_tests;
+#[cfg(test)]
 mod canonical_basis_tests;
 #[cfg(test)]
 mod concept_report_tests;
 #[cfg(test)]
 mod context_reduce_tests;
 #[cfg(test)]
+mod derivation_tests;
+#[cfg(test)]
 mod fca_io_tests;
+#[cfg(test)]
+mod fca_model_tests;
 #[cfg(test)]
 mod lattice_covers_tests;
 #[cfg(test)]
+mod lectic_concepts_tests;
+#[cfg(test)]
+mod level_queue_tests;
+#[cfg(test)]
+mod next_level_tests;
+#[cfg(test)]
 mod pseudo_levels_tests;
+#[cfg(test)]
+mod tables;
