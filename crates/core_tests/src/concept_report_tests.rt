@@ -2,7 +2,7 @@
 
 use basis_report::{basis_text, concepts_text};
 use canonical_basis::basis;
-use concept_report::{table_basis_text, table_concepts_text};
+use table_texts::{table_basis_text, table_concepts_text};
 use context_table::Table;
 use fca_model::Memory;
 use lectic_concepts::all_concepts;

@@ -8,7 +8,7 @@ mod basis_report_tests;
 #[cfg(test)]
 mod canonical_basis_tests;
 #[cfg(test)]
-mod concept_report_tests;
+mod table_texts_tests;
 #[cfg(test)]
 mod context_reduce_tests;
 #[cfg(test)]

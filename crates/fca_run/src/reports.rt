@@ -16,7 +16,7 @@ use attr_bits::Attrs;
 use basis_report::{basis_json, concepts_json, direct_text, verdict_text};
 use canonical_basis::basis;
 use command_io::{Answer, Ending, Origin, Stop, narrow_under, table_under};
-use concept_report::{narrow_basis_text, packed_table_concepts, table_lattice_text};
+use table_texts::{narrow_basis_text, packed_table_concepts, table_lattice_text};
 use context_reduce::{arrows, arrows_text, irreducible, part};
 use context_table::Table;
 use csv_context::write_csv;

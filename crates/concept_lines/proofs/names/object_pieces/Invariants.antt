@@ -1,6 +1,0 @@
-use Rattle.std.proofs.Common.{map}
-use Rattle.packed_concepts.proofs.PieceLemmas.{AreNames}
-use Rattle.concept_lines.proofs.names.object_pieces.Given as goal
-
-abbrev pub invariant-loop-object : goal.invariant-loop-object
-invariant-loop-object l = AreNames l.table.objects l.object l.blocks.items (map (λ v. v.items) l.tails.items)

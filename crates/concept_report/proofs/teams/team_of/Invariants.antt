@@ -1,5 +1,0 @@
-use Rattle.std.proofs.Common.{◌≡◌, [], All}
-use Rattle.concept_report.proofs.teams.team_of.Given as goal
-
-abbrev pub invariant-loop : goal.invariant-loop
-invariant-loop g l = All (λ filled. filled.items ≡ []) l.team.items

@@ -1,0 +1,18 @@
+-- The room for steps gets less where an attribute was tried, also where a step at a later attribute comes of it.
+use Rattle.std.proofs.Common.{◌≡◌, ◌<◌, ◌≤◌, ◌+◌, ◌*◌, ◌-◌, ◌^◌, ℕ, suc, ap, ◌∙◌, arith, pow_mono, pow_pos, pow-suc}
+use Rattle.std.proofs.Math.Pow.{pow-lt}
+use Rattle.concept_walk.specs.Room.{room}
+
+pub room_less : (n from i end : ℕ) → from ≤ i → i < end → end ≤ n → room n from i < room n from end
+room_less n from i end low less inside =
+    let falls : 2 ^ (n - end) < 2 ^ (n - i) = pow-lt (omega arith) in
+    let most : 2 ^ (n - i) ≤ 2 ^ (n - from) = pow_mono (omega arith) in
+    omega arith
+
+pub room_below : (n from i end far : ℕ) → from ≤ i → i < end → end ≤ n → room n from i + room n (i + 1) far < room n from end
+room_below n from i end far low less inside =
+    let most : 2 ^ (n - i) ≤ 2 ^ (n - from) = pow_mono (omega arith) in
+    let falls : 2 ^ (n - end) ≤ 2 ^ (n - (i + 1)) = pow_mono (omega arith) in
+    let next : n - i ≡ suc (n - (i + 1)) = omega arith in
+    let double : 2 ^ (n - i) ≡ 2 ^ (n - (i + 1)) * 2 = ap (λ k. 2 ^ k) next ∙ pow-suc 2 (n - (i + 1)) in
+    omega (arith, pow_pos (n - far), pow_pos (n - (i + 1)))

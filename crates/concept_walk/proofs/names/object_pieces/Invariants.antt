@@ -1,0 +1,6 @@
+use Rattle.std.proofs.Common.{map}
+use Rattle.packed_concepts.proofs.PieceLemmas.{AreNames}
+use Rattle.concept_walk.proofs.names.object_pieces.Given as goal
+
+abbrev pub invariant-loop-object : goal.invariant-loop-object
+invariant-loop-object l = AreNames l.table.objects l.object l.blocks.items (map (λ v. v.items) l.tails.items)

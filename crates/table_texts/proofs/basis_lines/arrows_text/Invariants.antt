@@ -1,0 +1,10 @@
+use Rattle.std.proofs.Common.{◌≡◌, ◌≤◌, ◌++◌, [], drop, length, take}
+use Rattle.std.specs.List.{flat_map, enumerate_from}
+use Rattle.report_texts.specs.Reports.{arrow_line, basis_text}
+use Rattle.table_texts.proofs.basis_lines.arrows_text.Given as goal
+
+abbrev pub invariant-loop-place : goal.invariant-loop-place
+invariant-loop-place g l = record {
+  ends : l.end ≤ length l.bytes.items;
+  written : take l.end l.bytes.items ++ flat_map (λ x. arrow_line [] l.table.attributes x.0 x.1) (enumerate_from l.place (drop l.place l.members)) ≡ basis_text l.table.attributes l.members;
+}

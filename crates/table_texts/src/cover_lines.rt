@@ -1,0 +1,97 @@
+//! The lines of covers.
+
+ghost use Rattle.std.specs.Prelude.{◌≡◌, ◌+◌, ◌≤◌, ◌<◌, ◌++◌, IfOk, OnOk, length, take, codes};
+ghost use Rattle.std.specs.List.{flat_map};
+ghost use Rattle.report_texts.specs.Reports.{counted, cover_line};
+ghost use Rattle.table_texts.specs.Numerals.{AreNumerals};
+
+use crate::numerals::count_up_to;
+use concept_walk::add_head;
+use fca_model::Memory;
+use packed_concepts::{Block, HEAD, make_room, put_block, put_bytes};
+use std::alloc::Global;
+
+/// How many bytes have to be free where a line is put down: two numerals, and what stands behind each.
+const LINE_ROOM: usize = 2 * HEAD + 2;
+
+/// The text with the number of the covers and their lines behind it.
+pub(crate) fn with_covers(
+    alloc: Global,
+    text: Vec<u8>,
+    covers: &[(usize, usize)],
+) -> Result<Vec<u8>, Memory>
+    ensures { IfOk result (λ v. v.items ≡ text.items ++ (counted (codes "covers ") (length covers.now) ++ flat_map cover_line covers.now)) }
+{
+    let mut bytes = text;
+    add_head(&mut bytes, b"covers ", covers.len())?;
+    let end = add_covers(alloc, &mut bytes, covers)?;
+    bytes.truncate(end);
+    Ok(bytes)
+}
+
+/// Puts the lines down behind the text, and tells where they end. Each numeral is written once, and put down where it stands.
+fn add_covers(
+    alloc: Global,
+    bytes: &mut Vec<u8>,
+    covers: &[(usize, usize)],
+) -> Result<usize, Memory>
+    ensures text { IfOk result (λ end. take end bytes.new.items ≡ bytes.old.items ++ flat_map cover_line covers.now) }
+    ensures ends { IfOk result (λ end. end ≤ length bytes.new.items) }
+{
+    let mut end = bytes.len();
+    let mut numerals = Vec::new(alloc);
+    for pair in covers {
+        end = add_cover(bytes, end, &mut numerals, pair.0, pair.1)?;
+    }
+    Ok(end)
+}
+
+/// Puts the line down from that place on, where there is room for it or room is made, and tells where it ends.
+fn add_cover(
+    bytes: &mut Vec<u8>,
+    start: usize,
+    numerals: &mut Vec<Block>,
+    upper: usize,
+    lower: usize,
+) -> Result<usize, Memory>
+    requires start { start ≤ length bytes.old.items }
+    requires numerals { AreNumerals numerals.old.items }
+    ensures text { IfOk result (λ end. take end bytes.new.items ≡ take start bytes.old.items ++ cover_line (upper, lower)) }
+    ensures ends { IfOk result (λ end. end ≤ length bytes.new.items) }
+    ensures numerals { AreNumerals numerals.new.items }
+{
+    count_over(numerals, upper.max(lower))?;
+    make_room(bytes, start, LINE_ROOM)?;
+    Ok(put_cover(bytes, start, numerals, upper, lower))
+}
+
+/// Makes the list long enough for the numeral of the place.
+fn count_over(numerals: &mut Vec<Block>, place: usize) -> Result<(), Memory>
+    requires { AreNumerals numerals.old.items }
+    ensures numerals { AreNumerals numerals.new.items }
+    ensures inside { OnOk result (place < length numerals.new.items) }
+{
+    if place < numerals.len() {
+        return Ok(());
+    }
+    let Some(len) = place.checked_add(1) else {
+        return Err(Memory);
+    };
+    count_up_to(numerals, len)
+}
+
+/// Puts the line down from that place on, and tells where it ends.
+fn put_cover(text: &mut [u8], start: usize, numerals: &[Block], upper: usize, lower: usize) -> usize
+    requires numerals { AreNumerals numerals.now }
+    requires upper { upper < length numerals.now }
+    requires lower { lower < length numerals.now }
+    requires room { start + LINE_ROOM ≤ length text.old }
+    ensures text { take result text.new ≡ take start text.old ++ cover_line (upper, lower) }
+    ensures ends { result ≤ length text.new }
+    ensures room { length text.new ≡ length text.old }
+{
+    let first = put_block(text, start, &numerals[upper]);
+    let parted = put_bytes(text, first, b" ");
+    let second = put_block(text, parted, &numerals[lower]);
+    put_bytes(text, second, b"\n")
+}
