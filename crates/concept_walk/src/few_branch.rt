@@ -12,10 +12,9 @@ use crate::notes::{begin_notes, known};
 use crate::page::Page;
 use crate::sheet::Sheet;
 use attr_bits::Bits;
-use extent_places::{Below, FewObjects, last_member, tries_of};
+use extent_places::{Below, FEW_OBJECTS, FewObjects, ObjectSet, last_member, tries_of};
 use fca_model::Memory;
 use lectic_concepts::{is_child, is_open, note, seen_above};
-use object_sets::{FEW_OBJECTS, ObjectSet};
 use std::alloc::Global;
 
 /// Writes the lines of the intents that contain a and agree with it before attribute `from`, after the few objects of a are set apart.

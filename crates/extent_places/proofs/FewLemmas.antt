@@ -6,9 +6,9 @@ use Rattle.fca_model.specs.Sets.{Set, within, full, IsNextMember}
 use Rattle.fca_model.specs.Context.{Context, closure, extent, extent_from}
 use Rattle.fca_model.proofs.SetLemmas.{within_trans, within_refl}
 use Rattle.lectic_concepts.proofs.IntentLemmas.{within_with}
-use Rattle.object_sets.specs.Objects.{HasObjects, AreColumns, rows_above}
-use Rattle.object_sets.proofs.ObjectLemmas.{has_all, all_kept}
-use Rattle.object_sets.proofs.AboveLemmas.{closure_above, objects-closure}
+use Rattle.extent_places.specs.Objects.{HasObjects, AreColumns, rows_above}
+use Rattle.extent_places.proofs.ObjectLemmas.{has_all, all_kept}
+use Rattle.extent_places.proofs.AboveLemmas.{closure_above, objects-closure}
 use Rattle.extent_places.specs.declared.few.FewObjects.{FewObjects}
 use Rattle.extent_places.specs.Few.{AreFew, chosen}
 use Rattle.extent_places.specs.Places.{rows_at}

@@ -1,3 +1,5 @@
+pub mod ObjectLemmas
+pub mod AboveLemmas
 pub mod PlaceLemmas
 pub mod TryLemmas
 pub mod FewLemmas

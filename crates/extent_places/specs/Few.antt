@@ -2,7 +2,7 @@
 use Rattle.std.specs.Prelude.{◌≡◌, ℕ, true, cond, List, [], ◌∷◌}
 use Rattle.fca_model.specs.Sets.{Set, within}
 use Rattle.fca_model.specs.Context.{Context, extent}
-use Rattle.object_sets.specs.Objects.{HasObjects, AreColumns, rows_above}
+use Rattle.extent_places.specs.Objects.{HasObjects, AreColumns, rows_above}
 use Rattle.extent_places.specs.declared.few.FewObjects.{FewObjects}
 
 -- those of the places whose objects are in S

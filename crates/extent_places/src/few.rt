@@ -5,10 +5,10 @@ ghost use Rattle.fca_model.specs.Context.{closure, extent};
 ghost use Rattle.extent_places.specs.Few.{AreFew, HasNoObject, chosen};
 ghost use Rattle.extent_places.specs.Places.{rows_at};
 
+use crate::objects::{FEW_OBJECTS, ObjectSet, meet_of, objects_with, put_columns};
 use attr_bits::Bits;
 use derivation::RowsOf;
 use fca_model::Memory;
-use object_sets::{FEW_OBJECTS, ObjectSet, meet_of, objects_with, put_columns};
 use std::alloc::Global;
 
 /// From so many attributes on that are left it pays to set few objects apart.

@@ -1,12 +1,20 @@
-//! Extents as places in the table and, where they are small, as sets of few objects in one word, with the closures of what they are the extents of.
+//! Extents in two forms, with the closures of the sets that they are the extents of. One form is the places of the objects in the table. The other is for at
+//! most 64 objects: a set of them in one word.
 #![tactic(auto)]
 
 mod columns;
 mod few;
+mod members;
+mod objects;
 mod places;
 mod tries;
 
 pub use columns::Columns;
 pub use few::{Below, FewObjects, pays_apart};
+pub use members::{has, insert, lacks, with, without};
+pub use objects::{
+    FEW_OBJECTS, ObjectSet, closure_of, columns_of, have_all, meet_of, objects_above, objects_with,
+    put_columns,
+};
 pub use places::{closure_at, places_having};
 pub use tries::{last_member, tries_of};

@@ -5,7 +5,7 @@ use Rattle.fca_model.specs.Sets.{Set, within}
 use Rattle.fca_model.specs.Context.{Context, closure}
 use Rattle.fca_model.proofs.SetLemmas.{within_at_place, within_from_places}
 use Rattle.fca_model.proofs.ClosureLemmas.{closure_extensive, closure_monotone}
-use Rattle.object_sets.specs.Objects.{AreColumns, HasObjects}
+use Rattle.extent_places.specs.Objects.{AreColumns, HasObjects}
 use Rattle.lattice_covers.specs.declared.chain.Sheet.{Sheet}
 use Rattle.lattice_covers.specs.Neighbours.{AreImplied, IsOnSheet}
 

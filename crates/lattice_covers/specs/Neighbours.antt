@@ -4,7 +4,7 @@ use Rattle.std.specs.List.{prefix_len}
 use Rattle.std.specs.Ordering.{is_lt}
 use Rattle.fca_model.specs.Sets.{Set, within, lectic_cmp}
 use Rattle.fca_model.specs.Context.{Context, closure}
-use Rattle.object_sets.specs.Objects.{HasObjects, AreColumns, rows_above}
+use Rattle.extent_places.specs.Objects.{HasObjects, AreColumns, rows_above}
 use Rattle.lattice_covers.specs.declared.chain.Sheet.{Sheet}
 use Rattle.lattice_covers.specs.declared.chain.Above.{Above}
 use Rattle.lattice_covers.specs.declared.chain.Above.TheVariants.{Many, Few}

@@ -3,16 +3,16 @@
 ghost use Rattle.std.specs.Prelude.{◌≡◌, ◌<◌, ◌≤◌, ℕ, [], true, false, not, ◌||◌, length, slice_set, slice_index_or, MatchOption, IfOk};
 ghost use Rattle.fca_model.specs.Sets.{within};
 ghost use Rattle.fca_model.specs.Context.{closure};
-ghost use Rattle.object_sets.specs.Objects.{rows_above};
+ghost use Rattle.extent_places.specs.Objects.{rows_above};
 ghost use Rattle.lattice_covers.specs.Neighbours.{IsAbove, IsLink, AreLinks};
 
 use attr_bits::Bits;
 use derivation::RowsOf;
-use fca_model::Memory;
-use object_sets::{
+use extent_places::{
     FEW_OBJECTS, ObjectSet, closure_of, columns_of, has, have_all, lacks, objects_above,
     objects_with, with,
 };
+use fca_model::Memory;
 use std::alloc::Global;
 use std::rc::Rc;
 

@@ -12,9 +12,9 @@ ghost use Rattle.lattice_covers.specs.Neighbours.{IsLink, pairs_with};
 use attr_bits::{Attrs, Bits, WORDS};
 use chain::{Link, closure_if_allowed, link_of};
 use derivation::{Rows, RowsOf};
+use extent_places::{has, insert};
 use fca_model::Memory;
 use lectic_concepts::{FOUR_WORDS, ONE_WORD, in_words};
-use object_sets::{has, insert};
 use places::place_in;
 use std::alloc::Global;
 

@@ -5,7 +5,7 @@ use Rattle.fca_model.specs.Context.{Context}
 use Rattle.fca_model.proofs.SetLemmas.{within_refl}
 use Rattle.lattice_covers.specs.declared.chain.Sheet.{Sheet}
 use Rattle.lattice_covers.specs.Neighbours.{IsOnSheet}
-use Rattle.object_sets.proofs.ObjectLemmas.{has_all, all_kept}
+use Rattle.extent_places.proofs.ObjectLemmas.{has_all, all_kept}
 use Rattle.lattice_covers.proofs.chain.above_of.Goals as goal
 
 pub returns : goal.returns

@@ -1,7 +1,7 @@
 use Rattle.std.proofs.Common.{◌≡◌, ◌<◌, ◌+◌, ◌∙◌, ◌++◌, ◌∷◌, Bool, true, false, cond, List, [], filter, take, length, get_or, sym, ap, subst}
 use Rattle.fca_model.specs.Sets.{Set, within}
 use Rattle.fca_model.specs.Context.{Context}
-use Rattle.object_sets.proofs.ObjectLemmas.{filter_next}
+use Rattle.extent_places.proofs.ObjectLemmas.{filter_next}
 use Rattle.lattice_covers.proofs.chain.containing_with.Goals as goal
 use Rattle.lattice_covers.proofs.chain.containing_with.Goals.{then-contains+in_ok-push, else-contains}
 

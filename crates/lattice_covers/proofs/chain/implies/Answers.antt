@@ -3,14 +3,14 @@ use Rattle.std.proofs.lemmas.List.{get_or_default}
 use Rattle.fca_model.specs.Sets.{Set, within}
 use Rattle.fca_model.specs.Context.{Context, closure}
 use Rattle.fca_model.proofs.SetLemmas.{within_refl}
-use Rattle.object_sets.specs.Objects.{HasObjects, alone}
+use Rattle.extent_places.specs.Objects.{HasObjects, alone}
 use Rattle.lattice_covers.specs.declared.chain.Sheet.{Sheet}
 use Rattle.lattice_covers.specs.declared.chain.Above.{Above}
-use Rattle.object_sets.specs.Objects.{rows_above}
+use Rattle.extent_places.specs.Objects.{rows_above}
 use Rattle.lattice_covers.specs.Neighbours.{IsAbove, IsOnSheet}
-use Rattle.object_sets.proofs.AboveLemmas.{closure_above}
+use Rattle.extent_places.proofs.AboveLemmas.{closure_above}
 use Rattle.lattice_covers.proofs.ChainLemmas.{with_on_sheet}
-use Rattle.object_sets.proofs.ObjectLemmas.{closure_has, within-column, having_above}
+use Rattle.extent_places.proofs.ObjectLemmas.{closure_has, within-column, having_above}
 use Rattle.lattice_covers.proofs.chain.implies.Goals as goal
 
 pub returns-in-Many : goal.returns-in-Many

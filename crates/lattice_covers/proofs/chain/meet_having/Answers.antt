@@ -3,7 +3,7 @@ use Rattle.std.proofs.lemmas.List.{get_or_default}
 use Rattle.std.specs.List.{fold}
 use Rattle.fca_model.specs.Sets.{Set, full, meet, within}
 use Rattle.fca_model.specs.Context.{Context}
-use Rattle.object_sets.proofs.ObjectLemmas.{met_next}
+use Rattle.extent_places.proofs.ObjectLemmas.{met_next}
 use Rattle.lattice_covers.proofs.chain.meet_having.Goals as goal
 use Rattle.lattice_covers.proofs.chain.meet_having.Goals.{then-has, else-has}
 

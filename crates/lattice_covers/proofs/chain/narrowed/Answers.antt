@@ -2,12 +2,12 @@ use Rattle.std.proofs.Common.{◌≡◌, ◌∙◌, sym, ap, subst, arith}
 use Rattle.fca_model.specs.Sets.{Set}
 use Rattle.fca_model.specs.Context.{Context}
 use Rattle.fca_model.proofs.SetLemmas.{within_trans}
-use Rattle.object_sets.specs.Objects.{HasObjects}
+use Rattle.extent_places.specs.Objects.{HasObjects}
 use Rattle.lattice_covers.specs.declared.chain.Above.{Above}
 use Rattle.lattice_covers.specs.declared.chain.Sheet.{Sheet}
-use Rattle.object_sets.specs.Objects.{rows_above}
+use Rattle.extent_places.specs.Objects.{rows_above}
 use Rattle.lattice_covers.specs.Neighbours.{IsAbove, IsOnSheet}
-use Rattle.object_sets.proofs.AboveLemmas.{rows_above-rows_above}
+use Rattle.extent_places.proofs.AboveLemmas.{rows_above-rows_above}
 use Rattle.lattice_covers.proofs.chain.narrowed.Goals as goal
 
 pub above_of-requires : goal.above_of-requires

@@ -1,7 +1,7 @@
 use Rattle.std.proofs.Common.{◌∙◌, arith}
 use Rattle.fca_model.specs.Sets.{Set}
 use Rattle.fca_model.specs.Context.{Context}
-use Rattle.object_sets.proofs.AboveLemmas.{closure_above}
+use Rattle.extent_places.proofs.AboveLemmas.{closure_above}
 use Rattle.extent_places.proofs.FewLemmas.{few_with}
 use Rattle.extent_places.proofs.few.FewObjects.with.Goals as goal
 

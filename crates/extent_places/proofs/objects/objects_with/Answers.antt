@@ -2,9 +2,9 @@ use Rattle.std.proofs.Common.{◌≡◌, ◌∙◌, [], get_or, set, true, sym, 
 use Rattle.std.proofs.lemmas.List.{get_or_default}
 use Rattle.fca_model.specs.Sets.{Set}
 use Rattle.fca_model.specs.Context.{Context}
-use Rattle.object_sets.specs.Objects.{HasObjects, alone}
-use Rattle.object_sets.proofs.ObjectLemmas.{objects_with}
-use Rattle.object_sets.proofs.objects.objects_with.Goals as goal
+use Rattle.extent_places.specs.Objects.{HasObjects, alone}
+use Rattle.extent_places.proofs.ObjectLemmas.{objects_with}
+use Rattle.extent_places.proofs.objects.objects_with.Goals as goal
 
 pub returns : goal.returns
 returns g c =

@@ -3,8 +3,8 @@ use Rattle.std.proofs.lemmas.List.{get_or_default}
 use Rattle.fca_model.specs.Sets.{Set, full, size, within}
 use Rattle.fca_model.specs.Context.{Context}
 use Rattle.fca_model.proofs.SetLemmas.{same-true, within_refl}
-use Rattle.object_sets.proofs.ObjectLemmas.{IsMet, met_none, met_more, met_enough, met_all, fewer_left}
-use Rattle.object_sets.proofs.objects.meet_of.Goals as goal
+use Rattle.extent_places.proofs.ObjectLemmas.{IsMet, met_none, met_more, met_enough, met_all, fewer_left}
+use Rattle.extent_places.proofs.objects.meet_of.Goals as goal
 
 pub loop-object-init : goal.loop-object-init
 loop-object-init g c = met_none c.args.rows.now c.args.least.now c.args.objects.now c.full-met.result (c.full-met.ensures ∙ ap full c.width.ensures.width)

@@ -3,7 +3,7 @@
 ghost use Rattle.std.specs.Prelude.{◌≡◌, ◌≤◌, ◌<◌, ℕ, [], true, false, All, length, replicate, slice_set, slice_index_or, IfOk, OnOk};
 ghost use Rattle.fca_model.specs.Sets.{within};
 ghost use Rattle.fca_model.specs.Context.{closure};
-ghost use Rattle.object_sets.specs.Objects.{AreColumns, HasObjects, alone};
+ghost use Rattle.extent_places.specs.Objects.{AreColumns, HasObjects, alone};
 
 use crate::members::{has, insert, without};
 use attr_bits::Bits;

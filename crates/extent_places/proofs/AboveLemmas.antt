@@ -7,8 +7,8 @@ use Rattle.fca_model.proofs.SetLemmas.{within_trans, within_from_places}
 use Rattle.fca_model.proofs.ListLemmas.{bool_iff, filter-filter}
 use Rattle.lectic_concepts.proofs.BranchLemmas.{closure_among}
 use Rattle.fca_model.proofs.ClosureLemmas.{closure_extensive}
-use Rattle.object_sets.specs.Objects.{HasObjects, rows_above}
-use Rattle.object_sets.proofs.ObjectLemmas.{row, closure_in_row}
+use Rattle.extent_places.specs.Objects.{HasObjects, rows_above}
+use Rattle.extent_places.proofs.ObjectLemmas.{row, closure_in_row}
 
 pub rows_above-rows_above : (K : Context) (L A : Set) → within L A ≡ true → rows_above (rows_above K L) A ≡ rows_above K A
 rows_above-rows_above K L A h = ap (λ (Rs : List Set). record { width = K.width; rows = Rs }) (filter-filter (within A) (within L) K.rows ∙ same_rows K.rows)

@@ -1,5 +1,5 @@
-use Rattle.object_sets.proofs.ObjectLemmas.{AreColumnsUpTo}
-use Rattle.object_sets.proofs.objects.fill_columns.Given as goal
+use Rattle.extent_places.proofs.ObjectLemmas.{AreColumnsUpTo}
+use Rattle.extent_places.proofs.objects.fill_columns.Given as goal
 
 abbrev pub invariant-loop-object : goal.invariant-loop-object
 invariant-loop-object g l = AreColumnsUpTo l.rows l.columns l.object

@@ -2,8 +2,8 @@ use Rattle.std.proofs.Common.{◌≡◌, ◌∙◌, ◌<◌, List, [], length, g
 use Rattle.std.proofs.lemmas.List.{get_or_default}
 use Rattle.fca_model.specs.Sets.{Set}
 use Rattle.fca_model.specs.Context.{Context}
-use Rattle.object_sets.proofs.ObjectLemmas.{columns_next}
-use Rattle.object_sets.proofs.objects.fill_columns.Goals as goal
+use Rattle.extent_places.proofs.ObjectLemmas.{columns_next}
+use Rattle.extent_places.proofs.objects.fill_columns.Goals as goal
 
 pub loop-object-preserved : goal.loop-object-preserved
 loop-object-preserved g c =

@@ -5,9 +5,9 @@ use Rattle.fca_model.specs.Context.{Context}
 use Rattle.fca_model.proofs.StepLemmas.{first_missing_none}
 use Rattle.attr_bits.proofs.PlaceLemmas.{member_below}
 use Rattle.attr_bits.proofs.DifferenceLemmas.{first_missing-parts}
-use Rattle.object_sets.specs.Objects.{HasObjects, alone}
-use Rattle.object_sets.proofs.ObjectLemmas.{IsGrown, grown_more, grown_whole, less_lacking}
-use Rattle.object_sets.proofs.objects.objects_above.Goals as goal
+use Rattle.extent_places.specs.Objects.{HasObjects, alone}
+use Rattle.extent_places.proofs.ObjectLemmas.{IsGrown, grown_more, grown_whole, less_lacking}
+use Rattle.extent_places.proofs.objects.objects_above.Goals as goal
 
 pub insert-requires : goal.insert-requires
 insert-requires g c =

@@ -1,6 +1,6 @@
 use Rattle.fca_model.specs.Sets.{size}
-use Rattle.object_sets.proofs.ObjectLemmas.{IsMet}
-use Rattle.object_sets.proofs.objects.meet_of.Given as goal
+use Rattle.extent_places.proofs.ObjectLemmas.{IsMet}
+use Rattle.extent_places.proofs.objects.meet_of.Given as goal
 
 abbrev pub invariant-loop-object : goal.invariant-loop-object
 invariant-loop-object g l = IsMet l.rows l.least l.objects l.met l.rest

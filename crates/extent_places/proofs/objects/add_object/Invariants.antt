@@ -1,5 +1,5 @@
 use Rattle.std.proofs.Common.{◌≡◌, ◌≤◌, ◌<◌, ◌-◌, ℕ, [], true, false, length, get_or, set}
-use Rattle.object_sets.proofs.objects.add_object.Given as goal
+use Rattle.extent_places.proofs.objects.add_object.Given as goal
 
 abbrev pub invariant-loop-attribute : goal.invariant-loop-attribute
 invariant-loop-attribute g l = record {

@@ -2,10 +2,10 @@ use Rattle.std.proofs.Common.{◌≡◌, ◌∙◌, ◌<◌, ◌+◌, [], false,
 use Rattle.std.proofs.lemmas.List.{get_or_default}
 use Rattle.fca_model.specs.Sets.{Set, within}
 use Rattle.fca_model.specs.Context.{Context}
-use Rattle.object_sets.specs.Objects.{HasObjects, alone}
-use Rattle.object_sets.proofs.ObjectLemmas.{IsUpTo, up_to_none, up_to_with, up_to_without, in_closure_of, within-column, all_common}
-use Rattle.object_sets.proofs.objects.common_of.Goals as goal
-use Rattle.object_sets.proofs.objects.common_of.Goals.{then-have_all, else-have_all}
+use Rattle.extent_places.specs.Objects.{HasObjects, alone}
+use Rattle.extent_places.proofs.ObjectLemmas.{IsUpTo, up_to_none, up_to_with, up_to_without, in_closure_of, within-column, all_common}
+use Rattle.extent_places.proofs.objects.common_of.Goals as goal
+use Rattle.extent_places.proofs.objects.common_of.Goals.{then-have_all, else-have_all}
 
 pub loop-attribute-init : goal.loop-attribute-init
 loop-attribute-init g c =

@@ -1,7 +1,7 @@
 use Rattle.std.proofs.Common.{◌-◌, length}
 use Rattle.fca_model.specs.Sets.{size}
-use Rattle.object_sets.proofs.ObjectLemmas.{IsGrown}
-use Rattle.object_sets.proofs.objects.objects_above.Given as goal
+use Rattle.extent_places.proofs.ObjectLemmas.{IsGrown}
+use Rattle.extent_places.proofs.objects.objects_above.Given as goal
 
 abbrev pub invariant-loop-attribute : goal.invariant-loop-attribute
 invariant-loop-attribute g l = IsGrown l.rows l.a l.grown l.having

@@ -12,7 +12,7 @@ use Rattle.fca_model.specs.Implications.{rule, respects}
 use Rattle.fca_model.proofs.SetLemmas.{within_refl, within_trans, within_full, length-full, within_antisymm, within-meet, length-meet, get_or-meet, within_at_place, within_from_places, set_within, get_or-full, size_strict, size-set, size_le, strictly_from, same-true, same_from}
 use Rattle.fca_model.proofs.ListLemmas.{bool_iff, list_all-filter}
 use Rattle.fca_model.proofs.ClosureLemmas.{within-closure, length-closure, closure_in_rows, closure_extensive, respects_from, respects_at}
-use Rattle.object_sets.specs.Objects.{HasObjects, AreColumns, alone}
+use Rattle.extent_places.specs.Objects.{HasObjects, AreColumns, alone}
 
 abbrev pub row : Context → ℕ → Set
 row K g = get_or K.rows g []

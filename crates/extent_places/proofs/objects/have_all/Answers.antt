@@ -1,7 +1,7 @@
 use Rattle.std.proofs.Common.{◌∙◌, ap}
 use Rattle.fca_model.specs.Sets.{Set, same}
-use Rattle.object_sets.proofs.ObjectLemmas.{same-meet}
-use Rattle.object_sets.proofs.objects.have_all.Goals as goal
+use Rattle.extent_places.proofs.ObjectLemmas.{same-meet}
+use Rattle.extent_places.proofs.objects.have_all.Goals as goal
 
 pub returns : goal.returns
 returns c = c.eq.ensures ∙ ap (λ (M : Set). same M c.args.objects.now) c.meet.ensures ∙ same-meet c.args.objects.now c.args.column.now
