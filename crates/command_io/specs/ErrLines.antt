@@ -13,7 +13,7 @@ use Rattle.text_pieces.specs.declared.faults.Place.{Place}
 use Rattle.text_pieces.specs.declared.faults.Place.TheVariants.{Whole}
 use Rattle.cxt_format.specs.Faults as cxt
 use Rattle.csv_context.specs.Faults as csv
-use Rattle.known_rules.specs.Faults as rules
+use Rattle.expert_scripts.specs.KnownFaults as rules
 use Rattle.expert_scripts.specs.Faults as script
 use Rattle.expert_wire.specs.Texts.{line_end, ordinal}
 use Rattle.command_io.specs.declared.err_line.TheConstants.{NO_SUCH_COMMAND, BAD_VALUES, BAD_PLAN, ATTRIBUTES_DIFFER, LISTENER_FAULT, TURNS_SPENT, INPUT}

@@ -7,7 +7,7 @@ use Rattle.fca_model.specs.Implications.{Rule}
 use Rattle.fca_model.specs.declared.TheConstants.{FILE_BYTES}
 use Rattle.fca_io.specs.Shelves.{Told, MayExceed}
 use Rattle.explore_state.specs.Faults.{first_break}
-use Rattle.known_rules.specs.Known.{known_form}
+use Rattle.expert_scripts.specs.Known.{known_form}
 use Rattle.command_io.specs.Readings.{Reading, then, formed, file_read, MayRead}
 use Rattle.command_io.specs.Readings.Reading.{Refused, Read}
 use Rattle.command_io.specs.Forms.{table_read}

@@ -5,7 +5,7 @@ ghost use Rattle.fca_model.specs.declared.TheConstants.{MAX_ATTRIBUTES, FILE_BYT
 ghost use Rattle.fca_io.specs.Faults.{Rose};
 ghost use Rattle.implication_closure.specs.Closing.{HaveWidth};
 ghost use Rattle.explore_state.specs.Faults.{first_break};
-ghost use Rattle.known_rules.specs.Known.{known_form};
+ghost use Rattle.expert_scripts.specs.Known.{known_form};
 ghost use Rattle.command_io.specs.Readings.{formed, MayRead, MayRefuse, Rises};
 ghost use Rattle.command_io.specs.Known.{known_said, known_in, known_read, start_of, start_read, IsBreakStop, IsKnownSaidStop, IsKnownFileStop, IsKnownStop, IsStartStop};
 ghost use Rattle.command_io.specs.Endings.{IsRefusal};
@@ -13,11 +13,11 @@ ghost use Rattle.command_io.specs.Endings.{IsRefusal};
 use crate::readings::{not_taken, table_under};
 use crate::stop::{Origin, Stop};
 use context_table::Table;
+use expert_scripts::{KnownFault, read_known};
 use explore_state::first_break;
 use fca_io::Shelf;
 use fca_model::{FILE_BYTES, Word};
 use implication_closure::ImplicationList;
-use known_rules::{KnownFault, read_known};
 use std::alloc::Global;
 
 /// What an exploration starts from: a table, and what is known of it.

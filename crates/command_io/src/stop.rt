@@ -7,9 +7,8 @@ ghost use Rattle.command_io.specs.ErrLines.{stop_origin, file_at_fault};
 use context_scaling::PlanFault;
 use csv_context::CsvFault;
 use cxt_format::CxtFault;
-use expert_scripts::ScriptFault;
+use expert_scripts::{KnownFault, ScriptFault};
 use fca_model::{Memory, Word};
-use known_rules::KnownFault;
 use std::alloc::{AllocError, AllocFailed};
 use value_tables::ValuesFault;
 

@@ -29,9 +29,9 @@ use Rattle.expert_wire.specs.Replies.{heading}
 use Rattle.text_pieces.specs.Numerals.{is_numeral, value_of}
 use Rattle.text_pieces.specs.Words.{is_space, first_word, later_words}
 use Rattle.expert_wire.specs.Words.{named_row, row_of_width, is_name, set_marked}
-use Rattle.known_rules.specs.declared.fault.KnownFault.{KnownFault}
-use Rattle.known_rules.specs.declared.fault.KnownFault.TheVariants.{BadWidth as WrongWidth}
-use Rattle.known_rules.specs.Known.{rule_of_width, known_rule, with_first, all_ok}
+use Rattle.expert_scripts.specs.declared.known_fault.KnownFault.{KnownFault}
+use Rattle.expert_scripts.specs.declared.known_fault.KnownFault.TheVariants.{BadWidth as WrongWidth}
+use Rattle.expert_scripts.specs.Known.{rule_of_width, known_rule, with_first, all_ok}
 use Rattle.expert_scripts.specs.declared.fault.ScriptFault.{ScriptFault}
 use Rattle.expert_scripts.specs.declared.fault.ScriptFault.TheVariants.{BadLine, BadExpert, BadHolders}
 use Rattle.expert_scripts.specs.Scripts.{Said, Told, nothing_told, settings_told, may_apply, expert_in, event_by, row_by, event_of, events_said, holders_once, holders_told, name_once, name_told, rule_told, setting_of_words, setting_of, finished, by_setting, settled, headed, second_heading, script_form}

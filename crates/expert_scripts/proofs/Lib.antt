@@ -1,3 +1,5 @@
+pub mod KnownLemmas
+mod KnownExamples
 pub mod StageLemmas
 pub mod NamedLemmas
 pub mod FitLemmas

@@ -7,7 +7,7 @@ use Rattle.fca_model.specs.Exploration.{SetEvent}
 use Rattle.text_pieces.specs.Lines.{lines}
 use Rattle.expert_wire.specs.Lines.{said_from}
 use Rattle.expert_wire.specs.Replies.{heading}
-use Rattle.known_rules.specs.Known.{with_first, all_ok}
+use Rattle.expert_scripts.specs.Known.{with_first, all_ok}
 use Rattle.expert_scripts.specs.declared.fault.ScriptFault.{ScriptFault}
 use Rattle.expert_scripts.specs.Scripts.{Said, Told, nothing_told, settings_told, event_of, events_said, setting_of, by_setting, finished, settled, headed, second_heading, script_form}
 use Rattle.expert_scripts.specs.Stages.{behind}

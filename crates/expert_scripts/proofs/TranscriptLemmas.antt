@@ -34,8 +34,8 @@ use Rattle.expert_wire.proofs.ReadLemmas.{pattern_no_break, ascii_pattern, utf8_
 use Rattle.text_pieces.proofs.LineLemmas.{lines-line, no_break-append}
 use Rattle.text_pieces.proofs.NumeralLemmas.{no_break-decimal}
 use Rattle.expert_wire.proofs.SkipLemmas.{Skips, Skips-comment, no_break-name, no_break-full, no_break-reply}
-use Rattle.known_rules.specs.Known.{known_rule, with_first, all_ok}
-use Rattle.known_rules.proofs.KnownLemmas.{full_text-read}
+use Rattle.expert_scripts.specs.Known.{known_rule, with_first, all_ok}
+use Rattle.expert_scripts.proofs.KnownLemmas.{full_text-read}
 use Rattle.expert_scripts.specs.declared.fault.ScriptFault.{ScriptFault}
 use Rattle.expert_scripts.specs.declared.fault.ScriptFault.TheVariants.{BadLine, BadExpert, BadHolders}
 use Rattle.expert_scripts.specs.Scripts.{Said, Told, nothing_told, CanBeSaid, EachCanBeSaid, event_of, events_said, holders_once, holders_told, name_once, name_told, rule_told, setting_of_words, setting_of, finished, settled, headed, second_heading, script_form}

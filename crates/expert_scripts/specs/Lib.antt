@@ -1,3 +1,5 @@
+pub mod Known
+pub mod KnownFaults
 pub mod Scripts
 pub mod Stages
 pub mod Transcripts

@@ -24,9 +24,9 @@ use Rattle.expert_wire.specs.Replies.{heading}
 use Rattle.text_pieces.specs.Numerals.{is_numeral, value_of}
 use Rattle.text_pieces.specs.Words.{first_word, later_words}
 use Rattle.expert_wire.specs.Words.{is_name, named_row}
-use Rattle.known_rules.specs.declared.fault.KnownFault.{KnownFault}
-use Rattle.known_rules.specs.declared.fault.KnownFault.TheVariants as known
-use Rattle.known_rules.specs.Known.{known_rule, all_ok}
+use Rattle.expert_scripts.specs.declared.known_fault.KnownFault.{KnownFault}
+use Rattle.expert_scripts.specs.declared.known_fault.KnownFault.TheVariants as known
+use Rattle.expert_scripts.specs.Known.{known_rule, all_ok}
 use Rattle.expert_scripts.specs.declared.fault.ScriptFault.{ScriptFault}
 use Rattle.expert_scripts.specs.declared.fault.ScriptFault.TheVariants.{BadLine, BadExpert, BadWidth, BadHolders, Memory}
 use Rattle.expert_scripts.specs.declared.scripts.Script as read

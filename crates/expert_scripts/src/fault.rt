@@ -1,7 +1,7 @@
 //! Why a text is no script.
 
+use crate::known_fault::KnownFault;
 use fca_model::{Memory, NO_MEMORY};
-use known_rules::KnownFault;
 use std::alloc::AllocFailed;
 use std::error::Error;
 use std::fmt;

@@ -1,10 +1,19 @@
-//! Laws of the texts, each the contract of a function that does nothing.
+//! Laws of known files and scripts, each the contract of a function that does nothing.
 
-ghost use Rattle.std.specs.Prelude.{◌≡◌, ℕ, List, Ok};
+ghost use Rattle.std.specs.Prelude.{◌≡◌, ℕ, List, Ok, length};
 ghost use Rattle.fca_model.specs.Exploration.{Settings, SetEvent, SetEntry, events_of};
+ghost use Rattle.fca_model.specs.Implications.{Rule};
 ghost use Rattle.fca_model.specs.Tables.{Text};
+ghost use Rattle.expert_wire.specs.Texts.{full_text};
+ghost use Rattle.expert_scripts.specs.Known.{known_rule};
 ghost use Rattle.expert_scripts.specs.Scripts.{CanBeSaid, EachCanBeSaid, event_of, script_form};
 ghost use Rattle.expert_scripts.specs.Transcripts.{AreNames, CanBeTold, event_text, second_of, transcript};
+
+/// The line that is written of an implication is read as this implication.
+pub fn full_text_reads_back()
+    ensures { (n k : ℕ) (attributes : List Text) (i : Rule) → length i.premise ≡ n → length i.conclusion ≡ n
+        → known_rule n k (full_text attributes i) ≡ Ok i }
+{}
 
 /// The line that is written of an event is read as this event.
 pub fn event_reads_back()

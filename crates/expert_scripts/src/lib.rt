@@ -1,8 +1,11 @@
-//! Scripts, which say the settings of an exploration and its events, and the transcript that an exploration is written as.
+//! Known files, scripts and transcripts. A known file lists the implications that are known before an exploration begins.
+//! A script gives the settings of an exploration and its events. A transcript is what an exploration is written as.
 #![tactic(auto)]
 
 mod events;
 mod fault;
+mod known;
+mod known_fault;
 pub mod laws;
 mod reading;
 mod scripts;
@@ -10,5 +13,7 @@ mod told;
 mod transcript;
 
 pub use fault::ScriptFault;
+pub use known::{read_known, read_rule};
+pub use known_fault::KnownFault;
 pub use scripts::{Events, Script, read_script};
 pub use transcript::{transcript_text, write_transcript};

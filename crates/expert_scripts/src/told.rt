@@ -5,14 +5,14 @@ ghost use Rattle.fca_model.specs.declared.TheConstants.{MAX_ATTRIBUTES};
 ghost use Rattle.exploration_terms.specs.Settings.{settings_of};
 ghost use Rattle.expert_scripts.specs.Scripts.{nothing_told, settings_told, holders_told, name_told, rule_told, setting_of_words};
 ghost use Rattle.expert_scripts.specs.Stages.{told_of};
-ghost use Rattle.known_rules.specs.Known.{known_rule};
+ghost use Rattle.expert_scripts.specs.Known.{known_rule};
 
 use crate::fault::ScriptFault;
+use crate::known::read_rule;
 use expert_wire::expert_of;
 use exploration_terms::{ExpertNames, Settings};
 use fca_model::{MAX_EXPERTS, Memory, Name, NameFault};
 use implication_closure::ImplicationList;
-use known_rules::read_rule;
 use std::alloc::Global;
 use text_pieces::{is_numeral, split_word};
 

@@ -12,9 +12,9 @@ use Rattle.expert_wire.specs.Lines.{is_skipped}
 use Rattle.expert_wire.proofs.LineLemmas.{later_said, said_from-skipped, said_from-told}
 use Rattle.text_pieces.proofs.WordLemmas.{before_first-at, after_first-at}
 use Rattle.expert_wire.proofs.ReadLemmas.{pattern_no_space, set_marked-pattern}
-use Rattle.known_rules.specs.declared.fault.KnownFault.{KnownFault}
-use Rattle.known_rules.specs.declared.fault.KnownFault.TheVariants.{BadWidth}
-use Rattle.known_rules.specs.Known.{rule_of_width, known_rule, with_first, all_ok, known_from, known_form}
+use Rattle.expert_scripts.specs.declared.known_fault.KnownFault.{KnownFault}
+use Rattle.expert_scripts.specs.declared.known_fault.KnownFault.TheVariants.{BadWidth}
+use Rattle.expert_scripts.specs.Known.{rule_of_width, known_rule, with_first, all_ok, known_from, known_form}
 
 -- ---- what is still to come
 

@@ -3,9 +3,9 @@ use Rattle.std.proofs.lemmas.Result.{err_from_is_err_and}
 use Rattle.text_pieces.specs.Lines.{lines}
 use Rattle.expert_wire.specs.Lines.{is_skipped}
 use Rattle.text_pieces.proofs.LineLemmas.{lines-cut}
-use Rattle.known_rules.specs.Known.{known_from}
-use Rattle.known_rules.proofs.KnownLemmas.{after, known_form-from, known_from-skipped, known_from-rule, known_from-fault}
-use Rattle.known_rules.proofs.read.read_known.Goals as goal
+use Rattle.expert_scripts.specs.Known.{known_from}
+use Rattle.expert_scripts.proofs.KnownLemmas.{after, known_form-from, known_from-skipped, known_from-rule, known_from-fault}
+use Rattle.expert_scripts.proofs.known.read_known.Goals as goal
 
 pub loop-rest-init : goal.loop-rest-init
 loop-rest-init c = record {

@@ -2,8 +2,8 @@
 use Rattle.std.proofs.Common.{◌≡◌, true, false, [], ◌∷◌, Ok, Err, refl}
 use Rattle.std.specs.Prelude.{codes}
 use Rattle.fca_model.specs.Implications.{rule}
-use Rattle.known_rules.specs.declared.fault.KnownFault.TheVariants.{BadLine, BadWidth}
-use Rattle.known_rules.specs.Known.{known_rule}
+use Rattle.expert_scripts.specs.declared.known_fault.KnownFault.TheVariants.{BadLine, BadWidth}
+use Rattle.expert_scripts.specs.Known.{known_rule}
 
 a_implies_b : known_rule 3 1 (codes "X.. .X. {a} -> {b}") ≡ Ok (rule (true ∷ false ∷ false ∷ []) (false ∷ true ∷ false ∷ []))
 a_implies_b = refl

@@ -4,8 +4,8 @@ use Rattle.fca_model.specs.declared.TheConstants.{NO_MEMORY}
 use Rattle.text_pieces.specs.declared.faults.TheConstants.{BAD_LINE, BAD_WIDTH}
 use Rattle.text_pieces.specs.declared.faults.Place.{Place}
 use Rattle.text_pieces.specs.declared.faults.Place.TheVariants.{Whole, Line}
-use Rattle.known_rules.specs.declared.fault.KnownFault.{KnownFault}
-use Rattle.known_rules.specs.declared.fault.KnownFault.TheVariants as fault
+use Rattle.expert_scripts.specs.declared.known_fault.KnownFault.{KnownFault}
+use Rattle.expert_scripts.specs.declared.known_fault.KnownFault.TheVariants as fault
 
 -- where the fault is, and in which words it is told
 abbrev pub told : KnownFault → Place × Text

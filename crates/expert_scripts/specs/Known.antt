@@ -11,8 +11,8 @@ use Rattle.text_pieces.specs.Words.{first_word, later_words}
 use Rattle.expert_wire.specs.Words.{set_marked}
 use Rattle.text_pieces.specs.Lines.{lines}
 use Rattle.expert_wire.specs.Lines.{said_from}
-use Rattle.known_rules.specs.declared.fault.KnownFault.{KnownFault}
-use Rattle.known_rules.specs.declared.fault.KnownFault.TheVariants.{BadLine, BadWidth}
+use Rattle.expert_scripts.specs.declared.known_fault.KnownFault.{KnownFault}
+use Rattle.expert_scripts.specs.declared.known_fault.KnownFault.TheVariants.{BadLine, BadWidth}
 
 -- the implication of two sets of the width n; k is the number of the line
 abbrev pub rule_of_width : ℕ → ℕ → Option Set → Option Set → Result Rule KnownFault

@@ -16,7 +16,7 @@ pub enum KnownFault {
 }
 
 impl KnownFault {
-    ghost use Rattle.known_rules.specs.Faults.{told};
+    ghost use Rattle.expert_scripts.specs.KnownFaults.{told};
     ghost use Rattle.std.specs.Prelude.{◌≡◌};
 
     /// Where the fault is, and in which words it is told.
@@ -35,7 +35,7 @@ impl KnownFault {
 impl fmt::Display for KnownFault {
     ghost use Rattle.std.specs.Prelude.{Some};
     ghost use Rattle.text_pieces.specs.Faults.{told_text};
-    ghost use Rattle.known_rules.specs.Faults.{told};
+    ghost use Rattle.expert_scripts.specs.KnownFaults.{told};
 
     ghost output = { λ fault. Some (told_text (told fault)) };
 
@@ -47,7 +47,7 @@ impl fmt::Display for KnownFault {
 impl Error for KnownFault {}
 
 impl From<Memory> for KnownFault {
-    ghost use Rattle.known_rules.specs.declared.fault.KnownFault.TheVariants as fault;
+    ghost use Rattle.expert_scripts.specs.declared.known_fault.KnownFault.TheVariants as fault;
     ghost use Rattle.std.specs.Prelude.{◌≡◌};
 
     ghost from_gives = { λ _ e. e ≡ fault.Memory };

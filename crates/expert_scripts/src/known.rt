@@ -2,9 +2,9 @@
 
 ghost use Rattle.std.specs.Prelude.{◌≡◌, ◌≤◌, ◌⊎◌, Ok, Err, IfOk, IfErr, length};
 ghost use Rattle.fca_model.specs.declared.TheConstants.{MAX_ATTRIBUTES};
-ghost use Rattle.known_rules.specs.Known.{known_form, known_rule};
+ghost use Rattle.expert_scripts.specs.Known.{known_form, known_rule};
 
-use crate::fault::KnownFault;
+use crate::known_fault::KnownFault;
 use expert_wire::{is_skipped, marks};
 use implication_closure::{Implication, ImplicationList};
 use std::alloc::Global;

@@ -1,8 +1,8 @@
 use Rattle.std.proofs.Common.{◌≡◌, ◌≤◌, ◌+◌, length}
 use Rattle.text_pieces.specs.Lines.{lines}
-use Rattle.known_rules.specs.Known.{known_from, known_form}
-use Rattle.known_rules.proofs.KnownLemmas.{after}
-use Rattle.known_rules.proofs.read.read_known.Given as goal
+use Rattle.expert_scripts.specs.Known.{known_from, known_form}
+use Rattle.expert_scripts.proofs.KnownLemmas.{after}
+use Rattle.expert_scripts.proofs.known.read_known.Given as goal
 
 abbrev pub invariant-loop-rest : goal.invariant-loop-rest
 invariant-loop-rest l = record {
