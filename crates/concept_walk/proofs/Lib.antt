@@ -1,3 +1,2 @@
 pub mod LineLemmas
 pub mod StepLemmas
-pub mod RoomLemmas

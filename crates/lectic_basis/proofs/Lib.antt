@@ -9,5 +9,4 @@ pub mod WaitLemmas
 pub mod WalkLemmas
 pub mod ForcedLemmas
 pub mod WidthLemmas
-pub mod RoomLemmas
 pub mod StepLemmas

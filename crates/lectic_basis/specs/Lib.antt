@@ -4,5 +4,4 @@ pub mod Walks
 pub mod Watches
 pub mod Forced
 pub mod Concerns
-pub mod Room
 pub mod Steps
