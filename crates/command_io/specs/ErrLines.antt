@@ -7,7 +7,7 @@ use Rattle.std.specs.List.{concat}
 use Rattle.fca_model.specs.Tables.{Text}
 use Rattle.fca_model.specs.declared.TheConstants.{NO_MEMORY}
 use Rattle.fca_io.specs.declared.outside.TheConstants.{READ_FAULT, TOO_LONG, WRITE_FAULT}
-use Rattle.text_pieces.specs.Faults.{told_text}
+use Rattle.text_pieces.specs.Faults.{description_text}
 use Rattle.text_pieces.specs.declared.faults.TheConstants.{UNKNOWN_ATTRIBUTE}
 use Rattle.text_pieces.specs.declared.faults.Place.{Place}
 use Rattle.text_pieces.specs.declared.faults.Place.TheVariants.{Whole}
@@ -33,9 +33,9 @@ use Rattle.command_io.specs.declared.stop.Stop.TheVariants.{RowBreaks, NoScript,
 abbrev pub plain_line : Text → Text
 plain_line words = concat (codes "fca: " ∷ words ∷ line_end ∷ [])
 
--- a line of what is told of a fault of what has this name
+-- the line of a fault in what has this name
 abbrev pub placed_line : Text → Place × Text → Text
-placed_line name told = concat (codes "fca: " ∷ name ∷ codes ": " ∷ told_text told ∷ line_end ∷ [])
+placed_line name description = concat (codes "fca: " ∷ name ∷ codes ": " ∷ description_text description ∷ line_end ∷ [])
 
 -- a line of these words on the place of this kind, which has this number
 abbrev pub numbered_line : Text → Text → ℕ → Text → Text
@@ -58,13 +58,13 @@ name_of file Input = INPUT.now
 abbrev pub stop_line : Text → Stop → Text
 stop_line file NoCommand = plain_line NO_SUCH_COMMAND.now
 stop_line file (TooLong origin) = placed_line (name_of file origin) (Whole, TOO_LONG.now)
-stop_line file (NoTable origin fault) = placed_line (name_of file origin) (cxt.told fault)
-stop_line file (NoCsv origin fault) = placed_line (name_of file origin) (csv.told fault)
+stop_line file (NoTable origin fault) = placed_line (name_of file origin) (cxt.description fault)
+stop_line file (NoCsv origin fault) = placed_line (name_of file origin) (csv.description fault)
 stop_line file (BadValues origin fault) = placed_line (name_of file origin) (Whole, BAD_VALUES.now)
 stop_line file (BadPlan origin fault) = placed_line (name_of file origin) (Whole, BAD_PLAN.now)
-stop_line file (NoKnown fault) = placed_line (name_of file Known) (rules.told fault)
+stop_line file (NoKnown fault) = placed_line (name_of file Known) (rules.description fault)
 stop_line file (RowBreaks origin row rule) = breaks_line (name_of file origin) row rule
-stop_line file (NoScript fault) = placed_line INPUT.now (script.told fault)
+stop_line file (NoScript fault) = placed_line INPUT.now (script.description fault)
 stop_line file UnknownAttribute = plain_line UNKNOWN_ATTRIBUTE.now
 stop_line file (OtherAttributes origin) = placed_line (name_of file origin) (Whole, ATTRIBUTES_DIFFER.now)
 stop_line file (Fault origin) = placed_line (name_of file origin) (Whole, READ_FAULT.now)

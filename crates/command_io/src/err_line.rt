@@ -11,7 +11,7 @@ use crate::stop::{Origin, Stop};
 use fca_io::{Put, READ_FAULT, Sink, TOO_LONG, write_text};
 use fca_model::NO_MEMORY;
 use itoa::Buffer;
-use text_pieces::faults::{Place, Told, UNKNOWN_ATTRIBUTE};
+use text_pieces::faults::{Description, Place, UNKNOWN_ATTRIBUTE};
 
 const NO_SUCH_COMMAND: &str = "no such command";
 
@@ -49,18 +49,26 @@ fn write_stop<E: Sink>(err: &mut E, file: &[u8], stop: &Stop) -> Result<(), Put>
     match stop {
         Stop::NoCommand => write_plain(err, NO_SUCH_COMMAND),
         Stop::TooLong(origin) => write_whole(err, name_of(file, *origin), TOO_LONG),
-        Stop::NoTable(origin, fault) => write_placed(err, name_of(file, *origin), &fault.told()),
-        Stop::NoCsv(origin, fault) => write_placed(err, name_of(file, *origin), &fault.told()),
+        Stop::NoTable(origin, fault) => write_placed(
+            err,
+            name_of(file, *origin),
+            &fault.description(),
+        ),
+        Stop::NoCsv(origin, fault) => write_placed(
+            err,
+            name_of(file, *origin),
+            &fault.description(),
+        ),
         Stop::BadValues(origin, _) => write_whole(err, name_of(file, *origin), BAD_VALUES),
         Stop::BadPlan(origin, _) => write_whole(err, name_of(file, *origin), BAD_PLAN),
-        Stop::NoKnown(fault) => write_placed(err, file, &fault.told()),
+        Stop::NoKnown(fault) => write_placed(err, file, &fault.description()),
         Stop::RowBreaks(origin, row, rule) => write_breaks(
             err,
             name_of(file, *origin),
             *row,
             *rule,
         ),
-        Stop::NoScript(fault) => write_placed(err, INPUT.as_bytes(), &fault.told()),
+        Stop::NoScript(fault) => write_placed(err, INPUT.as_bytes(), &fault.description()),
         Stop::UnknownAttribute => write_plain(err, UNKNOWN_ATTRIBUTE),
         Stop::OtherAttributes(origin) => write_whole(
             err,
@@ -99,17 +107,17 @@ fn write_whole<E: Sink>(err: &mut E, name: &[u8], words: &str) -> Result<(), Put
     write_parts(err, &[b"fca: ", name, b": ", words.as_bytes(), b"\n"])
 }
 
-/// A line of what is told of a fault of what has this name.
-fn write_placed<E: Sink>(err: &mut E, name: &[u8], told: &Told) -> Result<(), Put>
+/// The line of a fault in what has this name.
+fn write_placed<E: Sink>(err: &mut E, name: &[u8], description: &Description) -> Result<(), Put>
     ensures { Writes (E.held err.old) (E.held err.new) (E.faults err.old) (E.faults err.new) (E.beside err.old) (E.beside err.new)
-        (E.asked_beside err.old) (E.asked_beside err.new) (placed_line name.now told.now) result }
+        (E.asked_beside err.old) (E.asked_beside err.new) (placed_line name.now description.now) result }
 {
-    match told.place {
-        Place::Whole => write_whole(err, name, told.words),
-        Place::Byte(at) => write_numbered(err, name, "byte ", at, told.words),
-        Place::Line(at) => write_numbered(err, name, "line ", at, told.words),
-        Place::Record(at) => write_numbered(err, name, "record ", at, told.words),
-        Place::Field(at, field) => write_field(err, name, at, field, told.words),
+    match description.place {
+        Place::Whole => write_whole(err, name, description.words),
+        Place::Byte(at) => write_numbered(err, name, "byte ", at, description.words),
+        Place::Line(at) => write_numbered(err, name, "line ", at, description.words),
+        Place::Record(at) => write_numbered(err, name, "record ", at, description.words),
+        Place::Field(at, field) => write_field(err, name, at, field, description.words),
     }
 }
 

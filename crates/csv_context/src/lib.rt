@@ -19,8 +19,8 @@ use std::alloc::{AllocError, AllocFailed};
 use std::error::Error;
 use std::fmt;
 use text_pieces::faults::{
-    BAD_NAME, DUPLICATE_ATTRIBUTE, EMPTY_NAME, LONG_NAME, NO_HEADER, NOT_UTF8, Place, RAGGED,
-    TOO_MANY_ATTRIBUTES, Told,
+    BAD_NAME, DUPLICATE_ATTRIBUTE, Description, EMPTY_NAME, LONG_NAME, NO_HEADER, NOT_UTF8, Place,
+    RAGGED, TOO_MANY_ATTRIBUTES,
 };
 pub use write::write_csv;
 
@@ -46,11 +46,11 @@ pub enum CsvFault {
 }
 
 impl CsvFault {
-    ghost use Rattle.csv_context.specs.Faults.{told};
+    ghost use Rattle.csv_context.specs.Faults.{description};
 
-    /// Where the fault is, and in which words it is told.
-    pub fn told(&self) -> Told
-        ensures { result ≡ told self.now }
+    /// The place of the fault and the words for it.
+    pub fn description(&self) -> Description
+        ensures { result ≡ description self.now }
     {
         let (place, words) = match self {
             CsvFault::NotUtf8(at) => (Place::Byte(*at), NOT_UTF8),
@@ -65,19 +65,19 @@ impl CsvFault {
             CsvFault::TooManyObjects => (Place::Whole, TOO_MANY_OBJECTS),
             CsvFault::Memory => (Place::Whole, NO_MEMORY),
         };
-        Told { place, words }
+        Description { place, words }
     }
 }
 
 impl fmt::Display for CsvFault {
     ghost use Rattle.std.specs.Prelude.{Some};
-    ghost use Rattle.text_pieces.specs.Faults.{told_text};
-    ghost use Rattle.csv_context.specs.Faults.{told};
+    ghost use Rattle.text_pieces.specs.Faults.{description_text};
+    ghost use Rattle.csv_context.specs.Faults.{description};
 
-    ghost output = { λ fault. Some (told_text (told fault)) };
+    ghost output = { λ fault. Some (description_text (description fault)) };
 
     fn fmt<W: fmt::Write>(&self, f: &mut fmt::Formatter<W>) -> fmt::Result {
-        self.told().fmt(f)
+        self.description().fmt(f)
     }
 }
 

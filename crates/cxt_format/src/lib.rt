@@ -15,7 +15,7 @@ use std::alloc::{AllocError, AllocFailed};
 use std::error::Error;
 use std::fmt;
 use text_pieces::faults::{
-    BAD_NAME, DUPLICATE_ATTRIBUTE, EMPTY_NAME, LONG_NAME, NOT_UTF8, Place, TOO_MANY, Told,
+    BAD_NAME, DUPLICATE_ATTRIBUTE, Description, EMPTY_NAME, LONG_NAME, NOT_UTF8, Place, TOO_MANY,
 };
 pub use write::write_cxt;
 
@@ -48,11 +48,11 @@ pub enum CxtFault {
 }
 
 impl CxtFault {
-    ghost use Rattle.cxt_format.specs.Faults.{told};
+    ghost use Rattle.cxt_format.specs.Faults.{description};
 
-    /// Where the fault is, and in which words it is told.
-    pub fn told(&self) -> Told
-        ensures { result ≡ told self.now }
+    /// The place of the fault and the words for it.
+    pub fn description(&self) -> Description
+        ensures { result ≡ description self.now }
     {
         let (place, words) = match self {
             CxtFault::NotUtf8(at) => (Place::Byte(*at), NOT_UTF8),
@@ -68,19 +68,19 @@ impl CxtFault {
             CxtFault::Trailing(line) => (Place::Line(*line), TRAILING_TEXT),
             CxtFault::Memory => (Place::Whole, NO_MEMORY),
         };
-        Told { place, words }
+        Description { place, words }
     }
 }
 
 impl fmt::Display for CxtFault {
     ghost use Rattle.std.specs.Prelude.{Some};
-    ghost use Rattle.text_pieces.specs.Faults.{told_text};
-    ghost use Rattle.cxt_format.specs.Faults.{told};
+    ghost use Rattle.text_pieces.specs.Faults.{description_text};
+    ghost use Rattle.cxt_format.specs.Faults.{description};
 
-    ghost output = { λ fault. Some (told_text (told fault)) };
+    ghost output = { λ fault. Some (description_text (description fault)) };
 
     fn fmt<W: fmt::Write>(&self, f: &mut fmt::Formatter<W>) -> fmt::Result {
-        self.told().fmt(f)
+        self.description().fmt(f)
     }
 }
 

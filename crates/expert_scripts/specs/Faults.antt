@@ -1,4 +1,4 @@
--- What is told of each fault of a script.
+-- The description of each fault of a script.
 use Rattle.fca_model.specs.Tables.{Text}
 use Rattle.fca_model.specs.declared.TheConstants.{NO_MEMORY}
 use Rattle.text_pieces.specs.declared.faults.TheConstants.{BAD_LINE, BAD_WIDTH}
@@ -8,10 +8,10 @@ use Rattle.expert_scripts.specs.declared.fault.TheConstants.{BAD_EXPERT, BAD_HOL
 use Rattle.expert_scripts.specs.declared.fault.ScriptFault.{ScriptFault}
 use Rattle.expert_scripts.specs.declared.fault.ScriptFault.TheVariants as fault
 
--- where the fault is, and in which words it is told
-abbrev pub told : ScriptFault → Place × Text
-told (fault.BadLine line) = (Line line, BAD_LINE.now)
-told (fault.BadExpert line) = (Line line, BAD_EXPERT.now)
-told (fault.BadWidth line) = (Line line, BAD_WIDTH.now)
-told (fault.BadHolders line) = (Line line, BAD_HOLDERS.now)
-told fault.Memory = (Whole, NO_MEMORY.now)
+-- the place of the fault and the words for it
+abbrev pub description : ScriptFault → Place × Text
+description (fault.BadLine line) = (Line line, BAD_LINE.now)
+description (fault.BadExpert line) = (Line line, BAD_EXPERT.now)
+description (fault.BadWidth line) = (Line line, BAD_WIDTH.now)
+description (fault.BadHolders line) = (Line line, BAD_HOLDERS.now)
+description fault.Memory = (Whole, NO_MEMORY.now)

@@ -1,4 +1,4 @@
--- What is told of each fault of a known file.
+-- The description of each fault of a known file.
 use Rattle.fca_model.specs.Tables.{Text}
 use Rattle.fca_model.specs.declared.TheConstants.{NO_MEMORY}
 use Rattle.text_pieces.specs.declared.faults.TheConstants.{BAD_LINE, BAD_WIDTH}
@@ -7,8 +7,8 @@ use Rattle.text_pieces.specs.declared.faults.Place.TheVariants.{Whole, Line}
 use Rattle.expert_scripts.specs.declared.known_fault.KnownFault.{KnownFault}
 use Rattle.expert_scripts.specs.declared.known_fault.KnownFault.TheVariants as fault
 
--- where the fault is, and in which words it is told
-abbrev pub told : KnownFault → Place × Text
-told (fault.BadLine line) = (Line line, BAD_LINE.now)
-told (fault.BadWidth line) = (Line line, BAD_WIDTH.now)
-told fault.Memory = (Whole, NO_MEMORY.now)
+-- the place of the fault and the words for it
+abbrev pub description : KnownFault → Place × Text
+description (fault.BadLine line) = (Line line, BAD_LINE.now)
+description (fault.BadWidth line) = (Line line, BAD_WIDTH.now)
+description fault.Memory = (Whole, NO_MEMORY.now)

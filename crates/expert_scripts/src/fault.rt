@@ -5,7 +5,7 @@ use fca_model::{Memory, NO_MEMORY};
 use std::alloc::AllocFailed;
 use std::error::Error;
 use std::fmt;
-use text_pieces::faults::{BAD_LINE, BAD_WIDTH, Place, Told};
+use text_pieces::faults::{BAD_LINE, BAD_WIDTH, Description, Place};
 
 const BAD_EXPERT: &str = "bad expert";
 
@@ -26,12 +26,12 @@ pub enum ScriptFault {
 }
 
 impl ScriptFault {
-    ghost use Rattle.expert_scripts.specs.Faults.{told};
+    ghost use Rattle.expert_scripts.specs.Faults.{description};
     ghost use Rattle.std.specs.Prelude.{◌≡◌};
 
-    /// Where the fault is, and in which words it is told.
-    pub fn told(&self) -> Told
-        ensures { result ≡ told self.now }
+    /// The place of the fault and the words for it.
+    pub fn description(&self) -> Description
+        ensures { result ≡ description self.now }
     {
         let (place, words) = match self {
             ScriptFault::BadLine(line) => (Place::Line(*line), BAD_LINE),
@@ -40,19 +40,19 @@ impl ScriptFault {
             ScriptFault::BadHolders(line) => (Place::Line(*line), BAD_HOLDERS),
             ScriptFault::Memory => (Place::Whole, NO_MEMORY),
         };
-        Told { place, words }
+        Description { place, words }
     }
 }
 
 impl fmt::Display for ScriptFault {
     ghost use Rattle.std.specs.Prelude.{Some};
-    ghost use Rattle.text_pieces.specs.Faults.{told_text};
-    ghost use Rattle.expert_scripts.specs.Faults.{told};
+    ghost use Rattle.text_pieces.specs.Faults.{description_text};
+    ghost use Rattle.expert_scripts.specs.Faults.{description};
 
-    ghost output = { λ fault. Some (told_text (told fault)) };
+    ghost output = { λ fault. Some (description_text (description fault)) };
 
     fn fmt<W: fmt::Write>(&self, f: &mut fmt::Formatter<W>) -> fmt::Result {
-        self.told().fmt(f)
+        self.description().fmt(f)
     }
 }
 

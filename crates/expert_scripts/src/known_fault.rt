@@ -3,7 +3,7 @@
 use fca_model::{Memory, NO_MEMORY};
 use std::error::Error;
 use std::fmt;
-use text_pieces::faults::{BAD_LINE, BAD_WIDTH, Place, Told};
+use text_pieces::faults::{BAD_LINE, BAD_WIDTH, Description, Place};
 
 /// Lines are numbered from 1, and the first line at fault is told.
 #[derive(Debug, Drop)]
@@ -16,31 +16,31 @@ pub enum KnownFault {
 }
 
 impl KnownFault {
-    ghost use Rattle.expert_scripts.specs.KnownFaults.{told};
+    ghost use Rattle.expert_scripts.specs.KnownFaults.{description};
     ghost use Rattle.std.specs.Prelude.{◌≡◌};
 
-    /// Where the fault is, and in which words it is told.
-    pub fn told(&self) -> Told
-        ensures { result ≡ told self.now }
+    /// The place of the fault and the words for it.
+    pub fn description(&self) -> Description
+        ensures { result ≡ description self.now }
     {
         let (place, words) = match self {
             KnownFault::BadLine(line) => (Place::Line(*line), BAD_LINE),
             KnownFault::BadWidth(line) => (Place::Line(*line), BAD_WIDTH),
             KnownFault::Memory => (Place::Whole, NO_MEMORY),
         };
-        Told { place, words }
+        Description { place, words }
     }
 }
 
 impl fmt::Display for KnownFault {
     ghost use Rattle.std.specs.Prelude.{Some};
-    ghost use Rattle.text_pieces.specs.Faults.{told_text};
-    ghost use Rattle.expert_scripts.specs.KnownFaults.{told};
+    ghost use Rattle.text_pieces.specs.Faults.{description_text};
+    ghost use Rattle.expert_scripts.specs.KnownFaults.{description};
 
-    ghost output = { λ fault. Some (told_text (told fault)) };
+    ghost output = { λ fault. Some (description_text (description fault)) };
 
     fn fmt<W: fmt::Write>(&self, f: &mut fmt::Formatter<W>) -> fmt::Result {
-        self.told().fmt(f)
+        self.description().fmt(f)
     }
 }
 

@@ -1,4 +1,4 @@
-//! What is told of a fault in a text: where it is, and in which words.
+//! The description of a fault in a text: its place and its words.
 
 use std::fmt;
 use std::marker::Model;
@@ -28,12 +28,12 @@ pub const TOO_MANY_ATTRIBUTES: &str = "too many attributes";
 
 pub const UNKNOWN_ATTRIBUTE: &str = "unknown attribute";
 
-/// Where in a text a fault is. Lines, records and fields are numbered from 1.
+/// The place of a fault in a text. Lines, records and fields are numbered from 1.
 #[derive(Clone, Copy, Debug)]
 pub enum Place {
-    /// No place of it but the whole.
+    /// The text as a whole.
     Whole,
-    /// Behind so many bytes.
+    /// The number of bytes before the fault.
     Byte(usize),
     Line(usize),
     Record(usize),
@@ -41,27 +41,27 @@ pub enum Place {
     Field(usize, usize),
 }
 
-/// The place of a fault, and the words that tell it.
+/// The place of a fault and the words for it.
 #[derive(Debug, Drop)]
-pub struct Told {
+pub struct Description {
     pub place: Place,
     pub words: &'static str,
 }
 
-impl Model for Told {
+impl Model for Description {
     ghost use Rattle.fca_model.specs.Tables.{Text};
     ghost use Rattle.text_pieces.specs.declared.faults.Place.{Place};
 
     ghost Value = { Place × Text };
 
-    ghost view = { λ t. (t.place, t.words.now) };
+    ghost view = { λ d. (d.place, d.words.now) };
 }
 
-impl fmt::Display for Told {
+impl fmt::Display for Description {
     ghost use Rattle.std.specs.Prelude.{Some};
-    ghost use Rattle.text_pieces.specs.Faults.{told_text};
+    ghost use Rattle.text_pieces.specs.Faults.{description_text};
 
-    ghost output = { λ t. Some (told_text t) };
+    ghost output = { λ d. Some (description_text d) };
 
     fn fmt<W: fmt::Write>(&self, f: &mut fmt::Formatter<W>) -> fmt::Result {
         let words = self.words;
