@@ -44,7 +44,7 @@ impl<const W: usize> Desks<W> {
     {
         Ok(Desks {
             free: Vec::new(alloc),
-            few: FewObjects::none(alloc, rows.width())?,
+            few: FewObjects::new(alloc, rows.width())?,
         })
     }
 }

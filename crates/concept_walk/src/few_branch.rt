@@ -12,9 +12,9 @@ use crate::notes::{begin_notes, known};
 use crate::page::Page;
 use crate::sheet::Sheet;
 use attr_bits::Bits;
-use extent_places::{Below, FEW_OBJECTS, FewObjects, ObjectSet, last_member, tries_of};
+use extent_places::{FEW_OBJECTS, FewObjects, ObjectSet, SmallConcept, last_member, tries_of};
 use fca_model::Memory;
-use lectic_concepts::{is_child, is_open, note, seen_above};
+use lectic_concepts::{is_child, is_open, note, pass_witnesses};
 use std::alloc::Global;
 
 /// Writes the lines of the intents that contain a and agree with it before attribute `from`, after the few objects of a are set apart.
@@ -86,7 +86,7 @@ fn write_few<const W: usize>(
         let Some(below) = met else {
             continue;
         };
-        let passed = seen_above(rows, a, known(sheet, a, seen, &desk.noted), &below.intent);
+        let passed = pass_witnesses(rows, a, known(sheet, a, seen, &desk.noted), &below.intent);
         write_few(
             alloc,
             sheet,
@@ -112,7 +112,7 @@ fn below_at<const W: usize>(
     i: u32,
     seen: &[u32],
     noted: &mut Vec<u32>,
-) -> Result<Option<Below<W>>, Memory>
+) -> Result<Option<SmallConcept<W>>, Memory>
     requires wide { length a.now ≡ sheet.now.context.width }
     requires closed { is_closed sheet.now.context a.now ≡ true }
     requires objects { AreFew sheet.now.context a.now few.now objects.now }
@@ -130,7 +130,7 @@ fn below_at<const W: usize>(
     ensures noted { OnOk result (AreSeen sheet.now.context a.now noted.new.items) }
 {
     let rows = sheet.rows();
-    let below = few.with(rows, a, objects, i);
+    let below = few.closure_with(rows, a, objects, i);
     if is_child(rows, a, i, &below.intent) {
         return Ok(Some(below));
     }

@@ -12,9 +12,9 @@ use crate::notes::known;
 use crate::page::Page;
 use crate::sheet::Sheet;
 use attr_bits::Bits;
-use extent_places::{last_member, pays_apart, tries_of};
+use extent_places::{last_member, pays_to_set_apart, tries_of};
 use fca_model::Memory;
-use lectic_concepts::seen_above;
+use lectic_concepts::pass_witnesses;
 use std::alloc::Global;
 use std::mem::replace;
 
@@ -74,7 +74,7 @@ pub(crate) fn enter<const W: usize>(
     let rows = sheet.rows();
     let width = rows.width();
     let places = &found[..count];
-    if pays_apart(count, width.saturating_sub(from)) {
+    if pays_to_set_apart(count, width.saturating_sub(from)) {
         write_apart(alloc, sheet, page, a, places, from, seen, desks)?;
         return Ok(None);
     }
@@ -124,7 +124,7 @@ pub(crate) fn next_step<const W: usize>(
     };
     step.end = child.attribute;
     let known = known(sheet, &step.intent, &step.seen, &step.desk.noted);
-    let passed = seen_above(sheet.rows(), &step.intent, known, &child.intent);
+    let passed = pass_witnesses(sheet.rows(), &step.intent, known, &child.intent);
     let below = enter(
         alloc,
         sheet,

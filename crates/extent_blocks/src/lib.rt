@@ -4,8 +4,8 @@
 //! rows: at one that lacks an attribute which is still to be judged, until there is none.
 #![tactic(auto)]
 
-mod near;
-mod sheet;
+mod extent;
+mod rows;
 
-pub use near::Near;
-pub use sheet::Sheet;
+pub use extent::BlockExtent;
+pub use rows::IndexedRows;

@@ -24,7 +24,7 @@ pub struct FewObjects<const W: usize> {
 
 /// An intent with its objects, which are some of few.
 #[derive(Drop)]
-pub struct Below<const W: usize> {
+pub struct SmallConcept<const W: usize> {
     /// The intent.
     pub intent: Bits<W>,
     /// Its objects.
@@ -32,7 +32,7 @@ pub struct Below<const W: usize> {
 }
 
 /// Whether it pays to set so many objects apart where so many attributes are left.
-pub fn pays_apart(count: usize, left: u32) -> bool
+pub fn pays_to_set_apart(count: usize, left: u32) -> bool
     ensures { result ≡ true → count ≤ FEW_OBJECTS }
 {
     count <= FEW_OBJECTS && MANY_LEFT <= left
@@ -40,7 +40,7 @@ pub fn pays_apart(count: usize, left: u32) -> bool
 
 impl<const W: usize> FewObjects<W> {
     /// No objects.
-    pub fn none(alloc: Global, width: u32) -> Result<FewObjects<W>, Memory>
+    pub fn new(alloc: Global, width: u32) -> Result<FewObjects<W>, Memory>
         requires words { W ≤ 1024 }
         requires narrow { width ≤ 64 * W }
         ensures { IfOk result HasNoObject }
@@ -73,7 +73,13 @@ impl<const W: usize> FewObjects<W> {
     }
 
     /// The closure of a with attribute i.
-    pub fn with(&self, rows: &RowsOf<W>, a: &Bits<W>, objects: &ObjectSet, i: u32) -> Below<W>
+    pub fn closure_with(
+        &self,
+        rows: &RowsOf<W>,
+        a: &Bits<W>,
+        objects: &ObjectSet,
+        i: u32,
+    ) -> SmallConcept<W>
         requires wide { length a.now ≡ rows.now.width }
         requires inside { i < rows.now.width }
         requires objects { AreFew rows.now a.now self.now objects.now }
@@ -83,7 +89,7 @@ impl<const W: usize> FewObjects<W> {
         let _width = rows.width();
         let objects = objects_with(&self.rows, &self.columns, a, objects, i);
         let intent = meet_of(&self.rows, &objects, &a.with(i));
-        Below { intent, objects }
+        SmallConcept { intent, objects }
     }
 
     /// Puts the places of the objects of a into the list, instead of what it had.

@@ -23,7 +23,7 @@ pub fn tries_of<const W: usize>(rows: &RowsOf<W>, a: &Bits<W>, places: &[u16]) -
     if places.len() > FEW {
         return full.minus(a);
     }
-    let mut reached = joined(rows, a, places);
+    let mut reached = join_of_rows(rows, a, places);
     if let Some(first) = full.first_missing(a) {
         reached.insert(first);
     }
@@ -31,7 +31,7 @@ pub fn tries_of<const W: usize>(rows: &RowsOf<W>, a: &Bits<W>, places: &[u16]) -
 }
 
 /// The attributes that one of the objects of a has.
-fn joined<const W: usize>(rows: &RowsOf<W>, a: &Bits<W>, places: &[u16]) -> Bits<W>
+fn join_of_rows<const W: usize>(rows: &RowsOf<W>, a: &Bits<W>, places: &[u16]) -> Bits<W>
     requires places { places.now ≡ extent rows.now a.now }
     ensures wide { length result ≡ rows.now.width }
     ensures rest { (i : ℕ) → i < rows.now.width → slice_index_or result i false ≡ false → All (λ p. has_at rows.now.rows i p ≡ false) places.now }

@@ -14,7 +14,7 @@ use chain::{Link, closure_if_allowed, link_of};
 use derivation::{Rows, RowsOf};
 use extent_places::{has, insert};
 use fca_model::Memory;
-use lectic_concepts::{FOUR_WORDS, ONE_WORD, in_words};
+use lectic_concepts::{FOUR_WORDS, ONE_WORD, resize_sets};
 use places::place_in;
 use std::alloc::Global;
 
@@ -26,11 +26,11 @@ pub fn covers(alloc: Global, rows: &Rows, intents: &[Attrs]) -> Result<Vec<(usiz
 {
     let width = rows.width();
     if width <= ONE_WORD {
-        let narrow = in_words::<WORDS, 1>(alloc, width, intents)?;
+        let narrow = resize_sets::<WORDS, 1>(alloc, width, intents)?;
         return covers_of(alloc, &rows.resized::<1>(alloc)?, &narrow);
     }
     if width <= FOUR_WORDS {
-        let narrow = in_words::<WORDS, 4>(alloc, width, intents)?;
+        let narrow = resize_sets::<WORDS, 4>(alloc, width, intents)?;
         return covers_of(alloc, &rows.resized::<4>(alloc)?, &narrow);
     }
     covers_of(alloc, rows, intents)

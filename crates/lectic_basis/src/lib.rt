@@ -15,7 +15,7 @@ ghost use Rattle.fca_model.specs.Pseudo.{basis_known};
 use attr_bits::Attrs;
 pub use closing::close;
 use derivation::{Rows, RowsOf};
-use extent_blocks::Sheet;
+use extent_blocks::IndexedRows;
 use fca_model::Memory;
 use implication_closure::ImplicationList;
 use lectic_concepts::{FOUR_WORDS, ONE_WORD};
@@ -75,14 +75,14 @@ pub fn basis_in_words<const W: usize>(
     requires holds { list_all (holds rows) known.now.members ≡ true }
     ensures { IfOk result (λ list. list ≡ record { width = rows.entry.width; members = known.now.members ++ basis_known known.now.members rows.entry }) }
 {
-    let sheet = Sheet::new(alloc, rows)?;
+    let sheet = IndexedRows::new(alloc, rows)?;
     basis_by(alloc, &sheet, known)
 }
 
 /// The same, where the columns are there.
 fn basis_by<const W: usize>(
     alloc: Global,
-    sheet: &Sheet<W>,
+    sheet: &IndexedRows<W>,
     known: &ImplicationList,
 ) -> Result<NarrowList<W>, Memory>
     requires wide { known.now.width ≡ sheet.now.width }

@@ -14,7 +14,7 @@ ghost use Rattle.lectic_basis.specs.Steps.{IsStep, IsBegun, HasTried};
 use crate::closing::{agrees, close};
 use crate::watched_list::WatchedList;
 use attr_bits::Bits;
-use extent_blocks::{Near, Sheet};
+use extent_blocks::{BlockExtent, IndexedRows};
 use fca_model::{Implication, Memory};
 use implication_closure::ImplicationList;
 use std::alloc::Global;
@@ -22,7 +22,7 @@ use std::alloc::Global;
 /// What goes down the tree with an intent: the places of the rows that contain it, and what attributes force. The lists of a step are used again by later ones.
 #[derive(Drop)]
 pub(crate) struct Desk {
-    pub(crate) near: Near,
+    pub(crate) near: BlockExtent,
     pub(crate) forced: Vec<u32>,
 }
 
@@ -38,7 +38,7 @@ pub(crate) struct Step<const W: usize> {
 /// Visits a, and then all that agree with it before attribute `from`.
 pub(crate) fn visit_all<const W: usize>(
     alloc: Global,
-    sheet: &Sheet<W>,
+    sheet: &IndexedRows<W>,
     known: &ImplicationList,
     found: &mut WatchedList<W>,
     a: &Bits<W>,
@@ -62,7 +62,7 @@ pub(crate) fn visit_all<const W: usize>(
 /// is deep takes no more stack than one that is not.
 fn spread<const W: usize>(
     alloc: Global,
-    sheet: &Sheet<W>,
+    sheet: &IndexedRows<W>,
     known: &ImplicationList,
     found: &mut WatchedList<W>,
     first: Step<W>,
@@ -91,7 +91,7 @@ fn spread<const W: usize>(
 /// Tries attribute i at the step, and tells the step below that comes of it, if there may be more there.
 fn next_below<const W: usize>(
     alloc: Global,
-    sheet: &Sheet<W>,
+    sheet: &IndexedRows<W>,
     known: &ImplicationList,
     found: &mut WatchedList<W>,
     step: &mut Step<W>,
@@ -124,7 +124,7 @@ fn next_below<const W: usize>(
 /// The step at the intent a, where attribute i was tried at the desk above. Where no attribute behind it is to be tried, no rows are looked for.
 fn step_below<const W: usize>(
     alloc: Global,
-    sheet: &Sheet<W>,
+    sheet: &IndexedRows<W>,
     a: &Bits<W>,
     i: u32,
     above: &Desk,
@@ -180,8 +180,8 @@ fn tries<const W: usize>(a: &Bits<W>, forced: &[u32], i: u32) -> bool
 /// Visits the least set of the family that contains a and attribute i, which a lacks, if the set agrees with a before it. Where more is left there, it is behind
 /// the intent that is told.
 fn child_at<const W: usize>(
-    sheet: &Sheet<W>,
-    near: &Near,
+    sheet: &IndexedRows<W>,
+    near: &BlockExtent,
     known: &ImplicationList,
     found: &mut WatchedList<W>,
     a: &Bits<W>,
@@ -213,7 +213,7 @@ fn child_at<const W: usize>(
 /// Visits a alone, whose closure is given. Where more is left that agrees with a before attribute `from`, it is behind the intent that is told: that is a itself, or
 /// its closure, and a is the premise of a member.
 fn visit<const W: usize>(
-    sheet: &Sheet<W>,
+    sheet: &IndexedRows<W>,
     known: &ImplicationList,
     found: &mut WatchedList<W>,
     a: &Bits<W>,
@@ -250,7 +250,7 @@ fn visit<const W: usize>(
 /// The step at the first intent.
 fn first_step<const W: usize>(
     alloc: Global,
-    sheet: &Sheet<W>,
+    sheet: &IndexedRows<W>,
     found: &WatchedList<W>,
     a: &Bits<W>,
     from: u32,
@@ -262,7 +262,7 @@ fn first_step<const W: usize>(
     ensures forced { IfOk result (λ step. AreForced found.now.list.members a.now step.desk.forced.items) }
 {
     let end = sheet.rows().width();
-    let near = Near::of(alloc, sheet, a)?;
+    let near = BlockExtent::of(alloc, sheet, a)?;
     let forced = first_forced(alloc, found, a)?;
     Ok(Step {
         intent: *a,
@@ -277,7 +277,7 @@ fn taken(alloc: Global, desks: &mut Vec<Desk>) -> Desk {
     match desks.pop() {
         Some(desk) => desk,
         None => Desk {
-            near: Near::new(alloc),
+            near: BlockExtent::new(alloc),
             forced: Vec::new(alloc),
         },
     }
@@ -286,7 +286,7 @@ fn taken(alloc: Global, desks: &mut Vec<Desk>) -> Desk {
 /// Puts on the desk the places of the rows that contain the child a, which are those above that have attribute i, and what attributes force.
 fn fill<const W: usize>(
     desk: &mut Desk,
-    sheet: &Sheet<W>,
+    sheet: &IndexedRows<W>,
     a: &Bits<W>,
     i: u32,
     above: &Desk,

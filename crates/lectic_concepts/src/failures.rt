@@ -14,7 +14,7 @@ use fca_model::Memory;
 use std::alloc::Global;
 
 /// Each attribute is a member of the closure with it.
-pub fn first_seen<const W: usize>(
+pub fn own_witnesses<const W: usize>(
     alloc: Global,
     rows: &RowsOf<W>,
     a: &Bits<W>,
@@ -86,7 +86,7 @@ fn put(seen: &mut Vec<u32>, i: u32, member: u32)
 }
 
 /// What is seen of the closures of a holds of those of a larger set.
-pub fn seen_above<'a, const W: usize>(
+pub fn pass_witnesses<'a, const W: usize>(
     rows: &RowsOf<W>,
     a: &Bits<W>,
     seen: &'a [u32],

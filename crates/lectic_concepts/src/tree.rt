@@ -8,7 +8,7 @@ ghost use Rattle.fca_model.specs.Context.{is_closed};
 ghost use Rattle.fca_model.specs.Pseudo.{intents};
 ghost use Rattle.lectic_concepts.specs.Branches.{branch, AreSeen};
 
-use crate::failures::{first_seen, is_child, is_open, note};
+use crate::failures::{is_child, is_open, note, own_witnesses};
 use attr_bits::{Attrs, Bits};
 use derivation::{Rows, RowsOf};
 use fca_model::Memory;
@@ -30,17 +30,17 @@ pub fn all_intents(alloc: Global, rows: &Rows) -> Result<Vec<Attrs>, Memory>
     let width = rows.width();
     if width <= ONE_WORD {
         let found = intents_of(alloc, &rows.resized::<1>(alloc)?)?;
-        return in_words(alloc, width, &found);
+        return resize_sets(alloc, width, &found);
     }
     if width <= FOUR_WORDS {
         let found = intents_of(alloc, &rows.resized::<4>(alloc)?)?;
-        return in_words(alloc, width, &found);
+        return resize_sets(alloc, width, &found);
     }
     intents_of(alloc, rows)
 }
 
 /// The same sets in another number of words.
-pub fn in_words<const W: usize, const V: usize>(
+pub fn resize_sets<const W: usize, const V: usize>(
     alloc: Global,
     width: u32,
     sets: &[Bits<W>],
@@ -64,7 +64,7 @@ pub fn intents_of<const W: usize>(alloc: Global, rows: &RowsOf<W>) -> Result<Vec
 {
     let mut all = Vec::new(alloc);
     let least = rows.closure(&Bits::empty(rows.width()));
-    let mut seen = first_seen(alloc, rows, &least)?;
+    let mut seen = own_witnesses(alloc, rows, &least)?;
     add_branch(alloc, &mut all, rows, &least, 0, &mut seen)?;
     Ok(all)
 }

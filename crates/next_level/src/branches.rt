@@ -12,7 +12,7 @@ use crate::among::Among;
 use crate::open_sets::OpenSets;
 use crate::walk::{child_among, enter_all};
 use attr_bits::Bits;
-use extent_blocks::Sheet;
+use extent_blocks::IndexedRows;
 use fca_model::{Implication, Memory};
 use lectic_basis::{NarrowList, WatchedList, close};
 use std::alloc::Global;
@@ -32,7 +32,7 @@ pub(crate) trait Walker<const W: usize> {
     fn walk(
         &self,
         alloc: Global,
-        sheet: &Sheet<W>,
+        sheet: &IndexedRows<W>,
         list: &NarrowList<W>,
         least: &Bits<W>,
         among: &Among<W>,
@@ -48,7 +48,7 @@ pub(crate) trait Walker<const W: usize> {
 /// What is walked through: the sets that respect a list, of which the least is given, up to a bound, which falls after so many visits.
 #[derive(Drop)]
 pub(crate) struct Walk<'a, const W: usize> {
-    pub sheet: &'a Sheet<W>,
+    pub sheet: &'a IndexedRows<W>,
     pub list: &'a NarrowList<W>,
     pub least: &'a Bits<W>,
     pub among: &'a Among<W>,

@@ -24,7 +24,7 @@ use among::Among;
 use attr_bits::{Attrs, WORDS};
 use branches::Walker;
 use derivation::Rows;
-use extent_blocks::Sheet;
+use extent_blocks::IndexedRows;
 use fca_model::{Implication, Memory};
 use implication_closure::ImplicationList;
 use lectic_basis::{NarrowList, rules_in_words};
@@ -128,7 +128,7 @@ fn open_in_words<X: Walker<W>, const W: usize>(
     ensures ahead { IfOk result (λ opened. IsAhead rules.now.members rows.now opened.level.size opened.ahead.whole opened.ahead.sets.rows) }
     ensures ahead_wide { IfOk result (λ opened. opened.ahead.sets.width ≡ rows.now.width) }
 {
-    let sheet = Sheet::new(alloc, rows.resized::<W>(alloc)?)?;
+    let sheet = IndexedRows::new(alloc, rows.resized::<W>(alloc)?)?;
     let sets = ahead.sets.resized::<W>(alloc)?;
     let among = Among::of(alloc, ahead.whole, sets.as_slice())?;
     let seen = find_open(walker, alloc, &sheet, rules, &among)?;
@@ -167,7 +167,7 @@ fn least_of<const W: usize>(
 fn find_open<X: Walker<W>, const W: usize>(
     walker: &X,
     alloc: Global,
-    sheet: &Sheet<W>,
+    sheet: &IndexedRows<W>,
     rules: &ImplicationList,
     among: &Among<W>,
 ) -> Result<OpenSets<W>, Memory>
@@ -206,7 +206,7 @@ fn sizes_in_turn(rules: &ImplicationList) -> u32
 fn open_up_to<X: Walker<W>, const W: usize>(
     walker: &X,
     alloc: Global,
-    sheet: &Sheet<W>,
+    sheet: &IndexedRows<W>,
     rules: &ImplicationList,
     among: &Among<W>,
     bound: u32,

@@ -14,7 +14,7 @@ use crate::open_sets::OpenSets;
 use crate::{Opened, open_next, open_next_by};
 use attr_bits::Bits;
 use derivation::Rows;
-use extent_blocks::Sheet;
+use extent_blocks::IndexedRows;
 use fca_model::Memory;
 use implication_closure::ImplicationList;
 use lectic_basis::NarrowList;
@@ -96,7 +96,7 @@ impl<const W: usize> Walker<W> for OneThread {
     fn walk(
         &self,
         alloc: Global,
-        sheet: &Sheet<W>,
+        sheet: &IndexedRows<W>,
         list: &NarrowList<W>,
         least: &Bits<W>,
         among: &Among<W>,
@@ -124,7 +124,7 @@ impl<'a, R: Threads, const W: usize> Walker<W> for SideBySide<'a, R> {
     fn walk(
         &self,
         alloc: Global,
-        sheet: &Sheet<W>,
+        sheet: &IndexedRows<W>,
         list: &NarrowList<W>,
         least: &Bits<W>,
         among: &Among<W>,

@@ -14,7 +14,7 @@ ghost use Rattle.next_level.specs.LevelWalks.{IsEntered, IsLeft, IsTrying, HasLe
 use crate::among::Among;
 use crate::open_sets::OpenSets;
 use attr_bits::Bits;
-use extent_blocks::{Near, Sheet};
+use extent_blocks::{BlockExtent, IndexedRows};
 use fca_model::{Implication, Memory};
 use lectic_basis::{WatchedList, close};
 use std::alloc::Global;
@@ -22,7 +22,7 @@ use std::alloc::Global;
 /// Visits a, and then all that agree with it before attribute `from`.
 pub(crate) fn enter_all<const W: usize>(
     alloc: Global,
-    sheet: &Sheet<W>,
+    sheet: &IndexedRows<W>,
     found: &mut WatchedList<W>,
     level: &mut OpenSets<W>,
     a: &Bits<W>,
@@ -38,7 +38,7 @@ pub(crate) fn enter_all<const W: usize>(
     let _width = found.width();
     let closed = sheet.rows().closure(a);
     if enter(alloc, sheet, found, level, a, &closed, from)? {
-        let near = Near::of(alloc, sheet, a)?;
+        let near = BlockExtent::of(alloc, sheet, a)?;
         return try_each(alloc, sheet, &near, found, level, a, from, among);
     }
     Ok(())
@@ -47,8 +47,8 @@ pub(crate) fn enter_all<const W: usize>(
 /// Visits all that agree with the intent a before attribute `from` and come behind it. The rows near by are those that contain a.
 fn try_each<const W: usize>(
     alloc: Global,
-    sheet: &Sheet<W>,
-    near: &Near,
+    sheet: &IndexedRows<W>,
+    near: &BlockExtent,
     found: &mut WatchedList<W>,
     level: &mut OpenSets<W>,
     a: &Bits<W>,
@@ -75,8 +75,8 @@ fn try_each<const W: usize>(
 /// Where more is left there, it is behind the set that is told.
 fn child_at<const W: usize>(
     alloc: Global,
-    sheet: &Sheet<W>,
-    near: &Near,
+    sheet: &IndexedRows<W>,
+    near: &BlockExtent,
     found: &mut WatchedList<W>,
     level: &mut OpenSets<W>,
     a: &Bits<W>,
@@ -120,7 +120,7 @@ fn child_at<const W: usize>(
 /// The sets among which those are that are open and agree with the child before attribute i + 1.
 pub(crate) fn child_among<const W: usize>(
     alloc: Global,
-    sheet: &Sheet<W>,
+    sheet: &IndexedRows<W>,
     found: &WatchedList<W>,
     a: &Bits<W>,
     i: u32,
@@ -143,7 +143,7 @@ pub(crate) fn child_among<const W: usize>(
 /// Visits a alone, whose closure is given. Whether what agrees with it before attribute `from` may have what is looked for.
 fn enter<const W: usize>(
     alloc: Global,
-    sheet: &Sheet<W>,
+    sheet: &IndexedRows<W>,
     found: &WatchedList<W>,
     level: &mut OpenSets<W>,
     a: &Bits<W>,
@@ -176,8 +176,8 @@ fn enter<const W: usize>(
 
 /// The closure of a set that contains a and attribute i. The rows near by are those that contain a.
 fn closure_near<const W: usize>(
-    sheet: &Sheet<W>,
-    near: &Near,
+    sheet: &IndexedRows<W>,
+    near: &BlockExtent,
     a: &Bits<W>,
     i: u32,
     larger: &Bits<W>,
@@ -201,12 +201,12 @@ fn closure_near<const W: usize>(
 /// The rows that contain a set which contains a and attribute i. Where the list holds in the rows, those of the rows near a that have i are all.
 fn near_below<const W: usize>(
     alloc: Global,
-    sheet: &Sheet<W>,
-    near: &Near,
+    sheet: &IndexedRows<W>,
+    near: &BlockExtent,
     a: &Bits<W>,
     i: u32,
     larger: &Bits<W>,
-) -> Result<Near, Memory>
+) -> Result<BlockExtent, Memory>
     requires inside { i < sheet.now.width }
     requires wide { length a.now ≡ sheet.now.width }
     requires near { IsExtent sheet.now a.now near.now }
@@ -215,17 +215,17 @@ fn near_below<const W: usize>(
 {
     let _width = sheet.rows().width();
     if is_shared(sheet, near, a, i, larger) {
-        let mut below = Near::new(alloc);
+        let mut below = BlockExtent::new(alloc);
         below.set_having(near, sheet, i)?;
         return Ok(below);
     }
-    Near::of(alloc, sheet, larger)
+    BlockExtent::of(alloc, sheet, larger)
 }
 
 /// Whether all rows that contain the intent a and have attribute i contain the set. Where it has nothing else, no row is looked at.
 fn is_shared<const W: usize>(
-    sheet: &Sheet<W>,
-    near: &Near,
+    sheet: &IndexedRows<W>,
+    near: &BlockExtent,
     a: &Bits<W>,
     i: u32,
     larger: &Bits<W>,

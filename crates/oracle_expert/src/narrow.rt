@@ -4,7 +4,7 @@ ghost use Rattle.std.specs.Prelude.{IfOk};
 ghost use Rattle.oracle_expert.specs.Narrow.{AreRowsOf};
 
 use derivation::Rows;
-use extent_blocks::Sheet;
+use extent_blocks::IndexedRows;
 use fca_model::Memory;
 use lectic_concepts::{FOUR_WORDS, ONE_WORD};
 use std::alloc::Global;
@@ -12,8 +12,8 @@ use std::alloc::Global;
 /// The rows and columns of a table in sets of few words, where these have room for its attributes.
 #[derive(Drop)]
 pub(crate) enum NarrowRows {
-    One(Sheet<1>),
-    Four(Sheet<4>),
+    One(IndexedRows<1>),
+    Four(IndexedRows<4>),
     /// The attributes are more. None are kept.
     Wide,
 }
@@ -24,10 +24,10 @@ pub(crate) fn narrow_rows(alloc: Global, rows: &Rows) -> Result<NarrowRows, Memo
 {
     let width = rows.width();
     if width <= ONE_WORD {
-        return Ok(NarrowRows::One(Sheet::new(alloc, rows.resized(alloc)?)?));
+        return Ok(NarrowRows::One(IndexedRows::new(alloc, rows.resized(alloc)?)?));
     }
     if width <= FOUR_WORDS {
-        return Ok(NarrowRows::Four(Sheet::new(alloc, rows.resized(alloc)?)?));
+        return Ok(NarrowRows::Four(IndexedRows::new(alloc, rows.resized(alloc)?)?));
     }
     Ok(NarrowRows::Wide)
 }

@@ -14,7 +14,7 @@ use attr_bits::{Attrs, Bits};
 use context_table::Table;
 use derivation::RowsOf;
 use exploration_terms::Reply;
-use extent_blocks::{Near, Sheet};
+use extent_blocks::{BlockExtent, IndexedRows};
 use fca_model::Memory;
 use implication_closure::Question;
 use std::alloc::{AllocError, Global};
@@ -130,7 +130,7 @@ fn counterexample(
 /// The same, on a sheet of W words: where the columns tell that no row refutes the question, the rows are not gone through.
 fn counterexample_on<const W: usize>(
     alloc: Global,
-    sheet: &Sheet<W>,
+    sheet: &IndexedRows<W>,
     conflicts: &[Option<usize>],
     question: &Question,
 ) -> Option<usize>
@@ -149,7 +149,7 @@ fn counterexample_on<const W: usize>(
 /// Whether the columns tell that the implication holds. It may hold where they do not: where the premise is empty, or there is no memory to look.
 fn is_seen_to_hold<const W: usize>(
     alloc: Global,
-    sheet: &Sheet<W>,
+    sheet: &IndexedRows<W>,
     premise: &Bits<W>,
     conclusion: &Bits<W>,
 ) -> bool
@@ -161,7 +161,7 @@ fn is_seen_to_hold<const W: usize>(
     let Some(i) = premise.first_missing(&Bits::empty(premise.width())) else {
         return false;
     };
-    match Near::of(alloc, sheet, premise) {
+    match BlockExtent::of(alloc, sheet, premise) {
         Ok(near) => conclusion.within(&near.closure_with(sheet, i, premise)),
         Err(_) => false,
     }

@@ -11,7 +11,7 @@ use attr_bits::Bits;
 use concept_walk::{Desk, Sheet, known, next_child, places_of};
 use extent_places::tries_of;
 use fca_model::Memory;
-use lectic_concepts::{first_seen, seen_above};
+use lectic_concepts::{own_witnesses, pass_witnesses};
 use std::alloc::Global;
 
 /// How many branches are enough, so that none is laid out again.
@@ -64,7 +64,7 @@ pub(crate) fn root_of<const W: usize>(
     let rows = sheet.rows();
     let least = least_intent(sheet);
     let places = sheet.extent(alloc, &least)?;
-    let seen = first_seen(alloc, rows, &least)?;
+    let seen = own_witnesses(alloc, rows, &least)?;
     let mut tops = Vec::new(alloc);
     add_top(alloc, sheet, &least, &places, 0, &seen, &mut tops)?;
     Ok(tops)
@@ -189,7 +189,7 @@ fn lay_out<const W: usize>(
         };
         end = child.attribute;
         let below = places_of(sheet, &child, &desk.found);
-        let passed = seen_above(
+        let passed = pass_witnesses(
             rows,
             a,
             known(sheet, a, &top.seen, &desk.noted),

@@ -8,7 +8,7 @@ use Rattle.lectic_concepts.proofs.BranchLemmas.{branch_end}
 use Rattle.lectic_concepts.proofs.SeenLemmas.{seen_none}
 use Rattle.concept_walk.specs.Pages.{Fills}
 use Rattle.extent_places.specs.Tries.{AreTries}
-use Rattle.extent_places.specs.declared.few.Below.{Below}
+use Rattle.extent_places.specs.declared.few.SmallConcept.{SmallConcept}
 use Rattle.concept_walk.proofs.LineLemmas.{Fills-append}
 use Rattle.extent_places.proofs.TryLemmas.{branch-between, branch-behind}
 use Rattle.concept_walk.proofs.few_branch.+write_few.Goals as goal
@@ -48,7 +48,7 @@ loop-i-preserved-in_default-met g t c =
     let i = c.in-Some.i in
     let last = c.in-Some.ensures in
     let same : branch K A i ≡ branch K A (i + 1) =
-    subst (λ (o : Option (Below g.row.W)). MatchOption o (branch K A i ≡ branch K A (i + 1)) (λ below. branch K A i ≡ branch K A (i + 1) ++ branch K below.intent (i + 1)))
+    subst (λ (o : Option (SmallConcept g.row.W)). MatchOption o (branch K A i ≡ branch K A (i + 1)) (λ below. branch K A i ≡ branch K A (i + 1) ++ branch K below.intent (i + 1)))
     c.in_default-met.is c.in_ok-met.ensures.splits in
     let behind = branch-behind K c.rows-rows.result.now A c.tries_of-tries.result i c.loop-i.end c.rows-rows.ensures c.tries_of-tries.ensures.tries last.1 c.loop-i.invariant.inside last.2 in
     record {
@@ -66,7 +66,7 @@ loop-i-preserved g t c =
     let i = c.in-Some.i in
     let last = c.in-Some.ensures in
     let splits : branch K A i ≡ branch K A (i + 1) ++ branch K D (i + 1) =
-    subst (λ (o : Option (Below g.row.W)). MatchOption o (branch K A i ≡ branch K A (i + 1)) (λ below. branch K A i ≡ branch K A (i + 1) ++ branch K below.intent (i + 1)))
+    subst (λ (o : Option (SmallConcept g.row.W)). MatchOption o (branch K A i ≡ branch K A (i + 1)) (λ below. branch K A i ≡ branch K A (i + 1) ++ branch K below.intent (i + 1)))
     c.in-Some-met.is c.in_ok-met.ensures.splits in
     let behind : branch K A (i + 1) ≡ branch K A c.loop-i.end =
     branch-behind K c.rows-rows.result.now A c.tries_of-tries.result i c.loop-i.end c.rows-rows.ensures c.tries_of-tries.ensures.tries last.1 c.loop-i.invariant.inside last.2 in

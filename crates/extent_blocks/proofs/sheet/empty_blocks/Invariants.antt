@@ -1,5 +1,0 @@
-use Rattle.std.proofs.Common.{◌≡◌, false, replicate}
-use Rattle.extent_blocks.proofs.sheet.empty_blocks.Given as goal
-
-abbrev pub invariant-loop : goal.invariant-loop
-invariant-loop l = l.blocks.items ≡ replicate l.counter (replicate 256 false)

@@ -1,0 +1,108 @@
+//! Rows, and for each attribute the places of the rows that have it.
+
+ghost use Rattle.std.specs.Prelude.{◌≡◌, ◌≤◌, ◌<◌, ◌*◌, ℕ, All, IfOk, length, map, false};
+ghost use Rattle.std.specs.Int.{div_ceil};
+ghost use Rattle.extent_blocks.specs.Blocks.{IsColumn, AreColumns, in_column, contains_at};
+
+use attr_bits::Bits;
+use derivation::RowsOf;
+use fca_model::Memory;
+use std::alloc::Global;
+use std::marker::Model;
+
+/// How many places a block has: as many as four words hold.
+pub(crate) const BLOCK: usize = 256;
+
+/// Some places of a block.
+pub(crate) type Objects = Bits<4>;
+
+/// The rows of a context, with the column of each attribute.
+#[derive(Drop)]
+pub struct IndexedRows<const W: usize> {
+    rows: RowsOf<W>,
+    columns: Vec<Vec<Objects>>,
+}
+
+impl<const W: usize> Model for IndexedRows<W> {
+    ghost use Rattle.std.specs.Prelude.{◌≡◌, map, length};
+    ghost use Rattle.fca_model.specs.Context.{Context};
+    ghost use Rattle.extent_blocks.specs.Blocks.{AreColumns};
+
+    ghost Value = { Context };
+
+    ghost view = { λ s. s.rows };
+
+    ghost invariant = { λ s. record {
+      room : length s.columns.items ≡ s.rows.width;
+      columns : AreColumns s.rows (map (λ v. v.items) s.columns.items);
+    } };
+}
+
+impl<const W: usize> IndexedRows<W> {
+    /// The same rows, with their columns.
+    pub fn new(alloc: Global, rows: RowsOf<W>) -> Result<IndexedRows<W>, Memory>
+        ensures { IfOk result (λ indexed. indexed ≡ rows.entry) }
+    {
+        let columns = columns_of(alloc, &rows)?;
+        Ok(IndexedRows { rows, columns })
+    }
+
+    /// The rows.
+    pub fn rows(&self) -> &RowsOf<W>
+        ensures { result.now ≡ self.now }
+    {
+        &self.rows
+    }
+
+    /// Which rows have attribute i.
+    pub(crate) fn column(&self, i: u32) -> &[Objects]
+        requires { i < self.now.width }
+        ensures { IsColumn self.now i result.now }
+    {
+        &self.columns[i as usize]
+    }
+}
+
+/// The column of each attribute.
+fn columns_of<const W: usize>(alloc: Global, rows: &RowsOf<W>) -> Result<Vec<Vec<Objects>>, Memory>
+    ensures room { IfOk result (λ columns. length columns.items ≡ rows.now.width) }
+    ensures columns { IfOk result (λ columns. AreColumns rows.now (map (λ v. v.items) columns.items)) }
+{
+    let none = Bits::empty(rows.width());
+    let mut columns = Vec::new(alloc);
+    for i in 0..rows.width() {
+        columns.push(places_above(alloc, rows, &none.with(i))?)?;
+    }
+    Ok(columns)
+}
+
+/// The places of the rows that contain a, block by block.
+pub(crate) fn places_above<const W: usize>(
+    alloc: Global,
+    rows: &RowsOf<W>,
+    a: &Bits<W>,
+) -> Result<Vec<Objects>, Memory>
+    ensures count { IfOk result (λ column. length column.items ≡ div_ceil (length rows.now.rows) 256) }
+    ensures places { IfOk result (λ column. (g : ℕ) → in_column column.items g ≡ contains_at rows.now a.now g) }
+{
+    let mut column = empty_blocks(alloc, rows.len().div_ceil(BLOCK))?;
+    for (place, row) in rows.as_slice().iter().enumerate() {
+        if a.within(row) {
+            column[place / BLOCK].insert((place % BLOCK) as u32);
+        }
+    }
+    Ok(column)
+}
+
+/// As many blocks, each with no places.
+fn empty_blocks(alloc: Global, count: usize) -> Result<Vec<Objects>, Memory>
+    ensures room { IfOk result (λ blocks. length blocks.items ≡ count) }
+    ensures wide { IfOk result (λ blocks. All (λ B. length B ≡ 256) blocks.items) }
+    ensures empty { IfOk result (λ blocks. (g : ℕ) → in_column blocks.items g ≡ false) }
+{
+    let mut blocks = Vec::with_capacity(alloc, count)?;
+    for _ in 0..count {
+        blocks.push(Bits::empty(BLOCK as u32))?;
+    }
+    Ok(blocks)
+}

@@ -1,5 +1,0 @@
-use Rattle.lectic_concepts.proofs.SeenLemmas.{seen_larger}
-use Rattle.lectic_concepts.proofs.failures.seen_above.Goals as goal
-
-pub returns : goal.returns
-returns g c = seen_larger c.args.rows.now c.args.a.now c.args.larger.now c.args.seen.now c.requires.wide c.requires.larger c.requires.seen
