@@ -1,4 +1,4 @@
-//! The places of the rows that contain a set.
+//! Extents in blocks, those of larger sets, and closures by them.
 
 ghost use Rattle.std.specs.Prelude.{◌≡◌, ◌≤◌, ◌<◌, ◌&&◌, ◌+◌, ◌*◌, ◌^◌, ℕ, [], IfOk, OnOk, MatchOption, length, true, false};
 ghost use Rattle.std.specs.List.{list_any};
@@ -13,17 +13,19 @@ use fca_model::Memory;
 use std::alloc::Global;
 use std::marker::Model;
 
-/// Rows are met one after another where their places are in no more blocks than this.
+/// Rows are met one after another if their places are in no more blocks than this.
 const FEW_BLOCKS: usize = 8;
 
-/// Some places of the block of this number.
+/// Some places of one block.
 #[derive(Clone, Copy)]
 struct Block {
+    /// The number of the block, from 0.
     number: usize,
+    /// The places, counted from the first one of the block.
     objects: Objects,
 }
 
-/// Some places. Blocks without any are left out.
+/// Some places, as those of an extent. Blocks without places are left out.
 #[derive(Drop)]
 pub struct BlockExtent {
     blocks: Vec<Block>,
@@ -62,7 +64,7 @@ impl BlockExtent {
         }
     }
 
-    /// Puts those of the places above whose rows have attribute i in the place of what it had, whose room is used again.
+    /// Takes the places of another extent whose rows have attribute i, in place of its own. The room is used again.
     pub fn set_having<const W: usize>(
         &mut self,
         above: &BlockExtent,
@@ -75,7 +77,7 @@ impl BlockExtent {
         keep_in(&above.blocks, indexed.column(i), &mut self.blocks)
     }
 
-    /// The closure of a, where those of the places whose rows have attribute i are the places of the rows that contain a.
+    /// The closure of a, given that the places whose rows have attribute i are the extent of a.
     pub fn closure_with<const W: usize>(
         &self,
         indexed: &IndexedRows<W>,
@@ -94,7 +96,7 @@ impl BlockExtent {
         self.closure_by_columns(indexed, i, a)
     }
 
-    /// The same, as the meet of these rows one after another.
+    /// The closure of a as `closure_with` gives it, by the meet of these rows one after another.
     fn closure_by_rows<const W: usize>(
         &self,
         indexed: &IndexedRows<W>,
@@ -110,7 +112,7 @@ impl BlockExtent {
         meet_of_rows(&self.blocks, indexed.column(i), indexed.rows(), a)
     }
 
-    /// The same. What is met is the meet of some of these rows; an attribute of it that none of them lacks is kept.
+    /// The closure of a as `closure_with` gives it, from few of these rows. As long as one of them lacks an attribute of the meet, it is met too.
     fn closure_by_columns<const W: usize>(
         &self,
         indexed: &IndexedRows<W>,
@@ -134,7 +136,7 @@ impl BlockExtent {
         met
     }
 
-    /// One of the places whose row has attribute i and lacks k, and none only where each that has i has k.
+    /// A place whose row has attribute i and lacks k, or none if each row that has i has k.
     fn place_lacking<const W: usize>(
         &self,
         indexed: &IndexedRows<W>,
@@ -153,7 +155,7 @@ impl BlockExtent {
 }
 
 impl Block {
-    /// Those of the places that are in the column, if there are any.
+    /// The places that are in the column, if there are any.
     fn meet(&self, column: &[Objects]) -> Option<Block>
         ensures { MatchOption result
             ((g : ℕ) → (in_block self.now.number self.now.objects g && in_column column.now g) ≡ false)
@@ -172,7 +174,7 @@ impl Block {
         }
     }
 
-    /// The first of the places that is in the one column and not in the other, counted in the block.
+    /// The first place that is in one column and not in the other, counted from the first one of the block.
     fn first_of(&self, having: &[Objects], lacking: &[Objects]) -> Option<u32>
         requires { length lacking.now ≡ length having.now }
         ensures { MatchOption result
@@ -187,7 +189,7 @@ impl Block {
         self.objects.meet(with).first_missing(&lacking[self.number])
     }
 
-    /// The meet of the set and the rows at those of the places that are in the column. All of them contain a, so once it lies within a, the rows that are left
+    /// The meet of the set and the rows at the places that are in the column. All these rows contain a, so once the meet lies within a, the rows that are left
     /// change nothing.
     fn meet_rows<const W: usize>(
         &self,
@@ -220,7 +222,7 @@ impl Block {
     }
 }
 
-/// The meet of the rows at those of the places of the blocks that are in the column, where these are the rows that contain a.
+/// The closure of a, given that the places of the blocks that are in the column are the extent of a: the meet of their rows.
 fn meet_of_rows<const W: usize>(
     blocks: &[Block],
     column: &[Objects],
@@ -238,7 +240,7 @@ fn meet_of_rows<const W: usize>(
     met
 }
 
-/// The blocks of a column with their numbers.
+/// Numbers the blocks of a column.
 fn number_blocks(alloc: Global, column: &[Objects]) -> Result<Vec<Block>, Memory>
     ensures { IfOk result (λ blocks. (g : ℕ) → list_any (λ x. in_block x.number x.objects g) blocks.items ≡ in_column column.now g) }
 {
@@ -252,7 +254,7 @@ fn number_blocks(alloc: Global, column: &[Objects]) -> Result<Vec<Block>, Memory
     Ok(blocks)
 }
 
-/// Puts those of the places of the blocks that are in the column in the place of what was kept.
+/// Keeps the places of the blocks that are in the column, in place of what was kept before.
 fn keep_in(blocks: &[Block], column: &[Objects], kept: &mut Vec<Block>) -> Result<(), Memory>
     ensures { OnOk result ((g : ℕ) → list_any (λ x. in_block x.number x.objects g) kept.new.items
         ≡ (list_any (λ x. in_block x.number x.objects g) blocks.now && in_column column.now g)) }
@@ -266,7 +268,7 @@ fn keep_in(blocks: &[Block], column: &[Objects], kept: &mut Vec<Block>) -> Resul
     Ok(())
 }
 
-/// One of the places of the blocks that is in the one column and not in the other.
+/// A place of the blocks that is in one column and not in the other, or none if there is no such place.
 fn first_lacking(blocks: &[Block], having: &[Objects], lacking: &[Objects]) -> Option<usize>
     requires same { length lacking.now ≡ length having.now }
     requires small { (g : ℕ) → in_column having.now g ≡ true → g < 2 ^ 64 }

@@ -1,7 +1,7 @@
-//! The rows that contain a set, as places in blocks, and closures by them.
+//! Extents as places in blocks of 256, and closures by them.
 //!
-//! Of each attribute it is kept which rows have it, so the rows that contain a set with one attribute more are found many at a time. A closure looks at few
-//! rows: at one that lacks an attribute which is still to be judged, until there is none.
+//! Each attribute has a column, the rows that have it, so the rows that contain a set with one attribute more are found many at a time. A closure looks at few
+//! rows: as long as a row lacks an attribute that is still to be judged, at one such row.
 #![tactic(auto)]
 
 mod extent;

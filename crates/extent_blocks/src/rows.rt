@@ -1,4 +1,4 @@
-//! Rows, and for each attribute the places of the rows that have it.
+//! Rows with their columns: for each attribute the places of the rows that have it, in blocks.
 
 ghost use Rattle.std.specs.Prelude.{◌≡◌, ◌≤◌, ◌<◌, ◌*◌, ℕ, All, IfOk, length, map, false};
 ghost use Rattle.std.specs.Int.{div_ceil};
@@ -39,7 +39,7 @@ impl<const W: usize> Model for IndexedRows<W> {
 }
 
 impl<const W: usize> IndexedRows<W> {
-    /// The same rows, with their columns.
+    /// These rows with their columns.
     pub fn new(alloc: Global, rows: RowsOf<W>) -> Result<IndexedRows<W>, Memory>
         ensures { IfOk result (λ indexed. indexed ≡ rows.entry) }
     {
@@ -54,7 +54,7 @@ impl<const W: usize> IndexedRows<W> {
         &self.rows
     }
 
-    /// Which rows have attribute i.
+    /// The column of attribute i.
     pub(crate) fn column(&self, i: u32) -> &[Objects]
         requires { i < self.now.width }
         ensures { IsColumn self.now i result.now }
@@ -94,7 +94,7 @@ pub(crate) fn places_above<const W: usize>(
     Ok(column)
 }
 
-/// As many blocks, each with no places.
+/// So many blocks, each without places.
 fn empty_blocks(alloc: Global, count: usize) -> Result<Vec<Objects>, Memory>
     ensures room { IfOk result (λ blocks. length blocks.items ≡ count) }
     ensures wide { IfOk result (λ blocks. All (λ B. length B ≡ 256) blocks.items) }
