@@ -1,10 +1,10 @@
 -- One reading after the other: what may be read or refused behind a first reading.
 use Rattle.std.proofs.Common.{◌≡◌, ◌∙◌, ap, subst}
 use Rattle.fca_model.specs.Tables.{NamedContext}
-use Rattle.context_table.specs.Narrow.{NamedAttributes, without_objects}
+use Rattle.context_table.specs.Table.{untitled_context}
 use Rattle.command_io.specs.Readings.{Reading, then, MayRead, MayRefuse, IfRead}
 use Rattle.command_io.specs.Readings.Reading.{Untold, Missing, Refused, Read}
-use Rattle.command_io.specs.Narrow.{nameless}
+use Rattle.command_io.specs.Narrow.{untitled_reading}
 
 pub refused_then : {X Y : Type 0} (r : Reading X) (next : X → Reading Y) → MayRefuse r → MayRefuse (then r next)
 refused_then Untold next may = tt
@@ -31,10 +31,10 @@ if_read-may Missing x P may holds = may
 if_read-may Refused x P may holds = may
 if_read-may (Read y) x P may holds = subst P may holds
 
--- what is told of a table without the names of its objects is told of the table
-pub read_nameless : {Y : Type 0} (r : Reading NamedContext) (n : NamedAttributes) (told : NamedAttributes → Y) (y : Y)
-    → MayRead (nameless r) n → y ≡ told n → MayRead (then r (λ t. Read (told (without_objects t)))) y
-read_nameless Untold n told y here is = tt
-read_nameless Missing n told y here is = here
-read_nameless Refused n told y here is = here
-read_nameless (Read t) n told y here is = is ∙ ap told here
+-- what is written of a table without its title is written of the table
+pub read_untitled : {Y : Type 0} (r : Reading NamedContext) (n : NamedContext) (write : NamedContext → Y) (y : Y)
+    → MayRead (untitled_reading r) n → y ≡ write n → MayRead (then r (λ t. Read (write (untitled_context t)))) y
+read_untitled Untold n write y here is = tt
+read_untitled Missing n write y here is = here
+read_untitled Refused n write y here is = here
+read_untitled (Read t) n write y here is = is ∙ ap write here

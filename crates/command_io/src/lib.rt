@@ -13,7 +13,7 @@ mod text;
 pub use answer::{Answer, Ending, conclude};
 pub use err_line::report;
 pub use known::{Start, check_known, known_under, start_under};
-pub use narrow::narrow_under;
+pub use narrow::load_narrow_table;
 pub use readings::{script_on, table_under};
 pub use scalings::{plan_under, values_under};
 pub use stop::{Origin, Stop, file_at_fault};

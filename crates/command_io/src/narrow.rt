@@ -1,4 +1,4 @@
-//! A file as a table without the names of its objects.
+//! A file as a narrow table.
 
 ghost use Rattle.std.specs.Prelude.{◌≡◌, ◌≤◌, ℕ, List, IfOk, IfErr, true, false};
 ghost use Rattle.fca_io.specs.Faults.{Rose};
@@ -6,27 +6,27 @@ ghost use Rattle.cxt_format.specs.Form.{cxt_form};
 ghost use Rattle.csv_context.specs.Form.{csv_form};
 ghost use Rattle.command_io.specs.Readings.{formed, MayRead, MayRefuse};
 ghost use Rattle.command_io.specs.Forms.{is_csv, table_formed, table_read};
-ghost use Rattle.command_io.specs.Narrow.{nameless};
+ghost use Rattle.command_io.specs.Narrow.{untitled_reading};
 ghost use Rattle.command_io.specs.Causes.{IsFormStop, IsFileStop};
 ghost use Rattle.command_io.specs.Endings.{IsRefusal};
 
 use crate::readings::{csv_table, is_csv, not_taken};
 use crate::stop::{Origin, Stop};
 use context_table::NarrowTable;
-use cxt_format::{CxtFault, read_narrow};
+use cxt_format::{CxtFault, read_narrow_cxt};
 use fca_io::Shelf;
 use fca_model::{FILE_BYTES, Word};
 use std::alloc::Global;
 
-/// The table in the file of the name, which comes from the origin, without its title and the names of its objects. It is refused as
-/// [`table_under`](crate::table_under) refuses it.
-pub fn narrow_under<H: Shelf>(
+/// Loads the table in the file of the name, which comes from the origin, without its title. The refusals are those of
+/// [`table_under`](crate::table_under).
+pub fn load_narrow_table<H: Shelf>(
     alloc: Global,
     shelf: &mut H,
     file: &Word,
     origin: Origin,
 ) -> Result<NarrowTable, Stop>
-    ensures table { IfOk result (λ table. MayRead (nameless (table_read file.now (H.tells shelf.old file.now))) table) }
+    ensures table { IfOk result (λ table. MayRead (untitled_reading (table_read file.now (H.tells shelf.old file.now))) table) }
     ensures refused { IfErr result (λ stop. IsRefusal stop → MayRefuse (table_read file.now (H.tells shelf.old file.now))) }
     ensures cause { IfErr result (IsFileStop file.now (H.tells shelf.old file.now)
         (Rose (H.faults shelf.old file.now) (H.faults shelf.new file.now)) origin) }
@@ -37,24 +37,29 @@ pub fn narrow_under<H: Shelf>(
         Ok(bytes) => bytes,
         Err(taken) => return Err(not_taken(taken, origin)),
     };
-    narrow_of(alloc, &bytes, file.bytes(), origin)
+    narrow_table(alloc, &bytes, file.bytes(), origin)
 }
 
 /// The table whose form the bytes are, by the name of their file.
-fn narrow_of(alloc: Global, bytes: &[u8], name: &[u8], origin: Origin) -> Result<NarrowTable, Stop>
-    ensures table { IfOk result (λ table. MayRead (nameless (table_formed name.now bytes.now)) table) }
+fn narrow_table(
+    alloc: Global,
+    bytes: &[u8],
+    name: &[u8],
+    origin: Origin,
+) -> Result<NarrowTable, Stop>
+    ensures table { IfOk result (λ table. MayRead (untitled_reading (table_formed name.now bytes.now)) table) }
     ensures refused { IfErr result (λ stop. IsRefusal stop → MayRefuse (table_formed name.now bytes.now)) }
     ensures cause { IfErr result (IsFormStop name.now origin bytes.now) }
 {
     if is_csv(name) {
-        narrow_csv(alloc, bytes, origin)
+        narrow_csv_table(alloc, bytes, origin)
     } else {
-        narrow_cxt(alloc, bytes, origin)
+        narrow_cxt_table(alloc, bytes, origin)
     }
 }
 
-fn narrow_csv(alloc: Global, bytes: &[u8], origin: Origin) -> Result<NarrowTable, Stop>
-    ensures table { IfOk result (λ table. MayRead (nameless (formed (csv_form bytes.now))) table) }
+fn narrow_csv_table(alloc: Global, bytes: &[u8], origin: Origin) -> Result<NarrowTable, Stop>
+    ensures table { IfOk result (λ table. MayRead (untitled_reading (formed (csv_form bytes.now))) table) }
     ensures refused { IfErr result (λ stop. IsRefusal stop → MayRefuse (formed (csv_form bytes.now))) }
     ensures cause { (name : List ℕ) → is_csv name ≡ true → IfErr result (IsFormStop name origin bytes.now) }
 {
@@ -65,12 +70,12 @@ fn narrow_csv(alloc: Global, bytes: &[u8], origin: Origin) -> Result<NarrowTable
     }
 }
 
-fn narrow_cxt(alloc: Global, bytes: &[u8], origin: Origin) -> Result<NarrowTable, Stop>
-    ensures table { IfOk result (λ table. MayRead (nameless (formed (cxt_form bytes.now))) table) }
+fn narrow_cxt_table(alloc: Global, bytes: &[u8], origin: Origin) -> Result<NarrowTable, Stop>
+    ensures table { IfOk result (λ table. MayRead (untitled_reading (formed (cxt_form bytes.now))) table) }
     ensures refused { IfErr result (λ stop. IsRefusal stop → MayRefuse (formed (cxt_form bytes.now))) }
     ensures cause { (name : List ℕ) → is_csv name ≡ false → IfErr result (IsFormStop name origin bytes.now) }
 {
-    match read_narrow(alloc, bytes) {
+    match read_narrow_cxt(alloc, bytes) {
         Ok(table) => Ok(table),
         Err(CxtFault::Memory) => Err(Stop::Memory),
         Err(fault) => Err(Stop::NoTable(origin, fault)),

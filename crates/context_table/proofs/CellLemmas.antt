@@ -1,7 +1,8 @@
--- A row that is drawn block by block. Before a block from cell j on the row has the cells that were drawn at the places below j and no member from j on; the
--- bits of a block are put in at their places. At the end the row is the list of all its cells. The state that a block or the next row begins with is the one
--- after all cells so far, since steps add up.
-use Rattle.std.proofs.Common.{◌≡◌, ℕ, zero, suc, ◌+◌, ◌-◌, ◌*◌, ◌^◌, ◌<◌, ◌≤◌, Bool, true, false, ◌&&◌, ◌||◌, cond, eqb, nat_le, List, map, length, get_or, replicate, refl, ap, ap₂, ◌∙◌, arith, inl, inr, min, add-one}
+-- A row that is drawn block by block. Before a block from cell j on the row has the cells that were drawn below place j, and no member
+-- from j on. The bits of the block go to their places. At the end the row is the list of all its cells. Steps add up, so a block begins
+-- with the state after all cells before it.
+use Rattle.std.proofs.Common.{◌≡◌, ℕ, zero, suc, ◌+◌, ◌-◌, ◌*◌, ◌^◌, ◌<◌, ◌≤◌, Bool, true, false, ◌&&◌, ◌||◌, cond, eqb, nat_le, List, map}
+use Rattle.std.proofs.Common.{length, get_or, replicate, refl, ap, ap₂, ◌∙◌, arith, inl, inr, min, add-one}
 use Rattle.std.specs.List.{range_with_len}
 use Rattle.std.specs.Int.{bit_at}
 use Rattle.std.proofs.Math.Bool.{or-false, and-false}
@@ -20,11 +21,17 @@ pub record HasCells (cell : ℕ → Bool) (n j : ℕ) (row : List Bool) : Type 0
   pub empty : (k : ℕ) → j ≤ k → k < n → get_or row k false ≡ false
 
 pub HasCells-none : (cell : ℕ → Bool) (n : ℕ) → HasCells cell n 0 (replicate n false)
-HasCells-none cell n = record { wide = length-replicate n false; drawn = λ k lt. absurd (omega arith); empty = λ k le lt. get_or-replicate n k false false lt }
+HasCells-none cell n = record {
+  wide = length-replicate n false;
+  drawn = λ k lt. absurd (omega arith);
+  empty = λ k le lt. get_or-replicate n k false false lt;
+}
 
-pub HasCells-block : (cell drawn : ℕ → Bool) (n j count bits : ℕ) (row new : List Bool) → HasCells cell n j row → j < n → count ≡ min (n - j) 64
+pub HasCells-block : (cell drawn : ℕ → Bool) (n j count bits : ℕ) (row new : List Bool) → HasCells cell n j row → j < n
+    → count ≡ min (n - j) 64
     → bits ≡ number_of drawn count → ((i : ℕ) → i < count → drawn i ≡ cell (j + i)) → length new ≡ length row
-    → ((i : ℕ) → i < length row → get_or new i false ≡ (get_or row i false || (nat_le j i && eqb (bit_at bits (i - j)) 1))) → HasCells cell n (j + count) new
+    → ((i : ℕ) → i < length row → get_or new i false ≡ (get_or row i false || (nat_le j i && eqb (bit_at bits (i - j)) 1)))
+    → HasCells cell n (j + count) new
 HasCells-block cell drawn n j count bits row new h lt few is same wide put = record {
   wide = wide ∙ h.wide;
   drawn = λ k below. put k (omega (arith, h.wide)) ∙ elim (cases_lt k j) [
@@ -32,11 +39,13 @@ HasCells-block cell drawn n j count bits row new h lt few is same wide put = rec
     | inr later ↦
         let back : j + (k - j) ≡ k = omega arith in
         ap₂ (λ x y. x || (y && eqb (bit_at bits (k - j)) 1)) (h.empty k later (omega arith)) (le-leb j k later)
-        ∙ ap (λ x. eqb (bit_at x (k - j)) 1) is ∙ ap (λ x. eqb x 1) (bit_at-number_of drawn count (k - j) (omega arith)) ∙ one (drawn (k - j))
+        ∙ ap (λ x. eqb (bit_at x (k - j)) 1) is ∙ ap (λ x. eqb x 1) (bit_at-number_of drawn count (k - j) (omega arith))
+        ∙ one (drawn (k - j))
         ∙ same (k - j) (omega arith) ∙ ap cell back
   ];
   empty = λ k le inside. put k (omega (arith, h.wide))
-      ∙ ap₂ (λ x y. x || (nat_le j k && eqb y 1)) (h.empty k (omega arith) inside) (ap (λ x. bit_at x (k - j)) is ∙ bit_at_above (number_of drawn count) count (k - j) (number_of_small drawn count) (omega arith))
+      ∙ ap₂ (λ x y. x || (nat_le j k && eqb y 1)) (h.empty k (omega arith) inside)
+      (ap (λ x. bit_at x (k - j)) is ∙ bit_at_above (number_of drawn count) count (k - j) (number_of_small drawn count) (omega arith))
       ∙ and-false (nat_le j k);
 }
   where

@@ -3,7 +3,8 @@ use Rattle.std.proofs.Common.{◌≡◌, refl, true, false, [], ◌∷◌, None,
 use Rattle.std.specs.Fmt.{digits}
 use Rattle.context_table.specs.Generated.{next_state, state_after, made_table}
 
-pub first_states : (state_after 1 0 ≡ 1442695040888963407) × (state_after 2 0 ≡ 1876011003808476466) × (state_after 3 0 ≡ 11166244414315200793) × (state_after 4 0 / 2 ^ 61 ≡ 3)
+pub first_states : (state_after 1 0 ≡ 1442695040888963407) × (state_after 2 0 ≡ 1876011003808476466)
+    × (state_after 3 0 ≡ 11166244414315200793) × (state_after 4 0 / 2 ^ 61 ≡ 3)
 unfolding state_after next_state
 first_states = (refl, refl, refl, refl)
 

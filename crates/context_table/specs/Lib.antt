@@ -1,3 +1,4 @@
 pub mod Table
 pub mod Generated
+pub mod Recipes
 pub mod Narrow

@@ -1,8 +1,8 @@
-//! What a generated table is made of: cells that are drawn one by one, and names by number.
+//! The parts of a generated table: cells that are drawn one by one, and names by number.
 
 ghost use Rattle.std.specs.Prelude.{◌≡◌, ◌+◌, ◌≤◌, IfOk, None};
 ghost use Rattle.attr_bits.specs.Words.{number_of};
-ghost use Rattle.context_table.specs.Generated.{next_state, state_after, is_cross, row_from, rows_from, numbered};
+ghost use Rattle.context_table.specs.Generated.{next_state, state_after, is_cross, row_from, rows_from, numbered_names};
 ghost use Rattle.fca_model.specs.Names.{name_fault};
 
 use attr_bits::Attrs;
@@ -11,15 +11,16 @@ use fca_model::{MAX_ATTRIBUTES, Memory, Name, NameFault};
 use itoa::Buffer;
 use std::alloc::Global;
 
-/// The factor and the summand of a step, those of Knuth's MMIX.
+/// The factor of a step of the generator, from Knuth's MMIX.
 const MULTIPLIER: u64 = 6_364_136_223_846_793_005;
 
+/// The summand of a step of the generator, from Knuth's MMIX.
 const INCREMENT: u64 = 1_442_695_040_888_963_407;
 
-/// How many bits lie below the three highest, which decide on a cell.
+/// The number of bits below the three highest, which decide on a cell.
 const LOWER: u32 = 61;
 
-/// How many cells are put into a row at once.
+/// The number of cells that are put into a row at once.
 const BLOCK: u32 = 64;
 
 /// A linear congruential generator of cells.
@@ -41,7 +42,7 @@ impl Cells {
         }
     }
 
-    /// Whether the next cell is a cross.
+    /// Draws a cell, and returns whether it is a cross.
     fn next_cell(&mut self) -> bool
         ensures state { self.new.state ≡ next_state self.old.state }
         ensures density { self.new.density ≡ self.old.density }
@@ -51,8 +52,8 @@ impl Cells {
         self.state >> LOWER < u64::from(self.density)
     }
 
-    /// The next cells as bits, from the lowest on.
-    fn bits(&mut self, count: u32) -> u64
+    /// Draws `count` cells as bits, from the lowest on.
+    fn next_bits(&mut self, count: u32) -> u64
         requires { count ≤ 64 }
         ensures state { self.new.state ≡ state_after count self.old.state }
         ensures density { self.new.density ≡ self.old.density }
@@ -67,8 +68,8 @@ impl Cells {
         bits
     }
 
-    /// The next n cells.
-    fn row(&mut self, n: u32) -> Attrs
+    /// Draws a row of n cells.
+    fn next_row(&mut self, n: u32) -> Attrs
         requires { n ≤ MAX_ATTRIBUTES }
         ensures state { self.new.state ≡ state_after n self.old.state }
         ensures density { self.new.density ≡ self.old.density }
@@ -77,29 +78,29 @@ impl Cells {
         let mut row = Attrs::empty(n);
         for block in 0..n.div_ceil(BLOCK) {
             let from = BLOCK * block;
-            row.insert_bits(from, self.bits((n - from).min(BLOCK)));
+            row.insert_bits(from, self.next_bits((n - from).min(BLOCK)));
         }
         row
     }
 
-    /// The next `count` rows of n cells.
+    /// Draws `count` rows of n cells.
     pub fn into_rows(mut self, alloc: Global, count: u32, n: u32) -> Result<Rows, Memory>
         requires { n ≤ MAX_ATTRIBUTES }
         ensures { IfOk result (λ rows. rows ≡ record { width = n; rows = rows_from self.density count n self.state }) }
     {
         let mut rows = Rows::new(alloc, n)?;
         for _ in 0..count {
-            rows.push(self.row(n))?;
+            rows.push(self.next_row(n))?;
         }
         Ok(rows)
     }
 }
 
-/// Names of a lower-case letter and a number, from 1 on.
-pub fn numbered(alloc: Global, letter: char, count: u32) -> Result<Vec<Name>, Memory>
+/// Names of a lower-case letter and a number, from 1 to `count`.
+pub fn numbered_names(alloc: Global, letter: char, count: u32) -> Result<Vec<Name>, Memory>
     requires from_a { 97 ≤ letter }
     requires to_z { letter ≤ 122 }
-    ensures { IfOk result (λ names. names.items ≡ numbered letter count) }
+    ensures { IfOk result (λ names. names.items ≡ numbered_names letter count) }
 {
     let mut names = Vec::with_capacity(alloc, count as usize)?;
     let mut text = String::new(alloc);
@@ -107,13 +108,13 @@ pub fn numbered(alloc: Global, letter: char, count: u32) -> Result<Vec<Name>, Me
         text.clear();
         text.push(letter)?;
         text.push_str(Buffer::new().format(i + 1))?;
-        names.push(named(alloc, &text)?)?;
+        names.push(name_of(alloc, &text)?)?;
     }
     Ok(names)
 }
 
 /// The name with this text, which has no fault.
-fn named(alloc: Global, text: &str) -> Result<Name, Memory>
+fn name_of(alloc: Global, text: &str) -> Result<Name, Memory>
     requires { name_fault text.now ≡ None }
     ensures { IfOk result (λ name. name ≡ text.now) }
 {

@@ -1,20 +1,23 @@
-//! Tables: contexts whose objects and attributes have names, and what is left of one without the names of its objects.
+//! Tables: contexts whose objects and attributes have names.
 #![tactic(auto)]
 
-ghost use Rattle.std.specs.Prelude.{◌≡◌, ◌<◌, ◌≤◌, ◌↔◌, ◌∷◌, ◌++◌, ℕ, List, [], None, Some, All, IfOk, IfErr, OnOk, IsErrOf, IsTrue, not, true, length, vec_len, slice_get, option_copied, position, bytes_eq};
+ghost use Rattle.std.specs.Prelude.{◌≡◌, ◌<◌, ◌≤◌, ◌↔◌, ◌∷◌, ◌++◌, ℕ, List, [], None, Some, All, IfOk, IfErr, OnOk, IsErrOf, IsTrue, not};
+ghost use Rattle.std.specs.Prelude.{true, length, vec_len, slice_get, option_copied, position, bytes_eq};
 ghost use Rattle.std.specs.List.{list_any};
 ghost use Rattle.context_table.specs.Table.{IsTable, first_repeat};
 ghost use Rattle.context_table.specs.Generated.{made_table};
 
 mod generated;
 mod narrow;
+mod recipe;
 mod rows;
 
 use derivation::Rows;
 use fca_model::{MAX_ATTRIBUTES, MAX_OBJECTS, Memory, NO_MEMORY, Name};
-use generated::{Cells, numbered};
+use generated::{Cells, numbered_names};
 use indexmap::IndexSet;
 pub use narrow::NarrowTable;
+pub use recipe::{MAX_DENSITY, Recipe};
 pub use rows::{NarrowRows, narrow_rows};
 use std::alloc::{AllocError, Global};
 use std::marker::Model;
@@ -52,7 +55,7 @@ impl From<Memory> for TableFault {
     }
 }
 
-/// A context with the names of its objects and attributes, and a title where it has one.
+/// A context with the names of its objects and attributes, and perhaps a title.
 #[derive(Drop)]
 pub struct Table {
     title: Option<Name>,
@@ -73,7 +76,7 @@ impl Model for Table {
 }
 
 impl Table {
-    /// The table of these names and rows. An attribute with the name of an earlier one is told by the least such place.
+    /// The table of these names and rows. It refuses too many objects, and the first attribute that has the name of an earlier one.
     pub fn new(
         alloc: Global,
         title: Option<Name>,
@@ -91,7 +94,7 @@ impl Table {
         if objects.len() > MAX_OBJECTS {
             return Err(TableFault::TooMany);
         }
-        let attributes = in_order(alloc, attributes)?;
+        let attributes = distinct_names(alloc, attributes)?;
         Ok(Table {
             title,
             objects,
@@ -100,8 +103,8 @@ impl Table {
         })
     }
 
-    /// The generated table: objects g1, g2 and so on, attributes m1, m2 and so on, and about `density` crosses in eight cells,
-    /// drawn row by row by a linear congruential generator (Knuth, MMIX) from the seed on.
+    /// The generated table: objects g1, g2 and so on, attributes m1, m2 and so on, and about `density` crosses in eight cells.
+    /// A linear congruential generator (Knuth, MMIX) draws the cells row by row, from the seed on.
     pub fn make(
         alloc: Global,
         seed: u64,
@@ -114,8 +117,8 @@ impl Table {
         ensures { IfOk result (λ table. table ≡ made_table seed objects attributes density) }
     {
         let rows = Cells::new(seed, density).into_rows(alloc, objects, attributes)?;
-        let objects = numbered(alloc, 'g', objects)?;
-        let attributes = numbered(alloc, 'm', attributes)?;
+        let objects = numbered_names(alloc, 'g', objects)?;
+        let attributes = numbered_names(alloc, 'm', attributes)?;
         match Table::new(alloc, None, objects, attributes, rows) {
             Ok(table) => Ok(table),
             Err(TableFault::Memory) => Err(Memory),
@@ -165,14 +168,30 @@ impl Table {
         }
     }
 
-    /// Whether both have the same attribute names in the same order.
+    /// The names of the objects.
+    pub(crate) fn objects(&self) -> &[Name]
+        ensures names { result.now ≡ self.now.objects }
+        ensures table { IsTable self.now }
+    {
+        &self.objects
+    }
+
+    /// The names of the attributes.
+    pub(crate) fn attributes(&self) -> &[Name]
+        ensures names { result.now ≡ self.now.attributes }
+        ensures table { IsTable self.now }
+    {
+        self.attributes.as_slice()
+    }
+
+    /// Whether both tables have the same attribute names in the same order.
     pub fn same_attributes(&self, other: &Table) -> bool
         ensures { IsTrue result ↔ (self.now.attributes ≡ other.now.attributes) }
     {
         self.attributes.as_slice() == other.attributes.as_slice()
     }
 
-    /// An equal table.
+    /// Copies the table.
     pub fn copy(&self) -> Result<Table, Memory>
         ensures { IfOk result (λ t. t ≡ self.now) }
     {
@@ -181,8 +200,8 @@ impl Table {
             Some(title) => Some(title.copy()?),
             None => None,
         };
-        let objects = copies(alloc, &self.objects)?;
-        let attributes = copies(alloc, self.attributes.as_slice())?;
+        let objects = copy_names(alloc, self.objects())?;
+        let attributes = copy_names(alloc, self.attributes())?;
         let rows = self.rows.copy()?;
         match Table::new(alloc, title, objects, attributes, rows) {
             Ok(table) => Ok(table),
@@ -191,8 +210,8 @@ impl Table {
     }
 }
 
-/// The names in their order, or the place of the first that stood before.
-fn in_order(alloc: Global, names: Vec<Name>) -> Result<IndexSet<Name>, TableFault>
+/// The names in their order. It refuses the first that stood before.
+fn distinct_names(alloc: Global, names: Vec<Name>) -> Result<IndexSet<Name>, TableFault>
     requires { vec_len names ≤ MAX_ATTRIBUTES }
     ensures names { IfOk result (λ set. set.keys ≡ names.items) }
     ensures few { ¬ IsErrOf result TableFault.TooMany }
@@ -202,7 +221,7 @@ fn in_order(alloc: Global, names: Vec<Name>) -> Result<IndexSet<Name>, TableFaul
     let mut set = IndexSet::with_capacity(alloc, names.len())?;
     let mut place = 0;
     for name in names {
-        let added = put(&mut set, name)?;
+        let added = insert_name(&mut set, name)?;
         if !added {
             return Err(TableFault::DuplicateAttribute(place));
         }
@@ -211,8 +230,8 @@ fn in_order(alloc: Global, names: Vec<Name>) -> Result<IndexSet<Name>, TableFaul
     Ok(set)
 }
 
-/// Puts the name behind the others where it is not among them, and says whether it was put.
-fn put(set: &mut IndexSet<Name>, name: Name) -> Result<bool, Memory>
+/// Puts the name behind the others if it is not among them, and returns whether it did.
+fn insert_name(set: &mut IndexSet<Name>, name: Name) -> Result<bool, Memory>
     ensures added { IfOk result (λ added. added ≡ not (list_any (bytes_eq name) set.old.keys)) }
     ensures keys { IfOk result (λ added. added ≡ true → set.new.keys ≡ set.old.keys ++ name ∷ []) }
 {
@@ -222,8 +241,8 @@ fn put(set: &mut IndexSet<Name>, name: Name) -> Result<bool, Memory>
     }
 }
 
-/// Copies of the names.
-fn copies(alloc: Global, names: &[Name]) -> Result<Vec<Name>, Memory>
+/// Copies the names.
+fn copy_names(alloc: Global, names: &[Name]) -> Result<Vec<Name>, Memory>
     ensures { IfOk result (λ v. v.items ≡ names.now) }
 {
     let mut list = Vec::with_capacity(alloc, names.len())?;

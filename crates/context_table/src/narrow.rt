@@ -1,88 +1,92 @@
-//! Tables without the names of their objects, with rows in sets as narrow as the table.
+//! Narrow tables: rows in as few words as have room for them.
 
-ghost use Rattle.std.specs.Prelude.{◌≡◌, ◌≤◌, ℕ, None, Some, IfOk, OnOk, IsErrOf, vec_len};
-ghost use Rattle.context_table.specs.Table.{first_repeat};
-ghost use Rattle.context_table.specs.Narrow.{context_in, without_objects};
+ghost use Rattle.std.specs.Prelude.{◌≡◌, ◌≤◌, ℕ, [], None, Some, IfOk, OnOk, IsErrOf, length, vec_len};
+ghost use Rattle.context_table.specs.Table.{first_repeat, untitled_context};
+ghost use Rattle.context_table.specs.Narrow.{context_in};
 
 use crate::rows::{NarrowRows, narrow_rows};
-use crate::{Table, TableFault};
+use crate::{Table, TableFault, copy_names};
 use derivation::Rows;
-use fca_model::{MAX_ATTRIBUTES, Memory, Name};
+use fca_model::{MAX_ATTRIBUTES, MAX_OBJECTS, Memory, Name};
 use std::alloc::Global;
 use std::marker::Model;
 
-/// A context with the names of its attributes, in as few words a row as have room for it.
+/// A context with the names of its objects and attributes, and no title. Its rows are in as few words as have room for them.
 #[derive(Drop)]
 pub struct NarrowTable {
-    /// A table of no objects, which has the names.
-    names: Table,
+    objects: Vec<Name>,
+    /// A table of no objects, which has the names of the attributes.
+    attributes: Table,
     rows: NarrowRows,
 }
 
 impl Model for NarrowTable {
-    ghost use Rattle.std.specs.Prelude.{◌≡◌};
-    ghost use Rattle.context_table.specs.Narrow.{NamedAttributes, context_in};
+    ghost use Rattle.std.specs.Prelude.{◌≡◌, ◌≤◌, None, length, vec_len};
+    ghost use Rattle.fca_model.specs.Tables.{NamedContext};
+    ghost use Rattle.fca_model.specs.declared.TheConstants.{MAX_OBJECTS};
+    ghost use Rattle.context_table.specs.Narrow.{context_in};
 
-    ghost Value = { NamedAttributes };
+    ghost Value = { NamedContext };
 
-    ghost view = { λ t. record { attributes = t.names.attributes; context = context_in t.rows } };
+    ghost view = { λ t. record { title = None; objects = t.objects.items; attributes = t.attributes.attributes; context = context_in t.rows } };
 
-    ghost invariant = { λ t. t.names.context.width ≡ (context_in t.rows).width };
+    ghost invariant = { λ t. record {
+      each_object : vec_len t.objects ≡ length (context_in t.rows).rows;
+      few_objects : vec_len t.objects ≤ MAX_OBJECTS;
+      width : t.attributes.context.width ≡ (context_in t.rows).width;
+    } };
 }
 
 impl NarrowTable {
-    /// The table of these attributes and rows. An attribute with the name of an earlier one is told by the least such place.
+    /// The table of these names and rows. It refuses the first attribute that has the name of an earlier one.
     pub fn new(
         alloc: Global,
+        objects: Vec<Name>,
         attributes: Vec<Name>,
         rows: NarrowRows,
     ) -> Result<NarrowTable, TableFault>
+        requires objects { vec_len objects ≡ length (context_in rows).rows }
+        requires few_objects { vec_len objects ≤ MAX_OBJECTS }
         requires attributes { vec_len attributes ≡ (context_in rows).width }
-        requires few { vec_len attributes ≤ MAX_ATTRIBUTES }
-        ensures table { IfOk result (λ table. table ≡ record { attributes = attributes.items; context = context_in rows }) }
-        ensures narrow { ¬ IsErrOf result TableFault.TooMany }
+        requires few_attributes { vec_len attributes ≤ MAX_ATTRIBUTES }
+        ensures table { IfOk result (λ t. t ≡ record { title = None; objects = objects.items; attributes = attributes.items; context = context_in rows }) }
+        ensures not_too_many { ¬ IsErrOf result TableFault.TooMany }
         ensures repeated { (i : ℕ) → result ≡ Err (TableFault.DuplicateAttribute i) → first_repeat attributes.items ≡ Some i }
         ensures differing { OnOk result (first_repeat attributes.items ≡ None) }
     {
         let none = Rows::new(alloc, attributes.len() as u32)?;
         match Table::new(alloc, None, Vec::new(alloc), attributes, none) {
-            Ok(names) => Ok(NarrowTable { names, rows }),
+            Ok(attributes) => Ok(NarrowTable {
+                objects,
+                attributes,
+                rows,
+            }),
             Err(fault) => Err(fault),
         }
     }
 
-    /// The table once more, without the names of its objects.
+    /// A copy of the table without its title.
     pub fn of(alloc: Global, table: &Table) -> Result<NarrowTable, Memory>
-        ensures { IfOk result (λ narrow. narrow ≡ without_objects table.now) }
+        ensures { IfOk result (λ narrow. narrow ≡ untitled_context table.now) }
     {
         let rows = narrow_rows(alloc, table.rows())?;
-        let attributes = attribute_names(alloc, table)?;
-        match NarrowTable::new(alloc, attributes, rows) {
+        let objects = copy_names(alloc, table.objects())?;
+        let attributes = copy_names(alloc, table.attributes())?;
+        match NarrowTable::new(alloc, objects, attributes, rows) {
             Ok(narrow) => Ok(narrow),
             Err(_) => Err(Memory),
         }
     }
 
-    /// A table of no objects, which has the names of the attributes, and the rows.
-    pub fn into_parts(self) -> (Table, NarrowRows)
-        ensures attributes { result.0.attributes ≡ self.attributes }
-        ensures width { result.0.context.width ≡ self.context.width }
-        ensures context { context_in result.1 ≡ self.context }
+    /// The names of the objects, a table of no objects that has the names of the attributes, and the rows.
+    pub fn into_parts(self) -> (Vec<Name>, Table, NarrowRows)
+        ensures objects { result.0.items ≡ self.objects }
+        ensures attributes { result.1.attributes ≡ self.attributes }
+        ensures context { context_in result.2 ≡ self.context }
+        ensures each_object { vec_len result.0 ≡ length self.context.rows }
+        ensures few_objects { vec_len result.0 ≤ MAX_OBJECTS }
+        ensures width { result.1.context.width ≡ self.context.width }
     {
-        (self.names, self.rows)
+        (self.objects, self.attributes, self.rows)
     }
-}
-
-/// Copies of the names of the attributes.
-fn attribute_names(alloc: Global, table: &Table) -> Result<Vec<Name>, Memory>
-    ensures names { IfOk result (λ names. names.items ≡ table.now.attributes) }
-    ensures counted { IfOk result (λ names. vec_len names ≡ table.now.context.width) }
-    ensures few { table.now.context.width ≤ MAX_ATTRIBUTES }
-{
-    let width = table.rows().width();
-    let mut names = Vec::with_capacity(alloc, width as usize)?;
-    for attribute in 0..width {
-        names.push(table.attribute_name(attribute).copy()?)?;
-    }
-    Ok(names)
 }

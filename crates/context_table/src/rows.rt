@@ -1,4 +1,4 @@
-//! Rows in as few words as have room for them.
+//! Narrow rows: rows in as few words as have room for them.
 
 ghost use Rattle.std.specs.Prelude.{◌≡◌, IfOk};
 ghost use Rattle.context_table.specs.Narrow.{context_in};
@@ -17,7 +17,7 @@ pub enum NarrowRows {
     All(RowsOf<WORDS>),
 }
 
-/// These rows once more, in as few words as have room for them.
+/// Copies the rows into as few words as have room for them.
 pub fn narrow_rows(alloc: Global, rows: &Rows) -> Result<NarrowRows, Memory>
     ensures { IfOk result (λ narrow. context_in narrow ≡ rows.now) }
 {

@@ -12,7 +12,7 @@ use Rattle.std.specs.Str.Lossy.{utf8_valid_len}
 use Rattle.fca_model.specs.Sets.{Set}
 use Rattle.fca_model.specs.Tables.{Text, NamedContext}
 use Rattle.fca_model.specs.declared.TheConstants.{MAX_ATTRIBUTES, MAX_OBJECTS}
-use Rattle.context_table.specs.Table.{IsTable, repeat_from}
+use Rattle.context_table.specs.Table.{IsTable, repeat_from, untitled_context}
 use Rattle.text_pieces.specs.Lists.{EachName, EachWide}
 use Rattle.text_pieces.proofs.ItemLemmas.{EachWide-from_All}
 use Rattle.text_pieces.proofs.TextLemmas.{IsUtf8-one}
@@ -25,7 +25,7 @@ use Rattle.csv.specs.declared.parser.State.TheVariants as st
 use lib.Utf8.{encode}
 use Rattle.csv_context.specs.Records.{Record, csv_records}
 use Rattle.csv_context.specs.Form.{attributes_form, row_form, objects_form, table_form, csv_form}
-use Rattle.csv_context.specs.Written.{cell_text, header_record, object_record, object_records, table_records, text_of, csv_text, untitled}
+use Rattle.csv_context.specs.Written.{cell_text, header_record, object_record, object_records, table_records, text_of, csv_text}
 use Rattle.csv_context.specs.declared.CsvFault.{CsvFault}
 use Rattle.csv_context.proofs.WrittenTexts.{EachText, IsUtf8-text_of}
 
@@ -123,7 +123,7 @@ objects-back width i seen (name ∷ names) above (row ∷ rows) named wide same 
     let rest = objects-back width (i + 1) (seen ++ name ∷ []) names (above ++ row ∷ []) rows named.1 wide.1 (omega arith) (omega arith) in
     rw (within, whole, named.0.faultless, row-back i 2 [] row) (rest ∙ rw (append_assoc seen (name ∷ []) names, append_assoc above (row ∷ []) rows) refl)
 
-table-back : (t : NamedContext) → IsTable t → EachName t.objects → EachName t.attributes → table_form (table_records t) ≡ Ok (untitled t)
+table-back : (t : NamedContext) → IsTable t → EachName t.objects → EachName t.attributes → table_form (table_records t) ≡ Ok (untitled_context t)
 table-back t table objects attributes =
     let few : length t.objects ≤ MAX_OBJECTS = table.few_objects in
     let width : length t.attributes ≡ t.context.width = table.each_attribute in
@@ -135,7 +135,7 @@ table-back t table objects attributes =
     rw (within, attributes-back [] t.attributes 0 2 attributes table.differing, objects-back (length t.attributes) 2 [] t.objects [] t.context.rows objects wide table.each_object (omega arith)) (ap of_width width)
 
 -- reading what was written gives the table without its title
-pub csv_form-csv_text : (t : NamedContext) → IsTable t → EachName t.objects → EachName t.attributes → csv_form (csv_text t) ≡ Ok (untitled t)
+pub csv_form-csv_text : (t : NamedContext) → IsTable t → EachName t.objects → EachName t.attributes → csv_form (csv_text t) ≡ Ok (untitled_context t)
 unfolding csv_form AllText
 csv_form-csv_text t table objects attributes =
     let header : AllText (header_record t) = (object-text, AllText-names t.attributes attributes) in

@@ -1,5 +1,5 @@
 -- The written CSV form of a table.
-use Rattle.std.specs.Prelude.{ℕ, Bool, cond, List, [], ◌∷◌, ◌++◌, None, map, codes}
+use Rattle.std.specs.Prelude.{ℕ, Bool, cond, List, [], ◌∷◌, ◌++◌, map, codes}
 use Rattle.fca_model.specs.Sets.{Set}
 use Rattle.fca_model.specs.Tables.{Text, NamedContext}
 use Rattle.csv.specs.Writing.{default_writer, fields_text, row_text}
@@ -39,7 +39,3 @@ text_of (fields ∷ records) = row_text default_writer fields ++ text_of records
 -- the bytes of the file
 abbrev pub csv_text : NamedContext → List ℕ
 csv_text t = text_of (table_records t)
-
--- the table without its title
-abbrev pub untitled : NamedContext → NamedContext
-untitled t = record t { title = None }

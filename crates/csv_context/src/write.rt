@@ -2,12 +2,12 @@
 
 ghost use Rattle.std.specs.Prelude.{◌≡◌, ◌≤◌, ◌+◌, ◌-◌, ◌*◌, ◌++◌, ◌∷◌, [], IfOk, OnOk, Ok, drop, length, map, take};
 ghost use Rattle.fca_model.specs.Names.{IsName};
-ghost use Rattle.context_table.specs.Table.{IsTable};
+ghost use Rattle.context_table.specs.Table.{IsTable, untitled_context};
 ghost use Rattle.text_pieces.specs.Lists.{EachName};
 ghost use Rattle.csv.specs.Writing as csv;
 ghost use Rattle.csv.specs.Writing.{default_writer, row_text};
 ghost use Rattle.csv_context.specs.Form.{csv_form};
-ghost use Rattle.csv_context.specs.Written.{cells_text, csv_text, header_record, object_record, object_records, text_of, untitled};
+ghost use Rattle.csv_context.specs.Written.{cells_text, csv_text, header_record, object_record, object_records, text_of};
 
 use attr_bits::Attrs;
 use context_table::Table;
@@ -20,7 +20,7 @@ const BLOCK: u32 = 64;
 /// The written form of the table.
 pub fn write_csv(alloc: Global, table: &Table) -> Result<Vec<u8>, Memory>
     ensures written { IfOk result (λ text. text.items ≡ csv_text table.now) }
-    ensures reads_back { IfOk result (λ text. csv_form text.items ≡ Ok (untitled table.now)) }
+    ensures reads_back { IfOk result (λ text. csv_form text.items ≡ Ok (untitled_context table.now)) }
 {
     let mut text = Vec::new(alloc);
     write_header(&mut text, table)?;

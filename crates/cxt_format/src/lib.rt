@@ -9,7 +9,7 @@ mod words;
 mod write;
 
 use fca_model::{Memory, NO_MEMORY};
-pub use narrow::read_narrow;
+pub use narrow::read_narrow_cxt;
 pub use read::read_cxt;
 use std::alloc::{AllocError, AllocFailed};
 use std::error::Error;

@@ -1,11 +1,11 @@
-//! The reader of tables without the names of their objects.
+//! The reader of narrow tables.
 
 ghost use Rattle.std.specs.Prelude.{◌≡◌, ◌<◌, ◌≤◌, ◌^◌, [], IfOk, length};
 ghost use Rattle.text_pieces.specs.Lines.{lines};
 ghost use Rattle.context_table.specs.Narrow.{context_in};
 ghost use Rattle.cxt_format.specs.Form as form;
 ghost use Rattle.cxt_format.specs.Form.{Tells, Takes};
-ghost use Rattle.cxt_format.specs.Narrow.{nameless};
+ghost use Rattle.cxt_format.specs.Narrow.{untitled_form};
 
 use crate::CxtFault;
 use crate::read::{
@@ -17,9 +17,9 @@ use fca_model::{MAX_ATTRIBUTES, MAX_OBJECTS};
 use std::alloc::Global;
 use text_pieces::Lines;
 
-/// The table that the bytes of a file write, without its title and the names of its objects. Its rows are put into sets as narrow as the table at once.
-pub fn read_narrow(alloc: Global, bytes: &[u8]) -> Result<NarrowTable, CxtFault>
-    ensures { Tells result (nameless (form.cxt_form bytes.now)) }
+/// Reads the table that the bytes of a file write, without its title. Each row goes at once into as few words as have room for it.
+pub fn read_narrow_cxt(alloc: Global, bytes: &[u8]) -> Result<NarrowTable, CxtFault>
+    ensures { Tells result (untitled_form (form.cxt_form bytes.now)) }
 {
     match str::from_utf8(bytes) {
         Ok(text) => read_text(alloc, text),
@@ -29,30 +29,30 @@ pub fn read_narrow(alloc: Global, bytes: &[u8]) -> Result<NarrowTable, CxtFault>
 
 fn read_text(alloc: Global, text: &str) -> Result<NarrowTable, CxtFault>
     requires { length text.now < 2 ^ 63 }
-    ensures { Tells result (nameless (form.table_form (lines (form.without_mark text.now)))) }
+    ensures { Tells result (untitled_form (form.table_form (lines (form.without_mark text.now)))) }
 {
     let mut lines = Lines::new(without_mark(text));
     let head = read_head(alloc, &mut lines)?;
     read_body(alloc, head, &mut lines)
 }
 
-/// What stands behind the head. The names of the objects are dropped before the others are read.
+/// Reads what stands behind the head.
 fn read_body(alloc: Global, head: Head, lines: &mut Lines<'_>) -> Result<NarrowTable, CxtFault>
     requires objects { head.objects ≤ MAX_OBJECTS }
     requires attributes { head.attributes ≤ MAX_ATTRIBUTES }
-    ensures { Tells result (nameless (form.body_form head lines.old)) }
+    ensures { Tells result (untitled_form (form.body_form head lines.old)) }
 {
-    read_objects(alloc, head.objects, lines)?;
+    let objects = read_objects(alloc, head.objects, lines)?;
     let attributes = read_attributes(alloc, head.attributes, lines)?;
     let rows = read_narrow_rows(alloc, head.attributes as u32, head.objects, lines)?;
     read_end(lines)?;
-    match NarrowTable::new(alloc, attributes, rows) {
+    match NarrowTable::new(alloc, objects, attributes, rows) {
         Ok(table) => Ok(table),
         Err(_) => Err(CxtFault::Memory),
     }
 }
 
-/// The rows, in as few words as have room for them.
+/// Reads the rows into as few words as have room for them.
 fn read_narrow_rows(
     alloc: Global,
     width: u32,
@@ -62,6 +62,7 @@ fn read_narrow_rows(
     requires { width ≤ MAX_ATTRIBUTES }
     ensures form { Takes (λ rows. (context_in rows).rows) result (form.rows_form width [] count lines.old) lines.new }
     ensures width { IfOk result (λ rows. (context_in rows).width ≡ width) }
+    ensures counted { IfOk result (λ rows. length (context_in rows).rows ≡ count) }
 {
     Ok(match WordCount::of(width) {
         WordCount::One => NarrowRows::One(read_rows(alloc, width, count, lines)?),

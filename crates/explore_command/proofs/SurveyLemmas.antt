@@ -13,15 +13,16 @@ use Rattle.explore_state.specs.Basis.{IsBasisBeside}
 use Rattle.oracle_expert.specs.Oracles.{Recall}
 use Rattle.expert_panel.specs.Explorations.{HasAgreed, is_part}
 use Rattle.basis_report.specs.Surveys.{survey_text}
-use Rattle.fca_command.specs.declared.recipe.Recipe.{Recipe}
-use Rattle.explore_command.specs.Surveyed.{made, surveyed_text}
+use Rattle.context_table.specs.Recipes.{recipe_table}
+use Rattle.context_table.specs.declared.recipe.Recipe.{Recipe}
+use Rattle.explore_command.specs.Surveyed.{surveyed_text}
 
-pub made_width : (r : Recipe) → (made r).context.width ≡ r.attributes
+pub recipe_width : (r : Recipe) → (recipe_table r).context.width ≡ r.attributes
 unfolding made_table
-made_width r = refl
+recipe_width r = refl
 
 -- a table without objects has no row that another lacks
-pub is_part-none : (s m d : ℕ) (C : Context) → is_part (made (record { seed = s; objects = 0; attributes = m; density = d })).context C ≡ true
+pub is_part-none : (s m d : ℕ) (C : Context) → is_part (recipe_table (record { seed = s; objects = 0; attributes = m; density = d })).context C ≡ true
 unfolding made_table
 is_part-none s m d C = refl
 

@@ -3,9 +3,9 @@
 ghost use Rattle.std.specs.Prelude.{◌≡◌, ◌≤◌, true, [], All, IfOk, length, replicate, vec_len};
 ghost use Rattle.fca_model.specs.Exploration.{is_expert, plain};
 ghost use Rattle.fca_model.specs.Pseudo.{intents, basis};
-ghost use Rattle.fca_model.specs.declared.TheConstants.{MAX_ATTRIBUTES};
-ghost use Rattle.fca_command.specs.Recipes.{HasRecipe};
-ghost use Rattle.explore_command.specs.Surveyed.{made, surveyed_text};
+ghost use Rattle.fca_model.specs.declared.TheConstants.{MAX_SURVEYED};
+ghost use Rattle.context_table.specs.Recipes.{KeepsLimits, recipe_table};
+ghost use Rattle.explore_command.specs.Surveyed.{surveyed_text};
 
 use crate::play::TURNS;
 use basis_report::survey_text;
@@ -28,11 +28,11 @@ pub fn survey<R: Threads + Wait + Sync>(
     recipe: &Recipe,
     experts: u8,
 ) -> Result<Vec<u8>, Memory>
-    requires recipe { HasRecipe 46 recipe.now.objects recipe.now.attributes recipe.now.density }
+    requires recipe { KeepsLimits MAX_SURVEYED recipe.now }
     requires experts { is_expert experts ≡ true }
-    ensures { IfOk result (λ text. text.items ≡ surveyed_text (made recipe.now)) }
+    ensures { IfOk result (λ text. text.items ≡ surveyed_text (recipe_table recipe.now)) }
 {
-    let table = made(alloc, recipe)?;
+    let table = recipe.table(alloc)?;
     survey_of(rt, alloc, recipe, &table, experts)
 }
 
@@ -44,9 +44,9 @@ fn survey_of<R: Threads + Wait + Sync>(
     table: &Table,
     experts: u8,
 ) -> Result<Vec<u8>, Memory>
-    requires recipe { HasRecipe 46 recipe.now.objects recipe.now.attributes recipe.now.density }
+    requires recipe { KeepsLimits MAX_SURVEYED recipe.now }
     requires experts { is_expert experts ≡ true }
-    requires table { table.now ≡ made recipe.now }
+    requires table { table.now ≡ recipe_table recipe.now }
     ensures { IfOk result (λ text. text.items ≡ surveyed_text table.now) }
 {
     let concepts = concepts_of(alloc, table)?;
@@ -71,20 +71,6 @@ fn members_of<R: Threads + Sync>(rt: &R, alloc: Global, table: &Table) -> Result
     Ok(list.as_slice().len())
 }
 
-/// The table of the recipe.
-fn made(alloc: Global, recipe: &Recipe) -> Result<Table, Memory>
-    requires { HasRecipe MAX_ATTRIBUTES recipe.now.objects recipe.now.attributes recipe.now.density }
-    ensures { IfOk result (λ table. table ≡ made recipe.now) }
-{
-    Table::make(
-        alloc,
-        recipe.seed,
-        recipe.objects,
-        recipe.attributes,
-        recipe.density,
-    )
-}
-
 /// How many implications so many oracles of the table accept, where they explore its attributes from no object on.
 fn explored<R: Threads + Wait + Sync>(
     rt: &R,
@@ -93,9 +79,9 @@ fn explored<R: Threads + Wait + Sync>(
     table: &Table,
     experts: u8,
 ) -> Result<usize, Memory>
-    requires recipe { HasRecipe 46 recipe.now.objects recipe.now.attributes recipe.now.density }
+    requires recipe { KeepsLimits MAX_SURVEYED recipe.now }
     requires experts { is_expert experts ≡ true }
-    requires table { table.now ≡ made recipe.now }
+    requires table { table.now ≡ recipe_table recipe.now }
     ensures { IfOk result (λ count. count ≡ length (basis table.now.context)) }
 {
     let oracles = copies(alloc, table, experts)?;
@@ -108,21 +94,19 @@ fn explored<R: Threads + Wait + Sync>(
 
 /// The exploration of the recipe's attributes by so many experts, from no object on.
 fn opened(alloc: Global, recipe: &Recipe, experts: u8) -> Result<Explore, Memory>
-    requires { HasRecipe 46 recipe.now.objects recipe.now.attributes recipe.now.density }
+    requires { KeepsLimits MAX_SURVEYED recipe.now }
     ensures opening { IfOk result (λ explore. explore.opening ≡ record {
-      table = made (record { seed = recipe.now.seed; objects = 0; attributes = recipe.now.attributes; density = recipe.now.density });
+      table = recipe_table (record { seed = recipe.now.seed; objects = 0; attributes = recipe.now.attributes; density = recipe.now.density });
       experts = experts;
       settings = plain;
     }) }
     ensures journal { IfOk result (λ explore. explore.journal ≡ []) }
 {
-    let bare = made(
-        alloc,
-        &Recipe {
-            objects: 0,
-            ..*recipe
-        },
-    )?;
+    let bare = Recipe {
+        objects: 0,
+        ..*recipe
+    };
+    let bare = bare.table(alloc)?;
     match Explore::open(alloc, bare, experts) {
         Ok(explore) => Ok(explore),
         Err(_) => Err(Memory),

@@ -4,10 +4,11 @@ use Rattle.std.specs.List.{list_all}
 use Rattle.std.specs.Str.{is_utf8}
 use Rattle.fca_model.specs.Tables.{Text}
 use Rattle.fca_model.specs.Exploration.{is_expert}
-use Rattle.fca_model.specs.declared.TheConstants.{MAX_ATTRIBUTES}
+use Rattle.fca_model.specs.declared.TheConstants.{MAX_ATTRIBUTES, MAX_SURVEYED}
+use Rattle.context_table.specs.Recipes.{KeepsLimits}
 use Rattle.fca_command.specs.Experts.{experts_said, count_said}
 use Rattle.fca_command.specs.Flags.{known_said, behind_known, names_said, behind_names, serving_said}
-use Rattle.fca_command.specs.Recipes.{recipe_said, HasRecipe}
+use Rattle.fca_command.specs.Recipes.{recipe_said}
 use Rattle.fca_command.specs.declared.command.Form.{Form}
 use Rattle.fca_command.specs.declared.command.Form.TheVariants.{Cxt, Csv}
 use Rattle.fca_command.specs.declared.command.Command.{Command}
@@ -126,15 +127,11 @@ make_command (seed ∷ objects ∷ attributes ∷ density ∷ []) =
     option_map (λ r. Make r.seed r.objects r.attributes r.density) (recipe_said MAX_ATTRIBUTES seed objects attributes density)
 make_command _ = None
 
--- the most attributes of a table that is surveyed
-abbrev pub most_surveyed : ℕ
-most_surveyed = 46
-
 -- `survey S O M D E`
 abbrev pub survey_command : List Text → Option Command
 survey_command (seed ∷ objects ∷ attributes ∷ density ∷ experts ∷ []) =
     option_and_then (λ r. option_map (λ count. Survey r.seed r.objects r.attributes r.density count) (count_said experts))
-    (recipe_said most_surveyed seed objects attributes density)
+    (recipe_said MAX_SURVEYED seed objects attributes density)
 survey_command _ = None
 
 -- the command of this name by the words behind it
@@ -223,7 +220,9 @@ is_plain _ = true
 abbrev pub IsWithinLimits : Command → Type 0
 IsWithinLimits (Explore file known names experts) = is_expert (length experts) ≡ true
 IsWithinLimits (Serve file known experts holders listen) = (is_expert experts ≡ true) × (is_expert holders ≡ true)
-IsWithinLimits (Make seed objects attributes density) = HasRecipe MAX_ATTRIBUTES objects attributes density
+IsWithinLimits (Make seed objects attributes density) =
+    KeepsLimits MAX_ATTRIBUTES (record { seed = seed; objects = objects; attributes = attributes; density = density })
 IsWithinLimits (Survey seed objects attributes density experts) =
-    HasRecipe most_surveyed objects attributes density × (is_expert experts ≡ true)
+    KeepsLimits MAX_SURVEYED (record { seed = seed; objects = objects; attributes = attributes; density = density })
+    × (is_expert experts ≡ true)
 IsWithinLimits _ = ⊤

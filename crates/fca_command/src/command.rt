@@ -12,11 +12,8 @@ use crate::experts::{count_said, experts_said};
 use crate::flags::{copied, serving_said, split_known, split_names};
 use crate::recipe::recipe_said;
 use crate::words::Words;
-use fca_model::{MAX_ATTRIBUTES, Memory, Word};
+use fca_model::{MAX_ATTRIBUTES, MAX_SURVEYED, Memory, Word};
 use std::alloc::Global;
-
-/// The most attributes of a table that is surveyed: an exploration of it has fewer turns than an expert may take.
-const MAX_SURVEYED: u32 = 46;
 
 /// A form of tables.
 #[derive(Clone, Copy)]

@@ -11,5 +11,5 @@ mod words;
 
 pub use attributes::attributes_said;
 pub use command::{Command, Form, command_of};
-pub use recipe::Recipe;
+pub use context_table::Recipe;
 pub use words::Words;

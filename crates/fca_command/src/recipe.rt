@@ -1,24 +1,14 @@
-//! The numbers of which a table is made.
+//! The recipe of a generated table, as the words of a command give it.
 
 ghost use Rattle.std.specs.Prelude.{◌≡◌, IfSome};
-ghost use Rattle.fca_command.specs.Recipes.{recipe_said, HasRecipe};
+ghost use Rattle.context_table.specs.Recipes.{KeepsLimits};
+ghost use Rattle.fca_command.specs.Recipes.{recipe_said};
 
 use crate::numbers::number_said;
+use context_table::{MAX_DENSITY, Recipe};
 use fca_model::{MAX_OBJECTS, Word};
 
-/// Of eight cells, the most that may be crosses.
-const MAX_DENSITY: u8 = 8;
-
-/// What a table is made of: the seed of its cells, how many objects and attributes it has, and how many of eight cells are crosses.
-#[derive(Clone, Copy)]
-pub struct Recipe {
-    pub seed: u64,
-    pub objects: u32,
-    pub attributes: u32,
-    pub density: u8,
-}
-
-/// The recipe that these words say, of a table with no more than `most` attributes.
+/// The recipe that these words give, of a table with at most `most` attributes.
 pub(crate) fn recipe_said(
     most: u32,
     seed: &Word,
@@ -27,7 +17,7 @@ pub(crate) fn recipe_said(
     density: &Word,
 ) -> Option<Recipe>
     ensures recipe { result ≡ recipe_said most seed.now objects.now attributes.now density.now }
-    ensures limits { IfSome result (λ r. HasRecipe most r.objects r.attributes r.density) }
+    ensures limits { IfSome result (KeepsLimits most) }
 {
     Some(Recipe {
         seed: number_said(u64::MAX, seed.bytes())?,

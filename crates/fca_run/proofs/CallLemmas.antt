@@ -11,7 +11,7 @@ use Rattle.fca_io.specs.Shelves.{Told}
 use Rattle.fca_command.specs.Commands.{reported, files_of, first_of, reads_input, may_end_open, is_plain}
 use Rattle.fca_command.specs.declared.command.Command.{Command}
 use Rattle.fca_command.specs.declared.command.Command.TheVariants.{Concepts, Lattice, Basis, Direct, Follows, Convert, Reduce, Arrows, Scale, Replay, Explore, Serve, Make, Survey}
-use Rattle.fca_command.specs.declared.recipe.Recipe.{Recipe}
+use Rattle.context_table.specs.declared.recipe.Recipe.{Recipe}
 use Rattle.command_io.specs.Readings.{Reading, then, MayRead, MayRefuse, Rises}
 use Rattle.command_io.specs.Readings.Reading.{Read}
 use Rattle.command_io.specs.Known.{Start, start_read}

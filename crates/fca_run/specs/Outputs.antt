@@ -4,7 +4,8 @@ use Rattle.fca_model.specs.Tables.{Text}
 use Rattle.fca_io.specs.Shelves.{Told}
 use Rattle.context_scaling.specs.Scaling.{scaled}
 use Rattle.fca_command.specs.Commands.{reported}
-use Rattle.fca_command.specs.declared.recipe.Recipe.{Recipe}
+use Rattle.context_table.specs.Recipes.{recipe_table}
+use Rattle.context_table.specs.declared.recipe.Recipe.{Recipe}
 use Rattle.fca_command.specs.declared.command.Command.{Command}
 use Rattle.fca_command.specs.declared.command.Command.TheVariants.{Scale, Replay, Make, Survey}
 use Rattle.command_io.specs.Readings.{Reading, then}
@@ -12,7 +13,7 @@ use Rattle.command_io.specs.Readings.Reading.{Untold, Read}
 use Rattle.command_io.specs.Forms.{values_read, plan_read}
 use Rattle.command_io.specs.Endings.{Output, finished}
 use Rattle.cxt_format.specs.Written.{cxt_text}
-use Rattle.explore_command.specs.Surveyed.{made, surveyed_text}
+use Rattle.explore_command.specs.Surveyed.{surveyed_text}
 use Rattle.replay_command.specs.Replayed.{replay_output}
 use Rattle.fca_run.specs.Reports.{report_read}
 
@@ -29,11 +30,11 @@ scale_output values plan files =
 
 -- the table of a recipe, in the Burmeister form
 abbrev pub made_output : Recipe → Output
-made_output recipe = finished (cxt_text (made recipe))
+made_output recipe = finished (cxt_text (recipe_table recipe))
 
 -- what is counted of it and of an exploration by its oracles
 abbrev pub survey_output : Recipe → Output
-survey_output recipe = finished (surveyed_text (made recipe))
+survey_output recipe = finished (surveyed_text (recipe_table recipe))
 
 -- ---- all commands
 

@@ -2,13 +2,12 @@
 
 ghost use Rattle.std.specs.Prelude.{◌≡◌, IfOk, IfErr, true};
 ghost use Rattle.fca_model.specs.Exploration.{is_expert};
-ghost use Rattle.fca_model.specs.declared.TheConstants.{MAX_ATTRIBUTES};
-ghost use Rattle.fca_command.specs.Recipes.{HasRecipe};
+ghost use Rattle.fca_model.specs.declared.TheConstants.{MAX_ATTRIBUTES, MAX_SURVEYED};
+ghost use Rattle.context_table.specs.Recipes.{KeepsLimits};
 ghost use Rattle.command_io.specs.Endings.{finished};
 ghost use Rattle.fca_run.specs.Outputs.{made_output, survey_output};
 
 use command_io::{Answer, Stop};
-use context_table::Table;
 use cxt_format::write_cxt;
 use explore_command::survey;
 use fca_command::Recipe;
@@ -19,7 +18,7 @@ use std::thread::Threads;
 
 /// The table of the recipe, in the Burmeister form.
 pub fn made_answer(alloc: Global, recipe: &Recipe) -> Result<Answer, Memory>
-    requires { HasRecipe MAX_ATTRIBUTES recipe.now.objects recipe.now.attributes recipe.now.density }
+    requires { KeepsLimits MAX_ATTRIBUTES recipe.now }
     ensures { IfOk result (λ answer. answer ≡ made_output recipe.now) }
 {
     Ok(Answer::finished(made_text(alloc, recipe)?))
@@ -27,16 +26,10 @@ pub fn made_answer(alloc: Global, recipe: &Recipe) -> Result<Answer, Memory>
 
 /// The recipe's table in the Burmeister form.
 fn made_text(alloc: Global, recipe: &Recipe) -> Result<Vec<u8>, Memory>
-    requires { HasRecipe MAX_ATTRIBUTES recipe.now.objects recipe.now.attributes recipe.now.density }
+    requires { KeepsLimits MAX_ATTRIBUTES recipe.now }
     ensures { IfOk result (λ text. finished text.items ≡ made_output recipe.now) }
 {
-    let table = Table::make(
-        alloc,
-        recipe.seed,
-        recipe.objects,
-        recipe.attributes,
-        recipe.density,
-    )?;
+    let table = recipe.table(alloc)?;
     write_cxt(alloc, &table)
 }
 
@@ -47,7 +40,7 @@ pub fn survey_answer<R: Threads + Wait + Sync>(
     recipe: &Recipe,
     experts: u8,
 ) -> Result<Answer, Stop>
-    requires recipe { HasRecipe 46 recipe.now.objects recipe.now.attributes recipe.now.density }
+    requires recipe { KeepsLimits MAX_SURVEYED recipe.now }
     requires experts { is_expert experts ≡ true }
     ensures output { IfOk result (λ answer. answer ≡ survey_output recipe.now) }
     ensures cause { IfErr result (λ stop. stop ≡ Stop.Memory) }

@@ -15,8 +15,7 @@ ghost use Rattle.fca_run.specs.Causes.{IsReportStop};
 use attr_bits::Attrs;
 use basis_report::{basis_json, concepts_json, direct_text, verdict_text};
 use canonical_basis::basis;
-use command_io::{Answer, Ending, Origin, Stop, narrow_under, table_under};
-use table_texts::{narrow_basis_text, packed_table_concepts, table_lattice_text};
+use command_io::{Answer, Ending, Origin, Stop, load_narrow_table, table_under};
 use context_reduce::{arrows, arrows_text, irreducible, part};
 use context_table::Table;
 use csv_context::write_csv;
@@ -28,6 +27,7 @@ use fca_model::{Memory, Word};
 use lectic_concepts::all_concepts;
 use std::alloc::Global;
 use std::thread::Threads;
+use table_texts::{narrow_basis_text, packed_table_concepts, table_lattice_text};
 
 /// What the command reports of the table in the file.
 pub fn report_answer<R: Threads + Sync, H: Shelf>(
@@ -50,7 +50,7 @@ pub fn report_answer<R: Threads + Sync, H: Shelf>(
     }
 }
 
-/// The basis of the table in the file, one member a line. The names of its objects and the bytes of the file are dropped before the basis is found.
+/// The basis of the table in the file, one member a line. The bytes of the file and the names of the objects are dropped before the basis is found.
 fn basis_lines<H: Shelf>(alloc: Global, shelf: &mut H, file: &Word) -> Result<Answer, Stop>
     ensures output { IfOk result (λ answer. MayRead (then (table_read file.now (H.tells shelf.old file.now)) (λ table. Read (finished (table_basis false table)))) answer) }
     ensures finished { IfOk result (λ answer. answer.ending ≡ Ending.Finished) }
@@ -58,7 +58,7 @@ fn basis_lines<H: Shelf>(alloc: Global, shelf: &mut H, file: &Word) -> Result<An
     ensures cause { IfErr result (IsFileStop file.now (H.tells shelf.old file.now)
         (Rose (H.faults shelf.old file.now) (H.faults shelf.new file.now)) Origin.File) }
 {
-    let table = narrow_under(alloc, shelf, file, Origin::File)?;
+    let table = load_narrow_table(alloc, shelf, file, Origin::File)?;
     Ok(Answer::finished(narrow_basis_text(alloc, table)?))
 }
 

@@ -4,7 +4,7 @@ use Rattle.std.proofs.lemmas.Option.{none-some}
 use Rattle.fca_model.specs.Context.{Context}
 use Rattle.context_table.specs.Table.{first_repeat}
 use Rattle.context_table.specs.Generated.{made_table, rows_from}
-use Rattle.context_table.proofs.NumberLemmas.{first_repeat-numbered}
+use Rattle.context_table.proofs.NumberLemmas.{first_repeat-numbered_names}
 use Rattle.context_table.proofs.Table.make.Goals as goal
 
 pub new-requires-2-clause-attributes : goal.new-requires-2-clause-attributes
@@ -23,11 +23,19 @@ pub unreachable-requires-in-Err-DuplicateAttribute : goal.unreachable-requires-i
 unreachable-requires-in-Err-DuplicateAttribute c =
     let fault = c.in-Err-DuplicateAttribute in
     let repeat = fault.ensures.repeated fault.field-0-0 (ap Err fault.field-0-is) in
-    let once = ap first_repeat c.in_ok-attributes.ensures ∙ first_repeat-numbered 109 c.args.attributes (omega arith) in
+    let once = ap first_repeat c.in_ok-attributes.ensures ∙ first_repeat-numbered_names 109 c.args.attributes (omega arith) in
     none-some _ (sym once ∙ repeat)
 
 pub returns-in-Ok : goal.returns-in-Ok
 unfolding made_table
 returns-in-Ok c =
-    let rows = c.in_ok-rows.ensures ∙ ap₂ (λ d x. record { width = c.args.attributes; rows = rows_from d c.args.objects c.args.attributes x }) c.new.ensures.density c.new.ensures.state in
-    c.in-Ok.ensures.table ∙ (λ i. record { title = None; objects = c.in_ok-objects.ensures i; attributes = c.in_ok-attributes.ensures i; context = rows i })
+    let rows = c.in_ok-rows.ensures ∙ ap₂ (λ d x. record {
+      width = c.args.attributes;
+      rows = rows_from d c.args.objects c.args.attributes x;
+    }) c.new.ensures.density c.new.ensures.state in
+    c.in-Ok.ensures.table ∙ (λ i. record {
+      title = None;
+      objects = c.in_ok-objects.ensures i;
+      attributes = c.in_ok-attributes.ensures i;
+      context = rows i;
+    })

@@ -5,8 +5,8 @@ use Rattle.fca_model.specs.Context.{Context}
 use Rattle.fca_model.specs.Tables.{NamedContext}
 use Rattle.explore_state.specs.History.{Opening}
 use Rattle.expert_panel.specs.Explorations.{is_part}
-use Rattle.fca_command.specs.declared.recipe.Recipe.{Recipe}
-use Rattle.explore_command.proofs.SurveyLemmas.{made_width, is_part-none, length-agreed, respecting_plain}
+use Rattle.context_table.specs.declared.recipe.Recipe.{Recipe}
+use Rattle.explore_command.proofs.SurveyLemmas.{recipe_width, is_part-none, length-agreed, respecting_plain}
 use Rattle.explore_command.proofs.surveys.explored.Goals as goal
 
 pub explore_with_oracles-requires-clause-width : goal.explore_with_oracles-requires-clause-width
@@ -16,7 +16,7 @@ explore_with_oracles-requires-clause-width g c κs within =
     let width : NamedContext → ℕ = λ t. t.context.width in
     let n : ℕ = c.in_ok-explore.explore.opening.table.context.width in
     let wide : width c.args.table.now ≡ n =
-    ap width c.requires.table ∙ made_width r ∙ sym (made_width none) ∙ sym (ap (λ (o : Opening). width o.table) c.in_ok-explore.ensures.opening) in
+    ap width c.requires.table ∙ recipe_width r ∙ sym (recipe_width none) ∙ sym (ap (λ (o : Opening). width o.table) c.in_ok-explore.ensures.opening) in
     All-weaker (λ (D : NamedContext). D ≡ c.args.table.now) (λ (D : NamedContext). width D ≡ n) (λ D same. ap width same ∙ wide) _ c.in_ok-oracles.ensures.same
 
 pub returns : goal.returns
@@ -27,7 +27,7 @@ returns g c =
     let bare = ap (λ (o : Opening). o.table) c.in_ok-explore.ensures.opening in
     let plainly = ap (λ (o : Opening). o.settings) c.in_ok-explore.ensures.opening in
     let small : c.in_ok-explore.explore.opening.table.context.width ≤ 46 =
-    (let wide = ap (λ (t : NamedContext). t.context.width) bare ∙ made_width _ in let few = c.requires.recipe.attributes in omega arith) in
+    (let wide = ap (λ (t : NamedContext). t.context.width) bare ∙ recipe_width _ in let few = c.requires.recipe.attributes in omega arith) in
     let same : All (λ (D : NamedContext). D.context ≡ C) c.in_ok-oracles.oracles.items =
     All-weaker (λ (D : NamedContext). D ≡ table) (λ (D : NamedContext). D.context ≡ C) (λ D e. ap (λ (t : NamedContext). t.context) e) _ c.in_ok-oracles.ensures.same in
     let part : is_part c.in_ok-explore.explore.opening.table.context C ≡ true =

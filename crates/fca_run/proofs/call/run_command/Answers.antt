@@ -5,7 +5,7 @@ use Rattle.fca_model.specs.Tables.{Text}
 use Rattle.fca_command.specs.Commands.{is_plain}
 use Rattle.fca_command.specs.declared.command.Command.{Command}
 use Rattle.fca_command.specs.declared.command.Command.TheVariants.{Explore, Serve}
-use Rattle.fca_command.specs.declared.recipe.Recipe.{Recipe}
+use Rattle.context_table.specs.declared.recipe.Recipe.{Recipe}
 use Rattle.command_io.specs.Endings.{IsUnread}
 use Rattle.command_io.specs.declared.stop.Stop.{Stop}
 use Rattle.command_io.specs.Streams.{moment}

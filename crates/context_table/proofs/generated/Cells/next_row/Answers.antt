@@ -1,7 +1,7 @@
 use Rattle.std.proofs.Common.{◌≡◌, ◌<◌, ◌+◌, ◌-◌, ◌*◌, ℕ, Bool, refl, sym, ap, ap₂, ◌∙◌, arith, min, subst}
 use Rattle.context_table.specs.Generated.{state_after, is_cross}
 use Rattle.context_table.proofs.CellLemmas.{HasCells, HasCells-none, HasCells-block, map-cells, state_after-add}
-use Rattle.context_table.proofs.generated.Cells.row.Goals as goal
+use Rattle.context_table.proofs.generated.Cells.next_row.Goals as goal
 
 pub loop-block-init : goal.loop-block-init
 unfolding state_after
@@ -29,11 +29,14 @@ loop-block-preserved c =
     let state : c.loop-block.self.state ≡ state_after (64 * b) seed = before.state ∙ ap (λ k. state_after k seed) start in
     let cells : HasCells cell n (64 * b) c.loop-block.row = subst (λ k. HasCells cell n k c.loop-block.row) start before.cells in
     record {
-      state = c.bits.ensures.state ∙ ap (state_after count) state ∙ state_after-add count (64 * b) seed ∙ (let sum : count + 64 * b ≡ min (64 * (b + 1)) n = omega arith in ap (λ k. state_after k seed) sum);
-      density = c.bits.ensures.density ∙ before.density;
+      state = c.next_bits.ensures.state ∙ ap (state_after count) state ∙ state_after-add count (64 * b) seed
+          ∙ (let sum : count + 64 * b ≡ min (64 * (b + 1)) n = omega arith in ap (λ k. state_after k seed) sum);
+      density = c.next_bits.ensures.density ∙ before.density;
       cells = subst (λ k. HasCells cell n k c.insert_bits.new.self) end
-          (HasCells-block cell (λ j. is_cross c.loop-block.self.density (state_after (j + 1) c.loop-block.self.state)) n (64 * b) count c.bits.result c.loop-block.row c.insert_bits.new.self cells inside few c.bits.ensures.cells
-          (λ i lt. ap₂ is_cross before.density (ap (state_after (i + 1)) state ∙ state_after-add (i + 1) (64 * b) seed ∙ (let e : i + 1 + 64 * b ≡ 64 * b + i + 1 = omega arith in ap (λ k. state_after k seed) e)))
+          (HasCells-block cell (λ j. is_cross c.loop-block.self.density (state_after (j + 1) c.loop-block.self.state)) n
+          (64 * b) count c.next_bits.result c.loop-block.row c.insert_bits.new.self cells inside few c.next_bits.ensures.cells
+          (λ i lt. ap₂ is_cross before.density (ap (state_after (i + 1)) state ∙ state_after-add (i + 1) (64 * b) seed
+          ∙ (let e : i + 1 + 64 * b ≡ 64 * b + i + 1 = omega arith in ap (λ k. state_after k seed) e)))
           c.insert_bits.ensures.width c.insert_bits.ensures.members);
     }
 

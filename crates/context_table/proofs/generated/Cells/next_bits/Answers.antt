@@ -3,8 +3,8 @@ use Rattle.attr_bits.specs.Words.{number_of}
 use Rattle.attr_bits.specs.WordLaws.{number_of_small}
 use Rattle.context_table.specs.Generated.{next_state, state_after, is_cross}
 use Rattle.context_table.proofs.CellLemmas.{number_of-more, state_after-more}
-use Rattle.context_table.proofs.generated.Cells.bits.Goals as goal
-use Rattle.context_table.proofs.generated.Cells.bits.Goals.{then-next_cell, else-next_cell}
+use Rattle.context_table.proofs.generated.Cells.next_bits.Goals as goal
+use Rattle.context_table.proofs.generated.Cells.next_bits.Goals.{then-next_cell, else-next_cell}
 
 pub loop-j-init : goal.loop-j-init
 unfolding state_after number_of
@@ -15,7 +15,13 @@ overflow_add-bits c =
     let j : ℕ = c.loop-j.j in
     let few : j ≤ 63 = omega arith in
     let power : 2 ^ j ≤ 2 ^ 63 = pow_mono few in
-    omega (arith, c.loop-j.invariant.cells, number_of_small (λ k. is_cross c.args.self.now.density (state_after (k + 1) c.args.self.now.state)) j, power)
+    omega (
+      arith,
+      c.loop-j.invariant.cells,
+      number_of_small (λ k. is_cross c.args.self.now.density
+          (state_after (k + 1) c.args.self.now.state)) j,
+      power,
+    )
 
 pub loop-j-preserved : goal.loop-j-preserved
 loop-j-preserved c =
@@ -33,7 +39,10 @@ loop-j-preserved c =
       cells = elim c.if-next_cell.branch [
         | then-next_cell w ↦
             let one : c.loop-j.bits + 1 * 2 ^ j % 18446744073709551616 ≡ c.loop-j.bits + 2 ^ j = omega (arith, power) in
-            w.bits-is ∙ one ∙ ap (λ x. x + 2 ^ j) before.cells ∙ sym (number_of-more drawn j ∙ ap (λ b. number_of drawn j + cond b (2 ^ j) 0) (cell ∙ w.if-next_cell.true))
-        | else-next_cell w ↦ w.bits-is ∙ before.cells ∙ sym (number_of-more drawn j ∙ ap (λ b. number_of drawn j + cond b (2 ^ j) 0) (cell ∙ w.if-next_cell.false) ∙ add-zero (number_of drawn j))
+            w.bits-is ∙ one ∙ ap (λ x. x + 2 ^ j) before.cells
+            ∙ sym (number_of-more drawn j ∙ ap (λ b. number_of drawn j + cond b (2 ^ j) 0) (cell ∙ w.if-next_cell.true))
+        | else-next_cell w ↦ w.bits-is ∙ before.cells
+            ∙ sym (number_of-more drawn j ∙ ap (λ b. number_of drawn j + cond b (2 ^ j) 0) (cell ∙ w.if-next_cell.false)
+            ∙ add-zero (number_of drawn j))
       ];
     }

@@ -2,20 +2,20 @@ use Rattle.std.proofs.Common.{◌≡◌, ◌∙◌, ◌<◌, ◌==◌, ℕ, List
 use Rattle.std.proofs.lemmas.Bool.{ne_eqb}
 use Rattle.std.specs.Str.Lossy.{utf8_valid_len}
 use Rattle.std.proofs.lemmas.Str.{utf8_valid_len-IsUtf8}
-use Rattle.context_table.specs.Narrow.{NamedAttributes}
+use Rattle.fca_model.specs.Tables.{NamedContext}
 use Rattle.text_pieces.specs.Lines.{lines}
 use Rattle.cxt_format.specs.Form.{Tells, table_form, without_mark, cxt_form}
-use Rattle.cxt_format.specs.Narrow.{nameless}
+use Rattle.cxt_format.specs.Narrow.{untitled_form}
 use Rattle.cxt_format.specs.declared.CxtFault.{CxtFault}
 use Rattle.cxt_format.specs.declared.CxtFault.TheVariants as fault
-use Rattle.cxt_format.proofs.narrow.read_narrow.Goals as goal
+use Rattle.cxt_format.proofs.narrow.read_narrow_cxt.Goals as goal
 
 pub returns-in-Ok : goal.returns-in-Ok
 unfolding cxt_form
 returns-in-Ok c =
     let text = c.in-Ok.ensures.cases in
     let whole : utf8_valid_len c.args.bytes.now == length c.args.bytes.now ≡ true = eq-eqb _ _ (utf8_valid_len-IsUtf8 c.args.bytes.now text.1) in
-    let P : List ℕ → Type 0 = λ bytes. Tells c.read_text.result (nameless (table_form (lines (without_mark bytes)))) in
+    let P : List ℕ → Type 0 = λ bytes. Tells c.read_text.result (untitled_form (table_form (lines (without_mark bytes)))) in
     rw whole (subst P text.0 c.read_text.ensures)
 
 pub returns-in-Err : goal.returns-in-Err
@@ -24,5 +24,5 @@ returns-in-Err c =
     let at = c.in-Err.ensures.valid_len in
     let short : utf8_valid_len c.args.bytes.now < length c.args.bytes.now = let P : ℕ → Type 0 = λ n. n < length c.args.bytes.now in subst P at c.in-Err.ensures.cases.1.short in
     let broken : utf8_valid_len c.args.bytes.now == length c.args.bytes.now ≡ false = ne_eqb _ _ (omega arith) in
-    let told : ℕ → Result NamedAttributes CxtFault = λ n. Err (fault.NotUtf8 n) in
+    let told : ℕ → Result NamedContext CxtFault = λ n. Err (fault.NotUtf8 n) in
     inr (rw broken (ap told (sym at ∙ sym c.valid_up_to.ensures)))

@@ -1,7 +1,7 @@
 use Rattle.std.proofs.Common.{◌≡◌, ◌++◌, length}
 use Rattle.std.specs.Vec.Iter.{into_iter_items}
 use Rattle.context_table.specs.Table.{first_repeat, repeat_from}
-use Rattle.context_table.proofs.in_order.Given as goal
+use Rattle.context_table.proofs.distinct_names.Given as goal
 
 abbrev pub invariant-loop-name : goal.invariant-loop-name
 invariant-loop-name l =
