@@ -7,17 +7,17 @@ use Rattle.std.specs.List.{list_any, range_with_len, flat_map}
 use Rattle.fca_model.specs.Sets.{Set, within}
 use Rattle.fca_model.specs.Context.{Context}
 use Rattle.context_reduce.specs.declared.marks.Arrow.{Arrow}
-use Rattle.context_reduce.specs.Reduce.{row_at, above, meet_of_larger, up_arrow, down_arrow}
+use Rattle.context_reduce.specs.Reduce.{row_at, attributes_above, meet_of_larger, up_arrow, down_arrow}
 use Rattle.context_reduce.specs.Arrows.{arrow_of, arrow_at, arrow_table, points_up, points_down, TellIrreducibles}
 use Rattle.context_reduce.specs.declared.marks.Arrow.TheVariants.{Plain}
 use Rattle.context_reduce.proofs.RangeLemmas.{append_nil, range_more}
 use Rattle.context_reduce.proofs.ColumnLemmas.{larger_at, up_arrow_there, down_arrow_there}
 
 -- by what the larger rows share, and by the attributes above
-pub arrow_by_sets : (K : Context) (g m : ℕ) → m < K.width → arrow_of (get_or (row_at K g) m false) (get_or (meet_of_larger K (row_at K g)) m false) (within (above K m) (row_at K g)) ≡ arrow_at K g m
+pub arrow_by_sets : (K : Context) (g m : ℕ) → m < K.width → arrow_of (get_or (row_at K g) m false) (get_or (meet_of_larger K (row_at K g)) m false) (within (attributes_above K m) (row_at K g)) ≡ arrow_at K g m
 arrow_by_sets K g m l =
     let r = row_at K g in
-    ap (λ b. arrow_of (get_or r m false) b (within (above K m) r)) (larger_at K r m l) ∙ guarded (get_or r m false) _ (within (above K m) r)
+    ap (λ b. arrow_of (get_or r m false) b (within (attributes_above K m) r)) (larger_at K r m l) ∙ guarded (get_or r m false) _ (within (attributes_above K m) r)
   where
     guarded : (x d u : Bool) → arrow_of x d u ≡ arrow_of x (not x && d) (not x && u)
     guarded true d u = refl
@@ -52,7 +52,7 @@ module _ (K : Context) where
   row_arrows g = map (arrow_at K g) (range_with_len 0 K.width)
 
   up_is_written : (g m : ℕ) → up_arrow K g m ≡ points_up (arrow_at K g m)
-  up_is_written g m = go (get_or (row_at K g) m false) (down_arrow K g m) (within (above K m) (row_at K g))
+  up_is_written g m = go (get_or (row_at K g) m false) (down_arrow K g m) (within (attributes_above K m) (row_at K g))
     where
       go : (x d u : Bool) → (not x && u) ≡ points_up (arrow_of x d (not x && u))
       go true d u = refl

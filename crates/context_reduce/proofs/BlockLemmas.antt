@@ -18,7 +18,7 @@ use Rattle.fca_model.specs.Context.{Context}
 use Rattle.fca_model.proofs.ListLemmas.{list_all_from, implies_from}
 use Rattle.fca_model.proofs.SetLemmas.{within_trans, within_full, within_at_place, within-meet, strictly-parts}
 use Rattle.context_reduce.specs.Blocks.{block, AreBlocks}
-use Rattle.context_reduce.specs.Reduce.{column, transposed, meet_of_larger}
+use Rattle.context_reduce.specs.Reduce.{column, transpose, meet_of_larger}
 use Rattle.context_reduce.proofs.PartLemmas.{within-map, transposed_at}
 use Rattle.context_reduce.proofs.ReduceLemmas.{columns_count}
 
@@ -31,7 +31,7 @@ or-false true = refl
 or-false false = refl
 
 -- what is read of the columns
-pub column_read : (B C : Context) (m : ℕ) (Z : Set) → C ≡ transposed B → m < length C.rows → slice_get C.rows m ≡ Some Z → Z ≡ column B m
+pub column_read : (B C : Context) (m : ℕ) (Z : Set) → C ≡ transpose B → m < length C.rows → slice_get C.rows m ≡ Some Z → Z ≡ column B m
 column_read B C m Z e l is =
     let lt : m < B.width = subst (λ n. m < n) (ap (λ (D : Context). length D.rows) e ∙ columns_count B) l in
     sym (get_or_from_slice_get C.rows m Z [] is) ∙ ap (λ (D : Context). get_or D.rows m []) e ∙ transposed_at B m lt
@@ -131,9 +131,9 @@ module _ (X : Set) where
 
 -- ---- the blocks
 
-pub blocks_are : (K : Context) (blocks : List Context) (n : ℕ) → blocks ≡ map (λ k. transposed (block K k)) (range_with_len 0 n) → n ≡ div_ceil (length K.rows) 256 → AreBlocks K blocks
+pub blocks_are : (K : Context) (blocks : List Context) (n : ℕ) → blocks ≡ map (λ k. transpose (block K k)) (range_with_len 0 n) → n ≡ div_ceil (length K.rows) 256 → AreBlocks K blocks
 blocks_are K blocks n e is =
-    let f = λ (k : ℕ). transposed (block K k) in
+    let f = λ (k : ℕ). transpose (block K k) in
     let count : length blocks ≡ n = ap length e ∙ length-map-range_with_len f 0 n in
     let bounds = div_ceil_times (length K.rows) 256 (omega arith) in
     let all = ap (λ m. m * 256) (count ∙ is) in
@@ -144,8 +144,8 @@ blocks_are K blocks n e is =
     }
 
 module _ (K : Context) (blocks : List Context) (are : AreBlocks K blocks) where
-  pub block_at : (k : ℕ) (C : Context) → k < length blocks → C ≡ get_or blocks k C → C ≡ transposed (block K k)
-  block_at k C l is = is ∙ ap (λ Bs. get_or Bs k C) are.columns ∙ get_or-map-range_with_len (λ k. transposed (block K k)) 0 (length blocks) k k C l (omega arith)
+  pub block_at : (k : ℕ) (C : Context) → k < length blocks → C ≡ get_or blocks k C → C ≡ transpose (block K k)
+  block_at k C l is = is ∙ ap (λ Bs. get_or Bs k C) are.columns ∙ get_or-map-range_with_len (λ k. transpose (block K k)) 0 (length blocks) k k C l (omega arith)
 
   pub block_wide : (k : ℕ) (C : Context) → k < length blocks → C ≡ get_or blocks k C → length C.rows ≡ K.width
   block_wide k C l is = ap (λ (D : Context). length D.rows) (block_at k C l is) ∙ columns_count (block K k)

@@ -9,7 +9,7 @@ use Rattle.std.specs.List.{range_with_len}
 use Rattle.fca_model.specs.Sets.{Set}
 use Rattle.fca_model.specs.Context.{Context}
 use Rattle.fca_model.specs.Tables.{Text, NamedContext}
-use Rattle.context_reduce.specs.Reduce.{row_at, rows_at, read, names_at, ascend, transposed, is_first, reducible, distinct_objects, distinct_attributes, irreducible_objects, irreducible_attributes, AreItsPlaces}
+use Rattle.context_reduce.specs.Reduce.{row_at, rows_at, read, names_at, ascend, transpose, is_first, reducible, distinct_objects, distinct_attributes, irreducible_objects, irreducible_attributes, AreItsPlaces}
 use Rattle.context_reduce.proofs.DenseLemmas.{irreducible_is}
 use Rattle.context_reduce.proofs.RangeLemmas.{append_nil, filter_push}
 use Rattle.context_reduce.proofs.ReduceLemmas.{columns_count}
@@ -103,11 +103,11 @@ irreducible_ascend K = subst (λ (H : List ℕ). ascend 0 H (length K.rows) ≡ 
 pub distinct_places : (t : NamedContext) (H N : List ℕ) → H ≡ distinct_objects t.context → N ≡ distinct_attributes t.context → AreItsPlaces t H N
 distinct_places t H N h n = record {
   objects = subst (λ (H : List ℕ). ascend 0 H (length t.context.rows) ≡ true) (sym h) (distinct_ascend t.context);
-  attributes = subst (λ (N : List ℕ). ascend 0 N t.context.width ≡ true) (sym n) (subst (λ (m : ℕ). ascend 0 (distinct_attributes t.context) m ≡ true) (columns_count t.context) (distinct_ascend (transposed t.context)));
+  attributes = subst (λ (N : List ℕ). ascend 0 N t.context.width ≡ true) (sym n) (subst (λ (m : ℕ). ascend 0 (distinct_attributes t.context) m ≡ true) (columns_count t.context) (distinct_ascend (transpose t.context)));
 }
 
 pub irreducible_places : (t : NamedContext) (H N : List ℕ) → H ≡ irreducible_objects t.context → N ≡ irreducible_attributes t.context → AreItsPlaces t H N
 irreducible_places t H N h n = record {
   objects = subst (λ (H : List ℕ). ascend 0 H (length t.context.rows) ≡ true) (sym h) (irreducible_ascend t.context);
-  attributes = subst (λ (N : List ℕ). ascend 0 N t.context.width ≡ true) (sym n) (subst (λ (m : ℕ). ascend 0 (irreducible_attributes t.context) m ≡ true) (columns_count t.context) (irreducible_ascend (transposed t.context)));
+  attributes = subst (λ (N : List ℕ). ascend 0 N t.context.width ≡ true) (sym n) (subst (λ (m : ℕ). ascend 0 (irreducible_attributes t.context) m ≡ true) (columns_count t.context) (irreducible_ascend (transpose t.context)));
 }

@@ -8,9 +8,9 @@ use Rattle.std.specs.List.{list_any, range_with_len}
 use Rattle.fca_model.specs.Context.{Context}
 use Rattle.context_reduce.specs.declared.marks.Arrow.{Arrow}
 use Rattle.context_reduce.specs.declared.marks.Arrow.TheVariants.{Cross, Plain, Down, Up, Both}
-use Rattle.context_reduce.specs.Reduce.{row_at, column, transposed, reducible, down_arrow, up_arrow}
+use Rattle.context_reduce.specs.Reduce.{row_at, column, transpose, reducible, down_arrow, up_arrow}
 
--- a cross, or else the arrows that are there
+-- a cross, or the arrows if there is none
 abbrev pub arrow_of : Bool → Bool → Bool → Arrow
 arrow_of true down up = Cross
 arrow_of false true true = Both
@@ -22,7 +22,7 @@ arrow_of false false false = Plain
 abbrev pub arrow_at : Context → ℕ → ℕ → Arrow
 arrow_at K g m = arrow_of (slice_index_or (row_at K g) m false) (down_arrow K g m) (up_arrow K g m)
 
--- the same for each object and each attribute
+-- the arrows of each object, one list for each
 unfoldable pub arrow_table : Context → List (List Arrow)
 arrow_table K = map (λ g. map (arrow_at K g) (range_with_len 0 K.width)) (range_with_len 0 (length K.rows))
 
@@ -44,5 +44,5 @@ points_down Up = false
 
 -- the lists of arrows tell what is irreducible: the attributes to which there is an up arrow, and the objects from which there is a down arrow
 pub record TellIrreducibles (K : Context) (lists : List (List Arrow)) : Type 0 where
-  pub attributes : (m : ℕ) → m < K.width → not (reducible (transposed K) (column K m)) ≡ list_any (λ list. points_up (slice_index_or list m Plain)) lists
+  pub attributes : (m : ℕ) → m < K.width → not (reducible (transpose K) (column K m)) ≡ list_any (λ list. points_up (slice_index_or list m Plain)) lists
   pub objects : (g : ℕ) → g < length K.rows → not (reducible K (row_at K g)) ≡ list_any points_down (slice_index_or lists g [])

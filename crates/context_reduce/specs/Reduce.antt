@@ -18,8 +18,8 @@ abbrev pub column : Context → ℕ → Set
 column K m = map (λ row. slice_index_or row m false) K.rows
 
 -- objects and attributes exchanged: its rows are the columns
-abbrev pub transposed : Context → Context
-transposed K = record { width = length K.rows; rows = map (column K) (range_with_len 0 K.width) }
+abbrev pub transpose : Context → Context
+transpose K = record { width = length K.rows; rows = map (column K) (range_with_len 0 K.width) }
 
 -- row g
 abbrev pub row_at : Context → ℕ → Set
@@ -31,11 +31,11 @@ row_at K g = slice_index_or K.rows g []
 abbrev pub is_first : Context → ℕ → Bool
 is_first K g = not (list_any (same (row_at K g)) (take g K.rows))
 
--- the intersection of all rows that strictly contain X, and the full set where there is none
+-- the intersection of all rows that strictly contain X, or the full set if there is none
 abbrev pub meet_of_larger : Context → Set → Set
 meet_of_larger K X = fold meet (full K.width) (filter (strictly_within X) K.rows)
 
--- X is that intersection
+-- X is the intersection of all rows that strictly contain it
 abbrev pub reducible : Context → Set → Bool
 reducible K X = same X (meet_of_larger K X)
 
@@ -43,16 +43,17 @@ reducible K X = same X (meet_of_larger K X)
 unfoldable pub distinct_objects : Context → List ℕ
 distinct_objects K = filter (is_first K) (range_with_len 0 (length K.rows))
 
--- those of them that are not reducible
+-- the distinct objects whose row is not reducible
 unfoldable pub irreducible_objects : Context → List ℕ
 irreducible_objects K = filter (λ g. not (reducible K (row_at K g))) (distinct_objects K)
 
--- the same of attributes
+-- the attributes whose column no earlier one has
 abbrev pub distinct_attributes : Context → List ℕ
-distinct_attributes K = distinct_objects (transposed K)
+distinct_attributes K = distinct_objects (transpose K)
 
+-- the distinct attributes whose column is not reducible
 abbrev pub irreducible_attributes : Context → List ℕ
-irreducible_attributes K = irreducible_objects (transposed K)
+irreducible_attributes K = irreducible_objects (transpose K)
 
 -- ---- parts
 
@@ -86,22 +87,22 @@ abbrev pub down_arrow : Context → ℕ → ℕ → Bool
 down_arrow K g m = not (slice_index_or (row_at K g) m false) && list_all (λ row. not (strictly_within (row_at K g) row) || slice_index_or row m false) K.rows
 
 -- the attributes whose column strictly contains that of m
-abbrev pub above : Context → ℕ → Set
-above K m = map (λ p. strictly_within (column K m) (column K p)) (range_with_len 0 K.width)
+abbrev pub attributes_above : Context → ℕ → Set
+attributes_above K m = map (λ p. strictly_within (column K m) (column K p)) (range_with_len 0 K.width)
 
 -- object g has an up arrow to attribute m: it lacks m, and has each attribute whose column strictly contains the column of m
 abbrev pub up_arrow : Context → ℕ → ℕ → Bool
-up_arrow K g m = not (slice_index_or (row_at K g) m false) && within (above K m) (row_at K g)
+up_arrow K g m = not (slice_index_or (row_at K g) m false) && within (attributes_above K m) (row_at K g)
 
 -- ---- columns by closures, as the code has them
 
 -- the attributes whose column contains that of m: the closure of m alone
-abbrev pub at_least : Context → ℕ → Set
-at_least K m = map (λ p. within (column K m) (column K p)) (range_with_len 0 K.width)
+abbrev pub attributes_at_least : Context → ℕ → Set
+attributes_at_least K m = map (λ p. within (column K m) (column K p)) (range_with_len 0 K.width)
 
--- for each attribute that set
+-- for each attribute, those whose column contains its column
 unfoldable pub column_order : Context → List Set
-column_order K = map (at_least K) (range_with_len 0 K.width)
+column_order K = map (attributes_at_least K) (range_with_len 0 K.width)
 
 -- ---- tables
 

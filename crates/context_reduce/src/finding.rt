@@ -2,11 +2,11 @@
 
 ghost use Rattle.std.specs.Prelude.{◌≡◌, ◌<◌, IfOk, All, length, map};
 ghost use Rattle.std.specs.List.{range_with_len};
-ghost use Rattle.context_reduce.specs.Reduce.{above};
+ghost use Rattle.context_reduce.specs.Reduce.{attributes_above};
 ghost use Rattle.context_reduce.specs.Blocks.{AreBlocks};
 ghost use Rattle.context_reduce.specs.Arrows.{arrow_of, arrow_at, arrow_table, TellIrreducibles};
 
-use crate::columns::{above, column_order};
+use crate::columns::{attributes_above, column_order};
 use crate::larger::{Columns, blocks_of, meet_of_larger};
 use crate::marks::{Arrow, Arrows};
 use attr_bits::Attrs;
@@ -22,7 +22,7 @@ pub fn arrows(alloc: Global, table: &Table) -> Result<Arrows, Memory>
     ensures irreducible { IfOk result (λ found. TellIrreducibles table.now.context found) }
 {
     let rows = table.rows();
-    let larger = all_above(alloc, rows)?;
+    let larger = all_attributes_above(alloc, rows)?;
     let blocks = blocks_of(alloc, rows)?;
     let mut lists = Vec::new(alloc);
     for g in 0..rows.len() {
@@ -31,14 +31,14 @@ pub fn arrows(alloc: Global, table: &Table) -> Result<Arrows, Memory>
     Ok(Arrows::of(lists))
 }
 
-/// For each attribute those whose column strictly contains its column.
-fn all_above(alloc: Global, rows: &Rows) -> Result<Vec<Attrs>, Memory>
-    ensures { IfOk result (λ sets. sets.items ≡ map (above rows.now) (range_with_len 0 rows.now.width)) }
+/// For each attribute, those whose column strictly contains its column.
+fn all_attributes_above(alloc: Global, rows: &Rows) -> Result<Vec<Attrs>, Memory>
+    ensures { IfOk result (λ sets. sets.items ≡ map (attributes_above rows.now) (range_with_len 0 rows.now.width)) }
 {
     let order = column_order(alloc, rows)?;
     let mut sets = Vec::new(alloc);
     for m in 0..rows.width() {
-        sets.push(above(rows, &order, m))?;
+        sets.push(attributes_above(rows, &order, m))?;
     }
     Ok(sets)
 }
@@ -53,7 +53,7 @@ fn arrows_of_object(
 ) -> Result<Vec<Arrow>, Memory>
     requires object { g < length rows.now.rows }
     requires blocks { AreBlocks rows.now blocks.now }
-    requires larger { larger.now ≡ map (above rows.now) (range_with_len 0 rows.now.width) }
+    requires larger { larger.now ≡ map (attributes_above rows.now) (range_with_len 0 rows.now.width) }
     ensures { IfOk result (λ list. list.items ≡ map (arrow_at rows.now g) (range_with_len 0 rows.now.width)) }
 {
     let row = rows.get(g);

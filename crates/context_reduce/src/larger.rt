@@ -1,21 +1,21 @@
 //! The intersection of the rows that strictly contain a set.
 //!
-//! The rows stand in blocks, and of each block it is kept which of its rows have each attribute. So the intersection of a
-//! few columns tells of most blocks that no row contains the set, and only the rows of the others are looked at.
+//! The rows stand in blocks, and each block has its columns: which of its rows have each attribute. For most blocks the
+//! intersection of a few columns shows that no row contains the set. Only the rows of the others are looked at.
 
 ghost use Rattle.std.specs.Prelude.{◌≡◌, ◌≤◌, ◌<◌, ◌*◌, IfOk, All, length, map, fold, filter, slice_index_or, false};
 ghost use Rattle.std.specs.List.{list_any};
 ghost use Rattle.fca_model.specs.Sets.{meet, within, strictly_within};
 ghost use Rattle.fca_model.specs.Context.{Context};
 ghost use Rattle.context_reduce.specs.Blocks.{block, AreBlocks};
-ghost use Rattle.context_reduce.specs.Reduce.{transposed, column, meet_of_larger};
+ghost use Rattle.context_reduce.specs.Reduce.{transpose, column, meet_of_larger};
 
 use attr_bits::Bits;
 use derivation::RowsOf;
 use fca_model::Memory;
 use std::alloc::Global;
 
-/// How many rows a block has: as many as four words hold.
+/// The number of rows of a block: as many as four words hold.
 const BLOCK: usize = 256;
 
 /// The columns of a block, each a set of its rows.
@@ -38,7 +38,7 @@ pub(crate) fn blocks_of<const W: usize>(
 /// The columns of block k.
 fn columns_of<const W: usize>(alloc: Global, rows: &RowsOf<W>, k: usize) -> Result<Columns, Memory>
     requires { k * BLOCK ≤ length rows.now.rows }
-    ensures { IfOk result (λ columns. columns ≡ transposed (block rows.now k)) }
+    ensures { IfOk result (λ columns. columns ≡ transpose (block rows.now k)) }
 {
     let width = rows.width();
     let part = block(rows, k);
@@ -75,7 +75,7 @@ fn block<const W: usize>(rows: &RowsOf<W>, k: usize) -> &[Bits<W>]
     &rest[..BLOCK.min(rest.len())]
 }
 
-/// The intersection of the rows that strictly contain the set. Once it is the set, the blocks that are left change nothing.
+/// The intersection of the rows that strictly contain the set. After it has become the set, the blocks that are left change nothing.
 pub(crate) fn meet_of_larger<const W: usize>(
     rows: &RowsOf<W>,
     blocks: &[Columns],
@@ -97,10 +97,10 @@ pub(crate) fn meet_of_larger<const W: usize>(
     met
 }
 
-/// Whether a row of these columns may contain the set: where the answer is no, none does.
+/// Whether a row of these columns may contain the set. If the answer is no, none does.
 fn may_contain<const W: usize>(columns: &Columns, set: &Bits<W>) -> bool
     requires { length set.now ≤ length columns.now.rows }
-    ensures { (B : Context) → columns.now ≡ transposed B → result ≡ false → list_any (within set.now) B.rows ≡ false }
+    ensures { (B : Context) → columns.now ≡ transpose B → result ≡ false → list_any (within set.now) B.rows ≡ false }
 {
     let _width = set.width();
     let count = columns.width();
@@ -117,7 +117,7 @@ fn may_contain<const W: usize>(columns: &Columns, set: &Bits<W>) -> bool
     true
 }
 
-/// The meet of start and those of the rows that strictly contain the set.
+/// The intersection of start and those of the rows that strictly contain the set.
 fn meet_with_larger<const W: usize>(set: &Bits<W>, rows: &[Bits<W>], start: &Bits<W>) -> Bits<W>
     ensures { result ≡ fold meet start.now (filter (strictly_within set.now) rows.now) }
 {

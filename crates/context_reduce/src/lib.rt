@@ -45,8 +45,8 @@ pub fn clarify(alloc: Global, table: &Table) -> Result<Kept, Memory>
     })
 }
 
-/// Those objects and attributes of `clarify` whose row, or column, is not the intersection of all
-/// rows, or columns, that strictly contain it. The intersection of none is the full one.
+/// The objects of `clarify` whose row is not the intersection of all rows that strictly contain it, and the
+/// attributes likewise by their columns. The intersection of none is the full set.
 pub fn irreducible(alloc: Global, table: &Table) -> Result<Kept, Memory>
     ensures objects { IfOk result (λ kept. kept.objects ≡ irreducible_objects table.now.context) }
     ensures attributes { IfOk result (λ kept. kept.attributes ≡ irreducible_attributes table.now.context) }

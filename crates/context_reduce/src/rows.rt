@@ -5,13 +5,13 @@ ghost use Rattle.context_reduce.specs.Blocks.{AreBlocks};
 ghost use Rattle.context_reduce.specs.Reduce.{row_at, reducible, distinct_objects, irreducible_objects};
 
 use crate::larger::{Columns, blocks_of, meet_of_larger};
+use attr_bits::WordCount;
 use derivation::{Rows, RowsOf};
 use fca_model::{Memory, Places};
-use lectic_concepts::{FOUR_WORDS, ONE_WORD};
 use std::alloc::Global;
 use std::collections::BTreeSet;
 
-/// The places of the rows that no earlier one is the same as.
+/// The places of the rows that differ from each earlier one.
 pub(crate) fn distinct_rows(alloc: Global, rows: &Rows) -> Result<Places, Memory>
     ensures { IfOk result (λ places. places ≡ distinct_objects rows.now) }
 {
@@ -26,7 +26,7 @@ pub(crate) fn distinct_rows(alloc: Global, rows: &Rows) -> Result<Places, Memory
     Ok(places)
 }
 
-/// Those of them whose row is not reducible.
+/// The places of the rows that differ from each earlier one and are not reducible.
 pub(crate) fn irreducible_objects(alloc: Global, rows: &Rows) -> Result<Places, Memory>
     ensures { IfOk result (λ places. places ≡ irreducible_objects rows.now) }
 {
@@ -34,23 +34,21 @@ pub(crate) fn irreducible_objects(alloc: Global, rows: &Rows) -> Result<Places, 
     irreducible_rows(alloc, rows, &places)
 }
 
-/// Those of the places whose row is not reducible. They are found in sets as narrow as the table.
+/// Those of the places whose row is not reducible. They are found in sets of as few words as have room for a row.
 fn irreducible_rows(alloc: Global, rows: &Rows, places: &Places) -> Result<Places, Memory>
     requires { All (λ g. g < length rows.now.rows) places.now }
     ensures { IfOk result (λ kept. kept ≡ filter (λ g. not (reducible rows.now (row_at rows.now g))) places.now) }
 {
-    let width = rows.width();
-    if width <= ONE_WORD {
-        return irreducible_rows_of(alloc, &rows.resized::<1>(alloc)?, places);
+    match WordCount::of(rows.width()) {
+        WordCount::One => irreducible_rows_in(alloc, &rows.resized::<1>(alloc)?, places),
+        WordCount::Two => irreducible_rows_in(alloc, &rows.resized::<2>(alloc)?, places),
+        WordCount::Four => irreducible_rows_in(alloc, &rows.resized::<4>(alloc)?, places),
+        WordCount::All => irreducible_rows_in(alloc, rows, places),
     }
-    if width <= FOUR_WORDS {
-        return irreducible_rows_of(alloc, &rows.resized::<4>(alloc)?, places);
-    }
-    irreducible_rows_of(alloc, rows, places)
 }
 
-/// The same, of sets of the words that the rows have.
-fn irreducible_rows_of<const W: usize>(
+/// Those of the places whose row is not reducible, by sets of the words that the rows have.
+fn irreducible_rows_in<const W: usize>(
     alloc: Global,
     rows: &RowsOf<W>,
     places: &Places,

@@ -1,8 +1,8 @@
 use Rattle.std.proofs.Common.{◌∙◌, ℕ, Bool, not, sym, ap}
 use Rattle.context_reduce.specs.Reduce.{row_at, reducible}
 use Rattle.context_reduce.proofs.TableLemmas.{next_kept, next_skipped}
-use Rattle.context_reduce.proofs.rows.irreducible_rows_of.Goals as goal
-use Rattle.context_reduce.proofs.rows.irreducible_rows_of.Goals.{then-not-is_reducible+in_ok-push, else-not-is_reducible}
+use Rattle.context_reduce.proofs.rows.irreducible_rows_in.Goals as goal
+use Rattle.context_reduce.proofs.rows.irreducible_rows_in.Goals.{then-not-is_reducible+in_ok-push, else-not-is_reducible}
 
 pub loop-g-preserved : goal.loop-g-preserved
 loop-g-preserved gen c =
