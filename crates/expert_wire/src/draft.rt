@@ -39,10 +39,7 @@ impl Draft {
         ensures { result ≡ [] }
     {
         Draft {
-            sink: Growing {
-                bytes: Vec::new(alloc),
-                faults: 0,
-            },
+            sink: Growing::new(alloc),
         }
     }
 
@@ -131,9 +128,22 @@ impl Draft {
 
 /// Bytes that grow as they are written; a refused growth is a fault.
 #[derive(Drop)]
-struct Growing {
-    bytes: Vec<u8>,
+pub struct Growing {
+    /// The bytes.
+    pub bytes: Vec<u8>,
     faults: u64,
+}
+
+impl Growing {
+    /// No bytes. It takes no memory yet.
+    pub fn new(alloc: Global) -> Growing
+        ensures { result.bytes.items ≡ [] }
+    {
+        Growing {
+            bytes: Vec::new(alloc),
+            faults: 0,
+        }
+    }
 }
 
 impl Sink for Growing {

@@ -9,7 +9,7 @@ mod replies;
 mod requests;
 mod words;
 
-pub use draft::Draft;
+pub use draft::{Draft, Growing};
 pub use greeting::write_greeting;
 pub use lines::is_skipped;
 pub use parts::Part;
