@@ -1,6 +1,9 @@
--- Blocks of rows. The rows of a block that contain X are among those that have what a few members of X have in common, so where these are none, no row of
+-- Blocks of rows. The rows of a block that contain X are among those that have what a few members of X have in common, so where these are
+-- none, no row of
 -- the block contains X, and the meet of the larger rows goes on behind the block.
-use Rattle.std.proofs.Common.{◌≡◌, ℕ, zero, suc, ◌+◌, ◌<◌, ◌≤◌, ◌*◌, Bool, true, false, not, ◌&&◌, ◌||◌, List, [], ◌∷◌, ◌++◌, cond, map, filter, fold, take, drop, length, replicate, get_or, refl, sym, ap, ◌∙◌, arith, inl, inr, subst, Some}
+use Rattle.std.proofs.Common.{◌≡◌, ℕ, zero, suc, ◌+◌, ◌<◌, ◌≤◌, ◌*◌, Bool, true, false, not, ◌&&◌, ◌||◌, List, [], ◌∷◌, ◌++◌, cond, map}
+use Rattle.std.proofs.Math.Bool.{or-false}
+use Rattle.std.proofs.Common.{filter, fold, take, drop, length, replicate, get_or, refl, sym, ap, ◌∙◌, arith, inl, inr, subst, Some}
 use Rattle.std.proofs.Math.Seq.{take-add}
 use Rattle.std.proofs.lemmas.Bool.{false≢true, and_from, cases_Bool, or_left}
 use Rattle.std.proofs.lemmas.List.{length-map, take-append-drop, take_all, take_more}
@@ -26,10 +29,6 @@ nobody : (b rest others : Bool) → (not b && rest) ≡ true → (rest ≡ true 
 nobody true rest others h f = absurd (false≢true h)
 nobody false rest others h f = f h
 
-or-false : (b : Bool) → (b || false) ≡ b
-or-false true = refl
-or-false false = refl
-
 -- what is read of the columns
 pub column_read : (B C : Context) (m : ℕ) (Z : Set) → C ≡ transpose B → m < length C.rows → slice_get C.rows m ≡ Some Z → Z ≡ column B m
 column_read B C m Z e l is =
@@ -44,18 +43,21 @@ module _ (X : Set) where
   found_in_all rows = within_full (length rows) (map (within X) rows) (length-map rows (within X))
 
   -- and among those that have a member of X
-  pub found_in_column : (B : Context) (m : ℕ) (old new : Set) → get_or X m false ≡ true → within (map (within X) B.rows) old ≡ true → new ≡ meet old (column B m)
+  pub found_in_column : (B : Context) (m : ℕ) (old new : Set) → get_or X m false ≡ true → within (map (within X) B.rows) old ≡ true
+      → new ≡ meet old (column B m)
       → within (map (within X) B.rows) new ≡ true
   found_in_column B m old new has o n =
       let F = map (within X) B.rows in
       ap (within F) n ∙ within-meet F old (column B m)
       ∙ and_from (within F old) (within F (column B m)) o
       (within-map (within X) (λ row. get_or row m false) B.rows
-      ∙ list_all_from (λ row. not (within X row) || get_or row m false) (λ row. implies_from (within X row) (get_or row m false) (λ w. within_at_place X row w m has)) B.rows)
+      ∙ list_all_from (λ row. not (within X row) || get_or row m false)
+      (λ row. implies_from (within X row) (get_or row m false) (λ w. within_at_place X row w m has)) B.rows)
 
   pub found_in_none : (rows : List Set) (n : ℕ) → within (map (within X) rows) (replicate n false) ≡ true → list_any (within X) rows ≡ false
   found_in_none [] n h = refl
-  found_in_none (row ∷ rows) zero h = nobody (within X row) (within (map (within X) rows) []) (list_any (within X) rows) h (found_in_none rows zero)
+  found_in_none (row ∷ rows) zero h = nobody (within X row) (within (map (within X) rows) []) (list_any (within X) rows) h
+      (found_in_none rows zero)
   found_in_none (row ∷ rows) (suc n) h =
       nobody (within X row) (within (map (within X) rows) (replicate n false)) (list_any (within X) rows)
       (ap (λ b. b && within (map (within X) rows) (replicate n false)) (sym (or-false (not (within X row)))) ∙ h) (found_in_none rows n)
@@ -79,18 +81,21 @@ module _ (X : Set) where
       elim (cases_Bool (strictly_within X row)) [
         | inl t ↦
             ap (λ b. fold meet M (cond b (row ∷ F) F)) t
-            ∙ ap (λ N. fold meet N F) (meet-larger M row (within_trans M X row inside (strictly-parts X row t).0)) ∙ larger_keep M inside rows
+            ∙ ap (λ N. fold meet N F) (meet-larger M row (within_trans M X row inside (strictly-parts X row t).0))
+            ∙ larger_keep M inside rows
         | inr f ↦ ap (λ b. fold meet M (cond b (row ∷ F) F)) f ∙ larger_keep M inside rows
       ]
 
   -- a row more
   pub larger_more : (start M N : Set) (rows : List Set) (i : ℕ) (row : Set) → i < length rows → row ≡ get_or rows i row
-      → M ≡ fold meet start (filter (strictly_within X) (take i rows)) → N ≡ cond (strictly_within X row) (meet M row) M → N ≡ fold meet start (filter (strictly_within X) (take (i + 1) rows))
+      → M ≡ fold meet start (filter (strictly_within X) (take i rows)) → N ≡ cond (strictly_within X row) (meet M row) M
+      → N ≡ fold meet start (filter (strictly_within X) (take (i + 1) rows))
   larger_more start M N rows i row l is m n =
       let p = strictly_within X in
       n ∙ one M row (p row) ∙ ap (λ A. fold meet A (filter p (row ∷ []))) m
       ∙ sym (ap (λ Rs. fold meet start (filter p Rs)) (take_more rows i row l ∙ ap (λ r. take i rows ++ r ∷ []) (sym is))
-      ∙ ap (fold meet start) (filter-append p (take i rows) (row ∷ [])) ∙ fold-append meet start (filter p (take i rows)) (filter p (row ∷ [])))
+      ∙ ap (fold meet start) (filter-append p (take i rows) (row ∷ []))
+      ∙ fold-append meet start (filter p (take i rows)) (filter p (row ∷ [])))
     where
       one : (M row : Set) (b : Bool) → cond b (meet M row) M ≡ fold meet M (cond b (row ∷ []) [])
       one M row true = refl
@@ -102,18 +107,21 @@ module _ (X : Set) where
     meet_before n = fold meet (full K.width) (filter (strictly_within X) (take n K.rows))
 
     -- a block more
-    pub meet_more : (k : ℕ) (M N : Set) → M ≡ meet_before (k * 256) → N ≡ fold meet M (filter (strictly_within X) (block K k).rows) → N ≡ meet_before ((k + 1) * 256)
+    pub meet_more : (k : ℕ) (M N : Set) → M ≡ meet_before (k * 256) → N ≡ fold meet M (filter (strictly_within X) (block K k).rows)
+        → N ≡ meet_before ((k + 1) * 256)
     meet_more k M N m n =
         n ∙ ap (λ A. fold meet A (filter (strictly_within X) (block K k).rows)) m
         ∙ sym (ap meet_before (next k) ∙ ap (λ Rs. fold meet (full K.width) (filter (strictly_within X) Rs)) (take-add (k * 256) 256 K.rows)
         ∙ ap (fold meet (full K.width)) (filter-append (strictly_within X) (take (k * 256) K.rows) (block K k).rows)
-        ∙ fold-append meet (full K.width) (filter (strictly_within X) (take (k * 256) K.rows)) (filter (strictly_within X) (block K k).rows))
+        ∙ fold-append meet (full K.width) (filter (strictly_within X) (take (k * 256) K.rows))
+        (filter (strictly_within X) (block K k).rows))
       where
         next : (k : ℕ) → (k + 1) * 256 ≡ k * 256 + 256
         next k = omega arith
 
     -- a block with no row that contains X
-    pub meet_skips : (k : ℕ) (M : Set) → M ≡ meet_before (k * 256) → list_any (within X) (block K k).rows ≡ false → M ≡ meet_before ((k + 1) * 256)
+    pub meet_skips : (k : ℕ) (M : Set) → M ≡ meet_before (k * 256) → list_any (within X) (block K k).rows ≡ false
+        → M ≡ meet_before ((k + 1) * 256)
     meet_skips k M m none = meet_more k M M m (sym (ap (fold meet M) (none_larger (block K k).rows none)))
 
     -- all blocks
@@ -131,7 +139,8 @@ module _ (X : Set) where
 
 -- ---- the blocks
 
-pub blocks_are : (K : Context) (blocks : List Context) (n : ℕ) → blocks ≡ map (λ k. transpose (block K k)) (range_with_len 0 n) → n ≡ div_ceil (length K.rows) 256 → AreBlocks K blocks
+pub blocks_are : (K : Context) (blocks : List Context) (n : ℕ) → blocks ≡ map (λ k. transpose (block K k)) (range_with_len 0 n)
+    → n ≡ div_ceil (length K.rows) 256 → AreBlocks K blocks
 blocks_are K blocks n e is =
     let f = λ (k : ℕ). transpose (block K k) in
     let count : length blocks ≡ n = ap length e ∙ length-map-range_with_len f 0 n in
@@ -145,7 +154,8 @@ blocks_are K blocks n e is =
 
 module _ (K : Context) (blocks : List Context) (are : AreBlocks K blocks) where
   pub block_at : (k : ℕ) (C : Context) → k < length blocks → C ≡ get_or blocks k C → C ≡ transpose (block K k)
-  block_at k C l is = is ∙ ap (λ Bs. get_or Bs k C) are.columns ∙ get_or-map-range_with_len (λ k. transpose (block K k)) 0 (length blocks) k k C l (omega arith)
+  block_at k C l is = is ∙ ap (λ Bs. get_or Bs k C) are.columns
+      ∙ get_or-map-range_with_len (λ k. transpose (block K k)) 0 (length blocks) k k C l (omega arith)
 
   pub block_wide : (k : ℕ) (C : Context) → k < length blocks → C ≡ get_or blocks k C → length C.rows ≡ K.width
   block_wide k C l is = ap (λ (D : Context). length D.rows) (block_at k C l is) ∙ columns_count (block K k)

@@ -14,7 +14,12 @@ abbrev three_rows : Context
 three_rows = record { width = 3; rows = s (codes "XX.") ∷ s (codes "X.X") ∷ s (codes "X..") ∷ [] }
 
 abbrev named : Context → NamedContext
-named K = record { title = None; objects = codes "g" ∷ codes "h" ∷ codes "k" ∷ []; attributes = codes "a" ∷ codes "b" ∷ codes "c" ∷ []; context = K }
+named K = record {
+  title = None;
+  objects = codes "g" ∷ codes "h" ∷ codes "k" ∷ [];
+  attributes = codes "a" ∷ codes "b" ∷ codes "c" ∷ [];
+  context = K;
+}
 
 pub clarified_three : (distinct_objects three_rows ≡ 0 ∷ 1 ∷ 2 ∷ []) × (distinct_attributes three_rows ≡ 0 ∷ 1 ∷ 2 ∷ [])
 unfolding distinct_objects

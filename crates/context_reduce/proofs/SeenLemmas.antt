@@ -13,7 +13,8 @@ same_sym : (A B : Set) → same A B ≡ same B A
 same_sym A B = bool_iff (same A B) (same B A) (λ t. same_from B A (sym (same-true A B t))) (λ t. same_from A B (sym (same-true B A t)))
 
 -- one row more
-pub seen_more : (rows : List Set) (g : ℕ) (row A : Set) (old new : BTreeSet Set) → g < length rows → row ≡ get_or rows g [] → Updates lectic_cmp old new row true
+pub seen_more : (rows : List Set) (g : ℕ) (row A : Set) (old new : BTreeSet Set) → g < length rows → row ≡ get_or rows g []
+    → Updates lectic_cmp old new row true
     → contains lectic_cmp old A ≡ list_any (same A) (take g rows) → contains lectic_cmp new A ≡ list_any (same A) (take (g + 1) rows)
 seen_more rows g row A old new l is updates before =
     updates.0 A

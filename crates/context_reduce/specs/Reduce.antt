@@ -1,13 +1,18 @@
 -- Clarifying and reducing, and arrows.
 --
--- An object whose row is the intersection of all rows that strictly contain it adds nothing to the lattice of intents, and neither does one whose row an
--- earlier object has; attributes likewise, by columns. The column of an attribute is the set of the objects that have it. So what is said of objects in the
--- context is said of attributes in the transposed context, where objects and attributes are exchanged. (Ganter and Wille, "Formal Concept Analysis",
+-- An object whose row is the intersection of all rows that strictly contain it adds nothing to the lattice of intents, and neither does one
+-- whose row an
+-- earlier object has; attributes likewise, by columns. The column of an attribute is the set of the objects that have it. So what is said
+-- of objects in the
+-- context is said of attributes in the transposed context, where objects and attributes are exchanged. (Ganter and Wille, "Formal Concept
+-- Analysis",
 -- reduced contexts and the arrow relations.)
 --
--- Of the rows {a, b}, {a, c}, {a} over a, b, c the row {a} is the intersection of the other two, so the third object is reducible; the column of a, all
+-- Of the rows {a, b}, {a, c}, {a} over a, b, c the row {a} is the intersection of the other two, so the third object is reducible; the
+-- column of a, all
 -- objects, is the intersection of no columns, so a is reducible. What is left are the first two objects with b and c.
-use Rattle.std.specs.Prelude.{◌≡◌, ℕ, Bool, true, false, not, ◌&&◌, ◌||◌, List, [], length, map, filter, fold, slice_index_or, take, ◌∷◌, ◌+◌, nat_le, nat_lt}
+use Rattle.std.specs.Prelude.{◌≡◌, ℕ, Bool, true, false, not, ◌&&◌, ◌||◌, List, [], length, map, filter, fold, slice_index_or, take, ◌∷◌}
+use Rattle.std.specs.Prelude.{◌+◌, nat_le, nat_lt}
 use Rattle.std.specs.List.{list_all, list_any, range_with_len}
 use Rattle.fca_model.specs.Sets.{Set, within, meet, full, same, strictly_within}
 use Rattle.fca_model.specs.Context.{Context, is_closed}
@@ -74,7 +79,8 @@ pub record IsIsomorphism (K P : Context) (f : Set → Set) : Type 0 where
   pub into : (B : Set) → length B ≡ K.width → is_closed K B ≡ true → (length (f B) ≡ P.width) × (is_closed P (f B) ≡ true)
   pub onto : (D : Set) → length D ≡ P.width → is_closed P D ≡ true → (B : Set) × (length B ≡ K.width) × (is_closed K B ≡ true) × (f B ≡ D)
   pub once : (B C : Set) → length B ≡ K.width → length C ≡ K.width → is_closed K B ≡ true → is_closed K C ≡ true → f B ≡ f C → B ≡ C
-  pub order : (B C : Set) → length B ≡ K.width → length C ≡ K.width → is_closed K B ≡ true → is_closed K C ≡ true → within B C ≡ within (f B) (f C)
+  pub order : (B C : Set) → length B ≡ K.width → length C ≡ K.width → is_closed K B ≡ true → is_closed K C ≡ true
+      → within B C ≡ within (f B) (f C)
 
 -- the intents of the part of the objects H and the attributes N are those of K, read at N
 abbrev pub KeepsIntents : Context → List ℕ → List ℕ → Type 0
@@ -84,7 +90,8 @@ KeepsIntents K H N = IsIsomorphism K (part K H N) (read N)
 
 -- object g has a down arrow to attribute m: it lacks m, and each object whose row strictly contains its row has m
 abbrev pub down_arrow : Context → ℕ → ℕ → Bool
-down_arrow K g m = not (slice_index_or (row_at K g) m false) && list_all (λ row. not (strictly_within (row_at K g) row) || slice_index_or row m false) K.rows
+down_arrow K g m = not (slice_index_or (row_at K g) m false) && list_all
+    (λ row. not (strictly_within (row_at K g) row) || slice_index_or row m false) K.rows
 
 -- the attributes whose column strictly contains that of m
 abbrev pub attributes_above : Context → ℕ → Set
@@ -112,7 +119,12 @@ names_at names places = map (λ i. slice_index_or names i []) places
 
 -- the table of the objects H and the attributes N, with the title
 abbrev pub table_part : NamedContext → List ℕ → List ℕ → NamedContext
-table_part t H N = record { title = t.title; objects = names_at t.objects H; attributes = names_at t.attributes N; context = part t.context H N }
+table_part t H N = record {
+  title = t.title;
+  objects = names_at t.objects H;
+  attributes = names_at t.attributes N;
+  context = part t.context H N;
+}
 
 -- the numbers ascend strictly from at least a and are below n
 abbrev pub ascend : ℕ → List ℕ → ℕ → Bool

@@ -3,7 +3,8 @@
 ghost use Rattle.std.specs.Prelude.{◌≡◌, ◌==◌, ℕ, length, true, not};
 ghost use Rattle.std.specs.List.{list_all, list_any, range_with_len};
 ghost use Rattle.fca_model.specs.Context.{Context};
-ghost use Rattle.context_reduce.specs.Reduce.{distinct_objects, distinct_attributes, irreducible_objects, irreducible_attributes, KeepsIntents};
+ghost use Rattle.context_reduce.specs.Reduce.{distinct_objects, distinct_attributes, irreducible_objects, irreducible_attributes};
+ghost use Rattle.context_reduce.specs.Reduce.{KeepsIntents};
 ghost use Rattle.context_reduce.specs.Reduce.{reducible, transpose, column, row_at, up_arrow, down_arrow};
 
 /// The intents of the clarified context and of the reduced one are those of the context, read at the attributes

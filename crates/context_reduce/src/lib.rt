@@ -12,7 +12,8 @@ mod rows;
 mod texts;
 
 ghost use Rattle.std.specs.Prelude.{◌≡◌, IfOk};
-ghost use Rattle.context_reduce.specs.Reduce.{distinct_objects, distinct_attributes, irreducible_objects, irreducible_attributes, KeepsIntents, AreItsPlaces};
+ghost use Rattle.context_reduce.specs.Reduce.{distinct_objects, distinct_attributes, irreducible_objects, irreducible_attributes};
+ghost use Rattle.context_reduce.specs.Reduce.{KeepsIntents, AreItsPlaces};
 
 use columns::{distinct_attributes, irreducible_attributes};
 use context_table::Table;

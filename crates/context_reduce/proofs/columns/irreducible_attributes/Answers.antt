@@ -10,5 +10,6 @@ irreducible_columns-requires-clause-places c = attributes_below c.args.rows.now 
 pub returns : goal.returns
 returns c =
     let K = c.args.rows.now in
-    IfOk-weaker c.irreducible_columns.result (λ kept. kept ≡ filter (λ m. not (reducible (transpose K) (column K m))) c.in_ok-places.places) (λ kept. kept ≡ irreducible_attributes K)
+    IfOk-weaker c.irreducible_columns.result (λ kept. kept ≡ filter (λ m. not (reducible (transpose K) (column K m))) c.in_ok-places.places)
+    (λ kept. kept ≡ irreducible_attributes K)
     (λ kept e. irreducible_attributes_as K c.in_ok-places.places kept c.in_ok-places.ensures e) c.irreducible_columns.ensures

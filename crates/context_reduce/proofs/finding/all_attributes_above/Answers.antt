@@ -8,4 +8,5 @@ pub loop-m-preserved : goal.loop-m-preserved
 loop-m-preserved c =
     let K = c.args.rows.now in
     let m = c.loop-m.m in
-    c.in_ok-push.ensures.items ∙ ap₂ (λ (Zs : List Set) (Z : Set). Zs ++ Z ∷ []) c.loop-m.invariant c.attributes_above.ensures ∙ sym (map-range_with_len_more (attributes_above K) 0 m m (omega arith))
+    c.in_ok-push.ensures.items ∙ ap₂ (λ (Zs : List Set) (Z : Set). Zs ++ Z ∷ []) c.loop-m.invariant c.attributes_above.ensures
+    ∙ sym (map-range_with_len_more (attributes_above K) 0 m m (omega arith))

@@ -8,4 +8,5 @@ returns-clause-rows g c =
     let Rs : List Set = c.as_slice.result.now in
     let from = c.args.k * 256 in
     let rest = take (length Rs - from) (drop from Rs) in
-    ap (λ n. take n rest) c.min.ensures ∙ take_min 256 rest ∙ ap (take 256) (take_rest Rs from) ∙ ap (λ (Zs : List Set). take 256 (drop from Zs)) c.as_slice.ensures.rows
+    ap (λ n. take n rest) c.min.ensures ∙ take_min 256 rest ∙ ap (take 256) (take_rest Rs from)
+    ∙ ap (λ (Zs : List Set). take 256 (drop from Zs)) c.as_slice.ensures.rows

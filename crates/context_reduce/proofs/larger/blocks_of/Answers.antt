@@ -17,4 +17,5 @@ loop-k-preserved g c =
 pub returns : goal.returns
 returns g c =
     let e : c.loop-k.k ≡ c.div_ceil-k-end.result = omega (arith, c.loop-k-test.false, c.loop-k.auto.k-end) in
-    blocks_are c.args.rows.now c.loop-k.blocks.items c.loop-k.k c.loop-k.invariant (e ∙ c.div_ceil-k-end.ensures ∙ ap (λ (n : ℕ). div_ceil n 256) c.len.ensures)
+    blocks_are c.args.rows.now c.loop-k.blocks.items c.loop-k.k c.loop-k.invariant
+    (e ∙ c.div_ceil-k-end.ensures ∙ ap (λ (n : ℕ). div_ceil n 256) c.len.ensures)

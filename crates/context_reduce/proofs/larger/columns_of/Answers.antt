@@ -13,6 +13,7 @@ pub loop-m-preserved : goal.loop-m-preserved
 loop-m-preserved g c =
     let B : Context = block c.args.rows.now c.args.k in
     let m = c.loop-m.m in
-    let is : c.column_of.result ≡ column B m = c.column_of.ensures ∙ ap (λ (Rs : List Set). map (λ row. get_or row m false) Rs) c.block-part.ensures.rows in
+    let is : c.column_of.result ≡ column B m = c.column_of.ensures
+    ∙ ap (λ (Rs : List Set). map (λ row. get_or row m false) Rs) c.block-part.ensures.rows in
     c.in_ok-push.ensures.ok ∙ ap₂ (λ (C : Context) (Z : Set). record C { rows = C.rows ++ Z ∷ [] }) c.loop-m.invariant is
     ∙ ap (λ (Rs : List Set). record { width = length B.rows; rows = Rs }) (sym (map-range_with_len_more (column B) 0 m m (omega arith)))

@@ -5,4 +5,7 @@ use Rattle.context_reduce.specs.Reduce.{column}
 use Rattle.context_reduce.proofs.larger.columns_of.Given as goal
 
 abbrev pub invariant-loop-m : goal.invariant-loop-m
-invariant-loop-m g l = l.columns ≡ record { width = length (block l.rows l.k).rows; rows = map (column (block l.rows l.k)) (range_with_len 0 l.m) }
+invariant-loop-m g l = l.columns ≡ record {
+  width = length (block l.rows l.k).rows;
+  rows = map (column (block l.rows l.k)) (range_with_len 0 l.m);
+}

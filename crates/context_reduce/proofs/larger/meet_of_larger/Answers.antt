@@ -8,7 +8,8 @@ use Rattle.context_reduce.proofs.larger.meet_of_larger.Goals.{then-may_contain+e
 
 pub may_contain-requires : goal.may_contain-requires
 may_contain-requires g c =
-    let wide = block_wide c.args.rows.now c.args.blocks.now c.requires.blocks c.loop-k.k c.index-blocks-k.result c.loop-k-test.true c.index-blocks-k.is in
+    let wide = block_wide c.args.rows.now c.args.blocks.now c.requires.blocks c.loop-k.k c.index-blocks-k.result c.loop-k-test.true
+    c.index-blocks-k.is in
     (omega (arith, c.width.ensures.words), omega (arith, wide, c.requires.wide))
 
 pub returns-then-within : goal.returns-then-within
@@ -32,5 +33,7 @@ loop-k-preserved g c =
           (w.meet_with_larger-met.ensures ∙ ap (λ (Rs : List Set). fold meet M (filter (strictly_within X) Rs)) w.block.ensures.rows)
       | else-may_contain w ↦
           w.met-is ∙ meet_skips X K c.loop-k.k M c.loop-k.invariant
-          (c.may_contain.ensures (block K c.loop-k.k) (block_at K c.args.blocks.now c.requires.blocks c.loop-k.k c.index-blocks-k.result c.loop-k-test.true c.index-blocks-k.is) w.if-may_contain.false)
+          (c.may_contain.ensures (block K c.loop-k.k)
+          (block_at K c.args.blocks.now c.requires.blocks c.loop-k.k c.index-blocks-k.result c.loop-k-test.true c.index-blocks-k.is)
+          w.if-may_contain.false)
     ]

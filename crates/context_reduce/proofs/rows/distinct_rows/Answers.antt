@@ -15,13 +15,16 @@ loop-g-preserved c =
     let row : c.get-row.result ≡ row_at K g = sym (get_or_from_slice_get K.rows g c.get-row.result [] c.get-row.ensures.row) in
     let inside : g < length K.rows = omega (arith, c.loop-g-test.true, c.len-g-end.ensures) in
     let first : c.in_ok-insert.field-0 ≡ is_first K g =
-    c.in_ok-insert.ensures.added ∙ ap not (c.loop-g.invariant.seen c.get-row.result) ∙ ap (λ (X : Set). not (list_any (same X) (take g K.rows))) row in
+    c.in_ok-insert.ensures.added ∙ ap not (c.loop-g.invariant.seen c.get-row.result)
+    ∙ ap (λ (X : Set). not (list_any (same X) (take g K.rows))) row in
     record {
       places = elim c.if-branch.branch [
-        | then-branch+in_ok-push w ↦ w.places-is ∙ kept_more (is_first K) g c.loop-g.places w.push.new.self c.loop-g.invariant.places (sym first ∙ w.if-branch.true) w.in_ok-push.ensures.ok
+        | then-branch+in_ok-push w ↦ w.places-is ∙ kept_more (is_first K) g c.loop-g.places w.push.new.self c.loop-g.invariant.places
+            (sym first ∙ w.if-branch.true) w.in_ok-push.ensures.ok
         | else-branch w ↦ w.places-is ∙ kept_skips (is_first K) g c.loop-g.places c.loop-g.invariant.places (sym first ∙ w.if-branch.false)
       ];
-      seen = λ A. seen_more K.rows g c.get-row.result A c.loop-g.seen c.insert.new.self inside row c.in_ok-insert.ensures.updates (c.loop-g.invariant.seen A);
+      seen = λ A. seen_more K.rows g c.get-row.result A c.loop-g.seen c.insert.new.self inside row c.in_ok-insert.ensures.updates
+          (c.loop-g.invariant.seen A);
     }
 
 pub returns : goal.returns

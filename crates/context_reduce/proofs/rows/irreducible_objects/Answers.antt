@@ -10,5 +10,6 @@ irreducible_rows-requires c = objects_below c.args.rows.now c.in_ok-places.place
 pub returns : goal.returns
 returns c =
     let K = c.args.rows.now in
-    IfOk-weaker c.irreducible_rows.result (λ kept. kept ≡ filter (λ g. not (reducible K (row_at K g))) c.in_ok-places.places) (λ kept. kept ≡ irreducible_objects K)
+    IfOk-weaker c.irreducible_rows.result (λ kept. kept ≡ filter (λ g. not (reducible K (row_at K g))) c.in_ok-places.places)
+    (λ kept. kept ≡ irreducible_objects K)
     (λ kept e. irreducible_objects_as K c.in_ok-places.places kept c.in_ok-places.ensures e) c.irreducible_rows.ensures

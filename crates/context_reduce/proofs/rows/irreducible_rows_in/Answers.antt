@@ -11,8 +11,11 @@ loop-g-preserved gen c =
     let items = c.as_slice-g-items.result.now in
     let k = c.loop-g.g-index in
     elim c.if-not-is_reducible.branch [
-      | then-not-is_reducible+in_ok-push w ↦ w.kept-is ∙ next_kept stays items c.args.places.now k c.loop-g.kept w.push.new.self c.as_slice-g-items.ensures c.loop-g-test.true c.loop-g.invariant
+      | then-not-is_reducible+in_ok-push w ↦ w.kept-is
+          ∙ next_kept stays items c.args.places.now k c.loop-g.kept w.push.new.self c.as_slice-g-items.ensures c.loop-g-test.true
+          c.loop-g.invariant
           (ap not (sym c.is_reducible.ensures ∙ w.if-not-is_reducible.true)) w.in_ok-push.ensures.ok
-      | else-not-is_reducible w ↦ w.kept-is ∙ next_skipped stays items c.args.places.now k c.loop-g.kept c.as_slice-g-items.ensures c.loop-g-test.true c.loop-g.invariant
+      | else-not-is_reducible w ↦ w.kept-is ∙ next_skipped stays items c.args.places.now k c.loop-g.kept c.as_slice-g-items.ensures
+          c.loop-g-test.true c.loop-g.invariant
           (ap not (sym c.is_reducible.ensures ∙ w.if-not-is_reducible.false))
     ]
