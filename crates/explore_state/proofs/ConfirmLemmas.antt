@@ -49,25 +49,29 @@ not_true false e = refl
 unrefuted : (K : Context) (q : Rule) → length q.conclusion ≡ K.width → holds K q ≡ true → list_any (λ r. refutes r q) K.rows ≡ false
 unrefuted K q wide h =
     list_any-not (λ r. refutes r q) K.rows
-    ∙ ap not (list_all-mono (λ r. respects r q) (λ r. not (refutes r q)) (λ r t. turn (within q.premise r) (within q.conclusion r) t) K.rows (sym (holds_by_rows K q wide) ∙ h))
+    ∙ ap not (list_all-mono (λ r. respects r q) (λ r. not (refutes r q)) (λ r t. turn (within q.premise r) (within q.conclusion r) t) K.rows
+    (sym (holds_by_rows K q wide) ∙ h))
   where
     turn : (a b : Bool) → (not a || b) ≡ true → not (a && not b) ≡ true
     turn true true e = refl
     turn true false e = absurd (cc)
     turn false b e = refl
 
-pub confirm_reply-open : (s : State) (i : ℕ) (q : Rule) → slice_get (open_in s) i ≡ Some q → confirm_reply s (Some q) ≡ Accepted (length (rules_of s))
+pub confirm_reply-open : (s : State) (i : ℕ) (q : Rule) → slice_get (open_in s) i ≡ Some q
+    → confirm_reply s (Some q) ≡ Accepted (length (rules_of s))
 confirm_reply-open s i q at =
     let S = s.settings.known in
     let among : Among (open_in s) q = at_place (open_in s) i q at in
     let wide = (draw_gives_held S s.context s.accepted q among).conclusion_wide in
     let here = among (holds s.context) (open_hold S s.context s.accepted) in
-    let new = not_true (has_premise s.accepted q.premise) (among (λ j. not (has_premise s.accepted j.premise)) (open_new S s.context s.accepted)) in
+    let new = not_true (has_premise s.accepted q.premise)
+    (among (λ j. not (has_premise s.accepted j.premise)) (open_new S s.context s.accepted)) in
     ap (confirm_unrefuted s q) (none_with (λ r. refutes r q) 0 s.context.rows (unrefuted s.context q wide here))
     ∙ ap (confirm_unheard s) (none_with (λ j. same j.premise q.premise) (length S) s.accepted new)
 
 -- one that has a place among the open questions
-pub confirm_reply-found : (place : Option ℕ) (q : Rule) (S : List Rule) (K : Context) (acc : List Rule) → IfSome place (λ i. slice_get (open_questions S K acc) i ≡ Some q) → is_some place ≡ true
+pub confirm_reply-found : (place : Option ℕ) (q : Rule) (S : List Rule) (K : Context) (acc : List Rule)
+    → IfSome place (λ i. slice_get (open_questions S K acc) i ≡ Some q) → is_some place ≡ true
     → (s : State) → s.context ≡ K → s.accepted ≡ acc → s.settings.known ≡ S → confirm_reply s (Some q) ≡ Accepted (length (rules_of s))
 confirm_reply-found None q S K acc at there s context accepted known = absurd (cc)
 confirm_reply-found (Some i) q S K acc at there s context accepted known =

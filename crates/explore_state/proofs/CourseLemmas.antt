@@ -30,7 +30,8 @@ use Rattle.explore_state.proofs.KeptLemmas.{kept_settings, kept_known, kept_open
 next_rows : (s : State) (event : SetEvent) → (rows : List Set) × ((next s event).context.rows ≡ s.context.rows ++ rows)
 next_rows s event =
     let same : (rows : List Set) × (s.context.rows ≡ s.context.rows ++ rows) = ([], sym (append-nil s.context.rows)) in
-    by_change s event (λ t. (rows : List Set) × (t.context.rows ≡ s.context.rows ++ rows)) same same (λ _ _. same) (λ _ _ _ _. same) (λ name r q _ _ _ _ _. (r ∷ [], refl))
+    by_change s event (λ t. (rows : List Set) × (t.context.rows ≡ s.context.rows ++ rows)) same same (λ _ _. same) (λ _ _ _ _. same)
+    (λ name r q _ _ _ _ _. (r ∷ [], refl))
 
 run_rows : (s : State) (events : List SetEvent) → (rows : List Set) × ((state_after s events).context.rows ≡ s.context.rows ++ rows)
 unfolding state_after
@@ -60,17 +61,20 @@ module _ (o : Opening) (J : List SetEntry) (K : Context) (acc : List Rule) (hs :
   draw_is_open e q h = subst (λ L. Among L q) opened (draw_asks now.settings.holders (given_back e now.holds) (open_in now) q h)
 
   pub draw_is_free : o.settings.holders ≡ MAX_EXPERTS → (e : ℕ) → Admits o (Draw e) → reply_to now (Draw e) ≢ AllHeld
-  draw_is_free most e ok = never_all_held now (kept_valid o J K acc hs kept) (ap (λ (t : Settings). t.holders) (kept_settings o J K acc hs kept) ∙ most) e (admitted_expert o J K acc hs kept (Draw e) ok)
+  draw_is_free most e ok = never_all_held now (kept_valid o J K acc hs kept)
+      (ap (λ (t : Settings). t.holders) (kept_settings o J K acc hs kept) ∙ most) e (admitted_expert o J K acc hs kept (Draw e) ok)
 
   pub accepted_is : IsAccepted S now.context now.accepted
   accepted_is = subst (λ T. IsAccepted T now.context now.accepted) (kept_known o J K acc hs kept) (kept_valid o J K acc hs kept).accepted
 
   pub accepted_hold : list_all (holds now.context) now.accepted ≡ true
   accepted_hold = list_all-mono (is_member S now.context) (holds now.context) (λ i m.
-      subst (λ C. within C (closure now.context i.premise) ≡ true) (sym (ap (λ (j : Rule). j.conclusion) (member_parts S now.context i m).2)) (within_refl (closure now.context i.premise)))
+      subst (λ C. within C (closure now.context i.premise) ≡ true)
+      (sym (ap (λ (j : Rule). j.conclusion) (member_parts S now.context i m).2)) (within_refl (closure now.context i.premise)))
       now.accepted accepted_is.members
 
-  pub basis_is : list_all (holds now.context) S ≡ true → open_questions S now.context now.accepted ≡ [] → IsBasisBeside S now.context now.accepted
+  pub basis_is : list_all (holds now.context) S ≡ true → open_questions S now.context now.accepted ≡ []
+      → IsBasisBeside S now.context now.accepted
   basis_is known done = record {
     members = accepted_members S now.context now.accepted accepted_is done;
     once = accepted_length S now.context now.accepted accepted_is done;
@@ -86,5 +90,6 @@ module _ (o : Opening) (J : List SetEntry) (K : Context) (acc : List Rule) (hs :
         recorded = rows.0;
         rows = rows.1;
         width = run_width (opening_state o) (events_of J);
-        count = exploration_count (opening_state o) (kept_opened o J K acc hs kept) (events_of J) (legal_events (opening_state o) J kept.legal).0 rows.0 rows.1;
+        count = exploration_count (opening_state o) (kept_opened o J K acc hs kept) (events_of J)
+            (legal_events (opening_state o) J kept.legal).0 rows.0 rows.1;
       }

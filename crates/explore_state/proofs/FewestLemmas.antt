@@ -48,10 +48,12 @@ module _ (hs : List SetHold) (J : List Rule) where
 
 -- ---- the first that passes
 
-pub find_at : {X : Type 0} (p : X → Bool) (xs : List X) (b : ℕ) (d : X) → b < length xs → p (get_or xs b d) ≡ true → ((k : ℕ) → k < b → p (get_or xs k d) ≡ false) → find p xs ≡ Some (get_or xs b d)
+pub find_at : {X : Type 0} (p : X → Bool) (xs : List X) (b : ℕ) (d : X) → b < length xs → p (get_or xs b d) ≡ true
+    → ((k : ℕ) → k < b → p (get_or xs k d) ≡ false) → find p xs ≡ Some (get_or xs b d)
 find_at p [] b d lt t before = absurd (omega arith)
 find_at p (x ∷ xs) zero d lt t before = ap (λ b. cond b (Some x) (find p xs)) t
-find_at p (x ∷ xs) (suc b) d lt t before = ap (λ b. cond b (Some x) (find p xs)) (before 0 (omega arith)) ∙ find_at p xs b d (omega arith) t (λ k l. before (suc k) (omega arith))
+find_at p (x ∷ xs) (suc b) d lt t before = ap (λ b. cond b (Some x) (find p xs)) (before 0 (omega arith))
+    ∙ find_at p xs b d (omega arith) t (λ k l. before (suc k) (omega arith))
 
 module _ (hs : List SetHold) (J : List Rule) (b : ℕ) (d : Rule) (f : IsFewest hs J (length J) b) where
   abbrev count : Rule → ℕ
@@ -62,10 +64,12 @@ module _ (hs : List SetHold) (J : List Rule) (b : ℕ) (d : Rule) (f : IsFewest 
 
   pub least_held_is : least_held hs J ≡ Some (get_or J b d)
   least_held_is = find_at is_least J b d f.in_range
-      (list_all-from_AllPass (λ j. leb (count (get_or J b d)) (count j)) J (λ k e lt. le-leb (count (get_or J b d)) (count (get_or J k e)) (at_most k e lt)))
+      (list_all-from_AllPass (λ j. leb (count (get_or J b d)) (count j)) J
+      (λ k e lt. le-leb (count (get_or J b d)) (count (get_or J k e)) (at_most k e lt)))
       (λ k lt. false_from_ne_true (is_least (get_or J k d)) (λ t.
       let range = f.in_range in
-      let le = leb-true (count (get_or J k d)) (count (get_or J b d)) (AllPass-from_list_all (λ j. leb (count (get_or J k d)) (count j)) J t b d range) in
+      let le = leb-true (count (get_or J k d)) (count (get_or J b d))
+      (AllPass-from_list_all (λ j. leb (count (get_or J k d)) (count j)) J t b d range) in
       let less = f.first k d lt in
       omega arith))
     where
@@ -83,7 +87,8 @@ module _ (hs : List SetHold) (J : List Rule) (b : ℕ) (d : Rule) (f : IsFewest 
     where
       by_case : (is : List Rule) → is ≡ J → draw_reply most hs is ≡ AllHeld
       by_case [] e = let range = f.in_range in let none = ap length e in absurd (omega arith)
-      by_case (i ∷ is) e = ap (λ b. cond b AllHeld (asked (least_held hs (i ∷ is)))) (list_all-from_AllPass (λ j. leb most (count j)) (i ∷ is) (λ k c lt.
+      by_case (i ∷ is) e = ap (λ b. cond b AllHeld (asked (least_held hs (i ∷ is))))
+          (list_all-from_AllPass (λ j. leb most (count j)) (i ∷ is) (λ k c lt.
           let here : k < length J = subst (λ js. k < length js) e lt in
           let least = f.fewest k d here in
           le-leb most (count (get_or (i ∷ is) k c)) (subst (λ js. most ≤ count (get_or js k c)) (sym e) (at k c here))))
@@ -104,6 +109,7 @@ module _ (hs : List SetHold) (J : List Rule) (b : ℕ) (d : Rule) (f : IsFewest 
       by_case [] e = let range = f.in_range in let none = ap length e in absurd (omega arith)
       by_case (i ∷ is) e =
           let free : all_held most hs (i ∷ is) ≡ false = false_from_ne_true (all_held most hs (i ∷ is)) (λ t.
-          let le = leb-true most (count (get_or J b d)) (AllPass-from_list_all (λ j. leb most (count j)) J (subst (λ js. all_held most hs js ≡ true) e t) b d f.in_range) in
+          let le = leb-true most (count (get_or J b d))
+          (AllPass-from_list_all (λ j. leb most (count j)) J (subst (λ js. all_held most hs js ≡ true) e t) b d f.in_range) in
           omega arith) in
           ap (λ c. cond c AllHeld (asked (least_held hs (i ∷ is)))) free ∙ ap asked (ap (least_held hs) e ∙ least_held_is)

@@ -26,8 +26,10 @@ holders_more e k P hs h d lt is =
     ∙ holders_of-append P (given_back e (take k hs)) (given_back e (get_or hs k d ∷ []))
     ∙ ap (λ n. holders_of P (given_back e (take k hs)) + n) (one e P (get_or hs k d) ∙ ap (λ g. cond (is_other e P g) 1 0) (sym is))
 
-pub holders_counted : (e k : ℕ) (P : Set) (hs : List SetHold) (h : SetHold) → k < length hs → h ≡ get_or hs k h → is_other e P h ≡ true → holders_of P (given_back e (take (k + 1) hs)) ≡ holders_of P (given_back e (take k hs)) + 1
+pub holders_counted : (e k : ℕ) (P : Set) (hs : List SetHold) (h : SetHold) → k < length hs → h ≡ get_or hs k h → is_other e P h ≡ true
+    → holders_of P (given_back e (take (k + 1) hs)) ≡ holders_of P (given_back e (take k hs)) + 1
 holders_counted e k P hs h lt is t = holders_more e k P hs h h lt is ∙ ap (λ b. holders_of P (given_back e (take k hs)) + cond b 1 0) t
 
-pub holders_skipped : (e k : ℕ) (P : Set) (hs : List SetHold) (h : SetHold) → k < length hs → h ≡ get_or hs k h → is_other e P h ≡ false → holders_of P (given_back e (take (k + 1) hs)) ≡ holders_of P (given_back e (take k hs)) + 0
+pub holders_skipped : (e k : ℕ) (P : Set) (hs : List SetHold) (h : SetHold) → k < length hs → h ≡ get_or hs k h → is_other e P h ≡ false
+    → holders_of P (given_back e (take (k + 1) hs)) ≡ holders_of P (given_back e (take k hs)) + 0
 holders_skipped e k P hs h lt is f = holders_more e k P hs h h lt is ∙ ap (λ b. holders_of P (given_back e (take k hs)) + cond b 1 0) f

@@ -1,4 +1,5 @@
--- What the parts of an exploration show of its state, and how one event keeps it. The journal is legal, so the state after it is valid; the reply is read
+-- What the parts of an exploration show of its state, and how one event keeps it. The journal is legal, so the state after it is valid; the
+-- reply is read
 -- off the settings, the rows, the accepted implications and the holds.
 use Rattle.std.proofs.Common.{◌≡◌, ℕ, true, Some, None, List, [], ◌∷◌, ◌++◌, leb, le-leb, leb-true, refl, sym, ap, ap₂, ◌∙◌, subst, arith}
 use Rattle.std.proofs.lemmas.Bool.{and_parts, and_from}
@@ -21,9 +22,11 @@ use Rattle.explore_state.specs.Kept.{IsShown, IsKept, IsDue}
 -- with nothing known, what holds at the opening
 pub opened_valid : (o : Opening) → o.settings ≡ plain → IsValid (opening_state o)
 opened_valid o p = opening_valid o.table.context o.table.objects o.settings
-    (subst (λ (t : Settings). rows_respect t.known o.table.context ≡ true) (sym p) (list_all_from (respects_all []) (λ row. refl) o.table.context.rows))
+    (subst (λ (t : Settings). rows_respect t.known o.table.context ≡ true) (sym p)
+    (list_all_from (respects_all []) (λ row. refl) o.table.context.rows))
 
-pub kept_opening : (o : Opening) (J : List SetEntry) (K : Context) (acc : List Rule) (hs : List SetHold) → is_expert o.experts ≡ true → rows_respect o.settings.known o.table.context ≡ true
+pub kept_opening : (o : Opening) (J : List SetEntry) (K : Context) (acc : List Rule) (hs : List SetHold) → is_expert o.experts ≡ true
+    → rows_respect o.settings.known o.table.context ≡ true
     → J ≡ [] → K ≡ o.table.context → acc ≡ [] → hs ≡ [] → IsKept o J K acc hs
 unfolding state_after
 kept_opening o J K acc hs e respecting no_entry rows nothing none = subst (λ H. IsKept o H K acc hs) (sym no_entry) (record {
@@ -43,7 +46,8 @@ module _ (o : Opening) (J : List SetEntry) (K : Context) (acc : List Rule) (hs :
       let most = leb-true o.experts MAX_EXPERTS (and_parts (leb 1 o.experts) (leb o.experts MAX_EXPERTS) kept.experts).1 in
       let first = ok.first in
       let last = ok.last in
-      and_from (leb 1 (expert_of event)) (leb (expert_of event) MAX_EXPERTS) (le-leb 1 (expert_of event) first) (le-leb (expert_of event) MAX_EXPERTS (omega arith))
+      and_from (leb 1 (expert_of event)) (leb (expert_of event) MAX_EXPERTS) (le-leb 1 (expert_of event) first)
+      (le-leb (expert_of event) MAX_EXPERTS (omega arith))
 
   pub kept_width : K.width ≡ o.table.context.width
   kept_width = ap (λ (L : Context). L.width) (sym kept.shown.context) ∙ run_width (opening_state o) (events_of J)
@@ -64,7 +68,8 @@ module _ (o : Opening) (J : List SetEntry) (K : Context) (acc : List Rule) (hs :
   kept_valid = legal_valid (opening_state o) J kept_opened kept.legal
 
   -- one entry more
-  pub kept_push : (event : SetEvent) (reply : SetReply) (J' : List SetEntry) (K' : Context) (acc' : List Rule) (hs' : List SetHold) → Admits o event → reply ≡ reply_to s event
+  pub kept_push : (event : SetEvent) (reply : SetReply) (J' : List SetEntry) (K' : Context) (acc' : List Rule) (hs' : List SetHold)
+      → Admits o event → reply ≡ reply_to s event
       → J' ≡ J ++ record { event = event; reply = reply } ∷ [] → IsShown (after s event reply) K' acc' hs' → IsKept o J' K' acc' hs'
   kept_push event reply J' K' acc' hs' ok is more shown =
       let entry : SetEntry = record { event = event; reply = reply } in
@@ -73,19 +78,23 @@ module _ (o : Opening) (J : List SetEntry) (K : Context) (acc : List Rule) (hs :
       ap (state_after (opening_state o)) events ∙ state_after-push (opening_state o) (events_of J) event ∙ ap (after s event) (sym is) in
       record {
         shown = subst (λ t. IsShown t K' acc' hs') (sym moved) shown;
-        legal = subst (IsLegal (opening_state o)) (sym (more ∙ ap (λ r. J ++ record { event = event; reply = r } ∷ []) is)) (legal_push (opening_state o) J event kept.legal (admitted_expert event ok) ok.wide);
+        legal = subst (IsLegal (opening_state o)) (sym (more ∙ ap (λ r. J ++ record { event = event; reply = r } ∷ []) is))
+            (legal_push (opening_state o) J event kept.legal (admitted_expert event ok) ok.wide);
         experts = kept.experts;
         known = kept.known;
       }
 
 -- the journal with one more entry, which was put on one that is the same, with a reply that is the same
 pub entry_put : (J roomy J' : List SetEntry) (event : SetEvent) (reply copy : SetReply)
-    → J' ≡ roomy ++ record { event = event; reply = copy } ∷ [] → roomy ≡ J → copy ≡ reply → J' ≡ J ++ record { event = event; reply = reply } ∷ []
+    → J' ≡ roomy ++ record { event = event; reply = copy } ∷ [] → roomy ≡ J → copy ≡ reply
+    → J' ≡ J ++ record { event = event; reply = reply } ∷ []
 entry_put J roomy J' event reply copy put same again =
-    put ∙ ap (λ (L : List SetEntry). L ++ record { event = event; reply = copy } ∷ []) same ∙ ap (λ (r : SetReply). J ++ record { event = event; reply = r } ∷ []) again
+    put ∙ ap (λ (L : List SetEntry). L ++ record { event = event; reply = copy } ∷ []) same
+    ∙ ap (λ (r : SetReply). J ++ record { event = event; reply = r } ∷ []) again
 
 -- the state moves by one step
-pub state_moves : (s : State) (J J' : List SetEntry) (event : SetEvent) (reply : SetReply) → J' ≡ J ++ record { event = event; reply = reply } ∷ [] → state_after s (events_of J') ≡ next (state_after s (events_of J)) event
+pub state_moves : (s : State) (J J' : List SetEntry) (event : SetEvent) (reply : SetReply)
+    → J' ≡ J ++ record { event = event; reply = reply } ∷ [] → state_after s (events_of J') ≡ next (state_after s (events_of J)) event
 state_moves s J J' event reply more =
     let entry : SetEntry = record { event = event; reply = reply } in
     ap (state_after s) (ap events_of more ∙ events_of-push J entry) ∙ state_after-push s (events_of J) event
@@ -99,27 +108,33 @@ module _ (o : Opening) (J : List SetEntry) (K : Context) (acc : List Rule) (hs :
   known : now.settings.known ≡ o.settings.known
   known = kept_known o J K acc hs kept
 
-  pub reply_to-draw : (e : ℕ) → reply_to now (Draw e) ≡ draw_reply o.settings.holders (given_back e hs) (open_questions o.settings.known K acc)
+  pub reply_to-draw : (e : ℕ) → reply_to now (Draw e) ≡ draw_reply o.settings.holders (given_back e hs)
+      (open_questions o.settings.known K acc)
   unfolding reply_to
   reply_to-draw e =
       ap (λ n. draw_reply n (given_back e now.holds) (open_in now)) (ap (λ (t : Settings). t.holders) (kept_settings o J K acc hs kept))
       ∙ ap (λ gs. draw_reply o.settings.holders (given_back e gs) (open_in now)) kept.shown.holds
       ∙ ap (λ S. draw_reply o.settings.holders (given_back e hs) (open_questions S now.context now.accepted)) known
-      ∙ ap₂ (λ L A. draw_reply o.settings.holders (given_back e hs) (open_questions o.settings.known L A)) kept.shown.context kept.shown.accepted
+      ∙ ap₂ (λ L A. draw_reply o.settings.holders (given_back e hs) (open_questions o.settings.known L A)) kept.shown.context
+      kept.shown.accepted
 
   pub reply_to-confirm : (e : ℕ) (q : Rule) (r : SetReply) → held_by e hs ≡ Some q
-      → ((t : State) → t.context ≡ K → t.accepted ≡ acc → t.settings.known ≡ o.settings.known → r ≡ confirm_reply t (Some q)) → r ≡ reply_to now (Confirm e)
+      → ((t : State) → t.context ≡ K → t.accepted ≡ acc → t.settings.known ≡ o.settings.known → r ≡ confirm_reply t (Some q))
+      → r ≡ reply_to now (Confirm e)
   unfolding reply_to
-  reply_to-confirm e q r held is = is now kept.shown.context kept.shown.accepted known ∙ sym (ap (confirm_reply now) (ap (held_by e) kept.shown.holds ∙ held))
+  reply_to-confirm e q r held is = is now kept.shown.context kept.shown.accepted known
+      ∙ sym (ap (confirm_reply now) (ap (held_by e) kept.shown.holds ∙ held))
 
   pub reply_to-confirm_none : (e : ℕ) → held_by e hs ≡ None → NotHeld ≡ reply_to now (Confirm e)
   unfolding reply_to
   reply_to-confirm_none e held = sym (ap (confirm_reply now) (ap (held_by e) kept.shown.holds ∙ held))
 
   pub reply_to-row : (e : ℕ) (name : RowName) (row : Set) (q : Rule) (r : SetReply) → held_by e hs ≡ Some q
-      → ((t : State) → t.context ≡ K → rules_of t ≡ o.settings.known ++ acc → r ≡ row_reply t (Some q) row) → r ≡ reply_to now (Row e name row)
+      → ((t : State) → t.context ≡ K → rules_of t ≡ o.settings.known ++ acc → r ≡ row_reply t (Some q) row)
+      → r ≡ reply_to now (Row e name row)
   unfolding reply_to
-  reply_to-row e name row q r held is = is now kept.shown.context (kept_rules o J K acc hs kept) ∙ sym (ap (λ m. row_reply now m row) (ap (held_by e) kept.shown.holds ∙ held))
+  reply_to-row e name row q r held is = is now kept.shown.context (kept_rules o J K acc hs kept)
+      ∙ sym (ap (λ m. row_reply now m row) (ap (held_by e) kept.shown.holds ∙ held))
 
   pub reply_to-row_none : (e : ℕ) (name : RowName) (row : Set) → held_by e hs ≡ None → NotHeld ≡ reply_to now (Row e name row)
   unfolding reply_to
@@ -130,7 +145,8 @@ module _ (o : Opening) (J : List SetEntry) (K : Context) (acc : List Rule) (hs :
   reply_to-leave e = refl
 
   -- an event that is admitted is due its reply
-  pub kept_due : (event : SetEvent) (reply : SetReply) → Admits o event → reply ≡ reply_to now event → IsDue o.settings.known K acc hs event reply
+  pub kept_due : (event : SetEvent) (reply : SetReply) → Admits o event → reply ≡ reply_to now event
+      → IsDue o.settings.known K acc hs event reply
   kept_due event reply ok is = record {
     state = now;
     shown = kept.shown;

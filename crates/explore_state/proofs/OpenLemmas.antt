@@ -26,22 +26,30 @@ not_not true e = refl
 not_not false e = absurd (cc)
 
 unbroken_row : (S : List Rule) (row : Set) → broken_by S row ≡ None → respects_all S row ≡ true
-unbroken_row S row e = list_all-mono (λ i. not (not (respects row i))) (respects row) (λ i t. not_not (respects row i) t) S (position_none (λ i. not (respects row i)) S e)
+unbroken_row S row e = list_all-mono (λ i. not (not (respects row i))) (respects row) (λ i t. not_not (respects row i) t) S
+    (position_none (λ i. not (respects row i)) S e)
 
-first_break-unbroken : (S : List Rule) (k : ℕ) (row : Set) (rows : List Set) → broken_by S row ≡ None → first_break S k (row ∷ rows) ≡ first_break S (k + 1) rows
+first_break-unbroken : (S : List Rule) (k : ℕ) (row : Set) (rows : List Set) → broken_by S row ≡ None
+    → first_break S k (row ∷ rows) ≡ first_break S (k + 1) rows
 first_break-unbroken S k row rows e = ap (λ m. break_at k m (first_break S (k + 1) rows)) e
 
 -- one row further
-pub first_break-next : (S : List Rule) (rows : List Set) (k : ℕ) (d : Set) → k < length rows → broken_by S (get_or rows k d) ≡ None → first_break S k (drop k rows) ≡ first_break S (k + 1) (drop (k + 1) rows)
-first_break-next S rows k d lt e = ap (first_break S k) (drop_more rows k d lt) ∙ first_break-unbroken S k (get_or rows k d) (drop (k + 1) rows) e
+pub first_break-next : (S : List Rule) (rows : List Set) (k : ℕ) (d : Set) → k < length rows → broken_by S (get_or rows k d) ≡ None
+    → first_break S k (drop k rows) ≡ first_break S (k + 1) (drop (k + 1) rows)
+first_break-next S rows k d lt e = ap (first_break S k) (drop_more rows k d lt)
+    ∙ first_break-unbroken S k (get_or rows k d) (drop (k + 1) rows) e
 
 -- the row breaks something here
-pub first_break-here : (S : List Rule) (rows : List Set) (k i : ℕ) (d : Set) → k < length rows → broken_by S (get_or rows k d) ≡ Some i → first_break S k (drop k rows) ≡ Some (k, i)
-first_break-here S rows k i d lt e = ap (first_break S k) (drop_more rows k d lt) ∙ ap (λ m. break_at k m (first_break S (k + 1) (drop (k + 1) rows))) e
+pub first_break-here : (S : List Rule) (rows : List Set) (k i : ℕ) (d : Set) → k < length rows → broken_by S (get_or rows k d) ≡ Some i
+    → first_break S k (drop k rows) ≡ Some (k, i)
+first_break-here S rows k i d lt e = ap (first_break S k) (drop_more rows k d lt)
+    ∙ ap (λ m. break_at k m (first_break S (k + 1) (drop (k + 1) rows))) e
 
-unbroken_by : (S : List Rule) (k : ℕ) (row : Set) (rows : List Set) → (m : Option ℕ) → broken_by S row ≡ m → break_at k m (first_break S (k + 1) rows) ≡ None
+unbroken_by : (S : List Rule) (k : ℕ) (row : Set) (rows : List Set) → (m : Option ℕ) → broken_by S row ≡ m
+    → break_at k m (first_break S (k + 1) rows) ≡ None
     → (first_break S (k + 1) rows ≡ None → list_all (respects_all S) rows ≡ true) → list_all (respects_all S) (row ∷ rows) ≡ true
-unbroken_by S k row rows None is none later = and_from (respects_all S row) (list_all (respects_all S) rows) (unbroken_row S row is) (later none)
+unbroken_by S k row rows None is none later = and_from (respects_all S row) (list_all (respects_all S) rows) (unbroken_row S row is)
+    (later none)
 unbroken_by S k row rows (Some i) is none later = absurd (cc)
 
 pub unbroken_rows : (S : List Rule) (k : ℕ) (rows : List Set) → first_break S k rows ≡ None → list_all (respects_all S) rows ≡ true
@@ -54,14 +62,16 @@ first_break-nothing k (row ∷ rows) = first_break-nothing (k + 1) rows
 
 -- ---- no cause
 
-pub no_fault : (K : Context) (e : ℕ) (s : Settings) → open_fault K e s ≡ None → (is_expert e ≡ true) × (rows_respect s.known K ≡ true) × (is_expert s.holders ≡ true)
+pub no_fault : (K : Context) (e : ℕ) (s : Settings) → open_fault K e s ≡ None
+    → (is_expert e ≡ true) × (rows_respect s.known K ≡ true) × (is_expert s.holders ≡ true)
 no_fault K e s none = few (is_expert e) refl none
   where
     holding : (b : Bool) → is_expert s.holders ≡ b → cond b None (Some (BadHolders s.holders)) ≡ None → is_expert s.holders ≡ true
     holding true is none = is
     holding false is none = absurd (cc)
 
-    unbroken : (m : Option (ℕ × ℕ)) → first_break s.known 0 K.rows ≡ m → settings_fault s m ≡ None → (rows_respect s.known K ≡ true) × (is_expert s.holders ≡ true)
+    unbroken : (m : Option (ℕ × ℕ)) → first_break s.known 0 K.rows ≡ m → settings_fault s m ≡ None
+        → (rows_respect s.known K ≡ true) × (is_expert s.holders ≡ true)
     unbroken None is none = (unbroken_rows s.known 0 K.rows is, holding (is_expert s.holders) refl none)
     unbroken (Some found) is none = absurd (cc)
 
@@ -71,7 +81,8 @@ no_fault K e s none = few (is_expert e) refl none
     few false is none = absurd (cc)
 
 pub open_fault-plain : (K : Context) (e : ℕ) → is_expert e ≡ true → open_fault K e plain ≡ None
-open_fault-plain K e few = ap (λ b. cond b (settings_fault plain (first_break [] 0 K.rows)) (Some (BadExperts e))) few ∙ ap (settings_fault plain) (first_break-nothing 0 K.rows)
+open_fault-plain K e few = ap (λ b. cond b (settings_fault plain (first_break [] 0 K.rows)) (Some (BadExperts e))) few
+    ∙ ap (settings_fault plain) (first_break-nothing 0 K.rows)
 
 -- ---- widths of what is known
 
@@ -82,7 +93,8 @@ wide_rules n S h k d lt =
     (eqb-true (length i.premise) n parts.0, eqb-true (length i.conclusion) n parts.1)
 
 pub wide_conclusions : (n : ℕ) (S : List Rule) → HaveWidth n S → list_all (λ i. eqb (length i.conclusion) n) S ≡ true
-wide_conclusions n S h = list_all-mono (has_width n) (λ i. eqb (length i.conclusion) n) (λ i t. (and_parts (eqb (length i.premise) n) (eqb (length i.conclusion) n) t).1) S h
+wide_conclusions n S h = list_all-mono (has_width n) (λ i. eqb (length i.conclusion) n)
+    (λ i t. (and_parts (eqb (length i.premise) n) (eqb (length i.conclusion) n) t).1) S h
 
 -- ---- plain settings
 

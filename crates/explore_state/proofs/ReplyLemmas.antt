@@ -1,4 +1,4 @@
--- What a reply tells of the state. A confirmation is accepted only where no row refutes the question that is held and its premise is
+-- What a reply shows of the state. A confirmation is accepted only where no row refutes the question that is held and its premise is
 -- new, and a row is taken only where it respects all rules.
 use Rattle.std.proofs.Common.{◌≡◌, ℕ, ◌<◌, Bool, true, false, not, Option, Some, None, List, [], ◌++◌, length, eqb-true, refl, sym, ap, ◌∙◌, subst}
 use Rattle.std.specs.List.{list_any}
@@ -18,14 +18,17 @@ use Rattle.explore_state.specs.Kept.{IsDue, IsTimely}
 
 -- ---- a confirmation that is accepted
 
-accepts : (s : State) (q : Rule) (k : ℕ) → confirm_reply s (Some q) ≡ Accepted k → (list_any (λ r. refutes r q) s.context.rows ≡ false) × (has_premise s.accepted q.premise ≡ false)
+accepts : (s : State) (q : Rule) (k : ℕ) → confirm_reply s (Some q) ≡ Accepted k
+    → (list_any (λ r. refutes r q) s.context.rows ≡ false) × (has_premise s.accepted q.premise ≡ false)
 accepts s q k e = unrefuted (first_with (λ r. refutes r q) 0 s.context.rows) refl e
   where
-    unheard : (m : Option (ℕ × Rule)) → first_with (λ i. same i.premise q.premise) (length s.settings.known) s.accepted ≡ m → confirm_unheard s m ≡ Accepted k → has_premise s.accepted q.premise ≡ false
+    unheard : (m : Option (ℕ × Rule)) → first_with (λ i. same i.premise q.premise) (length s.settings.known) s.accepted ≡ m
+        → confirm_unheard s m ≡ Accepted k → has_premise s.accepted q.premise ≡ false
     unheard None found e = first_with_none (λ i. same i.premise q.premise) (length s.settings.known) s.accepted found
     unheard (Some x) found e = absurd (cc)
 
-    unrefuted : (m : Option (ℕ × Set)) → first_with (λ r. refutes r q) 0 s.context.rows ≡ m → confirm_unrefuted s q m ≡ Accepted k → (list_any (λ r. refutes r q) s.context.rows ≡ false) × (has_premise s.accepted q.premise ≡ false)
+    unrefuted : (m : Option (ℕ × Set)) → first_with (λ r. refutes r q) 0 s.context.rows ≡ m → confirm_unrefuted s q m ≡ Accepted k
+        → (list_any (λ r. refutes r q) s.context.rows ≡ false) × (has_premise s.accepted q.premise ≡ false)
     unrefuted None found e = (
       first_with_none (λ r. refutes r q) 0 s.context.rows found,
       unheard (first_with (λ i. same i.premise q.premise) (length s.settings.known) s.accepted) refl e,
@@ -33,7 +36,8 @@ accepts s q k e = unrefuted (first_with (λ r. refutes r q) 0 s.context.rows) re
     unrefuted (Some x) found e = absurd (cc)
 
 module _ (S : List Rule) (K : Context) (acc : List Rule) (hs : List SetHold) where
-  pub accepted_timely : (e k : ℕ) (reply : SetReply) → IsDue S K acc hs (Confirm e) reply → reply ≡ Accepted k → (q : Rule) → held_by e hs ≡ Some q → IsTimely S K acc q
+  pub accepted_timely : (e k : ℕ) (reply : SetReply) → IsDue S K acc hs (Confirm e) reply → reply ≡ Accepted k → (q : Rule)
+      → held_by e hs ≡ Some q → IsTimely S K acc q
   unfolding reply_to
   accepted_timely e k reply due is q held =
       let s = due.state in
@@ -42,7 +46,9 @@ module _ (S : List Rule) (K : Context) (acc : List Rule) (hs : List SetHold) whe
       let may = held_valid s due.valid e q mine in
       let here = unrefuted_holds s.context q may.conclusion_wide told.0 in
       record {
-        held = subst (λ T. IsHeld T K acc q) due.known (subst (λ J. IsHeld s.settings.known K J q) due.shown.accepted (subst (λ L. IsHeld s.settings.known L s.accepted q) due.shown.context may));
+        held = subst (λ T. IsHeld T K acc q) due.known
+            (subst (λ J. IsHeld s.settings.known K J q) due.shown.accepted
+            (subst (λ L. IsHeld s.settings.known L s.accepted q) due.shown.context may));
         holds = subst (λ L. holds L q ≡ true) due.shown.context here;
         new = subst (λ J. has_premise J q.premise ≡ false) due.shown.accepted told.1;
       }
@@ -53,7 +59,8 @@ takes : (s : State) (h : Option Rule) (r : Set) (k : ℕ) → row_reply s h r �
 takes s None r k e = absurd (cc)
 takes s (Some q) r k e = fitting (first_missing 0 q.premise r) e
   where
-    unbroken : (m : Option (ℕ × Rule)) → first_with (λ i. not (respects r i)) 0 (rules_of s) ≡ m → row_unbroken s q m ≡ Taken k → respects_all (rules_of s) r ≡ true
+    unbroken : (m : Option (ℕ × Rule)) → first_with (λ i. not (respects r i)) 0 (rules_of s) ≡ m → row_unbroken s q m ≡ Taken k
+        → respects_all (rules_of s) r ≡ true
     unbroken None found e = list_all-from_none (respects r) (rules_of s) (first_with_none (λ i. not (respects r i)) 0 (rules_of s) found)
     unbroken (Some x) found e = absurd (cc)
 
@@ -66,12 +73,14 @@ takes s (Some q) r k e = fitting (first_missing 0 q.premise r) e
     fitting (Some a) e = absurd (cc)
 
 module _ (S : List Rule) (K : Context) (acc : List Rule) (hs : List SetHold) where
-  pub taken_respects : (e k : ℕ) (name : RowName) (r : Set) (reply : SetReply) → IsDue S K acc hs (Row e name r) reply → reply ≡ Taken k → respects_all (S ++ acc) r ≡ true
+  pub taken_respects : (e k : ℕ) (name : RowName) (r : Set) (reply : SetReply) → IsDue S K acc hs (Row e name r) reply → reply ≡ Taken k
+      → respects_all (S ++ acc) r ≡ true
   unfolding reply_to
   taken_respects e k name r reply due is =
       let s = due.state in
       let all = takes s (held_by e s.holds) r k (sym due.reply ∙ is) in
-      subst (λ T. respects_all (T ++ acc) r ≡ true) due.known (subst (λ J. respects_all (s.settings.known ++ J) r ≡ true) due.shown.accepted all)
+      subst (λ T. respects_all (T ++ acc) r ≡ true) due.known
+      (subst (λ J. respects_all (s.settings.known ++ J) r ≡ true) due.shown.accepted all)
 
   pub row_width : (e : ℕ) (name : RowName) (r : Set) (reply : SetReply) → IsDue S K acc hs (Row e name r) reply → length r ≡ K.width
   row_width e name r reply due = eqb-true (length r) K.width due.wide
@@ -80,4 +89,5 @@ module _ (S : List Rule) (K : Context) (acc : List Rule) (hs : List SetHold) whe
 
   -- there is room for one more hold
   pub draw_room : (e : ℕ) (reply : SetReply) → IsDue S K acc hs (Draw e) reply → length (given_back e hs) < MAX_EXPERTS
-  draw_room e reply due = subst (λ gs. length (given_back e gs) < MAX_EXPERTS) due.shown.holds (others_fewer e (rule [] []) due.state.holds due.expert due.valid.experts)
+  draw_room e reply due = subst (λ gs. length (given_back e gs) < MAX_EXPERTS) due.shown.holds
+      (others_fewer e (rule [] []) due.state.holds due.expert due.valid.experts)

@@ -4,8 +4,10 @@ use Rattle.std.proofs.Common.{◌≡◌, Bool, true, false, List, [], ◌∷◌,
 use Rattle.std.specs.List.{items_where_true}
 use Rattle.std.specs.List.Retain.{IsFiltered, ReturnsInTurn}
 
-module _ {X P : Type 0} (R : P → X → Bool → P → Type 0) (test : X → Bool) (f : P) (says : (x : X) (b : Bool) (q : P) → R f x b q → (b ≡ test x) × (q ≡ f)) where
-  kept : (bs : List Bool) (xs : List X) (p q : P) → p ≡ f → length bs ≡ length xs → ReturnsInTurn R p bs xs q → items_where_true bs xs ≡ filter test xs
+module _ {X P : Type 0} (R : P → X → Bool → P → Type 0) (test : X → Bool) (f : P)
+    (says : (x : X) (b : Bool) (q : P) → R f x b q → (b ≡ test x) × (q ≡ f)) where
+  kept : (bs : List Bool) (xs : List X) (p q : P) → p ≡ f → length bs ≡ length xs → ReturnsInTurn R p bs xs q
+      → items_where_true bs xs ≡ filter test xs
   kept [] [] p q e l h = refl
   kept [] (x ∷ xs) p q e l h = absurd (omega arith)
   kept (b ∷ bs) [] p q e l h = absurd (omega arith)

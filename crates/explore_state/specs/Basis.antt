@@ -16,7 +16,7 @@ pub record IsBasisBeside (S : List Rule) (K : Context) (J : List Rule) : Type 0 
       → holds K i ≡ follows K.width (S ++ J) i
   pub least : (L : List Rule) → equivalent K.width (S ++ L) (S ++ J) ≡ true → length J ≤ length L
 
--- where nothing is known
+-- the list is a basis: nothing is known beside it
 abbrev pub IsBasis : Context → List Rule → Type 0
 IsBasis K J = IsBasisBeside [] K J
 

@@ -42,7 +42,7 @@ pub record IsStep (old new : History) (event : SetEvent) (answer : SetReply) : T
   pub state : state_of new ≡ next (state_of old) event
   pub opening : new.opening ≡ old.opening
 
--- nothing was said
+-- the event changed nothing but the room on the journal
 pub record IsSame (old new : History) : Type 0 where
   pub journal : new.journal ≡ old.journal
   pub opening : new.opening ≡ old.opening

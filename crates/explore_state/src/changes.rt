@@ -10,13 +10,13 @@ ghost use Rattle.fca_model.specs.Exploration.{State, RowName, held_by, given_bac
 ghost use Rattle.exploration_terms.specs.Recorded.{is_recorded};
 ghost use Rattle.explore_state.specs.Kept.{IsShown, IsDue, IsTimely, with_held};
 
-use crate::holds::{give_back, held_in};
+use crate::holds::{give_back, question_of};
 use crate::{Event, Hold, Reply};
 use attr_bits::Attrs;
 use fca_model::Memory;
 use level_queue::{LevelQueue, LevelSearch};
 
-/// Changes the queue and the holds as the event does that got this reply.
+/// Changes the queue and the holds by the event, which got this reply.
 pub(crate) fn change<S: LevelSearch>(
     search: &S,
     queue: &mut LevelQueue,
@@ -48,7 +48,7 @@ pub(crate) fn change<S: LevelSearch>(
     }
 }
 
-/// The expert gives its hold back, and holds what it was asked.
+/// Gives the expert's hold back. Then the expert holds the question that it was asked.
 fn after_draw(held: &mut Vec<Hold>, expert: u8, reply: &Reply)
     requires room { length (given_back expert held.old.items) < vec_capacity held.old }
     ensures shown { (s : State) (K : Context) (acc : List Rule) → IsShown s K acc held.old.items
@@ -64,7 +64,7 @@ fn after_draw(held: &mut Vec<Hold>, expert: u8, reply: &Reply)
     }
 }
 
-/// What was confirmed is accepted where it is due, and the hold is given back.
+/// Accepts the question if the reply says so, and gives the hold back.
 fn after_confirmation<S: LevelSearch>(
     search: &S,
     queue: &mut LevelQueue,
@@ -84,7 +84,7 @@ fn after_confirmation<S: LevelSearch>(
     match reply {
         Reply::NotHeld => Ok(()),
         Reply::Accepted(_) => {
-            accept_held(search, queue, held, expert)?;
+            accept_hold(search, queue, held, expert)?;
             give_back(held, expert);
             Ok(())
         }
@@ -96,7 +96,7 @@ fn after_confirmation<S: LevelSearch>(
 }
 
 /// Accepts the question that the expert holds.
-fn accept_held<S: LevelSearch>(
+fn accept_hold<S: LevelSearch>(
     search: &S,
     queue: &mut LevelQueue,
     held: &[Hold],
@@ -111,7 +111,7 @@ fn accept_held<S: LevelSearch>(
     }) }
     ensures err { OnErr result (queue.new ≡ queue.old) }
 {
-    let Some(question) = held_in(held, expert) else {
+    let Some(question) = question_of(held, expert) else {
         return Ok(());
     };
     match queue.place_of(&question) {
@@ -120,7 +120,7 @@ fn accept_held<S: LevelSearch>(
     }
 }
 
-/// A row that was taken is recorded, and the hold is given back where the question is settled.
+/// Records a row that was taken, and gives the hold back if the question is settled.
 fn after_row<S: LevelSearch>(
     search: &S,
     queue: &mut LevelQueue,

@@ -16,12 +16,16 @@ use thiserror::Error;
 /// Why no exploration was opened.
 #[derive(Debug, Drop, Error)]
 pub enum OpenFault {
+    /// So many experts do not explore.
     #[error("{0} experts, where there may be 1 to 64")]
     BadExperts(u8),
+    /// A row of the table breaks a known implication: the place of each.
     #[error("the row at place {0} breaks the known implication at place {1}")]
     RowBreaks(usize, usize),
+    /// So many experts do not hold one question.
     #[error("{0} holders of one question, where there may be 1 to 64")]
     BadHolders(u8),
+    /// Out of memory.
     #[error("{NO_MEMORY}")]
     Memory,
 }
@@ -46,7 +50,7 @@ impl From<AllocError> for OpenFault {
     }
 }
 
-/// Why the table is not explored by so many experts under the settings.
+/// Why so many experts may not explore the table under the settings, or `None`.
 pub(crate) fn open_fault(table: &Table, experts: u8, settings: &Settings) -> Option<OpenFault>
     ensures { result ≡ open_fault table.now.context experts (settings_of settings.now) }
 {
@@ -69,7 +73,7 @@ pub(crate) fn is_expert(number: u8) -> bool
     1 <= number && number <= MAX_EXPERTS
 }
 
-/// The place of the first row that does not respect what is known, with the place of the first implication that it breaks.
+/// The place of the first row that breaks a known implication, with the place of the first implication that it breaks.
 pub fn first_break(rows: &[Attrs], known: &ImplicationList) -> Option<(usize, usize)>
     ensures { result ≡ first_break known.now.members 0 rows.now }
 {

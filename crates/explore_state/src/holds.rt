@@ -7,8 +7,8 @@ ghost use Rattle.explore_state.specs.Fewest.{is_other};
 use crate::{Hold, Question};
 use attr_bits::Attrs;
 
-/// What the expert holds.
-pub(crate) fn held_in(held: &[Hold], expert: u8) -> Option<Question>
+/// The question that the expert holds, if any.
+pub(crate) fn question_of(held: &[Hold], expert: u8) -> Option<Question>
     ensures { result ≡ held_by expert held.now }
 {
     held.iter()

@@ -25,7 +25,7 @@ mod replies;
 use crate::changes::change;
 pub use crate::fault::{OpenFault, first_break};
 use crate::fault::{is_expert, open_fault};
-use crate::holds::held_in;
+use crate::holds::question_of;
 use crate::replies::{reply_to_confirmation, reply_to_draw, reply_to_row};
 use attr_bits::Attrs;
 use context_table::Table;
@@ -49,7 +49,7 @@ pub struct Explore {
     journal: Vec<Entry>,
 }
 
-/// Written out, so that letting an exploration go is one call and not the dropping of each list where it happens.
+/// Written by hand: to drop an exploration is then one call, and not the code of each list at every exit.
 impl Drop for Explore {
     fn drop(self) {
         let Self {
@@ -90,8 +90,8 @@ impl Model for Explore {
 }
 
 impl Explore {
-    /// The table, explored by experts numbered from 1 with nothing known: nothing is accepted, nothing is held, and the
-    /// journal is empty.
+    /// Opens an exploration of the table by experts numbered from 1. Nothing is known, accepted or held, and the journal is
+    /// empty.
     pub fn open(alloc: Global, table: Table, experts: u8) -> Result<Explore, OpenFault>
         ensures opening { IfOk result (λ explore. explore.opening
             ≡ record { table = table; experts = experts; settings = plain }) }
@@ -107,7 +107,7 @@ impl Explore {
         Explore::open_with(alloc, table, experts, settings)
     }
 
-    /// The table, explored by experts who ask only about sets that respect what is known.
+    /// Opens an exploration in which some implications are known. Only sets that respect them are asked about.
     pub fn open_known(
         alloc: Global,
         table: Table,
@@ -134,7 +134,7 @@ impl Explore {
         Explore::open_with(alloc, table, experts, settings)
     }
 
-    /// The table, explored by experts under the settings.
+    /// Opens an exploration of the table under the settings.
     pub fn open_with(
         alloc: Global,
         table: Table,
@@ -149,7 +149,7 @@ impl Explore {
         ensures no_other { IfErr result (λ fault. (fault ≡ OpenFault.Memory)
             ⊎ (open_fault table.context experts (settings_of settings) ≡ Some fault)) }
     {
-        let (queue, held) = begun(alloc, &table, experts, &settings)?;
+        let (queue, held) = begin(alloc, &table, experts, &settings)?;
         Ok(Explore {
             table,
             experts,
@@ -160,8 +160,8 @@ impl Explore {
         })
     }
 
-    /// Does what the event asks, and puts it with its reply on the journal. After `Memory` a name that
-    /// was handed in is dropped.
+    /// Does what the event asks, and puts it with its reply on the journal. On `Memory` a name that was
+    /// handed in is dropped.
     pub fn apply(&mut self, event: Event) -> Result<Reply, Memory>
         requires { Admits self.old.opening event }
         ensures ok { IfOk result (λ reply. IsStep self.old self.new event reply) }
@@ -172,7 +172,7 @@ impl Explore {
         self.apply_by(&OneThread, event)
     }
 
-    /// Does what the event asks as `apply` does, where the search looks for the next level.
+    /// Does what the event asks as `apply` does. The search looks for the next level.
     pub fn apply_by<S: LevelSearch>(&mut self, search: &S, event: Event) -> Result<Reply, Memory>
         requires { Admits self.old.opening event }
         ensures ok { IfOk result (λ reply. IsStep self.old self.new event reply) }
@@ -185,7 +185,7 @@ impl Explore {
         change(search, &mut self.queue, &mut self.held, &event, &reply)?;
         self.journal.push_reserved(Entry {
             event,
-            reply: again(&reply),
+            reply: copy_of(&reply),
         });
         Ok(reply)
     }
@@ -217,7 +217,7 @@ impl Explore {
         self.apply(Event::Confirm { expert: e })
     }
 
-    /// The expert gives a counterexample to the question that it holds. After `Memory` the name is dropped.
+    /// The expert gives a counterexample to the question that it holds. On `Memory` the name is dropped.
     pub fn row(&mut self, e: u8, name: Name, row: Attrs) -> Result<Reply, Memory>
         requires { Admits self.old.opening (Row e name row) }
         ensures ok { IfOk result (λ reply. IsStep self.old self.new (Row e name row) reply) }
@@ -244,7 +244,7 @@ impl Explore {
         self.apply(Event::Leave { expert: e })
     }
 
-    /// Room on the journal for k more entries.
+    /// Makes room on the journal for k more entries.
     pub fn reserve(&mut self, k: usize) -> Result<(), Memory>
         ensures ok { OnOk result (k ≤ self.new.spare) }
         ensures same { IsSame self.old self.new }
@@ -260,7 +260,7 @@ impl Explore {
         &self.table
     }
 
-    /// How many experts explore.
+    /// The number of experts.
     pub fn experts(&self) -> u8
         ensures number { result ≡ self.now.opening.experts }
         ensures limits { is_expert result ≡ true }
@@ -277,7 +277,7 @@ impl Explore {
         &self.settings
     }
 
-    /// What was known beforehand.
+    /// The implications that were known beforehand.
     pub fn known(&self) -> &[Implication]
         ensures { result.now ≡ self.now.opening.settings.known }
     {
@@ -305,7 +305,7 @@ impl Explore {
         self.queue.accepted().as_slice()
     }
 
-    /// What was known and then what was accepted, as answers count it.
+    /// The known implications and then the accepted ones. Replies number implications by their places here.
     pub fn rules(&self) -> &[Implication]
         ensures { result.now ≡ rules_of (state_of self.now) }
     {
@@ -319,7 +319,7 @@ impl Explore {
         self.queue.open_questions()
     }
 
-    /// The size of the open premises.
+    /// The size of the premises of the open questions, or `None` if no question is open.
     pub fn level(&self) -> Option<u32>
         ensures none { IsNone result ↔ (open_of self.now ≡ []) }
         ensures size { IfSome result (λ k.
@@ -328,11 +328,11 @@ impl Explore {
         self.queue.level()
     }
 
-    /// What the expert holds.
+    /// The question that the expert holds, if any.
     pub fn held(&self, e: u8) -> Option<Question>
         ensures { result ≡ held_by e (state_of self.now).holds }
     {
-        held_in(&self.held, e)
+        question_of(&self.held, e)
     }
 
     /// Each event with its reply, the oldest first.
@@ -358,7 +358,7 @@ impl Explore {
                 *expert,
                 self.settings.holders as usize,
             ),
-            Event::Confirm { expert } => match held_in(&self.held, *expert) {
+            Event::Confirm { expert } => match question_of(&self.held, *expert) {
                 Some(question) => reply_to_confirmation(
                     &self.queue,
                     self.settings.known.as_slice(),
@@ -366,7 +366,7 @@ impl Explore {
                 ),
                 None => Reply::NotHeld,
             },
-            Event::Row { expert, row, .. } => match held_in(&self.held, *expert) {
+            Event::Row { expert, row, .. } => match question_of(&self.held, *expert) {
                 Some(question) => {
                     reply_to_row(self.queue.rows(), self.queue.rules(), &question, row)
                 }
@@ -377,18 +377,18 @@ impl Explore {
     }
 }
 
-/// What an exploration of the table begins with: its queue, and room for what its experts hold.
-fn begun(
+/// The queue that an exploration of the table begins with, and room for the questions that its experts hold.
+fn begin(
     alloc: Global,
     table: &Table,
     experts: u8,
     settings: &Settings,
 ) -> Result<(LevelQueue, Vec<Hold>), OpenFault>
     requires { settings.now.known.width ≡ table.now.context.width }
-    ensures queue { IfOk result (λ begun. begun.0
+    ensures queue { IfOk result (λ start. start.0
         ≡ record { context = table.now.context; known = settings.now.known.members; accepted = [] }) }
-    ensures held { IfOk result (λ begun. begun.1.items ≡ []) }
-    ensures room { IfOk result (λ begun. MAX_EXPERTS ≤ vec_capacity begun.1) }
+    ensures held { IfOk result (λ start. start.1.items ≡ []) }
+    ensures room { IfOk result (λ start. MAX_EXPERTS ≤ vec_capacity start.1) }
     ensures sound { OnOk result (open_fault table.now.context experts (settings_of settings.now) ≡ None) }
     ensures refused { IfSome (open_fault table.now.context experts (settings_of settings.now)) (IsErrOf result) }
     ensures no_other { IfErr result (λ fault. (fault ≡ OpenFault.Memory)
@@ -403,7 +403,7 @@ fn begun(
     Ok((queue, held))
 }
 
-/// Room for one more entry.
+/// Makes room for one more entry.
 fn make_room(journal: &mut Vec<Entry>) -> Result<(), AllocError>
     ensures entries { journal.new.items ≡ journal.old.items }
     ensures len { vec_len journal.new ≡ vec_len journal.old }
@@ -417,8 +417,8 @@ fn make_room(journal: &mut Vec<Entry>) -> Result<(), AllocError>
     Ok(())
 }
 
-/// The same reply. A value that holds sets is passed on by value once, so it is copied here.
-fn again(reply: &Reply) -> Reply
+/// A copy of the reply. A value that holds sets can be passed on by value only once.
+fn copy_of(reply: &Reply) -> Reply
     ensures { result ≡ reply.now }
 {
     *reply

@@ -13,23 +13,23 @@ use derivation::Rows;
 use implication_closure::ImplicationList;
 use level_queue::LevelQueue;
 
-/// The reply to a draw of the expert, where at most so many experts may hold one question.
+/// The reply to a draw of the expert. At most `most` experts may hold one question.
 pub(crate) fn reply_to_draw(questions: &[Question], held: &[Hold], expert: u8, most: usize) -> Reply
     ensures { result ≡ draw_reply most (given_back expert held.now) questions.now }
 {
     if questions.is_empty() {
         return Reply::Done;
     }
-    let question = &questions[fewest_held(questions, held, expert)];
+    let question = &questions[place_of_fewest(questions, held, expert)];
     if holders(held, expert, &question.premise) >= most {
         return Reply::AllHeld;
     }
     Reply::Ask(*question)
 }
 
-/// The place of the first question whose premise is held by the fewest other experts. Once one is found that nobody holds, no
-/// further question is looked at.
-fn fewest_held(questions: &[Question], held: &[Hold], expert: u8) -> usize
+/// The place of the first question whose premise the fewest other experts hold. The search stops at a question that nobody
+/// holds.
+fn place_of_fewest(questions: &[Question], held: &[Hold], expert: u8) -> usize
     requires { 0 < length questions.now }
     ensures { IsFewest (given_back expert held.now) questions.now (length questions.now) result }
 {
@@ -48,7 +48,8 @@ fn fewest_held(questions: &[Question], held: &[Hold], expert: u8) -> usize
     best
 }
 
-/// The reply to a confirmation of the question. One that is open is accepted, and only for another is it looked up what speaks against it.
+/// The reply to a confirmation of the question. An open question is accepted at once. Only for another is it looked up what
+/// speaks against it.
 pub(crate) fn reply_to_confirmation(
     queue: &LevelQueue,
     known: &[Implication],
@@ -64,7 +65,7 @@ pub(crate) fn reply_to_confirmation(
     reply_to_late_confirmation(queue.rows(), known, queue.accepted(), question)
 }
 
-/// Whether the question is open; it may be that it is and the queue does not say so.
+/// Whether the queue lists the question as open. If it does not, the question may be open all the same.
 fn is_open(queue: &LevelQueue, question: &Question) -> bool
     ensures { result ≡ true → (s : State) → s.context ≡ queue.now.context → s.accepted ≡ queue.now.accepted
         → s.settings.known ≡ queue.now.known → confirm_reply s (Some question.now) ≡ Accepted (length (rules_of s)) }

@@ -16,7 +16,8 @@ returns-clause-members c =
     let o : Opening = record { table = i.table; experts = i.experts; settings = settings_of i.settings } in
     let K = (state_after (opening_state o) (events_of i.journal.items)).context in
     subst (λ (h : History). IsAccepted h.opening.settings.known (state_of h).context c.as_slice.result.now) c.self.view_is
-    (subst (λ J. IsAccepted o.settings.known K J) (c.self.invariant.kept.shown.accepted ∙ sym (c.as_slice.ensures.members ∙ ap (λ (J : RuleList). J.members) c.accepted.ensures.list))
+    (subst (λ J. IsAccepted o.settings.known K J)
+    (c.self.invariant.kept.shown.accepted ∙ sym (c.as_slice.ensures.members ∙ ap (λ (J : RuleList). J.members) c.accepted.ensures.list))
     (accepted_is o i.journal.items i.queue.context i.queue.accepted i.held.items c.self.invariant.kept))
 
 pub returns-clause-hold : goal.returns-clause-hold
@@ -25,7 +26,8 @@ returns-clause-hold c =
     let o : Opening = record { table = i.table; experts = i.experts; settings = settings_of i.settings } in
     let K = (state_after (opening_state o) (events_of i.journal.items)).context in
     subst (λ h. list_all (holds (state_of h).context) c.as_slice.result.now ≡ true) c.self.view_is
-    (subst (λ J. list_all (holds K) J ≡ true) (c.self.invariant.kept.shown.accepted ∙ sym (c.as_slice.ensures.members ∙ ap (λ (J : RuleList). J.members) c.accepted.ensures.list))
+    (subst (λ J. list_all (holds K) J ≡ true) (c.self.invariant.kept.shown.accepted
+    ∙ sym (c.as_slice.ensures.members ∙ ap (λ (J : RuleList). J.members) c.accepted.ensures.list))
     (accepted_hold o i.journal.items i.queue.context i.queue.accepted i.held.items c.self.invariant.kept))
 
 pub returns-clause-basis : goal.returns-clause-basis
@@ -34,7 +36,10 @@ returns-clause-basis c =
     let o : Opening = record { table = i.table; experts = i.experts; settings = settings_of i.settings } in
     let S = o.settings.known in
     let K = (state_after (opening_state o) (events_of i.journal.items)).context in
-    let known : list_all (holds K) S ≡ true = subst (λ T. list_all (holds K) T ≡ true) c.self.invariant.known (subst (λ L. list_all (holds L) i.queue.known ≡ true) (sym c.self.invariant.kept.shown.context) c.rules-rules.ensures.known) in
-    subst (λ (h : History). open_of h ≡ [] → IsBasisBeside h.opening.settings.known (state_of h).context c.as_slice.result.now) c.self.view_is
-    (λ none. subst (IsBasisBeside S K) (c.self.invariant.kept.shown.accepted ∙ sym (c.as_slice.ensures.members ∙ ap (λ (J : RuleList). J.members) c.accepted.ensures.list))
+    let known : list_all (holds K) S ≡ true = subst (λ T. list_all (holds K) T ≡ true) c.self.invariant.known
+    (subst (λ L. list_all (holds L) i.queue.known ≡ true) (sym c.self.invariant.kept.shown.context) c.rules-rules.ensures.known) in
+    subst (λ (h : History). open_of h ≡ [] → IsBasisBeside h.opening.settings.known (state_of h).context c.as_slice.result.now)
+    c.self.view_is
+    (λ none. subst (IsBasisBeside S K) (c.self.invariant.kept.shown.accepted
+    ∙ sym (c.as_slice.ensures.members ∙ ap (λ (J : RuleList). J.members) c.accepted.ensures.list))
     (basis_is o i.journal.items i.queue.context i.queue.accepted i.held.items c.self.invariant.kept known none))

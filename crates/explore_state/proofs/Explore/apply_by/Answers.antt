@@ -22,12 +22,14 @@ invariant_of-self-2 g c =
     let room = c.self.invariant.room in
     let same_room = c.in_ok-change.ensures.room in
     record {
-      kept = kept_push o i.journal.items i.queue.context i.queue.accepted i.held.items c.self.invariant.kept c.args.event c.reply_to-reply.result
+      kept = kept_push o i.journal.items i.queue.context i.queue.accepted i.held.items c.self.invariant.kept c.args.event
+          c.reply_to-reply.result
           c.push_reserved.new.self.items c.change.new.queue.context c.change.new.queue.accepted c.change.new.held.items
           (subst (λ (h : History). Admits h.opening c.args.event) (sym c.self.view_is) c.requires)
           (c.reply_to-reply.ensures ∙ ap (λ h. reply_to (state_of h) c.args.event) (sym c.self.view_is))
-          (entry_put i.journal.items c.make_room.new.journal.items c.push_reserved.new.self.items c.args.event c.reply_to-reply.result c.again.result
-          c.push_reserved.ensures.items c.in_ok-make_room.ensures.entries c.again.ensures)
+          (entry_put i.journal.items c.make_room.new.journal.items c.push_reserved.new.self.items c.args.event c.reply_to-reply.result
+          c.copy_of.result
+          c.push_reserved.ensures.items c.in_ok-make_room.ensures.entries c.copy_of.ensures)
           (c.in_ok-change.ensures.ok (state_after (opening_state o) (events_of i.journal.items)) c.self.invariant.kept.shown);
       known = c.change.ensures.known ∙ c.self.invariant.known;
       wide = c.self.invariant.wide;
@@ -39,11 +41,14 @@ pub returns-clause-ok : goal.returns-clause-ok
 returns-clause-ok g c =
     let i = c.self.inside in
     let o : Opening = record { table = i.table; experts = i.experts; settings = settings_of i.settings } in
-    let more = entry_put i.journal.items c.make_room.new.journal.items c.push_reserved.new.self.items c.args.event c.reply_to-reply.result c.again.result
-    c.push_reserved.ensures.items c.in_ok-make_room.ensures.entries c.again.ensures in
+    let more = entry_put i.journal.items c.make_room.new.journal.items c.push_reserved.new.self.items c.args.event c.reply_to-reply.result
+    c.copy_of.result
+    c.push_reserved.ensures.items c.in_ok-make_room.ensures.entries c.copy_of.ensures in
     record {
       reply = c.reply_to-reply.ensures;
-      journal = more ∙ ap (λ (h : History). h.journal ++ record { event = c.args.event; reply = c.reply_to-reply.result } ∷ []) c.self.view_is;
-      state = state_moves (opening_state o) i.journal.items c.push_reserved.new.self.items c.args.event c.reply_to-reply.result more ∙ ap (λ h. next (state_of h) c.args.event) c.self.view_is;
+      journal = more ∙ ap (λ (h : History). h.journal ++ record { event = c.args.event; reply = c.reply_to-reply.result } ∷ [])
+          c.self.view_is;
+      state = state_moves (opening_state o) i.journal.items c.push_reserved.new.self.items c.args.event c.reply_to-reply.result more
+          ∙ ap (λ h. next (state_of h) c.args.event) c.self.view_is;
       opening = ap (λ (h : History). h.opening) c.self.view_is;
     }

@@ -17,7 +17,8 @@ returns-clause-done c =
     let i = c.self.inside in
     let o : Opening = record { table = i.table; experts = i.experts; settings = settings_of i.settings } in
     let told = draw_is_done o i.journal.items i.queue.context i.queue.accepted i.held.items c.self.invariant.kept c.args.e in
-    IfOk-weaker c.apply.result (IsStep c.args.self.now c.apply.new.self (Draw c.args.e)) (λ reply. (reply ≡ Done) ↔ (open_of c.args.self.now ≡ []))
+    IfOk-weaker c.apply.result (IsStep c.args.self.now c.apply.new.self (Draw c.args.e))
+    (λ reply. (reply ≡ Done) ↔ (open_of c.args.self.now ≡ []))
     (λ reply step.
     let is = step.reply ∙ ap (λ h. reply_to (state_of h) (Draw c.args.e)) (sym c.self.view_is) in
     subst (λ h. (reply ≡ Done) ↔ (open_of h ≡ [])) c.self.view_is (λ done. told.0 (sym is ∙ done), λ none. is ∙ told.1 none))
@@ -27,10 +28,12 @@ pub returns-clause-asked : goal.returns-clause-asked
 returns-clause-asked c =
     let i = c.self.inside in
     let o : Opening = record { table = i.table; experts = i.experts; settings = settings_of i.settings } in
-    IfOk-weaker c.apply.result (IsStep c.args.self.now c.apply.new.self (Draw c.args.e)) (λ reply. (q : Rule) → reply ≡ Ask q → Among (open_of c.args.self.now) q)
+    IfOk-weaker c.apply.result (IsStep c.args.self.now c.apply.new.self (Draw c.args.e))
+    (λ reply. (q : Rule) → reply ≡ Ask q → Among (open_of c.args.self.now) q)
     (λ reply step q asked.
     let is = step.reply ∙ ap (λ h. reply_to (state_of h) (Draw c.args.e)) (sym c.self.view_is) in
-    subst (λ h. Among (open_of h) q) c.self.view_is (draw_is_open o i.journal.items i.queue.context i.queue.accepted i.held.items c.self.invariant.kept c.args.e q (sym is ∙ asked)))
+    subst (λ h. Among (open_of h) q) c.self.view_is
+    (draw_is_open o i.journal.items i.queue.context i.queue.accepted i.held.items c.self.invariant.kept c.args.e q (sym is ∙ asked)))
     c.apply.ensures.ok
 
 pub returns-clause-free : goal.returns-clause-free

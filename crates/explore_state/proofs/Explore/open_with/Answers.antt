@@ -12,7 +12,8 @@ invariant_of-result c =
     let queue = c.in_ok-queue.ensures.queue in
     let room = c.in_ok-queue.ensures.room in
     record {
-      kept = kept_opening (record { table = c.args.table; experts = c.args.experts; settings = s }) c.new.result.items c.in_ok-queue.queue.context c.in_ok-queue.queue.accepted c.in_ok-queue.held.items
+      kept = kept_opening (record { table = c.args.table; experts = c.args.experts; settings = s }) c.new.result.items
+          c.in_ok-queue.queue.context c.in_ok-queue.queue.accepted c.in_ok-queue.held.items
           told.0 told.1
           c.new.ensures.items (ap (λ (q : Base). q.context) queue) (ap (λ (q : Base). q.accepted) queue) c.in_ok-queue.ensures.held;
       known = ap (λ (q : Base). q.known) queue;

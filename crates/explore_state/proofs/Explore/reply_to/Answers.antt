@@ -14,7 +14,8 @@ returns-in-Draw c =
     let o : Opening = record { table = i.table; experts = i.experts; settings = settings_of i.settings } in
     subst (λ h. c.reply_to_draw.result ≡ reply_to (state_of h) c.args.event.now) c.self.view_is
     (c.reply_to_draw.ensures
-    ∙ ap₂ (λ hs J. draw_reply i.settings.holders (given_back c.in-Draw.expert hs) J) c.deref.ensures.value (c.open_questions.ensures ∙ ap (λ S. open_questions S i.queue.context i.queue.accepted) c.self.invariant.known)
+    ∙ ap₂ (λ hs J. draw_reply i.settings.holders (given_back c.in-Draw.expert hs) J) c.deref.ensures.value
+    (c.open_questions.ensures ∙ ap (λ S. open_questions S i.queue.context i.queue.accepted) c.self.invariant.known)
     ∙ sym (reply_to-draw o i.journal.items i.queue.context i.queue.accepted i.held.items c.self.invariant.kept c.in-Draw.expert)
     ∙ ap (reply_to (state_of (record { opening = o; journal = i.journal.items; spare = 0 }))) (sym c.in-Draw.is))
 
@@ -23,8 +24,9 @@ returns-in-Some c =
     let i = c.self.inside in
     let o : Opening = record { table = i.table; experts = i.experts; settings = settings_of i.settings } in
     subst (λ h. c.reply_to_confirmation.result ≡ reply_to (state_of h) c.args.event.now) c.self.view_is
-    (reply_to-confirm o i.journal.items i.queue.context i.queue.accepted i.held.items c.self.invariant.kept c.in-Confirm.expert c.in-Some.question c.reply_to_confirmation.result
-    (ap (held_by c.in-Confirm.expert) (sym c.deref-in-Confirm.ensures.value) ∙ sym c.held_in.ensures ∙ c.in-Some.is)
+    (reply_to-confirm o i.journal.items i.queue.context i.queue.accepted i.held.items c.self.invariant.kept c.in-Confirm.expert
+    c.in-Some.question c.reply_to_confirmation.result
+    (ap (held_by c.in-Confirm.expert) (sym c.deref-in-Confirm.ensures.value) ∙ sym c.question_of.ensures ∙ c.in-Some.is)
     (λ t rows accepted known. c.reply_to_confirmation.ensures t rows accepted (known ∙ sym c.as_slice.ensures.members))
     ∙ ap (reply_to (state_of (record { opening = o; journal = i.journal.items; spare = 0 }))) (sym c.in-Confirm.is))
 
@@ -34,27 +36,29 @@ returns-in-None c =
     let o : Opening = record { table = i.table; experts = i.experts; settings = settings_of i.settings } in
     subst (λ h. NotHeld ≡ reply_to (state_of h) c.args.event.now) c.self.view_is
     (reply_to-confirm_none o i.journal.items i.queue.context i.queue.accepted i.held.items c.self.invariant.kept c.in-Confirm.expert
-    (ap (held_by c.in-Confirm.expert) (sym c.deref-in-Confirm.ensures.value) ∙ sym c.held_in.ensures ∙ c.in-None.is)
+    (ap (held_by c.in-Confirm.expert) (sym c.deref-in-Confirm.ensures.value) ∙ sym c.question_of.ensures ∙ c.in-None.is)
     ∙ ap (reply_to (state_of (record { opening = o; journal = i.journal.items; spare = 0 }))) (sym c.in-Confirm.is))
 
-pub returns-in-Some-held_in : goal.returns-in-Some-held_in
-returns-in-Some-held_in c =
+pub returns-in-Some-question_of : goal.returns-in-Some-question_of
+returns-in-Some-question_of c =
     let i = c.self.inside in
     let o : Opening = record { table = i.table; experts = i.experts; settings = settings_of i.settings } in
     subst (λ h. c.reply_to_row.result ≡ reply_to (state_of h) c.args.event.now) c.self.view_is
-    (reply_to-row o i.journal.items i.queue.context i.queue.accepted i.held.items c.self.invariant.kept c.in-Row.expert c.in-Row.name c.in-Row.row c.in-Some-held_in.question c.reply_to_row.result
-    (ap (held_by c.in-Row.expert) (sym c.deref-in-Row.ensures.value) ∙ sym c.held_in-in-Row.ensures ∙ c.in-Some-held_in.is)
+    (reply_to-row o i.journal.items i.queue.context i.queue.accepted i.held.items c.self.invariant.kept c.in-Row.expert c.in-Row.name
+    c.in-Row.row c.in-Some-question_of.question c.reply_to_row.result
+    (ap (held_by c.in-Row.expert) (sym c.deref-in-Row.ensures.value) ∙ sym c.question_of-in-Row.ensures ∙ c.in-Some-question_of.is)
     (λ t rows rules. c.reply_to_row.ensures t (rows ∙ sym c.rows.ensures)
     (rules ∙ ap (λ S. S ++ i.queue.accepted) (sym c.self.invariant.known) ∙ sym (ap (λ (J : RuleList). J.members) c.rules.ensures.list)))
     ∙ ap (reply_to (state_of (record { opening = o; journal = i.journal.items; spare = 0 }))) (sym c.in-Row.is))
 
-pub returns-in-None-held_in : goal.returns-in-None-held_in
-returns-in-None-held_in c =
+pub returns-in-None-question_of : goal.returns-in-None-question_of
+returns-in-None-question_of c =
     let i = c.self.inside in
     let o : Opening = record { table = i.table; experts = i.experts; settings = settings_of i.settings } in
     subst (λ h. NotHeld ≡ reply_to (state_of h) c.args.event.now) c.self.view_is
-    (reply_to-row_none o i.journal.items i.queue.context i.queue.accepted i.held.items c.self.invariant.kept c.in-Row.expert c.in-Row.name c.in-Row.row
-    (ap (held_by c.in-Row.expert) (sym c.deref-in-Row.ensures.value) ∙ sym c.held_in-in-Row.ensures ∙ c.in-None-held_in.is)
+    (reply_to-row_none o i.journal.items i.queue.context i.queue.accepted i.held.items c.self.invariant.kept c.in-Row.expert c.in-Row.name
+    c.in-Row.row
+    (ap (held_by c.in-Row.expert) (sym c.deref-in-Row.ensures.value) ∙ sym c.question_of-in-Row.ensures ∙ c.in-None-question_of.is)
     ∙ ap (reply_to (state_of (record { opening = o; journal = i.journal.items; spare = 0 }))) (sym c.in-Row.is))
 
 pub returns-in-Leave : goal.returns-in-Leave

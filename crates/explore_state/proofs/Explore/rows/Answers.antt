@@ -12,5 +12,6 @@ returns-clause-recorded c =
     let i = c.self.inside in
     let o : Opening = record { table = i.table; experts = i.experts; settings = settings_of i.settings } in
     subst (λ (h : History). IsRecorded h.opening.table.context c.rows.result.now (state_of h).accepted) c.self.view_is
-    (subst (λ (L : Context). IsRecorded o.table.context L (state_after (opening_state o) (events_of i.journal.items)).accepted) (c.self.invariant.kept.shown.context ∙ sym c.rows.ensures)
+    (subst (λ (L : Context). IsRecorded o.table.context L (state_after (opening_state o) (events_of i.journal.items)).accepted)
+    (c.self.invariant.kept.shown.context ∙ sym c.rows.ensures)
     (recorded_is o i.journal.items i.queue.context i.queue.accepted i.held.items c.self.invariant.kept))

@@ -11,5 +11,6 @@ returns c =
     let i = c.self.inside in
     let o : Opening = record { table = i.table; experts = i.experts; settings = settings_of i.settings } in
     subst (λ h. c.as_slice.result.now ≡ rules_of (state_of h)) c.self.view_is
-    (c.as_slice.ensures.members ∙ ap (λ (J : RuleList). J.members) c.rules.ensures.list ∙ ap (λ S. S ++ i.queue.accepted) c.self.invariant.known
+    (c.as_slice.ensures.members ∙ ap (λ (J : RuleList). J.members) c.rules.ensures.list
+    ∙ ap (λ S. S ++ i.queue.accepted) c.self.invariant.known
     ∙ sym (kept_rules o i.journal.items i.queue.context i.queue.accepted i.held.items c.self.invariant.kept))

@@ -7,4 +7,5 @@ pub loop-place-preserved : goal.loop-place-preserved
 loop-place-preserved c =
     let row = c.index-rows-place.result in
     let whole = ap (broken_by c.args.known.now.members) c.index-rows-place.is in
-    sym (first_break-next c.args.known.now.members c.args.rows.now c.loop-place.place row c.loop-place-test.true (sym whole ∙ sym c.first_broken.ensures ∙ c.in_default.is)) ∙ c.loop-place.invariant
+    sym (first_break-next c.args.known.now.members c.args.rows.now c.loop-place.place row c.loop-place-test.true
+    (sym whole ∙ sym c.first_broken.ensures ∙ c.in_default.is)) ∙ c.loop-place.invariant

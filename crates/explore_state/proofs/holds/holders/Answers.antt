@@ -9,11 +9,13 @@ loop-hold-preserved c =
     let few = c.loop-hold.invariant.1 in
     elim c.if-is_other.branch [
       | then-is_other w ↦
-          let more = holders_counted c.args.expert c.loop-hold.hold-index c.args.premise.now c.args.held.now c.hold-item.result c.loop-hold-test.true c.hold-item.is (sym c.is_other.ensures ∙ w.if-is_other.true) in
+          let more = holders_counted c.args.expert c.loop-hold.hold-index c.args.premise.now c.args.held.now c.hold-item.result
+          c.loop-hold-test.true c.hold-item.is (sym c.is_other.ensures ∙ w.if-is_other.true) in
           let next = w.count-is in
           (omega arith, omega arith)
       | else-is_other w ↦
-          let more = holders_skipped c.args.expert c.loop-hold.hold-index c.args.premise.now c.args.held.now c.hold-item.result c.loop-hold-test.true c.hold-item.is (sym c.is_other.ensures ∙ w.if-is_other.false) in
+          let more = holders_skipped c.args.expert c.loop-hold.hold-index c.args.premise.now c.args.held.now c.hold-item.result
+          c.loop-hold-test.true c.hold-item.is (sym c.is_other.ensures ∙ w.if-is_other.false) in
           let next = w.count-is in
           (omega arith, omega arith)
     ]
