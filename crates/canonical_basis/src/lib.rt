@@ -15,8 +15,8 @@ ghost use Rattle.canonical_basis.specs.Reduced.{context_of};
 use derivation::{Rows, RowsOf};
 pub use derivations::{Derivation, check, derive};
 use fca_model::{MAX_ATTRIBUTES, Memory};
-use implication_closure::ImplicationList;
-use lectic_basis::{NarrowList, basis_watched};
+use implication_closure::{ImplicationList, ImplicationListOf};
+use lectic_basis::basis_watched;
 use ordering::{close_in_list, premises_in_order};
 use reducing::reduce_list;
 use std::alloc::Global;
@@ -39,7 +39,7 @@ pub fn basis<R: Threads + Sync>(
 pub fn basis_in_words<const W: usize>(
     alloc: Global,
     rows: RowsOf<W>,
-) -> Result<NarrowList<W>, Memory>
+) -> Result<ImplicationListOf<W>, Memory>
     requires { rows.width ≤ MAX_ATTRIBUTES }
     ensures members { IfOk result (λ list. list ≡ record { width = rows.entry.width; members = basis rows.entry }) }
     ensures least { IfOk result (λ list. IsLeastBasis rows.entry list.members) }

@@ -8,8 +8,8 @@ use Rattle.fca_model.specs.Tables.{NamedContext}
 use Rattle.lectic_concepts.specs.Branches.{branch}
 use Rattle.concept_walk.specs.Pages.{Fills}
 use Rattle.concept_walk.specs.Steps.{IsStep, IsFurther, AreLeft, HasMet, room_left}
-use Rattle.lectic_concepts.specs.Room.{room}
-use Rattle.lectic_concepts.proofs.RoomLemmas.{room_less, room_below}
+use Rattle.fca_model.specs.Room.{room}
+use Rattle.fca_model.proofs.RoomLemmas.{room_less, room_below}
 use Rattle.concept_walk.specs.declared.page.Page.{Page}
 use Rattle.concept_walk.specs.declared.steps.Step.{Step}
 use Rattle.concept_walk.specs.declared.steps.Met.TheVariants.{Nothing, Whole, Below}

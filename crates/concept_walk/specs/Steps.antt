@@ -7,7 +7,7 @@ use Rattle.fca_model.specs.Tables.{NamedContext}
 use Rattle.lectic_concepts.specs.Branches.{branch, AreSeen}
 use Rattle.extent_places.specs.Tries.{AreTries}
 use Rattle.concept_walk.specs.Pages.{Fills}
-use Rattle.lectic_concepts.specs.Room.{room}
+use Rattle.fca_model.specs.Room.{room}
 use Rattle.concept_walk.specs.declared.page.Page.{Page}
 use Rattle.concept_walk.specs.declared.steps.Step.{Step}
 use Rattle.concept_walk.specs.declared.steps.Met.{Met}

@@ -40,9 +40,9 @@ fn irreducible_rows(alloc: Global, rows: &Rows, places: &Places) -> Result<Place
     ensures { IfOk result (λ kept. kept ≡ filter (λ g. not (reducible rows.now (row_at rows.now g))) places.now) }
 {
     match WordCount::of(rows.width()) {
-        WordCount::One => irreducible_rows_in(alloc, &rows.resized::<1>(alloc)?, places),
-        WordCount::Two => irreducible_rows_in(alloc, &rows.resized::<2>(alloc)?, places),
-        WordCount::Four => irreducible_rows_in(alloc, &rows.resized::<4>(alloc)?, places),
+        WordCount::One => irreducible_rows_in(alloc, &rows.resize::<1>(alloc)?, places),
+        WordCount::Two => irreducible_rows_in(alloc, &rows.resize::<2>(alloc)?, places),
+        WordCount::Four => irreducible_rows_in(alloc, &rows.resize::<4>(alloc)?, places),
         WordCount::All => irreducible_rows_in(alloc, rows, places),
     }
 }

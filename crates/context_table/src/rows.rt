@@ -22,9 +22,9 @@ pub fn narrow_rows(alloc: Global, rows: &Rows) -> Result<NarrowRows, Memory>
     ensures { IfOk result (λ narrow. context_in narrow ≡ rows.now) }
 {
     Ok(match WordCount::of(rows.width()) {
-        WordCount::One => NarrowRows::One(rows.resized(alloc)?),
-        WordCount::Two => NarrowRows::Two(rows.resized(alloc)?),
-        WordCount::Four => NarrowRows::Four(rows.resized(alloc)?),
+        WordCount::One => NarrowRows::One(rows.resize(alloc)?),
+        WordCount::Two => NarrowRows::Two(rows.resize(alloc)?),
+        WordCount::Four => NarrowRows::Four(rows.resize(alloc)?),
         WordCount::All => NarrowRows::All(rows.copy()?),
     })
 }

@@ -8,7 +8,7 @@ use Rattle.std.proofs.lemmas.Nat.Bits.{bit_at-zero, bit_at-pow_same, bit_at-pow_
 use Rattle.std.proofs.Math.Bool.{or-false, or_comm, and-false}
 use Rattle.fca_model.specs.Sets.{Set}
 use Rattle.fca_model.specs.Tables.{Text}
-use Rattle.text_pieces.specs.Blanks.{trimmed}
+use Rattle.text_pieces.specs.Blanks.{trim}
 use Rattle.csv_context.specs.Lines.{is_comma}
 use Rattle.csv_context.specs.Form.{mark_of}
 use Rattle.csv_context.specs.Cells.{TakesCell, is_cross, is_short}
@@ -42,8 +42,8 @@ of_short P large small one dot none comma b short = elim (cases_Bool (b == 88)) 
   ]
 ]
 
-mark_of-short : (b : ℕ) → is_short b ≡ true → is_comma b ≡ false → mark_of (trimmed (b ∷ [])) ≡ Some (is_cross b)
-mark_of-short = of_short (λ b. is_comma b ≡ false → mark_of (trimmed (b ∷ [])) ≡ Some (is_cross b)) (λ _. refl) (λ _. refl) (λ _. refl) (λ _. refl) (λ _. refl) (λ other. cc other)
+mark_of-short : (b : ℕ) → is_short b ≡ true → is_comma b ≡ false → mark_of (trim (b ∷ [])) ≡ Some (is_cross b)
+mark_of-short = of_short (λ b. is_comma b ≡ false → mark_of (trim (b ∷ [])) ≡ Some (is_cross b)) (λ _. refl) (λ _. refl) (λ _. refl) (λ _. refl) (λ _. refl) (λ other. cc other)
 
 -- an empty cell
 pub TakesCell-none : (cells : Text) → 2 ≤ length cells → is_comma (get_or cells 0 0) ≡ true → TakesCell cells (is_cross (get_or cells 0 0)) (drop 1 cells)

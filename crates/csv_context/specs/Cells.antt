@@ -2,7 +2,7 @@
 use Rattle.std.specs.Prelude.{◌≡◌, ℕ, ◌+◌, ◌-◌, ◌==◌, ◌||◌, Bool, false, [], ◌∷◌, ◌++◌, Some, drop, length, replicate}
 use Rattle.fca_model.specs.Sets.{Set}
 use Rattle.fca_model.specs.Tables.{Text}
-use Rattle.text_pieces.specs.Blanks.{trimmed}
+use Rattle.text_pieces.specs.Blanks.{trim}
 use Rattle.csv_context.specs.Records.{Record}
 use Rattle.csv_context.specs.Lines.{fields_in, is_comma}
 use Rattle.csv_context.specs.Form.{mark_of, row_form}
@@ -19,7 +19,7 @@ is_short b = is_cross b || (b == 46) || (b == 48) || is_comma b
 pub record TakesCell (cells : Text) (mark : Bool) (behind : Text) : Type 0 where
   pub field : Text
   pub fields : fields_in cells ≡ field ∷ fields_in behind
-  pub says : mark_of (trimmed field) ≡ Some mark
+  pub says : mark_of (trim field) ≡ Some mark
 
 -- the cells of record i before this place are read into the row
 pub record ReadTo (i width : ℕ) (cells : Record) (row : Set) (place : ℕ) : Type 0 where

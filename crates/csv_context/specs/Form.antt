@@ -8,7 +8,7 @@ use Rattle.fca_model.specs.Names.{name_fault}
 use Rattle.fca_model.specs.declared.TheConstants.{MAX_ATTRIBUTES, MAX_OBJECTS}
 use Rattle.fca_model.specs.declared.names.NameFault.{NameFault}
 use Rattle.fca_model.specs.declared.names.NameFault.TheVariants as name
-use Rattle.text_pieces.specs.Blanks.{trimmed}
+use Rattle.text_pieces.specs.Blanks.{trim}
 use Rattle.csv_context.specs.Records.{Record, csv_records}
 use Rattle.csv_context.specs.declared.read.Object.{Object}
 use Rattle.csv_context.specs.declared.CsvFault.{CsvFault}
@@ -72,7 +72,7 @@ cell_by i j (Some mark) = Ok mark
 
 -- field j of record i is a cell; blanks at its ends do not count
 abbrev pub cell_form : ℕ → ℕ → Text → Result Bool CsvFault
-cell_form i j field = cell_by i j (mark_of (trimmed field))
+cell_form i j field = cell_by i j (mark_of (trim field))
 
 -- the marks so far, and those in the fields of record i from field j on
 abbrev pub row_form : ℕ → ℕ → Set → List Text → Result Set CsvFault

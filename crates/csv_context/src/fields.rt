@@ -15,7 +15,7 @@ use csv::ByteRecord;
 use fca_model::{MAX_ATTRIBUTES, Name, NameFault};
 use indexmap::IndexSet;
 use std::alloc::Global;
-use text_pieces::trimmed;
+use text_pieces::trim;
 
 /// The field at this place, counted from 0.
 pub fn field_at(fields: &ByteRecord, place: usize) -> &[u8]
@@ -86,7 +86,7 @@ fn mark_of(cell: &[u8]) -> Option<bool>
 pub fn cell_of(i: usize, j: usize, field: &[u8]) -> Result<bool, CsvFault>
     ensures { result ≡ form.cell_form i j field.now }
 {
-    match mark_of(trimmed(field)) {
+    match mark_of(trim(field)) {
         Some(mark) => Ok(mark),
         None => Err(CsvFault::BadCell(i, j)),
     }

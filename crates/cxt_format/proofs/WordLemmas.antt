@@ -9,21 +9,21 @@ use Rattle.fca_model.specs.Sets.{Set}
 use Rattle.text_pieces.specs.Blanks.{is_blank_line}
 use Rattle.text_pieces.specs.Lines.{Line}
 use Rattle.text_pieces.specs.Marks.{is_cross, is_mark, marks_of}
-use Rattle.text_pieces.proofs.MarkLemmas.{marks_of-marks, crossed-marks_of, length-marks_of}
-use Rattle.text_pieces.proofs.NumeralLemmas.{numeral-decimal, trimmed-decimal}
+use Rattle.text_pieces.proofs.MarkLemmas.{marks_of-marks, set_of_marks-marks_of, length-marks_of}
+use Rattle.text_pieces.proofs.NumeralLemmas.{numeral-decimal, trim-decimal}
 use Rattle.cxt_format.specs.Words.{count_form, row_of, row_form}
 
 pub count_form-decimal : (most k n : ℕ) → n ≤ most → n < 2 ^ 64 → count_form most k (decimal n) ≡ Ok n
 count_form-decimal most k n within small =
     let numeral = numeral-decimal n small in
-    rw (trimmed-decimal n, numeral.0, numeral.1, le-ltb most n within) refl
+    rw (trim-decimal n, numeral.0, numeral.1, le-ltb most n within) refl
 
 pub row_of-marks_of : (row : Set) → row_of (length row) (marks_of row) ≡ Some row
 row_of-marks_of row =
     let same = length-marks_of row in
     let all : take (length row) (marks_of row) ≡ marks_of row = take_all (length row) (marks_of row) (omega (arith, same)) in
     let none : drop (length row) (marks_of row) ≡ [] = drop_of_length-le (marks_of row) (omega (arith, same)) in
-    rw (le-leb (length row) (length (marks_of row)) (omega (arith, same)), all, none, marks_of-marks row, crossed-marks_of row) refl
+    rw (le-leb (length row) (length (marks_of row)) (omega (arith, same)), all, none, marks_of-marks row, set_of_marks-marks_of row) refl
 
 pub is_blank_line-marks_of : (mark : Bool) (row : Set) → is_blank_line (marks_of (mark ∷ row)) ≡ false
 is_blank_line-marks_of true row = refl

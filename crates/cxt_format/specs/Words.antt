@@ -6,7 +6,7 @@ use Rattle.fca_model.specs.Tables.{Text}
 use Rattle.fca_model.specs.Names.{name_fault}
 use Rattle.fca_model.specs.declared.names.NameFault.{NameFault}
 use Rattle.fca_model.specs.declared.names.NameFault.TheVariants as name
-use Rattle.text_pieces.specs.Blanks.{is_blank_line, trimmed}
+use Rattle.text_pieces.specs.Blanks.{is_blank_line, trim}
 use Rattle.text_pieces.specs.Lines.{Line}
 use Rattle.text_pieces.specs.Marks.{is_cross, is_mark}
 use Rattle.text_pieces.specs.Numerals.{is_numeral, value_of}
@@ -15,7 +15,7 @@ use Rattle.cxt_format.specs.declared.CxtFault.TheVariants as fault
 
 -- the letter B, with blanks round it
 abbrev pub is_b_line : Line → Bool
-is_b_line line = bytes_eq (trimmed line) (codes "B")
+is_b_line line = bytes_eq (trim line) (codes "B")
 
 -- the first line is the letter B; nothing is kept of it
 abbrev pub mark_form : ℕ → Line → Result (Unit {0}) CxtFault
@@ -58,8 +58,8 @@ attribute_form seen k line = new_name seen k (name_form k line)
 -- line k is a number that is at most the limit
 abbrev pub count_form : ℕ → ℕ → Line → Result ℕ CxtFault
 count_form most k line =
-    cond (is_numeral (trimmed line))
-    (cond (nat_lt most (value_of (trimmed line))) (Err (fault.TooMany k)) (Ok (value_of (trimmed line))))
+    cond (is_numeral (trim line))
+    (cond (nat_lt most (value_of (trim line))) (Err (fault.TooMany k)) (Ok (value_of (trim line))))
     (Err (fault.BadCount k))
 
 -- the row of n attributes that the line writes: n marks, and then blanks alone

@@ -224,7 +224,7 @@ pub(crate) fn read_rows<const W: usize>(
 {
     let mut rows = RowsOf::new(alloc, width)?;
     for _place in 0..count {
-        rows.push(next_row(width, lines)?.resized())?;
+        rows.push(next_row(width, lines)?.resize())?;
     }
     Ok(rows)
 }

@@ -8,20 +8,20 @@ use crate::CxtFault;
 use attr_bits::Attrs;
 use fca_model::{MAX_ATTRIBUTES, Name, NameFault};
 use std::alloc::Global;
-use text_pieces::{are_marks, crossed, is_blank_line, is_numeral, trimmed, value_of};
+use text_pieces::{are_marks, is_blank_line, is_numeral, set_of_marks, trim, value_of};
 
 /// Whether the line is the letter B, with blanks round it.
 pub fn is_b_line(line: &[u8]) -> bool
     ensures { result ≡ form.is_b_line line.now }
 {
-    trimmed(line) == b"B".as_slice()
+    trim(line) == b"B".as_slice()
 }
 
 /// The number on line `number`, which may be at most `most`.
 pub fn count_of(most: usize, number: usize, line: &[u8]) -> Result<usize, CxtFault>
     ensures { result ≡ form.count_form most number line.now }
 {
-    let word = trimmed(line);
+    let word = trim(line);
     if !is_numeral(word) {
         return Err(CxtFault::BadCount(number));
     }
@@ -69,5 +69,5 @@ pub fn row_of(width: u32, number: usize, line: &[u8]) -> Result<Attrs, CxtFault>
     if !are_marks(cells) || !is_blank_line(rest) {
         return Err(CxtFault::BadRow(number));
     }
-    Ok(crossed(cells))
+    Ok(set_of_marks(cells))
 }

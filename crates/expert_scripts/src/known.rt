@@ -9,7 +9,7 @@ use expert_wire::{is_skipped, marks};
 use implication_closure::{Implication, ImplicationList};
 use std::alloc::Global;
 use text_pieces::bytes::{split_line, split_word};
-use text_pieces::crossed;
+use text_pieces::set_of_marks;
 
 /// The implications of a known file, between sets of width n, in their order.
 pub fn read_known(alloc: Global, bytes: &[u8], n: u32) -> Result<ImplicationList, KnownFault>
@@ -50,7 +50,7 @@ pub fn read_rule(line: &[u8], n: u32, number: usize) -> Result<Implication, Know
         return Err(KnownFault::BadWidth(number));
     }
     Ok(Implication {
-        premise: crossed(premise),
-        conclusion: crossed(conclusion),
+        premise: set_of_marks(premise),
+        conclusion: set_of_marks(conclusion),
     })
 }

@@ -10,7 +10,7 @@ use Rattle.fca_model.specs.Sets.{Set}
 use Rattle.fca_model.specs.Tables.{Text}
 use Rattle.text_pieces.specs.Marks.{is_cross, is_mark, marks_of}
 use Rattle.text_pieces.specs.Words.{is_space, first_word, later_words}
-use Rattle.text_pieces.proofs.MarkLemmas.{marks_of-marks, crossed-marks_of, marks_of-no_space, IsLine-marks_of}
+use Rattle.text_pieces.proofs.MarkLemmas.{marks_of-marks, set_of_marks-marks_of, marks_of-no_space, IsLine-marks_of}
 use Rattle.text_pieces.proofs.WordLemmas.{before_first-at, after_first-at}
 use Rattle.expert_wire.specs.Texts.{pattern}
 use Rattle.expert_wire.specs.declared.requests.RequestFault.TheVariants.{Line, Width}
@@ -28,8 +28,8 @@ marked m A other marks B back =
 
 pub set_marked-pattern : (A : Set) → set_marked (pattern A) ≡ Some A
 set_marked-pattern [] = refl
-set_marked-pattern (true ∷ A) = marked 88 A refl (marks_of-marks A) (true ∷ A) (ap (λ B. true ∷ B) (crossed-marks_of A))
-set_marked-pattern (false ∷ A) = marked 46 A refl (marks_of-marks A) (false ∷ A) (ap (λ B. false ∷ B) (crossed-marks_of A))
+set_marked-pattern (true ∷ A) = marked 88 A refl (marks_of-marks A) (true ∷ A) (ap (λ B. true ∷ B) (set_of_marks-marks_of A))
+set_marked-pattern (false ∷ A) = marked 46 A refl (marks_of-marks A) (false ∷ A) (ap (λ B. false ∷ B) (set_of_marks-marks_of A))
 
 -- ---- bytes that no pattern has
 

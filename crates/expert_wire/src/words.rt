@@ -12,7 +12,7 @@ use crate::RequestFault;
 use attr_bits::Attrs;
 use fca_model::{MAX_EXPERTS, Name, NameFault};
 use std::alloc::Global;
-use text_pieces::{are_marks, crossed, split_word, value_of};
+use text_pieces::{are_marks, set_of_marks, split_word, value_of};
 
 /// The text of the bytes, if they are UTF-8.
 pub fn text_of(bytes: &[u8]) -> Option<&str>
@@ -75,7 +75,7 @@ pub fn read_row(alloc: Global, text: &str, n: u32) -> Result<(Name, Attrs), Requ
     if !fits {
         return Err(RequestFault::Width);
     }
-    Ok((name, crossed(marks)))
+    Ok((name, set_of_marks(marks)))
 }
 
 /// What is said of a row with a name for which there is no memory. Another width is told without it.

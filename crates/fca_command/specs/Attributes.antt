@@ -6,7 +6,7 @@ use Rattle.std.specs.Prelude.{ℕ, Bool, false, ◌==◌, cond, Option, Some, No
 use Rattle.std.specs.List.{slice_split}
 use Rattle.fca_model.specs.Sets.{Set}
 use Rattle.fca_model.specs.Tables.{Text}
-use Rattle.text_pieces.specs.Blanks.{is_blank_line, trimmed}
+use Rattle.text_pieces.specs.Blanks.{is_blank_line, trim}
 
 abbrev pub is_comma : ℕ → Bool
 is_comma byte = byte == 44
@@ -18,7 +18,7 @@ later_parts (Some text) = slice_split is_comma text
 
 -- the names that a word lists
 abbrev pub items : Text → List Text
-items word = map trimmed (slice_split is_comma word)
+items word = map trim (slice_split is_comma word)
 
 -- the set with the attribute of each name added; none where some name is no attribute's
 abbrev pub with_named : List Text → Set → List Text → Option Set

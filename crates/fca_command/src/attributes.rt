@@ -6,7 +6,7 @@ ghost use Rattle.fca_command.specs.Attributes.{is_comma, attributes_said, later_
 
 use attr_bits::Attrs;
 use context_table::Table;
-use text_pieces::{is_blank_line, trimmed};
+use text_pieces::{is_blank_line, trim};
 
 /// The attributes of the table that the word names, parted by commas: a blank word names none, and a name that no attribute has
 /// makes the whole word one that names nothing.
@@ -22,7 +22,7 @@ pub fn attributes_said(table: &Table, word: &[u8]) -> Option<Attrs>
     };
     while let Some(text) = rest {
         let (item, later) = split_item(text);
-        let place = place_of(table, trimmed(item))?;
+        let place = place_of(table, trim(item))?;
         said.insert(place);
         rest = later;
     }

@@ -11,8 +11,8 @@ pub record Plan : Type 0 where
   pub faults : ℕ
 
 -- with nothing called yet
-abbrev pub planned : List ℕ → Plan
-planned fails = record { fails = fails; made = 0; faults = 0 }
+abbrev pub plan_of : List ℕ → Plan
+plan_of fails = record { fails = fails; made = 0; faults = 0 }
 
 -- whether the next call is to fail
 abbrev pub fails_next : Plan → Bool
@@ -23,8 +23,8 @@ abbrev pub with_fault : Plan → Plan
 with_fault p = record p { faults = one_more p.faults }
 
 -- after the next call
-abbrev pub called : Plan → Plan
-called p = record { fails = p.fails; made = one_more p.made; faults = cond (fails_next p) (one_more p.faults) p.faults }
+abbrev pub after_call : Plan → Plan
+after_call p = record { fails = p.fails; made = one_more p.made; faults = cond (fails_next p) (one_more p.faults) p.faults }
 
 -- the bytes that a source has left or that a sink holds, and the most that one call moves
 pub record Stream : Type 0 where

@@ -140,12 +140,16 @@ pub trait Shelf {
     // the faults, counted for each name
     ghost faults: { Self → List ℕ → ℕ };
 
+    // how many fetches were made, of any name, where that is counted
+    ghost fetches: { Self → Option ℕ };
+
     /// The bytes under the name. A name that no file has is a fault.
     fn fetch(&mut self, alloc: Global, name: &[u8], limit: usize) -> Result<Vec<u8>, Taken>
         ensures bytes { IfOk result (λ v. MayHold (tells self.old name.now) v.items) }
         ensures within { IfOk result (λ v. vec_len v ≤ limit) }
         ensures long { IsErrOf result Taken.Long → MayExceed (tells self.old name.now) limit }
         ensures kept { (other : List ℕ) → tells self.new other ≡ tells self.old other }
+        ensures counted { fetches self.new ≡ option_map one_more (fetches self.old) }
 
         ensures quiet { ¬ IsErrOf result Taken.Failed → (other : List ℕ) → faults self.new other ≡ faults self.old other }
         ensures failed { IsErrOf result Taken.Failed → Rose (faults self.old name.now) (faults self.new name.now) }

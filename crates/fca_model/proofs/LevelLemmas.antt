@@ -172,3 +172,11 @@ smallest_is k [] h ne = refl
 smallest_is k (i ∷ W) h ne =
     let e : least_size (i ∷ W) ≡ k = omega (arith, least_ge k i W h, least_le k i W ne) in
     ap (λ m. filter (λ j. eqb (size j.premise) m) (i ∷ W)) e
+
+-- what the implication of each pseudo-intent of the size passes, all members of the level pass
+pub level_all : (S : List Rule) (K : Context) (k : ℕ) (p : Rule → Bool)
+    → ((P : Set) → length P ≡ K.width → pseudo_known S K P ≡ true → size P ≡ k → p (rule P (closure K P)) ≡ true)
+    → list_all p (level_of S K k) ≡ true
+unfolding level_of
+level_all S K k p h = list_all-filter p (λ i. eqb (size i.premise) k) (basis_known S K) ∙ basis_all S K (λ i. not (eqb (size i.premise) k) || p i)
+    (λ P e q. implies_from (eqb (size P) k) (p (rule P (closure K P))) (λ t. h P e q (eqb-true (size P) k t)))

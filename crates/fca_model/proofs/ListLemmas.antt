@@ -1,9 +1,13 @@
 -- Tests of lists, and filters. A test of all elements, or of any, goes by cases on the first element; so does a filter, whose `cond` is opened by
 -- cases on whether the first element passes.
-use Rattle.std.proofs.Common.{◌≡◌, Bool, true, false, not, ◌&&◌, ◌||◌, cond, Some, None, List, [], ◌∷◌, map, filter, find, refl, sym, ap, ap₂, ◌∙◌, subst, inl, inr}
+use Rattle.std.proofs.Common.{◌≡◌, ℕ, ◌+◌, ◌<◌, Bool, true, false, not, ◌&&◌, ◌||◌, cond, Some, None, List, [], ◌∷◌, ◌++◌, length, get_or, take, map, filter, find, refl, sym, ap, ap₂, ◌∙◌, subst, inl, inr, suc, eqb, arith, Option, tt}
 use Rattle.std.proofs.lemmas.Bool.{false≢true, and_parts, and_from, or_cases, or_parts, or_left, or_right, not-false}
+use Rattle.std.proofs.lemmas.List.{take_more, append-nil}
 use Rattle.std.proofs.lemmas.List.Elements.{All-head, All-tail}
-use Rattle.std.specs.List.{All, list_all, list_any}
+use Rattle.std.specs.List.{All, list_all, list_any, flat_map}
+use Rattle.std.proofs.lemmas.Grind.{flat_map-append}
+use Rattle.std.specs.Option.{is_none, MatchOption}
+use Rattle.std.specs.Prelude.{Result, Ok, Err, IfErr}
 
 -- ---- Booleans
 
@@ -28,6 +32,48 @@ pub bool_iff : (a b : Bool) → (a ≡ true → b ≡ true) → (b ≡ true → 
 bool_iff true b h k = sym (h refl)
 bool_iff false true h k = k refl
 bool_iff false false h k = refl
+
+pub not_not : (b : Bool) → not (not b) ≡ true → b ≡ true
+not_not true h = refl
+not_not false h = absurd (false≢true h)
+
+-- not (not a || b) gives both a and not b
+pub not_implies-parts : (a b : Bool) → not (not a || b) ≡ true → (a ≡ true) × (b ≡ false)
+not_implies-parts true true h = absurd (false≢true h)
+not_implies-parts true false h = (refl, refl)
+not_implies-parts false b h = absurd (false≢true h)
+
+pub and_not-implied : (a b : Bool) → (a ≡ true → b ≡ true) → (a && not b) ≡ false
+and_not-implied true b h = ap not (h refl)
+and_not-implied false b h = refl
+
+pub and-implied : (a b : Bool) → (a ≡ true → b ≡ true) → a ≡ (a && b)
+and-implied true b h = sym (h refl)
+and-implied false b h = refl
+
+pub or_not : (a b : Bool) → (a || not b) ≡ not (not a && b)
+or_not true b = refl
+or_not false b = refl
+
+-- a Boolean from its number
+pub eqb-cond : (b : Bool) → eqb (cond b 1 0) 1 ≡ b
+eqb-cond true = refl
+eqb-cond false = refl
+
+-- ---- options and results
+
+pub is_none-true : {X : Type 0} (o : Option X) → is_none o ≡ true → o ≡ None
+is_none-true None h = refl
+is_none-true (Some x) h = absurd (false≢true h)
+
+pub MatchOption-weaker : {T A A' : Type 0} {B B' : T → Type 0} (o : Option T) → (A → A') → ((x : T) → B x → B' x)
+    → MatchOption o A B → MatchOption o A' B'
+MatchOption-weaker None f h m = f m
+MatchOption-weaker (Some x) f h m = h x m
+
+pub IfErr-any : {T E : Type 0} (r : Result T E) (P : E → Type 0) → ((e : E) → P e) → IfErr r P
+IfErr-any (Ok x) P all = tt
+IfErr-any (Err e) P all = all e
 
 -- ---- all
 
@@ -62,6 +108,11 @@ list_all-filter p q (x ∷ xs) =
 pub list_all-filter_kept : {X : Type 0} (p q : X → Bool) (xs : List X) → list_all p xs ≡ true → list_all p (filter q xs) ≡ true
 list_all-filter_kept p q xs h = list_all-filter p q xs ∙ list_all-mono p (λ x. not (q x) || p x) (λ x t. or_right (not (q x)) (p x) t) xs h
 
+-- a test of all elements, by their places
+pub all_by_place : {X : Type 0} (p : X → Bool) (d : X) (xs : List X) → ((k : ℕ) → k < length xs → p (get_or xs k d) ≡ true) → list_all p xs ≡ true
+all_by_place p d [] h = refl
+all_by_place p d (x ∷ xs) h = and_from (p x) (list_all p xs) (h 0 (omega arith)) (all_by_place p d xs (λ k l. h (suc k) (omega arith)))
+
 -- ---- any
 
 pub list_any-mono : {X : Type 0} (p q : X → Bool) → ((x : X) → p x ≡ true → q x ≡ true) → (xs : List X) → list_any p xs ≡ true → list_any q xs ≡ true
@@ -91,11 +142,7 @@ list_any_at p q (x ∷ xs) a b =
 -- some element passes exactly where not all fail
 pub list_any-not : {X : Type 0} (p : X → Bool) (xs : List X) → list_any p xs ≡ not (list_all (λ x. not (p x)) xs)
 list_any-not p [] = refl
-list_any-not p (x ∷ xs) = ap (λ b. p x || b) (list_any-not p xs) ∙ de_morgan (p x) (list_all (λ x. not (p x)) xs)
-  where
-    de_morgan : (a b : Bool) → (a || not b) ≡ not (not a && b)
-    de_morgan true b = refl
-    de_morgan false b = refl
+list_any-not p (x ∷ xs) = ap (λ b. p x || b) (list_any-not p xs) ∙ or_not (p x) (list_all (λ x. not (p x)) xs)
 
 pub list_any-map : {X Y : Type 0} (p : Y → Bool) (f : X → Y) (xs : List X) → list_any p (map f xs) ≡ list_any (λ x. p (f x)) xs
 list_any-map p f [] = refl
@@ -166,6 +213,10 @@ filter_agree_on w p q h (x ∷ xs) e =
     let parts = and_parts (w x) (list_all w xs) e in
     ap₂ (λ b ys. cond b (x ∷ ys) ys) (h x parts.0) (filter_agree_on w p q h xs parts.1)
 
+pub filter_false : {X : Type 0} (xs : List X) → filter (λ _. false) xs ≡ []
+filter_false [] = refl
+filter_false (x ∷ xs) = filter_false xs
+
 pub filter_passes : {X : Type 0} (p : X → Bool) (xs : List X) → list_all p (filter p xs) ≡ true
 filter_passes p xs = list_all-filter p p xs ∙ list_all_from (λ x. not (p x) || p x) (λ x. implies_from (p x) (p x) (λ t. t)) xs
 
@@ -198,3 +249,18 @@ filter_none_from p [] e = refl
 filter_none_from p (x ∷ xs) e =
     let parts = and_parts (p x) (list_all p xs) e in
     ap (λ b. cond (not b) (x ∷ filter (λ x. not (p x)) xs) (filter (λ x. not (p x)) xs)) parts.0 ∙ filter_none_from p xs parts.1
+
+-- ---- lists that are copied one member after another
+
+-- the copy of the first i members, with one of the next behind it
+pub copied_more : {X : Type 0} (xs : List X) (i : ℕ) (x : X) → i < length xs → x ≡ get_or xs i x
+    → (copy : X) (old new : List X) → copy ≡ x → old ≡ take i xs → new ≡ old ++ copy ∷ [] → new ≡ take (i + 1) xs
+copied_more xs i x inside is copy old new same before pushed =
+    pushed ∙ ap₂ (λ ys y. ys ++ y ∷ []) before (same ∙ is) ∙ sym (take_more xs i x inside)
+
+-- the images of the first i members, with those of the next behind them
+pub flat_map-take_more : {X Y : Type 0} (f : X → List Y) (xs : List X) (i : ℕ) (x : X) → i < length xs → x ≡ get_or xs i x
+    → flat_map f (take (i + 1) xs) ≡ flat_map f (take i xs) ++ f x
+flat_map-take_more f xs i x inside is =
+    ap (flat_map f) (take_more xs i x inside ∙ ap (λ y. take i xs ++ y ∷ []) (sym is)) ∙ flat_map-append f (take i xs) (x ∷ [])
+    ∙ ap (λ ys. flat_map f (take i xs) ++ ys) (append-nil (f x))

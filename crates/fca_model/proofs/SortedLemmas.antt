@@ -1,12 +1,14 @@
 -- Lists of sets in lectic order, each set once. Two such lists with the same members are equal: the first set of each is in the other, so none comes
 -- before the other; and without it the rests have the same members, since it comes before each of them.
-use Rattle.std.proofs.Common.{◌≡◌, ℕ, ◌+◌, Bool, true, false, ◌||◌, cond, List, [], ◌∷◌, length, filter, refl, sym, ap, ap₂, ◌∙◌, subst, arith, inl, inr, Ordering, Less, Equal, Greater}
+use Rattle.std.proofs.Common.{◌≡◌, ℕ, ◌+◌, Bool, true, false, ◌||◌, cond, List, [], ◌∷◌, length, filter, refl, sym, ap, ap₂, ◌∙◌, subst, arith, inl, inr, Ordering, Less, Equal, Greater, not, ◌&&◌, ◌++◌}
 use Rattle.std.proofs.lemmas.Bool.{false≢true, and_parts, and_from, cases_Bool, or_cases, or_left, or_right}
-use Rattle.std.specs.List.{list_all, list_any}
+use Rattle.std.specs.List.{list_all, list_any, AllByRecursion}
 use Rattle.std.specs.Ordering.{is_lt}
 use Rattle.fca_model.specs.Sets.{Set, same, all_sets, times_in, increasing, lectic_cmp}
-use Rattle.fca_model.proofs.ListLemmas.{list_all-filter_kept}
+use Rattle.fca_model.proofs.ListLemmas.{list_all-filter_kept, filter_agree_on, filter_false, and_not-implied, and-implied}
 use Rattle.fca_model.proofs.SetLemmas.{same_refl, same-true, lectic_refl, lectic_flip, all_sets_once}
+use Rattle.std.specs.List.Sorted.{IsStrictlySortedBy}
+use Rattle.fca_model.specs.SetLaws.{lectic_total}
 
 -- what all pass, a member passes
 pub at_member : (p : Set → Bool) (A : Set) (Xs : List Set) → list_any (same A) Xs ≡ true → list_all p Xs ≡ true → p A ≡ true
@@ -18,14 +20,17 @@ at_member p A (X ∷ Xs) h a =
       | inr there ↦ at_member p A Xs there parts.1
     ]
 
-is_less : (o : Ordering) → is_lt o ≡ true → o ≡ Less
+pub is_less : (o : Ordering) → is_lt o ≡ true → o ≡ Less
 is_less Less h = refl
 is_less Equal h = absurd (false≢true h)
 is_less Greater h = absurd (false≢true h)
 
 -- no set comes before itself, and no two before each other
-not_before_itself : (A : Set) → is_lt (lectic_cmp A A) ≡ true → ⊥
+pub not_before_itself : (A : Set) → is_lt (lectic_cmp A A) ≡ true → ⊥
 not_before_itself A h = false≢true (ap is_lt (sym (lectic_refl A)) ∙ h)
+
+pub before_trans : (A B C : Set) → is_lt (lectic_cmp A B) ≡ true → is_lt (lectic_cmp B C) ≡ true → is_lt (lectic_cmp A C) ≡ true
+before_trans A B C h k = ap is_lt (lectic_total.trans A B C (is_less (lectic_cmp A B) h) (is_less (lectic_cmp B C) k))
 
 not_both_before : (A B : Set) → is_lt (lectic_cmp A B) ≡ true → is_lt (lectic_cmp B A) ≡ true → ⊥
 not_both_before A B a b = false≢true (ap is_lt (sym (lectic_flip A B (is_less (lectic_cmp B A) b))) ∙ a)
@@ -100,3 +105,37 @@ any_from_times A (X ∷ Xs) h = go (same A X) (any_from_times A Xs) h
 
 pub in_all_sets : (n : ℕ) (A : Set) → length A ≡ n → list_any (same A) (all_sets n) ≡ true
 in_all_sets n A e = any_from_times A (all_sets n) (all_sets_once n A e)
+
+-- where those that pass q come after those that do not
+pub split_filter : (p q : Set → Bool) (Xs : List Set) → increasing Xs ≡ true
+    → ((X Z : Set) → is_lt (lectic_cmp X Z) ≡ true → p X ≡ true → q X ≡ true → p Z ≡ true → q Z ≡ true)
+    → filter p Xs ≡ filter (λ B. p B && not (q B)) Xs ++ filter (λ B. p B && q B) Xs
+split_filter p q [] u h = refl
+split_filter p q (X ∷ Xs) u h =
+    let parts = and_parts (list_all (λ B. is_lt (lectic_cmp X B)) Xs) (increasing Xs) u in
+    go (p X) (q X) refl refl parts.0 (split_filter p q Xs parts.1 h)
+  where
+    go : (a b : Bool) → p X ≡ a → q X ≡ b → list_all (λ B. is_lt (lectic_cmp X B)) Xs ≡ true
+        → filter p Xs ≡ filter (λ B. p B && not (q B)) Xs ++ filter (λ B. p B && q B) Xs
+        → cond a (X ∷ filter p Xs) (filter p Xs)
+        ≡ cond (a && not b) (X ∷ filter (λ B. p B && not (q B)) Xs) (filter (λ B. p B && not (q B)) Xs)
+          ++ cond (a && b) (X ∷ filter (λ B. p B && q B) Xs) (filter (λ B. p B && q B) Xs)
+    go false b ea eb later rest = rest
+    go true false ea eb later rest = ap (λ Zs. X ∷ Zs) rest
+    go true true ea eb later rest =
+        let none : filter (λ B. p B && not (q B)) Xs ≡ [] =
+        filter_agree_on (λ B. is_lt (lectic_cmp X B)) (λ B. p B && not (q B)) (λ _. false) (λ Z l. and_not-implied (p Z) (q Z) (h X Z l ea eb)) Xs later
+        ∙ filter_false Xs in
+        let all : filter p Xs ≡ filter (λ B. p B && q B) Xs =
+        filter_agree_on (λ B. is_lt (lectic_cmp X B)) p (λ B. p B && q B) (λ Z l. and-implied (p Z) (q Z) (h X Z l ea eb)) Xs later in
+        ap (λ Zs. X ∷ Zs) all ∙ ap (λ Zs. Zs ++ X ∷ filter (λ B. p B && q B) Xs) (sym none)
+
+-- the keys of a tree
+pub increasing_keys : (Xs : List Set) → IsStrictlySortedBy lectic_cmp Xs → increasing Xs ≡ true
+unfolding IsStrictlySortedBy
+increasing_keys [] h = refl
+increasing_keys (X ∷ Xs) h = and_from (list_all (λ B. is_lt (lectic_cmp X B)) Xs) (increasing Xs) (below Xs h.0) (increasing_keys Xs h.1)
+  where
+    below : (Ys : List Set) → AllByRecursion (λ Y. lectic_cmp X Y ≡ Less) Ys → list_all (λ B. is_lt (lectic_cmp X B)) Ys ≡ true
+    below [] h = refl
+    below (Y ∷ Ys) h = and_from (is_lt (lectic_cmp X Y)) (list_all (λ B. is_lt (lectic_cmp X B)) Ys) (ap is_lt h.0) (below Ys h.1)

@@ -136,7 +136,7 @@ fn containing<const W: usize>(
 {
     let _width = rows.width();
     match a.first_missing(smaller) {
-        None => rows.containing(alloc, a),
+        None => rows.supersets(alloc, a),
         Some(new) => containing_with(alloc, rows, new, a),
     }
 }
@@ -179,7 +179,7 @@ fn above_in_all<const W: usize>(
     ensures { IfOk result (λ above. IsAbove rows.now a.now above) }
 {
     let _width = rows.width();
-    above_of(alloc, rows, rows.containing(alloc, a)?, a)
+    above_of(alloc, rows, rows.supersets(alloc, a)?, a)
 }
 
 /// The rows that contain a, on a sheet where they are few.

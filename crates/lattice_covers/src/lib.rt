@@ -27,11 +27,11 @@ pub fn covers(alloc: Global, rows: &Rows, intents: &[Attrs]) -> Result<Vec<(usiz
     let width = rows.width();
     if width <= ONE_WORD {
         let narrow = resize_sets::<WORDS, 1>(alloc, width, intents)?;
-        return covers_of(alloc, &rows.resized::<1>(alloc)?, &narrow);
+        return covers_of(alloc, &rows.resize::<1>(alloc)?, &narrow);
     }
     if width <= FOUR_WORDS {
         let narrow = resize_sets::<WORDS, 4>(alloc, width, intents)?;
-        return covers_of(alloc, &rows.resized::<4>(alloc)?, &narrow);
+        return covers_of(alloc, &rows.resize::<4>(alloc)?, &narrow);
     }
     covers_of(alloc, rows, intents)
 }

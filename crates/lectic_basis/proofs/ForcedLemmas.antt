@@ -2,11 +2,9 @@
 use Rattle.std.proofs.Common.{◌≡◌, ℕ, zero, suc, ◌<◌, ◌≤◌, true, false, Some, List, [], ◌∷◌, length, get_or, set, refl, sym, ap, ◌∙◌, subst, arith, inl, inr, get_or-set_same, get_or-set_other, length-set}
 use Rattle.std.proofs.lemmas.Bool.{false≢true, false_from_ne_true, cases_eq, cases_lt}
 use Rattle.std.proofs.lemmas.List.{get_or_default}
-use Rattle.fca_model.specs.Sets.{Set, within}
+use Rattle.fca_model.specs.Sets.{Set, within, agree_before}
 use Rattle.fca_model.specs.Implications.{Rule}
-use Rattle.fca_model.proofs.SetLemmas.{within_trans, within_at_place, within_set, set_within}
-use Rattle.lectic_concepts.specs.Branches.{agree_before}
-use Rattle.lectic_concepts.proofs.BranchLemmas.{agree_at}
+use Rattle.fca_model.proofs.SetLemmas.{within_trans, within_at_place, within_set, set_within, agree_at}
 use Rattle.lectic_basis.specs.Forced.{AreForced, IsLonger}
 use Rattle.lectic_basis.specs.Watches.{Differs, IsBounded}
 

@@ -8,5 +8,4 @@ pub mod WatchLemmas
 pub mod WaitLemmas
 pub mod WalkLemmas
 pub mod ForcedLemmas
-pub mod WidthLemmas
 pub mod StepLemmas

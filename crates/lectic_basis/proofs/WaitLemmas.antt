@@ -5,7 +5,7 @@ use Rattle.std.proofs.lemmas.List.{take_more, get_or_default}
 use Rattle.std.proofs.lemmas.List.Sums.{AllPass-from_list_all}
 use Rattle.std.proofs.lemmas.List.Folds.{list_all-append}
 use Rattle.std.specs.List.{list_all}
-use Rattle.fca_model.specs.Sets.{Set, within}
+use Rattle.fca_model.specs.Sets.{Set, within, agree_before}
 use Rattle.fca_model.specs.Implications.{Rule, rule, respects, respects_all}
 use Rattle.fca_model.specs.Exploration.{first_missing}
 use Rattle.fca_model.proofs.SetLemmas.{within_refl, within_trans, within_antisymm}
@@ -13,7 +13,6 @@ use Rattle.fca_model.proofs.ClosureLemmas.{respects_at}
 use Rattle.fca_model.proofs.StepLemmas.{first_missing_none}
 use Rattle.fca_model.proofs.ListLemmas.{list_all-mono}
 use Rattle.attr_bits.proofs.DifferenceLemmas.{first_missing-parts}
-use Rattle.lectic_concepts.specs.Branches.{agree_before}
 use Rattle.lectic_basis.proofs.BucketLemmas.{put_all}
 use Rattle.lectic_basis.specs.Watches.{bucket, member_at, Outside, Covers, IsGood, HasKept, IsFiled, IsPut, IsPutBefore, IsClosedBefore, Differs}
 

@@ -7,13 +7,12 @@ use Rattle.std.proofs.lemmas.List.Folds.{list_all-append}
 use Rattle.std.proofs.lemmas.Result.{IfOk-weaker}
 use Rattle.std.specs.List.{list_all}
 use Rattle.std.specs.Option.{is_some}
-use Rattle.fca_model.specs.Sets.{Set, same, within}
+use Rattle.fca_model.specs.Sets.{Set, same, within, agree_before}
 use Rattle.fca_model.specs.Context.{Context, closure, is_closed}
 use Rattle.fca_model.specs.Implications.{Rule, rule, respects, respects_all, holds}
 use Rattle.fca_model.proofs.SetLemmas.{same-true, same_from, within_refl, within_trans, within_at_place, within_set}
 use Rattle.fca_model.proofs.ClosureLemmas.{length-closure, closure_extensive}
 use Rattle.implication_closure.specs.Closing.{RuleList, IsClosure}
-use Rattle.lectic_concepts.specs.Branches.{agree_before}
 use Rattle.extent_blocks.specs.Blocks.{Part, IsExtent, IsExtentWith}
 use Rattle.extent_blocks.proofs.ExtentLemmas.{extent_larger, extent_shared}
 use Rattle.lectic_basis.specs.Trees.{InFamily, IsLeastBehind, up_to, members_where, found_where}

@@ -7,18 +7,16 @@ use Rattle.std.proofs.lemmas.List.{take_more, get_or_default}
 use Rattle.std.proofs.lemmas.List.Sums.{AllPass-from_list_all}
 use Rattle.std.proofs.lemmas.List.Folds.{list_all-append}
 use Rattle.std.specs.List.{list_all}
-use Rattle.fca_model.specs.Sets.{Set, within, join, size}
+use Rattle.fca_model.specs.Sets.{Set, within, join, size, agree_before}
 use Rattle.fca_model.specs.Implications.{Rule, rule, respects, respects_all}
 use Rattle.fca_model.specs.Exploration.{first_missing}
-use Rattle.fca_model.proofs.SetLemmas.{within_refl, within_trans, within_antisymm, within_set, within_at_place, not_within_at, set_within, length-join, within-join, within-join_right, join_within, size-set, size_le}
+use Rattle.fca_model.proofs.SetLemmas.{within_refl, within_trans, within_antisymm, within_set, within_at_place, not_within_at, set_within, length-join, within-join, within-join_right, join_within, size-set, size_le, agree_at, agree_from}
 use Rattle.fca_model.proofs.ClosureLemmas.{respects_at}
 use Rattle.fca_model.proofs.StepLemmas.{first_missing_none}
 use Rattle.fca_model.proofs.ListLemmas.{list_all-mono, bool_iff}
 use Rattle.attr_bits.proofs.DifferenceLemmas.{first_missing-parts}
 use Rattle.attr_bits.proofs.PlaceLemmas.{member_below}
 use Rattle.implication_closure.specs.Closing.{RuleList, has_width, HaveWidth}
-use Rattle.lectic_concepts.specs.Branches.{agree_before}
-use Rattle.lectic_concepts.proofs.BranchLemmas.{agree_at, agree_from}
 use Rattle.lectic_basis.proofs.BucketLemmas.{moved_all}
 use Rattle.lectic_basis.specs.Watches.{Watched, CanClose, HasMoved, bucket, waiting_at, Outside, Covers, IsGood, HasKept, IsSorted, IsFiled, IsMoved, IsSettling, IsClosedBefore, Differs, IsBounded}
 

@@ -3,5 +3,4 @@ pub mod Trees
 pub mod Walks
 pub mod Watches
 pub mod Forced
-pub mod Concerns
 pub mod Steps

@@ -8,7 +8,7 @@ use Rattle.extent_blocks.specs.Blocks.{IsExtent}
 use Rattle.lectic_basis.specs.Forced.{AreForced, NoneTried}
 use Rattle.lectic_basis.specs.Watches.{Watched}
 use Rattle.lectic_basis.specs.Walks.{IsBelow, HasFound, IsPart}
-use Rattle.lectic_concepts.specs.Room.{room}
+use Rattle.fca_model.specs.Room.{room}
 use Rattle.lectic_basis.specs.declared.tree.Step.{Step}
 
 -- the step was begun when `first` was found, and now F is; all from its end on were visited

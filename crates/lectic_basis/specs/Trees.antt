@@ -6,12 +6,11 @@
 --
 -- Of the rows {a}, {b}, {c} over a, b, c the family is {}, {c}, {b}, {b, c}, {a}, {a, c}, {a, b}, {a, b, c}; {b, c}, {a, c} and {a, b} are not closed.
 use Rattle.std.specs.Prelude.{◌≡◌, ℕ, zero, suc, length, Bool, true, false, not, ◌&&◌, ◌||◌, List, ◌++◌, filter, slice_index_or}
-use Rattle.fca_model.specs.Sets.{Set, within, strictly_within}
+use Rattle.fca_model.specs.Sets.{Set, within, strictly_within, agree_before}
 use Rattle.fca_model.specs.Context.{Context, closure}
 use Rattle.fca_model.specs.Implications.{Rule, respects_all}
 use Rattle.fca_model.specs.Pseudo.{pseudo_known, basis_known}
 use Rattle.implication_closure.specs.Closing.{RuleList}
-use Rattle.lectic_concepts.specs.Branches.{agree_before}
 
 -- X respects what is known and takes in the closure of each pseudo-intent strictly within it
 pub record InFamily (S : List Rule) (K : Context) (X : Set) : Type 0 where

@@ -6,10 +6,9 @@
 -- Where {a, b} -> {c} waits for b, a set without b need not look at it. For {b} it is looked at, and waits for a from then on, which is as good for {}.
 use Rattle.std.specs.Prelude.{◌≡◌, ◌≢◌, ℕ, zero, suc, ◌<◌, ◌++◌, ◌∷◌, length, Bool, true, false, ◌&&◌, ◌||◌, List, [], take, slice_index_or}
 use Rattle.std.specs.List.{list_all}
-use Rattle.fca_model.specs.Sets.{Set, within}
+use Rattle.fca_model.specs.Sets.{Set, within, agree_before}
 use Rattle.fca_model.specs.Implications.{Rule, rule, respects, respects_all}
 use Rattle.implication_closure.specs.Closing.{RuleList, IsClosure}
-use Rattle.lectic_concepts.specs.Branches.{agree_before}
 
 -- a list of implications, and for each attribute those of them that wait for it
 pub record Watched : Type 0 where

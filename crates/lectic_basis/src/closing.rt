@@ -2,9 +2,8 @@
 
 ghost use Rattle.std.specs.Prelude.{◌≡◌, ℕ, true, false, length, slice_index_or, OnOk, IfOk};
 ghost use Rattle.std.specs.List.{list_all};
-ghost use Rattle.fca_model.specs.Sets.{within};
+ghost use Rattle.fca_model.specs.Sets.{within, agree_before};
 ghost use Rattle.implication_closure.specs.Closing.{HaveWidth};
-ghost use Rattle.lectic_concepts.specs.Branches.{agree_before};
 ghost use Rattle.lectic_basis.specs.Watches.{bucket, CanClose, Differs, IsBounded, HasMoved, IsClosedBefore, IsSettling, IsSorted};
 
 use crate::watched_list::WatchedList;

@@ -3,7 +3,6 @@
 #![tactic(auto)]
 
 mod closing;
-mod narrow_list;
 mod tree;
 mod watched_list;
 
@@ -12,20 +11,15 @@ ghost use Rattle.std.specs.List.{list_all};
 ghost use Rattle.fca_model.specs.Implications.{holds};
 ghost use Rattle.fca_model.specs.Pseudo.{basis_known};
 
-use attr_bits::Attrs;
+use attr_bits::{Attrs, FOUR_WORDS, ONE_WORD, TWO_WORDS};
 pub use closing::close;
 use derivation::{Rows, RowsOf};
 use extent_blocks::IndexedRows;
 use fca_model::Memory;
-use implication_closure::ImplicationList;
-use lectic_concepts::{FOUR_WORDS, ONE_WORD};
-pub use narrow_list::{NarrowList, rules_in_words};
+use implication_closure::{ImplicationList, ImplicationListOf};
 use std::alloc::Global;
 use tree::visit_all;
 pub use watched_list::WatchedList;
-
-/// How many attributes two words hold.
-pub const TWO_WORDS: u32 = 128;
 
 /// The known implications, and behind them the basis relative to them, in lectic order of the premises. It is found in sets as narrow as the table.
 pub fn basis_watched(
@@ -39,13 +33,13 @@ pub fn basis_watched(
 {
     let width = rows.width();
     if width <= ONE_WORD {
-        return widened(alloc, rows.resized::<1>(alloc)?, known);
+        return widened(alloc, rows.resize::<1>(alloc)?, known);
     }
     if width <= TWO_WORDS {
-        return widened(alloc, rows.resized::<2>(alloc)?, known);
+        return widened(alloc, rows.resize::<2>(alloc)?, known);
     }
     if width <= FOUR_WORDS {
-        return widened(alloc, rows.resized::<4>(alloc)?, known);
+        return widened(alloc, rows.resize::<4>(alloc)?, known);
     }
     widened(alloc, rows.copy()?, known)
 }
@@ -60,7 +54,7 @@ fn widened<const W: usize>(
     requires holds { list_all (holds rows) known.now.members ≡ true }
     ensures { IfOk result (λ list. list ≡ record { width = rows.entry.width; members = known.now.members ++ basis_known known.now.members rows.entry }) }
 {
-    basis_in_words(alloc, rows, known)?.widened(alloc)
+    basis_in_words(alloc, rows, known)?.widen(alloc)
 }
 
 /// The known implications, and behind them the basis relative to them, in lectic order of the premises, in sets of the words that the rows have. (Ganter, "Two
@@ -70,7 +64,7 @@ pub fn basis_in_words<const W: usize>(
     alloc: Global,
     rows: RowsOf<W>,
     known: &ImplicationList,
-) -> Result<NarrowList<W>, Memory>
+) -> Result<ImplicationListOf<W>, Memory>
     requires wide { known.now.width ≡ rows.width }
     requires holds { list_all (holds rows) known.now.members ≡ true }
     ensures { IfOk result (λ list. list ≡ record { width = rows.entry.width; members = known.now.members ++ basis_known known.now.members rows.entry }) }
@@ -84,7 +78,7 @@ fn basis_by<const W: usize>(
     alloc: Global,
     sheet: &IndexedRows<W>,
     known: &ImplicationList,
-) -> Result<NarrowList<W>, Memory>
+) -> Result<ImplicationListOf<W>, Memory>
     requires wide { known.now.width ≡ sheet.now.width }
     requires holds { list_all (holds sheet.now) known.now.members ≡ true }
     ensures { IfOk result (λ list. list ≡ record { width = sheet.now.width; members = known.now.members ++ basis_known known.now.members sheet.now }) }
@@ -92,6 +86,6 @@ fn basis_by<const W: usize>(
     let _width = sheet.rows().width();
     let least = known.naive_closure(&Attrs::empty(known.width()));
     let mut found = WatchedList::of(alloc, known, &least)?;
-    visit_all(alloc, sheet, known, &mut found, &least.resized(), 0)?;
+    visit_all(alloc, sheet, known, &mut found, &least.resize(), 0)?;
     Ok(found.into_list())
 }

@@ -5,17 +5,16 @@ ghost use Rattle.fca_model.specs.Implications.{respects_all};
 ghost use Rattle.implication_closure.specs.Closing.{HaveWidth};
 ghost use Rattle.lectic_basis.specs.Watches.{bucket, member_at, waiting_at, IsFiled, IsGood, IsMoved, IsPut, IsPutBefore};
 
-use crate::narrow_list::NarrowList;
 use attr_bits::{Attrs, Bits};
 use fca_model::{Implication, Memory};
-use implication_closure::ImplicationList;
+use implication_closure::{ImplicationList, ImplicationListOf};
 use std::alloc::Global;
 use std::marker::Model;
 
 /// The list, and for each attribute the places of the members that wait for it.
 #[derive(Drop)]
 pub struct WatchedList<const W: usize> {
-    list: NarrowList<W>,
+    list: ImplicationListOf<W>,
     buckets: Vec<Vec<usize>>,
 }
 
@@ -42,14 +41,14 @@ impl<const W: usize> WatchedList<W> {
         ensures filed { IfOk result (λ watched. IsFiled list.now.width list.now.members watched.buckets) }
         ensures good { IfOk result (λ watched. IsGood list.now.members watched.buckets x.now) }
     {
-        let narrow = NarrowList::of(alloc, list)?;
-        WatchedList::of_narrow(alloc, &narrow, &x.resized())
+        let narrow = list.resize::<W>(alloc)?;
+        WatchedList::of_narrow(alloc, &narrow, &x.resize())
     }
 
     /// The same of a list in as many words.
     pub fn of_narrow(
         alloc: Global,
-        list: &NarrowList<W>,
+        list: &ImplicationListOf<W>,
         x: &Bits<W>,
     ) -> Result<WatchedList<W>, Memory>
         requires wide { length x.now ≡ list.now.width }
@@ -68,7 +67,7 @@ impl<const W: usize> WatchedList<W> {
     }
 
     /// The same implications, of which none waits.
-    fn new(alloc: Global, list: &NarrowList<W>) -> Result<WatchedList<W>, Memory>
+    fn new(alloc: Global, list: &ImplicationListOf<W>) -> Result<WatchedList<W>, Memory>
         ensures list { IfOk result (λ watched. watched.list ≡ list.now) }
         ensures room { IfOk result (λ watched. length watched.buckets ≡ list.now.width) }
         ensures empty { IfOk result (λ watched. (w : ℕ) → bucket w watched.buckets ≡ []) }
@@ -90,7 +89,7 @@ impl<const W: usize> WatchedList<W> {
     }
 
     /// The list, with nothing that waits.
-    pub(crate) fn into_list(self) -> NarrowList<W>
+    pub(crate) fn into_list(self) -> ImplicationListOf<W>
         ensures { result ≡ self.entry.list }
     {
         self.list

@@ -29,11 +29,11 @@ pub fn all_intents(alloc: Global, rows: &Rows) -> Result<Vec<Attrs>, Memory>
 {
     let width = rows.width();
     if width <= ONE_WORD {
-        let found = intents_of(alloc, &rows.resized::<1>(alloc)?)?;
+        let found = intents_of(alloc, &rows.resize::<1>(alloc)?)?;
         return resize_sets(alloc, width, &found);
     }
     if width <= FOUR_WORDS {
-        let found = intents_of(alloc, &rows.resized::<4>(alloc)?)?;
+        let found = intents_of(alloc, &rows.resize::<4>(alloc)?)?;
         return resize_sets(alloc, width, &found);
     }
     intents_of(alloc, rows)
@@ -52,7 +52,7 @@ pub fn resize_sets<const W: usize, const V: usize>(
 {
     let mut all = Vec::with_capacity(alloc, sets.len())?;
     for set in sets {
-        all.push(set.resized())?;
+        all.push(set.resize())?;
     }
     Ok(all)
 }
@@ -169,7 +169,7 @@ fn rows_above<const W: usize>(
     ensures branch { IfOk result (λ above. (k : ℕ) → branch above a.now k ≡ branch rows.now a.now k) }
     ensures rows { IfOk result (λ above. above ≡ record { width = rows.now.width; rows = filter (within a.now) rows.now.rows }) }
 {
-    rows.containing(alloc, a)
+    rows.supersets(alloc, a)
 }
 
 /// Whether a lacks few attributes from that one on. What is found is the same either way, so no contract speaks of it.

@@ -61,7 +61,7 @@ impl Row {
         Row {
             whole: *row,
             in_one_word: if row.width() <= ONE_WORD {
-                Some(row.resized::<1>())
+                Some(row.resize::<1>())
             } else {
                 None
             },
@@ -124,7 +124,7 @@ impl QuestionList {
         ensures { IsPlaceFor premise.now (premises (drop first self.now)) result }
     {
         if !self.in_one_word.is_empty() && premise.width() <= ONE_WORD {
-            return first_set(&self.in_one_word[first..], &premise.resized::<1>());
+            return first_set(&self.in_one_word[first..], &premise.resize::<1>());
         }
         first_question(&self.questions[first..], premise)
     }
@@ -152,7 +152,7 @@ fn premises_in_one_word(alloc: Global, questions: &[Question]) -> Result<Vec<Bit
     }
     let mut sets = Vec::with_capacity(alloc, questions.len())?;
     for question in questions {
-        sets.push(question.premise.resized::<1>())?;
+        sets.push(question.premise.resize::<1>())?;
     }
     Ok(sets)
 }

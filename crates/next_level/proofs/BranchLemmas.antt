@@ -4,15 +4,13 @@ use Rattle.std.proofs.lemmas.Bool.{false≢true, and_parts, and_from, cases_Bool
 use Rattle.std.proofs.lemmas.List.Folds.{list_all-append}
 use Rattle.std.proofs.lemmas.Simd.{length-replicate}
 use Rattle.std.specs.Ordering.{is_lt}
-use Rattle.fca_model.specs.Sets.{Set, within, size, lectic_cmp}
+use Rattle.fca_model.specs.Sets.{Set, within, size, lectic_cmp, agree_before}
 use Rattle.fca_model.specs.Context.{Context}
 use Rattle.fca_model.specs.Implications.{Rule, respects, respects_all}
-use Rattle.fca_model.proofs.SetLemmas.{within_refl, set_within, size_mono, lectic_flip}
+use Rattle.fca_model.proofs.SetLemmas.{within_refl, set_within, size_mono, lectic_flip, agree_at}
 use Rattle.fca_model.proofs.ListLemmas.{bool_iff}
 use Rattle.fca_model.proofs.ClosureLemmas.{respects_at, respects_from}
 use Rattle.implication_closure.specs.Closing.{RuleList, IsClosure}
-use Rattle.lectic_concepts.specs.Branches.{agree_before}
-use Rattle.lectic_concepts.proofs.BranchLemmas.{agree_at}
 use Rattle.lectic_basis.specs.Trees.{before, up_to}
 use Rattle.lectic_basis.specs.Watches.{Watched, IsFiled, IsGood, IsPutBefore, Differs}
 use Rattle.lectic_basis.proofs.PlaceLemmas.{agree_less, agree_more, agree_same, agree_with, agree_not_before, agree_up_to, up_to_agree, up_to_member, before_same, before_comes_first, child_before, child_up_to, within_not_before}

@@ -1,19 +1,16 @@
 -- What concerns the sets that agree with the least one before an attribute is enough for these.
 use Rattle.std.proofs.Common.{◌≡◌, ℕ, Bool, true, false, not, ◌&&◌, ◌||◌, List, Option, None, Some, filter, replicate, refl, sym, ◌∙◌, subst, inl, inr}
 use Rattle.std.proofs.lemmas.Bool.{false≢true, and_parts, and_from, cases_lt, le-leb}
-use Rattle.fca_model.specs.Sets.{Set, within, meet}
+use Rattle.fca_model.specs.Sets.{Set, within, meet, agree_before}
 use Rattle.fca_model.specs.Context.{Context}
 use Rattle.fca_model.specs.Implications.{Rule, respects, respects_all}
 use Rattle.fca_model.specs.Exploration.{first_missing}
-use Rattle.fca_model.proofs.SetLemmas.{within-meet, within_at_place}
+use Rattle.fca_model.proofs.SetLemmas.{within-meet, within_at_place, agree_at, agree_refl}
 use Rattle.fca_model.proofs.ListLemmas.{bool_iff, implies_at, list_all-mono, list_all-mono₂, list_all-filter, list_all-filter_kept}
 use Rattle.fca_model.proofs.ClosureLemmas.{respects_at, respects_from}
 use Rattle.attr_bits.proofs.DifferenceLemmas.{first_missing-parts}
 use Rattle.implication_closure.specs.Closing.{RuleList}
-use Rattle.lectic_concepts.specs.Branches.{agree_before}
-use Rattle.lectic_concepts.proofs.BranchLemmas.{agree_at}
-use Rattle.lectic_basis.specs.Concerns.{not_before, concerns, concerning}
-use Rattle.lectic_basis.proofs.PlaceLemmas.{agree_refl}
+use Rattle.implication_closure.specs.Concerns.{not_before, concerns, concerning}
 use Rattle.lectic_basis.proofs.TreeLemmas.{root_least}
 use Rattle.next_level.specs.NextLevel.{open_where}
 use Rattle.next_level.specs.Among.{AllAmong, AreAmong}

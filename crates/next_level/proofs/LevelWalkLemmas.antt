@@ -6,16 +6,14 @@ use Rattle.fca_model.specs.Exploration.{first_missing}
 use Rattle.fca_model.proofs.SortedLemmas.{in_filter}
 use Rattle.fca_model.proofs.ListLemmas.{list_any-mono}
 use Rattle.attr_bits.proofs.DifferenceLemmas.{first_missing-from}
-use Rattle.lectic_concepts.proofs.BranchLemmas.{agree_at}
 use Rattle.std.proofs.lemmas.Bool.{false≢true, and_parts, cases_Bool, not-true, false_from_ne_true}
 use Rattle.std.proofs.lemmas.Simd.{length-replicate}
-use Rattle.fca_model.specs.Sets.{Set, same, size, within}
+use Rattle.fca_model.specs.Sets.{Set, same, size, within, agree_before}
 use Rattle.fca_model.specs.Context.{Context, closure, is_closed}
 use Rattle.fca_model.specs.Implications.{Rule, rule, respects_all}
-use Rattle.fca_model.proofs.SetLemmas.{same-true, same_from, within_at_place, within_set, within_refl, within_trans, within_antisymm}
+use Rattle.fca_model.proofs.SetLemmas.{same-true, same_from, within_at_place, within_set, within_refl, within_trans, within_antisymm, agree_at}
 use Rattle.fca_model.proofs.ClosureLemmas.{length-closure, closure_extensive, closure_monotone, closure_idempotent}
 use Rattle.implication_closure.specs.Closing.{RuleList, IsClosure}
-use Rattle.lectic_concepts.specs.Branches.{agree_before}
 use Rattle.extent_blocks.specs.Blocks.{Part, IsExtent, IsExtentWith, in_parts, has_at}
 use Rattle.extent_blocks.proofs.ExtentLemmas.{extent_larger, extent_left}
 use Rattle.lectic_basis.specs.Trees.{before, up_to}

@@ -6,10 +6,9 @@
 -- Of the rows {a}, {b}, {c} over a, b, c, with no rules, the open sets are {b, c}, {a, c} and {a, b}. Under {b, c} -> {a, b, c} only the last two are open.
 use Rattle.std.specs.Prelude.{◌≡◌, ℕ, ◌<◌, ◌≤◌, ◌==◌, ◌||◌, Bool, true, false, not, nat_lt, List, Option, None, Some, filter}
 use Rattle.std.specs.List.{list_any}
-use Rattle.fca_model.specs.Sets.{Set, same, size}
+use Rattle.fca_model.specs.Sets.{Set, same, size, agree_before}
 use Rattle.fca_model.specs.Context.{Context}
 use Rattle.fca_model.specs.Implications.{Rule, premises}
-use Rattle.lectic_concepts.specs.Branches.{agree_before}
 use Rattle.next_level.specs.NextLevel.{IsOpen, everything}
 
 -- X is among the sets, or they need not have all

@@ -7,11 +7,10 @@
 -- Of the sets over a, b, c, where {} is the least, {} and {c} agree with it before attribute 2, the branch of attribute 1 has {b} and {b, c}, and that of attribute
 -- 0 has the four sets with a.
 use Rattle.std.specs.Prelude.{◌≡◌, ℕ, zero, suc, ◌-◌, ◌≤◌, ◌&&◌, Bool, not, false, true, List, [], replicate, slice_index_or, slice_set}
-use Rattle.fca_model.specs.Sets.{Set, size}
+use Rattle.fca_model.specs.Sets.{Set, size, agree_before}
 use Rattle.fca_model.specs.Context.{Context}
 use Rattle.fca_model.specs.Implications.{Rule}
 use Rattle.implication_closure.specs.Closing.{RuleList, IsClosure}
-use Rattle.lectic_concepts.specs.Branches.{agree_before}
 use Rattle.lectic_basis.specs.Trees.{up_to}
 use Rattle.next_level.specs.NextLevel.{open_where}
 

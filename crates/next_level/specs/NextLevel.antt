@@ -6,12 +6,11 @@
 -- Of the rows {a}, {b}, {c} over a, b, c, with nothing known and nothing accepted, the sets that are not closed are {b, c}, {a, c} and {a, b}, all of size 2:
 -- the next level is that of size 2, and has all three members.
 use Rattle.std.specs.Prelude.{◌≡◌, ℕ, ◌≤◌, ◌+◌, ◌==◌, ◌⊎◌, length, Bool, nat_le, true, false, not, ◌&&◌, List, [], filter, map}
-use Rattle.fca_model.specs.Sets.{Set, within, size, all_sets}
+use Rattle.fca_model.specs.Sets.{Set, within, size, all_sets, agree_before}
 use Rattle.fca_model.specs.Context.{Context, closure, is_closed}
 use Rattle.fca_model.specs.Implications.{Rule, rule, respects_all}
 use Rattle.fca_model.specs.Levels.{HasBelow, level_of}
 use Rattle.implication_closure.specs.Closing.{HaveWidth}
-use Rattle.lectic_concepts.specs.Branches.{agree_before}
 
 -- L is the level of size b, the accepted are the members below it, and there is a member, or b is past the width
 pub record IsNextLevel (S : List Rule) (K : Context) (acc : List Rule) (b : ℕ) (L : List Rule) : Type 0 where

@@ -90,7 +90,7 @@ fn premises_of<const W: usize>(
 {
     let mut sets = Rows::new(alloc, width)?;
     for member in members {
-        sets.push(member.premise.resized())?;
+        sets.push(member.premise.resize())?;
     }
     Ok(sets)
 }

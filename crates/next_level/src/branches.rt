@@ -5,7 +5,7 @@ ghost use Rattle.next_level.specs.NextLevel.{open_where, everything};
 ghost use Rattle.next_level.specs.Among.{AllAmong};
 ghost use Rattle.next_level.specs.Branches.{IsRoot, AreOpen, in_branch, in_part, in_parts};
 ghost use Rattle.next_level.specs.LevelWalks.{IsInside};
-ghost use Rattle.lectic_basis.specs.Concerns.{concerning};
+ghost use Rattle.implication_closure.specs.Concerns.{concerning};
 ghost use Rattle.lectic_basis.specs.Trees.{up_to};
 
 use crate::among::Among;
@@ -14,7 +14,8 @@ use crate::walk::{child_among, enter_all};
 use attr_bits::Bits;
 use extent_blocks::IndexedRows;
 use fca_model::{Implication, Memory};
-use lectic_basis::{NarrowList, WatchedList, close};
+use implication_closure::ImplicationListOf;
+use lectic_basis::{WatchedList, close};
 use std::alloc::Global;
 use std::thread::{Threads, join_mut};
 
@@ -33,7 +34,7 @@ pub(crate) trait Walker<const W: usize> {
         &self,
         alloc: Global,
         sheet: &IndexedRows<W>,
-        list: &NarrowList<W>,
+        list: &ImplicationListOf<W>,
         least: &Bits<W>,
         among: &Among<W>,
         bound: u32,
@@ -49,7 +50,7 @@ pub(crate) trait Walker<const W: usize> {
 #[derive(Drop)]
 pub(crate) struct Walk<'a, const W: usize> {
     pub sheet: &'a IndexedRows<W>,
-    pub list: &'a NarrowList<W>,
+    pub list: &'a ImplicationListOf<W>,
     pub least: &'a Bits<W>,
     pub among: &'a Among<W>,
     pub bound: u32,

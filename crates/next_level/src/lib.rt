@@ -21,14 +21,12 @@ ghost use Rattle.fca_model.specs.Sets.{size};
 pub use ahead::Ahead;
 use ahead::ahead_of;
 use among::Among;
-use attr_bits::{Attrs, WORDS};
+use attr_bits::{Attrs, FOUR_WORDS, ONE_WORD, WORDS};
 use branches::Walker;
 use derivation::Rows;
 use extent_blocks::IndexedRows;
 use fca_model::{Implication, Memory};
-use implication_closure::ImplicationList;
-use lectic_basis::{NarrowList, rules_in_words};
-use lectic_concepts::{FOUR_WORDS, ONE_WORD};
+use implication_closure::{ImplicationList, resize_implications};
 use open_sets::{OpenSets, least_size, of_size};
 pub use search::{LevelSearch, OneThread, SideBySide};
 use std::alloc::Global;
@@ -128,8 +126,8 @@ fn open_in_words<X: Walker<W>, const W: usize>(
     ensures ahead { IfOk result (λ opened. IsAhead rules.now.members rows.now opened.level.size opened.ahead.whole opened.ahead.sets.rows) }
     ensures ahead_wide { IfOk result (λ opened. opened.ahead.sets.width ≡ rows.now.width) }
 {
-    let sheet = IndexedRows::new(alloc, rows.resized::<W>(alloc)?)?;
-    let sets = ahead.sets.resized::<W>(alloc)?;
+    let sheet = IndexedRows::new(alloc, rows.resize::<W>(alloc)?)?;
+    let sets = ahead.sets.resize::<W>(alloc)?;
     let among = Among::of(alloc, ahead.whole, sets.as_slice())?;
     let seen = find_open(walker, alloc, &sheet, rules, &among)?;
     let most = rules.as_slice().len().saturating_mul(KEPT);
@@ -154,7 +152,7 @@ fn least_of<const W: usize>(
 {
     let size = least_size(&seen.members, width + 1);
     let level = of_size(alloc, &seen.members, size)?;
-    let members = rules_in_words(alloc, width, &level)?;
+    let members = resize_implications(alloc, width, &level)?;
     let ahead = ahead_of(alloc, width, seen, size, most)?;
     Ok(Opened {
         level: Level { size, members },
@@ -219,13 +217,13 @@ fn open_up_to<X: Walker<W>, const W: usize>(
 {
     let width = sheet.rows().width();
     let _width = rules.width();
-    let list = NarrowList::of(alloc, rules)?;
+    let list = rules.resize::<W>(alloc)?;
     let least = rules.naive_closure(&Attrs::empty(width));
     walker.walk(
         alloc,
         sheet,
         &list,
-        &least.resized(),
+        &least.resize(),
         among,
         bound.max(least.size()),
         visits,

@@ -16,8 +16,7 @@ use attr_bits::Bits;
 use derivation::Rows;
 use extent_blocks::IndexedRows;
 use fca_model::Memory;
-use implication_closure::ImplicationList;
-use lectic_basis::NarrowList;
+use implication_closure::{ImplicationList, ImplicationListOf};
 use std::alloc::Global;
 use std::thread::Threads;
 
@@ -97,7 +96,7 @@ impl<const W: usize> Walker<W> for OneThread {
         &self,
         alloc: Global,
         sheet: &IndexedRows<W>,
-        list: &NarrowList<W>,
+        list: &ImplicationListOf<W>,
         least: &Bits<W>,
         among: &Among<W>,
         bound: u32,
@@ -125,7 +124,7 @@ impl<'a, R: Threads, const W: usize> Walker<W> for SideBySide<'a, R> {
         &self,
         alloc: Global,
         sheet: &IndexedRows<W>,
-        list: &NarrowList<W>,
+        list: &ImplicationListOf<W>,
         least: &Bits<W>,
         among: &Among<W>,
         bound: u32,

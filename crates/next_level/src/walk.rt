@@ -2,8 +2,7 @@
 //! no branch is entered that has none of these.
 
 ghost use Rattle.std.specs.Prelude.{◌≡◌, ◌≤◌, ◌<◌, ◌+◌, ℕ, List, OnOk, IfOk, IfSome, MatchOption, length, slice_index_or, slice_set, true, false};
-ghost use Rattle.lectic_concepts.specs.Branches.{agree_before};
-ghost use Rattle.fca_model.specs.Sets.{size, within};
+ghost use Rattle.fca_model.specs.Sets.{size, within, agree_before};
 ghost use Rattle.fca_model.specs.Context.{closure};
 ghost use Rattle.fca_model.specs.Implications.{Rule};
 ghost use Rattle.extent_blocks.specs.Blocks.{IsExtent};

@@ -24,10 +24,10 @@ pub(crate) fn narrow_rows(alloc: Global, rows: &Rows) -> Result<NarrowRows, Memo
 {
     let width = rows.width();
     if width <= ONE_WORD {
-        return Ok(NarrowRows::One(IndexedRows::new(alloc, rows.resized(alloc)?)?));
+        return Ok(NarrowRows::One(IndexedRows::new(alloc, rows.resize(alloc)?)?));
     }
     if width <= FOUR_WORDS {
-        return Ok(NarrowRows::Four(IndexedRows::new(alloc, rows.resized(alloc)?)?));
+        return Ok(NarrowRows::Four(IndexedRows::new(alloc, rows.resize(alloc)?)?));
     }
     Ok(NarrowRows::Wide)
 }

@@ -138,8 +138,8 @@ fn counterexample_on<const W: usize>(
     ensures { result ≡ position (is_counterexample question.now) (zip sheet.now.rows conflicts.now) }
 {
     let _width = sheet.rows().width();
-    let premise = question.premise.resized();
-    let conclusion = question.conclusion.resized();
+    let premise = question.premise.resize();
+    let conclusion = question.conclusion.resize();
     if is_seen_to_hold(alloc, sheet, &premise, &conclusion) {
         return None;
     }
@@ -177,8 +177,8 @@ fn counterexample_among<const W: usize>(
     ensures { result ≡ position (is_counterexample question.now) (zip rows.now.rows conflicts.now) }
 {
     let _width = rows.width();
-    let premise = question.premise.resized();
-    let conclusion = question.conclusion.resized();
+    let premise = question.premise.resize();
+    let conclusion = question.conclusion.resize();
     first_refuting(rows.as_slice(), conflicts, &premise, &conclusion)
 }
 

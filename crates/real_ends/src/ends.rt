@@ -146,6 +146,8 @@ impl<'a, R: Files> Shelf for FileShelf<'a, R> {
 
     ghost faults = { λ count _. count };
 
+    ghost fetches = { λ _. None };
+
     fn fetch(&mut self, alloc: Global, name: &[u8], limit: usize) -> Result<Vec<u8>, Taken> {
         let Ok(path) = str::from_utf8(name) else {
             return Err(self.count_fault());

@@ -17,6 +17,7 @@ ghost use Rattle.lectic_concepts.specs.Concepts.{concepts};
 ghost use Rattle.report_texts.specs.Reports.{basis_text, concepts_text, lattice_text};
 ghost use Rattle.concept_walk.specs.Pages.{concept_at};
 
+use attr_bits::{FOUR_WORDS, ONE_WORD, TWO_WORDS};
 use basis_lines::basis_in;
 use concept_walk::{Page, Sheet};
 use context_table::Table;
@@ -25,8 +26,6 @@ use derivation::RowsOf;
 use fca_model::Memory;
 use filling::write_tops;
 use lattice_covers::covers_of;
-use lectic_basis::TWO_WORDS;
-use lectic_concepts::{FOUR_WORDS, ONE_WORD};
 pub use narrow_basis::narrow_basis_text;
 use packed::{packed_in, text_of};
 use packed_concepts::{ConceptPage, ConceptsText};
@@ -58,15 +57,15 @@ pub fn packed_table_concepts<R: Threads + Sync>(
     let rows = table.rows();
     let width = rows.width();
     if width <= ONE_WORD {
-        let text = packed_in(rt, alloc, table, &rows.resized::<1>(alloc)?)?;
+        let text = packed_in(rt, alloc, table, &rows.resize::<1>(alloc)?)?;
         return Ok(ConceptsText::of_one(text));
     }
     if width <= TWO_WORDS {
-        let text = packed_in(rt, alloc, table, &rows.resized::<2>(alloc)?)?;
+        let text = packed_in(rt, alloc, table, &rows.resize::<2>(alloc)?)?;
         return Ok(ConceptsText::of_two(text));
     }
     if width <= FOUR_WORDS {
-        let text = packed_in(rt, alloc, table, &rows.resized::<4>(alloc)?)?;
+        let text = packed_in(rt, alloc, table, &rows.resize::<4>(alloc)?)?;
         return Ok(ConceptsText::of_four(text));
     }
     let text = packed_in(rt, alloc, table, rows)?;
@@ -80,13 +79,13 @@ pub fn table_lattice_text(alloc: Global, table: &Table) -> Result<Vec<u8>, Memor
     let rows = table.rows();
     let width = rows.width();
     if width <= ONE_WORD {
-        return lattice_in(alloc, table, &rows.resized::<1>(alloc)?);
+        return lattice_in(alloc, table, &rows.resize::<1>(alloc)?);
     }
     if width <= TWO_WORDS {
-        return lattice_in(alloc, table, &rows.resized::<2>(alloc)?);
+        return lattice_in(alloc, table, &rows.resize::<2>(alloc)?);
     }
     if width <= FOUR_WORDS {
-        return lattice_in(alloc, table, &rows.resized::<4>(alloc)?);
+        return lattice_in(alloc, table, &rows.resize::<4>(alloc)?);
     }
     lattice_in(alloc, table, rows)
 }
@@ -98,13 +97,13 @@ pub fn table_basis_text(alloc: Global, table: &Table) -> Result<Vec<u8>, Memory>
     let rows = table.rows();
     let width = rows.width();
     if width <= ONE_WORD {
-        return basis_in(alloc, table, rows.resized::<1>(alloc)?);
+        return basis_in(alloc, table, rows.resize::<1>(alloc)?);
     }
     if width <= TWO_WORDS {
-        return basis_in(alloc, table, rows.resized::<2>(alloc)?);
+        return basis_in(alloc, table, rows.resize::<2>(alloc)?);
     }
     if width <= FOUR_WORDS {
-        return basis_in(alloc, table, rows.resized::<4>(alloc)?);
+        return basis_in(alloc, table, rows.resize::<4>(alloc)?);
     }
     basis_in(alloc, table, rows.copy()?)
 }

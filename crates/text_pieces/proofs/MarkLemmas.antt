@@ -61,15 +61,15 @@ CrossedTo-block i end bits cells set new r up last crosses small wide put = reco
       ∙ ap₂ (λ x y. x || (nat_le i j && eqb y 1)) (r.rest j (omega arith) lt) (bit_at_above bits 64 (j - i) small (omega arith)) ∙ and-false (nat_le i j);
 }
 
-crossed-places : (cells : Text) (set : Set) → length set ≡ length cells → ((j : ℕ) → j < length cells → get_or set j false ≡ cross_at cells j) → set ≡ map is_cross cells
-crossed-places [] [] wide read = refl
-crossed-places [] (a ∷ set) wide read = absurd (omega arith)
-crossed-places (b ∷ cells) [] wide read = absurd (omega arith)
-crossed-places (b ∷ cells) (a ∷ set) wide read = ap₂ (λ x xs. x ∷ xs) (read 0 (omega arith)) (crossed-places cells set (omega arith) (λ j lt. read (suc j) (omega arith)))
+set_of_marks-places : (cells : Text) (set : Set) → length set ≡ length cells → ((j : ℕ) → j < length cells → get_or set j false ≡ cross_at cells j) → set ≡ map is_cross cells
+set_of_marks-places [] [] wide read = refl
+set_of_marks-places [] (a ∷ set) wide read = absurd (omega arith)
+set_of_marks-places (b ∷ cells) [] wide read = absurd (omega arith)
+set_of_marks-places (b ∷ cells) (a ∷ set) wide read = ap₂ (λ x xs. x ∷ xs) (read 0 (omega arith)) (set_of_marks-places cells set (omega arith) (λ j lt. read (suc j) (omega arith)))
 
 -- all bytes were read
 pub CrossedTo-all : (cells : Text) (set : Set) → CrossedTo cells set (length cells) → set ≡ map is_cross cells
-CrossedTo-all cells set r = crossed-places cells set r.wide r.read
+CrossedTo-all cells set r = set_of_marks-places cells set r.wide r.read
 
 -- ---- marks that are written
 
@@ -85,10 +85,10 @@ marks_of-marks (true ∷ A) = marks_of-marks A
 marks_of-marks (false ∷ A) = marks_of-marks A
 
 -- the set is read back from its marks
-pub crossed-marks_of : (A : Set) → map is_cross (marks_of A) ≡ A
-crossed-marks_of [] = refl
-crossed-marks_of (true ∷ A) = ap (λ B. true ∷ B) (crossed-marks_of A)
-crossed-marks_of (false ∷ A) = ap (λ B. false ∷ B) (crossed-marks_of A)
+pub set_of_marks-marks_of : (A : Set) → map is_cross (marks_of A) ≡ A
+set_of_marks-marks_of [] = refl
+set_of_marks-marks_of (true ∷ A) = ap (λ B. true ∷ B) (set_of_marks-marks_of A)
+set_of_marks-marks_of (false ∷ A) = ap (λ B. false ∷ B) (set_of_marks-marks_of A)
 
 pub length-marks_of : (A : Set) → length (marks_of A) ≡ length A
 length-marks_of [] = refl

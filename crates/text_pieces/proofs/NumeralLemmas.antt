@@ -11,7 +11,7 @@ use Rattle.std.proofs.lemmas.Fmt.{decimal_by_steps, decimal_nonempty}
 use Rattle.std.proofs.lemmas.Str.{IsUtf8-from_ascii}
 use Rattle.fca_model.specs.Names.{is_line_break}
 use Rattle.fca_model.specs.Tables.{Text}
-use Rattle.text_pieces.specs.Blanks.{is_blank, trimmed, without_blanks_after}
+use Rattle.text_pieces.specs.Blanks.{is_blank, trim, without_blanks_after}
 use Rattle.text_pieces.specs.Numerals.{is_numeral, value_of, in_64_bits}
 use Rattle.text_pieces.specs.Words.{is_space}
 use Rattle.text_pieces.proofs.LineLemmas.{IsLine}
@@ -45,9 +45,9 @@ after-digits (d ∷ ds) h =
     let parts = and_parts (is_ascii_digit d) (list_all is_ascii_digit ds) h in
     rw (digit_no_blank d parts.0, after-digits ds parts.1) refl
 
-trimmed-digits : (ds : Text) → list_all is_ascii_digit ds ≡ true → trimmed ds ≡ ds
-trimmed-digits [] h = refl
-trimmed-digits (d ∷ ds) h =
+trim-digits : (ds : Text) → list_all is_ascii_digit ds ≡ true → trim ds ≡ ds
+trim-digits [] h = refl
+trim-digits (d ∷ ds) h =
     let parts = and_parts (is_ascii_digit d) (list_all is_ascii_digit ds) h in
     rw (digit_no_blank d parts.0) (after-digits (d ∷ ds) h)
 
@@ -85,8 +85,8 @@ numeral-decimal n small = (
   decimal_by_steps (λ n ds. value_of ds ≡ n) value-one value-more n small,
 )
 
-pub trimmed-decimal : (n : ℕ) → trimmed (decimal n) ≡ decimal n
-trimmed-decimal n = trimmed-digits (decimal n) (decimal_digits n)
+pub trim-decimal : (n : ℕ) → trim (decimal n) ≡ decimal n
+trim-decimal n = trim-digits (decimal n) (decimal_digits n)
 
 pub no_break-decimal : (n : ℕ) → list_any is_line_break (decimal n) ≡ false
 no_break-decimal n = list_any-excluded is_ascii_digit is_line_break (decimal n) digit_no_break (decimal_digits n)

@@ -22,5 +22,5 @@ without_blanks_after [] = []
 without_blanks_after (b ∷ line) = cond (is_blank b && is_blank_line line) [] (b ∷ without_blanks_after line)
 
 -- the line without the blanks at its ends
-abbrev pub trimmed : Text → Text
-trimmed line = without_blanks_after (without_blanks_before line)
+abbrev pub trim : Text → Text
+trim line = without_blanks_after (without_blanks_before line)

@@ -44,8 +44,8 @@ fn without_blanks_after(line: &[u8]) -> &[u8]
 }
 
 /// The line without the blanks at its ends.
-pub fn trimmed(line: &[u8]) -> &[u8]
-    ensures { result.now ≡ blank.trimmed line.now }
+pub fn trim(line: &[u8]) -> &[u8]
+    ensures { result.now ≡ blank.trim line.now }
 {
     without_blanks_after(without_blanks_before(line))
 }

@@ -9,8 +9,8 @@ mod marks;
 mod numerals;
 mod words;
 
-pub use blanks::{is_blank_line, trimmed};
+pub use blanks::{is_blank_line, trim};
 pub use lines::Lines;
-pub use marks::{are_marks, crossed, is_mark, marks_of};
+pub use marks::{are_marks, is_mark, marks_of, set_of_marks};
 pub use numerals::{is_numeral, value_of};
 pub use words::split_word;

@@ -41,7 +41,7 @@ pub fn are_marks(cells: &[u8]) -> bool
 }
 
 /// The set of the places that have a cross.
-pub fn crossed(cells: &[u8]) -> Attrs
+pub fn set_of_marks(cells: &[u8]) -> Attrs
     requires { length cells.now ≤ MAX_ATTRIBUTES }
     ensures { result ≡ map mark.is_cross cells.now }
 {

@@ -4,7 +4,7 @@ ghost use Rattle.std.specs.Prelude.{◌≡◌, ◌≤◌, ◌<◌, ◌-◌, ◌�
 ghost use Rattle.std.specs.Io.{ReadsAtMost};
 ghost use Rattle.std.specs.Io.KnownBytes.{ReadConsumes, WriteAppends, Keeps};
 ghost use Rattle.fca_io.specs.Faults.{Rose, counts_whole};
-ghost use Rattle.fca_io.specs.Forms.{planned, fails_next, called, with_fault};
+ghost use Rattle.fca_io.specs.Forms.{plan_of, fails_next, after_call, with_fault};
 
 use super::sink::MemorySink;
 use super::source::MemorySource;
@@ -41,8 +41,8 @@ impl MemoryEnd {
         most: usize,
     ) -> Result<MemoryEnd, Memory>
         requires { 0 < most }
-        ensures incoming { IfOk result (λ end. end.incoming ≡ record { bytes = bytes.now; most = most; plan = planned read_fails.now }) }
-        ensures outgoing { IfOk result (λ end. end.outgoing ≡ record { bytes = []; most = most; room = room; whole_writes = 0; plan = planned write_fails.now }) }
+        ensures incoming { IfOk result (λ end. end.incoming ≡ record { bytes = bytes.now; most = most; plan = plan_of read_fails.now }) }
+        ensures outgoing { IfOk result (λ end. end.outgoing ≡ record { bytes = []; most = most; room = room; whole_writes = 0; plan = plan_of write_fails.now }) }
     {
         Ok(MemoryEnd {
             source: MemorySource::new(alloc, bytes, read_fails, most)?,
@@ -77,7 +77,7 @@ impl Source for MemoryEnd {
         // Which call fails, and how much each other call moves.
         ensures fails { IsErr result ↔ IsTrue (fails_next self.old.incoming.plan) }
         ensures count { IfOk result (λ count. count ≡ min (min (length into.old) self.old.incoming.most) (length self.old.incoming.bytes)) }
-        ensures plan { self.new.incoming.plan ≡ called self.old.incoming.plan }
+        ensures plan { self.new.incoming.plan ≡ after_call self.old.incoming.plan }
         ensures most { self.new.incoming.most ≡ self.old.incoming.most }
 
         ensures bound { ReadsAtMost result into.new }
@@ -111,9 +111,9 @@ impl Sink for MemoryEnd {
         // Which call fails, and how much each other call takes.
         ensures fails { IsErr result ↔ (IsTrue (fails_next self.old.outgoing.plan) ⊎ (self.old.outgoing.room ≡ length self.old.outgoing.bytes)) }
         ensures count { IfOk result (λ count. count ≡ min (min (length from.now) self.old.outgoing.most) (self.old.outgoing.room - length self.old.outgoing.bytes)) }
-        ensures plan { OnOk result (self.new.outgoing.plan ≡ called self.old.outgoing.plan) }
-        ensures failing { IsTrue (fails_next self.old.outgoing.plan) → self.new.outgoing.plan ≡ called self.old.outgoing.plan }
-        ensures full { fails_next self.old.outgoing.plan ≡ false → OnErr result (self.new.outgoing.plan ≡ with_fault (called self.old.outgoing.plan)) }
+        ensures plan { OnOk result (self.new.outgoing.plan ≡ after_call self.old.outgoing.plan) }
+        ensures failing { IsTrue (fails_next self.old.outgoing.plan) → self.new.outgoing.plan ≡ after_call self.old.outgoing.plan }
+        ensures full { fails_next self.old.outgoing.plan ≡ false → OnErr result (self.new.outgoing.plan ≡ with_fault (after_call self.old.outgoing.plan)) }
         ensures most { self.new.outgoing.most ≡ self.old.outgoing.most }
         ensures room { self.new.outgoing.room ≡ self.old.outgoing.room }
 

@@ -3,7 +3,7 @@
 ghost use Rattle.std.specs.Prelude.{◌≡◌, ◌≤◌, ◌↔◌, ◌⊎◌, ℕ, true, false, [], List, Some, is_some, Result, vec_len, IfOk, OnOk, OnErr, IsOk, IsErr, IsTrue};
 ghost use Rattle.std.specs.Option.{option_map};
 ghost use Rattle.fca_io.specs.Faults.{Rose};
-ghost use Rattle.fca_io.specs.Forms.{planned, fails_next, called, with_fault};
+ghost use Rattle.fca_io.specs.Forms.{plan_of, fails_next, after_call, with_fault};
 ghost use Rattle.fca_io.specs.Links.{GivesFirst, with_given, IsWithinRoom};
 
 use super::end::MemoryEnd;
@@ -48,7 +48,7 @@ impl MemoryLink {
         ensures address { IfOk result (λ link. link.address ≡ address.now) }
         ensures closed { IfOk result (λ link. link.listens ≡ false) }
         ensures ends { IfOk result (λ link. link.ends ≡ record { to_come = ends.items; given = []; room = vec_len ends }) }
-        ensures calls { IfOk result (λ link. link.plan ≡ planned fails.now) }
+        ensures calls { IfOk result (λ link. link.plan ≡ plan_of fails.now) }
     {
         let room = ends.len();
         Ok(MemoryLink {
@@ -89,9 +89,9 @@ impl Listener for MemoryLink {
 
         // Which call succeeds.
         ensures succeeds { IsOk result ↔ ((fails_next self.old.plan ≡ false) × (self.old.address ≡ address.now)) }
-        ensures plan { OnOk result (self.new.plan ≡ called self.old.plan) }
-        ensures failing { IsTrue (fails_next self.old.plan) → self.new.plan ≡ called self.old.plan }
-        ensures another { fails_next self.old.plan ≡ false → OnErr result (self.new.plan ≡ with_fault (called self.old.plan)) }
+        ensures plan { OnOk result (self.new.plan ≡ after_call self.old.plan) }
+        ensures failing { IsTrue (fails_next self.old.plan) → self.new.plan ≡ after_call self.old.plan }
+        ensures another { fails_next self.old.plan ≡ false → OnErr result (self.new.plan ≡ with_fault (after_call self.old.plan)) }
 
         ensures opened { OnOk result ((self.new.listens ≡ true) × (self.new.address ≡ address.now)) }
         ensures closed { OnErr result ((self.new.listens ≡ false) × (self.new.address ≡ self.old.address)) }
@@ -118,9 +118,9 @@ impl Listener for MemoryLink {
 
         // Which call fails.
         ensures fails { IsErr result ↔ (IsTrue (fails_next self.old.plan) ⊎ (self.old.ends.to_come ≡ [])) }
-        ensures plan { OnOk result (self.new.plan ≡ called self.old.plan) }
-        ensures failing { IsTrue (fails_next self.old.plan) → self.new.plan ≡ called self.old.plan }
-        ensures no_more { fails_next self.old.plan ≡ false → OnErr result (self.new.plan ≡ with_fault (called self.old.plan)) }
+        ensures plan { OnOk result (self.new.plan ≡ after_call self.old.plan) }
+        ensures failing { IsTrue (fails_next self.old.plan) → self.new.plan ≡ after_call self.old.plan }
+        ensures no_more { fails_next self.old.plan ≡ false → OnErr result (self.new.plan ≡ with_fault (after_call self.old.plan)) }
 
         ensures first { IfOk result (λ end. GivesFirst (Some self.old.ends) (Some self.new.ends) end) }
         ensures none { OnErr result (self.new.ends ≡ self.old.ends) }

@@ -1,7 +1,7 @@
 //! The list of the calls that are to fail, and how many calls were made.
 
 ghost use Rattle.std.specs.Prelude.{◌≡◌, ◌≤◌, IfOk};
-ghost use Rattle.fca_io.specs.Forms.{planned, fails_next, called, with_fault};
+ghost use Rattle.fca_io.specs.Forms.{plan_of, fails_next, after_call, with_fault};
 
 use std::alloc::{AllocError, Global};
 use std::marker::Model;
@@ -28,7 +28,7 @@ impl Model for FailingCalls {
 impl FailingCalls {
     /// No call was made yet.
     pub fn new(alloc: Global, fails: &[usize]) -> Result<FailingCalls, AllocError>
-        ensures { IfOk result (λ calls. calls ≡ planned fails.now) }
+        ensures { IfOk result (λ calls. calls ≡ plan_of fails.now) }
     {
         Ok(FailingCalls {
             fails: Vec::from_slice(alloc, fails)?,
@@ -40,7 +40,7 @@ impl FailingCalls {
     /// Counts one call more, and answers whether it is to fail.
     pub fn next_fails(&mut self) -> bool
         ensures fails { result ≡ fails_next self.old }
-        ensures after { self.new ≡ called self.old }
+        ensures after { self.new ≡ after_call self.old }
         ensures later { self.old.faults ≤ self.new.faults }
     {
         self.made = self.made.saturating_add(1);

@@ -1,10 +1,10 @@
 //! A shelf in memory.
 
 ghost use Rattle.std.specs.Prelude.{◌≡◌, ◌≢◌, ◌≤◌, ◌<◌, ◌↔◌, ◌⊎◌, ◌∷◌, [], ℕ, List, length, vec_len, false, Some, None, Result, IfOk, OnOk, OnErr, IsErrOf, IsTrue};
-ghost use Rattle.std.specs.Option.{option_copied};
-ghost use Rattle.fca_io.specs.Faults.{Rose};
+ghost use Rattle.std.specs.Option.{option_copied, option_map};
+ghost use Rattle.fca_io.specs.Faults.{Rose, one_more};
 ghost use Rattle.fca_io.specs.Shelves.{MayHold, MayExceed, bytes_under};
-ghost use Rattle.fca_io.specs.Forms.{planned, fails_next, called, with_fault};
+ghost use Rattle.fca_io.specs.Forms.{plan_of, fails_next, after_call, with_fault};
 
 use super::plan::FailingCalls;
 use crate::outside::{Shelf, Taken};
@@ -46,7 +46,7 @@ impl Model for MemoryShelf {
 impl MemoryShelf {
     /// An empty shelf, whose fetches with the numbers `fails`, counted from 1, fail.
     pub fn new(alloc: Global, fails: &[usize]) -> Result<MemoryShelf, Memory>
-        ensures { IfOk result (λ shelf. shelf ≡ record { files = []; plan = planned fails.now }) }
+        ensures { IfOk result (λ shelf. shelf ≡ record { files = []; plan = plan_of fails.now }) }
     {
         Ok(MemoryShelf {
             files: Vec::new(alloc),
@@ -87,18 +87,21 @@ impl Shelf for MemoryShelf {
 
     ghost faults = { λ s _. s.plan.faults };
 
+    ghost fetches = { λ s. Some s.plan.made };
+
     fn fetch(&mut self, alloc: Global, name: &[u8], limit: usize) -> Result<Vec<u8>, Taken>
         // Which call fails.
         ensures fails { IsErrOf result Taken.Failed ↔ (IsTrue (fails_next self.old.plan) ⊎ (bytes_under self.old.files name.now ≡ None)) }
-        ensures failing { IsTrue (fails_next self.old.plan) → self.new.plan ≡ called self.old.plan }
-        ensures missing { fails_next self.old.plan ≡ false → bytes_under self.old.files name.now ≡ None → self.new.plan ≡ with_fault (called self.old.plan) }
-        ensures found { (file : List ℕ) → bytes_under self.old.files name.now ≡ Some file → self.new.plan ≡ called self.old.plan }
+        ensures failing { IsTrue (fails_next self.old.plan) → self.new.plan ≡ after_call self.old.plan }
+        ensures missing { fails_next self.old.plan ≡ false → bytes_under self.old.files name.now ≡ None → self.new.plan ≡ with_fault (after_call self.old.plan) }
+        ensures found { (file : List ℕ) → bytes_under self.old.files name.now ≡ Some file → self.new.plan ≡ after_call self.old.plan }
 
         ensures bytes { IfOk result (λ v. MayHold (Some (bytes_under self.old.files name.now)) v.items) }
         ensures within { IfOk result (λ v. vec_len v ≤ limit) }
         ensures long { IsErrOf result Taken.Long → MayExceed (Some (bytes_under self.old.files name.now)) limit }
         ensures files { self.new.files ≡ self.old.files }
         ensures kept { (other : List ℕ) → Some (bytes_under self.new.files other) ≡ Some (bytes_under self.old.files other) }
+        ensures counted { Some self.new.plan.made ≡ option_map one_more (Some self.old.plan.made) }
 
         ensures quiet { ¬ IsErrOf result Taken.Failed → (other : List ℕ) → self.new.plan.faults ≡ self.old.plan.faults }
         ensures failed { IsErrOf result Taken.Failed → Rose self.old.plan.faults self.new.plan.faults }

@@ -3,7 +3,7 @@
 ghost use Rattle.std.specs.Prelude.{◌≡◌, ◌≤◌, ◌<◌, ◌-◌, ◌↔◌, ◌⊎◌, [], false, length, min, Some, Result, IfOk, IsErr, IsTrue, OnOk, OnErr};
 ghost use Rattle.std.specs.Io.KnownBytes.{WriteAppends, Keeps};
 ghost use Rattle.fca_io.specs.Faults.{Rose, counts_whole};
-ghost use Rattle.fca_io.specs.Forms.{planned, fails_next, called, with_fault, Roomy};
+ghost use Rattle.fca_io.specs.Forms.{plan_of, fails_next, after_call, with_fault, Roomy};
 
 use super::plan::FailingCalls;
 use crate::outside::{Failed, Sink};
@@ -42,7 +42,7 @@ impl MemorySink {
         most: usize,
     ) -> Result<MemorySink, Memory>
         requires { 0 < most }
-        ensures { IfOk result (λ sink. sink ≡ record { bytes = []; most = most; room = room; whole_writes = 0; plan = planned fails.now }) }
+        ensures { IfOk result (λ sink. sink ≡ record { bytes = []; most = most; room = room; whole_writes = 0; plan = plan_of fails.now }) }
     {
         Ok(MemorySink {
             bytes: Vec::with_capacity(alloc, room)?,
@@ -80,9 +80,9 @@ impl Sink for MemorySink {
         // Which call fails, and how much each other call takes.
         ensures fails { IsErr result ↔ (IsTrue (fails_next self.old.plan) ⊎ (self.old.room ≡ length self.old.bytes)) }
         ensures count { IfOk result (λ count. count ≡ min (min (length from.now) self.old.most) (self.old.room - length self.old.bytes)) }
-        ensures plan { OnOk result (self.new.plan ≡ called self.old.plan) }
-        ensures failing { IsTrue (fails_next self.old.plan) → self.new.plan ≡ called self.old.plan }
-        ensures full { fails_next self.old.plan ≡ false → OnErr result (self.new.plan ≡ with_fault (called self.old.plan)) }
+        ensures plan { OnOk result (self.new.plan ≡ after_call self.old.plan) }
+        ensures failing { IsTrue (fails_next self.old.plan) → self.new.plan ≡ after_call self.old.plan }
+        ensures full { fails_next self.old.plan ≡ false → OnErr result (self.new.plan ≡ with_fault (after_call self.old.plan)) }
         ensures most { self.new.most ≡ self.old.most }
         ensures room { self.new.room ≡ self.old.room }
 

@@ -4,7 +4,7 @@ ghost use Rattle.std.specs.Prelude.{◌≡◌, ◌≤◌, ◌<◌, ◌↔◌, le
 ghost use Rattle.std.specs.Io.{ReadsAtMost};
 ghost use Rattle.std.specs.Io.KnownBytes.{ReadConsumes, Keeps};
 ghost use Rattle.fca_io.specs.Faults.{Rose};
-ghost use Rattle.fca_io.specs.Forms.{planned, fails_next, called};
+ghost use Rattle.fca_io.specs.Forms.{plan_of, fails_next, after_call};
 
 use super::plan::FailingCalls;
 use crate::outside::{Failed, Source};
@@ -82,7 +82,7 @@ impl MemorySource {
         most: usize,
     ) -> Result<MemorySource, Memory>
         requires { 0 < most }
-        ensures { IfOk result (λ source. source ≡ record { bytes = bytes.now; most = most; plan = planned fails.now }) }
+        ensures { IfOk result (λ source. source ≡ record { bytes = bytes.now; most = most; plan = plan_of fails.now }) }
     {
         Ok(MemorySource {
             unread: Unread::new(alloc, bytes)?,
@@ -111,7 +111,7 @@ impl Source for MemorySource {
         // Which call fails, and how much each other call moves.
         ensures fails { IsErr result ↔ IsTrue (fails_next self.old.plan) }
         ensures count { IfOk result (λ count. count ≡ min (min (length into.old) self.old.most) (length self.old.bytes)) }
-        ensures plan { self.new.plan ≡ called self.old.plan }
+        ensures plan { self.new.plan ≡ after_call self.old.plan }
         ensures most { self.new.most ≡ self.old.most }
 
         ensures bound { ReadsAtMost result into.new }

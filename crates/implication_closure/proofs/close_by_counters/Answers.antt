@@ -6,7 +6,7 @@ use Rattle.implication_closure.proofs.ClosingLemmas.{passes_measure, passes_end,
 use Rattle.implication_closure.proofs.close_by_counters.Goals as goal
 
 pub loop-next-init : goal.loop-next-init
-loop-next-init c =
+loop-next-init g c =
     let J : List Rule = c.args.members.now in
     let n : ℕ = length c.args.left.now in
     record {
@@ -18,10 +18,10 @@ loop-next-init c =
     }
 
 pub loop-next-smaller : goal.loop-next-smaller
-loop-next-smaller c = passes_measure c.args.members.now c.args.x.now c.loop-next.closed c.pass-next.result c.loop-next.invariant.wide c.pass-next.ensures.pass (sym c.eq.ensures ∙ c.if-eq.false)
+loop-next-smaller g c = passes_measure c.args.members.now c.args.x.now c.loop-next.closed c.pass-next.result c.loop-next.invariant.wide c.pass-next.ensures.pass (sym c.eq.ensures ∙ c.if-eq.false)
 
 pub loop-next-preserved : goal.loop-next-preserved
-loop-next-preserved c = record {
+loop-next-preserved g c = record {
   wide = c.pass-next.ensures.pass.wide ∙ c.loop-next.invariant.wide;
   above = within_trans c.args.x.now c.loop-next.closed c.pass-next.result c.loop-next.invariant.above c.pass-next.ensures.pass.above;
   least = λ T h r. c.pass-next.ensures.pass.bounded T (c.loop-next.invariant.least T h r) r;
@@ -30,4 +30,4 @@ loop-next-preserved c = record {
 }
 
 pub returns-then-eq : goal.returns-then-eq
-returns-then-eq c = passes_end c.args.members.now c.args.x.now c.loop-next.closed c.pass-next.result c.loop-next.invariant.wide c.loop-next.invariant.above c.loop-next.invariant.least c.pass-next.ensures.pass (sym c.eq.ensures ∙ c.if-eq.true)
+returns-then-eq g c = passes_end c.args.members.now c.args.x.now c.loop-next.closed c.pass-next.result c.loop-next.invariant.wide c.loop-next.invariant.above c.loop-next.invariant.least c.pass-next.ensures.pass (sym c.eq.ensures ∙ c.if-eq.true)

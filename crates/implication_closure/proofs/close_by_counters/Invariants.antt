@@ -5,7 +5,7 @@ use Rattle.implication_closure.specs.Closing.{Fired}
 use Rattle.implication_closure.proofs.close_by_counters.Given as goal
 
 abbrev pub invariant-loop-next : goal.invariant-loop-next
-invariant-loop-next l = record {
+invariant-loop-next g l = record {
   wide : length l.closed ≡ length l.x;
   above : within l.x l.closed ≡ true;
   least : (T : Set) → within l.x T ≡ true → respects_all l.members T ≡ true → within l.closed T ≡ true;
@@ -14,4 +14,4 @@ invariant-loop-next l = record {
 }
 
 abbrev pub decreases-loop-next : goal.decreases-loop-next
-decreases-loop-next l = length l.x - size l.closed
+decreases-loop-next g l = length l.x - size l.closed

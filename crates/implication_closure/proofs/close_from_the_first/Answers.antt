@@ -6,14 +6,14 @@ use Rattle.implication_closure.proofs.ClosingLemmas.{closes_measure, closes_with
 use Rattle.implication_closure.proofs.close_from_the_first.Goals as goal
 
 pub loop-i-init : goal.loop-i-init
-loop-i-init c = record { wide = refl; above = within_refl c.args.x.now; least = λ T h r. h }
+loop-i-init g c = record { wide = refl; above = within_refl c.args.x.now; least = λ T h r. h }
 
 pub loop-i-smaller : goal.loop-i-smaller
-loop-i-smaller c = closes_measure c.args.members.now c.args.x.now c.requires c.loop-i.closed c.join-closed.result c.in-Some.i c.index-members-i.result c.loop-i.invariant.wide
+loop-i-smaller g c = closes_measure c.args.members.now c.args.x.now c.requires c.loop-i.closed c.join-closed.result c.in-Some.i c.index-members-i.result c.loop-i.invariant.wide
     (sym c.first_broken.ensures ∙ c.in-Some.is) c.index-members-i.is (c.join-closed.ensures ∙ ap (λ (j : Rule). join c.loop-i.closed j.conclusion) (sym c.index-members-i.is))
 
 pub loop-i-preserved : goal.loop-i-preserved
-loop-i-preserved c =
+loop-i-preserved g c =
     let e : c.join-closed.result ≡ join c.loop-i.closed c.index-members-i.result.conclusion = c.join-closed.ensures ∙ ap (λ (j : Rule). join c.loop-i.closed j.conclusion) (sym c.index-members-i.is) in
     let more : Set = c.index-members-i.result.conclusion in
     record {
@@ -24,4 +24,4 @@ loop-i-preserved c =
     }
 
 pub returns : goal.returns
-returns c = closed_end c.args.members.now c.args.x.now c.requires c.loop-i.closed c.loop-i.invariant.wide c.loop-i.invariant.above c.loop-i.invariant.least (sym c.first_broken.ensures ∙ c.in_default.is)
+returns g c = closed_end c.args.members.now c.args.x.now c.requires c.loop-i.closed c.loop-i.invariant.wide c.loop-i.invariant.above c.loop-i.invariant.least (sym c.first_broken.ensures ∙ c.in_default.is)

@@ -11,10 +11,10 @@ swept_same : (left new : List ℕ) (J : List Rule) (A C D : Set) (k : ℕ) → n
 swept_same left new J A C D k l d w = subst (λ X. IsSwept X J A k D) (sym l) (subst (λ X. IsSwept left J A k X) (sym d) w)
 
 pub loop-k-init : goal.loop-k-init
-loop-k-init c = record { pass = pass_none c.args.x.now; fired = c.requires.fired; room = c.requires.room }
+loop-k-init g c = record { pass = pass_none c.args.x.now; fired = c.requires.fired; room = c.requires.room }
 
 pub loop-k-preserved : goal.loop-k-preserved
-loop-k-preserved c =
+loop-k-preserved g c =
     let J : List Rule = c.args.members.now in
     let A : Set = c.args.x.now in
     let C : Set = c.loop-k.closed in
@@ -41,7 +41,7 @@ loop-k-preserved c =
     ]
 
 pub returns : goal.returns
-returns c = record {
+returns g c = record {
   pass = subst (λ Zs. IsPass Zs c.args.x.now c.loop-k.closed) (take_all c.loop-k.k c.args.members.now c.loop-k-test.false) c.loop-k.invariant.pass;
   room = c.loop-k.auto.left;
   fired = c.loop-k.invariant.fired;

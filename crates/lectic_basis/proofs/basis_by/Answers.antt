@@ -18,10 +18,10 @@ visit_all-requires g c =
     (c.in_ok-found.ensures.list ∙ ap (λ n. record { width = n; members = L.members }) c.requires.wide)
     (subst (λ (M : RuleList). IsFiled M.width M.members F.buckets) (sym c.in_ok-found.ensures.list) c.in_ok-found.ensures.filed)
     (subst (λ (M : RuleList). IsGood M.members F.buckets A) (sym c.in_ok-found.ensures.list) c.in_ok-found.ensures.good) in
-    (omega arith, (omega arith, (omega (arith, c.width-width.ensures.words), subst (λ X. IsVisit L.members c.args.sheet.now c.args.sheet.now X 0 F) (sym c.resized.ensures) is)))
+    (omega arith, (omega arith, (omega (arith, c.width-width.ensures.words), subst (λ X. IsVisit L.members c.args.sheet.now c.args.sheet.now X 0 F) (sym c.resize.ensures) is)))
 
-pub resized-requires : goal.resized-requires
-resized-requires g c =
+pub resize-requires : goal.resize-requires
+resize-requires g c =
     let L : RuleList = c.args.known.now in
     let wide : length c.naive_closure-least.result ≡ L.width = c.naive_closure-least.ensures.wide ∙ ap length c.empty.ensures ∙ length-replicate c.width.result false ∙ c.width.ensures.width in
     (omega arith, (omega (arith, c.width-width.ensures.words), omega (arith, wide, c.requires.wide, ap (λ (X : Context). X.width) c.rows.ensures, c.width-width.ensures.width, c.width-width.ensures.narrow)))
@@ -30,4 +30,4 @@ pub returns : goal.returns
 returns g c =
     let K = c.args.sheet.now in
     let J = c.args.known.now.members in
-    c.into_list.ensures ∙ c.in_ok-visit_all.ensures.found ∙ ap (λ Zs. record { width = K.width; members = Zs }) (where_every J K c.resized.result)
+    c.into_list.ensures ∙ c.in_ok-visit_all.ensures.found ∙ ap (λ Zs. record { width = K.width; members = Zs }) (where_every J K c.resize.result)

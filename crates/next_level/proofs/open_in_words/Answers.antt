@@ -7,7 +7,7 @@ use Rattle.next_level.proofs.open_in_words.Goals as goal
 
 pub find_open-requires : goal.find_open-requires
 find_open-requires g c =
-    let same : c.in_ok-sheet.sheet ≡ c.args.rows.now = c.in_ok-sheet.ensures ∙ c.in_ok-resized.ensures in
+    let same : c.in_ok-sheet.sheet ≡ c.args.rows.now = c.in_ok-sheet.ensures ∙ c.in_ok-resize.ensures in
     let told = c.in_ok-among.ensures in
     let sets = told.1 ∙ c.as_slice.ensures.rows ∙ ap (λ (X : Context). X.rows) c.in_ok-sets.ensures in
     let all = subst (λ (X : Context). AllAmong c.args.rules.now.members X c.in_ok-among.among.whole c.in_ok-among.among.sets.items) (sym same)
@@ -17,7 +17,7 @@ find_open-requires g c =
 
 pub least_of-requires : goal.least_of-requires
 least_of-requires g c =
-    let same : c.in_ok-sheet.sheet ≡ c.args.rows.now = c.in_ok-sheet.ensures ∙ c.in_ok-resized.ensures in (
+    let same : c.in_ok-sheet.sheet ≡ c.args.rows.now = c.in_ok-sheet.ensures ∙ c.in_ok-resize.ensures in (
       omega arith,
       (
         c.requires.words,
@@ -30,13 +30,13 @@ least_of-requires g c =
 
 pub returns-clause-next : goal.returns-clause-next
 returns-clause-next g c known found reached is below bounded =
-    let same : c.in_ok-sheet.sheet ≡ c.args.rows.now = c.in_ok-sheet.ensures ∙ c.in_ok-resized.ensures in
+    let same : c.in_ok-sheet.sheet ≡ c.args.rows.now = c.in_ok-sheet.ensures ∙ c.in_ok-resize.ensures in
     told_next c.args.rules.now.members c.args.rows.now c.in_ok-sheet.sheet c.in_ok-seen.seen.bound c.in_ok-seen.seen.members.items same c.in_ok-seen.ensures.listed c.width.result c.width.ensures.width c.in_ok-opened.opened.level.size
     c.in_ok-seen.ensures.all c.in_ok-opened.ensures.size c.in_ok-opened.opened.level.members.items c.in_ok-opened.ensures.members known found reached is below bounded
 
 pub returns-clause-ahead : goal.returns-clause-ahead
 returns-clause-ahead g c =
-    let same : c.in_ok-sheet.sheet ≡ c.args.rows.now = c.in_ok-sheet.ensures ∙ c.in_ok-resized.ensures in
+    let same : c.in_ok-sheet.sheet ≡ c.args.rows.now = c.in_ok-sheet.ensures ∙ c.in_ok-resize.ensures in
     told_ahead c.args.rules.now.members c.args.rows.now c.in_ok-sheet.sheet c.in_ok-seen.seen.bound c.in_ok-seen.seen.members.items same c.in_ok-seen.ensures.listed c.width.result c.width.ensures.width c.in_ok-opened.opened.level.size
     c.in_ok-opened.opened.ahead.whole c.in_ok-opened.opened.ahead.sets.rows c.in_ok-opened.ensures.ahead
 

@@ -21,7 +21,7 @@ pub loop-place-preserved : goal.loop-place-preserved
 loop-place-preserved g c =
     let loop = c.loop-place in
     let pushed = c.in_ok-push.ensures.ok in
-    let rows = ap (λ (K : Context). K.rows) pushed ∙ ap (λ (row : Set). loop.rows.rows ++ row ∷ []) c.resized.ensures in (
+    let rows = ap (λ (K : Context). K.rows) pushed ∙ ap (λ (row : Set). loop.rows.rows ++ row ∷ []) c.resize.ensures in (
       rw rows (length_push loop.rows.rows c.in_ok-next_row.field-0 ∙ ap (λ (n : ℕ). n + 1) loop.invariant.0),
       ap (λ (K : Context). K.width) pushed ∙ loop.invariant.1,
       rw rows

@@ -1,12 +1,12 @@
 use Rattle.std.proofs.Common.{◌≡◌, map, length, option_copied}
-use Rattle.text_pieces.specs.Blanks.{trimmed}
+use Rattle.text_pieces.specs.Blanks.{trim}
 use Rattle.fca_command.specs.Attributes.{attributes_said, later_parts, with_named}
 use Rattle.fca_command.proofs.attributes.attributes_said.Given as goal
 
 abbrev pub invariant-loop-rest : goal.invariant-loop-rest
 invariant-loop-rest l =
     (length l.said ≡ length l.table.attributes)
-    × (with_named l.table.attributes l.said (map trimmed (later_parts (option_copied l.rest))) ≡ attributes_said l.table.attributes l.fn.word)
+    × (with_named l.table.attributes l.said (map trim (later_parts (option_copied l.rest))) ≡ attributes_said l.table.attributes l.fn.word)
 
 abbrev pub decreases-loop-rest : goal.decreases-loop-rest
 decreases-loop-rest l = length (later_parts (option_copied l.rest))

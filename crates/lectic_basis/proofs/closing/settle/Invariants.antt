@@ -1,5 +1,5 @@
 use Rattle.std.proofs.Common.{◌≡◌, ◌-◌, length, true}
-use Rattle.lectic_concepts.specs.Branches.{agree_before}
+use Rattle.fca_model.specs.Sets.{agree_before}
 use Rattle.lectic_basis.specs.Watches.{bucket, IsSettling}
 use Rattle.lectic_basis.proofs.closing.settle.Given as goal
 

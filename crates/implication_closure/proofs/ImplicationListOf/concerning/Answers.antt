@@ -1,8 +1,8 @@
 use Rattle.std.proofs.Common.{sym, subst}
 use Rattle.fca_model.proofs.ListLemmas.{list_all-filter_kept}
 use Rattle.implication_closure.specs.Closing.{has_width, HaveWidth}
-use Rattle.lectic_basis.specs.Concerns.{concerns}
-use Rattle.lectic_basis.proofs.narrow_list.NarrowList.concerning.Goals as goal
+use Rattle.implication_closure.specs.Concerns.{concerns}
+use Rattle.implication_closure.proofs.ImplicationListOf.concerning.Goals as goal
 
 pub invariant_of-result : goal.invariant_of-result
 invariant_of-result g c =

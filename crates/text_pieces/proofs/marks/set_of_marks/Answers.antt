@@ -1,6 +1,6 @@
 use Rattle.std.proofs.Common.{rules, ◌≡◌, ◌<◌, ◌+◌, ◌*◌, ◌^◌, ℕ, List, min, subst, length, arith}
 use Rattle.text_pieces.proofs.MarkLemmas.{CrossedTo, CrossedTo-block, CrossedTo-all}
-use Rattle.text_pieces.proofs.marks.crossed.Goals as goal
+use Rattle.text_pieces.proofs.marks.set_of_marks.Goals as goal
 
 pub loop-block-preserved : goal.loop-block-preserved
 loop-block-preserved c =
