@@ -79,13 +79,15 @@ module _ {X : Type 0} (p : X → Bool) (d : X) where
 -- ---- a row
 
 module _ (s : State) (q : Rule) where
-  unanswered : (m : Option ℕ) → position (λ r. refutes r q) s.context.rows ≡ m → step.row_new s (first_with (λ r. refutes r q) 0 s.context.rows) ≡ reply_to_row s (row_unanswered m)
+  unanswered : (m : Option ℕ) → position (λ r. refutes r q) s.context.rows ≡ m
+      → step.row_new s (first_with (λ r. refutes r q) 0 s.context.rows) ≡ reply_to_row s (row_unanswered m)
   unanswered None e = ap (step.row_new s) (first_none (λ r. refutes r q) [] 0 s.context.rows e)
   unanswered (Some i) e = ap (step.row_new s) (first_at (λ r. refutes r q) [] i s.context.rows e)
 
   unbroken : (r : Set) (m : Option ℕ) → position (λ i. not (respects r i)) (rules_of s) ≡ m
       → step.row_unbroken s q (first_with (λ i. not (respects r i)) 0 (rules_of s)) ≡ reply_to_row s (row_unbroken s.context.rows q m)
-  unbroken r None e = ap (step.row_unbroken s q) (first_none (λ i. not (respects r i)) (rule [] []) 0 (rules_of s) e) ∙ unanswered (position (λ r. refutes r q) s.context.rows) refl
+  unbroken r None e = ap (step.row_unbroken s q) (first_none (λ i. not (respects r i)) (rule [] []) 0 (rules_of s) e)
+      ∙ unanswered (position (λ r. refutes r q) s.context.rows) refl
   unbroken r (Some i) e = ap (step.row_unbroken s q) (first_at (λ i. not (respects r i)) (rule [] []) i (rules_of s) e)
 
   refuting : (r : Set) (b : Bool) → step.row_refuting s q r b ≡ reply_to_row s (row_refuting s.context.rows (rules_of s) q r b)
@@ -103,13 +105,16 @@ module _ (s : State) (q : Rule) where
   -- ---- a confirmation
 
   unheard : (m : Option ℕ) → position (λ i. same i.premise q.premise) s.accepted ≡ m
-      → confirm_unheard s (first_with (λ i. same i.premise q.premise) (length s.settings.known) s.accepted) ≡ reply_to_confirmation s (unrefuted m)
+      → confirm_unheard s (first_with (λ i. same i.premise q.premise) (length s.settings.known) s.accepted) ≡ reply_to_confirmation s
+      (unrefuted m)
   unheard None e = ap (confirm_unheard s) (first_none (λ i. same i.premise q.premise) (rule [] []) (length s.settings.known) s.accepted e)
-  unheard (Some i) e = ap (confirm_unheard s) (first_some (λ i. same i.premise q.premise) (rule [] []) (length s.settings.known) i s.accepted e).1
+  unheard (Some i) e = ap (confirm_unheard s) (first_some (λ i. same i.premise q.premise) (rule [] [])
+      (length s.settings.known) i s.accepted e).1
 
   confirming : (m : Option ℕ) → position (λ r. refutes r q) s.context.rows ≡ m
       → confirm_unrefuted s q (first_with (λ r. refutes r q) 0 s.context.rows) ≡ reply_to_confirmation s (confirmed s.accepted q m)
-  confirming None e = ap (confirm_unrefuted s q) (first_none (λ r. refutes r q) [] 0 s.context.rows e) ∙ unheard (position (λ i. same i.premise q.premise) s.accepted) refl
+  confirming None e = ap (confirm_unrefuted s q) (first_none (λ r. refutes r q) [] 0 s.context.rows e)
+      ∙ unheard (position (λ i. same i.premise q.premise) s.accepted) refl
   confirming (Some i) e = ap (confirm_unrefuted s q) (first_at (λ r. refutes r q) [] i s.context.rows e)
 
   -- the reply to a confirmation is the one that its verdict stands for

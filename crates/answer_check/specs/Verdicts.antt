@@ -16,7 +16,7 @@ rule_at J i = slice_index_or J i (rule [] [])
 abbrev pub row_at : List Set → ℕ → Set
 row_at rows i = slice_index_or rows i []
 
--- the reply that the verdict stands for in the state, where what is recorded is replied to by `recorded`
+-- the reply that the verdict stands for in the state; `recorded` is the reply to an answer that is recorded
 abbrev pub reply_of : State → SetReply → Verdict → SetReply
 reply_of s recorded verdict.Take = recorded
 reply_of s recorded (verdict.Misses a) = Misses a

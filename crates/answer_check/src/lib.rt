@@ -1,4 +1,4 @@
-//! The verdict on an answer of an expert: which case of the step of an exploration it is.
+//! The verdict on an answer of an expert: the case of the step of an exploration that applies.
 #![tactic(auto)]
 
 ghost use Rattle.std.specs.Prelude.{◌≡◌, Option, Some, position};
@@ -11,7 +11,7 @@ use attr_bits::Attrs;
 use derivation::Rows;
 use implication_closure::{Implication, ImplicationList, Question};
 
-/// Which case of the step an answer is. A place counts from 0 in the list that it speaks of.
+/// The case of the step that applies to an answer. A place counts from 0 in the list that the case names.
 #[derive(Clone, Copy)]
 pub enum Verdict {
     /// The answer is recorded.
@@ -24,9 +24,9 @@ pub enum Verdict {
     Breaks(usize),
     /// The row at this place refutes the question that was confirmed.
     Refuted(usize),
-    /// The row at this place refutes the question already.
+    /// The row at this place already refutes the question.
     SupersededRow(usize),
-    /// The accepted implication at this place has the premise already.
+    /// The accepted implication at this place already has the premise.
     SupersededBy(usize),
 }
 
@@ -48,7 +48,7 @@ pub fn check_confirm(rows: &Rows, accepted: &ImplicationList, question: &Questio
     judge_confirmation(rows, accepted, question)
 }
 
-/// The first case of a row that applies.
+/// The first case that applies to the row.
 fn judge_row(rows: &Rows, rules: &ImplicationList, question: &Question, row: &Attrs) -> Verdict
     ensures { result ≡ row_verdict rows.now.rows rules.now.members question.now row.now }
 {
@@ -67,7 +67,7 @@ fn judge_row(rows: &Rows, rules: &ImplicationList, question: &Question, row: &At
     }
 }
 
-/// The first case of a confirmation that applies.
+/// The first case that applies to the confirmation.
 fn judge_confirmation(rows: &Rows, accepted: &ImplicationList, question: &Question) -> Verdict
     ensures { result ≡ confirm_verdict rows.now.rows accepted.now.members question.now }
 {

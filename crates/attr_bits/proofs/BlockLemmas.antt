@@ -10,7 +10,8 @@ use Rattle.attr_bits.specs.WordLaws.{length-set_of, get_or-set_of}
 use Rattle.attr_bits.proofs.PlaceLemmas.{IsWords, width_is, place}
 use Rattle.attr_bits.proofs.WordwiseLemmas.{and_bitwise, or_bitwise}
 
-module _ {m n : ℕ} {a : List ℕ} {A : Set} (w : IsWords m a n A) (from bits ones : ℕ) (aligned : from % 64 ≡ 0) (l : from < length A) (small : bits < 2 ^ 64)
+module _ {m n : ℕ} {a : List ℕ} {A : Set} (w : IsWords m a n A) (from bits ones : ℕ) (aligned : from % 64 ≡ 0) (l : from < length A)
+    (small : bits < 2 ^ 64)
     (is : ones ≡ 2 ^ min (n - from) 64 - 1) where
   abbrev added : ℕ
   added = bit_or (get_or a (from / 64) 0) (bit_and bits ones)
@@ -31,7 +32,8 @@ module _ {m n : ℕ} {a : List ℕ} {A : Set} (w : IsWords m a n A) (from bits o
   unfolding word_bit
   same_bit q other = ap (λ x. eqb (bit_at x (q % 64)) 1) (get_or-set_other a (from / 64) (q / 64) added 0 other)
 
-  changed_bit : (q : ℕ) → q / 64 ≡ from / 64 → word_bit after q ≡ (word_bit a q || (eqb (bit_at bits (q - from)) 1 && eqb (bit_at ones (q - from)) 1))
+  changed_bit : (q : ℕ) → q / 64 ≡ from / 64 → word_bit after q
+      ≡ (word_bit a q || (eqb (bit_at bits (q - from)) 1 && eqb (bit_at ones (q - from)) 1))
   unfolding word_bit
   changed_bit q here =
       let j : q % 64 ≡ q - from = omega (arith, aligned, here) in
@@ -45,8 +47,10 @@ module _ {m n : ℕ} {a : List ℕ} {A : Set} (w : IsWords m a n A) (from bits o
   added_below : (q : ℕ) → q < n → word_bit after q ≡ (word_bit a q || (nat_le from q && eqb (bit_at bits (q - from)) 1))
   added_below q lt = elim (cases_eq (q / 64) (from / 64)) [
     | inl here ↦
-        let one : eqb (bit_at ones (q - from)) 1 ≡ true = ap (λ x. eqb (bit_at x (q - from)) 1) is ∙ ap (λ x. eqb x 1) (bit_at_ones (min (n - from) 64) (q - from) (omega (arith, aligned, here))) in
-        changed_bit q here ∙ ap (λ x. word_bit a q || x) (ap (λ x. eqb (bit_at bits (q - from)) 1 && x) one ∙ and-true (eqb (bit_at bits (q - from)) 1)
+        let one : eqb (bit_at ones (q - from)) 1 ≡ true = ap (λ x. eqb (bit_at x (q - from)) 1) is
+        ∙ ap (λ x. eqb x 1) (bit_at_ones (min (n - from) 64) (q - from) (omega (arith, aligned, here))) in
+        changed_bit q here ∙ ap (λ x. word_bit a q || x)
+        (ap (λ x. eqb (bit_at bits (q - from)) 1 && x) one ∙ and-true (eqb (bit_at bits (q - from)) 1)
         ∙ sym (ap (λ x. x && eqb (bit_at bits (q - from)) 1) (le-leb from q (omega (arith, aligned, here)))))
     | inr other ↦ same_bit q other ∙ sym (ap (λ x. word_bit a q || x) (elim (cases_lt q from) [
       | inl before ↦ ap (λ x. x && eqb (bit_at bits (q - from)) 1) (lt-leb from q before)
@@ -58,24 +62,37 @@ module _ {m n : ℕ} {a : List ℕ} {A : Set} (w : IsWords m a n A) (from bits o
   none_past : (q : ℕ) → n ≤ q → word_bit after q ≡ false
   none_past q le = elim (cases_eq (q / 64) (from / 64)) [
     | inl here ↦
-        let none : eqb (bit_at ones (q - from)) 1 ≡ false = ap (λ x. eqb (bit_at x (q - from)) 1) is ∙ ap (λ x. eqb x 1) (bit_at_ones_above (min (n - from) 64) (q - from) (omega (arith, aligned, here))) in
-        changed_bit q here ∙ ap₂ (λ x y. x || y) (w.fits.clear q le) (ap (λ x. eqb (bit_at bits (q - from)) 1 && x) none ∙ and-false (eqb (bit_at bits (q - from)) 1))
+        let none : eqb (bit_at ones (q - from)) 1 ≡ false = ap (λ x. eqb (bit_at x (q - from)) 1) is
+        ∙ ap (λ x. eqb x 1) (bit_at_ones_above (min (n - from) 64) (q - from) (omega (arith, aligned, here))) in
+        changed_bit q here ∙ ap₂ (λ x y. x || y) (w.fits.clear q le)
+        (ap (λ x. eqb (bit_at bits (q - from)) 1 && x) none ∙ and-false (eqb (bit_at bits (q - from)) 1))
     | inr other ↦ same_bit q other ∙ w.fits.clear q le
   ]
 
   small_words : (k : ℕ) → get_or after k 0 < 2 ^ 64
   small_words k = elim (cases_eq k (from / 64)) [
-    | inl here ↦ omega (arith, ap (λ x. get_or after x 0) here, get_or-set_same a (from / 64) added 0 in_words, or_bitwise.small (get_or a (from / 64) 0) (bit_and bits ones) (w.fits.small (from / 64)) small_both)
+    | inl here ↦ omega (
+      arith,
+      ap (λ x. get_or after x 0) here,
+      get_or-set_same a (from / 64) added 0 in_words,
+      or_bitwise.small (get_or a (from / 64) 0) (bit_and bits ones) (w.fits.small (from / 64)) small_both,
+    )
     | inr other ↦ omega (arith, get_or-set_other a (from / 64) k added 0 other, w.fits.small k)
   ]
 
   pub block_fits : FitsWidth m after n
-  block_fits = record { narrow = w.fits.narrow; count = length-set a (from / 64) added ∙ w.fits.count; small = small_words; clear = none_past }
+  block_fits = record {
+    narrow = w.fits.narrow;
+    count = length-set a (from / 64) added ∙ w.fits.count;
+    small = small_words;
+    clear = none_past;
+  }
 
   pub block_wide : length (set_of after n) ≡ length A
   block_wide = length-set_of after n ∙ width_is w
 
-  pub block_members : (i : ℕ) → i < length A → get_or (set_of after n) i false ≡ (get_or A i false || (nat_le from i && eqb (bit_at bits (i - from)) 1))
+  pub block_members : (i : ℕ) → i < length A → get_or (set_of after n) i false
+      ≡ (get_or A i false || (nat_le from i && eqb (bit_at bits (i - from)) 1))
   block_members i lt =
       let below : i < n = omega (arith, width_is w) in
       get_or-set_of after n i below ∙ added_below i below ∙ ap (λ x. x || (nat_le from i && eqb (bit_at bits (i - from)) 1)) (place w i)

@@ -12,7 +12,8 @@ module _ {m n v : ℕ} {a b : List ℕ} {A B : Set} (wa : IsWords m a n A) (wb :
 
   pub meet_first : 0 < m → IsWords m first_met n (meet A B)
   meet_first some = meet_is wa wb first_met (length-set a 0 (bit_and (get_or a 0 0) (get_or b 0 0)) ∙ wa.fits.count) 1 (omega arith)
-      (λ k l. let first : k ≡ 0 = omega arith in rw first (get_or-set_same a 0 (bit_and (get_or a 0 0) (get_or b 0 0)) 0 (omega (arith, wa.fits.count))))
+      (λ k l. let first : k ≡ 0 = omega arith in rw first
+      (get_or-set_same a 0 (bit_and (get_or a 0 0) (get_or b 0 0)) 0 (omega (arith, wa.fits.count))))
       (λ k le. get_or-set_other a 0 k (bit_and (get_or a 0 0) (get_or b 0 0)) 0 (omega arith))
 
   pub within_first : eqb (lacking (get_or a 0 0) (get_or b 0 0)) 0 ≡ within A B
@@ -22,5 +23,7 @@ module _ {m n v : ℕ} {a b : List ℕ} {A B : Set} (wa : IsWords m a n A) (wb :
   ]
 
 -- sets of the same first word
-pub within_same : {m n v : ℕ} {a b : List ℕ} {A B : Set} → IsWords m a n A → IsWords m b v B → n ≤ 64 → v ≤ 64 → get_or a 0 0 ≡ get_or b 0 0 → within A B ≡ true
-within_same {b = b} {B = B} wa wb narrow narrow_b e = sym (within_first wa wb narrow) ∙ ap (λ x. eqb (lacking x (get_or b 0 0)) 0) e ∙ within_first wb wb narrow_b ∙ within_refl B
+pub within_same : {m n v : ℕ} {a b : List ℕ} {A B : Set} → IsWords m a n A → IsWords m b v B → n ≤ 64 → v ≤ 64 → get_or a 0 0 ≡ get_or b 0 0
+    → within A B ≡ true
+within_same {b = b} {B = B} wa wb narrow narrow_b e = sym (within_first wa wb narrow) ∙ ap (λ x. eqb (lacking x (get_or b 0 0)) 0) e
+    ∙ within_first wb wb narrow_b ∙ within_refl B

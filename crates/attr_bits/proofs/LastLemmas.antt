@@ -25,7 +25,8 @@ module _ {m n v : ℕ} {a b : List ℕ} {A B : Set} (wa : IsWords m a n A) (wb :
     | inr past_end ↦ get_or_past (minus A B) i (omega (arith, length-minus A B, width_is wa))
   ]
 
-  pub none_missing : (k : ℕ) → k ≡ 0 → NoneBetween (minus A B) (64 * k) end → (i : ℕ) → i < end → get_or A i false ≡ true → get_or B i false ≡ true
+  pub none_missing : (k : ℕ) → k ≡ 0 → NoneBetween (minus A B) (64 * k) end → (i : ℕ) → i < end → get_or A i false ≡ true
+      → get_or B i false ≡ true
   none_missing k z none i l = kept A B i (none i (omega arith) l)
 
   module _ (k ones : ℕ) (is : ones ≡ 2 ^ min (end - 64 * k) 64 - 1) where
@@ -40,7 +41,8 @@ module _ {m n v : ℕ} {a b : List ℕ} {A B : Set} (wa : IsWords m a n A) (wb :
     small_word = lacking_bitwise.small (get_or a k 0) (get_or b k 0) (wa.fits.small k) (wb.fits.small k)
 
     small_ones : ones < 2 ^ 64
-    small_ones = let few : min (end - 64 * k) 64 ≤ 64 = omega arith in let p : 2 ^ min (end - 64 * k) 64 ≤ 2 ^ 64 = pow_mono few in omega (arith, is)
+    small_ones = let few : min (end - 64 * k) 64 ≤ 64 = omega arith in let p : 2 ^ min (end - 64 * k) 64 ≤ 2 ^ 64 = pow_mono few in
+        omega (arith, is)
 
     small_bits : bits < 2 ^ 64
     small_bits = and_bitwise.small word ones small_word small_ones
@@ -49,17 +51,22 @@ module _ {m n v : ℕ} {a b : List ℕ} {A B : Set} (wa : IsWords m a n A) (wb :
     bit_before j lj l =
         let q : (64 * k + j) / 64 ≡ k = omega arith in
         let r : (64 * k + j) % 64 ≡ j = omega arith in
-        let one : eqb (bit_at ones j) 1 ≡ true = ap (λ x. eqb (bit_at x j) 1) is ∙ ap (λ x. eqb x 1) (bit_at_ones (min (end - 64 * k) 64) j (omega arith)) in
+        let one : eqb (bit_at ones j) 1 ≡ true = ap (λ x. eqb (bit_at x j) 1) is
+        ∙ ap (λ x. eqb x 1) (bit_at_ones (min (end - 64 * k) 64) j (omega arith)) in
         minus_bit wa wb (64 * k + j)
-        ∙ rw (q, r) (sym (and_bitwise.bits word ones j small_word small_ones lj ∙ ap (λ x. eqb (bit_at word j) 1 && x) one ∙ and-true (eqb (bit_at word j) 1)))
+        ∙ rw (q, r) (sym (and_bitwise.bits word ones j small_word small_ones lj ∙ ap (λ x. eqb (bit_at word j) 1 && x) one
+        ∙ and-true (eqb (bit_at word j) 1)))
 
     bit_past : (j : ℕ) → j < 64 → end ≤ 64 * k + j → eqb (bit_at bits j) 1 ≡ false
     bit_past j lj le =
-        let none : eqb (bit_at ones j) 1 ≡ false = ap (λ x. eqb (bit_at x j) 1) is ∙ ap (λ x. eqb x 1) (bit_at_ones_above (min (end - 64 * k) 64) j (omega arith)) in
-        and_bitwise.bits word ones j small_word small_ones lj ∙ ap (λ x. eqb (bit_at word j) 1 && x) none ∙ and-false (eqb (bit_at word j) 1)
+        let none : eqb (bit_at ones j) 1 ≡ false = ap (λ x. eqb (bit_at x j) 1) is
+        ∙ ap (λ x. eqb x 1) (bit_at_ones_above (min (end - 64 * k) 64) j (omega arith)) in
+        and_bitwise.bits word ones j small_word small_ones lj ∙ ap (λ x. eqb (bit_at word j) 1 && x) none
+        ∙ and-false (eqb (bit_at word j) 1)
 
     -- in word k from bit t on, and then behind it
-    none_from : (t : ℕ) → ((j : ℕ) → t ≤ j → j < 64 → bit_at bits j ≡ 0) → NoneBetween (minus A B) (64 * (k + 1)) end → NoneBetween (minus A B) (64 * k + t) end
+    none_from : (t : ℕ) → ((j : ℕ) → t ≤ j → j < 64 → bit_at bits j ≡ 0) → NoneBetween (minus A B) (64 * (k + 1)) end
+        → NoneBetween (minus A B) (64 * k + t) end
     none_from t none behind i low high = elim (cases_lt i (64 * (k + 1))) [
       | inl here ↦
           let e : 64 * k + (i - 64 * k) ≡ i = omega arith in
@@ -88,7 +95,8 @@ module _ {m n v : ℕ} {a b : List ℕ} {A B : Set} (wa : IsWords m a n A) (wb :
       bit_highest =
           let rest : ℕ = bits - 2 ^ top.0 in
           let split : 1 * 2 ^ top.0 + rest ≡ bits = omega (arith, top.2) in
-          ap (λ x. bit_at x top.0) (sym split) ∙ bit_at_cat_high 1 top.0 rest top.0 (omega (arith, top.3, pow-suc 2 top.0)) (omega arith) ∙ ap (λ x. bit_at 1 x) (sub_self top.0)
+          ap (λ x. bit_at x top.0) (sym split) ∙ bit_at_cat_high 1 top.0 rest top.0 (omega (arith, top.3, pow-suc 2 top.0)) (omega arith)
+          ∙ ap (λ x. bit_at 1 x) (sub_self top.0)
 
       below_end : 64 * k + top.0 < end
       below_end = elim (cases_lt (64 * k + top.0) end) [
@@ -104,5 +112,6 @@ module _ {m n v : ℕ} {a b : List ℕ} {A B : Set} (wa : IsWords m a n A) (wb :
             before = below_end;
             member = here.0;
             lacks = here.1;
-            last = λ i low high. kept A B i (none_from (suc top.0) (λ j le l. bit_at_above bits (suc top.0) j top.3 le) behind i (omega arith) high);
+            last = λ i low high. kept A B i (none_from (suc top.0) (λ j le l. bit_at_above bits (suc top.0) j top.3 le) behind i
+                (omega arith) high);
           })

@@ -1,4 +1,5 @@
--- The number of members: the bits of all words up to the width, counted word by word. A word has as many bits as the number that its bits make.
+-- The number of members: the bits of all words up to the width, counted word by word. A word has as many bits as the number that its bits
+-- make.
 use Rattle.std.proofs.Common.{◌≡◌, ℕ, zero, suc, ◌+◌, ◌-◌, ◌*◌, ◌^◌, ◌<◌, ◌≤◌, Bool, true, false, cond, eqb, List, [], ◌∷◌, map, length, get_or, refl, sym, ap, ap₂, ◌∙◌, arith, add-zero, add-suc, add-one, count_ones, take}
 use Rattle.std.proofs.lemmas.List.FromFn.{map-range_with_len_more}
 use Rattle.std.proofs.lemmas.Nat.Bits.{bit_at-lt, same_from_bits_below}
@@ -73,13 +74,15 @@ ones_in_mono (suc k) (suc m) [] h = omega arith
 ones_in_mono (suc k) (suc m) (x ∷ xs) h = omega (arith, ones_in_mono k m xs (omega arith))
 
 -- the members in the first k words
-count_words : (a : List ℕ) → ((k : ℕ) → get_or a k 0 < 2 ^ 64) → (k : ℕ) → k ≤ length a → count_below (word_bit a) (64 * k) ≡ ones_in (take k a)
+count_words : (a : List ℕ) → ((k : ℕ) → get_or a k 0 < 2 ^ 64) → (k : ℕ) → k ≤ length a
+    → count_below (word_bit a) (64 * k) ≡ ones_in (take k a)
 count_words a small zero h = refl
 count_words a small (suc k) h =
     let e : 64 * suc k ≡ 64 * k + 64 = omega arith in
     ap (count_below (word_bit a)) e ∙ count_below-add (word_bit a) (64 * k) 64
     ∙ ap₂ (λ x y. x + y) (count_words a small k (omega arith))
-    (count_below-agree (λ j. word_bit a (64 * k + j)) (λ j. eqb (bit_at (get_or a k 0) j) 1) 64 (λ j l. word_bit_in a k j l) ∙ sym (ones_by_bits (get_or a k 0) (small k)))
+    (count_below-agree (λ j. word_bit a (64 * k + j)) (λ j. eqb (bit_at (get_or a k 0) j) 1) 64 (λ j l. word_bit_in a k j l)
+    ∙ sym (ones_by_bits (get_or a k 0) (small k)))
     ∙ sym (ones_in_more a k h)
 
 -- the words that the width reaches have all members
@@ -89,6 +92,7 @@ size_reached {m} {n} {a} w k inside reached =
     sym (count_words a w.fits.small k (omega (arith, w.fits.count)))
     ∙ (let e : n + (64 * k - n) ≡ 64 * k = omega arith in
     ap (count_below (word_bit a)) (sym e) ∙ count_below-add (word_bit a) n (64 * k - n)
-    ∙ ap (λ x. count_below (word_bit a) n + x) (count_below-none (λ j. word_bit a (n + j)) (64 * k - n) (λ j l. w.fits.clear (n + j) (omega arith)))
+    ∙ ap (λ x. count_below (word_bit a) n + x) (count_below-none (λ j. word_bit a (n + j)) (64 * k - n)
+    (λ j l. w.fits.clear (n + j) (omega arith)))
     ∙ add-zero (count_below (word_bit a) n))
     ∙ sym (size_below (word_bit a) n) ∙ ap size w.view

@@ -1,4 +1,4 @@
--- How many words there are.
+-- The numbers of words that sets are kept in.
 use Rattle.std.specs.Prelude.{ℕ}
 use Rattle.attr_bits.specs.declared.WordCount.{WordCount}
 use Rattle.attr_bits.specs.declared.WordCount.TheVariants.{One, Two, Four, All}

@@ -1,4 +1,4 @@
-//! What an exploration is told and what it says: its settings, the names of its experts, and events with their replies.
+//! The terms of an exploration: its settings, the names of its experts, and events with their replies.
 #![tactic(auto)]
 
 mod names;
@@ -12,7 +12,7 @@ use fca_model::Name;
 /// What an expert does.
 pub type Event = fca_model::Event<Name, Attrs>;
 
-/// What is answered.
+/// The answer to an event.
 pub type Reply = fca_model::Reply<Attrs>;
 
 /// An event with its reply.

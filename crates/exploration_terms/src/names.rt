@@ -11,7 +11,7 @@ use std::alloc::Global;
 use std::collections::BTreeMap;
 use std::marker::Model;
 
-/// Names by the numbers of experts, in ascending order of the numbers, each number once: contracts see the list of pairs.
+/// Names by the numbers of experts, in ascending order of the numbers, each number once. Contracts see the list of pairs.
 #[derive(Drop)]
 pub struct ExpertNames {
     names: BTreeMap<u8, Name>,
@@ -27,7 +27,7 @@ impl Model for ExpertNames {
 }
 
 impl ExpertNames {
-    /// No names; it takes no memory yet.
+    /// The empty list of names, which takes no memory.
     pub fn new(alloc: Global) -> ExpertNames
         ensures { result ≡ [] }
     {
@@ -36,7 +36,7 @@ impl ExpertNames {
         }
     }
 
-    /// Names the expert, and says whether it had no name yet; one that has a name keeps it.
+    /// Names the expert. The result says whether it had no name before; an expert that has a name keeps it.
     pub fn add(&mut self, e: u8, name: Name) -> Result<bool, Memory>
         requires { is_expert e ≡ true }
         ensures new { IfOk result (λ is_new. (is_new ≡ true) ↔ (name_of e self.old ≡ None)) }

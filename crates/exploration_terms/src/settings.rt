@@ -1,4 +1,4 @@
-//! What an exploration is opened with besides its table.
+//! The settings with which an exploration is opened.
 
 ghost use Rattle.std.specs.Prelude.{◌≡◌, ◌≤◌, ◌↔◌, IfOk, true};
 ghost use Rattle.fca_model.specs.Exploration.{plain};
@@ -9,19 +9,19 @@ use fca_model::{MAX_ATTRIBUTES, MAX_EXPERTS, Memory};
 use implication_closure::ImplicationList;
 use std::alloc::Global;
 
-/// What no event of an exploration changes, besides its table.
+/// The settings of an exploration. No event changes them.
 #[derive(Drop)]
 pub struct Settings {
-    /// What is known beforehand: only sets that respect it are asked about.
+    /// The implications that are known beforehand. Only sets that respect them are asked about.
     pub known: ImplicationList,
-    /// How many experts at most may hold one question.
+    /// The most experts that may hold one question.
     pub holders: u8,
     /// Names of experts.
     pub names: ExpertNames,
 }
 
 impl Settings {
-    /// Nothing is known of n attributes, all experts may hold one question, and no expert has a name.
+    /// The settings in which nothing is known of n attributes, all experts may hold one question, and no expert has a name.
     pub fn plain(alloc: Global, n: u32) -> Result<Settings, Memory>
         requires { n ≤ MAX_ATTRIBUTES }
         ensures width { IfOk result (λ settings. settings.known.width ≡ n) }

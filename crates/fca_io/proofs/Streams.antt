@@ -31,14 +31,16 @@ not-empty text front rest whole some none =
     let parts : length (front ++ rest) ≡ length front + length rest = length-append front rest in
     absurd (omega arith)
 
-pub length-joined : (items moved : List ℕ) (len count : ℕ) → len ≡ length items → count ≡ length moved → length (items ++ moved) ≡ len + count
+pub length-joined : (items moved : List ℕ) (len count : ℕ) → len ≡ length items → count ≡ length moved
+    → length (items ++ moved) ≡ len + count
 length-joined items moved len count all some = length-append items moved ∙ cc
 
 -- a write that left a rest was not taken whole
 pub part-uncounted : (rest : List ℕ) (count total : ℕ) (before after : Option ℕ) → 0 < length (take (total - count) (drop count rest))
     → after ≡ cond (count == length rest) (option_map one_more before) before → after ≡ before
 part-uncounted rest count total before after more counted =
-    let some : count ≢ length rest = λ all. absurd (omega (arith, all, more, length-take (total - count) (drop count rest), length-drop count rest)) in
+    let some : count ≢ length rest = λ all. absurd
+    (omega (arith, all, more, length-take (total - count) (drop count rest), length-drop count rest)) in
     counted ∙ rw (ne_eqb count (length rest) some) refl
 
 -- a write that left none was
@@ -52,4 +54,5 @@ whole-counted rest count total before after long fits none counted =
 
 -- want of memory is not that there was too much
 pub memory-not-long : {T : Type 0} (r : Result T Taken) → IsErrAnd r (λ t. t ≡ Memory) → r ≡ Err Long → ⊥
-memory-not-long {T} r memory long = let P : Result T Taken → Type 0 = λ x. IsErrAnd x (λ t. t ≡ Memory) in let same : Long ≡ Memory = subst P long memory in cc
+memory-not-long {T} r memory long = let P : Result T Taken → Type 0 = λ x. IsErrAnd x (λ t. t ≡ Memory) in
+    let same : Long ≡ Memory = subst P long memory in cc

@@ -10,18 +10,18 @@ one_more n = min (n + 1) (2 ^ 64 - 1)
 abbrev pub Rose : ℕ → ℕ → Type 0
 Rose before now = one_more before ≤ now
 
--- a count, where it is kept, rose by no more than so many
+-- a count, if it is kept, rose by at most this number
 abbrev pub RoseAtMost : Option ℕ → Option ℕ → ℕ → Type 0
 RoseAtMost None now most = ⊤
 RoseAtMost (Some before) None most = ⊥
 RoseAtMost (Some before) (Some now) most = now ≤ before + most
 
--- the count of whole writes after a write of so many bytes: one more where all of them were taken
+-- the count of whole writes after a write of `size` bytes: one more if all of them were taken
 abbrev pub counts_whole : {E : Type 0} → ℕ → Result ℕ E → Option ℕ → Option ℕ
 counts_whole size (Ok taken) count = cond (taken == size) (option_map one_more count) count
 counts_whole size (Err e) count = count
 
--- how often a source was read, where that is counted, and its count of faults
+-- how many reads of a source were made, if they are counted, and its count of faults
 pub record Asked : Type 0 where
   pub reads : Option ℕ
   pub faults : ℕ

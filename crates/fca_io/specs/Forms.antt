@@ -1,28 +1,28 @@
--- Streams in memory, with a plan of the calls that are to fail.
+-- Streams in memory, with a plan of the calls that fail.
 use Rattle.std.specs.Prelude.{ℕ, Bool, cond, List, ◌==◌}
 use Rattle.std.specs.List.{list_any}
 use Rattle.fca_io.specs.Faults.{one_more}
 use Rattle.fca_io.specs.Shelves.{NamedBytes}
 
--- the numbers of the calls that are to fail, counted from 1, and how many calls were made and faults counted
+-- the numbers of the calls that fail, counted from 1, and the counts of calls and of faults
 pub record Plan : Type 0 where
   pub fails : List ℕ
   pub made : ℕ
   pub faults : ℕ
 
--- with nothing called yet
+-- the plan before the first call
 abbrev pub plan_of : List ℕ → Plan
 plan_of fails = record { fails = fails; made = 0; faults = 0 }
 
--- whether the next call is to fail
+-- whether the next call fails
 abbrev pub fails_next : Plan → Bool
 fails_next p = list_any (λ n. n == one_more p.made) p.fails
 
--- with one fault more
+-- the plan with one fault more
 abbrev pub with_fault : Plan → Plan
 with_fault p = record p { faults = one_more p.faults }
 
--- after the next call
+-- the plan after the next call
 abbrev pub after_call : Plan → Plan
 after_call p = record { fails = p.fails; made = one_more p.made; faults = cond (fails_next p) (one_more p.faults) p.faults }
 

@@ -1,4 +1,4 @@
--- Listeners: the ends that are to come and those that were given back, where a listener tells them, and the forms in memory.
+-- Listeners: the ends that are to come and those that were given back, if a listener tells them, and the forms in memory.
 use Rattle.std.specs.Prelude.{◌≡◌, ⊤, ℕ, ◌+◌, ◌≤◌, nat_lt, Bool, cond, Option, None, Some, List, [], ◌∷◌, ◌++◌, length}
 use Rattle.fca_io.specs.Forms.{Plan, Stream, Roomy}
 
@@ -16,14 +16,15 @@ module _ {E : Type 0} where
 
   -- with this end last among those given back, where there is room for one more; else it is dropped
   abbrev pub with_given : E → Ends E → Ends E
-  with_given end ends = cond (nat_lt (length ends.given + length ends.to_come) ends.room) (record ends { given = ends.given ++ end ∷ [] }) ends
+  with_given end ends = cond (nat_lt (length ends.given + length ends.to_come) ends.room)
+      (record ends { given = ends.given ++ end ∷ [] }) ends
 
   -- there is room for all
   abbrev pub IsWithinRoom : Option (Ends E) → Type 0
   IsWithinRoom None = ⊤
   IsWithinRoom (Some ends) = length ends.given + length ends.to_come ≤ ends.room
 
--- where a listener tells at which address it listens, it is this one
+-- this may be the address at which a listener listens
 abbrev pub MayListenAt : Option (List ℕ) → List ℕ → Type 0
 MayListenAt None address = ⊤
 MayListenAt (Some told) address = told ≡ address

@@ -1,16 +1,16 @@
 -- What a shelf of files tells of a name.
 use Rattle.std.specs.Prelude.{◌≡◌, ◌<◌, ℕ, Option, None, Some, List, length, find, option_map, bytes_eq, ⊤}
 
--- nothing, or that no file has the name, or the bytes of the file
+-- nothing is known, or no file has the name, or the file has these bytes
 abbrev pub Told : Type 0
 Told = Option (Option (List ℕ))
 
--- where it tells of the name, these are the bytes
+-- these may be the bytes of the file
 abbrev pub MayHold : Told → List ℕ → Type 0
 MayHold None bytes = ⊤
 MayHold (Some file) bytes = file ≡ Some bytes
 
--- where it tells of the name, there are more bytes than the limit
+-- the file may have more bytes than the limit
 abbrev pub MayExceed : Told → ℕ → Type 0
 MayExceed None limit = ⊤
 MayExceed (Some None) limit = ⊥

@@ -2,7 +2,7 @@
 use Rattle.std.specs.Prelude.{◌≡◌, ◌<◌, ◌↔◌, ◌++◌, ℕ, Option, List, length}
 use Rattle.std.specs.Io.KnownBytes.{Appends, Consumes}
 
--- these bytes were taken from a source, and there are more of them than the limit exactly where the transfer was too long
+-- these bytes were taken from a source, and there are more of them than the limit if and only if the transfer was too long
 pub record Takes (old new : Option (List ℕ)) (limit : ℕ) (too_long : Type 0) : Type 0 where
   pub bytes : List ℕ
   pub gone : Consumes old new bytes

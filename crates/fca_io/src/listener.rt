@@ -7,7 +7,7 @@ ghost use Rattle.fca_io.specs.Links.{Ends, GivesFirst, with_given, IsWithinRoom,
 
 use crate::outside::{Failed, Sink, Source};
 
-/// What is read and written at once: beside what is read stands what was written, and the other way round.
+/// An end that is read and written. What was written stands beside what is read, and the other way round.
 pub trait Duplex: Source + Sink {
     ghost held_beside: { (end : Self) → Self.Source.beside end ≡ Self.Sink.held end };
 
@@ -18,17 +18,17 @@ pub trait Duplex: Source + Sink {
     ghost reads_beside: { (end : Self) → Self.Sink.asked_beside end ≡ record { reads = Self.Source.reads end; faults = Self.Source.faults end } };
 }
 
-/// Where ends come from, and where they are given back.
+/// A listener accepts ends, and takes them back.
 pub trait Listener {
     type End: Duplex + Send + Drop;
 
     // whether it listens
     ghost listens: { Self → Bool };
 
-    // the address at which it listens, where it tells it
+    // the address at which it listens, if it tells it
     ghost listens_at: { Self → Option (List ℕ) };
 
-    // the ends to come and those given back, where it tells them
+    // the ends to come and those given back, if it tells them
     ghost ends: { Self → Option (Ends Self.End) };
 
     // the faults of `open`, counted for each address
@@ -53,7 +53,7 @@ pub trait Listener {
         ensures later { (other : List ℕ) → open_faults self.old other ≤ open_faults self.new other }
         ensures later_accept { accept_faults self.old ≤ accept_faults self.new };
 
-    /// The first of the ends to come.
+    /// Accepts the first of the ends to come.
     fn accept(&mut self) -> Result<Self::End, Failed>
         requires { listens self.old ≡ true }
 
@@ -68,7 +68,7 @@ pub trait Listener {
         ensures later { (other : List ℕ) → open_faults self.old other ≤ open_faults self.new other }
         ensures later_accept { accept_faults self.old ≤ accept_faults self.new };
 
-    /// Takes an end back, last among those given back where there is room, else to drop it.
+    /// Takes an end back. It comes last among those given back, or is dropped if there is no room.
     fn give_back(&mut self, end: Self::End)
         ensures given { ends self.new ≡ option_map (with_given end) (ends self.old) }
         ensures within { IsWithinRoom (ends self.old) }

@@ -1,4 +1,4 @@
-//! Sources, sinks, shelves, ends and listeners in memory, whose calls fail where a list says so.
+//! Sources, sinks, shelves, ends and listeners in memory, with lists of the calls that fail.
 
 mod end;
 mod link;

@@ -11,7 +11,7 @@ use fca_model::NO_MEMORY;
 use std::alloc::{AllocError, Global};
 use thiserror::Error;
 
-// The words that tell of the outside.
+// The words for faults of the outside.
 pub const READ_FAULT: &str = "read fault";
 
 pub const TOO_LONG: &str = "too long";
@@ -68,21 +68,21 @@ impl From<Failed> for Put {
 
 /// A stream of bytes to read.
 pub trait Source {
-    // the bytes left, where the source tells them
+    // the bytes left, if the source tells them
     ghost left: { Self → Option (List ℕ) };
 
     ghost faults: { Self → ℕ };
 
-    // how often it was read, where that is counted
+    // how many reads were made, if they are counted
     ghost reads: { Self → Option ℕ };
 
-    // bytes that stand beside the source, as those sent the other way, where it tells them
+    // bytes beside the source, such as those sent the other way, if it tells them
     ghost beside: { Self → Option (List ℕ) };
 
-    // a count that stands beside the source
+    // a count beside the source, such as the faults of writes
     ghost faults_beside: { Self → ℕ };
 
-    /// Moves the next bytes into the front of `into`, and answers how many: none at the end alone.
+    /// Moves the next bytes into the front of `into`. The result is their number, which is 0 only at the end.
     fn read(&mut self, into: &mut [u8]) -> Result<usize, Failed>
         requires { 0 < length into.old }
 
@@ -100,21 +100,21 @@ pub trait Source {
 
 /// A stream of bytes to write.
 pub trait Sink {
-    // the bytes held, where the sink tells them
+    // the bytes held, if the sink tells them
     ghost held: { Self → Option (List ℕ) };
 
     ghost faults: { Self → ℕ };
 
-    // bytes that stand beside the sink, as those still to come the other way, where it tells them
+    // bytes beside the sink, such as those still to come the other way, if it tells them
     ghost beside: { Self → Option (List ℕ) };
 
-    // how many writes were taken whole, where that is counted
+    // how many writes were taken whole, if they are counted
     ghost whole_writes: { Self → Option ℕ };
 
-    // the counts that stand beside the sink, as those of what is read the other way
+    // the counts beside the sink, such as those of reads
     ghost asked_beside: { Self → Asked };
 
-    /// Appends the first bytes of `from`, at least one, and answers how many.
+    /// Appends the first bytes of `from`, at least one. The result is their number.
     fn write(&mut self, from: &[u8]) -> Result<usize, Failed>
         requires { 0 < length from.now }
 
@@ -140,7 +140,7 @@ pub trait Shelf {
     // the faults, counted for each name
     ghost faults: { Self → List ℕ → ℕ };
 
-    // how many fetches were made, of any name, where that is counted
+    // how many fetches were made, of any name, if they are counted
     ghost fetches: { Self → Option ℕ };
 
     /// The bytes under the name. A name that no file has is a fault.

@@ -1,4 +1,4 @@
-//! Whole transfers: all that a source has, and the whole of a text.
+//! Whole transfers: all bytes of a source, and a whole text.
 
 ghost use Rattle.std.specs.Prelude.{◌≡◌, ◌≢◌, ◌≤◌, ◌+◌, ℕ, [], vec_len, Result, OnOk, OnErr, IfOk, IfSome, IsErrOf};
 ghost use Rattle.std.specs.Option.{option_map};
@@ -9,11 +9,11 @@ ghost use Rattle.fca_io.specs.Transfers.{Takes, AppendsFront};
 use crate::outside::{Put, Sink, Source, Taken};
 use std::alloc::Global;
 
-/// How many bytes are asked for at once.
+/// The number of bytes that one read asks for.
 const CHUNK: usize = 4096;
 
-/// All bytes up to the end of the source, which is read at most once more than there are bytes. An `Err` leaves the bytes taken until
-/// then out of the source.
+/// All bytes up to the end of the source, which is read at most once more than there are bytes. After an `Err` the bytes that were taken
+/// are gone from the source.
 pub fn read_all<S: Source>(alloc: Global, source: &mut S, limit: usize) -> Result<Vec<u8>, Taken>
     ensures bytes { IfOk result (λ v. IfSome (S.left source.old) (λ bytes. v.items ≡ bytes)) }
     ensures within { IfOk result (λ v. vec_len v ≤ limit) }
@@ -44,7 +44,7 @@ pub fn read_all<S: Source>(alloc: Global, source: &mut S, limit: usize) -> Resul
     }
 }
 
-/// Appends the whole text to the sink. Each write is handed all that is left of the text, so the last alone is taken whole. After an
+/// Appends the whole text to the sink. Each write is handed all that is left of the text, so only the last is taken whole. After an
 /// `Err` the sink holds a front of the text.
 pub fn write_text<K: Sink>(sink: &mut K, text: &[u8]) -> Result<(), Put>
     ensures whole { OnOk result (Appends (K.held sink.old) (K.held sink.new) text.now) }

@@ -1,5 +1,7 @@
--- A context that has only rows of another, and whose basis holds in the other, has the same closures: fewer rows can only make a closure larger; and what is
--- closed by all rows respects the basis of the few, so it is closed by the few. With the closures the pseudo-intents and the bases are the same.
+-- A context that has only rows of another, and whose basis holds in the other, has the same closures: fewer rows can only make a closure
+-- larger; and what is
+-- closed by all rows respects the basis of the few, so it is closed by the few. With the closures the pseudo-intents and the bases are the
+-- same.
 use Rattle.std.proofs.Common.{◌≡◌, ℕ, zero, suc, Bool, true, not, ◌&&◌, ◌||◌, List, [], ◌∷◌, map, length, filter, refl, sym, ap, ap₂, ◌∙◌, subst, eqb, eqb-true}
 use Rattle.std.proofs.lemmas.Bool.{and_parts}
 use Rattle.std.specs.List.{list_all, list_any}
@@ -30,7 +32,8 @@ module _ (n : ℕ) (few all : List Set) (S : List Rule) (part : list_all (λ row
         let T = closure D A in
         let closed : is_closed D T ≡ true = same_from T (closure D T) (sym (closure_idempotent D A e)) in
         let in_S : respects_all S T ≡ true = list_all-mono (holds D) (respects T) (λ i. holds_respected D T i closed) S known in
-        let in_B : respects_all (basis_known S K) T ≡ true = list_all-mono (holds D) (respects T) (λ i. holds_respected D T i closed) (basis_known S K) true_of_all in
+        let in_B : respects_all (basis_known S K) T ≡ true =
+        list_all-mono (holds D) (respects T) (λ i. holds_respected D T i closed) (basis_known S K) true_of_all in
         let closed_too = same-true T (closure K T) (respecting_closed S K T (length-closure D A) in_S in_B) in
         within_antisymm (closure K A) T (length-closure K A ∙ sym (length-closure D A))
         (subst (λ X. within (closure K A) X ≡ true) (sym closed_too) (closure_monotone K A T (closure_extensive D A e)))
@@ -41,7 +44,8 @@ module _ (n : ℕ) (few all : List Set) (S : List Rule) (part : list_all (λ row
     pseudo_same zero P e = refl
     pseudo_same (suc k) P e =
         ap₂ (λ (b c : Bool). respects_all S P && not b && c) (ap (same P) (same_closure P e))
-        (all_sets_agree (λ Q. not (strictly_within Q P && pseudo_below k S K Q) || within (closure K Q) P) (λ Q. not (strictly_within Q P && pseudo_below k S D Q) || within (closure D Q) P) n
+        (all_sets_agree (λ Q. not (strictly_within Q P && pseudo_below k S K Q) || within (closure K Q) P)
+        (λ Q. not (strictly_within Q P && pseudo_below k S D Q) || within (closure D Q) P) n
         (λ Q w. ap₂ (λ (b : Bool) C. not (strictly_within Q P && b) || within C P) (pseudo_same k Q w) (same_closure Q w)))
 
     -- and so the same basis
@@ -49,11 +53,14 @@ module _ (n : ℕ) (few all : List Set) (S : List Rule) (part : list_all (λ row
     unfolding basis_known pseudo_known
     same_basis =
         let wide : Set → Bool = λ P. eqb (length P) n in
-        let members = filter_agree_on wide (λ P. pseudo_below (suc (size P)) S K P) (λ P. pseudo_below (suc (size P)) S D P) (λ P w. pseudo_same (suc (size P)) P (eqb-true (length P) n w)) (all_sets n) (all_sets_widths n) in
-        rules_same (filter (λ P. pseudo_below (suc (size P)) S K P) (all_sets n)) (list_all-filter_kept wide (λ P. pseudo_below (suc (size P)) S K P) (all_sets n) (all_sets_widths n))
+        let members = filter_agree_on wide (λ P. pseudo_below (suc (size P)) S K P) (λ P. pseudo_below (suc (size P)) S D P)
+        (λ P w. pseudo_same (suc (size P)) P (eqb-true (length P) n w)) (all_sets n) (all_sets_widths n) in
+        rules_same (filter (λ P. pseudo_below (suc (size P)) S K P) (all_sets n))
+        (list_all-filter_kept wide (λ P. pseudo_below (suc (size P)) S K P) (all_sets n) (all_sets_widths n))
         ∙ ap (map (λ P. rule P (closure D P))) members
       where
-        rules_same : (Xs : List Set) → list_all (λ P. eqb (length P) n) Xs ≡ true → map (λ P. rule P (closure K P)) Xs ≡ map (λ P. rule P (closure D P)) Xs
+        rules_same : (Xs : List Set) → list_all (λ P. eqb (length P) n) Xs ≡ true
+            → map (λ P. rule P (closure K P)) Xs ≡ map (λ P. rule P (closure D P)) Xs
         rules_same [] w = refl
         rules_same (X ∷ Xs) w =
             let ws = and_parts (eqb (length X) n) (list_all (λ P. eqb (length P) n) Xs) w in
@@ -64,5 +71,6 @@ pub agreeing_basis : (S : List Rule) (K D : Context) → D.width ≡ K.width →
 agreeing_basis S K D w part known h =
     let D' : Context = record { width = K.width; rows = D.rows } in
     let e : D ≡ D' = ap (λ n. record { width = n; rows = D.rows }) w in
-    same_basis K.width K.rows D.rows S part (subst (λ C. list_all (holds C) S ≡ true) e known) (subst (λ C. list_all (holds C) (basis_known S K) ≡ true) e h)
+    same_basis K.width K.rows D.rows S part (subst (λ C. list_all (holds C) S ≡ true) e known)
+    (subst (λ C. list_all (holds C) (basis_known S K) ≡ true) e h)
     ∙ ap (basis_known S) (sym e)

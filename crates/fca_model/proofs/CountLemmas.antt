@@ -1,5 +1,7 @@
--- Intents, and premises of accepted implications, are different sets: an intent is closed and a pseudo-intent is not. So together they are no more than
--- all sets. And a row that refutes a question makes a new intent: the closure of the premise in the new rows lies within the new row, but the old
+-- Intents, and premises of accepted implications, are different sets: an intent is closed and a pseudo-intent is not. So together they are
+-- no more than
+-- all sets. And a row that refutes a question makes a new intent: the closure of the premise in the new rows lies within the new row, but
+-- the old
 -- closure does not, since it holds the conclusion.
 use Rattle.std.proofs.Common.{◌≡◌, ℕ, zero, suc, ◌+◌, ◌^◌, ◌<◌, ◌≤◌, Bool, true, false, not, ◌&&◌, ◌||◌, cond, List, [], ◌∷◌, map, length, filter, refl, sym, ap, ◌∙◌, subst, arith, inl, inr}
 use Rattle.std.proofs.lemmas.Bool.{false≢true, and_parts, and_from, cases_Bool, or_cases, or_parts, not-true}
@@ -26,20 +28,23 @@ use Rattle.fca_model.proofs.InvariantLemmas.{member_parts}
 -- ---- lists
 
 -- a stronger test passes no more
-length-filter-le : {X : Type 0} (p q : X → Bool) (xs : List X) → list_all (λ x. not (p x) || q x) xs ≡ true → length (filter p xs) ≤ length (filter q xs)
+length-filter-le : {X : Type 0} (p q : X → Bool) (xs : List X) → list_all (λ x. not (p x) || q x) xs ≡ true
+    → length (filter p xs) ≤ length (filter q xs)
 length-filter-le p q [] h = omega arith
 length-filter-le p q (x ∷ xs) h =
     let parts = and_parts (not (p x) || q x) (list_all (λ x. not (p x) || q x) xs) h in
     go (p x) (q x) parts.0 (length-filter-le p q xs parts.1)
   where
-    go : (a b : Bool) → (not a || b) ≡ true → length (filter p xs) ≤ length (filter q xs) → length (cond a (x ∷ filter p xs) (filter p xs)) ≤ length (cond b (x ∷ filter q xs) (filter q xs))
+    go : (a b : Bool) → (not a || b) ≡ true → length (filter p xs) ≤ length (filter q xs)
+        → length (cond a (x ∷ filter p xs) (filter p xs)) ≤ length (cond b (x ∷ filter q xs) (filter q xs))
     go true true h rest = omega arith
     go true false h rest = absurd (false≢true h)
     go false true h rest = omega arith
     go false false h rest = rest
 
 -- and fewer, where a member passes the weaker test alone
-pub length-filter-lt : (p q : Set → Bool) (A : Set) → p A ≡ false → q A ≡ true → (Xs : List Set) → list_all (λ X. not (p X) || q X) Xs ≡ true → list_any (same A) Xs ≡ true → length (filter p Xs) < length (filter q Xs)
+pub length-filter-lt : (p q : Set → Bool) (A : Set) → p A ≡ false → q A ≡ true → (Xs : List Set)
+    → list_all (λ X. not (p X) || q X) Xs ≡ true → list_any (same A) Xs ≡ true → length (filter p Xs) < length (filter q Xs)
 length-filter-lt p q A f t [] h a = absurd (false≢true a)
 length-filter-lt p q A f t (X ∷ Xs) h a =
     let parts = and_parts (not (p X) || q X) (list_all (λ X. not (p X) || q X) Xs) h in
@@ -50,12 +55,14 @@ length-filter-lt p q A f t (X ∷ Xs) h a =
       | inr there ↦ later (p X) (q X) parts.0 (length-filter-lt p q A f t Xs parts.1 there)
     ]
   where
-    first : (a b : Bool) → a ≡ false → b ≡ true → length (filter p Xs) ≤ length (filter q Xs) → length (cond a (X ∷ filter p Xs) (filter p Xs)) < length (cond b (X ∷ filter q Xs) (filter q Xs))
+    first : (a b : Bool) → a ≡ false → b ≡ true → length (filter p Xs) ≤ length (filter q Xs)
+        → length (cond a (X ∷ filter p Xs) (filter p Xs)) < length (cond b (X ∷ filter q Xs) (filter q Xs))
     first true b e g rest = absurd (false≢true (sym e))
     first false true e g rest = omega arith
     first false false e g rest = absurd (false≢true g)
 
-    later : (a b : Bool) → (not a || b) ≡ true → length (filter p Xs) < length (filter q Xs) → length (cond a (X ∷ filter p Xs) (filter p Xs)) < length (cond b (X ∷ filter q Xs) (filter q Xs))
+    later : (a b : Bool) → (not a || b) ≡ true → length (filter p Xs) < length (filter q Xs)
+        → length (cond a (X ∷ filter p Xs) (filter p Xs)) < length (cond b (X ∷ filter q Xs) (filter q Xs))
     later true true h rest = omega arith
     later true false h rest = absurd (false≢true h)
     later false true h rest = omega arith
@@ -79,7 +86,8 @@ length-without P (X ∷ N) h = go (same P X) h (length-without P N)
     go false h rest = omega (arith, rest h)
 
 -- different premises that all stand in a list of sets are no more than it has members
-pub distinct_fit : (J : List Rule) (N : List Set) → distinct_premises J ≡ true → list_all (λ i. list_any (same i.premise) N) J ≡ true → length J ≤ length N
+pub distinct_fit : (J : List Rule) (N : List Set) → distinct_premises J ≡ true → list_all (λ i. list_any (same i.premise) N) J ≡ true
+    → length J ≤ length N
 distinct_fit [] N d a = omega arith
 distinct_fit (i ∷ J) N d a =
     let ds = and_parts (not (has_premise J i.premise)) (distinct_premises J) d in
@@ -87,12 +95,14 @@ distinct_fit (i ∷ J) N d a =
     let rest = distinct_fit J (filter (λ X. not (same i.premise X)) N) ds.1 (others J (not-true (has_premise J i.premise) ds.0) parts.1) in
     omega (arith, rest, length-without i.premise N parts.0)
   where
-    others : (is : List Rule) → has_premise is i.premise ≡ false → list_all (λ i. list_any (same i.premise) N) is ≡ true → list_all (λ j. list_any (same j.premise) (filter (λ X. not (same i.premise X)) N)) is ≡ true
+    others : (is : List Rule) → has_premise is i.premise ≡ false → list_all (λ i. list_any (same i.premise) N) is ≡ true
+        → list_all (λ j. list_any (same j.premise) (filter (λ X. not (same i.premise X)) N)) is ≡ true
     others [] n a = refl
     others (j ∷ is) n a =
         let ns = or_parts (same j.premise i.premise) (has_premise is i.premise) n in
         let parts = and_parts (list_any (same j.premise) N) (list_all (λ i. list_any (same i.premise) N) is) a in
-        and_from (list_any (same j.premise) (filter (λ X. not (same i.premise X)) N)) (list_all (λ j. list_any (same j.premise) (filter (λ X. not (same i.premise X)) N)) is)
+        and_from (list_any (same j.premise) (filter (λ X. not (same i.premise X)) N))
+        (list_all (λ j. list_any (same j.premise) (filter (λ X. not (same i.premise X)) N)) is)
         (in_filter (λ X. not (same i.premise X)) j.premise N parts.0 (ap not (same_equiv.symm i.premise j.premise ∙ ns.0)))
         (others is ns.1 parts.1)
 
@@ -103,19 +113,28 @@ length-all_sets (suc n) =
     let fs = map (λ (X : Set). false ∷ X) (all_sets n) in
     let ts = map (λ (X : Set). true ∷ X) (all_sets n) in
     let two : 2 ^ suc n ≡ 2 ^ n + 2 ^ n = two-pow-succ n in
-    omega (arith, two, length-append fs ts, length-map (all_sets n) (λ (X : Set). false ∷ X), length-map (all_sets n) (λ (X : Set). true ∷ X), length-all_sets n)
+    omega (
+      arith,
+      two,
+      length-append fs ts,
+      length-map (all_sets n) (λ (X : Set). false ∷ X),
+      length-map (all_sets n) (λ (X : Set). true ∷ X),
+      length-all_sets n,
+    )
 
 -- ---- intents and accepted implications
 
 -- members of the basis with different premises, and the intents
-pub intents_and_accepted : (S : List Rule) (K : Context) (acc : List Rule) → list_all (is_member S K) acc ≡ true → distinct_premises acc ≡ true → length (intents K) + length acc ≤ 2 ^ K.width
+pub intents_and_accepted : (S : List Rule) (K : Context) (acc : List Rule) → list_all (is_member S K) acc ≡ true
+    → distinct_premises acc ≡ true → length (intents K) + length acc ≤ 2 ^ K.width
 unfolding intents
 intents_and_accepted S K acc m d =
     let N = filter (λ A. not (is_closed K A)) (all_sets K.width) in
     let fit : length acc ≤ length N = distinct_fit acc N d (list_all-mono (is_member S K) (λ i. list_any (same i.premise) N)
     (λ i t.
     let parts = member_parts S K i t in
-    in_filter (λ A. not (is_closed K A)) i.premise (all_sets K.width) (in_all_sets K.width i.premise parts.0) (ap not (pseudo_parts S K i.premise parts.0 parts.1).not_closed))
+    in_filter (λ A. not (is_closed K A)) i.premise (all_sets K.width) (in_all_sets K.width i.premise parts.0)
+    (ap not (pseudo_parts S K i.premise parts.0 parts.1).not_closed))
     acc m) in
     omega (arith, fit, length-filter_both (is_closed K) (λ A. not (is_closed K A)) (λ A. refl) (all_sets K.width), length-all_sets K.width)
 
@@ -138,18 +157,25 @@ closure_in_row K r P h =
     respects_at r (rule P D) (and_parts (respects r (rule P D)) true last.1).0 h
 
 -- a row that refutes what held until then adds an intent
-pub refuting_adds_intent : (K : Context) (r : Set) (q : Rule) → length q.premise ≡ K.width → holds K q ≡ true → refutes r q ≡ true → length (intents K) < length (intents (with_row K r))
+pub refuting_adds_intent : (K : Context) (r : Set) (q : Rule) → length q.premise ≡ K.width → holds K q ≡ true → refutes r q ≡ true
+    → length (intents K) < length (intents (with_row K r))
 unfolding intents
 refuting_adds_intent K r q e h t =
     let parts = and_parts (within q.premise r) (not (within q.conclusion r)) t in
     let D = closure (with_row K r) q.premise in
     let wide : length D ≡ K.width = length-closure (with_row K r) q.premise in
-    let closed : is_closed (with_row K r) D ≡ true = same_from D (closure (with_row K r) D) (sym (closure_idempotent (with_row K r) q.premise e)) in
+    let closed : is_closed (with_row K r) D ≡ true =
+    same_from D (closure (with_row K r) D) (sym (closure_idempotent (with_row K r) q.premise e)) in
     let new : is_closed K D ≡ false = elim (cases_Bool (is_closed K D)) [
       | inl c ↦
-          let up : within (closure K q.premise) D ≡ true = subst (λ X. within (closure K q.premise) X ≡ true) (sym (same-true D (closure K D) c)) (closure_monotone K q.premise D (closure_extensive (with_row K r) q.premise e)) in
-          let inside : within q.conclusion r ≡ true = within_trans q.conclusion (closure K q.premise) r h (within_trans (closure K q.premise) D r up (closure_in_row K r q.premise parts.0)) in
+          let up : within (closure K q.premise) D ≡ true =
+          subst (λ X. within (closure K q.premise) X ≡ true) (sym (same-true D (closure K D) c))
+          (closure_monotone K q.premise D (closure_extensive (with_row K r) q.premise e)) in
+          let inside : within q.conclusion r ≡ true =
+          within_trans q.conclusion (closure K q.premise) r h
+          (within_trans (closure K q.premise) D r up (closure_in_row K r q.premise parts.0)) in
           absurd (false≢true (sym (not-true (within q.conclusion r) parts.1) ∙ inside))
       | inr f ↦ f
     ] in
-    length-filter-lt (is_closed K) (is_closed (with_row K r)) D new closed (all_sets K.width) (intents_stay K r) (in_all_sets K.width D wide)
+    length-filter-lt (is_closed K) (is_closed (with_row K r)) D new closed (all_sets K.width) (intents_stay K r)
+    (in_all_sets K.width D wide)

@@ -1,5 +1,7 @@
--- How an exploration goes. Each recorded row adds an intent, so rows and accepted implications are bounded by all sets. Where no question is open, a
--- held question that no row refutes would be a member of the basis, so it is accepted already; and a row that respects the rules is an intent, so it
+-- How an exploration goes. Each recorded row adds an intent, so rows and accepted implications are bounded by all sets. Where no question
+-- is open, a
+-- held question that no row refutes would be a member of the basis, so it is accepted already; and a row that respects the rules is an
+-- intent, so it
 -- refutes nothing that holds. So nothing changes from then on.
 use Rattle.std.proofs.Common.{◌≡◌, ℕ, ◌+◌, ◌^◌, ◌≤◌, Bool, true, false, not, cond, Option, Some, None, List, [], ◌∷◌, ◌++◌, length, refl, sym, ap, ◌∙◌, subst, arith, inl, inr, ◌↔◌, eqb-true, leb, le-leb, leb-true}
 use Rattle.std.proofs.lemmas.Bool.{false≢true, and_parts, and_from, cases_lt, or_left, or_right, not-true}
@@ -28,7 +30,8 @@ use Rattle.fca_model.proofs.ValidLemmas.{held_valid, rules_parts, unrefuted_hold
 -- ---- what no event changes
 
 pub next_width : (s : State) (event : SetEvent) → (next s event).context.width ≡ s.context.width
-next_width s event = by_change s event (λ t. t.context.width ≡ s.context.width) refl refl (λ _ _. refl) (λ _ _ _ _. refl) (λ _ _ _ _ _ _ _ _. refl)
+next_width s event = by_change s event (λ t. t.context.width ≡ s.context.width) refl refl (λ _ _. refl) (λ _ _ _ _. refl)
+    (λ _ _ _ _ _ _ _ _. refl)
 
 pub next_settings : (s : State) (event : SetEvent) → (next s event).settings ≡ s.settings
 next_settings s event = by_change s event (λ t. t.settings ≡ s.settings) refl refl (λ _ _. refl) (λ _ _ _ _. refl) (λ _ _ _ _ _ _ _ _. refl)
@@ -46,9 +49,11 @@ run_settings s (x ∷ es) = run_settings (next s x) es ∙ next_settings s x
 -- ---- count
 
 -- what one event records, it adds in intents
-next_count : (s : State) → IsValid s → (event : SetEvent) → length (intents s.context) + length (next s event).context.rows ≤ length (intents (next s event).context) + length s.context.rows
+next_count : (s : State) → IsValid s → (event : SetEvent)
+    → length (intents s.context) + length (next s event).context.rows ≤ length (intents (next s event).context) + length s.context.rows
 next_count s v event =
-    let Goal : State → Type 0 = λ t. length (intents s.context) + length t.context.rows ≤ length (intents t.context) + length s.context.rows in
+    let Goal : State → Type 0 = λ t. length (intents s.context) + length t.context.rows ≤ length
+    (intents t.context) + length s.context.rows in
     by_change s event Goal (omega arith) (omega arith) (λ _ _. omega arith) (λ _ _ _ _. omega arith)
     (λ name r q _ held refuted _ unrefuted.
     let h = held_valid s v (expert_of event) q held in
@@ -56,7 +61,8 @@ next_count s v event =
     omega (arith, more, length-append s.context.rows (r ∷ [])))
 
 run_count : (s : State) → IsValid s → (es : List SetEvent) → list_all (λ event. is_expert (expert_of event)) es ≡ true
-    → length (intents s.context) + length (state_after s es).context.rows ≤ length (intents (state_after s es).context) + length s.context.rows
+    → length (intents s.context) + length (state_after s es).context.rows ≤ length
+    (intents (state_after s es).context) + length s.context.rows
 unfolding state_after
 run_count s v [] i = omega arith
 run_count s v (x ∷ es) i =
@@ -65,7 +71,8 @@ run_count s v (x ∷ es) i =
 
 -- the intents at the opening, the recorded rows and the accepted implications are no more than all sets
 pub exploration_count : (s : State) → IsValid s → (es : List SetEvent) → list_all (λ event. is_expert (expert_of event)) es ≡ true
-    → (rows : List Set) → (state_after s es).context.rows ≡ s.context.rows ++ rows → length (intents s.context) + length rows + length (state_after s es).accepted ≤ 2 ^ s.context.width
+    → (rows : List Set) → (state_after s es).context.rows ≡ s.context.rows ++ rows
+    → length (intents s.context) + length rows + length (state_after s es).accepted ≤ 2 ^ s.context.width
 exploration_count s v es i rows e =
     let t = state_after s es in
     let valid = run_valid s es i v in
@@ -77,25 +84,40 @@ exploration_count s v es i rows e =
 -- ---- done
 
 -- some member of a list has the least number
-least_of : (f : Rule → ℕ) (i : Rule) (J : List Rule) → (x : Rule) × (list_all (λ y. leb (f x) (f y)) (i ∷ J) ≡ true) × ((p : Rule → Bool) → p x ≡ true → list_any p (i ∷ J) ≡ true)
+least_of : (f : Rule → ℕ) (i : Rule) (J : List Rule)
+    → (x : Rule) × (list_all (λ y. leb (f x) (f y)) (i ∷ J) ≡ true) × ((p : Rule → Bool) → p x ≡ true → list_any p (i ∷ J) ≡ true)
 least_of f i [] = (i, and_from (leb (f i) (f i)) true (le-leb (f i) (f i) (omega arith)) refl, λ p t. or_left (p i) false t)
 least_of f i (j ∷ J) =
     let rest = least_of f j J in
     elim (cases_lt (f i) (f rest.0)) [
-      | inl lt ↦ (i, and_from (leb (f i) (f i)) (list_all (λ y. leb (f i) (f y)) (j ∷ J)) (le-leb (f i) (f i) (omega arith)) (below rest.0 (j ∷ J) (omega arith) rest.1), λ p t. or_left (p i) (list_any p (j ∷ J)) t)
-      | inr ge ↦ (rest.0, and_from (leb (f rest.0) (f i)) (list_all (λ y. leb (f rest.0) (f y)) (j ∷ J)) (le-leb (f rest.0) (f i) ge) rest.1, λ p t. or_right (p i) (list_any p (j ∷ J)) (rest.2 p t))
+      | inl lt ↦ (
+        i,
+        and_from (leb (f i) (f i)) (list_all (λ y. leb (f i) (f y)) (j ∷ J)) (le-leb (f i) (f i) (omega arith)) (below rest.0
+            (j ∷ J) (omega arith) rest.1),
+        λ p t. or_left (p i) (list_any p (j ∷ J)) t,
+      )
+      | inr ge ↦ (
+        rest.0,
+        and_from (leb (f rest.0) (f i)) (list_all (λ y. leb (f rest.0) (f y)) (j ∷ J)) (le-leb (f rest.0)
+            (f i) ge) rest.1,
+        λ p t. or_right (p i) (list_any p (j ∷ J)) (rest.2 p t),
+      )
     ]
   where
     below : (x : Rule) (ys : List Rule) → f i ≤ f x → list_all (λ y. leb (f x) (f y)) ys ≡ true → list_all (λ y. leb (f i) (f y)) ys ≡ true
     below x [] le a = refl
     below x (y ∷ ys) le a =
         let parts = and_parts (leb (f x) (f y)) (list_all (λ y. leb (f x) (f y)) ys) a in
-        and_from (leb (f i) (f y)) (list_all (λ y. leb (f i) (f y)) ys) (le-leb (f i) (f y) (omega (arith, leb-true (f x) (f y) parts.0))) (below x ys le parts.1)
+        and_from (leb (f i) (f y)) (list_all (λ y. leb (f i) (f y)) ys) (le-leb (f i) (f y) (omega (arith, leb-true (f x) (f y) parts.0)))
+        (below x ys le parts.1)
 
 -- a draw answers Done exactly where no question is open
 pub draw_done : (s : State) (e : ℕ) → reply_to s (Draw e) ≡ Done ↔ open_in s ≡ []
 unfolding reply_to
-draw_done s e = (done s.settings.holders (given_back e s.holds) (open_in s), λ none. ap (draw_reply s.settings.holders (given_back e s.holds)) none)
+draw_done s e = (
+  done s.settings.holders (given_back e s.holds) (open_in s),
+  λ none. ap (draw_reply s.settings.holders (given_back e s.holds)) none,
+)
   where
     done : (most : ℕ) (hs : List SetHold) (J : List Rule) → draw_reply most hs J ≡ Done → J ≡ []
     done most hs [] h = refl
@@ -111,7 +133,8 @@ draw_done s e = (done s.settings.holders (given_back e s.holds) (open_in s), λ 
 
 module _ (s : State) (v : IsValid s) (done : open_in s ≡ []) where
   -- what is held and holds was accepted
-  held_heard : (e : ℕ) (q : Rule) → held_by e s.holds ≡ Some q → list_any (λ r. refutes r q) s.context.rows ≡ false → has_premise s.accepted q.premise ≡ true
+  held_heard : (e : ℕ) (q : Rule) → held_by e s.holds ≡ Some q → list_any (λ r. refutes r q) s.context.rows ≡ false
+      → has_premise s.accepted q.premise ≡ true
   held_heard e q held unrefuted =
       let S = s.settings.known in
       let K = s.context in
@@ -120,25 +143,29 @@ module _ (s : State) (v : IsValid s) (done : open_in s ≡ []) where
       basis_at S K (λ i. has_premise s.accepted i.premise) q.premise parts.0 parts.1 ((open_none S K s.accepted).0 done)
 
   -- a row that respects the rules refutes nothing that holds
-  row_respects : (r : Set) (q : Rule) → length r ≡ s.context.width → respects_all (rules_of s) r ≡ true → holds s.context q ≡ true → refutes r q ≡ true → ⊥
+  row_respects : (r : Set) (q : Rule) → length r ≡ s.context.width → respects_all (rules_of s) r ≡ true → holds s.context q ≡ true
+      → refutes r q ≡ true → ⊥
   row_respects r q e kept true_here t =
       let S = s.settings.known in
       let K = s.context in
       let both = rules_parts s v r kept in
       let closed = respecting_closed S K r e both.0 (sym (accepted_members S K s.accepted v.accepted done (λ i. respects r i)) ∙ both.1) in
       let parts = and_parts (within q.premise r) (not (within q.conclusion r)) t in
-      let up = subst (λ X. within (closure K q.premise) X ≡ true) (sym (same-true r (closure K r) closed)) (closure_monotone K q.premise r parts.0) in
+      let up = subst (λ X. within (closure K q.premise) X ≡ true) (sym (same-true r (closure K r) closed))
+      (closure_monotone K q.premise r parts.0) in
       false≢true (sym (not-true (within q.conclusion r) parts.1) ∙ within_trans q.conclusion (closure K q.premise) r true_here up)
 
   -- no event changes the rows or the accepted implications
-  pub done_stays : (event : SetEvent) → has_width s.context.width event ≡ true → ((next s event).context ≡ s.context) × ((next s event).accepted ≡ s.accepted)
+  pub done_stays : (event : SetEvent) → has_width s.context.width event ≡ true
+      → ((next s event).context ≡ s.context) × ((next s event).accepted ≡ s.accepted)
   done_stays event w =
       let e = expert_of event in
       by_change s event (λ t. (t.context ≡ s.context) × (t.accepted ≡ s.accepted)) (refl, refl) (refl, refl) (λ _ _. (refl, refl))
       (λ q held unrefuted new. absurd (false≢true (sym new ∙ held_heard e q held unrefuted)))
       (λ name r q is held refuted kept unrefuted.
       let h = held_valid s v e q held in
-      absurd (row_respects r q (eqb-true (length r) s.context.width (subst (λ x. has_width s.context.width x ≡ true) is w)) kept (unrefuted_holds s.context q h.conclusion_wide unrefuted) refuted))
+      absurd (row_respects r q (eqb-true (length r) s.context.width (subst (λ x. has_width s.context.width x ≡ true) is w)) kept
+      (unrefuted_holds s.context q h.conclusion_wide unrefuted) refuted))
 
   pub next_done : (event : SetEvent) → has_width s.context.width event ≡ true → open_in (next s event) ≡ []
   next_done event w =
@@ -148,7 +175,8 @@ module _ (s : State) (v : IsValid s) (done : open_in s ≡ []) where
       ∙ ap (open_questions s.settings.known s.context) same.1 ∙ done
 
 -- and so from then on
-pub run_done : (s : State) → IsValid s → open_in s ≡ [] → (es : List SetEvent) → list_all (λ event. is_expert (expert_of event)) es ≡ true → list_all (has_width s.context.width) es ≡ true
+pub run_done : (s : State) → IsValid s → open_in s ≡ [] → (es : List SetEvent) → list_all (λ event. is_expert (expert_of event)) es ≡ true
+    → list_all (has_width s.context.width) es ≡ true
     → ((state_after s es).context ≡ s.context) × ((state_after s es).accepted ≡ s.accepted) × (open_in (state_after s es) ≡ [])
 unfolding state_after
 run_done s v done [] i w = (refl, refl, done)
@@ -156,5 +184,6 @@ run_done s v done (x ∷ es) i w =
     let is = and_parts (is_expert (expert_of x)) (list_all (λ event. is_expert (expert_of event)) es) i in
     let ws = and_parts (has_width s.context.width x) (list_all (has_width s.context.width) es) w in
     let first = done_stays s v done x ws.0 in
-    let rest = run_done (next s x) (next_valid s v x is.0) (next_done s v done x ws.0) es is.1 (subst (λ n. list_all (has_width n) es ≡ true) (sym (next_width s x)) ws.1) in
+    let rest = run_done (next s x) (next_valid s v x is.0) (next_done s v done x ws.0) es is.1
+    (subst (λ n. list_all (has_width n) es ≡ true) (sym (next_width s x)) ws.1) in
     (rest.0 ∙ first.0, rest.1 ∙ first.1, rest.2)

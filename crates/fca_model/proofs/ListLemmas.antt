@@ -1,4 +1,5 @@
--- Tests of lists, and filters. A test of all elements, or of any, goes by cases on the first element; so does a filter, whose `cond` is opened by
+-- Tests of lists, and filters. A test of all elements, or of any, goes by cases on the first element; so does a filter, whose `cond` is
+-- opened by
 -- cases on whether the first element passes.
 use Rattle.std.proofs.Common.{◌≡◌, ℕ, ◌+◌, ◌<◌, Bool, true, false, not, ◌&&◌, ◌||◌, cond, Some, None, List, [], ◌∷◌, ◌++◌, length, get_or, take, map, filter, find, refl, sym, ap, ap₂, ◌∙◌, subst, inl, inr, suc, eqb, arith, Option, tt}
 use Rattle.std.proofs.lemmas.Bool.{false≢true, and_parts, and_from, or_cases, or_parts, or_left, or_right, not-false}
@@ -81,20 +82,23 @@ pub list_all_from : {X : Type 0} (p : X → Bool) → ((x : X) → p x ≡ true)
 list_all_from p h [] = refl
 list_all_from p h (x ∷ xs) = and_from (p x) (list_all p xs) (h x) (list_all_from p h xs)
 
-pub list_all-mono : {X : Type 0} (p q : X → Bool) → ((x : X) → p x ≡ true → q x ≡ true) → (xs : List X) → list_all p xs ≡ true → list_all q xs ≡ true
+pub list_all-mono : {X : Type 0} (p q : X → Bool) → ((x : X) → p x ≡ true → q x ≡ true) → (xs : List X) → list_all p xs ≡ true
+    → list_all q xs ≡ true
 list_all-mono p q h [] e = refl
 list_all-mono p q h (x ∷ xs) e =
     let parts = and_parts (p x) (list_all p xs) e in
     and_from (q x) (list_all q xs) (h x parts.0) (list_all-mono p q h xs parts.1)
 
-pub list_all-mono₂ : {X : Type 0} (p q r : X → Bool) → ((x : X) → p x ≡ true → q x ≡ true → r x ≡ true) → (xs : List X) → list_all p xs ≡ true → list_all q xs ≡ true → list_all r xs ≡ true
+pub list_all-mono₂ : {X : Type 0} (p q r : X → Bool) → ((x : X) → p x ≡ true → q x ≡ true → r x ≡ true) → (xs : List X)
+    → list_all p xs ≡ true → list_all q xs ≡ true → list_all r xs ≡ true
 list_all-mono₂ p q r h [] e f = refl
 list_all-mono₂ p q r h (x ∷ xs) e f =
     let ps = and_parts (p x) (list_all p xs) e in
     let qs = and_parts (q x) (list_all q xs) f in
     and_from (r x) (list_all r xs) (h x ps.0 qs.0) (list_all-mono₂ p q r h xs ps.1 qs.1)
 
-pub list_all-and : {X : Type 0} (p q : X → Bool) (xs : List X) → list_all p xs ≡ true → list_all q xs ≡ true → list_all (λ x. p x && q x) xs ≡ true
+pub list_all-and : {X : Type 0} (p q : X → Bool) (xs : List X) → list_all p xs ≡ true → list_all q xs ≡ true
+    → list_all (λ x. p x && q x) xs ≡ true
 list_all-and p q xs a b = list_all-mono₂ p q (λ x. p x && q x) (λ x s t. and_from (p x) (q x) s t) xs a b
 
 pub list_all-filter : {X : Type 0} (p q : X → Bool) (xs : List X) → list_all p (filter q xs) ≡ list_all (λ x. not (q x) || p x) xs
@@ -109,13 +113,15 @@ pub list_all-filter_kept : {X : Type 0} (p q : X → Bool) (xs : List X) → lis
 list_all-filter_kept p q xs h = list_all-filter p q xs ∙ list_all-mono p (λ x. not (q x) || p x) (λ x t. or_right (not (q x)) (p x) t) xs h
 
 -- a test of all elements, by their places
-pub all_by_place : {X : Type 0} (p : X → Bool) (d : X) (xs : List X) → ((k : ℕ) → k < length xs → p (get_or xs k d) ≡ true) → list_all p xs ≡ true
+pub all_by_place : {X : Type 0} (p : X → Bool) (d : X) (xs : List X) → ((k : ℕ) → k < length xs → p (get_or xs k d) ≡ true)
+    → list_all p xs ≡ true
 all_by_place p d [] h = refl
 all_by_place p d (x ∷ xs) h = and_from (p x) (list_all p xs) (h 0 (omega arith)) (all_by_place p d xs (λ k l. h (suc k) (omega arith)))
 
 -- ---- any
 
-pub list_any-mono : {X : Type 0} (p q : X → Bool) → ((x : X) → p x ≡ true → q x ≡ true) → (xs : List X) → list_any p xs ≡ true → list_any q xs ≡ true
+pub list_any-mono : {X : Type 0} (p q : X → Bool) → ((x : X) → p x ≡ true → q x ≡ true) → (xs : List X) → list_any p xs ≡ true
+    → list_any q xs ≡ true
 list_any-mono p q h [] a = absurd (false≢true a)
 list_any-mono p q h (x ∷ xs) a = elim (or_cases (p x) (list_any p xs) a) [
   | inl here ↦ or_left (q x) (list_any q xs) (h x here)
@@ -123,7 +129,8 @@ list_any-mono p q h (x ∷ xs) a = elim (or_cases (p x) (list_any p xs) a) [
 ]
 
 -- the same, where all pass w
-pub list_any-mono₂ : {X : Type 0} (p w q : X → Bool) → ((x : X) → p x ≡ true → w x ≡ true → q x ≡ true) → (xs : List X) → list_any p xs ≡ true → list_all w xs ≡ true → list_any q xs ≡ true
+pub list_any-mono₂ : {X : Type 0} (p w q : X → Bool) → ((x : X) → p x ≡ true → w x ≡ true → q x ≡ true) → (xs : List X)
+    → list_any p xs ≡ true → list_all w xs ≡ true → list_any q xs ≡ true
 list_any-mono₂ p w q h [] a b = absurd (false≢true a)
 list_any-mono₂ p w q h (x ∷ xs) a b =
     let parts = and_parts (w x) (list_all w xs) b in
@@ -133,7 +140,8 @@ list_any-mono₂ p w q h (x ∷ xs) a b =
     ]
 
 -- an element that passes one test, where all pass another
-pub list_any_at : {X : Type 0} (p q : X → Bool) (xs : List X) → list_any p xs ≡ true → list_all q xs ≡ true → (x : X) × (p x ≡ true) × (q x ≡ true)
+pub list_any_at : {X : Type 0} (p q : X → Bool) (xs : List X) → list_any p xs ≡ true → list_all q xs ≡ true
+    → (x : X) × (p x ≡ true) × (q x ≡ true)
 list_any_at p q [] a b = absurd (false≢true a)
 list_any_at p q (x ∷ xs) a b =
     let parts = and_parts (q x) (list_all q xs) b in
@@ -196,18 +204,21 @@ find_none p (x ∷ xs) h = go (p x) h (find_none p xs)
 
 pub filter-filter : {X : Type 0} (p q : X → Bool) (xs : List X) → filter p (filter q xs) ≡ filter (λ x. q x && p x) xs
 filter-filter p q [] = refl
-filter-filter p q (x ∷ xs) = elim (q x) as (λ b. filter p (cond b (x ∷ filter q xs) (filter q xs)) ≡ cond (b && p x) (x ∷ filter (λ x. q x && p x) xs) (filter (λ x. q x && p x) xs)) [
-  | true ↦ ap (λ ys. cond (p x) (x ∷ ys) ys) (filter-filter p q xs)
-  | false ↦ filter-filter p q xs
-]
+filter-filter p q (x ∷ xs) = elim (q x) as (λ b. filter p (cond b (x ∷ filter q xs) (filter q xs)) ≡ cond (b && p x)
+    (x ∷ filter (λ x. q x && p x) xs) (filter (λ x. q x && p x) xs)) [
+      | true ↦ ap (λ ys. cond (p x) (x ∷ ys) ys) (filter-filter p q xs)
+      | false ↦ filter-filter p q xs
+    ]
 
 pub filter-map : {X Y : Type 0} (p : Y → Bool) (f : X → Y) (xs : List X) → filter p (map f xs) ≡ map f (filter (λ x. p (f x)) xs)
 filter-map p f [] = refl
 filter-map p f (x ∷ xs) = ap (λ ys. cond (p (f x)) (f x ∷ ys) ys) (filter-map p f xs) ∙ (
-    elim (p (f x)) as (λ b. cond b (f x ∷ map f (filter (λ x. p (f x)) xs)) (map f (filter (λ x. p (f x)) xs)) ≡ map f (cond b (x ∷ filter (λ x. p (f x)) xs) (filter (λ x. p (f x)) xs))) [ true ↦ refl | false ↦ refl ])
+    elim (p (f x)) as (λ b. cond b (f x ∷ map f (filter (λ x. p (f x)) xs)) (map f (filter (λ x. p (f x)) xs)) ≡ map f
+    (cond b (x ∷ filter (λ x. p (f x)) xs) (filter (λ x. p (f x)) xs))) [ true ↦ refl | false ↦ refl ])
 
 -- tests that agree on what passes w
-pub filter_agree_on : {X : Type 0} (w p q : X → Bool) → ((x : X) → w x ≡ true → p x ≡ q x) → (xs : List X) → list_all w xs ≡ true → filter p xs ≡ filter q xs
+pub filter_agree_on : {X : Type 0} (w p q : X → Bool) → ((x : X) → w x ≡ true → p x ≡ q x) → (xs : List X) → list_all w xs ≡ true
+    → filter p xs ≡ filter q xs
 filter_agree_on w p q h [] e = refl
 filter_agree_on w p q h (x ∷ xs) e =
     let parts = and_parts (w x) (list_all w xs) e in

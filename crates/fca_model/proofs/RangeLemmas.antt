@@ -22,4 +22,5 @@ range_all_at p a (suc n) h i l u =
 pub range_more : (a n j : ℕ) → a + n ≡ j → range_with_len a (n + 1) ≡ range_with_len a n ++ j ∷ []
 range_more a zero j e = let h : a ≡ j = omega arith in ap (λ x. x ∷ []) h
 range_more a (suc n) j e =
-    ap (range_with_len a) (add-one (suc n)) ∙ ap (λ xs. a ∷ xs) (ap (range_with_len (a + 1)) (sym (add-one n)) ∙ range_more (a + 1) n j (omega arith))
+    ap (range_with_len a) (add-one (suc n)) ∙ ap (λ xs. a ∷ xs)
+    (ap (range_with_len (a + 1)) (sym (add-one n)) ∙ range_more (a + 1) n j (omega arith))

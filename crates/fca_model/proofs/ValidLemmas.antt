@@ -1,5 +1,7 @@
--- What holds of the state at the opening is kept by each event of an expert: of the five changes, a hold that is given back takes nothing away, an open
--- question may be held, and what a confirmation or a row keeps was shown for lists. With as many holders as experts some question is always free,
+-- What holds of the state at the opening is kept by each event of an expert: of the five changes, a hold that is given back takes nothing
+-- away, an open
+-- question may be held, and what a confirmation or a row keeps was shown for lists. With as many holders as experts some question is always
+-- free,
 -- since each expert holds one at most.
 use Rattle.std.proofs.Common.{◌≡◌, ◌≢◌, ℕ, zero, suc, ◌+◌, ◌<◌, ◌≤◌, Bool, true, false, not, ◌&&◌, ◌||◌, cond, Option, Some, None, List, [], ◌∷◌, ◌++◌, length, find, option_map, refl, sym, ap, ◌∙◌, subst, arith, inl, inr, eqb, eqb-true, leb, le-leb, leb-true}
 use Rattle.std.proofs.lemmas.Bool.{false≢true, and_parts, and_from, cases_Bool, or_parts, or_from, not-true, eqb-false}
@@ -31,14 +33,17 @@ is_holding-given_back (h ∷ hs) e f n =
       | false ↦ or_from (eqb h.expert f) (is_holding (given_back e hs) f) ns.0 (is_holding-given_back hs e f ns.1)
     ]
 
-distinct_parts : (h : SetHold) (hs : List SetHold) → distinct_experts (h ∷ hs) ≡ true → (is_expert h.expert ≡ true) × (is_holding hs h.expert ≡ false) × (distinct_experts hs ≡ true)
+distinct_parts : (h : SetHold) (hs : List SetHold) → distinct_experts (h ∷ hs) ≡ true
+    → (is_expert h.expert ≡ true) × (is_holding hs h.expert ≡ false) × (distinct_experts hs ≡ true)
 distinct_parts h hs d =
     let outer = and_parts (is_expert h.expert && not (is_holding hs h.expert)) (distinct_experts hs) d in
     let inner = and_parts (is_expert h.expert) (not (is_holding hs h.expert)) outer.0 in
     (inner.0, not-true (is_holding hs h.expert) inner.1, outer.1)
 
-distinct_from : (h : SetHold) (hs : List SetHold) → is_expert h.expert ≡ true → is_holding hs h.expert ≡ false → distinct_experts hs ≡ true → distinct_experts (h ∷ hs) ≡ true
-distinct_from h hs i n d = and_from (is_expert h.expert && not (is_holding hs h.expert)) (distinct_experts hs) (and_from (is_expert h.expert) (not (is_holding hs h.expert)) i (ap not n)) d
+distinct_from : (h : SetHold) (hs : List SetHold) → is_expert h.expert ≡ true → is_holding hs h.expert ≡ false → distinct_experts hs ≡ true
+    → distinct_experts (h ∷ hs) ≡ true
+distinct_from h hs i n d = and_from (is_expert h.expert && not (is_holding hs h.expert)) (distinct_experts hs)
+    (and_from (is_expert h.expert) (not (is_holding hs h.expert)) i (ap not n)) d
 
 pub distinct_experts-given_back : (e : ℕ) (hs : List SetHold) → distinct_experts hs ≡ true → distinct_experts (given_back e hs) ≡ true
 distinct_experts-given_back e [] d = refl
@@ -54,17 +59,20 @@ none_held : (e : ℕ) (hs : List SetHold) → is_holding (given_back e hs) e ≡
 none_held e [] = refl
 none_held e (h ∷ hs) = go (eqb h.expert e) refl (none_held e hs)
   where
-    go : (b : Bool) → eqb h.expert e ≡ b → is_holding (given_back e hs) e ≡ false → is_holding (cond (not b) (h ∷ given_back e hs) (given_back e hs)) e ≡ false
+    go : (b : Bool) → eqb h.expert e ≡ b → is_holding (given_back e hs) e ≡ false
+        → is_holding (cond (not b) (h ∷ given_back e hs) (given_back e hs)) e ≡ false
     go true t rest = rest
     go false f rest = or_from (eqb h.expert e) (is_holding (given_back e hs) e) f rest
 
-distinct_experts-push : (hs : List SetHold) (h : SetHold) → is_expert h.expert ≡ true → is_holding hs h.expert ≡ false → distinct_experts hs ≡ true → distinct_experts (hs ++ h ∷ []) ≡ true
+distinct_experts-push : (hs : List SetHold) (h : SetHold) → is_expert h.expert ≡ true → is_holding hs h.expert ≡ false
+    → distinct_experts hs ≡ true → distinct_experts (hs ++ h ∷ []) ≡ true
 distinct_experts-push [] h i n d = distinct_from h [] i refl refl
 distinct_experts-push (g ∷ hs) h i n d =
     let ns = or_parts (eqb g.expert h.expert) (is_holding hs h.expert) n in
     let ds = distinct_parts g hs d in
     let other : eqb h.expert g.expert ≡ false = not_equal h.expert g.expert ns.0 in
-    distinct_from g (hs ++ h ∷ []) ds.0 (list_any-append (λ x. eqb x.expert g.expert) hs (h ∷ []) ∙ or_from (is_holding hs g.expert) (eqb h.expert g.expert || false) ds.1 (or_from (eqb h.expert g.expert) false other refl))
+    distinct_from g (hs ++ h ∷ []) ds.0 (list_any-append (λ x. eqb x.expert g.expert) hs (h ∷ [])
+    ∙ or_from (is_holding hs g.expert) (eqb h.expert g.expert || false) ds.1 (or_from (eqb h.expert g.expert) false other refl))
     (distinct_experts-push hs h i ns.1 ds.2)
   where
     not_equal : (a b : ℕ) → eqb b a ≡ false → eqb a b ≡ false
@@ -78,21 +86,24 @@ held_all : (P : Rule → Type 0) (e : ℕ) (hs : List SetHold) (q : Rule) → Al
 held_all P e [] q a h = absurd (cc)
 held_all P e (x ∷ hs) q a h = go (eqb x.expert e) h (held_all P e hs q (All-tail (λ h. P h.question) x hs a))
   where
-    go : (b : Bool) → option_map (λ h. h.question) (cond b (Some x) (find (λ h. eqb h.expert e) hs)) ≡ Some q → (held_by e hs ≡ Some q → P q) → P q
+    go : (b : Bool) → option_map (λ h. h.question) (cond b (Some x) (find (λ h. eqb h.expert e) hs)) ≡ Some q
+        → (held_by e hs ≡ Some q → P q) → P q
     go true h rest = let found : x.question ≡ q = cc in subst P found (All-head (λ h. P h.question) x hs a)
     go false h rest = rest h
 
 -- ---- each event keeps what holds
 
 -- what no row refutes holds
-pub unrefuted_holds : (K : Context) (q : Rule) → length q.conclusion ≡ K.width → list_any (λ r. refutes r q) K.rows ≡ false → holds K q ≡ true
+pub unrefuted_holds : (K : Context) (q : Rule) → length q.conclusion ≡ K.width → list_any (λ r. refutes r q) K.rows ≡ false
+    → holds K q ≡ true
 unrefuted_holds K q e h = holds_by_rows K q e ∙ each_respects K.rows h
   where
     each_respects : (rows : List Set) → list_any (λ r. refutes r q) rows ≡ false → list_all (λ r. respects r q) rows ≡ true
     each_respects [] h = refl
     each_respects (r ∷ rows) h =
         let parts = or_parts (refutes r q) (list_any (λ r. refutes r q) rows) h in
-        and_from (respects r q) (list_all (λ r. respects r q) rows) (turn (within q.premise r) (within q.conclusion r) parts.0) (each_respects rows parts.1)
+        and_from (respects r q) (list_all (λ r. respects r q) rows) (turn (within q.premise r) (within q.conclusion r) parts.0)
+        (each_respects rows parts.1)
       where
         turn : (a b : Bool) → (a && not b) ≡ false → (not a || b) ≡ true
         turn true true h = refl
@@ -104,8 +115,10 @@ module _ (s : State) (v : IsValid s) where
   held_valid e q h = held_all (IsHeld s.settings.known s.context s.accepted) e s.holds q v.held h
 
   -- the parts of the rules
-  pub rules_parts : (r : Set) → respects_all (rules_of s) r ≡ true → (respects_all s.settings.known r ≡ true) × (respects_all s.accepted r ≡ true)
-  rules_parts r h = and_parts (respects_all s.settings.known r) (respects_all s.accepted r) (sym (list_all-append (respects r) s.settings.known s.accepted) ∙ h)
+  pub rules_parts : (r : Set) → respects_all (rules_of s) r ≡ true
+      → (respects_all s.settings.known r ≡ true) × (respects_all s.accepted r ≡ true)
+  rules_parts r h = and_parts (respects_all s.settings.known r) (respects_all s.accepted r)
+      (sym (list_all-append (respects r) s.settings.known s.accepted) ∙ h)
 
   release_valid : (e : ℕ) → IsValid (release e s)
   release_valid e = record {
@@ -115,26 +128,32 @@ module _ (s : State) (v : IsValid s) where
     experts = distinct_experts-given_back e s.holds v.experts;
   }
 
-  ask_valid : (e : ℕ) (q : Rule) → is_expert e ≡ true → Among (open_in s) q → IsValid (record s { holds = given_back e s.holds ++ record { expert = e; question = q } ∷ [] })
+  ask_valid : (e : ℕ) (q : Rule) → is_expert e ≡ true → Among (open_in s) q
+      → IsValid (record s { holds = given_back e s.holds ++ record { expert = e; question = q } ∷ [] })
   ask_valid e q i in_open =
       let P : SetHold → Type 0 = λ h. IsHeld s.settings.known s.context s.accepted h.question in
       let new : SetHold = record { expert = e; question = q } in
       record {
         known = v.known;
         accepted = v.accepted;
-        held = All-append P (given_back e s.holds) (new ∷ []) (release_valid e).held (All-cons P new [] (draw_gives_held s.settings.known s.context s.accepted q in_open) (All-nil P));
-        experts = distinct_experts-push (given_back e s.holds) new i (none_held e s.holds) (distinct_experts-given_back e s.holds v.experts);
+        held = All-append P (given_back e s.holds) (new ∷ []) (release_valid e).held
+            (All-cons P new [] (draw_gives_held s.settings.known s.context s.accepted q in_open) (All-nil P));
+        experts = distinct_experts-push (given_back e s.holds) new i (none_held e s.holds)
+            (distinct_experts-given_back e s.holds v.experts);
       }
 
-  accept_valid : (e : ℕ) (q : Rule) → held_by e s.holds ≡ Some q → list_any (λ r. refutes r q) s.context.rows ≡ false → has_premise s.accepted q.premise ≡ false → IsValid (release e (accept (Some q) s))
+  accept_valid : (e : ℕ) (q : Rule) → held_by e s.holds ≡ Some q → list_any (λ r. refutes r q) s.context.rows ≡ false
+      → has_premise s.accepted q.premise ≡ false → IsValid (release e (accept (Some q) s))
   accept_valid e q h unrefuted new =
       let held = held_valid e q h in
       let S = s.settings.known in
       record {
         known = v.known;
-        accepted = confirm_keeps_accepted S s.context s.accepted v.accepted q held (unrefuted_holds s.context q held.conclusion_wide unrefuted) new;
+        accepted = confirm_keeps_accepted S s.context s.accepted v.accepted q held
+            (unrefuted_holds s.context q held.conclusion_wide unrefuted) new;
         held = All-weaker (λ h. IsHeld S s.context s.accepted h.question) (λ h. IsHeld S s.context (s.accepted ++ q ∷ []) h.question)
-            (λ h other. confirm_keeps_held S s.context s.accepted v.accepted q h.question other) (given_back e s.holds) (release_valid e).held;
+            (λ h other. confirm_keeps_held S s.context s.accepted v.accepted q h.question other) (given_back e s.holds)
+            (release_valid e).held;
         experts = distinct_experts-given_back e s.holds v.experts;
       }
 
@@ -143,10 +162,12 @@ module _ (s : State) (v : IsValid s) where
       let S = s.settings.known in
       let parts = rules_parts r h in
       record {
-        known = list_all-append (respects_all S) s.context.rows (r ∷ []) ∙ and_from (rows_respect S s.context) (respects_all S r && true) v.known (and_from (respects_all S r) true parts.0 refl);
+        known = list_all-append (respects_all S) s.context.rows (r ∷ [])
+            ∙ and_from (rows_respect S s.context) (respects_all S r && true) v.known (and_from (respects_all S r) true parts.0 refl);
         accepted = row_keeps_accepted S s.context s.accepted v.accepted r parts.1;
         held = All-weaker (λ h. IsHeld S s.context s.accepted h.question) (λ h. IsHeld S (with_row s.context r) s.accepted h.question)
-            (λ h other. row_keeps_held S s.context s.accepted v.accepted r parts.1 h.question other) (given_back e s.holds) (release_valid e).held;
+            (λ h other. row_keeps_held S s.context s.accepted v.accepted r parts.1 h.question other) (given_back e s.holds)
+            (release_valid e).held;
         experts = distinct_experts-given_back e s.holds v.experts;
       }
 
@@ -155,7 +176,8 @@ module _ (s : State) (v : IsValid s) where
       let e = expert_of event in
       by_change s event IsValid v (release_valid e) (λ q. ask_valid e q i) (accept_valid e) (λ name r q _ _ _ h _. record_valid e name r h)
 
-pub opening_valid : (K : Context) (names : List RowName) (settings : Settings) → rows_respect settings.known K ≡ true → IsValid (opening K names settings)
+pub opening_valid : (K : Context) (names : List RowName) (settings : Settings) → rows_respect settings.known K ≡ true
+    → IsValid (opening K names settings)
 opening_valid K names settings h = record {
   known = h;
   accepted = record { members = refl; smaller = λ i in_none. absurd (false≢true (in_none (λ _. false) refl)); distinct = refl };
@@ -163,7 +185,8 @@ opening_valid K names settings h = record {
   experts = refl;
 }
 
-pub run_valid : (s : State) (events : List SetEvent) → list_all (λ event. is_expert (expert_of event)) events ≡ true → IsValid s → IsValid (state_after s events)
+pub run_valid : (s : State) (events : List SetEvent) → list_all (λ event. is_expert (expert_of event)) events ≡ true → IsValid s
+    → IsValid (state_after s events)
 unfolding state_after
 run_valid s [] i v = v
 run_valid s (event ∷ events) i v =
@@ -184,13 +207,15 @@ few_holds (suc n) hs d a =
     let rest = few_holds n (given_back (suc n) hs) (distinct_experts-given_back (suc n) hs d) (smaller hs a) in
     omega (arith, rest, one_less (suc n) hs d)
   where
-    smaller : (hs : List SetHold) → list_all (λ h. leb h.expert (suc n)) hs ≡ true → list_all (λ h. leb h.expert n) (given_back (suc n) hs) ≡ true
+    smaller : (hs : List SetHold) → list_all (λ h. leb h.expert (suc n)) hs ≡ true
+        → list_all (λ h. leb h.expert n) (given_back (suc n) hs) ≡ true
     smaller [] a = refl
     smaller (h ∷ hs) a =
         let parts = and_parts (leb h.expert (suc n)) (list_all (λ h. leb h.expert (suc n)) hs) a in
         go (eqb h.expert (suc n)) refl parts.0 (smaller hs parts.1)
       where
-        go : (b : Bool) → eqb h.expert (suc n) ≡ b → leb h.expert (suc n) ≡ true → list_all (λ h. leb h.expert n) (given_back (suc n) hs) ≡ true
+        go : (b : Bool) → eqb h.expert (suc n) ≡ b → leb h.expert (suc n) ≡ true
+            → list_all (λ h. leb h.expert n) (given_back (suc n) hs) ≡ true
             → list_all (λ h. leb h.expert n) (cond (not b) (h ∷ given_back (suc n) hs) (given_back (suc n) hs)) ≡ true
         go true e l rest = rest
         go false e l rest =
@@ -203,9 +228,11 @@ few_holds (suc n) hs d a =
     one_less e (h ∷ hs) d = go (eqb h.expert e) refl (distinct_parts h hs d) (one_less e hs)
       where
         go : (b : Bool) → eqb h.expert e ≡ b → (is_expert h.expert ≡ true) × (is_holding hs h.expert ≡ false) × (distinct_experts hs ≡ true)
-            → (distinct_experts hs ≡ true → length hs ≤ suc (length (given_back e hs))) → suc (length hs) ≤ suc (length (cond (not b) (h ∷ given_back e hs) (given_back e hs)))
+            → (distinct_experts hs ≡ true → length hs ≤ suc (length (given_back e hs)))
+            → suc (length hs) ≤ suc (length (cond (not b) (h ∷ given_back e hs) (given_back e hs)))
         go true t ds rest =
-            let alone : given_back e hs ≡ hs = subst (λ f. given_back f hs ≡ hs) (eqb-true h.expert e t) (filter_all (λ x. not (eqb x.expert h.expert)) hs (nobody hs ds.1)) in
+            let alone : given_back e hs ≡ hs = subst (λ f. given_back f hs ≡ hs) (eqb-true h.expert e t)
+            (filter_all (λ x. not (eqb x.expert h.expert)) hs (nobody hs ds.1)) in
             let long = ap length alone in
             omega arith
           where
@@ -220,7 +247,8 @@ experts_small : (hs : List SetHold) → distinct_experts hs ≡ true → list_al
 experts_small [] d = refl
 experts_small (h ∷ hs) d =
     let ds = distinct_parts h hs d in
-    and_from (leb h.expert MAX_EXPERTS) (list_all (λ h. leb h.expert MAX_EXPERTS) hs) (and_parts (leb 1 h.expert) (leb h.expert MAX_EXPERTS) ds.0).1 (experts_small hs ds.2)
+    and_from (leb h.expert MAX_EXPERTS) (list_all (λ h. leb h.expert MAX_EXPERTS) hs)
+    (and_parts (leb 1 h.expert) (leb h.expert MAX_EXPERTS) ds.0).1 (experts_small hs ds.2)
 
 holders_of-le : (P : Set) (hs : List SetHold) → holders_of P hs ≤ length hs
 holders_of-le P [] = omega arith
@@ -230,13 +258,15 @@ holders_of-le P (h ∷ hs) = elim (same h.question.premise P) as (λ b. cond b 1
 ]
 
 -- without e's own hold, fewer experts hold a question than there are
-pub others_fewer : (e : ℕ) (q : Rule) (hs : List SetHold) → is_expert e ≡ true → distinct_experts hs ≡ true → length (given_back e hs) < MAX_EXPERTS
+pub others_fewer : (e : ℕ) (q : Rule) (hs : List SetHold) → is_expert e ≡ true → distinct_experts hs ≡ true
+    → length (given_back e hs) < MAX_EXPERTS
 others_fewer e q hs i d =
     let mine : SetHold = record { expert = e; question = q } in
     let all_distinct = distinct_from mine (given_back e hs) i (none_held e hs) (distinct_experts-given_back e hs d) in
     few_holds MAX_EXPERTS (mine ∷ given_back e hs) all_distinct (experts_small (mine ∷ given_back e hs) all_distinct)
 
-pub never_all_held : (s : State) → IsValid s → s.settings.holders ≡ MAX_EXPERTS → (e : ℕ) → is_expert e ≡ true → reply_to s (Draw e) ≢ AllHeld
+pub never_all_held : (s : State) → IsValid s → s.settings.holders ≡ MAX_EXPERTS → (e : ℕ) → is_expert e ≡ true
+    → reply_to s (Draw e) ≢ AllHeld
 unfolding reply_to
 never_all_held s v most e i = go s.settings.holders (open_in s) most
   where
@@ -255,7 +285,8 @@ never_all_held s v most e i = go s.settings.holders (open_in s) most
 
     go : (m : ℕ) (J : List Rule) → m ≡ MAX_EXPERTS → draw_reply m (given_back e s.holds) J ≢ AllHeld
     go m [] is h = absurd (cc)
-    go m (q ∷ J) is h = asks (least_held (given_back e s.holds) (q ∷ J)) (sym (ap (λ b. cond b AllHeld (asked (least_held (given_back e s.holds) (q ∷ J)))) (free m q J is)) ∙ h)
+    go m (q ∷ J) is h = asks (least_held (given_back e s.holds) (q ∷ J))
+        (sym (ap (λ b. cond b AllHeld (asked (least_held (given_back e s.holds) (q ∷ J)))) (free m q J is)) ∙ h)
       where
         asks : (o : Option Rule) → asked o ≢ AllHeld
         asks None h = absurd (cc)

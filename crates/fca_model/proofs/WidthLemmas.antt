@@ -33,26 +33,33 @@ abbrev wide : ℕ → Rule → Bool
 wide n i = eqb (length i.premise) n && eqb (length i.conclusion) n
 
 is_wide : (n : ℕ) (i : Rule) → wide n i ≡ true → IsWide n i
-is_wide n i w = let parts = and_parts (eqb (length i.premise) n) (eqb (length i.conclusion) n) w in (eqb-true (length i.premise) n parts.0, eqb-true (length i.conclusion) n parts.1)
+is_wide n i w = let parts = and_parts (eqb (length i.premise) n) (eqb (length i.conclusion) n) w in
+    (eqb-true (length i.premise) n parts.0, eqb-true (length i.conclusion) n parts.1)
 
 wide_from : (n : ℕ) (i : Rule) → length i.premise ≡ n → length i.conclusion ≡ n → wide n i ≡ true
-wide_from n i p c = and_from (eqb (length i.premise) n) (eqb (length i.conclusion) n) (eq-eqb (length i.premise) n p) (eq-eqb (length i.conclusion) n c)
+wide_from n i p c = and_from (eqb (length i.premise) n) (eqb (length i.conclusion) n) (eq-eqb (length i.premise) n p)
+    (eq-eqb (length i.conclusion) n c)
 
 rows_wide : (n : ℕ) (rows : List Set) → All (λ row. length row ≡ n) rows → list_all (row_wide n) rows ≡ true
 rows_wide n [] a = refl
-rows_wide n (row ∷ rows) a = and_from (row_wide n row) (list_all (row_wide n) rows) (eq-eqb (length row) n (All-head (λ row. length row ≡ n) row rows a)) (rows_wide n rows (All-tail (λ row. length row ≡ n) row rows a))
+rows_wide n (row ∷ rows) a = and_from (row_wide n row) (list_all (row_wide n) rows)
+    (eq-eqb (length row) n (All-head (λ row. length row ≡ n) row rows a)) (rows_wide n rows (All-tail (λ row. length row ≡ n) row rows a))
 
 rules_wide : (n : ℕ) (J : List Rule) → All (IsWide n) J → list_all (wide n) J ≡ true
 rules_wide n [] a = refl
-rules_wide n (i ∷ J) a = let head = All-head (IsWide n) i J a in and_from (wide n i) (list_all (wide n) J) (wide_from n i head.0 head.1) (rules_wide n J (All-tail (IsWide n) i J a))
+rules_wide n (i ∷ J) a = let head = All-head (IsWide n) i J a in
+    and_from (wide n i) (list_all (wide n) J) (wide_from n i head.0 head.1) (rules_wide n J (All-tail (IsWide n) i J a))
 
 -- ---- what is found is in the list
 
-first_with_found : {X : Type 0} (p q : X → Bool) (k : ℕ) (xs : List X) (found : ℕ × X) → first_with p k xs ≡ Some found → list_all q xs ≡ true → q found.1 ≡ true
+first_with_found : {X : Type 0} (p q : X → Bool) (k : ℕ) (xs : List X) (found : ℕ × X) → first_with p k xs ≡ Some found
+    → list_all q xs ≡ true → q found.1 ≡ true
 first_with_found p q k [] found h all = absurd (cc)
-first_with_found {X} p q k (x ∷ xs) found h all = go (p x) h (λ e. first_with_found p q (k + 1) xs found e (and_parts (q x) (list_all q xs) all).1)
+first_with_found {X} p q k (x ∷ xs) found h all =
+    go (p x) h (λ e. first_with_found p q (k + 1) xs found e (and_parts (q x) (list_all q xs) all).1)
   where
-    go : (b : Bool) → cond b (Some (k, x)) (first_with p (k + 1) xs) ≡ Some found → (first_with p (k + 1) xs ≡ Some found → q found.1 ≡ true) → q found.1 ≡ true
+    go : (b : Bool) → cond b (Some (k, x)) (first_with p (k + 1) xs) ≡ Some found
+        → (first_with p (k + 1) xs ≡ Some found → q found.1 ≡ true) → q found.1 ≡ true
     go true e rest = let is : (k, x) ≡ found = cc in subst (λ (z : ℕ × X). q z.1 ≡ true) is (and_parts (q x) (list_all q xs) all).0
     go false e rest = rest e
 
@@ -72,20 +79,25 @@ open_wide S K acc =
     let J : List Rule = waiting S K acc in
     list_all-filter_kept (wide K.width) (λ i. eqb (size i.premise) (least_size J)) J
     (list_all-filter_kept (wide K.width) (λ i. not (has_premise acc i.premise)) (basis_known S K)
-    (basis_all S K (wide K.width) (λ P e _. and_from (eqb (length P) K.width) (eqb (length (closure K P)) K.width) (eq-eqb (length P) K.width e) (eq-eqb (length (closure K P)) K.width (length-closure K P)))))
+    (basis_all S K (wide K.width) (λ P e _. and_from (eqb (length P) K.width) (eqb (length (closure K P)) K.width)
+    (eq-eqb (length P) K.width e) (eq-eqb (length (closure K P)) K.width (length-closure K P)))))
 
 accepted_wide : (S : List Rule) (K : Context) (acc : List Rule) → list_all (is_member S K) acc ≡ true → list_all (wide K.width) acc ≡ true
 accepted_wide S K acc members = list_all-mono (is_member S K) (wide K.width)
-    (λ i m. let parts = member_parts S K i m in wide_from K.width i parts.0 (ap (λ (i : Rule). length i.conclusion) parts.2 ∙ length-closure K i.premise)) acc members
+    (λ i m. let parts = member_parts S K i m in wide_from K.width i parts.0
+    (ap (λ (i : Rule). length i.conclusion) parts.2 ∙ length-closure K i.premise)) acc members
 
 -- ---- the reply to an event
 
-module _ (s : State) (v : IsValid s) (rows : list_all (row_wide s.context.width) s.context.rows ≡ true) (known : list_all (wide s.context.width) s.settings.known ≡ true) where
+module _ (s : State) (v : IsValid s) (rows : list_all (row_wide s.context.width) s.context.rows ≡ true)
+    (known : list_all (wide s.context.width) s.settings.known ≡ true) where
   abbrev n : ℕ
   n = s.context.width
 
   rules : list_all (wide n) (rules_of s) ≡ true
-  rules = list_all-append (wide n) s.settings.known s.accepted ∙ and_from (list_all (wide n) s.settings.known) (list_all (wide n) s.accepted) known (accepted_wide s.settings.known s.context s.accepted v.accepted.members)
+  rules = list_all-append (wide n) s.settings.known s.accepted
+      ∙ and_from (list_all (wide n) s.settings.known) (list_all (wide n) s.accepted) known
+      (accepted_wide s.settings.known s.context s.accepted v.accepted.members)
 
   draw_wide : (most : ℕ) (hs : List SetHold) (J : List Rule) → list_all (wide n) J ≡ true → HasWideReply n (draw_reply most hs J)
   draw_wide most hs [] all = tt
@@ -94,14 +106,17 @@ module _ (s : State) (v : IsValid s) (rows : list_all (row_wide s.context.width)
       go : (b : Bool) (o : Option Rule) → least_held hs (i ∷ J) ≡ o → HasWideReply n (cond b AllHeld (asked o))
       go true o e = tt
       go false None e = tt
-      go false (Some q) e = is_wide n q (find_all (λ x. list_all (λ y. nat_le (holders_of x.premise hs) (holders_of y.premise hs)) (i ∷ J)) (wide n) (i ∷ J) q e all)
+      go false (Some q) e = is_wide n q (find_all (λ x. list_all (λ y. nat_le (holders_of x.premise hs) (holders_of y.premise hs)) (i ∷ J))
+          (wide n) (i ∷ J) q e all)
 
   confirm_wide : (o : Option Rule) → HasWideReply n (confirm_reply s o)
   confirm_wide None = tt
   confirm_wide (Some q) = unrefuted (first_with (λ r. refutes r q) 0 s.context.rows) refl
     where
-      unheard : (o : Option (ℕ × Rule)) → first_with (λ i. same i.premise q.premise) (length s.settings.known) s.accepted ≡ o → HasWideReply n (confirm_unheard s o)
-      unheard (Some f) h = is_wide n f.1 (first_with_found (λ i. same i.premise q.premise) (wide n) (length s.settings.known) s.accepted f h (accepted_wide s.settings.known s.context s.accepted v.accepted.members))
+      unheard : (o : Option (ℕ × Rule)) → first_with (λ i. same i.premise q.premise) (length s.settings.known) s.accepted ≡ o
+          → HasWideReply n (confirm_unheard s o)
+      unheard (Some f) h = is_wide n f.1 (first_with_found (λ i. same i.premise q.premise) (wide n) (length s.settings.known) s.accepted f h
+          (accepted_wide s.settings.known s.context s.accepted v.accepted.members))
       unheard None h = tt
 
       unrefuted : (o : Option (ℕ × Set)) → first_with (λ r. refutes r q) 0 s.context.rows ≡ o → HasWideReply n (confirm_unrefuted s q o)
@@ -115,7 +130,8 @@ module _ (s : State) (v : IsValid s) (rows : list_all (row_wide s.context.width)
       new q (Some f) h = eqb-true (length f.1) n (first_with_found (λ r. refutes r q) (row_wide n) 0 s.context.rows f h rows)
       new q None h = tt
 
-      unbroken : (q : Rule) → (o : Option (ℕ × Rule)) → first_with (λ i. not (respects r i)) 0 (rules_of s) ≡ o → HasWideReply n (row_unbroken s q o)
+      unbroken : (q : Rule) → (o : Option (ℕ × Rule)) → first_with (λ i. not (respects r i)) 0 (rules_of s) ≡ o
+          → HasWideReply n (row_unbroken s q o)
       unbroken q (Some f) h = is_wide n f.1 (first_with_found (λ i. not (respects r i)) (wide n) 0 (rules_of s) f h rules)
       unbroken q None h = new q (first_with (λ r. refutes r q) 0 s.context.rows) refl
 
@@ -141,7 +157,8 @@ module _ (s : State) (v : IsValid s) (rows : list_all (row_wide s.context.width)
 -- ---- whole runs
 
 -- the rows have the width after each event
-next_rows : (s : State) (event : SetEvent) → list_all (row_wide s.context.width) s.context.rows ≡ true → has_width s.context.width event ≡ true
+next_rows : (s : State) (event : SetEvent) → list_all (row_wide s.context.width) s.context.rows ≡ true
+    → has_width s.context.width event ≡ true
     → list_all (row_wide (next s event).context.width) (next s event).context.rows ≡ true
 next_rows s event rows w =
     by_change s event (λ (t : State). list_all (row_wide t.context.width) t.context.rows ≡ true) rows rows (λ _ _. rows) (λ _ _ _ _. rows)
@@ -149,7 +166,8 @@ next_rows s event rows w =
     ∙ and_from (list_all (row_wide s.context.width) s.context.rows) (row_wide s.context.width r && true) rows
     (and_from (row_wide s.context.width r) true (subst (λ event. has_width s.context.width event ≡ true) is w) refl))
 
-run_wide : (s : State) → IsValid s → list_all (row_wide s.context.width) s.context.rows ≡ true → list_all (wide s.context.width) s.settings.known ≡ true
+run_wide : (s : State) → IsValid s → list_all (row_wide s.context.width) s.context.rows ≡ true
+    → list_all (wide s.context.width) s.settings.known ≡ true
     → (es : List SetEvent) → list_all (λ event. is_expert (expert_of event)) es ≡ true → list_all (has_width s.context.width) es ≡ true
     → All (λ (entry : SetEntry). HasWideReply s.context.width entry.reply) (journal_of s es)
 unfolding journal_of
@@ -161,14 +179,17 @@ run_wide s v rows known (event ∷ es) i w =
     let rest = run_wide (next s event) (next_valid s v event experts.0) (next_rows s event rows widths.0)
     (subst (λ (z : ℕ × List Rule). list_all (wide z.0) z.1 ≡ true) (λ j. (sym same_width j, (sym (next_settings s event) j).known)) known)
     es experts.1 (subst (λ n. list_all (has_width n) es ≡ true) (sym same_width) widths.1) in
-    All-cons (λ (entry : SetEntry). HasWideReply s.context.width entry.reply) (record { event = event; reply = reply_to s event }) (journal_of (next s event) es)
+    All-cons (λ (entry : SetEntry). HasWideReply s.context.width entry.reply) (record { event = event; reply = reply_to s event })
+    (journal_of (next s event) es)
     (reply_wide s v rows known event)
     (subst (λ n. All (λ (entry : SetEntry). HasWideReply n entry.reply) (journal_of (next s event) es)) same_width rest)
 
 -- in a legal history all sets have the width of the context, where its rows and the known implications have it
-pub legal_wide : (s : State) → IsValid s → All (λ row. length row ≡ s.context.width) s.context.rows → All (IsWide s.context.width) s.settings.known
+pub legal_wide : (s : State) → IsValid s → All (λ row. length row ≡ s.context.width) s.context.rows
+    → All (IsWide s.context.width) s.settings.known
     → (H : List SetEntry) → IsLegal s H → All (λ (entry : SetEntry). HasWideReply s.context.width entry.reply) H
 legal_wide s v rows known H l =
     let events = legal_events s H l in
     subst (All (λ (entry : SetEntry). HasWideReply s.context.width entry.reply)) l.replayed
-    (run_wide s v (rows_wide s.context.width s.context.rows rows) (rules_wide s.context.width s.settings.known known) (events_of H) events.0 events.1)
+    (run_wide s v (rows_wide s.context.width s.context.rows rows) (rules_wide s.context.width s.settings.known known)
+    (events_of H) events.0 events.1)

@@ -1,6 +1,7 @@
 -- The basis by levels of size.
 --
--- Whether a set is a pseudo-intent depends on smaller pseudo-intents alone, so the basis can be found size by size: the members whose premise has one size
+-- Whether a set is a pseudo-intent depends on smaller pseudo-intents alone, so the basis can be found size by size: the members whose
+-- premise has one size
 -- are a level, and a list that has all members below a size decides which sets of that size are members.
 --
 -- Of one empty row over a, b, c all three members are in the level of size 1.

@@ -12,7 +12,7 @@ use Rattle.fca_model.specs.declared.names.NameFault.TheVariants.{Empty, Long, Li
 abbrev pub is_line_break : ℕ → Bool
 is_line_break byte = (byte == 10) || (byte == 13)
 
--- why the bytes are no name: they are none, too many, or have a line break, in this order; None where they are one
+-- why the bytes are no name: there are none, too many, or one is a line break, in this order; None if they are a name
 unfoldable pub name_fault : Text → Option NameFault
 name_fault bytes =
     cond (length bytes == 0) (Some Empty)

@@ -40,7 +40,7 @@ impl From<AllocError> for NameFault {
     }
 }
 
-/// A text that fits on one line: contracts see its bytes.
+/// A text that fits on one line. Contracts see its bytes.
 #[derive(Drop)]
 pub struct Name {
     text: String,
@@ -83,7 +83,7 @@ impl Name {
         Ok(Name { text })
     }
 
-    /// The bytes of the text.
+    /// The bytes of the name.
     pub fn bytes(&self) -> &[u8]
         ensures value { result.now ≡ self.now }
         ensures name { IsName self.now }
@@ -91,7 +91,7 @@ impl Name {
         self.text().as_bytes()
     }
 
-    /// The text that has these bytes.
+    /// The text of the name.
     pub fn text(&self) -> &str
         ensures value { result.now ≡ self.now }
         ensures name { IsName self.now }

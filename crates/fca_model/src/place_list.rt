@@ -1,4 +1,4 @@
-//! Lists of places, as an extent is one.
+//! Lists of places, such as extents.
 
 ghost use Rattle.std.specs.Prelude.{◌≡◌, [], ◌∷◌, ◌++◌, OnOk, OnErr};
 
@@ -6,7 +6,7 @@ use crate::Memory;
 use std::alloc::Global;
 use std::marker::Model;
 
-/// A list of places, counted from 0: contracts see the list of numbers.
+/// A list of places, counted from 0. Contracts see the list of numbers.
 #[derive(Drop)]
 pub struct Places {
     places: Vec<usize>,
@@ -21,7 +21,7 @@ impl Model for Places {
 }
 
 impl Places {
-    /// No place; it takes no memory yet.
+    /// The empty list, which takes no memory.
     pub fn new(alloc: Global) -> Places
         ensures { result ≡ [] }
     {

@@ -6,7 +6,7 @@ use crate::Memory;
 use std::alloc::Global;
 use std::marker::Model;
 
-/// One word, of any bytes: contracts see the list of its bytes.
+/// A word of any bytes. Contracts see the list of its bytes.
 #[derive(Drop)]
 pub struct Word {
     bytes: Vec<u8>,
@@ -29,7 +29,7 @@ impl Word {
         Ok(Word { bytes })
     }
 
-    /// Its bytes.
+    /// The bytes of the word.
     pub fn bytes(&self) -> &[u8]
         ensures { result.now ≡ self.now }
     {

@@ -35,7 +35,7 @@ pub record IsPass (J : List Rule) (A C : Set) : Type 0 where
 abbrev pub Fired : List ℕ → List Rule → Set → Type 0
 Fired left J C = (k : ℕ) (i : Rule) → k < length J → i ≡ slice_index_or J k i → slice_index_or left k 0 ≡ 0 → within i.conclusion C ≡ true
 
--- a number of attributes, and for how many members there is room
+-- a number of attributes, and the number of members that there is room for
 pub record Room : Type 0 where
   pub width : ℕ
   pub members : ℕ

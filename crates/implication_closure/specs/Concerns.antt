@@ -1,6 +1,7 @@
 -- Which implications say anything of the sets that agree with A before an attribute.
 --
--- A premise with an earlier attribute that A lacks lies within none of these sets, so each of them respects the implication, whatever its conclusion is. (Ganter
+-- A premise with an earlier attribute that A lacks lies within none of these sets, so each of them respects the implication, whatever its
+-- conclusion is. (Ganter
 -- and Wille, "Formal Concept Analysis", a set respects an implication.)
 --
 -- {a, c} -> {d} says nothing of the sets that lack a as {b} does, so it concerns none that agrees with {b} before b; {b, c} -> {d} does.
@@ -19,6 +20,6 @@ not_before from (Some w) = nat_le from w
 abbrev pub concerns : ℕ → Set → Rule → Bool
 concerns from A i = not_before from (first_missing 0 i.premise A)
 
--- the members of the list that do so
+-- the members of the list whose premise has none
 abbrev pub concerning : ℕ → Set → RuleList → RuleList
 concerning from A L = record { width = L.width; members = filter (concerns from A) L.members }

@@ -58,7 +58,7 @@ impl<const W: usize> ImplicationListOf<W> {
         })
     }
 
-    /// The list once more, with room for one more implication.
+    /// A copy of the list, with room for one more implication.
     pub fn copy(&self, alloc: Global) -> Result<ImplicationListOf<W>, Memory>
         ensures { IfOk result (λ list. list ≡ self.now) }
     {
@@ -83,7 +83,7 @@ impl<const W: usize> ImplicationListOf<W> {
         })
     }
 
-    /// The list in the words of an [`attr_bits::Attrs`].
+    /// The list in as many words as an [`attr_bits::Attrs`].
     pub fn widen(&self, alloc: Global) -> Result<ImplicationList, Memory>
         ensures { IfOk result (λ list. list ≡ self.now) }
     {
@@ -112,7 +112,7 @@ impl<const W: usize> ImplicationListOf<W> {
         Ok(())
     }
 
-    /// Takes the last implication away, if there is one.
+    /// Removes the last implication, if there is one.
     pub fn pop(&mut self)
         ensures last { (J : RuleList) (i : Rule) → self.old ≡ record { width = J.width; members = J.members ++ i ∷ [] } → self.new ≡ J }
         ensures none { self.old.members ≡ [] → self.new ≡ self.old }
@@ -170,7 +170,7 @@ impl<const W: usize> ImplicationListOf<W> {
         close_from_the_first(&self.members, x)
     }
 
-    /// The least superset of x that respects every member, with the scratch for its working space.
+    /// The least superset of x that respects every member. It works in the scratch.
     pub fn closure(&self, scratch: &mut Scratch, x: &Bits<W>) -> Bits<W>
         requires fits { Fits scratch.old self.now }
         requires wide { length x.now ≡ self.now.width }
@@ -180,7 +180,7 @@ impl<const W: usize> ImplicationListOf<W> {
         close_by_counters(&self.members, &mut scratch.left, x)
     }
 
-    /// Whether every set that respects all members respects the implication from p to c.
+    /// Whether each set that respects all members respects the implication from p to c.
     pub fn follows(&self, p: &Bits<W>, c: &Bits<W>) -> bool
         requires premise { length p.now ≡ self.now.width }
         requires conclusion { length c.now ≡ self.now.width }
@@ -191,7 +191,7 @@ impl<const W: usize> ImplicationListOf<W> {
 }
 
 /// Working space for closures under lists of one width: for each member the number of premise
-/// attributes that were not reached when it was last counted.
+/// attributes that were still missing when they were last counted.
 #[derive(Drop)]
 pub struct Scratch {
     width: u32,
@@ -208,7 +208,7 @@ impl Model for Scratch {
 }
 
 impl Scratch {
-    /// Room for closures under lists of the width of this one, with at most as many members.
+    /// Working space for closures under lists that have the width of this one and at most as many members.
     pub fn new<const W: usize>(
         alloc: Global,
         list: &ImplicationListOf<W>,
@@ -221,7 +221,7 @@ impl Scratch {
         })
     }
 
-    /// Whether there is room for closures under the list.
+    /// Whether the space is enough for closures under the list.
     pub fn fits<const W: usize>(&self, list: &ImplicationListOf<W>) -> bool
         ensures { IsTrue result ↔ Fits self.now list.now }
     {
@@ -302,7 +302,7 @@ fn first_broken<const W: usize>(members: &[ImplicationOf<W>], row: &Bits<W>) -> 
         .position(|i| i.premise.within(row) && !i.conclusion.within(row))
 }
 
-/// The least superset that respects every member, each time by the first member that is broken.
+/// The least superset that respects every member. Each step takes the first member that the set does not respect.
 fn close_from_the_first<const W: usize>(members: &[ImplicationOf<W>], x: &Bits<W>) -> Bits<W>
     requires { HaveWidth (length x.now) members.now }
     ensures { IsClosure members.now x.now result }
@@ -314,7 +314,7 @@ fn close_from_the_first<const W: usize>(members: &[ImplicationOf<W>], x: &Bits<W
     closed
 }
 
-/// The least superset that respects every member, by passes over the members until one adds nothing.
+/// The least superset that respects every member. It passes over the members until a pass adds nothing.
 fn close_by_counters<const W: usize>(
     members: &[ImplicationOf<W>],
     left: &mut [u32],
@@ -335,8 +335,8 @@ fn close_by_counters<const W: usize>(
     }
 }
 
-/// The set with the conclusion of each member in turn whose premise lies within the set as it is by
-/// then. Members that were reached before are passed over.
+/// The set after one pass: each member in turn whose premise lies within the set adds its conclusion.
+/// Members that added theirs before are skipped.
 fn pass<const W: usize>(members: &[ImplicationOf<W>], left: &mut [u32], x: &Bits<W>) -> Bits<W>
     requires wide { HaveWidth (length x.now) members.now }
     requires room { length members.now ≤ length left.old }

@@ -16,7 +16,8 @@ filled-last (x ∷ line) b h = elim (cases_Bool (is_blank x)) [
 ]
 
 -- a blank at the end is dropped
-pub without_blanks_after-blank : (line : Text) (b : ℕ) → is_blank b ≡ true → without_blanks_after (line ++ b ∷ []) ≡ without_blanks_after line
+pub without_blanks_after-blank : (line : Text) (b : ℕ) → is_blank b ≡ true
+    → without_blanks_after (line ++ b ∷ []) ≡ without_blanks_after line
 without_blanks_after-blank [] b h = rw h refl
 without_blanks_after-blank (x ∷ line) b h =
     rw (blank-last line b h, without_blanks_after-blank line b h) refl
@@ -41,9 +42,12 @@ last-split (x ∷ y ∷ line) some =
 pub without_blanks_after-step : (line : Text) (b : Bool) → 0 < length line → b ≡ is_blank (get_or line (length line - 1) 0) → b ≡ true
     → without_blanks_after (take (length line - 1) line) ≡ without_blanks_after line
 without_blanks_after-step line b some e is =
-    sym (without_blanks_after-blank (take (length line - 1) line) (get_or line (length line - 1) 0) (sym e ∙ is)) ∙ ap without_blanks_after (last-split line some)
+    sym (without_blanks_after-blank (take (length line - 1) line) (get_or line (length line - 1) 0) (sym e ∙ is))
+    ∙ ap without_blanks_after (last-split line some)
 
 -- and its end
-pub without_blanks_after-end : (line : Text) (b : Bool) → 0 < length line → b ≡ is_blank (get_or line (length line - 1) 0) → b ≡ false → line ≡ without_blanks_after line
+pub without_blanks_after-end : (line : Text) (b : Bool) → 0 < length line → b ≡ is_blank (get_or line (length line - 1) 0) → b ≡ false
+    → line ≡ without_blanks_after line
 without_blanks_after-end line b some e is =
-    sym (ap without_blanks_after (sym (last-split line some)) ∙ without_blanks_after-filled (take (length line - 1) line) (get_or line (length line - 1) 0) (sym e ∙ is) ∙ last-split line some)
+    sym (ap without_blanks_after (sym (last-split line some))
+    ∙ without_blanks_after-filled (take (length line - 1) line) (get_or line (length line - 1) 0) (sym e ∙ is) ∙ last-split line some)

@@ -14,8 +14,10 @@ pub drop-item : {X : Type 0} (xs : List X) (i : ℕ) (x : X) → slice_get xs i 
 drop-item xs i x h = let one : i + 1 ≡ suc i = omega arith in rw one (drop-item_suc xs i x h)
 
 -- all items were written
-pub written-all : {X : Type 0} (f : List X → List ℕ) (xs : List X) (i : ℕ) (text all : List ℕ) → length xs ≤ i → f [] ≡ [] → text ++ f (drop i xs) ≡ all → text ≡ all
-written-all f xs i text all done none so_far = sym (append-nil text) ∙ ap (λ rest. text ++ rest) (sym none ∙ ap f (sym (drop_all i xs done))) ∙ so_far
+pub written-all : {X : Type 0} (f : List X → List ℕ) (xs : List X) (i : ℕ) (text all : List ℕ) → length xs ≤ i → f [] ≡ []
+    → text ++ f (drop i xs) ≡ all → text ≡ all
+written-all f xs i text all done none so_far = sym (append-nil text)
+    ∙ ap (λ rest. text ++ rest) (sym none ∙ ap f (sym (drop_all i xs done))) ∙ so_far
 
 pub EachWide-from_All : (width : ℕ) (rows : List Set) → All (λ row. length row ≡ width) rows → EachWide width rows
 EachWide-from_All width [] h = tt

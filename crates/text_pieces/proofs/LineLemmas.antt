@@ -35,15 +35,18 @@ unless_empty-cons (byte ∷ text) h = refl
 slice_split-whole : (text : Text) → length text ≤ position_or_len is_line_feed text → slice_split is_line_feed text ≡ text ∷ []
 slice_split-whole [] h = refl
 slice_split-whole (byte ∷ text) h = elim (cases_Bool (is_line_feed byte)) [
-  | inl t ↦ absurd (let none : suc (length text) ≤ 0 = subst (λ b. suc (length text) ≤ cond (not b) (1 + position_or_len is_line_feed text) 0) t h in omega arith)
+  | inl t ↦ absurd (let none : suc (length text) ≤ 0 =
+      subst (λ b. suc (length text) ≤ cond (not b) (1 + position_or_len is_line_feed text) 0) t h in omega arith)
   | inr f ↦
-      let later : suc (length text) ≤ 1 + position_or_len is_line_feed text = subst (λ b. suc (length text) ≤ cond (not b) (1 + position_or_len is_line_feed text) 0) f h in
+      let later : suc (length text) ≤ 1 + position_or_len is_line_feed text =
+      subst (λ b. suc (length text) ≤ cond (not b) (1 + position_or_len is_line_feed text) 0) f h in
       ap (λ b. cond b ([] ∷ slice_split is_line_feed text) (onto_first byte (slice_split is_line_feed text))) f
       ∙ ap (onto_first byte) (slice_split-whole text (omega arith))
 ]
 
 -- the first line of a text that isn't empty, and the lines behind it
-lines-cons : (text : Text) → 0 < length text → lines text ≡ strip_carriage_return (before_first is_line_feed text) ∷ lines (after_first is_line_feed text)
+lines-cons : (text : Text) → 0 < length text → lines text ≡ strip_carriage_return (before_first is_line_feed text) ∷ lines
+    (after_first is_line_feed text)
 lines-cons text h = elim (cases_lt (position_or_len is_line_feed text) (length text)) [
   | inl lt ↦
       let behind = slice_split is_line_feed (after_first is_line_feed text) in
@@ -59,10 +62,12 @@ lines-cons text h = elim (cases_lt (position_or_len is_line_feed text) (length t
 ]
 
 -- the same, of the parts that were cut; less text is left
-pub lines-cut_some : (text line behind : Text) → 0 < length text → line ≡ strip_carriage_return (before_first is_line_feed text) → behind ≡ after_first is_line_feed text
+pub lines-cut_some : (text line behind : Text) → 0 < length text → line ≡ strip_carriage_return (before_first is_line_feed text)
+    → behind ≡ after_first is_line_feed text
     → (lines text ≡ line ∷ lines behind) × (length behind < length text)
 lines-cut_some text line behind some front back =
-    let less : length (drop (position_or_len is_line_feed text + 1) text) < length text = omega (arith, length-drop (position_or_len is_line_feed text + 1) text) in (
+    let less : length (drop (position_or_len is_line_feed text + 1) text) < length text =
+    omega (arith, length-drop (position_or_len is_line_feed text + 1) text) in (
       lines-cons text some ∙ rw (front, back) refl,
       rw back less,
     )
@@ -72,7 +77,8 @@ some_left zero b e h = absurd (false≢true (sym h ∙ e))
 some_left (suc n) b e h = omega arith
 
 -- where the text was found not to be empty
-pub lines-cut : (text line behind : Text) (b : Bool) → b ≡ (length text == 0) → b ≡ false → line ≡ strip_carriage_return (before_first is_line_feed text) → behind ≡ after_first is_line_feed text
+pub lines-cut : (text line behind : Text) (b : Bool) → b ≡ (length text == 0) → b ≡ false
+    → line ≡ strip_carriage_return (before_first is_line_feed text) → behind ≡ after_first is_line_feed text
     → (lines text ≡ line ∷ lines behind) × (length behind < length text)
 lines-cut text line behind b e h front back = lines-cut_some text line behind (some_left (length text) b e h) front back
 
@@ -106,7 +112,8 @@ strip-stripped piece (Some x) h = rw h (sym (strip-ended x.now))
 
 -- ---- lines without a line break
 
-pub no_break-append : (a b : Text) → list_any is_line_break a ≡ false → list_any is_line_break b ≡ false → list_any is_line_break (a ++ b) ≡ false
+pub no_break-append : (a b : Text) → list_any is_line_break a ≡ false → list_any is_line_break b ≡ false
+    → list_any is_line_break (a ++ b) ≡ false
 no_break-append a b h k = list_any-append is_line_break a b ∙ or_from (list_any is_line_break a) (list_any is_line_break b) h k
 
 pub no_break-faultless : (bytes : Text) → name_fault bytes ≡ None → list_any is_line_break bytes ≡ false
@@ -136,7 +143,8 @@ strip-line l h = ap (λ b. cond b (take (length l - 1) l) l) (no_return l h (len
 pub lines-line : (l rest : Text) → list_any is_line_break l ≡ false → lines (l ++ (10 ∷ rest)) ≡ l ∷ lines rest
 lines-line l rest h =
     lines-cons (l ++ (10 ∷ rest)) (omega (arith, length-append l (10 ∷ rest)))
-    ∙ ap₂ (λ x t. strip_carriage_return x ∷ lines t) (before_first-at is_line_feed l 10 rest (no_feed l h) refl) (after_first-at is_line_feed l 10 rest (no_feed l h) refl)
+    ∙ ap₂ (λ x t. strip_carriage_return x ∷ lines t) (before_first-at is_line_feed l 10 rest (no_feed l h) refl)
+    (after_first-at is_line_feed l 10 rest (no_feed l h) refl)
     ∙ ap (λ x. x ∷ lines rest) (strip-line l h)
 
 -- ---- whole texts
@@ -160,7 +168,8 @@ lines-text_of (line ∷ ls) h = lines-line line (text_of ls) h.0.unbroken ∙ ap
 
 pub IsUtf8-text_of : (ls : List Line) → EachLine ls → IsUtf8 (text_of ls)
 IsUtf8-text_of [] h = IsUtf8-nil
-IsUtf8-text_of (line ∷ ls) h = IsUtf8-append line (10 ∷ text_of ls) h.0.utf8 (IsUtf8-cons 10 (text_of ls) (omega arith) (IsUtf8-text_of ls h.1))
+IsUtf8-text_of (line ∷ ls) h = IsUtf8-append line (10 ∷ text_of ls) h.0.utf8
+    (IsUtf8-cons 10 (text_of ls) (omega arith) (IsUtf8-text_of ls h.1))
 
 pub IsLine-nil : IsLine []
 IsLine-nil = record { unbroken = refl; utf8 = IsUtf8-nil }

@@ -38,34 +38,47 @@ pub record CrossedTo (cells : Text) (set : Set) (i : ℕ) : Type 0 where
   pub rest : (j : ℕ) → i ≤ j → j < length cells → get_or set j false ≡ false
 
 pub CrossedTo-zero : (cells : Text) → CrossedTo cells (replicate (length cells) false) 0
-CrossedTo-zero cells = record { wide = length-replicate (length cells) false; read = λ j lt. absurd (omega arith); rest = λ j le lt. get_or-replicate (length cells) j false false lt }
+CrossedTo-zero cells = record {
+  wide = length-replicate (length cells) false;
+  read = λ j lt. absurd (omega arith);
+  rest = λ j le lt. get_or-replicate (length cells) j false false lt;
+}
 
 -- the crosses of the bytes from i to `end`, of which there are 64 or all that are left
 pub CrossedTo-block : (i end bits : ℕ) (cells : Text) (set new : Set) → CrossedTo cells set i → i ≤ end → end ≡ min (length cells) (i + 64)
-    → ((k : ℕ) → k < length (take (end - i) (drop i cells)) → eqb (bit_at bits k) 1 ≡ cross_at (take (end - i) (drop i cells)) k) → bits < 2 ^ 64 → length new ≡ length set
-    → ((j : ℕ) → j < length set → get_or new j false ≡ (get_or set j false || (nat_le i j && eqb (bit_at bits (j - i)) 1))) → CrossedTo cells new end
+    → ((k : ℕ) → k < length (take (end - i) (drop i cells)) → eqb (bit_at bits k) 1 ≡ cross_at (take (end - i) (drop i cells)) k)
+    → bits < 2 ^ 64 → length new ≡ length set
+    → ((j : ℕ) → j < length set → get_or new j false ≡ (get_or set j false || (nat_le i j && eqb (bit_at bits (j - i)) 1)))
+    → CrossedTo cells new end
 CrossedTo-block i end bits cells set new r up last crosses small wide put = record {
   wide = wide ∙ r.wide;
   read = λ j lt. elim (cases_lt j i) [
     | inl before ↦
-        put j (omega (arith, r.wide)) ∙ ap (λ x. get_or set j false || (x && eqb (bit_at bits (j - i)) 1)) (lt-leb i j before) ∙ or-false (get_or set j false) ∙ r.read j before
+        put j (omega (arith, r.wide)) ∙ ap (λ x. get_or set j false || (x && eqb (bit_at bits (j - i)) 1)) (lt-leb i j before)
+        ∙ or-false (get_or set j false) ∙ r.read j before
     | inr later ↦
         let here : j - i < end - i = omega arith in
         let back : i + (j - i) ≡ j = omega arith in
-        let cell : get_or (take (end - i) (drop i cells)) (j - i) 0 ≡ get_or cells j 0 = get_or-take (end - i) (drop i cells) (j - i) 0 here ∙ get_or-drop i cells (j - i) 0 ∙ ap (λ k. get_or cells k 0) back in
-        let long : length (take (end - i) (drop i cells)) ≡ end - i = length-take-le (end - i) (drop i cells) (omega (arith, length-drop i cells)) in
-        put j (omega (arith, r.wide)) ∙ ap₂ (λ x y. x || (y && eqb (bit_at bits (j - i)) 1)) (r.rest j later (omega arith)) (le-leb i j later)
+        let cell : get_or (take (end - i) (drop i cells)) (j - i) 0 ≡ get_or cells j 0 = get_or-take (end - i) (drop i cells) (j - i) 0 here
+        ∙ get_or-drop i cells (j - i) 0 ∙ ap (λ k. get_or cells k 0) back in
+        let long : length (take (end - i) (drop i cells)) ≡ end - i =
+        length-take-le (end - i) (drop i cells) (omega (arith, length-drop i cells)) in
+        put j (omega (arith, r.wide)) ∙ ap₂ (λ x y. x || (y && eqb (bit_at bits (j - i)) 1)) (r.rest j later (omega arith))
+        (le-leb i j later)
         ∙ crosses (j - i) (omega (arith, long)) ∙ ap is_cross cell
   ];
   rest = λ j le lt. put j (omega (arith, r.wide))
-      ∙ ap₂ (λ x y. x || (nat_le i j && eqb y 1)) (r.rest j (omega arith) lt) (bit_at_above bits 64 (j - i) small (omega arith)) ∙ and-false (nat_le i j);
+      ∙ ap₂ (λ x y. x || (nat_le i j && eqb y 1)) (r.rest j (omega arith) lt) (bit_at_above bits 64 (j - i) small (omega arith))
+      ∙ and-false (nat_le i j);
 }
 
-set_of_marks-places : (cells : Text) (set : Set) → length set ≡ length cells → ((j : ℕ) → j < length cells → get_or set j false ≡ cross_at cells j) → set ≡ map is_cross cells
+set_of_marks-places : (cells : Text) (set : Set) → length set ≡ length cells
+    → ((j : ℕ) → j < length cells → get_or set j false ≡ cross_at cells j) → set ≡ map is_cross cells
 set_of_marks-places [] [] wide read = refl
 set_of_marks-places [] (a ∷ set) wide read = absurd (omega arith)
 set_of_marks-places (b ∷ cells) [] wide read = absurd (omega arith)
-set_of_marks-places (b ∷ cells) (a ∷ set) wide read = ap₂ (λ x xs. x ∷ xs) (read 0 (omega arith)) (set_of_marks-places cells set (omega arith) (λ j lt. read (suc j) (omega arith)))
+set_of_marks-places (b ∷ cells) (a ∷ set) wide read =
+    ap₂ (λ x xs. x ∷ xs) (read 0 (omega arith)) (set_of_marks-places cells set (omega arith) (λ j lt. read (suc j) (omega arith)))
 
 -- all bytes were read
 pub CrossedTo-all : (cells : Text) (set : Set) → CrossedTo cells set (length cells) → set ≡ map is_cross cells
@@ -74,10 +87,12 @@ CrossedTo-all cells set r = set_of_marks-places cells set r.wide r.read
 -- ---- marks that are written
 
 -- marks that were filled in place by place
-pub marks_filled : (A : Set) (marks : Text) → length A ≤ length marks → ((k : ℕ) → k < length A → get_or marks k 0 ≡ mark_of (get_or A k false)) → take (length A) marks ≡ marks_of A
+pub marks_filled : (A : Set) (marks : Text) → length A ≤ length marks
+    → ((k : ℕ) → k < length A → get_or marks k 0 ≡ mark_of (get_or A k false)) → take (length A) marks ≡ marks_of A
 marks_filled [] marks h f = refl
 marks_filled (a ∷ A) [] h f = absurd (omega arith)
-marks_filled (a ∷ A) (m ∷ marks) h f = ap₂ (λ x xs. x ∷ xs) (f 0 (omega arith)) (marks_filled A marks (omega arith) (λ k l. f (suc k) (omega arith)))
+marks_filled (a ∷ A) (m ∷ marks) h f = ap₂ (λ x xs. x ∷ xs) (f 0 (omega arith))
+    (marks_filled A marks (omega arith) (λ k l. f (suc k) (omega arith)))
 
 pub marks_of-marks : (A : Set) → list_all is_mark (marks_of A) ≡ true
 marks_of-marks [] = refl

@@ -54,13 +54,17 @@ trim-digits (d ∷ ds) h =
 -- ---- the digits of a number
 
 glyph_is_digit : (d : ℕ) → d < 10 → is_ascii_digit (digit_glyph false d) ≡ true
-glyph_is_digit d h = rw (lt-ltb d 10 h) (and_from (nat_le 48 (48 + d)) (nat_le (48 + d) 57) (le-leb 48 (48 + d) (omega arith)) (le-leb (48 + d) 57 (omega arith)))
+glyph_is_digit d h = rw (lt-ltb d 10 h) (and_from (nat_le 48 (48 + d)) (nat_le (48 + d) 57) (le-leb 48 (48 + d) (omega arith))
+    (le-leb (48 + d) 57 (omega arith)))
 
-digits_onto-all : (k n : ℕ) (acc : Text) → list_all is_ascii_digit acc ≡ true → list_all is_ascii_digit (digits_onto k 10 false n acc) ≡ true
+digits_onto-all : (k n : ℕ) (acc : Text) → list_all is_ascii_digit acc ≡ true
+    → list_all is_ascii_digit (digits_onto k 10 false n acc) ≡ true
 digits_onto-all zero n acc h = h
 digits_onto-all (suc k) n acc h =
-    let here : list_all is_ascii_digit (digit_glyph false (n % 10) ∷ acc) ≡ true = and_from (is_ascii_digit (digit_glyph false (n % 10))) (list_all is_ascii_digit acc) (glyph_is_digit (n % 10) (omega arith)) h in
-    elim (n / 10 == 0) as (λ b. list_all is_ascii_digit (cond b (digit_glyph false (n % 10) ∷ acc) (digits_onto k 10 false (n / 10) (digit_glyph false (n % 10) ∷ acc))) ≡ true) [
+    let here : list_all is_ascii_digit (digit_glyph false (n % 10) ∷ acc) ≡ true =
+    and_from (is_ascii_digit (digit_glyph false (n % 10))) (list_all is_ascii_digit acc) (glyph_is_digit (n % 10) (omega arith)) h in
+    elim (n / 10 == 0) as (λ b. list_all is_ascii_digit
+    (cond b (digit_glyph false (n % 10) ∷ acc) (digits_onto k 10 false (n / 10) (digit_glyph false (n % 10) ∷ acc))) ≡ true) [
       | true ↦ here
       | false ↦ digits_onto-all k (n / 10) (digit_glyph false (n % 10) ∷ acc) here
     ]
@@ -81,7 +85,8 @@ value-more n ds big so_far =
 -- the digits of a number are a numeral, and write it
 pub numeral-decimal : (n : ℕ) → n < 2 ^ 64 → (is_numeral (decimal n) ≡ true) × (value_of (decimal n) ≡ n)
 numeral-decimal n small = (
-  and_from (nat_lt 0 (length (decimal n))) (list_all is_ascii_digit (decimal n)) (lt-ltb 0 (length (decimal n)) (decimal_nonempty n small)) (decimal_digits n),
+  and_from (nat_lt 0 (length (decimal n))) (list_all is_ascii_digit (decimal n)) (lt-ltb 0 (length (decimal n)) (decimal_nonempty n small))
+      (decimal_digits n),
   decimal_by_steps (λ n ds. value_of ds ≡ n) value-one value-more n small,
 )
 

@@ -18,4 +18,5 @@ IsUtf8-cons b bytes small text = IsUtf8-append (b ∷ []) bytes (IsUtf8-one b sm
 -- where each byte is of a kind, none is of another
 pub list_any-excluded : (p q : ℕ → Bool) (xs : Text) → ((x : ℕ) → p x ≡ true → q x ≡ false) → list_all p xs ≡ true → list_any q xs ≡ false
 list_any-excluded p q [] f h = refl
-list_any-excluded p q (x ∷ xs) f h = let parts = and_parts (p x) (list_all p xs) h in or_from (q x) (list_any q xs) (f x parts.0) (list_any-excluded p q xs f parts.1)
+list_any-excluded p q (x ∷ xs) f h = let parts = and_parts (p x) (list_all p xs) h in
+    or_from (q x) (list_any q xs) (f x parts.0) (list_any-excluded p q xs f parts.1)

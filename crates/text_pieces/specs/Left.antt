@@ -1,4 +1,4 @@
--- What is left of a text that is read line by line.
+-- The rest of a text that is read line by line.
 use Rattle.std.specs.Prelude.{ℕ, ◌+◌, cond, List, [], ◌∷◌}
 use Rattle.text_pieces.specs.Lines.{Line}
 use Rattle.text_pieces.specs.Blanks.{is_blank_line}
@@ -12,14 +12,15 @@ abbrev pub after_blanks_of : ℕ → List Line → Left
 after_blanks_of k [] = record { number = k; lines = [] }
 after_blanks_of k (line ∷ lines) = cond (is_blank_line line) (after_blanks_of (k + 1) lines) (record { number = k; lines = line ∷ lines })
 
--- what is left after the blank lines at the front
+-- the rest after the blank lines at the front
 abbrev pub after_blanks : Left → Left
 after_blanks left = after_blanks_of left.number left.lines
 
 abbrev pub after_blank_of : ℕ → List Line → Left
 after_blank_of k [] = record { number = k; lines = [] }
-after_blank_of k (line ∷ lines) = cond (is_blank_line line) (record { number = k + 1; lines = lines }) (record { number = k; lines = line ∷ lines })
+after_blank_of k (line ∷ lines) = cond (is_blank_line line) (record { number = k + 1; lines = lines })
+    (record { number = k; lines = line ∷ lines })
 
--- what is left after the next line, where that is blank
+-- the rest after the next line, if that is blank
 abbrev pub after_blank : Left → Left
 after_blank left = after_blank_of left.number left.lines

@@ -1,6 +1,6 @@
--- The lines of a text. A line is a piece between line feeds; what follows the last line feed is a line only where it is not empty.
--- One carriage return at the end of a line is no part of it, be there a line feed behind it or not (std's `lines` keeps it where
--- there is none).
+-- The lines of a text. A line is a piece between line feeds; what follows the last line feed is a line only if it is not empty.
+-- One carriage return at the end of a line is no part of it, with or without a line feed behind it (std's `lines` keeps it
+-- without one).
 use Rattle.std.specs.Prelude.{ℕ, Bool, ◌==◌, List, [], ◌∷◌, ◌++◌, map}
 use Rattle.std.specs.List.{slice_split}
 use Rattle.std.specs.Str.Lines.{strip_carriage_return}
@@ -13,12 +13,12 @@ Line = Text
 abbrev pub is_line_feed : ℕ → Bool
 is_line_feed byte = byte == 10
 
--- the text alone, where it isn't empty
+-- the text alone, if it is not empty
 abbrev pub unless_empty : Text → List Line
 unless_empty [] = []
 unless_empty (byte ∷ bytes) = (byte ∷ bytes) ∷ []
 
--- what stands behind the last line feed is a line only where it isn't empty
+-- without a last piece that is empty
 abbrev pub without_empty_end : List Text → List Line
 without_empty_end [] = []
 without_empty_end (x ∷ []) = unless_empty x

@@ -1,4 +1,4 @@
-//! Pieces of texts that need not be UTF-8.
+//! Pieces of texts of any bytes.
 
 ghost use Rattle.std.specs.Prelude.{◌≡◌, position, ◌==◌};
 ghost use Rattle.std.specs.List.{before_first, after_first};
@@ -6,7 +6,7 @@ ghost use Rattle.std.specs.Str.Lines.{strip_carriage_return};
 ghost use Rattle.text_pieces.specs.Lines.{is_line_feed};
 ghost use Rattle.text_pieces.specs.Words.{first_word, later_words};
 
-/// The first line of the text, and what stands behind its line feed.
+/// The first line of the text, and the text behind its line feed.
 pub fn split_line(text: &[u8]) -> (&[u8], &[u8])
     ensures line { result.0.now ≡ strip_carriage_return (before_first is_line_feed text.now) }
     ensures behind { result.1.now ≡ after_first is_line_feed text.now }
@@ -15,14 +15,14 @@ pub fn split_line(text: &[u8]) -> (&[u8], &[u8])
     (without_return(piece), behind)
 }
 
-/// The line without the one carriage return at its end, if it has one.
+/// The line without one carriage return at its end, if it has one.
 pub fn without_return(line: &[u8]) -> &[u8]
     ensures { result.now ≡ strip_carriage_return line.now }
 {
     line.strip_suffix(b"\r").unwrap_or(line)
 }
 
-/// What stands before the first space, and what stands behind it.
+/// The text before the first space, and the text behind it.
 pub fn split_word(text: &[u8]) -> (&[u8], &[u8])
     ensures first { result.0.now ≡ first_word text.now }
     ensures later { result.1.now ≡ later_words text.now }
@@ -30,7 +30,7 @@ pub fn split_word(text: &[u8]) -> (&[u8], &[u8])
     split_at_byte(b' ', text)
 }
 
-/// What stands before the first such byte, and what stands behind it.
+/// The text before the first such byte, and the text behind it.
 fn split_at_byte(end: u8, text: &[u8]) -> (&[u8], &[u8])
     ensures before { result.0.now ≡ before_first (λ byte. byte == end) text.now }
     ensures behind { result.1.now ≡ after_first (λ byte. byte == end) text.now }

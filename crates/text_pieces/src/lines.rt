@@ -9,7 +9,7 @@ ghost use Rattle.text_pieces.specs.Left.{Left, after_blank, after_blanks};
 use crate::blanks::is_blank_line;
 use std::marker::Model;
 
-/// What is left of a text.
+/// The rest of a text that is read line by line.
 #[derive(Drop)]
 pub struct Lines<'a> {
     rest: &'a str,
@@ -81,7 +81,7 @@ impl<'a> Lines<'a> {
         }
     }
 
-    /// Skips the next line where it is blank.
+    /// Skips the next line if it is blank.
     pub fn skip_blank(&mut self)
         ensures { self.new ≡ after_blank self.old }
     {

@@ -10,10 +10,10 @@ use attr_bits::Attrs;
 use fca_model::MAX_ATTRIBUTES;
 use std::simd::prelude::*;
 
-/// How many marks are taken at once.
+/// The number of marks that are read at once.
 const BLOCK: u32 = 64;
 
-/// The marks of a place outside a set and of one inside.
+/// The marks of a place outside a set and of a place inside.
 const MARKS: [u8; 2] = [b'.', b'X'];
 
 fn is_cross(byte: u8) -> bool
@@ -29,7 +29,7 @@ pub fn is_mark(byte: u8) -> bool
     is_cross(byte) || byte == b'.'
 }
 
-/// Whether each byte is a mark. It does not stop at the first that is none, so that many are compared at once.
+/// Whether each byte is a mark. It reads all bytes, so that many are compared at once.
 pub fn are_marks(cells: &[u8]) -> bool
     ensures { result ≡ list_all mark.is_mark cells.now }
 {
@@ -64,7 +64,7 @@ fn crosses_of(cells: &[u8]) -> u64
     places_of(b'X', lanes) | places_of(b'x', lanes)
 }
 
-/// The bytes as lanes, with nothing meant from their end on.
+/// The bytes as lanes. Lanes from their end on mean nothing.
 fn lanes_of(cells: &[u8]) -> u8x64
     requires { length cells.now ≤ 64 }
     ensures { take (length cells.now) result ≡ cells.now }
@@ -81,7 +81,7 @@ fn places_of(byte: u8, lanes: u8x64) -> u64
     lanes.simd_eq(u8x64::splat(byte)).to_bitmask()
 }
 
-/// The marks of the places from `from` to `end`, with nothing meant from there on.
+/// The marks of the places from `from` to `end`. Bytes behind them mean nothing.
 pub fn marks_of<const N: usize>(set: &Attrs, from: u32, end: u32) -> [u8; N]
     requires order { from ≤ end }
     requires few { end ≤ from + N }

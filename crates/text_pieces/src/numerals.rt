@@ -29,7 +29,7 @@ pub fn value_of(digits: &[u8]) -> Option<u64>
     Some(value)
 }
 
-/// The number with one digit more, if it has no more than 64 bits.
+/// The number with one more digit, if it has no more than 64 bits.
 fn with_digit(value: u64, digit: u8) -> Option<u64>
     ensures { result ≡ numeral.in_64_bits (value * 10 + (digit - 48)) }
 {

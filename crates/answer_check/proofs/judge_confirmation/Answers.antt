@@ -6,4 +6,5 @@ use Rattle.answer_check.proofs.judge_confirmation.Goals as goal
 pub returns-in-None : goal.returns-in-None
 returns-in-None c = sym (
     ap (confirmed c.args.accepted.now.members c.args.question.now) (sym c.refuter.ensures ∙ c.in_default.is)
-    ∙ ap unrefuted (ap (position (λ i. same i.premise c.args.question.now.premise)) (sym c.as_slice.ensures.members) ∙ sym c.first_with_premise.ensures ∙ c.in-None.is))
+    ∙ ap unrefuted (ap (position (λ i. same i.premise c.args.question.now.premise)) (sym c.as_slice.ensures.members)
+    ∙ sym c.first_with_premise.ensures ∙ c.in-None.is))

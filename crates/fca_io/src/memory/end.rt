@@ -14,7 +14,7 @@ use fca_model::Memory;
 use std::alloc::Global;
 use std::marker::Model;
 
-/// An end in memory whose reads and writes fail where lists say so.
+/// An end in memory with lists of the reads and of the writes that fail.
 #[derive(Drop)]
 pub struct MemoryEnd {
     source: MemorySource,
@@ -30,8 +30,8 @@ impl Model for MemoryEnd {
 }
 
 impl MemoryEnd {
-    /// An end that has the bytes to be read and room for `room` bytes written. Its reads and its writes with the numbers
-    /// `read_fails` and `write_fails`, each counted from 1, fail, and the others move at most `most` bytes.
+    /// An end with the bytes to be read and room for `room` bytes written. Its reads and its writes with the numbers
+    /// `read_fails` and `write_fails`, each counted from 1, fail; others move at most `most` bytes.
     pub fn new(
         alloc: Global,
         bytes: &[u8],

@@ -14,7 +14,7 @@ use fca_model::Memory;
 use std::alloc::Global;
 use std::marker::Model;
 
-/// A listener in memory that has its ends from the start, for one address, and whose calls fail where a list says so.
+/// A listener in memory for one address, with its ends and a list of the calls that fail.
 #[derive(Drop)]
 pub struct MemoryLink {
     address: Vec<u8>,
@@ -37,7 +37,7 @@ impl Model for MemoryLink {
 }
 
 impl MemoryLink {
-    /// A listener that doesn't listen yet, whose calls of `open` and `accept` with the numbers `fails`, counted together
+    /// A listener that does not listen yet. Its calls of `open` and `accept` with the numbers `fails`, counted together
     /// from 1, fail.
     pub fn new(
         alloc: Global,

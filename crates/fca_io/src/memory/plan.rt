@@ -1,4 +1,4 @@
-//! The list of the calls that are to fail, and how many calls were made.
+//! The list of the calls that fail, and how many calls were made.
 
 ghost use Rattle.std.specs.Prelude.{◌≡◌, ◌≤◌, IfOk};
 ghost use Rattle.fca_io.specs.Forms.{plan_of, fails_next, after_call, with_fault};
@@ -6,7 +6,7 @@ ghost use Rattle.fca_io.specs.Forms.{plan_of, fails_next, after_call, with_fault
 use std::alloc::{AllocError, Global};
 use std::marker::Model;
 
-/// The calls that are to fail, counted from 1, and the faults counted so far.
+/// The numbers of the calls that fail, counted from 1, and the counts of calls and of faults.
 #[derive(Drop)]
 pub struct FailingCalls {
     fails: Vec<usize>,
@@ -26,7 +26,7 @@ impl Model for FailingCalls {
 }
 
 impl FailingCalls {
-    /// No call was made yet.
+    /// The plan in which no call was made yet.
     pub fn new(alloc: Global, fails: &[usize]) -> Result<FailingCalls, AllocError>
         ensures { IfOk result (λ calls. calls ≡ plan_of fails.now) }
     {
@@ -37,7 +37,7 @@ impl FailingCalls {
         })
     }
 
-    /// Counts one call more, and answers whether it is to fail.
+    /// Counts a call. The result says whether it fails.
     pub fn next_fails(&mut self) -> bool
         ensures fails { result ≡ fails_next self.old }
         ensures after { self.new ≡ after_call self.old }
@@ -51,7 +51,7 @@ impl FailingCalls {
         fails
     }
 
-    /// Counts one fault more.
+    /// Counts a fault.
     pub fn count_fault(&mut self)
         ensures after { self.new ≡ with_fault self.old }
         ensures later { self.old.faults ≤ self.new.faults }

@@ -12,7 +12,7 @@ use fca_model::Memory;
 use std::alloc::Global;
 use std::marker::Model;
 
-/// Bytes under a name.
+/// A file: bytes under a name.
 #[derive(Drop)]
 struct File {
     name: Vec<u8>,
@@ -27,7 +27,7 @@ impl Model for File {
     ghost view = { λ f. record { name = f.name.items; bytes = f.bytes.items } };
 }
 
-/// A shelf in memory whose calls fail where a list says so.
+/// A shelf in memory with a list of the calls that fail.
 #[derive(Drop)]
 pub struct MemoryShelf {
     // the newest first
@@ -44,7 +44,7 @@ impl Model for MemoryShelf {
 }
 
 impl MemoryShelf {
-    /// An empty shelf, whose fetches with the numbers `fails`, counted from 1, fail.
+    /// An empty shelf. Its fetches with the numbers `fails`, counted from 1, fail.
     pub fn new(alloc: Global, fails: &[usize]) -> Result<MemoryShelf, Memory>
         ensures { IfOk result (λ shelf. shelf ≡ record { files = []; plan = plan_of fails.now }) }
     {

@@ -11,7 +11,7 @@ use fca_model::Memory;
 use std::alloc::Global;
 use std::marker::Model;
 
-/// A sink in memory whose calls fail where a list says so, and where there is no room.
+/// A sink in memory with a list of the calls that fail. A call without room for a byte fails too.
 #[derive(Drop)]
 pub struct MemorySink {
     bytes: Vec<u8>,
@@ -33,8 +33,8 @@ impl Model for MemorySink {
 }
 
 impl MemorySink {
-    /// An empty sink with room for `room` bytes, whose calls with the numbers `fails`, counted from 1, fail, and whose
-    /// other calls take at most `most` bytes.
+    /// An empty sink with room for `room` bytes. Its calls with the numbers `fails`, counted from 1, fail; other calls take
+    /// at most `most` bytes.
     pub fn new(
         alloc: Global,
         room: usize,

@@ -12,7 +12,7 @@ use fca_model::Memory;
 use std::alloc::{AllocError, Global};
 use std::marker::Model;
 
-/// Bytes of which the first were read.
+/// Bytes, some of which were read.
 #[derive(Drop)]
 struct Unread {
     bytes: Vec<u8>,
@@ -39,7 +39,7 @@ impl Unread {
         })
     }
 
-    /// Moves as many bytes as there are and as fit, but no more than `most`.
+    /// Moves as many bytes as are left and fit, but no more than `most`. The result is their number.
     fn move_into(&mut self, into: &mut [u8], most: usize) -> usize
         ensures count { result ≡ min (min (length into.old) most) (length self.old) }
         ensures moved { take result into.new ≡ take result self.old }
@@ -53,7 +53,7 @@ impl Unread {
     }
 }
 
-/// A source in memory whose calls fail where a list says so.
+/// A source in memory with a list of the calls that fail.
 #[derive(Drop)]
 pub struct MemorySource {
     unread: Unread,
@@ -73,8 +73,8 @@ impl Model for MemorySource {
 }
 
 impl MemorySource {
-    /// A source of the bytes, whose calls with the numbers `fails`, counted from 1, fail, and whose other calls move at
-    /// most `most` bytes.
+    /// A source of the bytes. Its calls with the numbers `fails`, counted from 1, fail; other calls move at most `most`
+    /// bytes.
     pub fn new(
         alloc: Global,
         bytes: &[u8],

@@ -13,12 +13,14 @@ loop-next-init g c =
       wide = refl;
       above = within_refl c.args.x.now;
       least = λ T h r. h;
-      fired = subst (λ (left : List ℕ). Fired left J c.args.x.now) (sym (c.fill.ensures.after (λ y h. h))) (none_fired J n c.args.x.now c.requires.room);
+      fired = subst (λ (left : List ℕ). Fired left J c.args.x.now) (sym (c.fill.ensures.after (λ y h. h)))
+          (none_fired J n c.args.x.now c.requires.room);
       room = omega (arith, c.requires.room, c.fill.ensures.len);
     }
 
 pub loop-next-smaller : goal.loop-next-smaller
-loop-next-smaller g c = passes_measure c.args.members.now c.args.x.now c.loop-next.closed c.pass-next.result c.loop-next.invariant.wide c.pass-next.ensures.pass (sym c.eq.ensures ∙ c.if-eq.false)
+loop-next-smaller g c = passes_measure c.args.members.now c.args.x.now c.loop-next.closed c.pass-next.result c.loop-next.invariant.wide
+    c.pass-next.ensures.pass (sym c.eq.ensures ∙ c.if-eq.false)
 
 pub loop-next-preserved : goal.loop-next-preserved
 loop-next-preserved g c = record {
@@ -30,4 +32,5 @@ loop-next-preserved g c = record {
 }
 
 pub returns-then-eq : goal.returns-then-eq
-returns-then-eq g c = passes_end c.args.members.now c.args.x.now c.loop-next.closed c.pass-next.result c.loop-next.invariant.wide c.loop-next.invariant.above c.loop-next.invariant.least c.pass-next.ensures.pass (sym c.eq.ensures ∙ c.if-eq.true)
+returns-then-eq g c = passes_end c.args.members.now c.args.x.now c.loop-next.closed c.pass-next.result c.loop-next.invariant.wide
+    c.loop-next.invariant.above c.loop-next.invariant.least c.pass-next.ensures.pass (sym c.eq.ensures ∙ c.if-eq.true)

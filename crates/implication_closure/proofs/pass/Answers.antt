@@ -28,7 +28,8 @@ loop-k-preserved g c =
           let counted : v ≡ size (minus i.premise C) = w.size.ensures.size ∙ ap size w.minus.ensures in
           let none : v ≡ 0 = sym (get_or-set_same left k v 0 inside) ∙ w.if-left-k-eq0.true in
           swept_same (set left k v) c.if-left-k-ne0.left J A w.join-closed.result c.if-left-k-ne0.closed (k + 1) w.left-is w.closed-is
-          (sweep_joins left J A C k i c.loop-k-test.true c.index-members-k.is c.loop-k.invariant v w.join-closed.result c.requires.wide counted none w.join-closed.ensures)
+          (sweep_joins left J A C k i c.loop-k-test.true c.index-members-k.is c.loop-k.invariant v w.join-closed.result c.requires.wide
+          counted none w.join-closed.ensures)
       | then-left-k-ne0+else-left-k-eq0 w ↦
           let v : ℕ = w.size.result in
           let counted : v ≡ size (minus i.premise C) = w.size.ensures.size ∙ ap size w.minus.ensures in
@@ -42,7 +43,8 @@ loop-k-preserved g c =
 
 pub returns : goal.returns
 returns g c = record {
-  pass = subst (λ Zs. IsPass Zs c.args.x.now c.loop-k.closed) (take_all c.loop-k.k c.args.members.now c.loop-k-test.false) c.loop-k.invariant.pass;
+  pass = subst (λ Zs. IsPass Zs c.args.x.now c.loop-k.closed)
+      (take_all c.loop-k.k c.args.members.now c.loop-k-test.false) c.loop-k.invariant.pass;
   room = c.loop-k.auto.left;
   fired = c.loop-k.invariant.fired;
 }

@@ -13,10 +13,13 @@ pub bounds-self-inside-from-2 : goal.bounds-self-inside-from-2
 bounds-self-inside-from-2 g c = omega (arith, width_is (shown c.self.invariant c.self.view_is), c.requires.inside, c.self.invariant.narrow)
 
 pub invariant_of-self : goal.invariant_of-self
-invariant_of-self g c = block_fits (shown c.self.invariant c.self.view_is) c.args.from c.args.bits c.low_ones.result c.requires.aligned c.requires.inside c.ranges.bits.fits c.low_ones.ensures
+invariant_of-self g c = block_fits (shown c.self.invariant c.self.view_is) c.args.from c.args.bits c.low_ones.result c.requires.aligned
+    c.requires.inside c.ranges.bits.fits c.low_ones.ensures
 
 pub returns-clause-width : goal.returns-clause-width
-returns-clause-width g c = block_wide (shown c.self.invariant c.self.view_is) c.args.from c.args.bits c.low_ones.result c.requires.aligned c.requires.inside c.ranges.bits.fits c.low_ones.ensures
+returns-clause-width g c = block_wide (shown c.self.invariant c.self.view_is) c.args.from c.args.bits c.low_ones.result c.requires.aligned
+    c.requires.inside c.ranges.bits.fits c.low_ones.ensures
 
 pub returns-clause-members : goal.returns-clause-members
-returns-clause-members g c = block_members (shown c.self.invariant c.self.view_is) c.args.from c.args.bits c.low_ones.result c.requires.aligned c.requires.inside c.ranges.bits.fits c.low_ones.ensures
+returns-clause-members g c = block_members (shown c.self.invariant c.self.view_is) c.args.from c.args.bits c.low_ones.result
+    c.requires.aligned c.requires.inside c.ranges.bits.fits c.low_ones.ensures

@@ -28,4 +28,5 @@ loop-k-preserved g c =
 
 pub returns : goal.returns
 returns g c =
-    none_missing (shown c.self.invariant c.self.view_is) (shown c.other.invariant c.other.view_is) c.args.end c.loop-k.k (omega (arith, c.loop-k-test.false)) c.loop-k.invariant
+    none_missing (shown c.self.invariant c.self.view_is) (shown c.other.invariant c.other.view_is) c.args.end c.loop-k.k
+    (omega (arith, c.loop-k-test.false)) c.loop-k.invariant

@@ -21,11 +21,15 @@ overflow_add-members g c =
     )
 
 pub loop-k-preserved : goal.loop-k-preserved
-loop-k-preserved g c = rw add-one (omega (arith, ones_in_more c.self.inside.words c.loop-k.k (omega (arith, c.self.invariant.count, c.words_reached-k-end.ensures.inside))))
+loop-k-preserved g c = rw add-one (omega (
+  arith,
+  ones_in_more c.self.inside.words c.loop-k.k (omega (arith, c.self.invariant.count, c.words_reached-k-end.ensures.inside)),
+))
 
 pub returns : goal.returns
 returns g c =
     let w = shown c.self.invariant c.self.view_is in
     let counted : c.loop-k.members ≡ size c.args.self.now =
-    c.loop-k.invariant ∙ size_reached w c.loop-k.k (omega (arith, c.words_reached-k-end.ensures.inside)) (omega (arith, width_is w, c.words_reached-k-end.ensures.reached)) in
+    c.loop-k.invariant ∙ size_reached w c.loop-k.k (omega (arith, c.words_reached-k-end.ensures.inside))
+    (omega (arith, width_is w, c.words_reached-k-end.ensures.reached)) in
     record { size = counted; at_most = omega (arith, size_le c.args.self.now) }

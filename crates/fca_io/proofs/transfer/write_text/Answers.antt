@@ -20,6 +20,7 @@ loop-rest-preserved g c =
       );
       none = not-empty _ front rest loop.moved.1 some;
       in_part = λ more. part-uncounted rest count _ _ _ more c.in_ok-count.ensures.counted ∙ loop.in_part some;
-      at_once = λ _ done. whole-counted rest count _ _ _ refl c.in_ok-count.ensures.bound done c.in_ok-count.ensures.counted ∙ ap (option_map one_more) (loop.in_part some);
+      at_once = λ _ done. whole-counted rest count _ _ _ refl c.in_ok-count.ensures.bound done c.in_ok-count.ensures.counted
+          ∙ ap (option_map one_more) (loop.in_part some);
       settled = search rules;
     }

@@ -11,5 +11,6 @@ invariant_of-result g c =
       words = c.self.invariant.words;
       narrow = c.self.invariant.narrow;
       even = subst (HaveWidth width) (sym c.in_ok-members.ensures)
-          (list_all-filter_kept (has_width width) (concerns c.args.from c.args.x.now) c.deref.result.now (subst (HaveWidth width) (sym c.deref.ensures.value) c.self.invariant.even));
+          (list_all-filter_kept (has_width width) (concerns c.args.from c.args.x.now) c.deref.result.now
+          (subst (HaveWidth width) (sym c.deref.ensures.value) c.self.invariant.even));
     }

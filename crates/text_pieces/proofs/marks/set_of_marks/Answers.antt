@@ -12,7 +12,8 @@ loop-block-preserved c =
     let last : end ≡ min (length cells) (from + 64) = omega (arith, c.min-end.ensures) in
     let next : end ≡ min (length cells) (64 * (c.loop-block.block + 1)) = omega arith in
     subst (CrossedTo cells c.insert_bits.new.self) next
-    (CrossedTo-block from end c.crosses_of.result cells c.loop-block.set c.insert_bits.new.self (subst (CrossedTo cells c.loop-block.set) start c.loop-block.invariant) (omega arith) last
+    (CrossedTo-block from end c.crosses_of.result cells c.loop-block.set c.insert_bits.new.self
+    (subst (CrossedTo cells c.loop-block.set) start c.loop-block.invariant) (omega arith) last
     c.crosses_of.ensures small c.insert_bits.ensures.width c.insert_bits.ensures.members)
 
 pub returns : goal.returns

@@ -9,7 +9,8 @@ returns-in_err-value c =
     let digits = c.args.digits.now in
     let i = c.loop-digit.digit-index in
     let inside : i < length digits = omega arith in
-    let past : 2 ^ 64 ≤ c.loop-digit.value * 10 + (get_or digits i 0 - 48) = in_64_bits-none _ (sym c.with_digit.ensures ∙ c.in_err-value.was) in
+    let past : 2 ^ 64 ≤ c.loop-digit.value * 10 + (get_or digits i 0 - 48) =
+    in_64_bits-none _ (sym c.with_digit.ensures ∙ c.in_err-value.was) in
     let IsPast : ℕ → Type 0 = λ n. 2 ^ 64 ≤ n * 10 + (get_or digits i 0 - 48) in
     c.from_residual.ensures ∙ sym (in_64_bits-past digits i 0 inside (subst IsPast c.loop-digit.invariant.0 past))
 
