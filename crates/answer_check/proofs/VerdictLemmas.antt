@@ -1,15 +1,18 @@
 -- Why a verdict stands for the reply of the step. The step looks for the first element that passes a test together with its
 -- place, the verdict for the place alone: both find the same place, and the element is the one at it. Then the cases agree
 -- one by one.
-use Rattle.std.proofs.Common.{◌≡◌, ℕ, suc, ◌+◌, ◌<◌, Bool, true, false, cond, Option, Some, None, List, [], ◌∷◌, length, get_or, position, refl, sym, ap, ◌∙◌, subst, arith, inl, inr, ◌⊎◌, not}
+use Rattle.std.proofs.Common.{◌≡◌, ℕ, suc, ◌+◌, ◌<◌, Bool, true, false, cond, Option, Some, None, List, [], ◌∷◌, length, get_or, position}
+use Rattle.std.proofs.Common.{refl, sym, ap, ◌∙◌, subst, arith, inl, inr, ◌⊎◌, not}
 use Rattle.std.proofs.lemmas.Bool.{cases_Bool}
 use Rattle.std.proofs.lemmas.Iterator.Adapters.{position_from-zero}
 use Rattle.std.specs.List.{position_from}
 use Rattle.fca_model.specs.Sets.{Set, within, same}
 use Rattle.fca_model.specs.Implications.{Rule, rule, respects, refutes}
-use Rattle.fca_model.specs.Exploration.{State, rules_of, first_with, first_missing, row_reply, confirm_reply, confirm_unrefuted, confirm_unheard}
+use Rattle.fca_model.specs.Exploration.{State, rules_of, first_with, first_missing, row_reply, confirm_reply, confirm_unrefuted}
+use Rattle.fca_model.specs.Exploration.{confirm_unheard}
 use Rattle.fca_model.specs.Exploration as step
-use Rattle.answer_check.specs.Verdicts.{reply_to_row, reply_to_confirmation, row_verdict, row_fitting, row_refuting, row_unbroken, row_unanswered, confirm_verdict, confirmed, unrefuted, IsOnRow, IsOnConfirmation}
+use Rattle.answer_check.specs.Verdicts.{reply_to_row, reply_to_confirmation, row_verdict, row_fitting, row_refuting, row_unbroken}
+use Rattle.answer_check.specs.Verdicts.{row_unanswered, confirm_verdict, confirmed, unrefuted, IsOnRow, IsOnConfirmation}
 
 -- ---- places
 

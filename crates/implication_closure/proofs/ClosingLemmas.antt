@@ -1,6 +1,8 @@
 -- What is joined to a set because a member is broken lies within each superset that respects all members. So where none is
 -- broken any more the set is the least such superset; and each step makes it larger.
-use Rattle.std.proofs.Common.{◌≡◌, ℕ, suc, ◌+◌, ◌-◌, ◌<◌, ◌≤◌, Bool, true, false, not, ◌&&◌, ◌||◌, cond, Some, None, List, [], ◌∷◌, ◌++◌, length, get_or, take, position, refl, sym, ap, ◌∙◌, subst, arith, inl, inr, eqb, eqb-true, lt-ltb, ◌≢◌, zero, set, replicate, get_or-set_same, get_or-set_other, length-set}
+use Rattle.std.proofs.Common.{◌≡◌, ℕ, suc, ◌+◌, ◌-◌, ◌<◌, ◌≤◌, Bool, true, false, not, ◌&&◌, ◌||◌, cond, Some, None, List, [], ◌∷◌, ◌++◌}
+use Rattle.std.proofs.Common.{length, get_or, take, position, refl, sym, ap, ◌∙◌, subst, arith, inl, inr, eqb, eqb-true, lt-ltb, ◌≢◌, zero}
+use Rattle.std.proofs.Common.{set, replicate, get_or-set_same, get_or-set_other, length-set}
 use Rattle.std.proofs.lemmas.Bool.{false≢true, and_parts, and_from, cases_lt, cases_eq}
 use Rattle.std.proofs.lemmas.List.Quantifiers.{position-Some}
 use Rattle.std.proofs.lemmas.List.Sums.{AllPass-from_list_all}
@@ -10,9 +12,10 @@ use Rattle.std.proofs.lemmas.Simd.{get_or-replicate}
 use Rattle.std.specs.List.{list_all, prefix_len}
 use Rattle.fca_model.specs.Sets.{Set, size, within, same, join}
 use Rattle.fca_model.specs.Implications.{Rule, rule, respects, respects_all, follows}
-use Rattle.fca_model.proofs.SetLemmas.{within_refl, within_trans, strictly_from, size_strict, length-join, within-join, within-join_right, join_within, size_le, same-true, same_from, all_sets_at, all_sets_from}
+use Rattle.fca_model.proofs.SetLemmas.{within_refl, within_trans, strictly_from, size_strict, length-join, within-join, within-join_right}
+use Rattle.fca_model.proofs.SetLemmas.{join_within, size_le, same-true, same_from, all_sets_at, all_sets_from}
 use Rattle.fca_model.proofs.ClosureLemmas.{respects_at, respects_from}
-use Rattle.fca_model.proofs.ListLemmas.{list_all-mono, bool_iff, implies_at, implies_from}
+use Rattle.fca_model.proofs.ListLemmas.{list_all-mono, bool_iff, implies_at, implies_from, not_implies-parts, not_not}
 use Rattle.implication_closure.specs.Closing.{has_width, HaveWidth, IsClosure, IsPass, Fired}
 use Rattle.attr_bits.specs.Difference.{minus}
 
@@ -40,22 +43,12 @@ position_none p xs h = elim (cases_lt (prefix_len (λ x. not (p x)) xs) (length 
     some_none : {n : ℕ} → Some n ≡ None → ⊥
     some_none e = cc
 
--- not (not a || b) gives both a and not b
-broken_parts : (a b : Bool) → not (not a || b) ≡ true → (a ≡ true) × (b ≡ false)
-broken_parts true true h = absurd (false≢true h)
-broken_parts true false h = (refl, refl)
-broken_parts false b h = absurd (false≢true h)
-
-respected : (b : Bool) → not (not b) ≡ true → b ≡ true
-respected true h = refl
-respected false h = absurd (false≢true h)
-
 module _ (J : List Rule) (A : Set) (wide : HaveWidth (length A) J) where
   broken_at : (C : Set) (i : ℕ) (j : Rule) → position (broken C) J ≡ Some i → j ≡ get_or J i j
       → (i < length J) × (within j.premise C ≡ true) × (within j.conclusion C ≡ false) × (length j.conclusion ≡ length A)
   broken_at C i j at is =
       let there = position-Some (broken C) J i j at in
-      let parts = broken_parts (within j.premise C) (within j.conclusion C) (ap (broken C) is ∙ there.1) in
+      let parts = not_implies-parts (within j.premise C) (within j.conclusion C) (ap (broken C) is ∙ there.1) in
       let widths = and_parts (eqb (length j.premise) (length A)) (eqb (length j.conclusion) (length A))
       (ap (has_width (length A)) is ∙ AllPass-from_list_all (has_width (length A)) J wide i j there.0) in
       (there.0, parts.0, parts.1, eqb-true (length j.conclusion) (length A) widths.1)
@@ -87,7 +80,7 @@ module _ (J : List Rule) (A : Set) (wide : HaveWidth (length A) J) where
   closed_end C e up least none = record {
     wide = e;
     above = up;
-    respecting = list_all-mono (λ i. not (broken C i)) (respects C) (λ i h. respected (respects C i) h) J (position_none (broken C) J none);
+    respecting = list_all-mono (λ i. not (broken C i)) (respects C) (λ i h. not_not (respects C i) h) J (position_none (broken C) J none);
     least = least;
   }
 

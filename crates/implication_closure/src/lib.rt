@@ -297,9 +297,18 @@ fn concerns<const W: usize>(from: u32, x: &Bits<W>, i: &ImplicationOf<W>) -> boo
 fn first_broken<const W: usize>(members: &[ImplicationOf<W>], row: &Bits<W>) -> Option<usize>
     ensures { result ≡ position (λ i. not (respects row.now i)) members.now }
 {
-    members
-        .iter()
-        .position(|i| i.premise.within(row) && !i.conclusion.within(row))
+    members.iter().position(
+        |i: &ImplicationOf<W>| -> bool
+            ensures { result ≡ not (respects row.entry.now i.now) }
+        { !respects(row, i) },
+    )
+}
+
+/// Whether the row respects the implication.
+fn respects<const W: usize>(row: &Bits<W>, i: &ImplicationOf<W>) -> bool
+    ensures { result ≡ respects row.now i.now }
+{
+    !i.premise.within(row) || i.conclusion.within(row)
 }
 
 /// The least superset that respects every member. Each step takes the first member that the set does not respect.

@@ -1,5 +1,6 @@
 -- Blanks at the ends of a line.
-use Rattle.std.proofs.Common.{◌≡◌, ◌∙◌, ◌<◌, ◌-◌, ◌++◌, ◌∷◌, ◌&&◌, [], ℕ, suc, Bool, true, false, length, take, get_or, refl, sym, ap, inl, inr, arith}
+use Rattle.std.proofs.Common.{◌≡◌, ◌∙◌, ◌<◌, ◌-◌, ◌++◌, ◌∷◌, ◌&&◌, [], ℕ, suc, Bool, true, false, length, take, get_or, refl, sym, ap, inl}
+use Rattle.std.proofs.Common.{inr, arith}
 use Rattle.std.proofs.lemmas.Bool.{cases_Bool}
 use Rattle.fca_model.specs.Tables.{Text}
 use Rattle.text_pieces.specs.Blanks.{is_blank, is_blank_line, without_blanks_after}

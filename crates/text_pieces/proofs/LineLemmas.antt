@@ -1,6 +1,8 @@
 -- Where lines end. A text is cut at its first line feed, so the lines of a text are the one before it and then the lines of the text
 -- behind it. And lines without a line break, each ended by a line feed, are the lines of their text.
-use Rattle.std.proofs.Common.{◌≡◌, ◌≢◌, ◌∙◌, ◌<◌, ◌≤◌, ◌+◌, ◌-◌, ℕ, zero, suc, Bool, true, false, not, cond, List, [], ◌∷◌, ◌++◌, Option, Some, None, MatchOption, Bor, IsUtf8, map, length, take, drop, get_or, refl, sym, ap, ap₂, subst, inl, inr, arith, length-append}
+use Rattle.std.proofs.Common.{◌≡◌, ◌≢◌, ◌∙◌, ◌<◌, ◌≤◌, ◌+◌, ◌-◌, ℕ, zero, suc, Bool, true, false, not, cond, List, [], ◌∷◌, ◌++◌, Option}
+use Rattle.std.proofs.Common.{Some, None, MatchOption, Bor, IsUtf8, map, length, take, drop, get_or, refl, sym, ap, ap₂, subst, inl, inr}
+use Rattle.std.proofs.Common.{arith, length-append}
 use Rattle.std.proofs.Math.ListN.{drop_of_length-le}
 use Rattle.std.proofs.Math.Seq.{take-append_seam, get_or-append_seam}
 use Rattle.std.specs.List.{slice_split, list_any, before_first, after_first, position_or_len, onto_first}

@@ -1,6 +1,7 @@
 -- How marks are read and written. The crosses of a block of bytes become the bits of a number, and these are put into the set at their
 -- places; marks are filled in place by place. What is written of a set marks it.
-use Rattle.std.proofs.Common.{◌≡◌, ◌∙◌, ◌<◌, ◌≤◌, ◌+◌, ◌-◌, ◌^◌, ◌∷◌, [], List, ℕ, suc, Bool, true, false, ◌&&◌, ◌||◌, cond, eqb, nat_le, map, length, drop, take, get_or, replicate, refl, ap, ap₂, inl, inr, arith, min}
+use Rattle.std.proofs.Common.{◌≡◌, ◌∙◌, ◌<◌, ◌≤◌, ◌+◌, ◌-◌, ◌^◌, ◌∷◌, [], List, ℕ, suc, Bool, true, false, ◌&&◌, ◌||◌, cond, eqb, nat_le}
+use Rattle.std.proofs.Common.{map, length, drop, take, get_or, replicate, refl, ap, ap₂, inl, inr, arith, min}
 use Rattle.std.specs.Int.{bit_at}
 use Rattle.std.specs.List.{list_all, list_any}
 use Rattle.std.proofs.lemmas.Bool.{cases_lt, le-leb, lt-leb}
@@ -10,6 +11,7 @@ use Rattle.std.proofs.lemmas.Nat.Bits.{bit_at_above}
 use Rattle.std.proofs.lemmas.Simd.{bit_mask_l}
 use Rattle.std.specs.Simd.Lanes.{mask_l}
 use Rattle.fca_model.specs.Sets.{Set}
+use Rattle.fca_model.proofs.ListLemmas.{eqb-cond}
 use Rattle.fca_model.specs.Tables.{Text}
 use Rattle.text_pieces.specs.Marks.{is_cross, is_mark, mark_of, marks_of}
 use Rattle.text_pieces.specs.Words.{is_space}
@@ -23,11 +25,7 @@ cross_at cells k = is_cross (get_or cells k 0)
 
 -- one bit of the mask of some lanes
 pub is_set-mask_l : (lanes : List Bool) (j : ℕ) → eqb (bit_at (mask_l lanes) j) 1 ≡ get_or lanes j false
-is_set-mask_l lanes j = ap (λ x. eqb x 1) (bit_mask_l lanes j) ∙ one (get_or lanes j false)
-  where
-    one : (b : Bool) → eqb (cond b 1 0) 1 ≡ b
-    one true = refl
-    one false = refl
+is_set-mask_l lanes j = ap (λ x. eqb x 1) (bit_mask_l lanes j) ∙ eqb-cond (get_or lanes j false)
 
 -- ---- all blocks
 
