@@ -10,7 +10,7 @@ use Rattle.explore_state.specs.History.{History, state_of, open_of}
 use Rattle.expert_wire.specs.Replies.{numbered_rule}
 use Rattle.expert_wire.specs.Texts.{line_end}
 use Rattle.expert_scripts.specs.Transcripts.{transcript}
-use Rattle.report_texts.specs.Reports.{counted}
+use Rattle.report_texts.specs.Reports.{count_line}
 use Rattle.std.specs.List.{flat_map, enumerate_from}
 use Rattle.basis_report.specs.Explorations.{recorded_section, accepted_section, open_section, basis_section, sections, state_of_text, explore_text, transcript_of, lists_of, basis_of}
 
@@ -21,11 +21,11 @@ sections-known attributes H s S e =
     ap (λ K. recorded_section H ++ (accepted_section attributes (length K) s.accepted ++ (open_section attributes (open_questions K s.context s.accepted) ++ basis_section attributes s.accepted (open_questions K s.context s.accepted)))) e
 
 -- the head of the accepted implications, before any of them
-pub accepted_section-begun : (attributes : List Text) (k : ℕ) (acc : List Rule) (before after : Text) → after ≡ before ++ counted (codes "# accepted ") (length acc)
+pub accepted_section-begun : (attributes : List Text) (k : ℕ) (acc : List Rule) (before after : Text) → after ≡ before ++ count_line (codes "# accepted ") (length acc)
     → after ++ flat_map (λ x. (codes "# " ++ numbered_rule attributes x.0 x.1) ++ line_end) (enumerate_from (k + 0) acc) ≡ before ++ accepted_section attributes k acc
 accepted_section-begun attributes k acc before after e =
     let lines : ℕ → Text = λ n. flat_map (λ x. (codes "# " ++ numbered_rule attributes x.0 x.1) ++ line_end) (enumerate_from n acc) in
-    let head = counted (codes "# accepted ") (length acc) in
+    let head = count_line (codes "# accepted ") (length acc) in
     let same : k + 0 ≡ k = omega arith in
     ap (λ z. z ++ lines (k + 0)) e ∙ append_assoc before head (lines (k + 0)) ∙ ap (λ n. before ++ (head ++ lines n)) same
 

@@ -24,7 +24,7 @@ use Rattle.fca_model.proofs.RunLemmas.{legal_valid}
 use Rattle.fca_model.proofs.ValidLemmas.{opening_valid}
 use Rattle.fca_model.proofs.CourseLemmas.{run_settings}
 use Rattle.expert_scripts.specs.Transcripts.{transcript}
-use Rattle.report_texts.specs.Reports.{counted, arrow_lines}
+use Rattle.report_texts.specs.Reports.{count_line, arrow_lines}
 use Rattle.basis_report.specs.Explorations.{recorded_section, accepted_section, open_section, in_lectic_order, basis_lines, basis_section, state_of_text, explore_text, text_before_basis}
 use Rattle.basis_report.proofs.ExplorationLemmas.{sections-known}
 
@@ -192,7 +192,7 @@ in_lectic_order-basis S K acc h done = accepted_sorted S K acc h done (in_lectic
 pub basis_section-basis : (attributes : List Text) (S : List Rule) (K : Context) (acc : List Rule) → IsAccepted S K acc → open_questions S K acc ≡ []
     → basis_section attributes acc [] ≡ basis_lines attributes (basis_known S K)
 basis_section-basis attributes S K acc h done =
-    ap₂ (λ n J. counted (codes "# basis ") n ++ arrow_lines (codes "# ") attributes J) (accepted_length S K acc h done) (in_lectic_order-basis S K acc h done)
+    ap₂ (λ n J. count_line (codes "# basis ") n ++ arrow_lines (codes "# ") attributes J) (accepted_length S K acc h done) (in_lectic_order-basis S K acc h done)
 
 -- a legal history that leaves no question open
 pub finished_basis : (t : NamedContext) (settings : Settings) (H : List SetEntry) → rows_respect settings.known t.context ≡ true → IsLegal (opening t.context t.objects settings) H

@@ -15,16 +15,16 @@ use Rattle.expert_wire.specs.Replies.{numbered_rule}
 use Rattle.expert_wire.specs.Words.{is_name}
 use Rattle.expert_wire.proofs.ReadLemmas.{pattern_no_break}
 use Rattle.expert_wire.proofs.SkipLemmas.{Skips, Skips-nil, Skips-append, Skips-comment, Skips-flat_map, no_break-append, no_break-decimal, no_break-name, no_break-arrow, no_break-full, no_break-rule}
-use Rattle.expert_scripts.specs.Scripts.{EachCanBeSaid, IsNamed, script_form}
-use Rattle.expert_scripts.specs.Transcripts.{AreNames, CanBeTold, transcript}
+use Rattle.expert_scripts.specs.Scripts.{EachEventCanBeWritten, IsNamed, script_form}
+use Rattle.expert_scripts.specs.Transcripts.{AreNames, SettingsCanBeWritten, transcript}
 use Rattle.expert_scripts.proofs.TranscriptLemmas.{are_names, script_form-transcript}
-use Rattle.report_texts.specs.Reports.{counted, arrow_line, arrow_lines}
-use Rattle.basis_report.specs.Explorations.{is_recorded, recorded_line, recorded_section, accepted_section, open_section, in_lectic_order, basis_section, sections, state_of_text, explore_text, said_in, Spells, EachNamed}
+use Rattle.report_texts.specs.Reports.{count_line, arrow_line, arrow_lines}
+use Rattle.basis_report.specs.Explorations.{is_recorded, recorded_line, recorded_section, accepted_section, open_section, in_lectic_order, basis_section, sections, state_of_text, explore_text, content_or_plain, Spells, EachNamed}
 
 -- ---- each section is skipped
 
-pub Skips-counted : (words : Text) (n : ℕ) → list_any is_line_break words ≡ false → Skips (counted (codes "# " ++ words) n)
-Skips-counted words n h = subst Skips (ap (λ t. codes "# " ++ t) (append_assoc words (decimal n) line_end)) (Skips-comment (words ++ decimal n) (no_break-append words (decimal n) h (no_break-decimal n)))
+pub Skips-count_line : (words : Text) (n : ℕ) → list_any is_line_break words ≡ false → Skips (count_line (codes "# " ++ words) n)
+Skips-count_line words n h = subst Skips (ap (λ t. codes "# " ++ t) (append_assoc words (decimal n) line_end)) (Skips-comment (words ++ decimal n) (no_break-append words (decimal n) h (no_break-decimal n)))
 
 grouped : (a b c : Text) → codes "# " ++ ((a ++ (codes " " ++ (b ++ (codes " " ++ c)))) ++ line_end) ≡ codes "# " ++ (a ++ (codes " " ++ (b ++ (codes " " ++ (c ++ line_end)))))
 grouped a b c = simp append_assoc
@@ -45,16 +45,16 @@ Skips-recorded_lines (entry ∷ H) h =
 Skips-recorded_section : (H : List SetEntry) → EachNamed H → Skips (recorded_section H)
 Skips-recorded_section H h =
     let n = length (filter (λ entry. is_recorded entry.event entry.reply) H) in
-    Skips-append (counted (codes "# recorded ") n) (flat_map (λ entry. recorded_line entry.event entry.reply) H) (Skips-counted (codes "recorded ") n refl) (Skips-recorded_lines H h)
+    Skips-append (count_line (codes "# recorded ") n) (flat_map (λ entry. recorded_line entry.event entry.reply) H) (Skips-count_line (codes "recorded ") n refl) (Skips-recorded_lines H h)
 
 Skips-accepted_section : (attributes : List Text) (k : ℕ) (acc : List Rule) → list_all is_name attributes ≡ true → Skips (accepted_section attributes k acc)
 Skips-accepted_section attributes k acc h =
-    Skips-append (counted (codes "# accepted ") (length acc)) (flat_map (λ x. (codes "# " ++ numbered_rule attributes x.0 x.1) ++ line_end) (enumerate_from k acc)) (Skips-counted (codes "accepted ") (length acc) refl)
+    Skips-append (count_line (codes "# accepted ") (length acc)) (flat_map (λ x. (codes "# " ++ numbered_rule attributes x.0 x.1) ++ line_end) (enumerate_from k acc)) (Skips-count_line (codes "accepted ") (length acc) refl)
     (Skips-flat_map (λ x. (codes "# " ++ numbered_rule attributes x.0 x.1) ++ line_end) (enumerate_from k acc) (λ x. Skips-comment (numbered_rule attributes x.0 x.1) (no_break-rule attributes x.0 x.1 h)))
 
 Skips-open_section : (attributes : List Text) (J : List Rule) → list_all is_name attributes ≡ true → Skips (open_section attributes J)
 Skips-open_section attributes J h =
-    Skips-append (counted (codes "# open ") (length J)) (flat_map (λ i. (codes "# " ++ full_text attributes i) ++ line_end) J) (Skips-counted (codes "open ") (length J) refl)
+    Skips-append (count_line (codes "# open ") (length J)) (flat_map (λ i. (codes "# " ++ full_text attributes i) ++ line_end) J) (Skips-count_line (codes "open ") (length J) refl)
     (Skips-flat_map (λ i. (codes "# " ++ full_text attributes i) ++ line_end) J (λ i. Skips-comment (full_text attributes i) (no_break-full attributes i h)))
 
 Skips-arrow : (attributes : List Text) (place : ℕ) (i : Rule) → list_all is_name attributes ≡ true → Skips (arrow_line (codes "# ") attributes place i)
@@ -68,7 +68,7 @@ Skips-arrow attributes place i h =
 Skips-basis_section : (attributes : List Text) (acc J : List Rule) → list_all is_name attributes ≡ true → Skips (basis_section attributes acc J)
 Skips-basis_section attributes acc (q ∷ J) h = Skips-nil
 Skips-basis_section attributes acc [] h =
-    Skips-append (counted (codes "# basis ") (length acc)) (arrow_lines (codes "# ") attributes (in_lectic_order acc)) (Skips-counted (codes "basis ") (length acc) refl)
+    Skips-append (count_line (codes "# basis ") (length acc)) (arrow_lines (codes "# ") attributes (in_lectic_order acc)) (Skips-count_line (codes "basis ") (length acc) refl)
     (Skips-flat_map (λ x. arrow_line (codes "# ") attributes x.0 x.1) (enumerate_from 0 (in_lectic_order acc)) (λ x. Skips-arrow attributes x.0 x.1 h))
 
 pub Skips-sections : (attributes : List Text) (H : List SetEntry) (s : State) → list_all is_name attributes ≡ true → EachNamed H → Skips (sections attributes H s)
@@ -82,7 +82,7 @@ Skips-sections attributes H s names named =
 
 -- ---- the events are those of the history
 
-pub each_said : (n : ℕ) (H : List SetEntry) → list_all (λ entry. is_expert (expert_of entry.event)) H ≡ true → list_all (λ entry. has_width n entry.event) H ≡ true → EachNamed H → EachCanBeSaid n H
+pub each_said : (n : ℕ) (H : List SetEntry) → list_all (λ entry. is_expert (expert_of entry.event)) H ≡ true → list_all (λ entry. has_width n entry.event) H ≡ true → EachNamed H → EachEventCanBeWritten n H
 each_said n [] experts widths named = tt
 each_said n (entry ∷ H) experts widths named =
     let e = and_parts (is_expert (expert_of entry.event)) (list_all (λ x. is_expert (expert_of x.event)) H) experts in
@@ -92,7 +92,7 @@ each_said n (entry ∷ H) experts widths named =
 -- ---- the whole
 
 -- whatever is skipped may stand behind the text
-pub spelled-more : (t : NamedContext) (settings : Settings) (H : List SetEntry) (more : Text) → AreNames t.attributes → CanBeTold t.context.width settings → EachNamed H
+pub spelled-more : (t : NamedContext) (settings : Settings) (H : List SetEntry) (more : Text) → AreNames t.attributes → SettingsCanBeWritten t.context.width settings → EachNamed H
     → IsLegal (opening t.context t.objects settings) H → Skips more → Spells t settings H (explore_text t settings H ++ more)
 unfolding explore_text
 spelled-more t settings H more names can named legal skips =
@@ -101,12 +101,12 @@ spelled-more t settings H more names can named legal skips =
     let behind = Skips-append found more (Skips-sections t.attributes H (state_of_text t settings H) (are_names t.attributes names) named) skips in
     let said = ap (λ text. script_form text n) (append_assoc (transcript t.attributes settings H) found more)
     ∙ script_form-transcript n t.attributes settings H (found ++ more) names can (each_said n H legal.experts legal.widths named) behind in record {
-      script = said ∙ ap (λ r. Ok (said_in r)) (sym said);
-      history = ap (λ r. journal_of (opening t.context t.objects (said_in r).settings) (said_in r).events) said ∙ legal.replayed;
-      settings = ap (λ r. (said_in r).settings) said;
+      script = said ∙ ap (λ r. Ok (content_or_plain r)) (sym said);
+      history = ap (λ r. journal_of (opening t.context t.objects (content_or_plain r).settings) (content_or_plain r).events) said ∙ legal.replayed;
+      settings = ap (λ r. (content_or_plain r).settings) said;
     }
 
-pub spelled-explore_text : (t : NamedContext) (settings : Settings) (H : List SetEntry) → AreNames t.attributes → CanBeTold t.context.width settings → EachNamed H
+pub spelled-explore_text : (t : NamedContext) (settings : Settings) (H : List SetEntry) → AreNames t.attributes → SettingsCanBeWritten t.context.width settings → EachNamed H
     → IsLegal (opening t.context t.objects settings) H → Spells t settings H (explore_text t settings H)
 spelled-explore_text t settings H names can named legal =
     subst (Spells t settings H) (append-nil (explore_text t settings H)) (spelled-more t settings H [] names can named legal Skips-nil)

@@ -17,7 +17,7 @@ use Rattle.implication_closure.specs.Closing.{RuleList, has_width, HaveWidth}
 use Rattle.implication_closure.proofs.ClosingLemmas.{position_none}
 use Rattle.canonical_basis.specs.Derivations.{premise_at, conclusion_at, is_sound, derivation, derivation_within}
 use Rattle.canonical_basis.proofs.DerivationLemmas.{derivation_none, derivation_sound}
-use Rattle.basis_report.specs.Verdicts.{first_refuting, verdict, held_text, refuted_text, follows_text}
+use Rattle.basis_report.specs.Verdicts.{first_refuting, verdict, derivation_text, refutation_text, follows_text}
 
 none_any : {X : Type 0} (p : X → Bool) (xs : List X) → list_all (λ x. not (p x)) xs ≡ true → list_any p xs ≡ false
 none_any p [] h = refl
@@ -70,7 +70,7 @@ basis_wide K = basis_all [] K (has_width K.width)
 -- ---- the verdict
 
 pub verdict_held : (t : NamedContext) (P C : Set) → length P ≡ t.context.width → length C ≡ t.context.width → holds t.context (rule P C) ≡ true
-    → (steps : List ℕ) × (is_sound (basis t.context) P C steps ≡ true) × (follows_text t (basis t.context) P C ≡ held_text t.attributes (basis t.context) steps)
+    → (steps : List ℕ) × (is_sound (basis t.context) P C steps ≡ true) × (follows_text t (basis t.context) P C ≡ derivation_text t.attributes (basis t.context) steps)
 unfolding follows_text
 verdict_held t P C p c h = go (derivation_within (suc n) J P C) refl
   where
@@ -81,12 +81,12 @@ verdict_held t P C p c h = go (derivation_within (suc n) J P C) refl
     J = basis t.context
 
     go : (o : Option (List ℕ)) → derivation_within (suc n) J P C ≡ o
-        → (steps : List ℕ) × (is_sound J P C steps ≡ true) × (verdict t J (first_refuting t (rule P C)) (derivation_within (suc n) J P C) ≡ held_text t.attributes J steps)
+        → (steps : List ℕ) × (is_sound J P C steps ≡ true) × (verdict t J (first_refuting t (rule P C)) (derivation_within (suc n) J P C) ≡ derivation_text t.attributes J steps)
     go None is = absurd (false≢true (sym ((derivation_none n J (basis_wide t.context) C P p None (sym is)).0 refl) ∙ sym (follows_holds [] t.context (rule P C) p c refl) ∙ h))
     go (Some steps) is = (steps, derivation_sound J C (suc n) P steps is, ap₂ (verdict t J) (none_refutes t.context (rule P C) c h) is)
 
 pub verdict_refuted : (t : NamedContext) (P C : Set) → length C ≡ t.context.width → holds t.context (rule P C) ≡ false
-    → (place : ℕ) × (first_refuting t (rule P C) ≡ Some place) × (follows_text t (basis t.context) P C ≡ refuted_text t place)
+    → (place : ℕ) × (first_refuting t (rule P C) ≡ Some place) × (follows_text t (basis t.context) P C ≡ refutation_text t place)
 unfolding follows_text
 verdict_refuted t P C c h = go (first_refuting t (rule P C)) refl
   where
@@ -94,18 +94,18 @@ verdict_refuted t P C c h = go (first_refuting t (rule P C)) refl
     J = basis t.context
 
     go : (o : Option ℕ) → first_refuting t (rule P C) ≡ o
-        → (place : ℕ) × (first_refuting t (rule P C) ≡ Some place) × (verdict t J (first_refuting t (rule P C)) (derivation_within (suc t.context.width) J P C) ≡ refuted_text t place)
+        → (place : ℕ) × (first_refuting t (rule P C) ≡ Some place) × (verdict t J (first_refuting t (rule P C)) (derivation_within (suc t.context.width) J P C) ≡ refutation_text t place)
     go None e = absurd (false≢true (sym h ∙ unrefuted t.context (rule P C) c e))
     go (Some place) e = (place, e, ap (λ o. verdict t J o (derivation_within (suc t.context.width) J P C)) e)
 
 -- ---- as it is written
 
-pub written_refuted : (t : NamedContext) (J : List Rule) (P C : Set) (place : ℕ) (text : Text) → first_refuting t (rule P C) ≡ Some place → text ≡ refuted_text t place → text ≡ follows_text t J P C
+pub written_refuted : (t : NamedContext) (J : List Rule) (P C : Set) (place : ℕ) (text : Text) → first_refuting t (rule P C) ≡ Some place → text ≡ refutation_text t place → text ≡ follows_text t J P C
 unfolding follows_text
 written_refuted t J P C place text found e = e ∙ sym (ap (λ o. verdict t J o (derivation_within (suc t.context.width) J P C)) found)
 
 pub written_held : (t : NamedContext) (L : RuleList) (P C : Set) (steps : List ℕ) (text : Text) → L.width ≡ t.context.width → first_refuting t (rule P C) ≡ None
-    → derivation L P C ≡ Some steps → text ≡ held_text t.attributes L.members steps → text ≡ follows_text t L.members P C
+    → derivation L P C ≡ Some steps → text ≡ derivation_text t.attributes L.members steps → text ≡ follows_text t L.members P C
 unfolding follows_text
 written_held t L P C steps text wide none derived e =
     e ∙ sym (ap₂ (verdict t L.members) none (ap (λ n. derivation_within (suc n) L.members P C) (sym wide) ∙ derived))

@@ -10,11 +10,11 @@ use Rattle.fca_model.specs.Implications.{Rule, rule}
 use Rattle.expert_wire.specs.Texts.{ordinal, pattern}
 use Rattle.expert_wire.specs.Replies.{numbered_rule}
 use Rattle.oracle_expert.specs.Oracles.{Conflicts}
-use Rattle.report_texts.specs.Reports.{counted}
+use Rattle.report_texts.specs.Reports.{count_line}
 use Rattle.basis_report.specs.Comments.{comment_line}
 
 -- a dropped row: whose it is, its place in that expert's table, the row and its object's name there, and the place of the implication that it broke
-pub record Dropped : Type 0 where
+pub record DroppedRow : Type 0 where
   pub expert : ℕ
   pub place : ℕ
   pub row : Set
@@ -22,32 +22,32 @@ pub record Dropped : Type 0 where
   pub broken : ℕ
 
 -- the row at a place of the table, if it was dropped
-abbrev pub dropped_at : ℕ → NamedContext → ℕ → Option ℕ → List Dropped
-dropped_at e D place None = []
-dropped_at e D place (Some k) =
+abbrev pub dropped_rows_at : ℕ → NamedContext → ℕ → Option ℕ → List DroppedRow
+dropped_rows_at e D place None = []
+dropped_rows_at e D place (Some k) =
     record { expert = e; place = place; row = unwrap_or (slice_get D.context.rows place) []; name = unwrap_or (slice_get D.objects place) []; broken = k } ∷ []
 
 -- the dropped rows of a table, by their places
-abbrev pub dropped_of : ℕ → NamedContext → Conflicts → List Dropped
-dropped_of e D conflicts = flat_map (λ x. dropped_at e D x.0 x.1) (enumerate_from 0 conflicts)
+abbrev pub dropped_rows_of : ℕ → NamedContext → Conflicts → List DroppedRow
+dropped_rows_of e D conflicts = flat_map (λ x. dropped_rows_at e D x.0 x.1) (enumerate_from 0 conflicts)
 
 -- those of all oracles, each with its table and its conflicts; the first is that of expert e
-abbrev pub dropped_from : ℕ → List (NamedContext × Conflicts) → List Dropped
-dropped_from e [] = []
-dropped_from e (o ∷ os) = dropped_of e o.0 o.1 ++ dropped_from (e + 1) os
+abbrev pub dropped_rows_from : ℕ → List (NamedContext × Conflicts) → List DroppedRow
+dropped_rows_from e [] = []
+dropped_rows_from e (o ∷ os) = dropped_rows_of e o.0 o.1 ++ dropped_rows_from (e + 1) os
 
 -- `E R PATTERN NAME I ` and the full text of the implication
-abbrev pub conflict_words : List Text → List Rule → Dropped → Text
+abbrev pub conflict_words : List Text → List Rule → DroppedRow → Text
 conflict_words attributes accepted d =
     ordinal d.expert ++ (codes " " ++ (ordinal d.place ++ (codes " " ++ (pattern d.row ++ (codes " " ++ (d.name ++ (codes " "
     ++ numbered_rule attributes d.broken (slice_index_or accepted d.broken (rule [] [])))))))))
 
-abbrev pub conflict_line : List Text → List Rule → Dropped → Text
+abbrev pub conflict_line : List Text → List Rule → DroppedRow → Text
 conflict_line attributes accepted d = comment_line (conflict_words attributes accepted d)
 
-abbrev pub conflicts_section : List Text → List Rule → List Dropped → Text
-conflicts_section attributes accepted ds = counted (codes "# conflicts ") (length ds) ++ flat_map (conflict_line attributes accepted) ds
+abbrev pub conflicts_section : List Text → List Rule → List DroppedRow → Text
+conflicts_section attributes accepted ds = count_line (codes "# conflicts ") (length ds) ++ flat_map (conflict_line attributes accepted) ds
 
 -- the dropped rows of the oracles of all experts, by expert and then by place
 unfoldable pub conflicts_text : List Text → List Rule → List (NamedContext × Conflicts) → Text
-conflicts_text attributes accepted oracles = conflicts_section attributes accepted (dropped_from 0 oracles)
+conflicts_text attributes accepted oracles = conflicts_section attributes accepted (dropped_rows_from 0 oracles)

@@ -12,9 +12,9 @@ use Rattle.explore_state.specs.History.{History, state_of, open_of}
 use Rattle.expert_wire.specs.Texts.{line_end, ordinal, pattern, full_text}
 use Rattle.expert_wire.specs.Replies.{numbered_rule}
 use Rattle.expert_scripts.specs.declared.fault.ScriptFault.{ScriptFault}
-use Rattle.expert_scripts.specs.Scripts.{Said, IsNamed, script_form}
+use Rattle.expert_scripts.specs.Scripts.{ScriptContent, IsNamed, script_form}
 use Rattle.expert_scripts.specs.Transcripts.{transcript}
-use Rattle.report_texts.specs.Reports.{counted, arrow_lines}
+use Rattle.report_texts.specs.Reports.{count_line, arrow_lines}
 use Rattle.basis_report.specs.Comments.{comments}
 
 -- ---- the recorded rows
@@ -31,7 +31,7 @@ recorded_line event reply = []
 
 abbrev pub recorded_section : List SetEntry → Text
 recorded_section H =
-    counted (codes "# recorded ") (length (filter (λ entry. is_recorded entry.event entry.reply) H))
+    count_line (codes "# recorded ") (length (filter (λ entry. is_recorded entry.event entry.reply) H))
     ++ flat_map (λ entry. recorded_line entry.event entry.reply) H
 
 -- ---- implications
@@ -39,26 +39,26 @@ recorded_section H =
 -- the accepted implications, each with its number among the rules, of which k are known beforehand
 abbrev pub accepted_section : List Text → ℕ → List Rule → Text
 accepted_section attributes k acc =
-    counted (codes "# accepted ") (length acc) ++ flat_map (λ x. (codes "# " ++ numbered_rule attributes x.0 x.1) ++ line_end) (enumerate_from k acc)
+    count_line (codes "# accepted ") (length acc) ++ flat_map (λ x. (codes "# " ++ numbered_rule attributes x.0 x.1) ++ line_end) (enumerate_from k acc)
 
 abbrev pub open_section : List Text → List Rule → Text
-open_section attributes J = counted (codes "# open ") (length J) ++ flat_map (λ i. (codes "# " ++ full_text attributes i) ++ line_end) J
+open_section attributes J = count_line (codes "# open ") (length J) ++ flat_map (λ i. (codes "# " ++ full_text attributes i) ++ line_end) J
 
 -- the conclusions by their premises, which are in lectic order
-abbrev pub by_premise : List Rule → List (Set × Set)
-by_premise J = fold (λ entries i. insert_entry lectic_cmp entries i.premise i.conclusion) [] J
+abbrev pub conclusions_by_premise : List Rule → List (Set × Set)
+conclusions_by_premise J = fold (λ entries i. insert_entry lectic_cmp entries i.premise i.conclusion) [] J
 
 -- implications with different premises, in the lectic order of the premises
 abbrev pub in_lectic_order : List Rule → List Rule
-in_lectic_order J = map (λ entry. rule entry.0 entry.1) (by_premise J)
+in_lectic_order J = map (λ entry. rule entry.0 entry.1) (conclusions_by_premise J)
 
 -- the lines of the basis J: how many members it has, and each of them with its number
 abbrev pub basis_lines : List Text → List Rule → Text
-basis_lines attributes J = counted (codes "# basis ") (length J) ++ arrow_lines (codes "# ") attributes J
+basis_lines attributes J = count_line (codes "# basis ") (length J) ++ arrow_lines (codes "# ") attributes J
 
 -- the basis, where no question is open
 abbrev pub basis_section : List Text → List Rule → List Rule → Text
-basis_section attributes acc [] = counted (codes "# basis ") (length acc) ++ arrow_lines (codes "# ") attributes (in_lectic_order acc)
+basis_section attributes acc [] = count_line (codes "# basis ") (length acc) ++ arrow_lines (codes "# ") attributes (in_lectic_order acc)
 basis_section attributes acc (q ∷ J) = []
 
 -- the four sections behind the transcript
@@ -98,21 +98,21 @@ basis_of h = basis_section h.opening.table.attributes (state_of h).accepted (ope
 -- ---- the history that a text spells
 
 -- what a script says, and plain settings alone where it has a fault
-abbrev pub said_in : Result Said ScriptFault → Said
-said_in (Ok said) = said
-said_in (Err fault) = record { settings = plain; events = []; second = None }
+abbrev pub content_or_plain : Result ScriptContent ScriptFault → ScriptContent
+content_or_plain (Ok said) = said
+content_or_plain (Err fault) = record { settings = plain; events = []; second = None }
 
 -- what a text says of the table
-abbrev pub said_by : NamedContext → Text → Said
-said_by t text = said_in (script_form text t.context.width)
+abbrev pub content_of_text : NamedContext → Text → ScriptContent
+content_of_text t text = content_or_plain (script_form text t.context.width)
 
 -- the settings that a text spells
 abbrev pub spelled_settings : NamedContext → Text → Settings
-spelled_settings t text = (said_by t text).settings
+spelled_settings t text = (content_of_text t text).settings
 
 -- the journal of the events that a text says, from the table under the settings that it spells
 abbrev pub spelled : NamedContext → Text → List SetEntry
-spelled t text = journal_of (opening t.context t.objects (spelled_settings t text)) (said_by t text).events
+spelled t text = journal_of (opening t.context t.objects (spelled_settings t text)) (content_of_text t text).events
 
 -- the names of the rows of a history are names
 abbrev pub EachNamed : List SetEntry → Type 0
@@ -121,7 +121,7 @@ EachNamed (entry ∷ H) = IsNamed entry.event × EachNamed H
 
 -- the text is a script, which spells the settings and the history
 pub record Spells (t : NamedContext) (s : Settings) (H : List SetEntry) (text : Text) : Type 0 where
-  pub script : script_form text t.context.width ≡ Ok (said_by t text)
+  pub script : script_form text t.context.width ≡ Ok (content_of_text t text)
   pub history : spelled t text ≡ H
   pub settings : spelled_settings t text ≡ s
 

@@ -42,29 +42,29 @@ basis_json attributes J = compact_text (basis_data attributes J) ++ line_end
 -- ---- the same, written out
 
 -- each text behind a comma
-abbrev pub followed : List Text → Text
-followed [] = []
-followed (x ∷ xs) = codes "," ++ (x ++ followed xs)
+abbrev pub array_tail : List Text → Text
+array_tail [] = []
+array_tail (x ∷ xs) = codes "," ++ (x ++ array_tail xs)
 
 -- the texts in brackets, with a comma between two of them
-abbrev pub bracketed : List Text → Text
-bracketed [] = codes "[]"
-bracketed (x ∷ xs) = codes "[" ++ (x ++ (followed xs ++ codes "]"))
+abbrev pub array_text : List Text → Text
+array_text [] = codes "[]"
+array_text (x ∷ xs) = codes "[" ++ (x ++ (array_tail xs ++ codes "]"))
 
 -- the names in quotation marks
-abbrev pub names_written : List Text → Text
-names_written names = bracketed (map quoted names)
+abbrev pub names_json_text : List Text → Text
+names_json_text names = array_text (map quoted names)
 
-abbrev pub concept_written : NamedContext → Concept → Text
-concept_written t c =
-    codes "{\"extent\":" ++ (names_written (names_at t.objects c.extent) ++ (codes ",\"intent\":" ++ (names_written (names_of t.attributes c.intent) ++ codes "}")))
+abbrev pub concept_json_text : NamedContext → Concept → Text
+concept_json_text t c =
+    codes "{\"extent\":" ++ (names_json_text (names_at t.objects c.extent) ++ (codes ",\"intent\":" ++ (names_json_text (names_of t.attributes c.intent) ++ codes "}")))
 
-abbrev pub concepts_written : NamedContext → List Concept → Text
-concepts_written t cs = codes "{\"concepts\":" ++ (bracketed (map (concept_written t) cs) ++ codes "}\n")
+abbrev pub concepts_json_text : NamedContext → List Concept → Text
+concepts_json_text t cs = codes "{\"concepts\":" ++ (array_text (map (concept_json_text t) cs) ++ codes "}\n")
 
-abbrev pub implication_written : List Text → Rule → Text
-implication_written attributes i =
-    codes "{\"conclusion\":" ++ (names_written (names_of attributes (minus i.conclusion i.premise)) ++ (codes ",\"premise\":" ++ (names_written (names_of attributes i.premise) ++ codes "}")))
+abbrev pub implication_json_text : List Text → Rule → Text
+implication_json_text attributes i =
+    codes "{\"conclusion\":" ++ (names_json_text (names_of attributes (minus i.conclusion i.premise)) ++ (codes ",\"premise\":" ++ (names_json_text (names_of attributes i.premise) ++ codes "}")))
 
-abbrev pub basis_written : List Text → List Rule → Text
-basis_written attributes J = codes "{\"implications\":" ++ (bracketed (map (implication_written attributes) J) ++ codes "}\n")
+abbrev pub basis_json_text : List Text → List Rule → Text
+basis_json_text attributes J = codes "{\"implications\":" ++ (array_text (map (implication_json_text attributes) J) ++ codes "}\n")

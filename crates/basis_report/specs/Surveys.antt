@@ -5,7 +5,7 @@ use Rattle.std.specs.Prelude.{ℕ, ◌++◌, length, codes, sum_by}
 use Rattle.fca_model.specs.Sets.{size}
 use Rattle.fca_model.specs.Context.{Context}
 use Rattle.fca_model.specs.Tables.{Text, NamedContext}
-use Rattle.report_texts.specs.Reports.{counted}
+use Rattle.report_texts.specs.Reports.{count_line}
 
 -- the number of crosses: of pairs of an object and an attribute that it has (Ganter and Wille, the incidence of a context)
 abbrev pub crosses : Context → ℕ
@@ -14,12 +14,12 @@ crosses K = sum_by size K.rows
 -- six numbers, each behind what it counts
 abbrev pub survey_lines : ℕ → ℕ → ℕ → ℕ → ℕ → ℕ → Text
 survey_lines objects attributes crosses concepts basis explored =
-    counted (codes "objects ") objects
-    ++ (counted (codes "attributes ") attributes
-    ++ (counted (codes "crosses ") crosses
-    ++ (counted (codes "concepts ") concepts
-    ++ (counted (codes "basis ") basis
-    ++ counted (codes "explored ") explored))))
+    count_line (codes "objects ") objects
+    ++ (count_line (codes "attributes ") attributes
+    ++ (count_line (codes "crosses ") crosses
+    ++ (count_line (codes "concepts ") concepts
+    ++ (count_line (codes "basis ") basis
+    ++ count_line (codes "explored ") explored))))
 
 -- what is counted of the table, and the numbers of its concepts, of its basis and of what was accepted in an exploration of it
 abbrev pub survey_text : NamedContext → ℕ → ℕ → ℕ → Text

@@ -9,25 +9,25 @@ use Rattle.fca_model.specs.Tables.{Text, NamedContext}
 use Rattle.fca_model.specs.Implications.{Rule, rule, refutes}
 use Rattle.canonical_basis.specs.Derivations.{derivation}
 use Rattle.expert_wire.specs.Texts.{line_end, ordinal, pattern}
-use Rattle.report_texts.specs.Reports.{counted, arrow_line}
+use Rattle.report_texts.specs.Reports.{count_line, arrow_line}
 
 -- a step of a derivation: the number of the implication that is used, and its arrow text
 abbrev pub step_line : List Text → List Rule → ℕ → Text
 step_line attributes J place = arrow_line [] attributes place (slice_index_or J place (rule [] []))
 
 -- the implication holds, by these steps
-abbrev pub held_text : List Text → List Rule → List ℕ → Text
-held_text attributes J steps = codes "holds\n" ++ (counted (codes "steps ") (length steps) ++ flat_map (step_line attributes J) steps)
+abbrev pub derivation_text : List Text → List Rule → List ℕ → Text
+derivation_text attributes J steps = codes "holds\n" ++ (count_line (codes "steps ") (length steps) ++ flat_map (step_line attributes J) steps)
 
 -- the row at the place refutes the implication
-abbrev pub refuted_text : NamedContext → ℕ → Text
-refuted_text t place =
+abbrev pub refutation_text : NamedContext → ℕ → Text
+refutation_text t place =
     codes "refuted " ++ (ordinal place ++ (codes " " ++ (pattern (unwrap_or (slice_get t.context.rows place) []) ++ (codes " " ++ (unwrap_or (slice_get t.objects place) [] ++ line_end)))))
 
 -- by the first row that refutes the implication, if there is one; else by the steps
 abbrev pub verdict : NamedContext → List Rule → Option ℕ → Option (List ℕ) → Text
-verdict t J (Some place) steps = refuted_text t place
-verdict t J None steps = held_text t.attributes J (unwrap_or steps [])
+verdict t J (Some place) steps = refutation_text t place
+verdict t J None steps = derivation_text t.attributes J (unwrap_or steps [])
 
 -- the place of the first row that refutes the implication
 abbrev pub first_refuting : NamedContext → Rule → Option ℕ

@@ -7,7 +7,7 @@ ghost use Rattle.fca_model.specs.Implications.{rule};
 ghost use Rattle.fca_model.specs.Exploration.{rules_of};
 ghost use Rattle.explore_state.specs.History.{state_of};
 ghost use Rattle.basis_report.specs.Comments.{AreComments};
-ghost use Rattle.basis_report.specs.Conflicts.{dropped_at, dropped_of, dropped_from, conflict_line, conflicts_text};
+ghost use Rattle.basis_report.specs.Conflicts.{dropped_rows_at, dropped_rows_of, dropped_rows_from, conflict_line, conflicts_text};
 
 use crate::names::{look_at_attributes, look_at_oracles};
 use attr_bits::Attrs;
@@ -16,7 +16,7 @@ use expert_wire::{Draft, Part};
 use explore_state::{Explore, Implication};
 use fca_model::Memory;
 use oracle_expert::Oracle;
-use report_texts::{object_text, write_counted};
+use report_texts::{object_text, write_count_line};
 use std::alloc::Global;
 
 /// The rows that the oracles of the experts dropped, each with the rule that it broke.
@@ -35,7 +35,12 @@ pub fn conflicts_text(
     let rules = explore.rules();
     let _experts = explore.experts();
     let mut draft = Draft::new(alloc);
-    write_counted(&mut draft, table, b"# conflicts ", count_all(oracles))?;
+    write_count_line(
+        &mut draft,
+        table,
+        b"# conflicts ",
+        count_all_dropped_rows(oracles),
+    )?;
     for (expert, oracle) in oracles.iter().enumerate() {
         write_dropped(&mut draft, table, rules, expert, oracle)?;
     }
@@ -43,20 +48,20 @@ pub fn conflicts_text(
 }
 
 /// How many rows all oracles dropped.
-fn count_all(oracles: &[Oracle]) -> usize
+fn count_all_dropped_rows(oracles: &[Oracle]) -> usize
     requires { length oracles.now < 256 }
-    ensures { result ≡ length (dropped_from 0 (map (λ o. (o.table, o.conflicts)) oracles.now)) }
+    ensures { result ≡ length (dropped_rows_from 0 (map (λ o. (o.table, o.conflicts)) oracles.now)) }
 {
     let mut count = 0;
     for oracle in oracles {
-        count += count_dropped(oracle);
+        count += count_dropped_rows(oracle);
     }
     count
 }
 
 /// How many rows the oracle dropped, whatever the number of its expert is.
-fn count_dropped(oracle: &Oracle) -> usize
-    ensures count { (e : ℕ) → result ≡ length (dropped_of e oracle.now.table oracle.now.conflicts) }
+fn count_dropped_rows(oracle: &Oracle) -> usize
+    ensures count { (e : ℕ) → result ≡ length (dropped_rows_of e oracle.now.table oracle.now.conflicts) }
     ensures few { result ≤ MAX_OBJECTS }
 {
     let mut count = 0;
@@ -76,7 +81,7 @@ fn write_dropped(
     expert: usize,
     oracle: &Oracle,
 ) -> Result<(), Memory>
-    ensures { OnOk result (draft.new ≡ draft.old ++ flat_map (conflict_line table.now.attributes rules.now) (dropped_of expert oracle.now.table oracle.now.conflicts)) }
+    ensures { OnOk result (draft.new ≡ draft.old ++ flat_map (conflict_line table.now.attributes rules.now) (dropped_rows_of expert oracle.now.table oracle.now.conflicts)) }
 {
     let known = oracle.table();
     for place in 0..known.rows().len() {
@@ -98,7 +103,7 @@ fn write_conflict(
     broken: usize,
 ) -> Result<(), Memory>
     requires { place < length known.now.context.rows }
-    ensures { OnOk result (draft.new ≡ draft.old ++ flat_map (conflict_line table.now.attributes rules.now) (dropped_at expert known.now place (Some broken))) }
+    ensures { OnOk result (draft.new ≡ draft.old ++ flat_map (conflict_line table.now.attributes rules.now) (dropped_rows_at expert known.now place (Some broken))) }
 {
     draft.parts(
         table,

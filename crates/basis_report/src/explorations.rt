@@ -3,9 +3,9 @@
 ghost use Rattle.std.specs.Prelude.{◌≡◌, ◌++◌, List, true, length, filter, IfOk, OnOk};
 ghost use Rattle.std.specs.List.{flat_map};
 ghost use Rattle.fca_model.specs.Tables.{Text};
-ghost use Rattle.expert_scripts.specs.Transcripts.{CanBeTold};
+ghost use Rattle.expert_scripts.specs.Transcripts.{SettingsCanBeWritten};
 ghost use Rattle.basis_report.specs.Comments.{are_lines};
-ghost use Rattle.basis_report.specs.Explorations.{SpellsBefore, is_recorded, recorded_line, recorded_section, accepted_section, open_section, by_premise, in_lectic_order, basis_section, explore_text};
+ghost use Rattle.basis_report.specs.Explorations.{SpellsBefore, is_recorded, recorded_line, recorded_section, accepted_section, open_section, conclusions_by_premise, in_lectic_order, basis_section, explore_text};
 
 use crate::names::{look_at_attributes, look_at_rows};
 use attr_bits::Attrs;
@@ -14,7 +14,7 @@ use expert_scripts::write_transcript;
 use expert_wire::{Draft, Part};
 use explore_state::{Entry, Event, Explore, Implication, Question, Reply};
 use fca_model::Memory;
-use report_texts::{write_arrows, write_counted};
+use report_texts::{write_arrows, write_count_line};
 use std::alloc::Global;
 use std::collections::BTreeMap;
 
@@ -23,7 +23,7 @@ use std::collections::BTreeMap;
 pub fn explore_text(alloc: Global, explore: &Explore) -> Result<Vec<u8>, Memory>
     ensures text { IfOk result (λ v. v.items ≡ explore_text explore.now.opening.table explore.now.opening.settings explore.now.journal) }
     ensures reads_back { OnOk result ((lines : List Text) → are_lines lines ≡ true
-        → CanBeTold explore.now.opening.table.context.width explore.now.opening.settings → SpellsBefore explore.now.opening.table explore.now.opening.settings explore.now.journal lines) }
+        → SettingsCanBeWritten explore.now.opening.table.context.width explore.now.opening.settings → SpellsBefore explore.now.opening.table explore.now.opening.settings explore.now.journal lines) }
 {
     let table = explore.table();
     look_at_attributes(table);
@@ -58,14 +58,14 @@ pub(crate) fn write_recorded(
 ) -> Result<(), Memory>
     ensures { OnOk result (draft.new ≡ draft.old ++ recorded_section journal.now) }
 {
-    write_counted(draft, table, b"# recorded ", recorded_count(journal))?;
+    write_count_line(draft, table, b"# recorded ", count_recorded_rows(journal))?;
     for entry in journal {
         write_row(draft, table, entry)?;
     }
     Ok(())
 }
 
-fn recorded_count(journal: &[Entry]) -> usize
+fn count_recorded_rows(journal: &[Entry]) -> usize
     ensures { result ≡ length (filter (λ entry. is_recorded entry.event entry.reply) journal.now) }
 {
     journal.iter().filter(|entry| is_recorded(entry)).count()
@@ -110,7 +110,7 @@ pub(crate) fn write_accepted(
 ) -> Result<(), Memory>
     ensures { OnOk result (draft.new ≡ draft.old ++ accepted_section table.now.attributes (length known.now) accepted.now) }
 {
-    write_counted(draft, table, b"# accepted ", accepted.len())?;
+    write_count_line(draft, table, b"# accepted ", accepted.len())?;
     for (place, implication) in accepted.iter().enumerate() {
         draft.rule(table, b"# ", known.len() + place, implication)?;
     }
@@ -124,7 +124,7 @@ pub(crate) fn write_open(
 ) -> Result<(), Memory>
     ensures { OnOk result (draft.new ≡ draft.old ++ open_section table.now.attributes questions.now) }
 {
-    write_counted(draft, table, b"# open ", questions.len())?;
+    write_count_line(draft, table, b"# open ", questions.len())?;
     for question in questions {
         draft.question(table, b"# ", question)?;
     }
@@ -144,7 +144,7 @@ pub(crate) fn write_basis(
     if !questions.is_empty() {
         return Ok(());
     }
-    write_counted(draft, table, b"# basis ", accepted.len())?;
+    write_count_line(draft, table, b"# basis ", accepted.len())?;
     let ordered = in_lectic_order(alloc, accepted)?;
     write_arrows(draft, table, b"# ", &ordered)
 }
@@ -152,7 +152,7 @@ pub(crate) fn write_basis(
 fn in_lectic_order(alloc: Global, accepted: &[Implication]) -> Result<Vec<Implication>, Memory>
     ensures { IfOk result (λ v. v.items ≡ in_lectic_order accepted.now) }
 {
-    let conclusions = by_premise(alloc, accepted)?;
+    let conclusions = conclusions_by_premise(alloc, accepted)?;
     let mut ordered = Vec::with_capacity(alloc, conclusions.len())?;
     for (premise, conclusion) in &conclusions {
         ordered.push(Implication {
@@ -164,8 +164,11 @@ fn in_lectic_order(alloc: Global, accepted: &[Implication]) -> Result<Vec<Implic
 }
 
 /// The conclusions by their premises.
-fn by_premise(alloc: Global, accepted: &[Implication]) -> Result<BTreeMap<Attrs, Attrs>, Memory>
-    ensures { IfOk result (λ m. m.entries ≡ by_premise accepted.now) }
+fn conclusions_by_premise(
+    alloc: Global,
+    accepted: &[Implication],
+) -> Result<BTreeMap<Attrs, Attrs>, Memory>
+    ensures { IfOk result (λ m. m.entries ≡ conclusions_by_premise accepted.now) }
 {
     let mut conclusions = BTreeMap::new(alloc);
     for implication in accepted {

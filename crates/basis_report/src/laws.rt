@@ -5,7 +5,7 @@ ghost use Rattle.std.specs.List.{list_all};
 ghost use Rattle.fca_model.specs.Tables.{Text, NamedContext};
 ghost use Rattle.fca_model.specs.Exploration.{Settings, SetEntry, IsLegal, opening, open_in};
 ghost use Rattle.expert_wire.specs.Words.{is_name};
-ghost use Rattle.expert_scripts.specs.Transcripts.{AreNames, CanBeTold};
+ghost use Rattle.expert_scripts.specs.Transcripts.{AreNames, SettingsCanBeWritten};
 ghost use Rattle.fca_model.specs.Pseudo.{basis, basis_known};
 ghost use Rattle.fca_model.specs.Invariant.{rows_respect};
 ghost use Rattle.fca_model.specs.Sets.{Set};
@@ -15,25 +15,25 @@ ghost use Rattle.basis_report.specs.Comments.{comments, are_lines};
 ghost use Rattle.oracle_expert.specs.Oracles.{Conflicts};
 ghost use Rattle.basis_report.specs.Conflicts.{conflicts_text};
 ghost use Rattle.lectic_concepts.specs.declared.Concept.{Concept};
-ghost use Rattle.basis_report.specs.Json.{concepts_json, basis_json, concepts_written, basis_written};
+ghost use Rattle.basis_report.specs.Json.{concepts_json, basis_json, concepts_json_text, basis_json_text};
 ghost use Rattle.basis_report.specs.Sessions.{sessions_text};
-ghost use Rattle.basis_report.specs.Verdicts.{first_refuting, held_text, refuted_text, follows_text};
+ghost use Rattle.basis_report.specs.Verdicts.{first_refuting, derivation_text, refutation_text, follows_text};
 ghost use Rattle.basis_report.specs.Explorations.{EachNamed, explore_text, Spells, SpellsBefore, state_of_text, basis_lines, basis_section, text_before_basis};
 
 /// The text of an exploration spells its settings and its history.
 pub fn exploration_reads_back()
-    ensures { (t : NamedContext) (settings : Settings) (H : List SetEntry) → AreNames t.attributes → CanBeTold t.context.width settings → EachNamed H
+    ensures { (t : NamedContext) (settings : Settings) (H : List SetEntry) → AreNames t.attributes → SettingsCanBeWritten t.context.width settings → EachNamed H
         → IsLegal (opening t.context t.objects settings) H → Spells t settings H (explore_text t settings H) }
 {}
 
 /// Lines that begin with `#`, as those of conflicts and of sessions, change nothing of what the text of an exploration before them spells.
 pub fn comments_change_nothing()
-    ensures any { (t : NamedContext) (settings : Settings) (H : List SetEntry) (lines : List Text) → AreNames t.attributes → CanBeTold t.context.width settings → EachNamed H
+    ensures any { (t : NamedContext) (settings : Settings) (H : List SetEntry) (lines : List Text) → AreNames t.attributes → SettingsCanBeWritten t.context.width settings → EachNamed H
         → IsLegal (opening t.context t.objects settings) H → are_lines lines ≡ true → SpellsBefore t settings H lines }
     ensures conflicts { (t : NamedContext) (settings : Settings) (H : List SetEntry) (accepted : List Rule) (oracles : List (NamedContext × Conflicts)) → AreNames t.attributes
-        → CanBeTold t.context.width settings → EachNamed H → IsLegal (opening t.context t.objects settings) H → list_all (λ o. list_all is_name o.0.objects) oracles ≡ true
+        → SettingsCanBeWritten t.context.width settings → EachNamed H → IsLegal (opening t.context t.objects settings) H → list_all (λ o. list_all is_name o.0.objects) oracles ≡ true
         → Spells t settings H (explore_text t settings H ++ conflicts_text t.attributes accepted oracles) }
-    ensures sessions { (t : NamedContext) (settings : Settings) (H : List SetEntry) (endings : List Text) → AreNames t.attributes → CanBeTold t.context.width settings → EachNamed H
+    ensures sessions { (t : NamedContext) (settings : Settings) (H : List SetEntry) (endings : List Text) → AreNames t.attributes → SettingsCanBeWritten t.context.width settings → EachNamed H
         → IsLegal (opening t.context t.objects settings) H → are_lines endings ≡ true → Spells t settings H (explore_text t settings H ++ sessions_text endings) }
 {}
 
@@ -50,13 +50,13 @@ pub fn finished_ends_with_basis()
 /// The verdict on an implication is right: where it holds, a sound derivation from the basis is told, and else the first row that refutes it.
 pub fn verdict_is_right()
     ensures held { (t : NamedContext) (P C : Set) → length P ≡ t.context.width → length C ≡ t.context.width → holds t.context (rule P C) ≡ true
-        → (steps : List ℕ) × (is_sound (basis t.context) P C steps ≡ true) × (follows_text t (basis t.context) P C ≡ held_text t.attributes (basis t.context) steps) }
+        → (steps : List ℕ) × (is_sound (basis t.context) P C steps ≡ true) × (follows_text t (basis t.context) P C ≡ derivation_text t.attributes (basis t.context) steps) }
     ensures refuted { (t : NamedContext) (P C : Set) → length C ≡ t.context.width → holds t.context (rule P C) ≡ false
-        → (place : ℕ) × (first_refuting t (rule P C) ≡ Some place) × (follows_text t (basis t.context) P C ≡ refuted_text t place) }
+        → (place : ℕ) × (first_refuting t (rule P C) ≡ Some place) × (follows_text t (basis t.context) P C ≡ refutation_text t place) }
 {}
 
 /// The lines of JSON, letter by letter.
 pub fn json_is_written_out()
-    ensures concepts { (t : NamedContext) (cs : List Concept) → concepts_json t cs ≡ concepts_written t cs }
-    ensures basis { (attributes : List Text) (J : List Rule) → basis_json attributes J ≡ basis_written attributes J }
+    ensures concepts { (t : NamedContext) (cs : List Concept) → concepts_json t cs ≡ concepts_json_text t cs }
+    ensures basis { (attributes : List Text) (J : List Rule) → basis_json attributes J ≡ basis_json_text attributes J }
 {}

@@ -3,7 +3,7 @@
 ghost use Rattle.std.specs.Prelude.{◌≡◌, List, true, IfOk, OnOk};
 ghost use Rattle.std.specs.List.{flat_map};
 ghost use Rattle.fca_model.specs.Tables.{Text};
-ghost use Rattle.expert_scripts.specs.Transcripts.{CanBeTold};
+ghost use Rattle.expert_scripts.specs.Transcripts.{SettingsCanBeWritten};
 ghost use Rattle.basis_report.specs.Comments.{are_lines};
 ghost use Rattle.basis_report.specs.Explorations.{SpellsBefore, explore_text, transcript_of, lists_of, basis_of};
 
@@ -26,15 +26,15 @@ pub fn explore_pieces<R: Threads>(
     ensures text { IfOk result (λ pieces. flat_map (λ piece. piece.items) pieces.items
         ≡ explore_text explore.now.opening.table explore.now.opening.settings explore.now.journal) }
     ensures reads_back { OnOk result ((lines : List Text) → are_lines lines ≡ true
-        → CanBeTold explore.now.opening.table.context.width explore.now.opening.settings → SpellsBefore explore.now.opening.table explore.now.opening.settings explore.now.journal lines) }
+        → SettingsCanBeWritten explore.now.opening.table.context.width explore.now.opening.settings → SpellsBefore explore.now.opening.table explore.now.opening.settings explore.now.journal lines) }
 {
     look_at_attributes(explore.table());
     look_at_rows(explore.journal());
-    side_by_side(rt, &alloc, explore)
+    write_pieces(rt, &alloc, explore)
 }
 
 /// The pieces. The allocator is lent, since what threads write would be lost if they held it.
-fn side_by_side<R: Threads>(
+fn write_pieces<R: Threads>(
     rt: &R,
     alloc: &Global,
     explore: &Explore,

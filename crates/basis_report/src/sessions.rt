@@ -7,7 +7,7 @@ ghost use Rattle.basis_report.specs.Sessions.{session_line, sessions_text};
 use context_table::Table;
 use expert_wire::{Draft, Part};
 use fca_model::Memory;
-use report_texts::write_counted;
+use report_texts::write_count_line;
 use std::alloc::Global;
 
 /// The endings of the sessions of all experts in the exploration of the table, in words.
@@ -16,7 +16,7 @@ pub fn sessions_text(alloc: Global, table: &Table, endings: &[&str]) -> Result<V
     ensures skipped { are_lines (map (λ words. words.now) endings.now) ≡ true → IfOk result (λ v. AreComments v.items) }
 {
     let mut draft = Draft::new(alloc);
-    write_counted(&mut draft, table, b"# sessions ", endings.len())?;
+    write_count_line(&mut draft, table, b"# sessions ", endings.len())?;
     for (place, words) in endings.iter().enumerate() {
         write_session(&mut draft, table, place, words)?;
     }

@@ -6,7 +6,7 @@ ghost use Rattle.basis_report.specs.Surveys.{crosses, survey_text};
 use context_table::Table;
 use expert_wire::Draft;
 use fca_model::Memory;
-use report_texts::write_counted;
+use report_texts::write_count_line;
 use std::alloc::Global;
 
 /// How many objects, attributes and crosses the table has, how many concepts and how many implications in its basis; and how many
@@ -35,12 +35,12 @@ fn write_survey(
 ) -> Result<(), Memory>
     ensures { OnOk result (draft.new ≡ draft.old ++ survey_text table.now concepts basis explored) }
 {
-    write_counted(draft, table, b"objects ", table.rows().len())?;
-    write_counted(draft, table, b"attributes ", table.rows().width() as usize)?;
-    write_counted(draft, table, b"crosses ", crosses(table))?;
-    write_counted(draft, table, b"concepts ", concepts)?;
-    write_counted(draft, table, b"basis ", basis)?;
-    write_counted(draft, table, b"explored ", explored)
+    write_count_line(draft, table, b"objects ", table.rows().len())?;
+    write_count_line(draft, table, b"attributes ", table.rows().width() as usize)?;
+    write_count_line(draft, table, b"crosses ", crosses(table))?;
+    write_count_line(draft, table, b"concepts ", concepts)?;
+    write_count_line(draft, table, b"basis ", basis)?;
+    write_count_line(draft, table, b"explored ", explored)
 }
 
 /// How many crosses the table has.

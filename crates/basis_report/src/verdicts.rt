@@ -5,7 +5,7 @@ ghost use Rattle.std.specs.List.{flat_map, list_all};
 ghost use Rattle.fca_model.specs.Implications.{rule, follows};
 ghost use Rattle.fca_model.specs.Pseudo.{basis};
 ghost use Rattle.canonical_basis.specs.Derivations.{derivation, is_sound};
-ghost use Rattle.basis_report.specs.Verdicts.{step_line, held_text, refuted_text, follows_text};
+ghost use Rattle.basis_report.specs.Verdicts.{step_line, derivation_text, refutation_text, follows_text};
 
 use attr_bits::Attrs;
 use canonical_basis::{Derivation, derive};
@@ -13,7 +13,7 @@ use context_table::Table;
 use expert_wire::{Draft, Part};
 use fca_model::Memory;
 use implication_closure::{Implication, ImplicationList};
-use report_texts::{object_text, write_arrow, write_counted};
+use report_texts::{object_text, write_arrow, write_count_line};
 use std::alloc::Global;
 use std::thread::Threads;
 
@@ -31,7 +31,7 @@ pub fn verdict_text<R: Threads + Sync>(
 {
     if let Some(place) = table.rows().refuter(p, c) {
         let mut draft = Draft::new(alloc);
-        write_refuted(&mut draft, table, place)?;
+        write_refutation(&mut draft, table, place)?;
         return Ok(draft.into_bytes());
     }
     let list = canonical_basis::basis(rt, alloc, table.rows())?;
@@ -53,10 +53,10 @@ pub fn follows_text(
 {
     let mut draft = Draft::new(alloc);
     match table.rows().refuter(p, c) {
-        Some(place) => write_refuted(&mut draft, table, place)?,
+        Some(place) => write_refutation(&mut draft, table, place)?,
         None => {
             let derivation = derivation_of(alloc, list, p, c)?;
-            write_held(&mut draft, table, list.as_slice(), derivation.as_slice())?;
+            write_derivation(&mut draft, table, list.as_slice(), derivation.as_slice())?;
         }
     }
     Ok(draft.into_bytes())
@@ -81,26 +81,26 @@ fn derivation_of(
     }
 }
 
-fn write_held(
+fn write_derivation(
     draft: &mut Draft,
     table: &Table,
     members: &[Implication],
     steps: &[usize],
 ) -> Result<(), Memory>
     requires { list_all (λ i. nat_lt i (length members.now)) steps.now ≡ true }
-    ensures { OnOk result (draft.new ≡ draft.old ++ held_text table.now.attributes members.now steps.now) }
+    ensures { OnOk result (draft.new ≡ draft.old ++ derivation_text table.now.attributes members.now steps.now) }
 {
     draft.parts(table, &[Part::Bytes(b"holds\n")])?;
-    write_counted(draft, table, b"steps ", steps.len())?;
+    write_count_line(draft, table, b"steps ", steps.len())?;
     for step in steps {
         write_arrow(draft, table, b"", *step, &members[*step])?;
     }
     Ok(())
 }
 
-fn write_refuted(draft: &mut Draft, table: &Table, place: usize) -> Result<(), Memory>
+fn write_refutation(draft: &mut Draft, table: &Table, place: usize) -> Result<(), Memory>
     requires { place < length table.now.context.rows }
-    ensures { OnOk result (draft.new ≡ draft.old ++ refuted_text table.now place) }
+    ensures { OnOk result (draft.new ≡ draft.old ++ refutation_text table.now place) }
 {
     draft.parts(
         table,

@@ -9,7 +9,7 @@ use Rattle.value_tables.specs.Values.{ValueTable}
 use Rattle.value_tables.specs.Form.{values_form}
 use Rattle.context_scaling.specs.Scaling.{Scaling}
 use Rattle.context_scaling.specs.PlanForm.{plan_form}
-use Rattle.expert_scripts.specs.Scripts.{Said, script_form}
+use Rattle.expert_scripts.specs.Scripts.{ScriptContent, script_form}
 use Rattle.command_io.specs.Readings.{Reading, formed, file_read, input_read}
 
 -- the name of a file in the CSV form
@@ -33,5 +33,5 @@ abbrev pub plan_read : ValueTable → Told → Reading (List Scaling)
 plan_read t told = file_read (λ bytes. formed (plan_form t bytes)) told
 
 -- what the script on the input says, whose rows and patterns have width n
-abbrev pub script_read : ℕ → Option Text → Reading Said
+abbrev pub script_read : ℕ → Option Text → Reading ScriptContent
 script_read n input = input_read (λ bytes. formed (script_form bytes n)) input

@@ -6,8 +6,8 @@ ghost use Rattle.std.specs.Io.KnownBytes.{IsAtEnd};
 ghost use Rattle.fca_model.specs.declared.TheConstants.{MAX_ATTRIBUTES, FILE_BYTES};
 ghost use Rattle.fca_io.specs.Faults.{Rose};
 ghost use Rattle.exploration_terms.specs.Settings.{settings_of};
-ghost use Rattle.expert_scripts.specs.Scripts.{said_of, script_form, may_apply};
-ghost use Rattle.expert_scripts.specs.Transcripts.{CanBeTold};
+ghost use Rattle.expert_scripts.specs.Scripts.{content_of, script_form, may_apply};
+ghost use Rattle.expert_scripts.specs.Transcripts.{SettingsCanBeWritten};
 ghost use Rattle.cxt_format.specs.Form.{cxt_form};
 ghost use Rattle.csv_context.specs.Form.{csv_form};
 ghost use Rattle.command_io.specs.Readings.{formed, MayRead, MayRefuse};
@@ -104,9 +104,9 @@ fn cxt_table(alloc: Global, bytes: &[u8], origin: Origin) -> Result<Table, Stop>
 /// What the script on the input says, whose rows and patterns have width n.
 pub fn script_on<S: Source>(alloc: Global, input: &mut S, n: u32) -> Result<Script, Stop>
     requires { n ≤ MAX_ATTRIBUTES }
-    ensures script { IfOk result (λ script. MayRead (script_read n (S.left input.old)) (said_of script)) }
+    ensures script { IfOk result (λ script. MayRead (script_read n (S.left input.old)) (content_of script)) }
     ensures width { IfOk result (λ script. script.settings.known.width ≡ n) }
-    ensures told { IfOk result (λ script. CanBeTold n (settings_of script.settings)) }
+    ensures writable { IfOk result (λ script. SettingsCanBeWritten n (settings_of script.settings)) }
     ensures fits { IfOk result (λ script. list_all (may_apply n) script.events ≡ true) }
     ensures end { OnOk result (IsAtEnd (S.left input.new)) }
     ensures refused { IfErr result (λ stop. IsRefusal stop → MayRefuse (script_read n (S.left input.old))) }
@@ -123,9 +123,9 @@ pub fn script_on<S: Source>(alloc: Global, input: &mut S, n: u32) -> Result<Scri
 fn script_of(alloc: Global, bytes: &[u8], n: u32) -> Result<Script, Stop>
     requires width { n ≤ MAX_ATTRIBUTES }
     requires within { length bytes.now ≤ FILE_BYTES }
-    ensures script { IfOk result (λ script. MayRead (formed (script_form bytes.now n)) (said_of script)) }
+    ensures script { IfOk result (λ script. MayRead (formed (script_form bytes.now n)) (content_of script)) }
     ensures width { IfOk result (λ script. script.settings.known.width ≡ n) }
-    ensures told { IfOk result (λ script. CanBeTold n (settings_of script.settings)) }
+    ensures writable { IfOk result (λ script. SettingsCanBeWritten n (settings_of script.settings)) }
     ensures fits { IfOk result (λ script. list_all (may_apply n) script.events ≡ true) }
     ensures refused { IfErr result (λ stop. IsRefusal stop → MayRefuse (formed (script_form bytes.now n))) }
     ensures cause { IfErr result (IsScriptStop n (Some bytes.now) ⊥) }

@@ -9,7 +9,7 @@ use Rattle.fca_model.specs.Tables.{Text, NamedContext}
 use Rattle.fca_model.specs.Implications.{Rule}
 use Rattle.attr_bits.specs.Difference.{minus}
 use Rattle.fca_model.specs.Pseudo.{intents}
-use Rattle.expert_wire.specs.Texts.{line_end, ordinal, listed, names_of, braces_text, arrow_text}
+use Rattle.expert_wire.specs.Texts.{line_end, ordinal, comma_list, names_of, braces_text, arrow_text}
 use Rattle.lectic_concepts.specs.Concepts.{concept_of, concepts}
 use Rattle.report_texts.specs.Reports.{names_at, concept_line, concepts_text}
 use Rattle.packed_concepts.specs.Lines.{Named, line_of, lines_from, lines_text}
@@ -23,8 +23,8 @@ Fills-append t a b c Xs Ys x y =
 
 -- the line of an implication, as its parts were put down
 pub arrow-parts : (names : List Text) (old number : Text) (i : Rule) (G : Set) → G ≡ minus i.conclusion i.premise
-    → (((((old ++ number) ++ codes " {") ++ listed (names_of names i.premise)) ++ codes "} -> {") ++ listed (names_of names G)) ++ codes "}\n" ≡ old ++ (number ++ (codes " " ++ (arrow_text names i ++ line_end)))
-arrow-parts names old number i G is = regroup old number (listed (names_of names i.premise)) (listed (names_of names G)) ∙ ap (λ X. old ++ (number ++ (codes " " ++ ((braces_text names i.premise ++ (codes " -> " ++ braces_text names X)) ++ line_end)))) is
+    → (((((old ++ number) ++ codes " {") ++ comma_list (names_of names i.premise)) ++ codes "} -> {") ++ comma_list (names_of names G)) ++ codes "}\n" ≡ old ++ (number ++ (codes " " ++ (arrow_text names i ++ line_end)))
+arrow-parts names old number i G is = regroup old number (comma_list (names_of names i.premise)) (comma_list (names_of names G)) ∙ ap (λ X. old ++ (number ++ (codes " " ++ ((braces_text names i.premise ++ (codes " -> " ++ braces_text names X)) ++ line_end)))) is
   where
     regroup : (o n p g : Text) → (((((o ++ n) ++ codes " {") ++ p) ++ codes "} -> {") ++ g) ++ codes "}\n" ≡ o ++ (n ++ (codes " " ++ (((codes "{" ++ (p ++ codes "}")) ++ (codes " -> " ++ (codes "{" ++ (g ++ codes "}")))) ++ line_end)))
     regroup o n p g = simp append_assoc
@@ -35,7 +35,7 @@ named t = record { attributes = t.attributes; objects = t.objects }
 
 -- the line is that of the concept
 line-concept : (t : NamedContext) (n : ℕ) (A : Set) → line_of (named t) (ordinal n) A (extent t.context A) ≡ concept_line t n (concept_of t.context A)
-line-concept t n A = regroup (ordinal n) (listed (names_of t.attributes A)) (listed (names_at t.objects (extent t.context A)))
+line-concept t n A = regroup (ordinal n) (comma_list (names_of t.attributes A)) (comma_list (names_at t.objects (extent t.context A)))
   where
     regroup : (n i e : Text) → n ++ (codes " {" ++ (i ++ (codes "} | {" ++ (e ++ codes "}\n")))) ≡ n ++ (codes " " ++ ((codes "{" ++ (i ++ codes "}")) ++ (codes " | " ++ ((codes "{" ++ (e ++ codes "}")) ++ line_end))))
     regroup n i e = simp append_assoc

@@ -1,7 +1,7 @@
 //! The line that heads a list.
 
 ghost use Rattle.std.specs.Prelude.{◌≡◌, ◌++◌, OnOk, IfOk};
-ghost use Rattle.report_texts.specs.Reports.{counted};
+ghost use Rattle.report_texts.specs.Reports.{count_line};
 
 use fca_model::Memory;
 use itoa::Buffer;
@@ -9,7 +9,7 @@ use std::alloc::Global;
 
 /// The line that says in these words how many there are.
 pub fn head_of(alloc: Global, words: &[u8], count: usize) -> Result<Vec<u8>, Memory>
-    ensures { IfOk result (λ head. head.items ≡ counted words.now count) }
+    ensures { IfOk result (λ head. head.items ≡ count_line words.now count) }
 {
     let mut head = Vec::new(alloc);
     add_head(&mut head, words, count)?;
@@ -18,7 +18,7 @@ pub fn head_of(alloc: Global, words: &[u8], count: usize) -> Result<Vec<u8>, Mem
 
 /// Appends that line.
 pub fn add_head(text: &mut Vec<u8>, words: &[u8], count: usize) -> Result<(), Memory>
-    ensures { OnOk result (text.new.items ≡ text.old.items ++ counted words.now count) }
+    ensures { OnOk result (text.new.items ≡ text.old.items ++ count_line words.now count) }
 {
     text.extend_from_slice(words)?;
     text.extend_from_slice(Buffer::new().format(count).as_bytes())?;

@@ -1,7 +1,7 @@
 //! The names of a table as pieces, each with what stands between two names of a list behind it.
 
 ghost use Rattle.std.specs.Prelude.{◌≡◌, ◌+◌, ◌*◌, ◌≤◌, ◌++◌, ◌∷◌, [], map, take, length, IfOk, OnOk};
-ghost use Rattle.expert_wire.specs.Texts.{listed, names_of};
+ghost use Rattle.expert_wire.specs.Texts.{comma_list, names_of};
 ghost use Rattle.packed_concepts.specs.Listing.{parted};
 ghost use Rattle.packed_concepts.specs.Pieces.{ArePieces, piece_texts};
 
@@ -87,7 +87,7 @@ pub fn put_attributes<const W: usize>(
     requires names { names.now ≡ map parted table.now.attributes }
     requires few { length set.now ≤ length table.now.attributes }
     requires room { start + PIECE_ROOM * length set.now ≤ length text.old }
-    ensures text { take result text.new ≡ take start text.old ++ listed (names_of table.now.attributes set.now) }
+    ensures text { take result text.new ≡ take start text.old ++ comma_list (names_of table.now.attributes set.now) }
     ensures ends { result ≤ start + PIECE_BYTES * length set.now }
     ensures room { length text.new ≡ length text.old }
 {

@@ -18,7 +18,7 @@ use Rattle.text_pieces.proofs.NumeralLemmas.{numeral-decimal, utf8_decimal, deci
 use Rattle.text_pieces.proofs.WordLemmas.{before_first-at, after_first-at}
 use Rattle.expert_wire.proofs.ReadLemmas.{ascii_pattern, utf8_words, named_row-written}
 use Rattle.expert_scripts.specs.declared.fault.ScriptFault.TheVariants.{BadLine, BadExpert}
-use Rattle.expert_scripts.specs.Scripts.{CanBeSaid, expert_in, event_by, row_by, row_event, event_of, event_of_words}
+use Rattle.expert_scripts.specs.Scripts.{EventCanBeWritten, expert_in, event_by, row_by, row_event, event_of, event_of_words}
 use Rattle.expert_scripts.specs.Transcripts.{event_text}
 
 -- the number of an expert, as it is written
@@ -63,7 +63,7 @@ utf8_row e r name named =
     IsUtf8-append (decimal e) (32 ∷ (pattern r ++ (32 ∷ name))) (utf8_decimal e)
     (utf8_space (pattern r ++ (32 ∷ name)) (IsUtf8-append (pattern r) (32 ∷ name) (IsUtf8-from_ascii (pattern r) (ascii_pattern r)) (utf8_space name named.utf8)))
 
-pub event_of-event_text : (n k : ℕ) (event : SetEvent) → CanBeSaid n event → event_of n k (event_text event) ≡ Ok event
+pub event_of-event_text : (n k : ℕ) (event : SetEvent) → EventCanBeWritten n event → event_of n k (event_text event) ≡ Ok event
 event_of-event_text n k (Draw e) h = of_verb n k (codes "draw") (decimal e) refl refl (utf8_decimal e) ∙ ap (event_by Draw) (expert_in-decimal k e h.expert)
 event_of-event_text n k (Confirm e) h = of_verb n k (codes "confirm") (decimal e) refl refl (utf8_decimal e) ∙ ap (event_by Confirm) (expert_in-decimal k e h.expert)
 event_of-event_text n k (Leave e) h = of_verb n k (codes "leave") (decimal e) refl refl (utf8_decimal e) ∙ ap (event_by Leave) (expert_in-decimal k e h.expert)

@@ -24,18 +24,18 @@ use Rattle.exploration_terms.specs.Settings.{name_of}
 use Rattle.expert_wire.specs.declared.requests.RequestFault.{RequestFault}
 use Rattle.expert_wire.specs.declared.requests.RequestFault.TheVariants.{Line, Width, Memory as RequestMemory}
 use Rattle.text_pieces.specs.Lines.{lines}
-use Rattle.expert_wire.specs.Lines.{said_from}
+use Rattle.expert_wire.specs.Lines.{numbered_lines}
 use Rattle.expert_wire.specs.Replies.{heading}
 use Rattle.text_pieces.specs.Numerals.{is_numeral, value_of}
 use Rattle.text_pieces.specs.Words.{is_space, first_word, later_words}
-use Rattle.expert_wire.specs.Words.{named_row, row_of_width, is_name, set_marked}
+use Rattle.expert_wire.specs.Words.{named_row, row_of_width, is_name, set_of_pattern}
 use Rattle.expert_scripts.specs.declared.known_fault.KnownFault.{KnownFault}
 use Rattle.expert_scripts.specs.declared.known_fault.KnownFault.TheVariants.{BadWidth as WrongWidth}
 use Rattle.expert_scripts.specs.Known.{rule_of_width, known_rule, with_first, all_ok}
 use Rattle.expert_scripts.specs.declared.fault.ScriptFault.{ScriptFault}
 use Rattle.expert_scripts.specs.declared.fault.ScriptFault.TheVariants.{BadLine, BadExpert, BadHolders}
-use Rattle.expert_scripts.specs.Scripts.{Said, Told, nothing_told, settings_told, may_apply, expert_in, event_by, row_by, event_of, events_said, holders_once, holders_told, name_once, name_told, rule_told, setting_of_words, setting_of, finished, by_setting, settled, headed, second_heading, script_form}
-use Rattle.expert_scripts.specs.Transcripts.{CanBeTold}
+use Rattle.expert_scripts.specs.Scripts.{ScriptContent, PartialSettings, no_settings, whole_settings, may_apply, expert_in, event_by, row_by, event_of, events_of_lines, with_holders, with_holders_word, with_name, with_name_words, with_rule, setting_of_words, setting_of, script_content, by_setting, settings_then_events, content_of_lines, second_heading, script_form}
+use Rattle.expert_scripts.specs.Transcripts.{SettingsCanBeWritten}
 use Rattle.expert_scripts.proofs.NamedLemmas.{named-insert}
 
 -- ---- events
@@ -92,8 +92,8 @@ named_by n true r h = h
 named_by n false r h = λ x q. cc
 
 named_row-wide : (n : ℕ) (text : Text) → IsWide n (named_row n text)
-named_row-wide n text = named_by n (is_name (later_words text)) (row_of_width n (later_words text) (set_marked (first_word text)))
-    (row_of_width-wide n (later_words text) (set_marked (first_word text)))
+named_row-wide n text = named_by n (is_name (later_words text)) (row_of_width n (later_words text) (set_of_pattern (first_word text)))
+    (row_of_width-wide n (later_words text) (set_of_pattern (first_word text)))
 
 row_by-fits : (n k : ℕ) (r : Result ℕ ScriptFault) (q : Result (Text × Set) RequestFault) → IsExperts r → IsWide n q → Fits n (row_by k r q)
 unfolding IsExperts IsWide
@@ -135,33 +135,33 @@ unfolding Fits AllFit
 all_ok-fit n (Ok event) rs h k = first-fit n event (all_ok rs) (h event refl) k
 all_ok-fit n (Err fault) rs h k = λ events e. cc
 
-events_said-fit : (n : ℕ) (said : List (ℕ × Text)) → AllFit n (events_said n said)
-events_said-fit n [] = AllFit-ok n [] refl
-events_said-fit n (l ∷ said) = all_ok-fit n (event_of n l.0 l.1) (map (λ (l : ℕ × Text). event_of n l.0 l.1) said) (event_of-fits n l.0 l.1) (events_said-fit n said)
+events_of_lines-fit : (n : ℕ) (said : List (ℕ × Text)) → AllFit n (events_of_lines n said)
+events_of_lines-fit n [] = AllFit-ok n [] refl
+events_of_lines-fit n (l ∷ said) = all_ok-fit n (event_of n l.0 l.1) (map (λ (l : ℕ × Text). event_of n l.0 l.1) said) (event_of-fits n l.0 l.1) (events_of_lines-fit n said)
 
 -- ---- what lines of settings tell
 
 -- what is told are settings that can be told
-Tells : ℕ → Result Told ScriptFault → Type 0
-Tells n r = (t : Told) → r ≡ Ok t → CanBeTold n (settings_told t)
+Tells : ℕ → Result PartialSettings ScriptFault → Type 0
+Tells n r = (t : PartialSettings) → r ≡ Ok t → SettingsCanBeWritten n (whole_settings t)
 
-Tells-ok : (n : ℕ) (t : Told) → CanBeTold n (settings_told t) → Tells n (Ok t)
+Tells-ok : (n : ℕ) (t : PartialSettings) → SettingsCanBeWritten n (whole_settings t) → Tells n (Ok t)
 unfolding Tells
-Tells-ok n t can other e = let same : t ≡ other = cc in let P : Told → Type 0 = λ x. CanBeTold n (settings_told x) in subst P same can
+Tells-ok n t can other e = let same : t ≡ other = cc in let P : PartialSettings → Type 0 = λ x. SettingsCanBeWritten n (whole_settings x) in subst P same can
 
 Tells-err : (n : ℕ) (fault : ScriptFault) → Tells n (Err fault)
 unfolding Tells
 Tells-err n fault t e = cc
 
 -- where it is told only if the test passes
-Tells-if : (n : ℕ) (b : Bool) (r : Result Told ScriptFault) (fault : ScriptFault) → (b ≡ true → Tells n r) → Tells n (cond b r (Err fault))
+Tells-if : (n : ℕ) (b : Bool) (r : Result PartialSettings ScriptFault) (fault : ScriptFault) → (b ≡ true → Tells n r) → Tells n (cond b r (Err fault))
 Tells-if n true r fault h = h refl
 Tells-if n false r fault h = Tells-err n fault
 
-holders_told-fit : (n k : ℕ) (t : Told) (word : Text) → CanBeTold n (settings_told t) → Tells n (holders_told k t word)
-holders_told-fit n k t word can =
+with_holders_word-fit : (n k : ℕ) (t : PartialSettings) (word : Text) → SettingsCanBeWritten n (whole_settings t) → Tells n (with_holders_word k t word)
+with_holders_word-fit n k t word can =
     let h = value_of word in
-    Tells-if n (is_numeral word) (holders_once k t h) (BadLine k) (λ numeral. Tells-if n (is_expert h && is_none t.holders) (Ok (record t { holders = Some h })) (BadHolders k)
+    Tells-if n (is_numeral word) (with_holders k t h) (BadLine k) (λ numeral. Tells-if n (is_expert h && is_none t.holders) (Ok (record t { holders = Some h })) (BadHolders k)
     (λ once. Tells-ok n (record t { holders = Some h }) (record { holders = (and_parts (is_expert h) (is_none t.holders) once).0; known = can.known; names = can.names })))
 
 -- words behind a space are UTF-8 where the whole is
@@ -180,12 +180,12 @@ no_fault : (o : Option NameFault) → is_none o ≡ true → o ≡ None
 no_fault None h = refl
 no_fault (Some fault) h = cc
 
-name_told-fit : (n k : ℕ) (t : Told) (words : Text) → IsUtf8 words → CanBeTold n (settings_told t) → Tells n (name_told k t words)
-name_told-fit n k t words utf8 can =
+with_name_words-fit : (n k : ℕ) (t : PartialSettings) (words : Text) → IsUtf8 words → SettingsCanBeWritten n (whole_settings t) → Tells n (with_name_words k t words)
+with_name_words-fit n k t words utf8 can =
     let e = value_of (first_word words) in
     let name = later_words words in
     let named = insert_entry nat_cmp t.expert_names e name in
-    Tells-if n (is_numeral (first_word words) && is_name name) (name_once k t e name) (BadLine k)
+    Tells-if n (is_numeral (first_word words) && is_name name) (with_name k t e name) (BadLine k)
     (λ shaped. Tells-if n (is_expert e && is_none (name_of e t.expert_names)) (Ok (record t { expert_names = named })) (BadExpert k)
     (λ once.
     let expert = and_parts (nat_le 1 e) (nat_le e MAX_EXPERTS) (and_parts (is_expert e) (is_none (name_of e t.expert_names)) once).0 in
@@ -210,10 +210,10 @@ rule_of_width-wide n k None conclusion i e = cc
 rule_of_width-wide n k (Some P) None i e = cc
 rule_of_width-wide n k (Some P) (Some C) i e = wide_rule_by n k P C ((length P == n) && (length C == n)) refl i e
 
-rule_told-fit : (n : ℕ) (t : Told) (r : Result Rule KnownFault) → IsWideRule n r → CanBeTold n (settings_told t) → Tells n (rule_told t r)
+with_rule-fit : (n : ℕ) (t : PartialSettings) (r : Result Rule KnownFault) → IsWideRule n r → SettingsCanBeWritten n (whole_settings t) → Tells n (with_rule t r)
 unfolding IsWideRule
-rule_told-fit n t (Err fault) wide can = Tells-err n _
-rule_told-fit n t (Ok i) wide can =
+with_rule-fit n t (Err fault) wide can = Tells-err n _
+with_rule-fit n t (Ok i) wide can =
     Tells-ok n (record t { known = t.known ++ i ∷ [] }) (record {
       holders = can.holders;
       known = list_all-append (has_width n) t.known (i ∷ []) ∙ and_from (list_all (has_width n) t.known) (has_width n i && true) can.known (and_from (has_width n i) true (wide i refl) refl);
@@ -221,10 +221,10 @@ rule_told-fit n t (Ok i) wide can =
     })
 
 -- the same, of a line that may be none of settings
-MayTell : ℕ → Option (Result Told ScriptFault) → Type 0
-MayTell n o = (t : Told) → o ≡ Some (Ok t) → CanBeTold n (settings_told t)
+MayTell : ℕ → Option (Result PartialSettings ScriptFault) → Type 0
+MayTell n o = (t : PartialSettings) → o ≡ Some (Ok t) → SettingsCanBeWritten n (whole_settings t)
 
-MayTell-some : (n : ℕ) (r : Result Told ScriptFault) → Tells n r → MayTell n (Some r)
+MayTell-some : (n : ℕ) (r : Result PartialSettings ScriptFault) → Tells n r → MayTell n (Some r)
 unfolding Tells MayTell
 MayTell-some n r h t e = let same : r ≡ Ok t = cc in h t same
 
@@ -232,18 +232,18 @@ MayTell-none : (n : ℕ) → MayTell n None
 unfolding MayTell
 MayTell-none n t e = cc
 
-MayTell-cond : (n : ℕ) (b : Bool) (o p : Option (Result Told ScriptFault)) → MayTell n o → MayTell n p → MayTell n (cond b o p)
+MayTell-cond : (n : ℕ) (b : Bool) (o p : Option (Result PartialSettings ScriptFault)) → MayTell n o → MayTell n p → MayTell n (cond b o p)
 MayTell-cond n true o p h k = h
 MayTell-cond n false o p h k = k
 
-setting_of_words-fit : (n k : ℕ) (t : Told) (verb words : Text) → IsUtf8 words → CanBeTold n (settings_told t) → MayTell n (setting_of_words n k t verb words)
+setting_of_words-fit : (n k : ℕ) (t : PartialSettings) (verb words : Text) → IsUtf8 words → SettingsCanBeWritten n (whole_settings t) → MayTell n (setting_of_words n k t verb words)
 setting_of_words-fit n k t verb words utf8 can =
-    let wide = rule_of_width-wide n k (set_marked (first_word words)) (set_marked (first_word (later_words words))) in
-    MayTell-cond n _ _ _ (MayTell-some n _ (holders_told-fit n k t words can))
-    (MayTell-cond n _ _ _ (MayTell-some n _ (name_told-fit n k t words utf8 can))
-    (MayTell-cond n _ _ _ (MayTell-some n _ (rule_told-fit n t (known_rule n k words) wide can)) (MayTell-none n)))
+    let wide = rule_of_width-wide n k (set_of_pattern (first_word words)) (set_of_pattern (first_word (later_words words))) in
+    MayTell-cond n _ _ _ (MayTell-some n _ (with_holders_word-fit n k t words can))
+    (MayTell-cond n _ _ _ (MayTell-some n _ (with_name_words-fit n k t words utf8 can))
+    (MayTell-cond n _ _ _ (MayTell-some n _ (with_rule-fit n t (known_rule n k words) wide can)) (MayTell-none n)))
 
-setting_of-fit : (n k : ℕ) (t : Told) (line : Text) → CanBeTold n (settings_told t) → MayTell n (setting_of n k t line)
+setting_of-fit : (n k : ℕ) (t : PartialSettings) (line : Text) → SettingsCanBeWritten n (whole_settings t) → MayTell n (setting_of n k t line)
 setting_of-fit n k t line can = by (is_utf8 line) refl
   where
     by : (b : Bool) → is_utf8 line ≡ b → MayTell n (cond b (setting_of_words n k t (first_word line) (later_words line)) None)
@@ -253,14 +253,14 @@ setting_of-fit n k t line can = by (is_utf8 line) refl
 -- ---- all lines
 
 -- what is said can be said
-pub record IsFine (n : ℕ) (said : Said) : Type 0 where
-  pub told : CanBeTold n said.settings
+pub record IsFine (n : ℕ) (said : ScriptContent) : Type 0 where
+  pub writable : SettingsCanBeWritten n said.settings
   pub fits : list_all (may_apply n) said.events ≡ true
 
-AreFine : ℕ → Result Said ScriptFault → Type 0
-AreFine n r = (said : Said) → r ≡ Ok said → IsFine n said
+AreFine : ℕ → Result ScriptContent ScriptFault → Type 0
+AreFine n r = (said : ScriptContent) → r ≡ Ok said → IsFine n said
 
-AreFine-ok : (n : ℕ) (said : Said) → IsFine n said → AreFine n (Ok said)
+AreFine-ok : (n : ℕ) (said : ScriptContent) → IsFine n said → AreFine n (Ok said)
 unfolding AreFine
 AreFine-ok n said fine other e = let same : said ≡ other = cc in subst (IsFine n) same fine
 
@@ -268,37 +268,37 @@ AreFine-err : (n : ℕ) (fault : ScriptFault) → AreFine n (Err fault)
 unfolding AreFine
 AreFine-err n fault said e = cc
 
-AreFine-cond : (n : ℕ) (b : Bool) (r s : Result Said ScriptFault) → AreFine n r → AreFine n s → AreFine n (cond b r s)
+AreFine-cond : (n : ℕ) (b : Bool) (r s : Result ScriptContent ScriptFault) → AreFine n r → AreFine n s → AreFine n (cond b r s)
 AreFine-cond n true r s h k = h
 AreFine-cond n false r s h k = k
 
-finished-fine : (n : ℕ) (t : Told) (second : Option ℕ) (r : Result (List SetEvent) ScriptFault) → CanBeTold n (settings_told t) → AllFit n r → AreFine n (finished t second r)
+script_content-fine : (n : ℕ) (t : PartialSettings) (second : Option ℕ) (r : Result (List SetEvent) ScriptFault) → SettingsCanBeWritten n (whole_settings t) → AllFit n r → AreFine n (script_content t second r)
 unfolding AllFit
-finished-fine n t second (Ok events) can fit = AreFine-ok n (record { settings = settings_told t; events = events; second = second }) (record { told = can; fits = fit events refl })
-finished-fine n t second (Err fault) can fit = AreFine-err n fault
+script_content-fine n t second (Ok events) can fit = AreFine-ok n (record { settings = whole_settings t; events = events; second = second }) (record { writable = can; fits = fit events refl })
+script_content-fine n t second (Err fault) can fit = AreFine-err n fault
 
-by_setting-fine : (n : ℕ) (o : Option (Result Told ScriptFault)) (later : Told → Result Said ScriptFault) (otherwise : Result Said ScriptFault)
-    → MayTell n o → ((t : Told) → CanBeTold n (settings_told t) → AreFine n (later t)) → AreFine n otherwise → AreFine n (by_setting o later otherwise)
+by_setting-fine : (n : ℕ) (o : Option (Result PartialSettings ScriptFault)) (later : PartialSettings → Result ScriptContent ScriptFault) (otherwise : Result ScriptContent ScriptFault)
+    → MayTell n o → ((t : PartialSettings) → SettingsCanBeWritten n (whole_settings t) → AreFine n (later t)) → AreFine n otherwise → AreFine n (by_setting o later otherwise)
 unfolding MayTell
 by_setting-fine n None later otherwise h f g = g
 by_setting-fine n (Some (Ok t)) later otherwise h f g = f t (h t refl)
 by_setting-fine n (Some (Err fault)) later otherwise h f g = AreFine-err n fault
 
-settled-fine : (n second : ℕ) (ls : List (ℕ × Text)) (t : Told) → CanBeTold n (settings_told t) → AreFine n (settled n t second ls)
-settled-fine n second [] t can = finished-fine n t (Some second) (Ok []) can (AllFit-ok n [] refl)
-settled-fine n second (l ∷ ls) t can =
-    by_setting-fine n (setting_of n l.0 t l.1) (λ told. settled n told second ls) (finished t (Some second) (events_said n (l ∷ ls))) (setting_of-fit n l.0 t l.1 can)
-    (λ told h. settled-fine n second ls told h) (finished-fine n t (Some second) (events_said n (l ∷ ls)) can (events_said-fit n (l ∷ ls)))
+settings_then_events-fine : (n second : ℕ) (ls : List (ℕ × Text)) (t : PartialSettings) → SettingsCanBeWritten n (whole_settings t) → AreFine n (settings_then_events n t second ls)
+settings_then_events-fine n second [] t can = script_content-fine n t (Some second) (Ok []) can (AllFit-ok n [] refl)
+settings_then_events-fine n second (l ∷ ls) t can =
+    by_setting-fine n (setting_of n l.0 t l.1) (λ later. settings_then_events n later second ls) (script_content t (Some second) (events_of_lines n (l ∷ ls))) (setting_of-fit n l.0 t l.1 can)
+    (λ later h. settings_then_events-fine n second ls later h) (script_content-fine n t (Some second) (events_of_lines n (l ∷ ls)) can (events_of_lines-fit n (l ∷ ls)))
 
-headed-fine : (n : ℕ) (t : Told) (ls : List (ℕ × Text)) → CanBeTold n (settings_told t) → AreFine n (headed n t ls)
-headed-fine n t [] can = finished-fine n t None (Ok []) can (AllFit-ok n [] refl)
-headed-fine n t (l ∷ ls) can =
-    AreFine-cond n (bytes_eq l.1 heading) _ _ (finished-fine n t None (events_said n ls) can (events_said-fit n ls))
-    (AreFine-cond n (bytes_eq l.1 second_heading) _ _ (settled-fine n l.0 ls t can) (finished-fine n t None (events_said n (l ∷ ls)) can (events_said-fit n (l ∷ ls))))
+content_of_lines-fine : (n : ℕ) (t : PartialSettings) (ls : List (ℕ × Text)) → SettingsCanBeWritten n (whole_settings t) → AreFine n (content_of_lines n t ls)
+content_of_lines-fine n t [] can = script_content-fine n t None (Ok []) can (AllFit-ok n [] refl)
+content_of_lines-fine n t (l ∷ ls) can =
+    AreFine-cond n (bytes_eq l.1 heading) _ _ (script_content-fine n t None (events_of_lines n ls) can (events_of_lines-fit n ls))
+    (AreFine-cond n (bytes_eq l.1 second_heading) _ _ (settings_then_events-fine n l.0 ls t can) (script_content-fine n t None (events_of_lines n (l ∷ ls)) can (events_of_lines-fit n (l ∷ ls))))
 
-pub nothing-fine : (n : ℕ) → CanBeTold n (settings_told nothing_told)
+pub nothing-fine : (n : ℕ) → SettingsCanBeWritten n (whole_settings no_settings)
 nothing-fine n = record { holders = refl; known = refl; names = tt }
 
-pub script_form-fine : (bytes : Text) (n : ℕ) (said : Said) → script_form bytes n ≡ Ok said → IsFine n said
+pub script_form-fine : (bytes : Text) (n : ℕ) (said : ScriptContent) → script_form bytes n ≡ Ok said → IsFine n said
 unfolding script_form AreFine
-script_form-fine bytes n = headed-fine n nothing_told (said_from 1 (lines bytes)) (nothing-fine n)
+script_form-fine bytes n = content_of_lines-fine n no_settings (numbered_lines 1 (lines bytes)) (nothing-fine n)

@@ -6,12 +6,12 @@ use Rattle.fca_model.specs.Tables.{Text}
 use Rattle.fca_model.specs.Implications.{Rule}
 use Rattle.expert_wire.specs.Texts.{pattern, arrow_text, full_text}
 use Rattle.text_pieces.specs.Words.{is_space, first_word, later_words}
-use Rattle.expert_wire.specs.Words.{set_marked}
+use Rattle.expert_wire.specs.Words.{set_of_pattern}
 use Rattle.text_pieces.specs.Lines.{lines}
 use Rattle.expert_wire.specs.Lines.{is_skipped}
-use Rattle.expert_wire.proofs.LineLemmas.{later_said, said_from-skipped, said_from-told}
+use Rattle.expert_wire.proofs.LineLemmas.{later_lines, numbered_lines-skipped, numbered_lines-kept}
 use Rattle.text_pieces.proofs.WordLemmas.{before_first-at, after_first-at}
-use Rattle.expert_wire.proofs.ReadLemmas.{pattern_no_space, set_marked-pattern}
+use Rattle.expert_wire.proofs.ReadLemmas.{pattern_no_space, set_of_pattern-pattern}
 use Rattle.expert_scripts.specs.declared.known_fault.KnownFault.{KnownFault}
 use Rattle.expert_scripts.specs.declared.known_fault.KnownFault.TheVariants.{BadWidth}
 use Rattle.expert_scripts.specs.Known.{rule_of_width, known_rule, with_first, all_ok, known_from, known_form}
@@ -36,23 +36,23 @@ unfolding known_form
 known_form-from bytes n = after-nil (known_from n 1 (lines bytes))
 
 pub known_from-skipped : (n k : ℕ) (x : Text) (ls : List Text) → is_skipped x ≡ true → known_from n k (x ∷ ls) ≡ known_from n (k + 1) ls
-known_from-skipped n k x ls skip = ap (λ said. all_ok (map (λ l. known_rule n l.0 l.1) said)) (said_from-skipped k x ls skip)
+known_from-skipped n k x ls skip = ap (λ said. all_ok (map (λ l. known_rule n l.0 l.1) said)) (numbered_lines-skipped k x ls skip)
 
-known_from-told : (n k : ℕ) (x : Text) (ls : List Text) → is_skipped x ≡ false → known_from n k (x ∷ ls) ≡ all_ok (known_rule n k x ∷ map (λ l. known_rule n l.0 l.1) (later_said k ls))
-known_from-told n k x ls told = ap (λ said. all_ok (map (λ l. known_rule n l.0 l.1) said)) (said_from-told k x ls told)
+known_from-kept : (n k : ℕ) (x : Text) (ls : List Text) → is_skipped x ≡ false → known_from n k (x ∷ ls) ≡ all_ok (known_rule n k x ∷ map (λ l. known_rule n l.0 l.1) (later_lines k ls))
+known_from-kept n k x ls kept = ap (λ said. all_ok (map (λ l. known_rule n l.0 l.1) said)) (numbered_lines-kept k x ls kept)
 
 pub known_from-rule : (n k : ℕ) (x : Text) (ls : List Text) → is_skipped x ≡ false → (found : List Rule) (i : Rule) → known_rule n k x ≡ Ok i
     → after found (known_from n k (x ∷ ls)) ≡ after (found ++ i ∷ []) (known_from n (k + 1) ls)
-known_from-rule n k x ls told found i e =
-    ap (after found) (known_from-told n k x ls told)
-    ∙ ap (λ r. after found (all_ok (r ∷ map (λ l. known_rule n l.0 l.1) (later_said k ls)))) e
+known_from-rule n k x ls kept found i e =
+    ap (after found) (known_from-kept n k x ls kept)
+    ∙ ap (λ r. after found (all_ok (r ∷ map (λ l. known_rule n l.0 l.1) (later_lines k ls)))) e
     ∙ after-with_first found i (known_from n (k + 1) ls)
 
 pub known_from-fault : (n k : ℕ) (x : Text) (ls : List Text) → is_skipped x ≡ false → (found : List Rule) (fault : KnownFault) → known_rule n k x ≡ Err fault
     → after found (known_from n k (x ∷ ls)) ≡ Err fault
-known_from-fault n k x ls told found fault e =
-    ap (after found) (known_from-told n k x ls told)
-    ∙ ap (λ r. after found (all_ok (r ∷ map (λ l. known_rule n l.0 l.1) (later_said k ls)))) e
+known_from-fault n k x ls kept found fault e =
+    ap (after found) (known_from-kept n k x ls kept)
+    ∙ ap (λ r. after found (all_ok (r ∷ map (λ l. known_rule n l.0 l.1) (later_lines k ls)))) e
 
 pub known_from-end : (n k : ℕ) (found : List Rule) → after found (known_from n k []) ≡ Ok found
 known_from-end n k found = ap Ok (append-nil found)
@@ -65,5 +65,5 @@ full_text-read n k attributes i p c =
     let first : first_word (full_text attributes i) ≡ pattern i.premise = before_first-at is_space (pattern i.premise) 32 behind (pattern_no_space i.premise) refl in
     let later : later_words (full_text attributes i) ≡ behind = after_first-at is_space (pattern i.premise) 32 behind (pattern_no_space i.premise) refl in
     let second : first_word behind ≡ pattern i.conclusion = before_first-at is_space (pattern i.conclusion) 32 (arrow_text attributes i) (pattern_no_space i.conclusion) refl in
-    ap₂ (rule_of_width n k) (ap set_marked first ∙ set_marked-pattern i.premise) (ap set_marked (ap first_word later ∙ second) ∙ set_marked-pattern i.conclusion)
+    ap₂ (rule_of_width n k) (ap set_of_pattern first ∙ set_of_pattern-pattern i.premise) (ap set_of_pattern (ap first_word later ∙ second) ∙ set_of_pattern-pattern i.conclusion)
     ∙ ap₂ (λ a b. cond (a && b) (Ok i) (Err (BadWidth k))) (eq-eqb (length i.premise) n p) (eq-eqb (length i.conclusion) n c)

@@ -8,9 +8,9 @@ use Rattle.fca_model.specs.Sets.{Set}
 use Rattle.fca_model.specs.Tables.{Text}
 use Rattle.fca_model.specs.Implications.{Rule, rule}
 use Rattle.text_pieces.specs.Words.{first_word, later_words}
-use Rattle.expert_wire.specs.Words.{set_marked}
+use Rattle.expert_wire.specs.Words.{set_of_pattern}
 use Rattle.text_pieces.specs.Lines.{lines}
-use Rattle.expert_wire.specs.Lines.{said_from}
+use Rattle.expert_wire.specs.Lines.{numbered_lines}
 use Rattle.expert_scripts.specs.declared.known_fault.KnownFault.{KnownFault}
 use Rattle.expert_scripts.specs.declared.known_fault.KnownFault.TheVariants.{BadLine, BadWidth}
 
@@ -22,7 +22,7 @@ rule_of_width n k (Some P) (Some C) = cond ((length P == n) && (length C == n)) 
 
 -- the implication of line k
 abbrev pub known_rule : ℕ → ℕ → Text → Result Rule KnownFault
-known_rule n k line = rule_of_width n k (set_marked (first_word line)) (set_marked (first_word (later_words line)))
+known_rule n k line = rule_of_width n k (set_of_pattern (first_word line)) (set_of_pattern (first_word (later_words line)))
 
 -- one value before others, unless these have a fault
 abbrev pub with_first : {X E : Type 0} → X → Result (List X) E → Result (List X) E
@@ -37,7 +37,7 @@ all_ok (Err fault ∷ rest) = Err fault
 
 -- the implications that lines say, the first of which is number k
 abbrev pub known_from : ℕ → ℕ → List Text → Result (List Rule) KnownFault
-known_from n k ls = all_ok (map (λ l. known_rule n l.0 l.1) (said_from k ls))
+known_from n k ls = all_ok (map (λ l. known_rule n l.0 l.1) (numbered_lines k ls))
 
 -- the implications of a known file, between sets of width n, or its first fault
 unfoldable pub known_form : Text → ℕ → Result (List Rule) KnownFault

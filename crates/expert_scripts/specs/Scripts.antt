@@ -19,7 +19,7 @@ use Rattle.exploration_terms.specs.Settings.{settings_of, name_of}
 use Rattle.expert_wire.specs.declared.requests.RequestFault.{RequestFault}
 use Rattle.expert_wire.specs.declared.requests.RequestFault.TheVariants.{Line, Width, Memory as RequestMemory}
 use Rattle.text_pieces.specs.Lines.{lines}
-use Rattle.expert_wire.specs.Lines.{said_from}
+use Rattle.expert_wire.specs.Lines.{numbered_lines}
 use Rattle.expert_wire.specs.Replies.{heading}
 use Rattle.text_pieces.specs.Numerals.{is_numeral, value_of}
 use Rattle.text_pieces.specs.Words.{first_word, later_words}
@@ -32,14 +32,14 @@ use Rattle.expert_scripts.specs.declared.fault.ScriptFault.TheVariants.{BadLine,
 use Rattle.expert_scripts.specs.declared.scripts.Script as read
 
 -- what a script says: its settings, its events, and the number of the line `exploration 2` where it has one
-pub record Said : Type 0 where
+pub record ScriptContent : Type 0 where
   pub settings : Settings
   pub events : List SetEvent
   pub second : Option ℕ
 
 -- what a script that was read says
-abbrev pub said_of : read.Script → Said
-said_of s = record { settings = settings_of s.settings; events = s.events; second = s.second }
+abbrev pub content_of : read.Script → ScriptContent
+content_of s = record { settings = settings_of s.settings; events = s.events; second = s.second }
 
 -- ---- the event of one line
 
@@ -80,41 +80,41 @@ abbrev pub event_of : ℕ → ℕ → Text → Result SetEvent ScriptFault
 event_of n k line = cond (is_utf8 line) (event_of_words n k (first_word line) (later_words line)) (Err (BadLine k))
 
 -- the events of numbered lines, or the first fault
-abbrev pub events_said : ℕ → List (ℕ × Text) → Result (List SetEvent) ScriptFault
-events_said n said = all_ok (map (λ l. event_of n l.0 l.1) said)
+abbrev pub events_of_lines : ℕ → List (ℕ × Text) → Result (List SetEvent) ScriptFault
+events_of_lines n said = all_ok (map (λ l. event_of n l.0 l.1) said)
 
 -- ---- what one line of settings tells
 
 -- what lines of settings have told so far
-pub record Told : Type 0 where
+pub record PartialSettings : Type 0 where
   pub known : List Rule
   pub holders : Option ℕ
   pub expert_names : List (ℕ × RowName)
 
-abbrev pub nothing_told : Told
-nothing_told = record { known = []; holders = None; expert_names = [] }
+abbrev pub no_settings : PartialSettings
+no_settings = record { known = []; holders = None; expert_names = [] }
 
 -- the settings, where all is told
-abbrev pub settings_told : Told → Settings
-settings_told t = record { known = t.known; holders = unwrap_or t.holders MAX_EXPERTS; expert_names = t.expert_names }
+abbrev pub whole_settings : PartialSettings → Settings
+whole_settings t = record { known = t.known; holders = unwrap_or t.holders MAX_EXPERTS; expert_names = t.expert_names }
 
 -- so many holders, which is told once
-abbrev pub holders_once : ℕ → Told → ℕ → Result Told ScriptFault
-holders_once k t h = cond (is_expert h && is_none t.holders) (Ok (record t { holders = Some h })) (Err (BadHolders k))
+abbrev pub with_holders : ℕ → PartialSettings → ℕ → Result PartialSettings ScriptFault
+with_holders k t h = cond (is_expert h && is_none t.holders) (Ok (record t { holders = Some h })) (Err (BadHolders k))
 
 -- `H`
-abbrev pub holders_told : ℕ → Told → Text → Result Told ScriptFault
-holders_told k t word = cond (is_numeral word) (holders_once k t (value_of word)) (Err (BadLine k))
+abbrev pub with_holders_word : ℕ → PartialSettings → Text → Result PartialSettings ScriptFault
+with_holders_word k t word = cond (is_numeral word) (with_holders k t (value_of word)) (Err (BadLine k))
 
 -- the name of expert e, who is named once
-abbrev pub name_once : ℕ → Told → ℕ → RowName → Result Told ScriptFault
-name_once k t e name =
+abbrev pub with_name : ℕ → PartialSettings → ℕ → RowName → Result PartialSettings ScriptFault
+with_name k t e name =
     cond (is_expert e && is_none (name_of e t.expert_names)) (Ok (record t { expert_names = insert_entry nat_cmp t.expert_names e name })) (Err (BadExpert k))
 
 -- `E NAME`
-abbrev pub name_told : ℕ → Told → Text → Result Told ScriptFault
-name_told k t words =
-    cond (is_numeral (first_word words) && is_name (later_words words)) (name_once k t (value_of (first_word words)) (later_words words)) (Err (BadLine k))
+abbrev pub with_name_words : ℕ → PartialSettings → Text → Result PartialSettings ScriptFault
+with_name_words k t words =
+    cond (is_numeral (first_word words) && is_name (later_words words)) (with_name k t (value_of (first_word words)) (later_words words)) (Err (BadLine k))
 
 -- why a line of a known file is none
 abbrev pub rule_fault : KnownFault → ScriptFault
@@ -123,20 +123,20 @@ rule_fault (known.BadWidth k) = BadWidth k
 rule_fault known.Memory = Memory
 
 -- one more implication is known
-abbrev pub rule_told : Told → Result Rule KnownFault → Result Told ScriptFault
-rule_told t (Ok i) = Ok (record t { known = t.known ++ i ∷ [] })
-rule_told t (Err fault) = Err (rule_fault fault)
+abbrev pub with_rule : PartialSettings → Result Rule KnownFault → Result PartialSettings ScriptFault
+with_rule t (Ok i) = Ok (record t { known = t.known ++ i ∷ [] })
+with_rule t (Err fault) = Err (rule_fault fault)
 
 -- what a line tells by its first word, and None where it is no line of settings
-abbrev pub setting_of_words : ℕ → ℕ → Told → Text → Text → Option (Result Told ScriptFault)
+abbrev pub setting_of_words : ℕ → ℕ → PartialSettings → Text → Text → Option (Result PartialSettings ScriptFault)
 setting_of_words n k t verb words =
-    cond (bytes_eq verb (codes "holders")) (Some (holders_told k t words))
-    (cond (bytes_eq verb (codes "expert")) (Some (name_told k t words))
-    (cond (bytes_eq verb (codes "known")) (Some (rule_told t (known_rule n k words)))
+    cond (bytes_eq verb (codes "holders")) (Some (with_holders_word k t words))
+    (cond (bytes_eq verb (codes "expert")) (Some (with_name_words k t words))
+    (cond (bytes_eq verb (codes "known")) (Some (with_rule t (known_rule n k words)))
     None))
 
 -- what line k tells behind what was told before
-abbrev pub setting_of : ℕ → ℕ → Told → Text → Option (Result Told ScriptFault)
+abbrev pub setting_of : ℕ → ℕ → PartialSettings → Text → Option (Result PartialSettings ScriptFault)
 setting_of n k t line = cond (is_utf8 line) (setting_of_words n k t (first_word line) (later_words line)) None
 
 -- ---- all lines
@@ -146,33 +146,33 @@ abbrev pub second_heading : Text
 second_heading = codes "exploration 2"
 
 -- these settings and events, or the fault
-abbrev pub finished : Told → Option ℕ → Result (List SetEvent) ScriptFault → Result Said ScriptFault
-finished t second (Ok events) = Ok (record { settings = settings_told t; events = events; second = second })
-finished t second (Err fault) = Err fault
+abbrev pub script_content : PartialSettings → Option ℕ → Result (List SetEvent) ScriptFault → Result ScriptContent ScriptFault
+script_content t second (Ok events) = Ok (record { settings = whole_settings t; events = events; second = second })
+script_content t second (Err fault) = Err fault
 
 -- where the line is one of settings, what comes behind it, or its fault
-abbrev pub by_setting : Option (Result Told ScriptFault) → (Told → Result Said ScriptFault) → Result Said ScriptFault → Result Said ScriptFault
+abbrev pub by_setting : Option (Result PartialSettings ScriptFault) → (PartialSettings → Result ScriptContent ScriptFault) → Result ScriptContent ScriptFault → Result ScriptContent ScriptFault
 by_setting None behind otherwise = otherwise
 by_setting (Some (Ok t)) behind otherwise = behind t
 by_setting (Some (Err fault)) behind otherwise = Err fault
 
 -- what lines say behind the line `exploration 2`, which is number `second`: settings, and events from the first line on that is none of settings
-abbrev pub settled : ℕ → Told → ℕ → List (ℕ × Text) → Result Said ScriptFault
-settled n t second [] = finished t (Some second) (Ok [])
-settled n t second (l ∷ ls) =
-    by_setting (setting_of n l.0 t l.1) (λ told. settled n told second ls) (finished t (Some second) (events_said n (l ∷ ls)))
+abbrev pub settings_then_events : ℕ → PartialSettings → ℕ → List (ℕ × Text) → Result ScriptContent ScriptFault
+settings_then_events n t second [] = script_content t (Some second) (Ok [])
+settings_then_events n t second (l ∷ ls) =
+    by_setting (setting_of n l.0 t l.1) (λ later. settings_then_events n later second ls) (script_content t (Some second) (events_of_lines n (l ∷ ls)))
 
 -- what lines say, of which the first may be a heading
-abbrev pub headed : ℕ → Told → List (ℕ × Text) → Result Said ScriptFault
-headed n t [] = finished t None (Ok [])
-headed n t (l ∷ ls) =
-    cond (bytes_eq l.1 heading) (finished t None (events_said n ls))
-    (cond (bytes_eq l.1 second_heading) (settled n t l.0 ls)
-    (finished t None (events_said n (l ∷ ls))))
+abbrev pub content_of_lines : ℕ → PartialSettings → List (ℕ × Text) → Result ScriptContent ScriptFault
+content_of_lines n t [] = script_content t None (Ok [])
+content_of_lines n t (l ∷ ls) =
+    cond (bytes_eq l.1 heading) (script_content t None (events_of_lines n ls))
+    (cond (bytes_eq l.1 second_heading) (settings_then_events n t l.0 ls)
+    (script_content t None (events_of_lines n (l ∷ ls))))
 
 -- what a script says, where rows and patterns have width n, or its first fault
-unfoldable pub script_form : Text → ℕ → Result Said ScriptFault
-script_form bytes n = headed n nothing_told (said_from 1 (lines bytes))
+unfoldable pub script_form : Text → ℕ → Result ScriptContent ScriptFault
+script_form bytes n = content_of_lines n no_settings (numbered_lines 1 (lines bytes))
 
 -- ---- what a script can say
 
@@ -186,11 +186,11 @@ IsNamed (Row e name r) = IsName name
 IsNamed event = ⊤
 
 -- an event of an expert, whose row, if it has one, has the width and a name
-pub record CanBeSaid (n : ℕ) (event : SetEvent) : Type 0 where
+pub record EventCanBeWritten (n : ℕ) (event : SetEvent) : Type 0 where
   pub expert : is_expert (expert_of event) ≡ true
   pub wide : has_width n event ≡ true
   pub named : IsNamed event
 
-abbrev pub EachCanBeSaid : ℕ → List SetEntry → Type 0
-EachCanBeSaid n [] = ⊤
-EachCanBeSaid n (entry ∷ H) = CanBeSaid n entry.event × EachCanBeSaid n H
+abbrev pub EachEventCanBeWritten : ℕ → List SetEntry → Type 0
+EachEventCanBeWritten n [] = ⊤
+EachEventCanBeWritten n (entry ∷ H) = EventCanBeWritten n entry.event × EachEventCanBeWritten n H

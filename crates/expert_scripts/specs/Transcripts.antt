@@ -48,18 +48,18 @@ abbrev pub name_line : ℕ × RowName → Text
 name_line x = (codes "expert " ++ (decimal x.0 ++ (codes " " ++ x.1))) ++ line_end
 
 -- the line of expert e, who has this name
-abbrev pub line_named : ℕ → Option RowName → Text
-line_named e None = []
-line_named e (Some name) = name_line (e, name)
+abbrev pub name_line_at : ℕ → Option RowName → Text
+name_line_at e None = []
+name_line_at e (Some name) = name_line (e, name)
 
 -- the lines of so many experts from number e on, of those who have a name
-abbrev pub lines_named : List (ℕ × RowName) → ℕ → ℕ → Text
-lines_named names e zero = []
-lines_named names e (suc count) = line_named e (name_of e names) ++ lines_named names (e + 1) count
+abbrev pub name_lines_from : List (ℕ × RowName) → ℕ → ℕ → Text
+name_lines_from names e zero = []
+name_lines_from names e (suc count) = name_line_at e (name_of e names) ++ name_lines_from names (e + 1) count
 
 -- the lines of all experts
 unfoldable pub names_text : List (ℕ × RowName) → Text
-names_text names = lines_named names 1 MAX_EXPERTS
+names_text names = name_lines_from names 1 MAX_EXPERTS
 
 -- the lines of settings
 abbrev pub settings_text : List Text → Settings → Text
@@ -88,12 +88,12 @@ AreNames [] = ⊤
 AreNames (x ∷ xs) = IsName x × AreNames xs
 
 -- names of experts in ascending order of their numbers, which are above e
-abbrev pub AreNamed : ℕ → List (ℕ × RowName) → Type 0
-AreNamed e [] = ⊤
-AreNamed e (x ∷ xs) = (e < x.0) × (x.0 ≤ MAX_EXPERTS) × IsName x.1 × AreNamed x.0 xs
+abbrev pub AreExpertNames : ℕ → List (ℕ × RowName) → Type 0
+AreExpertNames e [] = ⊤
+AreExpertNames e (x ∷ xs) = (e < x.0) × (x.0 ≤ MAX_EXPERTS) × IsName x.1 × AreExpertNames x.0 xs
 
 -- settings that may be read: 1 to MAX_EXPERTS holders, known implications of width n, and names of experts
-pub record CanBeTold (n : ℕ) (s : Settings) : Type 0 where
+pub record SettingsCanBeWritten (n : ℕ) (s : Settings) : Type 0 where
   pub holders : is_expert s.holders ≡ true
   pub known : HaveWidth n s.known
-  pub names : AreNamed 0 s.expert_names
+  pub names : AreExpertNames 0 s.expert_names

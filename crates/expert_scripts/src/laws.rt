@@ -6,8 +6,8 @@ ghost use Rattle.fca_model.specs.Implications.{Rule};
 ghost use Rattle.fca_model.specs.Tables.{Text};
 ghost use Rattle.expert_wire.specs.Texts.{full_text};
 ghost use Rattle.expert_scripts.specs.Known.{known_rule};
-ghost use Rattle.expert_scripts.specs.Scripts.{CanBeSaid, EachCanBeSaid, event_of, script_form};
-ghost use Rattle.expert_scripts.specs.Transcripts.{AreNames, CanBeTold, event_text, second_of, transcript};
+ghost use Rattle.expert_scripts.specs.Scripts.{EventCanBeWritten, EachEventCanBeWritten, event_of, script_form};
+ghost use Rattle.expert_scripts.specs.Transcripts.{AreNames, SettingsCanBeWritten, event_text, second_of, transcript};
 
 /// The line that is written of an implication is read as this implication.
 pub fn full_text_reads_back()
@@ -17,11 +17,11 @@ pub fn full_text_reads_back()
 
 /// The line that is written of an event is read as this event.
 pub fn event_reads_back()
-    ensures { (n k : ℕ) (event : SetEvent) → CanBeSaid n event → event_of n k (event_text event) ≡ Ok event }
+    ensures { (n k : ℕ) (event : SetEvent) → EventCanBeWritten n event → event_of n k (event_text event) ≡ Ok event }
 {}
 
 /// A transcript is read as its settings and its events.
 pub fn transcript_reads_back()
-    ensures { (n : ℕ) (attributes : List Text) (settings : Settings) (H : List SetEntry) → AreNames attributes → CanBeTold n settings → EachCanBeSaid n H
+    ensures { (n : ℕ) (attributes : List Text) (settings : Settings) (H : List SetEntry) → AreNames attributes → SettingsCanBeWritten n settings → EachEventCanBeWritten n H
         → script_form (transcript attributes settings H) n ≡ Ok (record { settings = settings; events = events_of H; second = second_of settings }) }
 {}

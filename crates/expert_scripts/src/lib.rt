@@ -7,9 +7,9 @@ mod fault;
 mod known;
 mod known_fault;
 pub mod laws;
+mod partial;
 mod reading;
 mod scripts;
-mod told;
 mod transcript;
 
 pub use fault::ScriptFault;

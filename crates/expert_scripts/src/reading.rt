@@ -4,13 +4,13 @@ ghost use Rattle.std.specs.Prelude.{◌≡◌, ◌≤◌, ◌⊎◌, ℕ, List, 
 ghost use Rattle.fca_model.specs.Tables.{Text};
 ghost use Rattle.fca_model.specs.declared.TheConstants.{MAX_ATTRIBUTES};
 ghost use Rattle.expert_wire.specs.Replies.{heading};
-ghost use Rattle.expert_scripts.specs.Scripts.{Said, said_of, nothing_told, headed, second_heading, settled, finished, events_said, setting_of};
-ghost use Rattle.expert_scripts.specs.Stages.{told_of, behind, to_come};
+ghost use Rattle.expert_scripts.specs.Scripts.{ScriptContent, content_of, no_settings, content_of_lines, second_heading, settings_then_events, script_content, events_of_lines, setting_of};
+ghost use Rattle.expert_scripts.specs.Stages.{partial_of, after_events, content_to_come};
 
 use crate::events::read_event;
 use crate::fault::ScriptFault;
+use crate::partial::PartialSettings;
 use crate::scripts::{Events, Script};
-use crate::told::Told;
 use expert_wire::text_of;
 use exploration_terms::Event;
 use fca_model::Memory;
@@ -31,7 +31,7 @@ pub(crate) enum Stage {
 /// What was read of a script.
 #[derive(Drop)]
 pub(crate) struct Reading {
-    told: Told,
+    settings: PartialSettings,
     events: Vec<Event>,
     stage: Stage,
 }
@@ -40,11 +40,11 @@ impl Reading {
     /// Nothing was read.
     pub(crate) fn new(alloc: Global, n: u32) -> Result<Reading, Memory>
         requires { n ≤ MAX_ATTRIBUTES }
-        ensures width { IfOk result (λ reading. reading.told.known.width ≡ n) }
-        ensures new { IfOk result (λ reading. (ls : List (ℕ × Text)) → to_come n reading ls ≡ headed n nothing_told ls) }
+        ensures width { IfOk result (λ reading. reading.settings.known.width ≡ n) }
+        ensures new { IfOk result (λ reading. (ls : List (ℕ × Text)) → content_to_come n reading ls ≡ content_of_lines n no_settings ls) }
     {
         Ok(Reading {
-            told: Told::nothing(alloc, n)?,
+            settings: PartialSettings::new(alloc, n)?,
             events: Vec::new(alloc),
             stage: Stage::Heading,
         })
@@ -52,8 +52,8 @@ impl Reading {
 
     /// What the script says, where no line is to come.
     pub(crate) fn into_script(self) -> Script
-        ensures said { (n : ℕ) → to_come n self [] ≡ Ok (said_of result) }
-        ensures width { result.settings.known.width ≡ self.told.known.width }
+        ensures said { (n : ℕ) → content_to_come n self [] ≡ Ok (content_of result) }
+        ensures width { result.settings.known.width ≡ self.settings.known.width }
     {
         let second = match self.stage {
             Stage::Heading => None,
@@ -61,7 +61,7 @@ impl Reading {
             Stage::Events(second) => second,
         };
         Script {
-            settings: self.told.into_settings(),
+            settings: self.settings.into_settings(),
             events: Events::of(self.events),
             second,
         }
@@ -75,12 +75,12 @@ impl Reading {
         n: u32,
         number: usize,
     ) -> Result<(), ScriptFault>
-        requires wide { self.old.told.known.width ≡ n }
+        requires wide { self.old.settings.known.width ≡ n }
         requires narrow { n ≤ MAX_ATTRIBUTES }
-        ensures width { OnOk result (self.new.told.known.width ≡ n) }
-        ensures ok { OnOk result ((ls : List (ℕ × Text)) → to_come n self.old ((number, line.now) ∷ ls) ≡ to_come n self.new ls) }
+        ensures width { OnOk result (self.new.settings.known.width ≡ n) }
+        ensures ok { OnOk result ((ls : List (ℕ × Text)) → content_to_come n self.old ((number, line.now) ∷ ls) ≡ content_to_come n self.new ls) }
         ensures refused { IfErr result (λ e. (e ≡ ScriptFault.Memory)
-            ⊎ ((ls : List (ℕ × Text)) → to_come n self.old ((number, line.now) ∷ ls) ≡ Err e)) }
+            ⊎ ((ls : List (ℕ × Text)) → content_to_come n self.old ((number, line.now) ∷ ls) ≡ Err e)) }
     {
         match self.stage {
             Stage::Heading => self.take_first(alloc, line, n, number),
@@ -97,13 +97,13 @@ impl Reading {
         n: u32,
         number: usize,
     ) -> Result<(), ScriptFault>
-        requires wide { self.old.told.known.width ≡ n }
+        requires wide { self.old.settings.known.width ≡ n }
         requires narrow { n ≤ MAX_ATTRIBUTES }
-        ensures width { OnOk result (self.new.told.known.width ≡ n) }
+        ensures width { OnOk result (self.new.settings.known.width ≡ n) }
         ensures ok { OnOk result ((ls : List (ℕ × Text))
-            → behind self.old.events.items (headed n (told_of self.old.told) ((number, line.now) ∷ ls)) ≡ to_come n self.new ls) }
+            → after_events self.old.events.items (content_of_lines n (partial_of self.old.settings) ((number, line.now) ∷ ls)) ≡ content_to_come n self.new ls) }
         ensures refused { IfErr result (λ e. (e ≡ ScriptFault.Memory)
-            ⊎ ((ls : List (ℕ × Text)) → behind self.old.events.items (headed n (told_of self.old.told) ((number, line.now) ∷ ls)) ≡ Err e)) }
+            ⊎ ((ls : List (ℕ × Text)) → after_events self.old.events.items (content_of_lines n (partial_of self.old.settings) ((number, line.now) ∷ ls)) ≡ Err e)) }
     {
         if is_heading(line) {
             self.stage = Stage::Events(None);
@@ -125,16 +125,16 @@ impl Reading {
         number: usize,
         second: usize,
     ) -> Result<(), ScriptFault>
-        requires wide { self.old.told.known.width ≡ n }
+        requires wide { self.old.settings.known.width ≡ n }
         requires narrow { n ≤ MAX_ATTRIBUTES }
         requires stage { self.old.stage ≡ Stage.Settings second }
-        ensures width { OnOk result (self.new.told.known.width ≡ n) }
+        ensures width { OnOk result (self.new.settings.known.width ≡ n) }
         ensures ok { OnOk result ((ls : List (ℕ × Text))
-            → behind self.old.events.items (settled n (told_of self.old.told) second ((number, line.now) ∷ ls)) ≡ to_come n self.new ls) }
+            → after_events self.old.events.items (settings_then_events n (partial_of self.old.settings) second ((number, line.now) ∷ ls)) ≡ content_to_come n self.new ls) }
         ensures refused { IfErr result (λ e. (e ≡ ScriptFault.Memory)
-            ⊎ ((ls : List (ℕ × Text)) → behind self.old.events.items (settled n (told_of self.old.told) second ((number, line.now) ∷ ls)) ≡ Err e)) }
+            ⊎ ((ls : List (ℕ × Text)) → after_events self.old.events.items (settings_then_events n (partial_of self.old.settings) second ((number, line.now) ∷ ls)) ≡ Err e)) }
     {
-        if take_told(&mut self.told, alloc, line, n, number)? {
+        if take_setting_line(&mut self.settings, alloc, line, n, number)? {
             return Ok(());
         }
         self.take_event(alloc, line, n, number, Some(second))
@@ -149,13 +149,13 @@ impl Reading {
         number: usize,
         second: Option<usize>,
     ) -> Result<(), ScriptFault>
-        requires wide { self.old.told.known.width ≡ n }
+        requires wide { self.old.settings.known.width ≡ n }
         requires narrow { n ≤ MAX_ATTRIBUTES }
-        ensures width { OnOk result (self.new.told.known.width ≡ n) }
+        ensures width { OnOk result (self.new.settings.known.width ≡ n) }
         ensures ok { OnOk result ((ls : List (ℕ × Text))
-            → behind self.old.events.items (finished (told_of self.old.told) second (events_said n ((number, line.now) ∷ ls))) ≡ to_come n self.new ls) }
+            → after_events self.old.events.items (script_content (partial_of self.old.settings) second (events_of_lines n ((number, line.now) ∷ ls))) ≡ content_to_come n self.new ls) }
         ensures refused { IfErr result (λ e. (e ≡ ScriptFault.Memory)
-            ⊎ ((ls : List (ℕ × Text)) → behind self.old.events.items (finished (told_of self.old.told) second (events_said n ((number, line.now) ∷ ls))) ≡ Err e)) }
+            ⊎ ((ls : List (ℕ × Text)) → after_events self.old.events.items (script_content (partial_of self.old.settings) second (events_of_lines n ((number, line.now) ∷ ls))) ≡ Err e)) }
     {
         let event = read_event(alloc, line, n, number)?;
         self.events.push(event)?;
@@ -165,26 +165,26 @@ impl Reading {
 }
 
 /// Takes a line of settings, and says whether the line is one.
-fn take_told(
-    told: &mut Told,
+fn take_setting_line(
+    settings: &mut PartialSettings,
     alloc: Global,
     line: &[u8],
     n: u32,
     number: usize,
 ) -> Result<bool, ScriptFault>
-    requires wide { told.old.known.width ≡ n }
+    requires wide { settings.old.known.width ≡ n }
     requires narrow { n ≤ MAX_ATTRIBUTES }
-    ensures width { OnOk result (told.new.known.width ≡ n) }
-    ensures told { IfOk result (λ is_setting. is_setting ≡ true
-        → setting_of n number (told_of told.old) line.now ≡ Some (Ok (told_of told.new))) }
-    ensures none { IfOk result (λ is_setting. is_setting ≡ false → setting_of n number (told_of told.old) line.now ≡ None) }
-    ensures same { IfOk result (λ is_setting. is_setting ≡ false → told_of told.new ≡ told_of told.old) }
-    ensures refused { IfErr result (λ e. (e ≡ ScriptFault.Memory) ⊎ (setting_of n number (told_of told.old) line.now ≡ Some (Err e))) }
+    ensures width { OnOk result (settings.new.known.width ≡ n) }
+    ensures taken { IfOk result (λ is_setting. is_setting ≡ true
+        → setting_of n number (partial_of settings.old) line.now ≡ Some (Ok (partial_of settings.new))) }
+    ensures none { IfOk result (λ is_setting. is_setting ≡ false → setting_of n number (partial_of settings.old) line.now ≡ None) }
+    ensures same { IfOk result (λ is_setting. is_setting ≡ false → partial_of settings.new ≡ partial_of settings.old) }
+    ensures refused { IfErr result (λ e. (e ≡ ScriptFault.Memory) ⊎ (setting_of n number (partial_of settings.old) line.now ≡ Some (Err e))) }
 {
     match text_of(line) {
         Some(text) => {
             let (verb, words) = split_word(text);
-            told.take(alloc, verb, words, n, number)
+            settings.take(alloc, verb, words, n, number)
         }
         None => Ok(false),
     }

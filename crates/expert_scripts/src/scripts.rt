@@ -4,8 +4,8 @@ ghost use Rattle.std.specs.Prelude.{◌≡◌, ◌≤◌, ◌⊎◌, Ok, Err, If
 ghost use Rattle.std.specs.List.{list_all};
 ghost use Rattle.fca_model.specs.declared.TheConstants.{MAX_ATTRIBUTES};
 ghost use Rattle.exploration_terms.specs.Settings.{settings_of};
-ghost use Rattle.expert_scripts.specs.Scripts.{said_of, script_form, may_apply};
-ghost use Rattle.expert_scripts.specs.Transcripts.{CanBeTold};
+ghost use Rattle.expert_scripts.specs.Scripts.{content_of, script_form, may_apply};
+ghost use Rattle.expert_scripts.specs.Transcripts.{SettingsCanBeWritten};
 
 use crate::fault::ScriptFault;
 use crate::reading::Reading;
@@ -66,9 +66,9 @@ impl Events {
 /// What a script says, whose rows and patterns have width n.
 pub fn read_script(alloc: Global, bytes: &[u8], n: u32) -> Result<Script, ScriptFault>
     requires { n ≤ MAX_ATTRIBUTES }
-    ensures ok { IfOk result (λ script. script_form bytes.now n ≡ Ok (said_of script)) }
+    ensures ok { IfOk result (λ script. script_form bytes.now n ≡ Ok (content_of script)) }
     ensures width { IfOk result (λ script. script.settings.known.width ≡ n) }
-    ensures told { IfOk result (λ script. CanBeTold n (settings_of script.settings)) }
+    ensures writable { IfOk result (λ script. SettingsCanBeWritten n (settings_of script.settings)) }
     ensures fits { IfOk result (λ script. list_all (may_apply n) script.events ≡ true) }
     ensures refused { IfErr result (λ e. (e ≡ ScriptFault.Memory) ⊎ (script_form bytes.now n ≡ Err e)) }
 {

@@ -6,7 +6,7 @@ ghost use Rattle.fca_io.specs.Transfers.{AppendsFront};
 ghost use Rattle.exploration_terms.specs.Settings.{settings_of, name_of};
 ghost use Rattle.expert_wire.specs.Texts.{line_end};
 ghost use Rattle.fca_model.specs.Exploration.{is_expert};
-ghost use Rattle.expert_scripts.specs.Transcripts.{event_text, entries_text, entry_lines, known_line, line_named, names_text, settings_text, opening_text, transcript};
+ghost use Rattle.expert_scripts.specs.Transcripts.{event_text, entries_text, entry_lines, known_line, name_line_at, names_text, settings_text, opening_text, transcript};
 
 use context_table::Table;
 use expert_wire::{Draft, Part};
@@ -99,8 +99,8 @@ fn write_name(
     names: &ExpertNames,
     expert: u8,
 ) -> Result<(), Memory>
-    ensures whole { OnOk result (draft.new ≡ draft.old ++ line_named expert (name_of expert names.now)) }
-    ensures front { AppendsFront (Some draft.old) (Some draft.new) (line_named expert (name_of expert names.now)) }
+    ensures whole { OnOk result (draft.new ≡ draft.old ++ name_line_at expert (name_of expert names.now)) }
+    ensures front { AppendsFront (Some draft.old) (Some draft.new) (name_line_at expert (name_of expert names.now)) }
 {
     match names.get(expert) {
         Some(name) => draft.parts(

@@ -10,20 +10,20 @@ use Rattle.std.specs.Prelude.{codes, slice_get}
 use Rattle.fca_model.specs.Sets.{Set}
 use Rattle.fca_model.specs.Tables.{Text}
 use Rattle.text_pieces.specs.Marks.{marks_of}
-use Rattle.expert_wire.specs.Texts.{names_of, continued, listed, pattern, ordinal, line_end, braces_text, full_text}
+use Rattle.expert_wire.specs.Texts.{names_of, comma_tail, comma_list, pattern, ordinal, line_end, braces_text, full_text}
 use Rattle.expert_wire.specs.Replies.{numbered_rule}
 use Rattle.fca_model.specs.Implications.{Rule}
 use Rattle.attr_bits.specs.Difference.{minus}
 
 abbrev pub bridged : Text → List Text → Text
 bridged between [] = []
-bridged between (x ∷ xs) = between ++ (x ++ continued xs)
+bridged between (x ∷ xs) = between ++ (x ++ comma_tail xs)
 
-pub bridged-first : (xs : List Text) → bridged [] xs ≡ listed xs
+pub bridged-first : (xs : List Text) → bridged [] xs ≡ comma_list xs
 bridged-first [] = refl
 bridged-first (x ∷ xs) = refl
 
-pub bridged-next : (xs : List Text) → bridged (codes ", ") xs ≡ continued xs
+pub bridged-next : (xs : List Text) → bridged (codes ", ") xs ≡ comma_tail xs
 bridged-next [] = refl
 bridged-next (x ∷ xs) = refl
 
@@ -63,7 +63,7 @@ pub bridged-member : (between : Text) (i : ℕ) (names : List Text) (A : Set) (n
     → bridged between (names_from i names A) ++ tail ≡ (between ++ name) ++ (bridged (codes ", ") (names_from (suc i) names A) ++ tail)
 bridged-member between i names A name tail h k e named =
     ap (λ xs. bridged between xs ++ tail) (names_from-member i names A h k e)
-    ∙ ap (λ x. (between ++ (x ++ continued (names_from (suc i) names A))) ++ tail) (get_or_from_slice_get names i name [] (sym named))
+    ∙ ap (λ x. (between ++ (x ++ comma_tail (names_from (suc i) names A))) ++ tail) (get_or_from_slice_get names i name [] (sym named))
     ∙ ap (λ x. (between ++ (name ++ x)) ++ tail) (sym (bridged-next (names_from (suc i) names A)))
     ∙ simp append_assoc
 

@@ -14,22 +14,22 @@ use Rattle.text_pieces.proofs.MarkLemmas.{marks_of-marks, set_of_marks-marks_of,
 use Rattle.text_pieces.proofs.WordLemmas.{before_first-at, after_first-at}
 use Rattle.expert_wire.specs.Texts.{pattern}
 use Rattle.expert_wire.specs.declared.requests.RequestFault.TheVariants.{Line, Width}
-use Rattle.expert_wire.specs.Words.{is_name, named_row, row_of_width, set_marked}
+use Rattle.expert_wire.specs.Words.{is_name, named_row, row_of_width, set_of_pattern}
 
 -- ---- sets
 
 -- marks that are not a dash mark their set
-marked : (m : ℕ) (A : Set) → eqb m 45 ≡ false → list_all is_mark (m ∷ marks_of A) ≡ true → (B : Set) → map is_cross (m ∷ marks_of A) ≡ B → set_marked (m ∷ marks_of A) ≡ Some B
+marked : (m : ℕ) (A : Set) → eqb m 45 ≡ false → list_all is_mark (m ∷ marks_of A) ≡ true → (B : Set) → map is_cross (m ∷ marks_of A) ≡ B → set_of_pattern (m ∷ marks_of A) ≡ Some B
 marked m A other marks B back =
     let some : nat_lt 0 (length (m ∷ marks_of A)) ≡ true = lt-ltb 0 (length (m ∷ marks_of A)) (omega arith) in
     ap (λ b. cond (b && bytes_eq (marks_of A) []) (Some []) (cond (nat_lt 0 (length (m ∷ marks_of A)) && list_all is_mark (m ∷ marks_of A)) (Some (map is_cross (m ∷ marks_of A))) None)) other
     ∙ ap (λ b. cond b (Some (map is_cross (m ∷ marks_of A))) None) (and_from (nat_lt 0 (length (m ∷ marks_of A))) (list_all is_mark (m ∷ marks_of A)) some marks)
     ∙ ap Some back
 
-pub set_marked-pattern : (A : Set) → set_marked (pattern A) ≡ Some A
-set_marked-pattern [] = refl
-set_marked-pattern (true ∷ A) = marked 88 A refl (marks_of-marks A) (true ∷ A) (ap (λ B. true ∷ B) (set_of_marks-marks_of A))
-set_marked-pattern (false ∷ A) = marked 46 A refl (marks_of-marks A) (false ∷ A) (ap (λ B. false ∷ B) (set_of_marks-marks_of A))
+pub set_of_pattern-pattern : (A : Set) → set_of_pattern (pattern A) ≡ Some A
+set_of_pattern-pattern [] = refl
+set_of_pattern-pattern (true ∷ A) = marked 88 A refl (marks_of-marks A) (true ∷ A) (ap (λ B. true ∷ B) (set_of_marks-marks_of A))
+set_of_pattern-pattern (false ∷ A) = marked 46 A refl (marks_of-marks A) (false ∷ A) (ap (λ B. false ∷ B) (set_of_marks-marks_of A))
 
 -- ---- bytes that no pattern has
 
@@ -72,7 +72,7 @@ named_row-written n r name wide named =
     let text = pattern r ++ (32 ∷ name) in
     let first : first_word text ≡ pattern r = before_first-at is_space (pattern r) 32 name (pattern_no_space r) refl in
     let later : later_words text ≡ name = after_first-at is_space (pattern r) 32 name (pattern_no_space r) refl in
-    ap₂ (λ w t. cond (is_name t) (row_of_width n t (set_marked w)) (Err Line)) first later
-    ∙ ap (λ fault. cond (is_none fault) (row_of_width n name (set_marked (pattern r))) (Err Line)) named.faultless
-    ∙ ap (row_of_width n name) (set_marked-pattern r)
+    ap₂ (λ w t. cond (is_name t) (row_of_width n t (set_of_pattern w)) (Err Line)) first later
+    ∙ ap (λ fault. cond (is_none fault) (row_of_width n name (set_of_pattern (pattern r))) (Err Line)) named.faultless
+    ∙ ap (row_of_width n name) (set_of_pattern-pattern r)
     ∙ ap (λ b. cond b (Ok (name, r)) (Err Width)) wide

@@ -16,11 +16,11 @@ use Rattle.text_pieces.specs.Lines.{lines}
 pub use Rattle.text_pieces.proofs.LineLemmas.{no_break-append}
 pub use Rattle.text_pieces.proofs.NumeralLemmas.{no_break-decimal}
 use Rattle.text_pieces.proofs.LineLemmas.{lines-line, no_break-faultless}
-use Rattle.expert_wire.specs.Texts.{line_end, ordinal, pattern, names_of, continued, braced, braces_text, arrow_text, full_text}
+use Rattle.expert_wire.specs.Texts.{line_end, ordinal, pattern, names_of, comma_tail, names_in_braces, braces_text, arrow_text, full_text}
 use Rattle.expert_wire.specs.Replies.{attribute_name, numbered_row, numbered_rule, reply_text}
 use Rattle.expert_wire.specs.Words.{is_name}
-use Rattle.expert_wire.specs.Lines.{said_from}
-use Rattle.expert_wire.proofs.LineLemmas.{said_from-skipped}
+use Rattle.expert_wire.specs.Lines.{numbered_lines}
+use Rattle.expert_wire.proofs.LineLemmas.{numbered_lines-skipped}
 use Rattle.expert_wire.proofs.ReadLemmas.{pattern_no_break}
 
 -- ---- texts without a line break
@@ -38,21 +38,21 @@ no_break-names_of (name ∷ names) [] h = refl
 no_break-names_of (name ∷ names) (true ∷ A) h = let parts = and_parts (is_name name) (list_all is_name names) h in and_from (is_name name) (list_all is_name (names_of names A)) parts.0 (no_break-names_of names A parts.1)
 no_break-names_of (name ∷ names) (false ∷ A) h = no_break-names_of names A (and_parts (is_name name) (list_all is_name names) h).1
 
-no_break-continued : (names : List Text) → list_all is_name names ≡ true → list_any is_line_break (continued names) ≡ false
-no_break-continued [] h = refl
-no_break-continued (name ∷ names) h =
-    let parts = and_parts (is_name name) (list_all is_name names) h in no_break-append name (continued names) (no_break-name name parts.0) (no_break-continued names parts.1)
+no_break-comma_tail : (names : List Text) → list_all is_name names ≡ true → list_any is_line_break (comma_tail names) ≡ false
+no_break-comma_tail [] h = refl
+no_break-comma_tail (name ∷ names) h =
+    let parts = and_parts (is_name name) (list_all is_name names) h in no_break-append name (comma_tail names) (no_break-name name parts.0) (no_break-comma_tail names parts.1)
 
-pub no_break-braced : (names : List Text) → list_all is_name names ≡ true → list_any is_line_break (braced names) ≡ false
-no_break-braced [] h = refl
-no_break-braced (name ∷ names) h =
+pub no_break-names_in_braces : (names : List Text) → list_all is_name names ≡ true → list_any is_line_break (names_in_braces names) ≡ false
+no_break-names_in_braces [] h = refl
+no_break-names_in_braces (name ∷ names) h =
     let parts = and_parts (is_name name) (list_all is_name names) h in
-    no_break-append (name ++ continued names) (codes "}") (no_break-append name (continued names) (no_break-name name parts.0) (no_break-continued names parts.1)) refl
+    no_break-append (name ++ comma_tail names) (codes "}") (no_break-append name (comma_tail names) (no_break-name name parts.0) (no_break-comma_tail names parts.1)) refl
 
 pub no_break-arrow : (attributes : List Text) (i : Rule) → list_all is_name attributes ≡ true → list_any is_line_break (arrow_text attributes i) ≡ false
 no_break-arrow attributes i h =
-    no_break-append (braces_text attributes i.premise) (codes " -> " ++ braces_text attributes (minus i.conclusion i.premise)) (no_break-braced (names_of attributes i.premise) (no_break-names_of attributes i.premise h))
-    (no_break-braced (names_of attributes (minus i.conclusion i.premise)) (no_break-names_of attributes (minus i.conclusion i.premise) h))
+    no_break-append (braces_text attributes i.premise) (codes " -> " ++ braces_text attributes (minus i.conclusion i.premise)) (no_break-names_in_braces (names_of attributes i.premise) (no_break-names_of attributes i.premise h))
+    (no_break-names_in_braces (names_of attributes (minus i.conclusion i.premise)) (no_break-names_of attributes (minus i.conclusion i.premise) h))
 
 pub no_break-full : (attributes : List Text) (i : Rule) → list_all is_name attributes ≡ true → list_any is_line_break (full_text attributes i) ≡ false
 no_break-full attributes i h =
@@ -88,7 +88,7 @@ no_break-reply attributes (SupersededBy place i) h = no_break-rule attributes pl
 -- ---- skipped lines
 
 abbrev pub Skips : Text → Type 0
-Skips text = (k : ℕ) (rest : Text) → (m : ℕ) × (said_from k (lines (text ++ rest)) ≡ said_from m (lines rest))
+Skips text = (k : ℕ) (rest : Text) → (m : ℕ) × (numbered_lines k (lines (text ++ rest)) ≡ numbered_lines m (lines rest))
 
 pub Skips-nil : Skips []
 Skips-nil k rest = (k, refl)
@@ -97,15 +97,15 @@ pub Skips-append : (a b : Text) → Skips a → Skips b → Skips (a ++ b)
 Skips-append a b f g k rest =
     let x = f k (b ++ rest) in
     let y = g x.0 rest in
-    (y.0, ap (λ t. said_from k (lines t)) (append_assoc a b rest) ∙ x.1 ∙ y.1)
+    (y.0, ap (λ t. numbered_lines k (lines t)) (append_assoc a b rest) ∙ x.1 ∙ y.1)
 
 pub Skips-comment : (body : Text) → list_any is_line_break body ≡ false → Skips (codes "# " ++ (body ++ line_end))
 Skips-comment body h k rest =
     let line = codes "# " ++ body in (
       k + 1,
-      ap (λ t. said_from k (lines (codes "# " ++ t))) (append_assoc body line_end rest)
-          ∙ ap (said_from k) (lines-line line rest h)
-          ∙ said_from-skipped k line (lines rest) refl,
+      ap (λ t. numbered_lines k (lines (codes "# " ++ t))) (append_assoc body line_end rest)
+          ∙ ap (numbered_lines k) (lines-line line rest h)
+          ∙ numbered_lines-skipped k line (lines rest) refl,
     )
 
 pub Skips-flat_map : {X : Type 0} (f : X → Text) (xs : List X) → ((x : X) → Skips (f x)) → Skips (flat_map f xs)

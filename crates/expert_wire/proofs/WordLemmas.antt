@@ -16,7 +16,7 @@ use Rattle.fca_model.specs.Exploration.{is_expert}
 use Rattle.text_pieces.specs.Words.{first_word, later_words}
 use Rattle.expert_wire.specs.declared.requests.RequestFault.{RequestFault}
 use Rattle.expert_wire.specs.declared.requests.RequestFault.TheVariants.{Line, Width, Memory}
-use Rattle.expert_wire.specs.Words.{is_name, named_row, row_of_width, set_marked}
+use Rattle.expert_wire.specs.Words.{is_name, named_row, row_of_width, set_of_pattern}
 
 -- a number of more than 64 bits is no expert's
 pub no_expert : (n : ℕ) → 2 ^ 64 ≤ n → None ≡ cond (is_expert n) (Some n) None
@@ -54,11 +54,11 @@ is_name-faultless text = by (length text == 0) (nat_lt MAX_NAME_BYTES (length te
     by false false false some few unbroken = refl
 
 -- marks with a name behind them are a row, if they have the width
-module _ (n : ℕ) (text word later : Text) (r : Set) (first : word ≡ first_word text) (behind : later ≡ later_words text) (marked : set_marked word ≡ Some r)
+module _ (n : ℕ) (text word later : Text) (r : Set) (first : word ≡ first_word text) (behind : later ≡ later_words text) (marked : set_of_pattern word ≡ Some r)
     (named : is_name later ≡ true) (fault : RequestFault) (said : fault ≡ cond (length r == n) Memory Width) where
   shaped : named_row n text ≡ cond (length r == n) (Ok (later, r)) (Err Width)
   shaped =
-      ap₂ (λ w t. cond (is_name t) (row_of_width n t (set_marked w)) (Err Line)) (sym first) (sym behind)
+      ap₂ (λ w t. cond (is_name t) (row_of_width n t (set_of_pattern w)) (Err Line)) (sym first) (sym behind)
       ∙ ap₂ (λ b m. cond b (row_of_width n later m) (Err Line)) named marked
 
   -- what is said without memory for the name is that, or the fault of the row

@@ -9,5 +9,5 @@ abbrev pub is_skipped : Text → Bool
 is_skipped line = is_blank_line line || (slice_index line 0 == 35)
 
 -- the lines that aren't skipped, each with its number; the first number is k
-abbrev pub said_from : ℕ → List Text → List (ℕ × Text)
-said_from k ls = filter (λ l. not (is_skipped l.1)) (enumerate_from k ls)
+abbrev pub numbered_lines : ℕ → List Text → List (ℕ × Text)
+numbered_lines k ls = filter (λ l. not (is_skipped l.1)) (enumerate_from k ls)

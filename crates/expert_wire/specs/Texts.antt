@@ -28,22 +28,22 @@ names_of (name ∷ names) [] = []
 names_of (name ∷ names) (a ∷ A) = cond a (name ∷ names_of names A) (names_of names A)
 
 -- each text behind a comma and a space
-abbrev pub continued : List Text → Text
-continued [] = []
-continued (x ∷ xs) = codes ", " ++ (x ++ continued xs)
+abbrev pub comma_tail : List Text → Text
+comma_tail [] = []
+comma_tail (x ∷ xs) = codes ", " ++ (x ++ comma_tail xs)
 
 -- the texts with a comma and a space between two of them
-abbrev pub listed : List Text → Text
-listed [] = []
-listed (x ∷ xs) = x ++ continued xs
+abbrev pub comma_list : List Text → Text
+comma_list [] = []
+comma_list (x ∷ xs) = x ++ comma_tail xs
 
 -- a list of names in braces
-abbrev pub braced : List Text → Text
-braced names = codes "{" ++ (listed names ++ codes "}")
+abbrev pub names_in_braces : List Text → Text
+names_in_braces names = codes "{" ++ (comma_list names ++ codes "}")
 
 -- a set of attributes by the names of its members
 abbrev pub braces_text : List Text → Set → Text
-braces_text attributes A = braced (names_of attributes A)
+braces_text attributes A = names_in_braces (names_of attributes A)
 
 -- ---- implications
 

@@ -10,8 +10,8 @@ use Rattle.expert_wire.specs.declared.requests.RequestFault.{RequestFault}
 use Rattle.expert_wire.specs.declared.requests.RequestFault.TheVariants.{Line, Width}
 
 -- the set of the members that a word marks, where it has one or more marks, or is the dash of a set without attributes
-abbrev pub set_marked : Text → Option Set
-set_marked word = cond (bytes_eq word (codes "-")) (Some [])
+abbrev pub set_of_pattern : Text → Option Set
+set_of_pattern word = cond (bytes_eq word (codes "-")) (Some [])
     (cond (nat_lt 0 (length word) && list_all is_mark word) (Some (map is_cross word)) None)
 
 -- ---- rows
@@ -26,4 +26,4 @@ row_of_width n name (Some r) = cond (length r == n) (Ok (name, r)) (Err Width)
 
 -- `PATTERN NAME`, of width n: the name is all that stands behind the first space
 abbrev pub named_row : ℕ → Text → Result (Text × Set) RequestFault
-named_row n text = cond (is_name (later_words text)) (row_of_width n (later_words text) (set_marked (first_word text))) (Err Line)
+named_row n text = cond (is_name (later_words text)) (row_of_width n (later_words text) (set_of_pattern (first_word text))) (Err Line)

@@ -6,7 +6,7 @@ ghost use Rattle.fca_model.specs.declared.TheConstants.{MAX_ATTRIBUTES};
 ghost use Rattle.fca_model.specs.Exploration.{is_expert};
 ghost use Rattle.text_pieces.specs.Marks.{is_cross};
 ghost use Rattle.text_pieces.specs.Numerals.{is_numeral, value_of};
-ghost use Rattle.expert_wire.specs.Words.{set_marked, named_row};
+ghost use Rattle.expert_wire.specs.Words.{set_of_pattern, named_row};
 
 use crate::RequestFault;
 use attr_bits::Attrs;
@@ -27,12 +27,12 @@ pub fn expert_of(digits: &str) -> Option<u8>
     ensures { result ≡ cond (is_expert (value_of digits.now)) (Some (value_of digits.now)) None }
 {
     match value_of(digits.as_bytes()) {
-        Some(number) => expert_numbered(number),
+        Some(number) => expert_from_number(number),
         None => None,
     }
 }
 
-fn expert_numbered(number: u64) -> Option<u8>
+fn expert_from_number(number: u64) -> Option<u8>
     ensures { result ≡ cond (is_expert number) (Some number) None }
 {
     if 1 <= number && number <= u64::from(MAX_EXPERTS) {
@@ -44,7 +44,7 @@ fn expert_numbered(number: u64) -> Option<u8>
 
 /// The marks of a pattern, if the word is a pattern.
 pub fn marks(word: &[u8]) -> Option<&[u8]>
-    ensures { MatchOption result (set_marked word.now ≡ None) (λ m. set_marked word.now ≡ Some (map is_cross m.now)) }
+    ensures { MatchOption result (set_of_pattern word.now ≡ None) (λ m. set_of_pattern word.now ≡ Some (map is_cross m.now)) }
 {
     if word == b"-".as_slice() {
         Some(&[])
@@ -69,7 +69,7 @@ pub fn read_row(alloc: Global, text: &str, n: u32) -> Result<(Name, Attrs), Requ
     let fits = marks.len() == n as usize;
     let name = match Name::new(alloc, name) {
         Ok(name) => name,
-        Err(NameFault::Memory) => return Err(unnamed(fits)),
+        Err(NameFault::Memory) => return Err(fault_without_memory(fits)),
         Err(_) => return Err(RequestFault::Line),
     };
     if !fits {
@@ -79,7 +79,7 @@ pub fn read_row(alloc: Global, text: &str, n: u32) -> Result<(Name, Attrs), Requ
 }
 
 /// What is said of a row with a name for which there is no memory. Another width is told without it.
-fn unnamed(fits: bool) -> RequestFault
+fn fault_without_memory(fits: bool) -> RequestFault
     ensures { result ≡ cond fits RequestFault.Memory RequestFault.Width }
 {
     if fits {

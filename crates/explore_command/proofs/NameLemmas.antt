@@ -20,7 +20,7 @@ use Rattle.implication_closure.specs.Closing.{HaveWidth}
 use Rattle.explore_state.specs.Faults.{first_break}
 use Rattle.explore_state.proofs.OpenLemmas.{unbroken_rows}
 use Rattle.expert_wire.specs.Words.{is_name}
-use Rattle.expert_scripts.specs.Transcripts.{AreNamed}
+use Rattle.expert_scripts.specs.Transcripts.{AreExpertNames}
 use Rattle.expert_scripts.proofs.NamedLemmas.{AreBelow, below-more, below-push, insert-last}
 use Rattle.explore_command.specs.Panels.{is_named, names_from, names_told, settings_by, MayExplore}
 
@@ -55,7 +55,7 @@ NamesOn-more e i file files before after inside at is on =
 pub NamesOn-all : (e i : ℕ) (files : List Text) (before : List (ℕ × RowName)) → length files ≤ i → NamesOn e (drop i files) files before → before ≡ names_from 1 files
 NamesOn-all e i files before past on = sym (append-nil before) ∙ ap (λ l. before ++ names_from e l) (sym (drop_of_length-le files past)) ∙ on.names
 
--- ---- settings that may be told
+-- ---- settings that can be written
 
 no_fault : (o : Option NameFault) → is_none o ≡ true → o ≡ None
 no_fault None h = refl
@@ -66,23 +66,23 @@ named_is file h =
     let parts = and_parts (is_utf8 file) (is_name file) h in
     record { faultless = no_fault (name_fault file) parts.1; utf8 = IsUtf8-from_is_utf8 file parts.0 }
 
-first_named : (low : ℕ) (file : Text) (later : List (ℕ × RowName)) (b : Bool) → is_named file ≡ b → low + 1 ≤ MAX_EXPERTS → AreNamed (low + 1) later → AreNamed low later
-    → AreNamed low (cond b ((low + 1, file) ∷ later) later)
+first_named : (low : ℕ) (file : Text) (later : List (ℕ × RowName)) (b : Bool) → is_named file ≡ b → low + 1 ≤ MAX_EXPERTS → AreExpertNames (low + 1) later → AreExpertNames low later
+    → AreExpertNames low (cond b ((low + 1, file) ∷ later) later)
 first_named low file later true is few behind other = (omega arith, few, named_is file is, behind)
 first_named low file later false is few behind other = other
 
-above_less : (a b : ℕ) (names : List (ℕ × RowName)) → a ≤ b → AreNamed b names → AreNamed a names
+above_less : (a b : ℕ) (names : List (ℕ × RowName)) → a ≤ b → AreExpertNames b names → AreExpertNames a names
 above_less a b [] l h = tt
 above_less a b (x ∷ xs) l h = (let first = h.0 in omega arith, h.1, h.2, h.3)
 
-names_from-named : (low : ℕ) (files : List Text) → low + length files ≤ MAX_EXPERTS → AreNamed low (names_from (low + 1) files)
+names_from-named : (low : ℕ) (files : List Text) → low + length files ≤ MAX_EXPERTS → AreExpertNames low (names_from (low + 1) files)
 names_from-named low [] few = tt
 names_from-named low (file ∷ files) few =
     let later = names_from (low + 1 + 1) files in
     let behind = names_from-named (low + 1) files (omega arith) in
     first_named low file later (is_named file) refl (omega arith) behind (above_less low (low + 1) later (omega arith) behind)
 
-names_told-named : (names : Bool) (files : List Text) → length files ≤ MAX_EXPERTS → AreNamed 0 (names_told names files)
+names_told-named : (names : Bool) (files : List Text) → length files ≤ MAX_EXPERTS → AreExpertNames 0 (names_told names files)
 names_told-named true files few = let all : 0 + length files ≤ MAX_EXPERTS = omega arith in names_from-named 0 files all
 names_told-named false files few = tt
 
@@ -92,7 +92,7 @@ few_experts n h = leb-true n MAX_EXPERTS (and_parts (nat_le 1 n) (nat_le n MAX_E
 pub may_explore : (table : NamedContext) (S : List Rule) (names : Bool) (files : List Text) → is_expert (length files) ≡ true → HaveWidth table.context.width S
     → first_break S 0 table.context.rows ≡ None → MayExplore table (settings_by S names files)
 may_explore table S names files count wide unbroken = record {
-  told = record { holders = refl; known = wide; names = names_told-named names files (few_experts (length files) count) };
+  writable = record { holders = refl; known = wide; names = names_told-named names files (few_experts (length files) count) };
   respected = unbroken_rows S 0 table.context.rows unbroken;
   free = refl;
 }

@@ -31,9 +31,9 @@ use Rattle.expert_panel.specs.declared.explored.Explored.{Explored}
 use Rattle.expert_panel.specs.Explorations.{IsOraclesShare, EachNumbered, HasAgreed, is_part}
 use Rattle.explore_state.specs.History.{Opening, History, opening_state, state_of, open_of}
 use Rattle.basis_report.specs.Comments.{comments as comments_of, are_lines, AreComments}
-use Rattle.expert_scripts.specs.Transcripts.{CanBeTold, transcript}
+use Rattle.expert_scripts.specs.Transcripts.{SettingsCanBeWritten, transcript}
 use Rattle.basis_report.specs.Explorations.{recorded_section, accepted_section, open_section, basis_lines, state_of_text, explore_text, text_before_basis, Spells, SpellsBefore}
-use Rattle.basis_report.specs.Conflicts.{dropped_at, dropped_of, dropped_from, conflicts_section, conflicts_text}
+use Rattle.basis_report.specs.Conflicts.{dropped_rows_at, dropped_rows_of, dropped_rows_from, conflicts_section, conflicts_text}
 use Rattle.basis_report.proofs.OrderLemmas.{finished_text}
 use Rattle.command_io.specs.Endings.{Output}
 use Rattle.command_io.specs.Readings.{Reading, MayRead}
@@ -101,11 +101,11 @@ module _ (T : NamedContext) (G : Settings) (H : List SetEntry) (respecting : row
         apart = drawn-apart D (k + 1) expert part.0;
       }
 
--- what its settings are can be told
-pub told-play : (p : Panel) (explore : History) (oracles : List Recall) (spent : Bool) → IsPlay p explore oracles spent
-    → CanBeTold explore.opening.table.context.width explore.opening.settings
-told-play p explore oracles spent play =
-    let Tells : Opening → Type 0 = λ o. CanBeTold o.table.context.width o.settings in subst Tells (sym play.opening) play.may.told
+-- its settings can be written
+pub writable-play : (p : Panel) (explore : History) (oracles : List Recall) (spent : Bool) → IsPlay p explore oracles spent
+    → SettingsCanBeWritten explore.opening.table.context.width explore.opening.settings
+writable-play p explore oracles spent play =
+    let Writable : Opening → Type 0 = λ o. SettingsCanBeWritten o.table.context.width o.settings in subst Writable (sym play.opening) play.may.writable
 
 -- there are as many oracles as experts
 pub length-play : (p : Panel) (explore : History) (oracles : List Recall) (spent : Bool) → IsPlay p explore oracles spent → length oracles ≡ explore.opening.experts
@@ -147,8 +147,8 @@ explored-play p o n (Ok r) may opened count opening legal tables shares others u
     }
 
 -- conflicts are lines that change nothing of what the text spells
-pub spelled-conflicts : (explore : History) (conflicts text : Text) → CanBeTold explore.opening.table.context.width explore.opening.settings
-    → ((lines : List Text) → are_lines lines ≡ true → CanBeTold explore.opening.table.context.width explore.opening.settings
+pub spelled-conflicts : (explore : History) (conflicts text : Text) → SettingsCanBeWritten explore.opening.table.context.width explore.opening.settings
+    → ((lines : List Text) → are_lines lines ≡ true → SettingsCanBeWritten explore.opening.table.context.width explore.opening.settings
     → SpellsBefore explore.opening.table explore.opening.settings explore.journal lines)
     → AreComments conflicts → text ≡ explore_text explore.opening.table explore.opening.settings explore.journal ++ conflicts
     → Spells explore.opening.table explore.opening.settings explore.journal text
@@ -167,16 +167,16 @@ pieces-more pieces grown piece text more told =
 -- ---- oracles who know one table
 
 -- no row of a table was dropped
-none_dropped-of : (e : ℕ) (D : NamedContext) (k : ℕ) (rows : List Set) → flat_map (λ x. dropped_at e D x.0 x.1) (enumerate_from k (map (λ _. None) rows)) ≡ []
+none_dropped-of : (e : ℕ) (D : NamedContext) (k : ℕ) (rows : List Set) → flat_map (λ x. dropped_rows_at e D x.0 x.1) (enumerate_from k (map (λ _. None) rows)) ≡ []
 none_dropped-of e D k [] = refl
 none_dropped-of e D k (row ∷ rows) = none_dropped-of e D (k + 1) rows
 
-none_dropped-from : (e : ℕ) (oracles : List Recall) → All (λ (oracle : Recall). oracle.conflicts ≡ no_conflict oracle.table) oracles → dropped_from e (map with_conflicts oracles) ≡ []
+none_dropped-from : (e : ℕ) (oracles : List Recall) → All (λ (oracle : Recall). oracle.conflicts ≡ no_conflict oracle.table) oracles → dropped_rows_from e (map with_conflicts oracles) ≡ []
 none_dropped-from e [] kept = refl
 none_dropped-from e (oracle ∷ oracles) kept =
     let Kept : Recall → Type 0 = λ o. o.conflicts ≡ no_conflict o.table in
-    let here : dropped_of e oracle.table oracle.conflicts ≡ [] = ap (dropped_of e oracle.table) (All-head Kept oracle oracles kept) ∙ none_dropped-of e oracle.table 0 oracle.table.context.rows in
-    ap (λ l. l ++ dropped_from (e + 1) (map with_conflicts oracles)) here ∙ none_dropped-from (e + 1) oracles (All-tail Kept oracle oracles kept)
+    let here : dropped_rows_of e oracle.table oracle.conflicts ≡ [] = ap (dropped_rows_of e oracle.table) (All-head Kept oracle oracles kept) ∙ none_dropped-of e oracle.table 0 oracle.table.context.rows in
+    ap (λ l. l ++ dropped_rows_from (e + 1) (map with_conflicts oracles)) here ∙ none_dropped-from (e + 1) oracles (All-tail Kept oracle oracles kept)
 
 no_conflicts : (attributes : List Text) (J L : List Rule) (oracles : List Recall) → All (λ (oracle : Recall). oracle.conflicts ≡ no_conflict oracle.table) oracles
     → conflicts_text attributes J (map with_conflicts oracles) ≡ conflicts_section attributes L []
@@ -243,7 +243,7 @@ IsPanelText-play p explore oracles spent text expert play whole spelled =
       history = H;
       whole = whole ∙ panel_text-play p explore oracles spent play;
       spells = spells;
-      course = legal-course p.table (length p.experts) p.settings H expert play.may.respected play.may.told.known legal;
+      course = legal-course p.table (length p.experts) p.settings H expert play.may.respected play.may.writable.known legal;
       shares = (let P : List NamedContext → Type 0 = EachNumbered (IsShare H) in
           let few : is_expert (length oracles) ≡ true = ap is_expert (sym (length-map oracles (λ (oracle : Recall). oracle.table)) ∙ ap length play.tables) ∙ expert in
           subst P play.tables (shares-tables p.table p.settings H play.may.respected play.may.free legal oracles few play.shares));

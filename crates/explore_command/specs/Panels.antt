@@ -11,7 +11,7 @@ use Rattle.fca_model.specs.Exploration.{Settings, RowName}
 use Rattle.fca_model.specs.Tables.{Text, NamedContext}
 use Rattle.fca_io.specs.Shelves.{Told}
 use Rattle.expert_wire.specs.Words.{is_name}
-use Rattle.expert_scripts.specs.Transcripts.{CanBeTold}
+use Rattle.expert_scripts.specs.Transcripts.{SettingsCanBeWritten}
 use Rattle.command_io.specs.Readings.{Reading, then, MayRead}
 use Rattle.command_io.specs.Readings.Reading.{Refused, Read}
 use Rattle.command_io.specs.Forms.{table_read}
@@ -30,7 +30,7 @@ pub record Panel : Type 0 where
 
 -- settings that a script can tell, which ask of the table's rows what they have, and under which all experts may hold one question
 pub record MayExplore (table : NamedContext) (s : Settings) : Type 0 where
-  pub told : CanBeTold table.context.width s
+  pub writable : SettingsCanBeWritten table.context.width s
   pub respected : rows_respect s.known table.context ≡ true
   pub free : s.holders ≡ MAX_EXPERTS
 

@@ -4,7 +4,7 @@ ghost use Rattle.std.specs.Prelude.{◌≡◌, ◌≤◌, true, [], All, Bool, I
 ghost use Rattle.fca_model.specs.Exploration.{is_expert};
 ghost use Rattle.exploration_terms.specs.Settings.{settings_of};
 ghost use Rattle.basis_report.specs.Explorations.{Spells};
-ghost use Rattle.expert_scripts.specs.Transcripts.{CanBeTold};
+ghost use Rattle.expert_scripts.specs.Transcripts.{SettingsCanBeWritten};
 ghost use Rattle.command_io.specs.Readings.{MayRefuse, Rises};
 ghost use Rattle.command_io.specs.Readings.Reading.{Read};
 ghost use Rattle.command_io.specs.Explorations.{opening_of};
@@ -78,7 +78,7 @@ fn explored<R: Threads + Wait + Sync>(
 /// The text of the exploration, the conflicts of its oracles, and how it ended.
 fn answer_of<R: Threads>(rt: &R, alloc: Global, explored: &Explored) -> Result<Answer, Memory>
     requires count { vec_len explored.now.oracles ≤ explored.now.explore.opening.experts }
-    requires told { CanBeTold explored.now.explore.opening.table.context.width explored.now.explore.opening.settings }
+    requires writable { SettingsCanBeWritten explored.now.explore.opening.table.context.width explored.now.explore.opening.settings }
     ensures text { IfOk result (λ answer. answer.text ≡ text_with_conflicts explored.now.explore explored.now.oracles.items) }
     ensures spells { IfOk result (λ answer. Spells explored.now.explore.opening.table explored.now.explore.opening.settings explored.now.explore.journal answer.text) }
     ensures ending { IfOk result (λ answer. answer.ending ≡ panel_ending explored.now.spent) }
@@ -97,7 +97,7 @@ fn answer_of<R: Threads>(rt: &R, alloc: Global, explored: &Explored) -> Result<A
 /// The text of the exploration, whose pieces are written side by side, and the conflicts of its oracles.
 fn text_in_pieces<R: Threads>(rt: &R, alloc: Global, explored: &Explored) -> Result<Text, Memory>
     requires count { vec_len explored.now.oracles ≤ explored.now.explore.opening.experts }
-    requires told { CanBeTold explored.now.explore.opening.table.context.width explored.now.explore.opening.settings }
+    requires writable { SettingsCanBeWritten explored.now.explore.opening.table.context.width explored.now.explore.opening.settings }
     ensures text { IfOk result (λ text. text ≡ text_with_conflicts explored.now.explore explored.now.oracles.items) }
     ensures spells { IfOk result (Spells explored.now.explore.opening.table explored.now.explore.opening.settings explored.now.explore.journal) }
 {
@@ -110,7 +110,7 @@ fn text_in_pieces<R: Threads>(rt: &R, alloc: Global, explored: &Explored) -> Res
 /// The text of the exploration and the conflicts of its oracles, in one list.
 fn whole_text(alloc: Global, explored: &Explored) -> Result<Text, Memory>
     requires count { vec_len explored.now.oracles ≤ explored.now.explore.opening.experts }
-    requires told { CanBeTold explored.now.explore.opening.table.context.width explored.now.explore.opening.settings }
+    requires writable { SettingsCanBeWritten explored.now.explore.opening.table.context.width explored.now.explore.opening.settings }
     ensures text { IfOk result (λ text. text ≡ text_with_conflicts explored.now.explore explored.now.oracles.items) }
     ensures spells { IfOk result (Spells explored.now.explore.opening.table explored.now.explore.opening.settings explored.now.explore.journal) }
 {

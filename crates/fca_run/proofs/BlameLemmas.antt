@@ -17,7 +17,7 @@ use Rattle.command_io.specs.declared.stop.Origin.{Origin}
 use Rattle.command_io.specs.declared.stop.Origin.TheVariants.{File, Later, Input}
 use Rattle.command_io.specs.declared.stop.Stop.{Stop}
 use Rattle.command_io.specs.declared.stop.Stop.TheVariants.{NoCommand, NoScript, RowBreaks, UnknownAttribute, OtherAttributes, Fault, Listener, Memory}
-use Rattle.expert_scripts.specs.Scripts.{Said}
+use Rattle.expert_scripts.specs.Scripts.{ScriptContent}
 use Rattle.expert_scripts.specs.declared.fault.ScriptFault.TheVariants.{BadLine}
 use Rattle.replay_command.specs.Replayed.{IsSettingsStop, IsInputStop, IsReplayStop}
 use Rattle.explore_command.specs.Panels.{IsExpertsStop, IsPanelStop}
@@ -93,7 +93,7 @@ module _ (counts counts' : Text → ℕ) (R L : Type 0) where
   experts-blamed table place (file ∷ experts) files s more (inl (inr other)) = named R L s (OtherAttributes (Later place)) tt other.0
   experts-blamed table place (file ∷ experts) files s more (inr later) = experts-blamed table (place + 1) experts files s (λ rose. more (inr rose)) later.2
 
-  settings-blamed : (known : Option Text) (table : NamedContext) (said : Said) (s : Stop) → IsSettingsStop known table said s → IsBlamed R L s
+  settings-blamed : (known : Option Text) (table : NamedContext) (said : ScriptContent) (s : Stop) → IsSettingsStop known table said s → IsBlamed R L s
   settings-blamed None table said s broken = named R L s (RowBreaks Input broken.0.0 broken.0.1) tt broken.2
   settings-blamed (Some known) table said s second = named R L s (NoScript (BadLine second.0)) tt second.2
 

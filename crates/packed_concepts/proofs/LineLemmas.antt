@@ -3,13 +3,13 @@ use Rattle.std.proofs.Common.{◌≡◌, ℕ, ◌+◌, List, [], ◌∷◌, ◌+
 use Rattle.std.specs.Prelude.{codes}
 use Rattle.fca_model.specs.Sets.{Set}
 use Rattle.fca_model.specs.Tables.{Text}
-use Rattle.expert_wire.specs.Texts.{ordinal, listed, names_of}
+use Rattle.expert_wire.specs.Texts.{ordinal, comma_list, names_of}
 use Rattle.packed_concepts.specs.Lines.{Named, names_at, line_of, lines_from}
 
 -- a line, as its parts were put down
 pub line-parts : (t : Named) (old number : Text) (A : Set) (E : List ℕ)
-    → (((((old ++ number) ++ codes " {") ++ listed (names_of t.attributes A)) ++ codes "} | {") ++ listed (names_at t.objects E)) ++ codes "}\n" ≡ old ++ line_of t number A E
-line-parts t old number A E = regroup old number (codes " {") (listed (names_of t.attributes A)) (codes "} | {") (listed (names_at t.objects E)) (codes "}\n")
+    → (((((old ++ number) ++ codes " {") ++ comma_list (names_of t.attributes A)) ++ codes "} | {") ++ comma_list (names_at t.objects E)) ++ codes "}\n" ≡ old ++ line_of t number A E
+line-parts t old number A E = regroup old number (codes " {") (comma_list (names_of t.attributes A)) (codes "} | {") (comma_list (names_at t.objects E)) (codes "}\n")
   where
     regroup : (o n s i m e l : Text) → (((((o ++ n) ++ s) ++ i) ++ m) ++ e) ++ l ≡ o ++ (n ++ (s ++ (i ++ (m ++ (e ++ l)))))
     regroup o n s i m e l = simp append_assoc

@@ -8,7 +8,7 @@ use Rattle.std.proofs.lemmas.List.Elements.{All-head, All-tail}
 use Rattle.std.specs.List.{concat}
 use Rattle.fca_model.specs.Sets.{Set}
 use Rattle.fca_model.specs.Tables.{Text}
-use Rattle.expert_wire.specs.Texts.{names_of, continued, listed}
+use Rattle.expert_wire.specs.Texts.{names_of, comma_tail, comma_list}
 use Rattle.expert_wire.proofs.ListedLemmas.{names_from, names_from-member, names_from-none, names_from-end}
 use Rattle.packed_concepts.specs.Lines.{names_at}
 use Rattle.fca_model.specs.Names.{name_fault}
@@ -24,34 +24,34 @@ names_of-map f (x ∷ xs) (true ∷ A) = ap (λ ys. f x ∷ ys) (names_of-map f 
 names_of-map f (x ∷ xs) (false ∷ A) = names_of-map f xs A
 
 -- a comma and a space first, or last
-continued-parted : (xs : List Text) → codes ", " ++ concat (map parted xs) ≡ continued xs ++ codes ", "
-continued-parted [] = refl
-continued-parted (x ∷ xs) =
-    ap (λ z. codes ", " ++ z) (append_assoc x (codes ", ") (concat (map parted xs)) ∙ ap (λ z. x ++ z) (continued-parted xs))
-    ∙ regroup x (continued xs)
+comma_tail-parted : (xs : List Text) → codes ", " ++ concat (map parted xs) ≡ comma_tail xs ++ codes ", "
+comma_tail-parted [] = refl
+comma_tail-parted (x ∷ xs) =
+    ap (λ z. codes ", " ++ z) (append_assoc x (codes ", ") (concat (map parted xs)) ∙ ap (λ z. x ++ z) (comma_tail-parted xs))
+    ∙ regroup x (comma_tail xs)
   where
     regroup : (a b : Text) → codes ", " ++ (a ++ (b ++ codes ", ")) ≡ (codes ", " ++ (a ++ b)) ++ codes ", "
     regroup a b = simp append_assoc
 
-listed-parted : (x : Text) (xs : List Text) → concat (map parted (x ∷ xs)) ≡ listed (x ∷ xs) ++ codes ", "
-listed-parted x xs = append_assoc x (codes ", ") (concat (map parted xs)) ∙ ap (λ z. x ++ z) (continued-parted xs) ∙ sym (append_assoc x (continued xs) (codes ", "))
+comma_list-parted : (x : Text) (xs : List Text) → concat (map parted (x ∷ xs)) ≡ comma_list (x ∷ xs) ++ codes ", "
+comma_list-parted x xs = append_assoc x (codes ", ") (concat (map parted xs)) ∙ ap (λ z. x ++ z) (comma_tail-parted xs) ∙ sym (append_assoc x (comma_tail xs) (codes ", "))
 
 -- with the last two taken away
-pub trimmed : (old text : Text) (names : List Text) → text ≡ old ++ concat (map parted names) → length old < length text → take (length text - 2) text ≡ old ++ listed names
+pub trimmed : (old text : Text) (names : List Text) → text ≡ old ++ concat (map parted names) → length old < length text → take (length text - 2) text ≡ old ++ comma_list names
 trimmed old text [] is longer =
     let e : length text ≡ length old = ap length (is ∙ append-nil old) in
     absurd (omega (arith, e))
 trimmed old text (x ∷ xs) is longer =
-    let whole : text ≡ (old ++ listed (x ∷ xs)) ++ codes ", " = is ∙ ap (λ z. old ++ z) (listed-parted x xs) ∙ sym (append_assoc old (listed (x ∷ xs)) (codes ", ")) in
-    let n : length text ≡ length (old ++ listed (x ∷ xs)) + 2 = ap length whole ∙ length-append (old ++ listed (x ∷ xs)) (codes ", ") in
-    ap (λ z. take (length text - 2) z) whole ∙ take_at (old ++ listed (x ∷ xs)) (codes ", ") (length text - 2) (omega (arith, n))
+    let whole : text ≡ (old ++ comma_list (x ∷ xs)) ++ codes ", " = is ∙ ap (λ z. old ++ z) (comma_list-parted x xs) ∙ sym (append_assoc old (comma_list (x ∷ xs)) (codes ", ")) in
+    let n : length text ≡ length (old ++ comma_list (x ∷ xs)) + 2 = ap length whole ∙ length-append (old ++ comma_list (x ∷ xs)) (codes ", ") in
+    ap (λ z. take (length text - 2) z) whole ∙ take_at (old ++ comma_list (x ∷ xs)) (codes ", ") (length text - 2) (omega (arith, n))
 
 -- where there is none
-pub untrimmed : (old text : Text) (names : List Text) → text ≡ old ++ concat (map parted names) → length text ≤ length old → text ≡ old ++ listed names
+pub untrimmed : (old text : Text) (names : List Text) → text ≡ old ++ concat (map parted names) → length text ≤ length old → text ≡ old ++ comma_list names
 untrimmed old text [] is short = is
 untrimmed old text (x ∷ xs) is short =
-    let n : length text ≡ length old + length (listed (x ∷ xs) ++ codes ", ") = ap length (is ∙ ap (λ z. old ++ z) (listed-parted x xs)) ∙ length-append old (listed (x ∷ xs) ++ codes ", ") in
-    let m : length (listed (x ∷ xs) ++ codes ", ") ≡ length (listed (x ∷ xs)) + 2 = length-append (listed (x ∷ xs)) (codes ", ") in
+    let n : length text ≡ length old + length (comma_list (x ∷ xs) ++ codes ", ") = ap length (is ∙ ap (λ z. old ++ z) (comma_list-parted x xs)) ∙ length-append old (comma_list (x ∷ xs) ++ codes ", ") in
+    let m : length (comma_list (x ∷ xs) ++ codes ", ") ≡ length (comma_list (x ∷ xs)) + 2 = length-append (comma_list (x ∷ xs)) (codes ", ") in
     absurd (omega (arith, n, m))
 
 -- ---- names that are passed over
@@ -122,7 +122,7 @@ names_at-parted names (p ∷ ps) inside =
 
 -- the names, without the comma and the space behind the last
 pub put_names : (text old : Text) (names : List Text) (start end : ℕ) → take end text ≡ old ++ concat (map parted names) → length old ≡ start → end ≤ length text
-    → take (cond (ltb start end) (end - 2) end) text ≡ old ++ listed names
+    → take (cond (ltb start end) (end - 2) end) text ≡ old ++ comma_list names
 put_names text old names start end made starts inside = elim (cases_lt start end) [
   | inl more ↦
       let long : length (take end text) ≡ end = length-take-le end text inside in

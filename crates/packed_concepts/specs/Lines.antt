@@ -3,7 +3,7 @@ use Rattle.std.specs.Prelude.{ℕ, List, [], ◌++◌, length, map, unwrap_or, s
 use Rattle.std.specs.List.{flat_map, enumerate_from}
 use Rattle.fca_model.specs.Sets.{Set}
 use Rattle.fca_model.specs.Tables.{Text}
-use Rattle.expert_wire.specs.Texts.{listed, names_of, ordinal, line_end}
+use Rattle.expert_wire.specs.Texts.{comma_list, names_of, ordinal, line_end}
 
 -- the names of attributes and of objects
 pub record Named : Type 0 where
@@ -17,7 +17,7 @@ names_at names places = map (λ i. unwrap_or (slice_get names i) []) places
 -- the line with that number of the attributes in A and the objects at the places
 abbrev pub line_of : Named → Text → Set → List ℕ → Text
 line_of t number A places =
-    number ++ (codes " {" ++ (listed (names_of t.attributes A) ++ (codes "} | {" ++ (listed (names_at t.objects places) ++ codes "}\n"))))
+    number ++ (codes " {" ++ (comma_list (names_of t.attributes A) ++ (codes "} | {" ++ (comma_list (names_at t.objects places) ++ codes "}\n"))))
 
 -- the lines of these concepts, an intent and the places of its objects each, the first of which is at place n
 abbrev pub lines_from : Named → ℕ → List (Set × List ℕ) → Text

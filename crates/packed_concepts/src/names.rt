@@ -3,7 +3,7 @@
 ghost use Rattle.std.specs.Prelude.{◌≡◌, ◌+◌, ◌-◌, ◌*◌, ◌≤◌, ◌<◌, ◌++◌, All, List, length, map, take, cond, nat_lt};
 ghost use Rattle.std.specs.List.{concat};
 ghost use Rattle.fca_model.specs.Tables.{Text};
-ghost use Rattle.expert_wire.specs.Texts.{listed, names_of};
+ghost use Rattle.expert_wire.specs.Texts.{comma_list, names_of};
 ghost use Rattle.packed_concepts.specs.Listing.{parted, unparted, AreParted};
 ghost use Rattle.packed_concepts.specs.Lines.{names_at};
 
@@ -54,7 +54,7 @@ impl Names {
     pub fn put_intent<const W: usize>(&self, text: &mut [u8], start: usize, set: &Bits<W>) -> usize
         requires few { length set.now ≤ length self.now.attributes }
         requires room { start + PIECE_ROOM * length set.now ≤ length text.old }
-        ensures text { take result text.new ≡ take start text.old ++ listed (names_of self.now.attributes set.now) }
+        ensures text { take result text.new ≡ take start text.old ++ comma_list (names_of self.now.attributes set.now) }
         ensures ends { result ≤ start + PIECE_BYTES * length set.now }
         ensures room { length text.new ≡ length text.old }
     {
@@ -65,7 +65,7 @@ impl Names {
     pub fn put_extent(&self, text: &mut [u8], start: usize, places: &[u16]) -> usize
         requires inside { All (λ p. p < length self.now.objects) places.now }
         requires room { start + PIECE_ROOM * length places.now ≤ length text.old }
-        ensures text { take result text.new ≡ take start text.old ++ listed (names_at self.now.objects places.now) }
+        ensures text { take result text.new ≡ take start text.old ++ comma_list (names_at self.now.objects places.now) }
         ensures ends { result ≤ start + PIECE_BYTES * length places.now }
         ensures room { length text.new ≡ length text.old }
     {
@@ -83,7 +83,7 @@ pub fn put_set<const W: usize>(
 ) -> usize
     requires few { length set.now ≤ length pieces.now }
     requires room { start + PIECE_ROOM * length set.now ≤ length text.old }
-    ensures text { (names : List Text) → pieces.now ≡ map parted names → take result text.new ≡ take start text.old ++ listed (names_of names set.now) }
+    ensures text { (names : List Text) → pieces.now ≡ map parted names → take result text.new ≡ take start text.old ++ comma_list (names_of names set.now) }
     ensures ends { result ≤ start + PIECE_BYTES * length set.now }
     ensures room { length text.new ≡ length text.old }
 {

@@ -14,8 +14,8 @@ use Rattle.fca_model.specs.Exploration.{State, Settings, SetEntry, opening, stat
 use Rattle.fca_model.specs.declared.TheConstants.{FILE_BYTES, MAX_EXPERTS}
 use Rattle.fca_io.specs.Shelves.{Told}
 use Rattle.explore_state.specs.Faults.{broken_by, break_at, first_break}
-use Rattle.expert_scripts.specs.Scripts.{Said, script_form}
-use Rattle.basis_report.specs.Explorations.{said_by, Spells}
+use Rattle.expert_scripts.specs.Scripts.{ScriptContent, script_form}
+use Rattle.basis_report.specs.Explorations.{content_of_text, Spells}
 use Rattle.command_io.specs.Readings.{Reading, then, formed}
 use Rattle.command_io.specs.Readings.Reading.{Refused, Read}
 use Rattle.command_io.specs.Forms.{table_read, script_read}
@@ -55,18 +55,18 @@ opened-respecting r explored = (explored.moments [] r.journal refl).valid.known
 -- ---- what is read
 
 -- a text that is not too long is read as what it says
-script-read : (n : ℕ) (text : Text) (said : Said) → length text ≤ FILE_BYTES → script_form text n ≡ Ok said → script_read n (Some text) ≡ Read said
+script-read : (n : ℕ) (text : Text) (said : ScriptContent) → length text ≤ FILE_BYTES → script_form text n ≡ Ok said → script_read n (Some text) ≡ Read said
 script-read n text said short is = ap (λ b. cond b (formed (script_form text n)) Refused) (le-leb (length text) FILE_BYTES short) ∙ ap formed is
 
-settings-read : (t : NamedContext) (said : Said) → rows_respect said.settings.known t.context ≡ true → settings_read None [] t said ≡ Read said.settings
+settings-read : (t : NamedContext) (said : ScriptContent) → rows_respect said.settings.known t.context ≡ true → settings_read None [] t said ≡ Read said.settings
 settings-read t said respecting =
     ap (λ (R : Reading (List Rule)). then R (λ _. Read said.settings)) (respected-unbroken t said.settings.known (unbroken said.settings.known 0 t.context.rows respecting))
 
 -- the exploration by a text that says this
-explored-said : (t : NamedContext) (text : Text) (said : Said) → length text ≤ FILE_BYTES → script_form text t.context.width ≡ Ok said → rows_respect said.settings.known t.context ≡ true
+explored-said : (t : NamedContext) (text : Text) (said : ScriptContent) → length text ≤ FILE_BYTES → script_form text t.context.width ≡ Ok said → rows_respect said.settings.known t.context ≡ true
     → explored_by None (Some text) (record { table = t; known = [] }) ≡ Read (explored t said.settings said.events)
 explored-said t text said short is respecting =
-    ap (λ (R : Reading Said). then R (λ x. then (settings_read None [] t x) (λ settings. Read (explored t settings x.events)))) (script-read t.context.width text said short is)
+    ap (λ (R : Reading ScriptContent). then R (λ x. then (settings_read None [] t x) (λ settings. Read (explored t settings x.events)))) (script-read t.context.width text said short is)
     ∙ ap (λ (R : Reading Settings). then R (λ settings. Read (explored t settings said.events))) (settings-read t said respecting)
 
 -- ---- what comes of it
@@ -76,13 +76,13 @@ abbrev told : NamedContext → Settings → List SetEntry → Output
 told t settings H = exploration_output (record { opening = opening_of t MAX_EXPERTS settings; journal = H })
 
 told-said : (t : NamedContext) (settings : Settings) (H : List SetEntry) (text : Text) → Spells t settings H text
-    → exploration_output (explored t (said_by t text).settings (said_by t text).events) ≡ told t settings H
-told-said t settings H text spells = ap (told t (said_by t text).settings) spells.history ∙ ap (λ (s : Settings). told t s H) spells.settings
+    → exploration_output (explored t (content_of_text t text).settings (content_of_text t text).events) ≡ told t settings H
+told-said t settings H text spells = ap (told t (content_of_text t text).settings) spells.history ∙ ap (λ (s : Settings). told t s H) spells.settings
 
 pub fed_back : (r : Recorded) (text : Text) → IsExplored r → Spells r.opening.table r.opening.settings r.journal text → length text ≤ FILE_BYTES → IsFedBack r text
 fed_back r text explored spells short = λ file files read.
     let t : NamedContext = r.opening.table in
-    let said : Said = said_by t text in
+    let said : ScriptContent = content_of_text t text in
     let Respecting : Settings → Type 0 = λ s. rows_respect s.known t.context ≡ true in
     let respecting = subst Respecting (sym spells.settings) (opened-respecting r explored) in
     let From : Reading NamedContext → Reading Output = λ R.

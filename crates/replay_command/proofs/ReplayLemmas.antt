@@ -7,7 +7,7 @@ use Rattle.fca_model.specs.declared.TheConstants.{MAX_EXPERTS}
 use Rattle.fca_model.specs.Exploration.{State, Settings, SetEvent, SetReply, SetEntry, is_expert, expert_of, has_width, reply_to, state_after, journal_of, events_of}
 use Rattle.fca_model.proofs.RunLemmas.{journal_of-push, events_of-journal_of}
 use Rattle.explore_state.specs.History.{Opening, History, opening_state, state_of, Admits, IsStep}
-use Rattle.expert_scripts.specs.Scripts.{Said, may_apply}
+use Rattle.expert_scripts.specs.Scripts.{ScriptContent, may_apply}
 use Rattle.command_io.specs.Readings.{Reading, MayRead}
 use Rattle.command_io.specs.Causes.{IsScriptStop}
 use Rattle.command_io.specs.Endings.{Output, IsFile, IsOfFile}
@@ -75,7 +75,7 @@ script-of_input n input rose (NoScript fault) is file = file
 script-of_input n input rose Memory is file = file
 script-of_input n input rose _ is file = is
 
-settings-of_input : (known : Option Text) (table : NamedContext) (said : Said) (s : Stop) → IsSettingsStop known table said s → IsOfFile s → ⊥
+settings-of_input : (known : Option Text) (table : NamedContext) (said : ScriptContent) (s : Stop) → IsSettingsStop known table said s → IsOfFile s → ⊥
 settings-of_input None table said s is file = subst IsOfFile is.2 file
 settings-of_input (Some known) table said s is file = subst IsOfFile is.2 file
 

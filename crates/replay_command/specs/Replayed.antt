@@ -12,8 +12,8 @@ use Rattle.explore_state.specs.History.{Opening, opening_state}
 use Rattle.explore_state.specs.Faults.{first_break}
 use Rattle.exploration_terms.specs.Settings.{settings_of}
 use Rattle.exploration_terms.specs.declared.settings.Settings as told
-use Rattle.expert_scripts.specs.Scripts.{Said}
-use Rattle.expert_scripts.specs.Transcripts.{CanBeTold}
+use Rattle.expert_scripts.specs.Scripts.{ScriptContent}
+use Rattle.expert_scripts.specs.Transcripts.{SettingsCanBeWritten}
 use Rattle.expert_scripts.specs.declared.fault.ScriptFault.TheVariants.{BadLine}
 use Rattle.basis_report.specs.Explorations.{explore_text, Spells}
 use Rattle.command_io.specs.Readings.{Reading, then, MayRead}
@@ -30,13 +30,13 @@ use Rattle.command_io.specs.declared.stop.Stop.TheVariants.{NoScript}
 -- ---- what is read
 
 -- the script, where it has no line `exploration 2`
-abbrev pub of_first_version : Option ℕ → Said → Reading Said
+abbrev pub of_first_version : Option ℕ → ScriptContent → Reading ScriptContent
 of_first_version None said = Read said
 of_first_version (Some line) said = Refused
 
 -- The settings of a replay that has this known file, of which S was read, and this script. Beside a known file the script is of the first version, and S is
 -- all that is set; without one it is what the script says, where every row of the table respects what it says is known.
-abbrev pub settings_read : Option Text → List Rule → NamedContext → Said → Reading Settings
+abbrev pub settings_read : Option Text → List Rule → NamedContext → ScriptContent → Reading Settings
 settings_read None S table said = then (respected table said.settings.known) (λ _. Read said.settings)
 settings_read (Some file) S table said = then (of_first_version said.second said) (λ _. Read (record plain { known = S }))
 
@@ -44,7 +44,7 @@ settings_read (Some file) S table said = then (of_first_version said.second said
 pub record MayOpen (table : NamedContext) (s : told.Settings) : Type 0 where
   pub width : s.known.width ≡ table.context.width
   pub respected : first_break s.known.members 0 table.context.rows ≡ None
-  pub told : CanBeTold table.context.width (settings_of s)
+  pub writable : SettingsCanBeWritten table.context.width (settings_of s)
 
 -- the opening of a replay, for as many experts as there may be
 abbrev pub replay_opening : NamedContext → Settings → Opening
@@ -101,14 +101,14 @@ pub record MayReplay (reading : Reading Recorded) (answer : Output) : Type 0 whe
 
 -- The stop of a script that was read: beside a known file it is at fault at its line `exploration 2`, and without one where a row of the table breaks what
 -- it says is known
-abbrev pub IsSettingsStop : Option Text → NamedContext → Said → Stop → Type 0
+abbrev pub IsSettingsStop : Option Text → NamedContext → ScriptContent → Stop → Type 0
 IsSettingsStop None table said stop = IsBreakStop said.settings.known table Input stop
 IsSettingsStop (Some file) table said stop = (line : ℕ) × (said.second ≡ Some line) × (stop ≡ NoScript (BadLine line))
 
 -- the stop of a script on the input of a replay, or, where that was read, of its settings
 abbrev pub IsInputStop : Option Text → NamedContext → Option Text → Type 0 → Stop → Type 0
 IsInputStop known table input rose stop = IsScriptStop table.context.width input rose stop
-    ⊎ ((said : Said) × MayRead (script_read table.context.width input) said × IsSettingsStop known table said stop)
+    ⊎ ((said : ScriptContent) × MayRead (script_read table.context.width input) said × IsSettingsStop known table said stop)
 
 -- The stop of what a replay starts from, or, where that was read, of its script; for some files a count of faults rose, and for the input where
 -- this holds

@@ -8,7 +8,7 @@ ghost use Rattle.implication_closure.specs.Closing.{HaveWidth};
 ghost use Rattle.explore_state.specs.Faults.{first_break};
 ghost use Rattle.exploration_terms.specs.Settings.{settings_of};
 ghost use Rattle.expert_scripts.specs.Scripts.{may_apply};
-ghost use Rattle.expert_scripts.specs.Transcripts.{CanBeTold};
+ghost use Rattle.expert_scripts.specs.Transcripts.{SettingsCanBeWritten};
 ghost use Rattle.command_io.specs.Readings.{MayRead, MayRefuse, Rises};
 ghost use Rattle.command_io.specs.Known.{start_of};
 ghost use Rattle.command_io.specs.Explorations.{IsExplored, recorded};
@@ -55,7 +55,7 @@ fn exploration<H: Shelf, S: Source>(
 ) -> Result<Explore, Stop>
     ensures exploration { IfOk result (λ explore. MayRead (replayed file.now (option_copied known.entry) (H.tells shelf.old) (S.left input.old)) (recorded explore)) }
     ensures course { IfOk result (λ explore. IsExplored (recorded explore)) }
-    ensures told { IfOk result (λ explore. CanBeTold explore.opening.table.context.width explore.opening.settings) }
+    ensures writable { IfOk result (λ explore. SettingsCanBeWritten explore.opening.table.context.width explore.opening.settings) }
     ensures end { OnOk result (IsAtEnd (S.left input.new)) }
     ensures unread { IfErr result (λ stop. IsOfFile stop → input.new ≡ input.old) }
     ensures refused { IfErr result (λ stop. IsRefusal stop → MayRefuse (replayed file.now (option_copied known.entry) (H.tells shelf.old) (S.left input.old))) }
@@ -78,7 +78,7 @@ fn explored_by<S: Source>(
     requires respected { first_break start.known.members 0 start.table.context.rows ≡ None }
     ensures exploration { IfOk result (λ explore. MayRead (explored_by (option_copied known.entry) (S.left input.old) (start_of start)) (recorded explore)) }
     ensures course { IfOk result (λ explore. IsExplored (recorded explore)) }
-    ensures told { IfOk result (λ explore. CanBeTold explore.opening.table.context.width explore.opening.settings) }
+    ensures writable { IfOk result (λ explore. SettingsCanBeWritten explore.opening.table.context.width explore.opening.settings) }
     ensures end { OnOk result (IsAtEnd (S.left input.new)) }
     ensures refused { IfErr result (λ stop. IsRefusal stop → MayRefuse (explored_by (option_copied known.entry) (S.left input.old) (start_of start))) }
     ensures cause { IfErr result (IsInputStop (option_copied known.entry) start.table (S.left input.old)
@@ -112,7 +112,7 @@ fn explored(
 
 /// The text of an exploration.
 fn exploration_answer(alloc: Global, explore: &Explore) -> Result<Answer, Stop>
-    requires { CanBeTold explore.now.opening.table.context.width explore.now.opening.settings }
+    requires { SettingsCanBeWritten explore.now.opening.table.context.width explore.now.opening.settings }
     ensures text { IfOk result (λ answer. answer ≡ exploration_output (recorded explore.now)) }
     ensures spells { OnOk result (SpellsItself (recorded explore.now)) }
     ensures cause { IfErr result (λ stop. stop ≡ Stop.Memory) }

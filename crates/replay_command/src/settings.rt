@@ -5,8 +5,8 @@ ghost use Rattle.fca_model.specs.declared.TheConstants.{MAX_EXPERTS};
 ghost use Rattle.implication_closure.specs.Closing.{HaveWidth};
 ghost use Rattle.explore_state.specs.Faults.{first_break};
 ghost use Rattle.exploration_terms.specs.Settings.{settings_of};
-ghost use Rattle.expert_scripts.specs.Scripts.{said_of};
-ghost use Rattle.expert_scripts.specs.Transcripts.{CanBeTold};
+ghost use Rattle.expert_scripts.specs.Scripts.{content_of};
+ghost use Rattle.expert_scripts.specs.Transcripts.{SettingsCanBeWritten};
 ghost use Rattle.expert_scripts.specs.declared.fault.ScriptFault.TheVariants.{BadLine};
 ghost use Rattle.command_io.specs.Readings.Reading.{Refused, Read};
 ghost use Rattle.command_io.specs.Known.{IsBreakStop};
@@ -33,12 +33,12 @@ pub fn settled(
     requires even { HaveWidth table.now.context.width list.members }
     requires respected { first_break list.members 0 table.now.context.rows ≡ None }
     requires script_width { script.settings.known.width ≡ table.now.context.width }
-    requires told { CanBeTold table.now.context.width (settings_of script.settings) }
-    ensures settings { IfOk result (λ s. settings_read (option_copied known.entry) list.members table.now (said_of script) ≡ Read (settings_of s.0)) }
+    requires writable { SettingsCanBeWritten table.now.context.width (settings_of script.settings) }
+    ensures settings { IfOk result (λ s. settings_read (option_copied known.entry) list.members table.now (content_of script) ≡ Read (settings_of s.0)) }
     ensures events { IfOk result (λ s. s.1 ≡ script.events) }
     ensures may_open { IfOk result (λ s. MayOpen table.now s.0) }
-    ensures refused { IfErr result (λ _. settings_read (option_copied known.entry) list.members table.now (said_of script) ≡ Refused) }
-    ensures cause { IfErr result (IsSettingsStop (option_copied known.entry) table.now (said_of script)) }
+    ensures refused { IfErr result (λ _. settings_read (option_copied known.entry) list.members table.now (content_of script) ≡ Refused) }
+    ensures cause { IfErr result (IsSettingsStop (option_copied known.entry) table.now (content_of script)) }
 {
     let Script {
         settings,

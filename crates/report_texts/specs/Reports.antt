@@ -4,11 +4,11 @@ use Rattle.std.specs.List.{flat_map, enumerate_from}
 use Rattle.fca_model.specs.Tables.{Text, NamedContext}
 use Rattle.fca_model.specs.Implications.{Rule}
 use Rattle.lectic_concepts.specs.declared.Concept.{Concept}
-use Rattle.expert_wire.specs.Texts.{line_end, ordinal, braced, braces_text, arrow_text}
+use Rattle.expert_wire.specs.Texts.{line_end, ordinal, names_in_braces, braces_text, arrow_text}
 
 -- the line that heads a list: what its members are, and how many
-abbrev pub counted : Text → ℕ → Text
-counted words n = words ++ (decimal n ++ line_end)
+abbrev pub count_line : Text → ℕ → Text
+count_line words n = words ++ (decimal n ++ line_end)
 
 -- ---- concepts
 
@@ -19,10 +19,10 @@ names_at names places = map (λ i. unwrap_or (slice_get names i) []) places
 -- the concept at a place: its number, its intent, and the objects of its extent
 abbrev pub concept_line : NamedContext → ℕ → Concept → Text
 concept_line t place c =
-    ordinal place ++ (codes " " ++ (braces_text t.attributes c.intent ++ (codes " | " ++ (braced (names_at t.objects c.extent) ++ line_end))))
+    ordinal place ++ (codes " " ++ (braces_text t.attributes c.intent ++ (codes " | " ++ (names_in_braces (names_at t.objects c.extent) ++ line_end))))
 
 abbrev pub concepts_text : NamedContext → List Concept → Text
-concepts_text t cs = counted (codes "concepts ") (length cs) ++ flat_map (λ x. concept_line t x.0 x.1) (enumerate_from 0 cs)
+concepts_text t cs = count_line (codes "concepts ") (length cs) ++ flat_map (λ x. concept_line t x.0 x.1) (enumerate_from 0 cs)
 
 -- a cover: the number of the upper concept, which has the smaller intent, and that of the lower one
 abbrev pub cover_line : ℕ × ℕ → Text
@@ -30,7 +30,7 @@ cover_line pair = ordinal pair.0 ++ (codes " " ++ (ordinal pair.1 ++ line_end))
 
 -- the concepts, and then the covers
 abbrev pub lattice_text : NamedContext → List Concept → List (ℕ × ℕ) → Text
-lattice_text t cs pairs = concepts_text t cs ++ (counted (codes "covers ") (length pairs) ++ flat_map cover_line pairs)
+lattice_text t cs pairs = concepts_text t cs ++ (count_line (codes "covers ") (length pairs) ++ flat_map cover_line pairs)
 
 -- ---- implications
 
@@ -42,7 +42,7 @@ abbrev pub arrow_lines : Text → List Text → List Rule → Text
 arrow_lines words attributes J = flat_map (λ x. arrow_line words attributes x.0 x.1) (enumerate_from 0 J)
 
 abbrev pub basis_text : List Text → List Rule → Text
-basis_text attributes J = counted (codes "basis ") (length J) ++ arrow_lines [] attributes J
+basis_text attributes J = count_line (codes "basis ") (length J) ++ arrow_lines [] attributes J
 
 abbrev pub direct_text : List Text → List Rule → Text
-direct_text attributes J = counted (codes "direct ") (length J) ++ arrow_lines [] attributes J
+direct_text attributes J = count_line (codes "direct ") (length J) ++ arrow_lines [] attributes J

@@ -2,10 +2,10 @@
 
 ghost use Rattle.std.specs.Prelude.{◌≡◌, ◌++◌, ℕ, [], length, codes, IfOk, OnOk, slice_get, unwrap_or};
 ghost use Rattle.std.specs.List.{flat_map, enumerate_from};
-ghost use Rattle.expert_wire.specs.Texts.{braced, braces_text};
-ghost use Rattle.report_texts.specs.Reports.{counted, names_at, concept_line, concepts_text, cover_line, lattice_text};
+ghost use Rattle.expert_wire.specs.Texts.{names_in_braces, braces_text};
+ghost use Rattle.report_texts.specs.Reports.{count_line, names_at, concept_line, concepts_text, cover_line, lattice_text};
 
-use crate::counted::write_counted;
+use crate::count_line::write_count_line;
 use attr_bits::Bits;
 use context_table::Table;
 use expert_wire::{Draft, Part};
@@ -33,7 +33,7 @@ pub fn lattice_text(
 {
     let mut draft = Draft::new(alloc);
     write_concepts(&mut draft, table, concepts)?;
-    write_counted(&mut draft, table, b"covers ", covers.len())?;
+    write_count_line(&mut draft, table, b"covers ", covers.len())?;
     write_covers(&mut draft, covers)?;
     Ok(draft.into_bytes())
 }
@@ -41,7 +41,7 @@ pub fn lattice_text(
 fn write_concepts(draft: &mut Draft, table: &Table, concepts: &[Concept]) -> Result<(), Memory>
     ensures { OnOk result (draft.new ≡ draft.old ++ concepts_text table.now concepts.now) }
 {
-    write_counted(draft, table, b"concepts ", concepts.len())?;
+    write_count_line(draft, table, b"concepts ", concepts.len())?;
     for (place, concept) in concepts.iter().enumerate() {
         write_line(
             draft,
@@ -107,7 +107,7 @@ fn write_attributes<const W: usize>(
 
 /// The names of the objects at these places, in braces.
 fn write_objects(draft: &mut Draft, table: &Table, places: &[usize]) -> Result<(), Memory>
-    ensures { OnOk result (draft.new ≡ draft.old ++ braced (names_at table.now.objects places.now)) }
+    ensures { OnOk result (draft.new ≡ draft.old ++ names_in_braces (names_at table.now.objects places.now)) }
 {
     draft.bytes(b"{")?;
     let mut between = b"".as_slice();

@@ -2,9 +2,9 @@
 #![tactic(auto)]
 
 mod concepts;
-mod counted;
+mod count_line;
 mod implications;
 
 pub use concepts::{concepts_text, lattice_text, object_text};
-pub use counted::write_counted;
+pub use count_line::write_count_line;
 pub use implications::{basis_text, direct_text, write_arrow, write_arrows};

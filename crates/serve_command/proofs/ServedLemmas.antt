@@ -16,7 +16,7 @@ use Rattle.basis_report.specs.Sessions.{sessions_text}
 use Rattle.command_io.specs.Endings.{Output, ending_of}
 use Rattle.command_io.specs.declared.answer.Ending.{Ending}
 use Rattle.implication_closure.specs.Closing.{HaveWidth}
-use Rattle.expert_scripts.specs.Transcripts.{CanBeTold}
+use Rattle.expert_scripts.specs.Transcripts.{SettingsCanBeWritten}
 use Rattle.command_io.specs.Known.{Start}
 use Rattle.command_io.proofs.CourseLemmas.{legal-course}
 use Rattle.serve_command.specs.Accepted.{GaveBack, HasRoomFor}
@@ -37,8 +37,8 @@ words_are_lines (Spent ∷ endings) = words_are_lines endings
 words_are_lines (Memory ∷ endings) = words_are_lines endings
 
 -- lines behind the text of an exploration change nothing of what it spells
-pub spelled-sessions : (sessions text : Text) (explore : History) → CanBeTold explore.opening.table.context.width explore.opening.settings
-    → ((more : List Text) → are_lines more ≡ true → CanBeTold explore.opening.table.context.width explore.opening.settings → SpellsBefore explore.opening.table explore.opening.settings explore.journal more)
+pub spelled-sessions : (sessions text : Text) (explore : History) → SettingsCanBeWritten explore.opening.table.context.width explore.opening.settings
+    → ((more : List Text) → are_lines more ≡ true → SettingsCanBeWritten explore.opening.table.context.width explore.opening.settings → SpellsBefore explore.opening.table explore.opening.settings explore.journal more)
     → AreComments sessions → text ≡ explore_text explore.opening.table explore.opening.settings explore.journal ++ sessions
     → Spells explore.opening.table explore.opening.settings explore.journal text
 spelled-sessions sessions text explore told spells skipped joined =
@@ -54,7 +54,7 @@ new-opened experts holders start h is none expert most respecting even = record 
   none = none;
   experts = ap (λ (o : Opening). is_expert o.experts) is ∙ expert;
   respecting = ap (λ (o : Opening). rows_respect o.settings.known o.table.context) is ∙ respecting;
-  told = subst (λ (o : Opening). CanBeTold o.table.context.width o.settings) (sym is) (record { holders = most; known = even; names = tt });
+  writable = subst (λ (o : Opening). SettingsCanBeWritten o.table.context.width o.settings) (sym is) (record { holders = most; known = even; names = tt });
 }
 
 -- ---- sessions

@@ -3,7 +3,7 @@ use Rattle.std.specs.Prelude.{◌≡◌, ℕ, true, []}
 use Rattle.fca_model.specs.Exploration.{is_expert}
 use Rattle.fca_model.specs.Invariant.{rows_respect}
 use Rattle.explore_state.specs.History.{Opening, History}
-use Rattle.expert_scripts.specs.Transcripts.{CanBeTold}
+use Rattle.expert_scripts.specs.Transcripts.{SettingsCanBeWritten}
 use Rattle.command_io.specs.Explorations.{opening_of}
 use Rattle.command_io.specs.Known.{Start}
 
@@ -16,4 +16,4 @@ pub record IsNew (h : History) : Type 0 where
   pub none : h.journal ≡ []
   pub experts : is_expert h.opening.experts ≡ true
   pub respecting : rows_respect h.opening.settings.known h.opening.table.context ≡ true
-  pub told : CanBeTold h.opening.table.context.width h.opening.settings
+  pub writable : SettingsCanBeWritten h.opening.table.context.width h.opening.settings

@@ -7,7 +7,7 @@ ghost use Rattle.fca_io.specs.Links.{MayListenAt};
 ghost use Rattle.explore_state.specs.History.{open_of};
 ghost use Rattle.basis_report.specs.Explorations.{explore_text, Spells};
 ghost use Rattle.basis_report.specs.Sessions.{sessions_text};
-ghost use Rattle.expert_scripts.specs.Transcripts.{CanBeTold};
+ghost use Rattle.expert_scripts.specs.Transcripts.{SettingsCanBeWritten};
 ghost use Rattle.command_io.specs.Readings.{MayRefuse, Rises};
 ghost use Rattle.command_io.specs.Known.{start_read};
 ghost use Rattle.command_io.specs.Endings.{ending_of, IsRefusal, IsUnread};
@@ -105,7 +105,7 @@ fn explored<R: Threads + Wait + Sync, L: Listener>(
 
 /// The text of the exploration, and how its sessions ended.
 fn text_of(alloc: Global, explore: &Explore, endings: &[Ended]) -> Result<Answer, Stop>
-    requires { CanBeTold explore.now.opening.table.context.width explore.now.opening.settings }
+    requires { SettingsCanBeWritten explore.now.opening.table.context.width explore.now.opening.settings }
     ensures text { IfOk result (λ answer. answer.text ≡ explore_text explore.now.opening.table explore.now.opening.settings explore.now.journal
         ++ sessions_text (map words_of endings.now)) }
     ensures spells { IfOk result (λ answer. Spells explore.now.opening.table explore.now.opening.settings explore.now.journal answer.text) }

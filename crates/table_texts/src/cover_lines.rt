@@ -2,7 +2,7 @@
 
 ghost use Rattle.std.specs.Prelude.{◌≡◌, ◌+◌, ◌≤◌, ◌<◌, ◌++◌, IfOk, OnOk, length, take, codes};
 ghost use Rattle.std.specs.List.{flat_map};
-ghost use Rattle.report_texts.specs.Reports.{counted, cover_line};
+ghost use Rattle.report_texts.specs.Reports.{count_line, cover_line};
 ghost use Rattle.table_texts.specs.Numerals.{AreNumerals};
 
 use crate::numerals::count_up_to;
@@ -20,7 +20,7 @@ pub(crate) fn with_covers(
     text: Vec<u8>,
     covers: &[(usize, usize)],
 ) -> Result<Vec<u8>, Memory>
-    ensures { IfOk result (λ v. v.items ≡ text.items ++ (counted (codes "covers ") (length covers.now) ++ flat_map cover_line covers.now)) }
+    ensures { IfOk result (λ v. v.items ≡ text.items ++ (count_line (codes "covers ") (length covers.now) ++ flat_map cover_line covers.now)) }
 {
     let mut bytes = text;
     add_head(&mut bytes, b"covers ", covers.len())?;

@@ -7,7 +7,7 @@ use Rattle.expert_scripts.proofs.TranscriptLemmas.{are_names}
 use Rattle.oracle_expert.specs.Oracles.{Conflicts, Recall}
 use Rattle.basis_report.specs.Comments.{AreComments}
 use Rattle.basis_report.proofs.CommentLemmas.{conflicts-comments}
-use Rattle.basis_report.specs.Conflicts.{dropped_from, conflict_line, conflicts_section, conflicts_text}
+use Rattle.basis_report.specs.Conflicts.{dropped_rows_from, conflict_line, conflicts_section, conflicts_text}
 use Rattle.basis_report.proofs.ConflictLemmas.{dropped_later, oracle_end, written_end}
 use Rattle.basis_report.proofs.conflicts.conflicts_text.Goals as goal
 
@@ -18,7 +18,7 @@ returns-clause-text c =
     let rules = c.rules-rules.result.now in
     let oracles = c.args.oracles.now in
     let k = c.loop-expert.expert in
-    let ds = dropped_from 0 (map (λ o. (o.table, o.conflicts)) oracles) in
+    let ds = dropped_rows_from 0 (map (λ o. (o.table, o.conflicts)) oracles) in
     let over : length oracles ≤ k = omega arith in
     c.into_bytes.ensures
     ∙ written_end (conflict_line attributes rules) c.loop-expert.draft (conflicts_section attributes rules ds) (dropped_later k oracles) (oracle_end k oracles over) c.loop-expert.invariant
@@ -31,7 +31,7 @@ returns-clause-skipped c =
     let rules = c.rules-rules.result.now in
     let oracles = c.args.oracles.now in
     let k = c.loop-expert.expert in
-    let ds = dropped_from 0 (map (λ o. (o.table, o.conflicts)) oracles) in
+    let ds = dropped_rows_from 0 (map (λ o. (o.table, o.conflicts)) oracles) in
     let over : length oracles ≤ k = omega arith in
     let text = c.into_bytes.ensures
     ∙ written_end (conflict_line attributes rules) c.loop-expert.draft (conflicts_section attributes rules ds) (dropped_later k oracles) (oracle_end k oracles over) c.loop-expert.invariant in

@@ -4,7 +4,7 @@ use Rattle.fca_model.specs.Context.{Context}
 use Rattle.fca_model.specs.Implications.{rule, refutes}
 use Rattle.fca_model.specs.Pseudo.{basis}
 use Rattle.implication_closure.specs.Closing.{RuleList}
-use Rattle.basis_report.specs.Verdicts.{refuted_text, follows_text}
+use Rattle.basis_report.specs.Verdicts.{refutation_text, follows_text}
 use Rattle.basis_report.proofs.VerdictLemmas.{written_refuted}
 use Rattle.basis_report.proofs.verdicts.verdict_text.Goals as goal
 
@@ -16,7 +16,7 @@ pub returns-in-Some : goal.returns-in-Some
 returns-in-Some g c =
     let found = c.refuter.ensures ∙ ap (λ (K : Context). position (λ row. refutes row (rule c.args.p.now c.args.c.now)) K.rows) c.rows.ensures.rows in
     written_refuted c.args.table.now (basis c.args.table.now.context) c.args.p.now c.args.c.now c.in-Some.place c.into_bytes.result.items (sym found ∙ c.in-Some.is)
-    (c.into_bytes.ensures ∙ c.in_ok-write_refuted.ensures ∙ ap (λ d. d ++ refuted_text c.args.table.now c.in-Some.place) c.new-draft.ensures)
+    (c.into_bytes.ensures ∙ c.in_ok-write_refutation.ensures ∙ ap (λ d. d ++ refutation_text c.args.table.now c.in-Some.place) c.new-draft.ensures)
 
 pub returns : goal.returns
 returns g c =

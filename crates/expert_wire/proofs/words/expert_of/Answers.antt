@@ -9,7 +9,7 @@ pub returns-in-Some : goal.returns-in-Some
 returns-in-Some c =
     let digits = c.args.digits.now in
     let small : in_64_bits (value_of digits) ≡ Some c.in-Some.number = ap (λ bytes. in_64_bits (value_of bytes)) (sym c.as_bytes.ensures.value) ∙ sym c.value_of.ensures ∙ c.in-Some.is in
-    c.expert_numbered.ensures ∙ ap (λ x. cond (is_expert x) (Some x) None) (in_64_bits-some (value_of digits) c.in-Some.number small)
+    c.expert_from_number.ensures ∙ ap (λ x. cond (is_expert x) (Some x) None) (in_64_bits-some (value_of digits) c.in-Some.number small)
 
 pub returns-in-None : goal.returns-in-None
 returns-in-None c =

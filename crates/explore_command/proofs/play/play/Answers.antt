@@ -1,5 +1,5 @@
 use Rattle.std.proofs.Common.{◌≡◌, ◌≤◌, arith}
-use Rattle.explore_command.proofs.PlayLemmas.{told-play, length-play, MayPlay-play}
+use Rattle.explore_command.proofs.PlayLemmas.{writable-play, length-play, MayPlay-play}
 use Rattle.explore_command.proofs.play.play.Goals as goal
 
 pub answer_of-answer-requires-clause-count : goal.answer_of-answer-requires-clause-count
@@ -8,8 +8,8 @@ answer_of-answer-requires-clause-count g c =
     let long = c.in_ok-explored.explored.oracles.ok.0 in
     omega arith
 
-pub answer_of-answer-requires-clause-told : goal.answer_of-answer-requires-clause-told
-answer_of-answer-requires-clause-told g c = told-play _ _ _ _ c.in_ok-explored.ensures
+pub answer_of-answer-requires-clause-writable : goal.answer_of-answer-requires-clause-writable
+answer_of-answer-requires-clause-writable g c = writable-play _ _ _ _ c.in_ok-explored.ensures
 
 pub returns : goal.returns
 returns g c =

@@ -1,7 +1,7 @@
 use Rattle.std.proofs.Common.{◌≡◌, ◌∙◌, ◌++◌, take, ap, arith}
 use Rattle.std.specs.Prelude.{codes}
 use Rattle.fca_model.specs.Tables.{Text}
-use Rattle.expert_wire.specs.Texts.{listed, names_of}
+use Rattle.expert_wire.specs.Texts.{comma_list, names_of}
 use Rattle.packed_concepts.specs.Lines.{Named, names_at}
 use Rattle.packed_concepts.proofs.LineLemmas.{line-parts}
 use Rattle.packed_concepts.proofs.line.put_line.Goals as goal
@@ -29,10 +29,10 @@ returns g c =
     let old : Text = take c.args.start c.args.text.now in
     let number : take c.put_bytes-opened.result c.put_bytes-opened.new.text ≡ (old ++ c.args.digits.now) ++ codes " {" =
     c.put_bytes-opened.ensures.text ∙ ap (λ (z : Text). z ++ codes " {") c.put_bytes-number.ensures.text in
-    let intent : take c.put_bytes-parted.result c.put_bytes-parted.new.text ≡ (((old ++ c.args.digits.now) ++ codes " {") ++ listed (names_of t.attributes c.args.a.now)) ++ codes "} | {" =
-    c.put_bytes-parted.ensures.text ∙ ap (λ (z : Text). z ++ codes "} | {") (c.put_intent-intent.ensures.text ∙ ap (λ (z : Text). z ++ listed (names_of t.attributes c.args.a.now)) number) in
+    let intent : take c.put_bytes-parted.result c.put_bytes-parted.new.text ≡ (((old ++ c.args.digits.now) ++ codes " {") ++ comma_list (names_of t.attributes c.args.a.now)) ++ codes "} | {" =
+    c.put_bytes-parted.ensures.text ∙ ap (λ (z : Text). z ++ codes "} | {") (c.put_intent-intent.ensures.text ∙ ap (λ (z : Text). z ++ comma_list (names_of t.attributes c.args.a.now)) number) in
     record {
-      text = c.put_bytes.ensures.text ∙ ap (λ (z : Text). z ++ codes "}\n") (c.put_extent-extent.ensures.text ∙ ap (λ (z : Text). z ++ listed (names_at t.objects c.args.places.now)) intent)
+      text = c.put_bytes.ensures.text ∙ ap (λ (z : Text). z ++ codes "}\n") (c.put_extent-extent.ensures.text ∙ ap (λ (z : Text). z ++ comma_list (names_at t.objects c.args.places.now)) intent)
           ∙ line-parts t old c.args.digits.now c.args.a.now c.args.places.now;
       ends = omega (
         arith,

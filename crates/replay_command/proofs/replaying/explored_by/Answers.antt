@@ -17,5 +17,5 @@ returns-clause-course g c =
     let MayBe : List SetEvent → Type 0 = λ l. list_all (may_apply table.context.width) l ≡ true in
     let settled = c.in_ok-settings.ensures.may_open in
     subst IsExplored (sym c.in_ok-explored.ensures)
-    (explored-course table (settings_of c.in_ok-settings.settings) c.into_vec.result.items settled.respected settled.told.known
+    (explored-course table (settings_of c.in_ok-settings.settings) c.into_vec.result.items settled.respected settled.writable.known
     (subst MayBe (sym events) (subst MayAll wide c.in_ok-script.ensures.fits)))

@@ -34,7 +34,7 @@ returns-in-Ok-clause-sat g c =
     } in
     ok-from-three c.text_of.result _ _ _ _ told.text told.spells told.ending (λ answer text spells ending.
     has-sat g.L.End.Source.left g.L.End.Sink.held g.L.End.Source.reads g.L.End.Source.faults g.L.End.Sink.faults c.args.explore.opening c.args.ends.items c.in-Ok.served.ends.items _ _
-    explore c.in-Ok.served.endings.items answer new.experts new.respecting new.told.known over
+    explore c.in-Ok.served.endings.items answer new.experts new.respecting new.writable.known over
     (λ room. c.give_back.ensures.given (subst Room (sym c.in-Ok.served.ends.ok.0) room))
     (record {
       joined = text ∙ ap (λ endings. explore_text explore.opening.table explore.opening.settings H ++ sessions_text (map words_of endings)) c.deref.ensures.value;

@@ -2,7 +2,7 @@ use Rattle.std.proofs.Common.{◌≡◌, ◌∙◌, ◌++◌, List, length, take
 use Rattle.std.specs.Prelude.{codes}
 use Rattle.fca_model.specs.Sets.{Set}
 use Rattle.fca_model.specs.Tables.{Text}
-use Rattle.expert_wire.specs.Texts.{listed, names_of}
+use Rattle.expert_wire.specs.Texts.{comma_list, names_of}
 use Rattle.attr_bits.proofs.DifferenceLemmas.{length-minus}
 use Rattle.concept_walk.proofs.LineLemmas.{arrow-parts}
 use Rattle.table_texts.proofs.basis_lines.put_arrow.Goals as goal
@@ -60,10 +60,10 @@ returns g c =
     let wide : length G ≡ length c.args.member.now.conclusion = ap length c.minus-gained.ensures ∙ length-minus c.args.member.now.conclusion P in
     let number : take c.put_bytes-opened.result c.put_bytes-opened.new.text ≡ (old ++ c.args.digits.now) ++ codes " {" =
     c.put_bytes-opened.ensures.text ∙ ap (λ (z : Text). z ++ codes " {") c.put_bytes-number.ensures.text in
-    let premise : take c.put_bytes-parted.result c.put_bytes-parted.new.text ≡ (((old ++ c.args.digits.now) ++ codes " {") ++ listed (names_of names P)) ++ codes "} -> {" =
-    c.put_bytes-parted.ensures.text ∙ ap (λ (z : Text). z ++ codes "} -> {") (c.put_attributes-premise.ensures.text ∙ ap (λ (z : Text). z ++ listed (names_of names P)) number) in
+    let premise : take c.put_bytes-parted.result c.put_bytes-parted.new.text ≡ (((old ++ c.args.digits.now) ++ codes " {") ++ comma_list (names_of names P)) ++ codes "} -> {" =
+    c.put_bytes-parted.ensures.text ∙ ap (λ (z : Text). z ++ codes "} -> {") (c.put_attributes-premise.ensures.text ∙ ap (λ (z : Text). z ++ comma_list (names_of names P)) number) in
     record {
-      text = c.put_bytes.ensures.text ∙ ap (λ (z : Text). z ++ codes "}\n") (c.put_attributes-conclusion.ensures.text ∙ ap (λ (z : Text). z ++ listed (names_of names G)) premise)
+      text = c.put_bytes.ensures.text ∙ ap (λ (z : Text). z ++ codes "}\n") (c.put_attributes-conclusion.ensures.text ∙ ap (λ (z : Text). z ++ comma_list (names_of names G)) premise)
           ∙ arrow-parts names old c.args.digits.now c.args.member.now G c.minus-gained.ensures;
       ends = omega (
         arith,

@@ -2,7 +2,7 @@ use Rattle.std.proofs.Common.{◌≡◌, ◌<◌, ◌∙◌, ◌++◌, All, List
 use Rattle.std.proofs.lemmas.List.{length-take-le, length-map}
 use Rattle.std.specs.List.{concat}
 use Rattle.fca_model.specs.Tables.{Text}
-use Rattle.expert_wire.specs.Texts.{listed}
+use Rattle.expert_wire.specs.Texts.{comma_list}
 use Rattle.packed_concepts.specs.Lines.{Named, names_at}
 use Rattle.packed_concepts.specs.Listing.{parted, unparted}
 use Rattle.packed_concepts.proofs.ListingLemmas.{names_at-parted, put_names}
@@ -29,4 +29,4 @@ returns-clause-text c =
     c.put_places-end.ensures.text ∙ ap (λ (ns : List Text). old ++ concat (names_at ns c.args.places.now)) c.self.invariant.objects ∙ ap (λ (ns : List Text). old ++ concat ns) (names_at-parted objects c.args.places.now inside) in
     ap (λ n. take n new) c.without_comma.ensures
     ∙ put_names new old names c.args.start end written (length-take-le c.args.start c.args.text.now (omega (arith, c.requires.room))) (omega (arith, c.requires.room, c.put_places-end.ensures.ends, c.put_places-end.ensures.room))
-    ∙ ap (λ (x : Named). old ++ listed (names_at x.objects c.args.places.now)) c.self.view_is
+    ∙ ap (λ (x : Named). old ++ comma_list (names_at x.objects c.args.places.now)) c.self.view_is

@@ -1,10 +1,10 @@
-//! What lines of settings tell.
+//! Settings while they are read, line by line.
 
 ghost use Rattle.std.specs.Prelude.{◌≡◌, ◌≤◌, ◌⊎◌, Some, None, Ok, Err, IfOk, IfErr, OnOk, true, false};
 ghost use Rattle.fca_model.specs.declared.TheConstants.{MAX_ATTRIBUTES};
 ghost use Rattle.exploration_terms.specs.Settings.{settings_of};
-ghost use Rattle.expert_scripts.specs.Scripts.{nothing_told, settings_told, holders_told, name_told, rule_told, setting_of_words};
-ghost use Rattle.expert_scripts.specs.Stages.{told_of};
+ghost use Rattle.expert_scripts.specs.Scripts.{no_settings, whole_settings, with_holders_word, with_name_words, with_rule, setting_of_words};
+ghost use Rattle.expert_scripts.specs.Stages.{partial_of};
 ghost use Rattle.expert_scripts.specs.Known.{known_rule};
 
 use crate::fault::ScriptFault;
@@ -16,31 +16,31 @@ use implication_closure::ImplicationList;
 use std::alloc::Global;
 use text_pieces::{is_numeral, split_word};
 
-/// What lines of settings have told so far.
+/// The settings that the lines so far give. Each may be given once, except what is known.
 #[derive(Drop)]
-pub(crate) struct Told {
+pub(crate) struct PartialSettings {
     known: ImplicationList,
     holders: Option<u8>,
     names: ExpertNames,
 }
 
-impl Told {
-    /// Nothing is told.
-    pub(crate) fn nothing(alloc: Global, n: u32) -> Result<Told, Memory>
+impl PartialSettings {
+    /// No settings yet.
+    pub(crate) fn new(alloc: Global, n: u32) -> Result<PartialSettings, Memory>
         requires { n ≤ MAX_ATTRIBUTES }
-        ensures told { IfOk result (λ told. told_of told ≡ nothing_told) }
-        ensures width { IfOk result (λ told. told.known.width ≡ n) }
+        ensures none { IfOk result (λ settings. partial_of settings ≡ no_settings) }
+        ensures width { IfOk result (λ settings. settings.known.width ≡ n) }
     {
-        Ok(Told {
+        Ok(PartialSettings {
             known: ImplicationList::new(alloc, n)?,
             holders: None,
             names: ExpertNames::new(alloc),
         })
     }
 
-    /// The settings that were told.
+    /// The whole settings: what no line gave is plain.
     pub(crate) fn into_settings(self) -> Settings
-        ensures settings { settings_of result ≡ settings_told (told_of self) }
+        ensures settings { settings_of result ≡ whole_settings (partial_of self) }
         ensures width { result.known.width ≡ self.known.width }
     {
         Settings {
@@ -50,7 +50,7 @@ impl Told {
         }
     }
 
-    /// Takes a line of settings, and says whether the words are one.
+    /// Takes the words of a line of settings. The answer is false if they are none.
     pub(crate) fn take(
         &mut self,
         alloc: Global,
@@ -62,13 +62,13 @@ impl Told {
         requires wide { self.old.known.width ≡ n }
         requires narrow { n ≤ MAX_ATTRIBUTES }
         ensures width { OnOk result (self.new.known.width ≡ n) }
-        ensures told { IfOk result (λ is_setting. is_setting ≡ true
-            → setting_of_words n number (told_of self.old) verb.now words.now ≡ Some (Ok (told_of self.new))) }
+        ensures taken { IfOk result (λ is_setting. is_setting ≡ true
+            → setting_of_words n number (partial_of self.old) verb.now words.now ≡ Some (Ok (partial_of self.new))) }
         ensures none { IfOk result (λ is_setting. is_setting ≡ false
-            → setting_of_words n number (told_of self.old) verb.now words.now ≡ None) }
-        ensures same { IfOk result (λ is_setting. is_setting ≡ false → told_of self.new ≡ told_of self.old) }
+            → setting_of_words n number (partial_of self.old) verb.now words.now ≡ None) }
+        ensures same { IfOk result (λ is_setting. is_setting ≡ false → partial_of self.new ≡ partial_of self.old) }
         ensures refused { IfErr result (λ e. (e ≡ ScriptFault.Memory)
-            ⊎ (setting_of_words n number (told_of self.old) verb.now words.now ≡ Some (Err e))) }
+            ⊎ (setting_of_words n number (partial_of self.old) verb.now words.now ≡ Some (Err e))) }
     {
         match verb {
             "holders" => self.take_holders(words, number)?,
@@ -80,9 +80,9 @@ impl Told {
     }
 
     fn take_holders(&mut self, word: &str, number: usize) -> Result<(), ScriptFault>
-        ensures ok { OnOk result (holders_told number (told_of self.old) word.now ≡ Ok (told_of self.new)) }
+        ensures ok { OnOk result (with_holders_word number (partial_of self.old) word.now ≡ Ok (partial_of self.new)) }
         ensures width { self.new.known.width ≡ self.old.known.width }
-        ensures refused { IfErr result (λ e. holders_told number (told_of self.old) word.now ≡ Err e) }
+        ensures refused { IfErr result (λ e. with_holders_word number (partial_of self.old) word.now ≡ Err e) }
     {
         if !is_numeral(word.as_bytes()) {
             return Err(ScriptFault::BadLine(number));
@@ -97,9 +97,9 @@ impl Told {
 
     /// The name of an expert, behind the word `expert`.
     fn take_name(&mut self, alloc: Global, words: &str, number: usize) -> Result<(), ScriptFault>
-        ensures ok { OnOk result (name_told number (told_of self.old) words.now ≡ Ok (told_of self.new)) }
+        ensures ok { OnOk result (with_name_words number (partial_of self.old) words.now ≡ Ok (partial_of self.new)) }
         ensures width { self.new.known.width ≡ self.old.known.width }
-        ensures refused { IfErr result (λ e. (e ≡ ScriptFault.Memory) ⊎ (name_told number (told_of self.old) words.now ≡ Err e)) }
+        ensures refused { IfErr result (λ e. (e ≡ ScriptFault.Memory) ⊎ (with_name_words number (partial_of self.old) words.now ≡ Err e)) }
     {
         let (word, name) = split_word(words);
         if !is_numeral(word.as_bytes()) {
@@ -123,9 +123,9 @@ impl Told {
     fn take_rule(&mut self, words: &str, n: u32, number: usize) -> Result<(), ScriptFault>
         requires wide { self.old.known.width ≡ n }
         requires narrow { n ≤ MAX_ATTRIBUTES }
-        ensures ok { OnOk result (rule_told (told_of self.old) (known_rule n number words.now) ≡ Ok (told_of self.new)) }
+        ensures ok { OnOk result (with_rule (partial_of self.old) (known_rule n number words.now) ≡ Ok (partial_of self.new)) }
         ensures width { OnOk result (self.new.known.width ≡ n) }
-        ensures refused { IfErr result (λ e. (e ≡ ScriptFault.Memory) ⊎ (rule_told (told_of self.old) (known_rule n number words.now) ≡ Err e)) }
+        ensures refused { IfErr result (λ e. (e ≡ ScriptFault.Memory) ⊎ (with_rule (partial_of self.old) (known_rule n number words.now) ≡ Err e)) }
     {
         let rule = read_rule(words.as_bytes(), n, number)?;
         self.known.push(rule)?;
