@@ -2,10 +2,8 @@ pub mod SpelledLemmas
 pub mod CommentLemmas
 pub mod ExplorationLemmas
 pub mod OrderLemmas
-pub mod JsonLemmas
 pub mod VerdictLemmas
 pub mod ConflictLemmas
-pub mod WrittenLemmas
 pub mod NameLemmas
 pub mod SurveyLemmas
 pub mod SurveyExamples

@@ -14,8 +14,6 @@ ghost use Rattle.canonical_basis.specs.Derivations.{is_sound};
 ghost use Rattle.basis_report.specs.Comments.{comments, are_lines};
 ghost use Rattle.oracle_expert.specs.Oracles.{Conflicts};
 ghost use Rattle.basis_report.specs.Conflicts.{conflicts_text};
-ghost use Rattle.lectic_concepts.specs.declared.Concept.{Concept};
-ghost use Rattle.basis_report.specs.Json.{concepts_json, basis_json, concepts_json_text, basis_json_text};
 ghost use Rattle.basis_report.specs.Sessions.{sessions_text};
 ghost use Rattle.basis_report.specs.Verdicts.{first_refuting, derivation_text, refutation_text, follows_text};
 ghost use Rattle.basis_report.specs.Explorations.{EachNamed, explore_text, Spells, SpellsBefore, state_of_text, basis_lines, basis_section, text_before_basis};
@@ -53,10 +51,4 @@ pub fn verdict_is_right()
         → (steps : List ℕ) × (is_sound (basis t.context) P C steps ≡ true) × (follows_text t (basis t.context) P C ≡ derivation_text t.attributes (basis t.context) steps) }
     ensures refuted { (t : NamedContext) (P C : Set) → length C ≡ t.context.width → holds t.context (rule P C) ≡ false
         → (place : ℕ) × (first_refuting t (rule P C) ≡ Some place) × (follows_text t (basis t.context) P C ≡ refutation_text t place) }
-{}
-
-/// The lines of JSON, letter by letter.
-pub fn json_is_written_out()
-    ensures concepts { (t : NamedContext) (cs : List Concept) → concepts_json t cs ≡ concepts_json_text t cs }
-    ensures basis { (attributes : List Text) (J : List Rule) → basis_json attributes J ≡ basis_json_text attributes J }
 {}

@@ -3,7 +3,6 @@
 
 mod conflicts;
 mod explorations;
-mod json_lines;
 pub mod laws;
 mod names;
 mod pieces;
@@ -13,7 +12,6 @@ mod verdicts;
 
 pub use conflicts::conflicts_text;
 pub use explorations::explore_text;
-pub use json_lines::{basis_json, concepts_json};
 pub use pieces::explore_pieces;
 pub use report_texts::{basis_text, concepts_text, direct_text, lattice_text};
 pub use sessions::sessions_text;

@@ -11,7 +11,7 @@ use Rattle.context_reduce.specs.Arrows.{arrow_table}
 use Rattle.context_reduce.specs.Texts.{arrows_text}
 use Rattle.cxt_format.specs.Written.{cxt_text}
 use Rattle.csv_context.specs.Written.{csv_text}
-use Rattle.basis_report.specs.Json.{concepts_json, basis_json}
+use Rattle.json_reports.specs.Json.{concepts_json, basis_json}
 use Rattle.report_texts.specs.Reports.{concepts_text, lattice_text, basis_text, direct_text}
 use Rattle.basis_report.specs.Verdicts.{follows_text}
 use Rattle.fca_command.specs.Attributes.{attributes_said}

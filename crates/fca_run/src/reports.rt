@@ -13,7 +13,7 @@ ghost use Rattle.fca_run.specs.Reports.{attributes_read, table_concepts, table_b
 ghost use Rattle.fca_run.specs.Causes.{IsReportStop};
 
 use attr_bits::Attrs;
-use basis_report::{basis_json, concepts_json, direct_text, verdict_text};
+use basis_report::{direct_text, verdict_text};
 use canonical_basis::basis;
 use command_io::{Answer, Ending, Origin, Stop, load_narrow_table, table_under};
 use context_reduce::{arrows, arrows_text, irreducible, part};
@@ -24,6 +24,7 @@ use direct_basis::proper_premises;
 use fca_command::{Command, Form, attributes_said};
 use fca_io::Shelf;
 use fca_model::{Memory, Word};
+use json_reports::{basis_json, concepts_json};
 use lectic_concepts::all_concepts;
 use std::alloc::Global;
 use std::thread::Threads;

@@ -5,9 +5,9 @@ use Rattle.serde_json.specs.View.{view, items_of}
 use Rattle.serde_json.proofs.Views.{view-Array}
 use Rattle.expert_wire.specs.Texts.{names_of}
 use Rattle.expert_wire.proofs.ListedLemmas.{names_from}
-use Rattle.basis_report.proofs.JsonLemmas.{named_more, named_same, named_all}
-use Rattle.basis_report.proofs.json_lines.attribute_names.Goals as goal
-use Rattle.basis_report.proofs.json_lines.attribute_names.Goals.{then-has+in_ok-try_from_str+in_ok-push, else-has}
+use Rattle.json_reports.proofs.JsonLemmas.{named_more, named_same, named_all}
+use Rattle.json_reports.proofs.json_lines.attribute_names.Goals as goal
+use Rattle.json_reports.proofs.json_lines.attribute_names.Goals.{then-has+in_ok-try_from_str+in_ok-push, else-has}
 
 pub loop-attribute-preserved : goal.loop-attribute-preserved
 loop-attribute-preserved c =

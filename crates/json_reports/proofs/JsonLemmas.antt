@@ -17,7 +17,7 @@ use Rattle.lectic_concepts.specs.declared.Concept.{Concept}
 use Rattle.expert_wire.specs.Texts.{names_of}
 use Rattle.expert_wire.proofs.ListedLemmas.{names_from, names_from-member, names_from-none, names_from-end}
 use Rattle.report_texts.specs.Reports.{names_at}
-use Rattle.basis_report.specs.Json.{names_data, concept_data, concepts_data, implication_data, basis_data}
+use Rattle.json_reports.specs.Json.{names_data, concept_data, concepts_data, implication_data, basis_data}
 
 no_float-items : {X : Type 0} (f : X → Data) → ((x : X) → has_float (f x) ≡ false) → (xs : List X) → items_have_float (items_of (map f xs)) ≡ false
 no_float-items f h [] = refl

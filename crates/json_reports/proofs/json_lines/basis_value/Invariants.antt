@@ -1,7 +1,7 @@
 use Rattle.std.proofs.Common.{◌≡◌, ◌++◌, map, drop}
 use Rattle.serde_json.specs.View.{view}
-use Rattle.basis_report.specs.Json.{implication_data}
-use Rattle.basis_report.proofs.json_lines.basis_value.Given as goal
+use Rattle.json_reports.specs.Json.{implication_data}
+use Rattle.json_reports.proofs.json_lines.basis_value.Given as goal
 
 abbrev pub invariant-loop-implication : goal.invariant-loop-implication
 invariant-loop-implication l =

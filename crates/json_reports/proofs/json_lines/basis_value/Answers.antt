@@ -1,7 +1,7 @@
 use Rattle.std.proofs.Common.{map}
-use Rattle.basis_report.specs.Json.{implication_data}
-use Rattle.basis_report.proofs.JsonLemmas.{values_more}
-use Rattle.basis_report.proofs.json_lines.basis_value.Goals as goal
+use Rattle.json_reports.specs.Json.{implication_data}
+use Rattle.json_reports.proofs.JsonLemmas.{values_more}
+use Rattle.json_reports.proofs.json_lines.basis_value.Goals as goal
 
 pub loop-implication-preserved : goal.loop-implication-preserved
 loop-implication-preserved c =

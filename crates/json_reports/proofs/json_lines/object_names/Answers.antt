@@ -1,8 +1,8 @@
 use Rattle.std.proofs.Common.{map, ap, ◌∙◌}
 use Rattle.serde_json.specs.Data.{string}
 use Rattle.report_texts.specs.Reports.{names_at}
-use Rattle.basis_report.proofs.JsonLemmas.{placed_more}
-use Rattle.basis_report.proofs.json_lines.object_names.Goals as goal
+use Rattle.json_reports.proofs.JsonLemmas.{placed_more}
+use Rattle.json_reports.proofs.json_lines.object_names.Goals as goal
 
 pub loop-place-preserved : goal.loop-place-preserved
 loop-place-preserved c =

@@ -3,7 +3,7 @@ use Rattle.serde_json.specs.Data.{string}
 use Rattle.serde_json.specs.View.{view}
 use Rattle.expert_wire.specs.Texts.{names_of}
 use Rattle.expert_wire.proofs.ListedLemmas.{names_from}
-use Rattle.basis_report.proofs.json_lines.attribute_names.Given as goal
+use Rattle.json_reports.proofs.json_lines.attribute_names.Given as goal
 
 abbrev pub invariant-loop-attribute : goal.invariant-loop-attribute
 invariant-loop-attribute l =

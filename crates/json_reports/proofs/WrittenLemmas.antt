@@ -12,7 +12,7 @@ use Rattle.attr_bits.specs.Difference.{minus}
 use Rattle.lectic_concepts.specs.declared.Concept.{Concept}
 use Rattle.expert_wire.specs.Texts.{line_end, names_of}
 use Rattle.report_texts.specs.Reports.{names_at}
-use Rattle.basis_report.specs.Json.{names_data, concept_data, implication_data, concepts_json, basis_json, array_tail, array_text, names_json_text, concept_json_text, concepts_json_text, implication_json_text, basis_json_text}
+use Rattle.json_reports.specs.Json.{names_data, concept_data, implication_data, concepts_json, basis_json, array_tail, array_text, names_json_text, concept_json_text, concepts_json_text, implication_json_text, basis_json_text}
 
 array_tail-items : {X : Type 0} (f : X → Data) (g : X → Text) → ((x : X) → compact_text (f x) ≡ g x) → (xs : List X) → items_text true (items_of (map f xs)) ≡ array_tail (map g xs) ++ codes "]"
 array_tail-items f g h [] = refl

@@ -2,7 +2,7 @@ use Rattle.std.proofs.Common.{◌≡◌, ◌++◌, map, drop}
 use Rattle.serde_json.specs.Data.{string}
 use Rattle.serde_json.specs.View.{view}
 use Rattle.report_texts.specs.Reports.{names_at}
-use Rattle.basis_report.proofs.json_lines.object_names.Given as goal
+use Rattle.json_reports.proofs.json_lines.object_names.Given as goal
 
 abbrev pub invariant-loop-place : goal.invariant-loop-place
 invariant-loop-place l =

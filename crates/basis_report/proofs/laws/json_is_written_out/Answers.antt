@@ -1,5 +1,0 @@
-use Rattle.basis_report.proofs.WrittenLemmas.{concepts_json-written, basis_json-written}
-use Rattle.basis_report.proofs.laws.json_is_written_out.Goals as goal
-
-pub returns : goal.returns
-returns c = record { concepts = concepts_json-written; basis = basis_json-written }
