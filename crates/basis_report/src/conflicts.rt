@@ -105,7 +105,7 @@ fn write_conflict(
     requires { place < length known.now.context.rows }
     ensures { OnOk result (draft.new ≡ draft.old ++ flat_map (conflict_line table.now.attributes rules.now) (dropped_rows_at expert known.now place (Some broken))) }
 {
-    draft.parts(
+    draft.append_parts(
         table,
         &[
             Part::Bytes(b"# "),
@@ -118,7 +118,7 @@ fn write_conflict(
             Part::Bytes(object_text(known, place).as_bytes()),
         ],
     )?;
-    draft.rule(table, b" ", broken, &implication_at(rules, broken))
+    draft.append_rule(table, b" ", broken, &implication_at(rules, broken))
 }
 
 /// The implication at the place, and one between sets of no attribute where there is none.

@@ -85,7 +85,7 @@ fn write_row(draft: &mut Draft, table: &Table, entry: &Entry) -> Result<(), Memo
     ensures { OnOk result (draft.new ≡ draft.old ++ recorded_line entry.now.event entry.now.reply) }
 {
     match (&entry.event, &entry.reply) {
-        (Event::Row { name, row, .. }, Reply::Taken(place)) => draft.parts(
+        (Event::Row { name, row, .. }, Reply::Taken(place)) => draft.append_parts(
             table,
             &[
                 Part::Bytes(b"# "),
@@ -112,7 +112,7 @@ pub(crate) fn write_accepted(
 {
     write_count_line(draft, table, b"# accepted ", accepted.len())?;
     for (place, implication) in accepted.iter().enumerate() {
-        draft.rule(table, b"# ", known.len() + place, implication)?;
+        draft.append_rule(table, b"# ", known.len() + place, implication)?;
     }
     Ok(())
 }
@@ -126,7 +126,7 @@ pub(crate) fn write_open(
 {
     write_count_line(draft, table, b"# open ", questions.len())?;
     for question in questions {
-        draft.question(table, b"# ", question)?;
+        draft.append_question(table, b"# ", question)?;
     }
     Ok(())
 }

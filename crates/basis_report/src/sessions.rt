@@ -26,7 +26,7 @@ pub fn sessions_text(alloc: Global, table: &Table, endings: &[&str]) -> Result<V
 fn write_session(draft: &mut Draft, table: &Table, place: usize, words: &str) -> Result<(), Memory>
     ensures { OnOk result (draft.new ≡ draft.old ++ session_line place words.now) }
 {
-    draft.parts(
+    draft.append_parts(
         table,
         &[
             Part::Bytes(b"# "),

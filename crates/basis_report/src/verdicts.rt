@@ -90,7 +90,7 @@ fn write_derivation(
     requires { list_all (λ i. nat_lt i (length members.now)) steps.now ≡ true }
     ensures { OnOk result (draft.new ≡ draft.old ++ derivation_text table.now.attributes members.now steps.now) }
 {
-    draft.parts(table, &[Part::Bytes(b"holds\n")])?;
+    draft.append_parts(table, &[Part::Bytes(b"holds\n")])?;
     write_count_line(draft, table, b"steps ", steps.len())?;
     for step in steps {
         write_arrow(draft, table, b"", *step, &members[*step])?;
@@ -102,7 +102,7 @@ fn write_refutation(draft: &mut Draft, table: &Table, place: usize) -> Result<()
     requires { place < length table.now.context.rows }
     ensures { OnOk result (draft.new ≡ draft.old ++ refutation_text table.now place) }
 {
-    draft.parts(
+    draft.append_parts(
         table,
         &[
             Part::Bytes(b"refuted "),

@@ -49,9 +49,9 @@ fn write_opening(draft: &mut Draft, table: &Table, settings: &Settings) -> Resul
     ensures front { AppendsFront (Some draft.old) (Some draft.new) (opening_text table.now.attributes (settings_of settings.now)) }
 {
     if settings.is_plain() {
-        return draft.parts(table, &[Part::Bytes(b"exploration 1\n")]);
+        return draft.append_parts(table, &[Part::Bytes(b"exploration 1\n")]);
     }
-    draft.parts(table, &[Part::Bytes(b"exploration 2\n")])?;
+    draft.append_parts(table, &[Part::Bytes(b"exploration 2\n")])?;
     write_settings(draft, table, settings)
 }
 
@@ -60,7 +60,7 @@ fn write_settings(draft: &mut Draft, table: &Table, settings: &Settings) -> Resu
     ensures front { AppendsFront (Some draft.old) (Some draft.new) (settings_text table.now.attributes (settings_of settings.now)) }
 {
     let holders = u64::from(settings.holders);
-    draft.parts(
+    draft.append_parts(
         table,
         &[
             Part::Bytes(b"holders "),
@@ -77,7 +77,7 @@ fn write_known(draft: &mut Draft, table: &Table, known: &[Implication]) -> Resul
     ensures front { AppendsFront (Some draft.old) (Some draft.new) (flat_map (known_line table.now.attributes) known.now) }
 {
     for implication in known {
-        draft.question(table, b"known ", implication)?;
+        draft.append_question(table, b"known ", implication)?;
     }
     Ok(())
 }
@@ -103,7 +103,7 @@ fn write_name(
     ensures front { AppendsFront (Some draft.old) (Some draft.new) (name_line_at expert (name_of expert names.now)) }
 {
     match names.get(expert) {
-        Some(name) => draft.parts(
+        Some(name) => draft.append_parts(
             table,
             &[
                 Part::Bytes(b"expert "),
@@ -132,8 +132,8 @@ fn write_entry(draft: &mut Draft, table: &Table, entry: &Entry) -> Result<(), Me
     ensures front { AppendsFront (Some draft.old) (Some draft.new) (entry_lines table.now.attributes entry.now) }
 {
     write_event(draft, table, &entry.event)?;
-    draft.parts(table, &[Part::Bytes(b"# ")])?;
-    draft.reply(table, &entry.reply)
+    draft.append_parts(table, &[Part::Bytes(b"# ")])?;
+    draft.append_reply(table, &entry.reply)
 }
 
 fn write_event(draft: &mut Draft, table: &Table, event: &Event) -> Result<(), Memory>
@@ -143,7 +143,7 @@ fn write_event(draft: &mut Draft, table: &Table, event: &Event) -> Result<(), Me
     match event {
         Event::Draw { expert } => write_expert(draft, table, b"draw ", *expert),
         Event::Confirm { expert } => write_expert(draft, table, b"confirm ", *expert),
-        Event::Row { expert, name, row } => draft.parts(
+        Event::Row { expert, name, row } => draft.append_parts(
             table,
             &[
                 Part::Bytes(b"row "),
@@ -163,7 +163,7 @@ fn write_expert(draft: &mut Draft, table: &Table, words: &[u8], expert: u8) -> R
     ensures whole { OnOk result (draft.new ≡ draft.old ++ ((words.now ++ decimal expert) ++ line_end)) }
     ensures front { AppendsFront (Some draft.old) (Some draft.new) ((words.now ++ decimal expert) ++ line_end) }
 {
-    draft.parts(
+    draft.append_parts(
         table,
         &[
             Part::Bytes(words),

@@ -100,7 +100,7 @@ fn write_at_once<K: Sink>(
     ensures same_beside { K.asked_beside sink.new ≡ K.asked_beside sink.old }
 {
     let mut line = Draft::new(alloc);
-    match line.reply(table, reply) {
+    match line.append_reply(table, reply) {
         Ok(()) => write_text(sink, line.into_bytes().as_slice()),
         Err(_) => write_reply(sink, table, reply),
     }

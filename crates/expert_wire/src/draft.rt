@@ -51,7 +51,7 @@ impl Draft {
     }
 
     /// Appends the bytes.
-    pub fn bytes(&mut self, bytes: &[u8]) -> Result<(), Memory>
+    pub fn append_bytes(&mut self, bytes: &[u8]) -> Result<(), Memory>
         ensures whole { OnOk result (self.new ≡ self.old ++ bytes.now) }
         ensures kept { OnErr result (self.new ≡ self.old) }
     {
@@ -60,18 +60,18 @@ impl Draft {
     }
 
     /// Appends the number, from 1 on, of what stands at the place.
-    pub fn ordinal(&mut self, place: usize) -> Result<(), Memory>
+    pub fn append_ordinal(&mut self, place: usize) -> Result<(), Memory>
         ensures whole { OnOk result (self.new ≡ self.old ++ ordinal place) }
         ensures kept { OnErr result (self.new ≡ self.old) }
     {
         match place.checked_add(1) {
-            Some(number) => self.bytes(Buffer::new().format(number).as_bytes()),
-            None => self.bytes(Buffer::new().format(place as u128 + 1).as_bytes()),
+            Some(number) => self.append_bytes(Buffer::new().format(number).as_bytes()),
+            None => self.append_bytes(Buffer::new().format(place as u128 + 1).as_bytes()),
         }
     }
 
     /// Appends the parts.
-    pub fn parts(&mut self, table: &Table, parts: &[Part<'_>]) -> Result<(), Memory>
+    pub fn append_parts(&mut self, table: &Table, parts: &[Part<'_>]) -> Result<(), Memory>
         ensures whole { OnOk result (self.new ≡ self.old ++ parts_text table.now.attributes parts.now) }
         ensures front { AppendsFront (Some self.old) (Some self.new) (parts_text table.now.attributes parts.now) }
     {
@@ -82,7 +82,7 @@ impl Draft {
     }
 
     /// Appends the line of the reply.
-    pub fn reply(&mut self, table: &Table, reply: &Reply<Attrs>) -> Result<(), Memory>
+    pub fn append_reply(&mut self, table: &Table, reply: &Reply<Attrs>) -> Result<(), Memory>
         ensures whole { OnOk result (self.new ≡ self.old ++ reply_line table.now.attributes reply.now) }
         ensures front { AppendsFront (Some self.old) (Some self.new) (reply_line table.now.attributes reply.now) }
     {
@@ -93,7 +93,7 @@ impl Draft {
     }
 
     /// Appends a line of the words and the full text of the question.
-    pub fn question(
+    pub fn append_question(
         &mut self,
         table: &Table,
         words: &[u8],
@@ -109,7 +109,7 @@ impl Draft {
     }
 
     /// Appends a line of the words, the number of the place, and the full text of the rule.
-    pub fn rule(
+    pub fn append_rule(
         &mut self,
         table: &Table,
         words: &[u8],

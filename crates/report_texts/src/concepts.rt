@@ -58,10 +58,10 @@ fn write_covers(draft: &mut Draft, covers: &[(usize, usize)]) -> Result<(), Memo
     ensures { OnOk result (draft.new ≡ draft.old ++ flat_map cover_line covers.now) }
 {
     for pair in covers {
-        draft.ordinal(pair.0)?;
-        draft.bytes(b" ")?;
-        draft.ordinal(pair.1)?;
-        draft.bytes(b"\n")?;
+        draft.append_ordinal(pair.0)?;
+        draft.append_bytes(b" ")?;
+        draft.append_ordinal(pair.1)?;
+        draft.append_bytes(b"\n")?;
     }
     Ok(())
 }
@@ -76,12 +76,12 @@ fn write_line<const W: usize>(
 ) -> Result<(), Memory>
     ensures { OnOk result (draft.new ≡ draft.old ++ concept_line table.now place (record { intent = intent.now; extent = extent.now })) }
 {
-    draft.ordinal(place)?;
-    draft.bytes(b" ")?;
+    draft.append_ordinal(place)?;
+    draft.append_bytes(b" ")?;
     write_attributes(draft, table, intent)?;
-    draft.bytes(b" | ")?;
+    draft.append_bytes(b" | ")?;
     write_objects(draft, table, extent)?;
-    draft.bytes(b"\n")
+    draft.append_bytes(b"\n")
 }
 
 /// The names of the attributes in the set, in braces.
@@ -92,31 +92,31 @@ fn write_attributes<const W: usize>(
 ) -> Result<(), Memory>
     ensures { OnOk result (draft.new ≡ draft.old ++ braces_text table.now.attributes set.now) }
 {
-    draft.bytes(b"{")?;
+    draft.append_bytes(b"{")?;
     let mut between = b"".as_slice();
     for attribute in 0..set.width().min(table.rows().width()) {
         if !set.has(attribute) {
             continue;
         }
-        draft.bytes(between)?;
-        draft.bytes(table.attribute_name(attribute).bytes())?;
+        draft.append_bytes(between)?;
+        draft.append_bytes(table.attribute_name(attribute).bytes())?;
         between = b", ".as_slice();
     }
-    draft.bytes(b"}")
+    draft.append_bytes(b"}")
 }
 
 /// The names of the objects at these places, in braces.
 fn write_objects(draft: &mut Draft, table: &Table, places: &[usize]) -> Result<(), Memory>
     ensures { OnOk result (draft.new ≡ draft.old ++ names_in_braces (names_at table.now.objects places.now)) }
 {
-    draft.bytes(b"{")?;
+    draft.append_bytes(b"{")?;
     let mut between = b"".as_slice();
     for place in places {
-        draft.bytes(between)?;
-        draft.bytes(object_text(table, *place).as_bytes())?;
+        draft.append_bytes(between)?;
+        draft.append_bytes(object_text(table, *place).as_bytes())?;
         between = b", ".as_slice();
     }
-    draft.bytes(b"}")
+    draft.append_bytes(b"}")
 }
 
 /// The name of the object, or nothing where there is none.

@@ -16,7 +16,7 @@ pub fn write_count_line(
 ) -> Result<(), Memory>
     ensures { OnOk result (draft.new ≡ draft.old ++ count_line words.now count) }
 {
-    draft.parts(
+    draft.append_parts(
         table,
         &[
             Part::Bytes(words),

@@ -56,7 +56,7 @@ pub fn write_arrow(
     ensures { OnOk result (draft.new ≡ draft.old ++ arrow_line words.now table.now.attributes place implication.now) }
 {
     let gained = implication.conclusion.minus(&implication.premise);
-    draft.parts(
+    draft.append_parts(
         table,
         &[
             Part::Bytes(words),

@@ -19,13 +19,13 @@ returns-in_err-write_event-clause-front c =
     let entry : SetEntry = c.args.entry.now in
     Drafting-fault (event_text entry.event ++ line_end) (codes "# " ++ reply_line attributes entry.reply) (begun c.args.draft.now attributes entry) c.in_err-write_event.ensures.front
 
-pub returns-in_err-parts-clause-front : goal.returns-in_err-parts-clause-front
-returns-in_err-parts-clause-front c =
+pub returns-in_err-append_parts-clause-front : goal.returns-in_err-append_parts-clause-front
+returns-in_err-append_parts-clause-front c =
     let attributes = c.args.table.now.attributes in
     let entry : SetEntry = c.args.entry.now in
     Drafting-fault (codes "# ") (reply_line attributes entry.reply)
     (Drafting-more (event_text entry.event ++ line_end) (codes "# " ++ reply_line attributes entry.reply) (begun c.args.draft.now attributes entry) c.in_ok-write_event.ensures.whole)
-    c.in_err-parts.ensures.front
+    c.in_err-append_parts.ensures.front
 
 pub returns-clause-front : goal.returns-clause-front
 returns-clause-front c =
@@ -34,5 +34,5 @@ returns-clause-front c =
     Drafting-last (reply_line attributes entry.reply)
     (Drafting-more (codes "# ") (reply_line attributes entry.reply)
     (Drafting-more (event_text entry.event ++ line_end) (codes "# " ++ reply_line attributes entry.reply) (begun c.args.draft.now attributes entry) c.in_ok-write_event.ensures.whole)
-    c.in_ok-parts.ensures.whole)
-    c.reply.ensures.front
+    c.in_ok-append_parts.ensures.whole)
+    c.append_reply.ensures.front

@@ -32,7 +32,7 @@ loop-attribute-preserved g c =
     let placed : c.loop-attribute.attribute < length c.args.set.now = omega arith in
     let named : c.loop-attribute.attribute < length c.args.table.now.attributes = omega arith in
     let member : get_or c.args.set.now c.loop-attribute.attribute false ≡ true = sym c.has.ensures ∙ c.if-not-has.false in
-    let made = c.in_ok-bytes-3.ensures.whole ∙ ap₂ (λ (d e : Text). d ++ e) c.in_ok-bytes-2.ensures.whole c.bytes-in-loop-attribute-2.ensures.value in
+    let made = c.in_ok-append_bytes-3.ensures.whole ∙ ap₂ (λ (d e : Text). d ++ e) c.in_ok-append_bytes-2.ensures.whole c.bytes.ensures.value in
     rw add-one (rw c.as_slice-between-in-loop-attribute.ensures
     (name_more c.loop-attribute.draft c.loop-attribute.between.now c.attribute_name.result.now _ _ made
     ∙ ap (λ z. c.loop-attribute.draft ++ z) (sym (bridged-member c.loop-attribute.between.now c.loop-attribute.attribute c.args.table.now.attributes c.args.set.now c.attribute_name.result.now (codes "}") named placed member c.attribute_name.ensures))
@@ -46,4 +46,4 @@ returns g c =
     let high = min-le_right (length c.args.set.now) (length c.args.table.now.attributes) in
     let over : min (length c.args.set.now) (length c.args.table.now.attributes) ≤ c.loop-attribute.attribute = omega arith in
     let none : bridged c.loop-attribute.between.now (names_from c.loop-attribute.attribute c.args.table.now.attributes c.args.set.now) ++ codes "}" ≡ codes "}" = ap (λ xs. bridged c.loop-attribute.between.now xs ++ codes "}") (names_from-end c.loop-attribute.attribute c.args.table.now.attributes c.args.set.now over) in
-    on_ok_weaker c.bytes-2.result (λ e. e ∙ ap (λ z. c.loop-attribute.draft ++ z) (sym none) ∙ c.loop-attribute.invariant) c.bytes-2.ensures.whole
+    on_ok_weaker c.append_bytes-2.result (λ e. e ∙ ap (λ z. c.loop-attribute.draft ++ z) (sym none) ∙ c.loop-attribute.invariant) c.append_bytes-2.ensures.whole
