@@ -1,4 +1,4 @@
--- Behind the text of an exploration lines that begin with `#` are skipped like those of its sections, so the whole spells the same history.
+-- Lines that begin with `#` after the text of an exploration are skipped like those of its sections. So the whole spells the same history.
 use Rattle.std.proofs.Common.{◌≡◌, ℕ, zero, suc, ◌+◌, Bool, true, false, not, Option, Some, None, List, [], ◌∷◌, ◌++◌, length, map, get_or, refl, sym, ap, ap₂, ◌∙◌, append_assoc}
 use Rattle.std.specs.Prelude.{codes, decimal, unwrap_or, slice_get, slice_index_or}
 use Rattle.std.specs.List.{list_any, list_all, flat_map, enumerate_from}
@@ -110,7 +110,7 @@ pub Skips-sessions_text : (endings : List Text) → are_lines endings ≡ true �
 Skips-sessions_text endings h =
     Skips-append (count_line (codes "# sessions ") (length endings)) (flat_map (λ x. session_line x.0 x.1) (enumerate_from 0 endings)) (Skips-count_line (codes "sessions ") (length endings) refl) (Skips-endings 0 endings h)
 
--- ---- both texts are such lines
+-- ---- both texts consist of such lines
 
 lines-map : {X : Type 0} (words : X → Text) (xs : List X) → flat_map (λ x. comment_line (words x)) xs ≡ comments (map words xs)
 lines-map words [] = refl

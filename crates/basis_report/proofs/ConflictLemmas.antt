@@ -1,5 +1,5 @@
--- The dropped rows that are still to come: those from a place of a table on, and those of the oracles from one on. One step further, what was dropped at
--- the place, or by the oracle, comes off the front; and behind the last there is none.
+-- The dropped rows that are still to come: those from a place of a table on, and those of the oracles from one on. One step further, the
+-- rows dropped at the place, or by the oracle, are gone from the front. After the last there is none.
 use Rattle.std.proofs.Common.{◌≡◌, ℕ, ◌+◌, ◌<◌, ◌≤◌, Option, Some, None, true, false, is_some, List, [], ◌∷◌, ◌++◌, length, map, drop, get_or, refl, sym, ap, ◌∙◌, append_assoc, append-nil, length-append, arith}
 use Rattle.std.specs.Prelude.{slice_get}
 use Rattle.std.specs.List.{flat_map, enumerate_from}
@@ -12,11 +12,11 @@ use Rattle.fca_model.specs.Tables.{Text, NamedContext}
 use Rattle.oracle_expert.specs.Oracles.{Conflicts, Recall}
 use Rattle.basis_report.specs.Conflicts.{DroppedRow, dropped_rows_at, dropped_rows_of, dropped_rows_from}
 
--- the rows dropped at this place and behind it
+-- the rows dropped at this place and after it
 abbrev pub dropped_behind : ℕ → NamedContext → ℕ → Conflicts → List DroppedRow
 dropped_behind e D place conflicts = flat_map (λ x. dropped_rows_at e D x.0 x.1) (enumerate_from place (drop place conflicts))
 
--- the rows dropped by the oracle at this place and those behind it
+-- the rows dropped by the oracle at this place and by those after it
 abbrev pub dropped_later : ℕ → List Recall → List DroppedRow
 dropped_later k oracles = dropped_rows_from k (map (λ o. (o.table, o.conflicts)) (drop k oracles))
 
@@ -37,7 +37,7 @@ oracle_step k oracles o h e =
 pub oracle_end : (k : ℕ) (oracles : List Recall) → length oracles ≤ k → dropped_later k oracles ≡ []
 oracle_end k oracles h = ap (λ os. dropped_rows_from k (map (λ (r : Recall). (r.table, r.conflicts)) os)) (drop_of_length-le oracles h)
 
--- ---- what was written or counted, and what is still to come
+-- ---- what was written or counted, and the rest
 
 pub written_step : (f : DroppedRow → Text) (d d' all : Text) (ds here rest : List DroppedRow) → ds ≡ here ++ rest → d' ≡ d ++ flat_map f here → d ++ flat_map f ds ≡ all → d' ++ flat_map f rest ≡ all
 written_step f d d' all ds here rest e grown h =

@@ -42,11 +42,11 @@ five_parts d0 d1 d2 d3 d4 d5 a b c d e e1 e2 e3 e4 e5 =
     let all : d5 ≡ ((((d0 ++ a) ++ b) ++ c) ++ d) ++ e = e5 ∙ ap (λ z. z ++ e) (e4 ∙ ap (λ z. z ++ d) (e3 ∙ ap (λ z. z ++ c) (e2 ∙ ap (λ z. z ++ b) e1))) in
     all ∙ simp append_assoc
 
--- the parts that are written, where k rules are known
+-- the parts that are written, if k rules are known
 abbrev written : NamedContext → Settings → ℕ → List SetEntry → List SetEntry → List Rule → List Rule → List Rule → List Rule → Text
 written T G k J J' A Q A' Q' = transcript T.attributes G J ++ (recorded_section J' ++ (accepted_section T.attributes k A ++ (open_section T.attributes Q ++ basis_section T.attributes A' Q')))
 
--- the questions open after the history, beside what was known
+-- the questions open after the history, relative to what was known
 abbrev open_after : NamedContext → Settings → List SetEntry → List Rule
 open_after t settings H = open_questions settings.known (state_of_text t settings H).context (state_of_text t settings H).accepted
 
@@ -98,6 +98,6 @@ lists_of-parts h T eT J eJ S eS A eA Q eQ =
     ap (λ x. lists x (length S) J A Q) eT ∙ ap (λ x. lists t (length S) x A Q) eJ ∙ ap (λ (x : List Rule). lists t (length x) h.journal A Q) eS
     ∙ ap (λ x. lists t k h.journal x Q) eA ∙ ap (λ x. lists t k h.journal (state_of h).accepted x) eQ
 
--- the pieces in a list, one behind the other
+-- the pieces in a list, one after the other
 pub joined-three : (a b c x y z : Text) → a ≡ x → b ≡ y → c ≡ z → a ++ (b ++ (c ++ [])) ≡ x ++ (y ++ z)
 joined-three a b c x y z ea eb ec = ap (λ w. w ++ (b ++ (c ++ []))) ea ∙ ap (λ w. x ++ (w ++ (c ++ []))) eb ∙ ap (λ w. x ++ (y ++ w)) (append-nil c ∙ ec)

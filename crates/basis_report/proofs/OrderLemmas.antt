@@ -1,6 +1,6 @@
--- The basis at the end of a text is the basis of all rows beside what is known, from scratch. What is listed are the accepted implications in the lectic order of their
--- premises: a tree takes them one by one, each new premise comes besides those that are there and keeps the order. Where no question is open, a list with the
--- members of what was accepted whose premises are in order is the basis.
+-- The basis at the end of a text is the basis of all rows relative to what is known, from scratch. The accepted implications are listed
+-- in the lectic order of their premises: a tree takes them one by one, and each new premise is added to those that are there and keeps
+-- the order. If no question is open, a list of the accepted implications in the order of their premises is the basis.
 use Rattle.std.proofs.Common.{◌≡◌, Bool, true, false, not, ◌&&◌, ◌||◌, List, [], ◌∷◌, ◌++◌, map, fold, length, append_assoc, refl, sym, ap, ap₂, ◌∙◌, subst, Ordering, Less, Equal, Greater}
 use Rattle.std.specs.Prelude.{codes}
 use Rattle.std.specs.Ordering.{is_lt, ordering_reverse, match_ordering}
@@ -55,7 +55,7 @@ de_morgan false b = refl
 
 -- ---- one pair more
 
--- a new premise comes besides those that are there
+-- a new premise is added to those that are there
 list_all-insert_entry : (p : Rule → Bool) (P C : Set) (Es : List (Set × Set)) → has_key P Es ≡ false
     → list_all p (map ruled (insert_entry lectic_cmp Es P C)) ≡ (p (rule P C) && list_all p (map ruled Es))
 list_all-insert_entry p P C [] h = refl
@@ -83,7 +83,7 @@ before_trans A B C h k = ap is_lt (lectic_total.trans A B C (is_less (lectic_cmp
 is_less_at : (A B : Set) → lectic_cmp A B ≡ Greater → is_lt (lectic_cmp B A) ≡ true
 is_less_at A B e = ap is_lt (lectic_total.antisymm B A ∙ ap ordering_reverse e)
 
--- what comes before each premise comes before each when one is added that it comes before
+-- a set below each premise stays below each if a premise above it is added
 first-insert_entry : (A P C : Set) (Es : List (Set × Set)) → is_lt (lectic_cmp A P) ≡ true → list_all (λ e. is_lt (lectic_cmp A e.0)) Es ≡ true
     → list_all (λ e. is_lt (lectic_cmp A e.0)) (insert_entry lectic_cmp Es P C) ≡ true
 first-insert_entry A P C [] h all = and_from (is_lt (lectic_cmp A P)) true h refl
@@ -184,7 +184,7 @@ none_there (i ∷ J) = none_there J
 
 -- ---- the section
 
--- where no question is open, the accepted implications in order are the basis beside what is known
+-- if no question is open, the accepted implications in order are the basis relative to what is known
 in_lectic_order-basis : (S : List Rule) (K : Context) (acc : List Rule) → IsAccepted S K acc → open_questions S K acc ≡ [] → in_lectic_order acc ≡ basis_known S K
 in_lectic_order-basis S K acc h done = accepted_sorted S K acc h done (in_lectic_order acc) (λ p. members-with_all p [] acc h.distinct (none_there acc))
     (ap increasing (premises-ruled (with_all [] acc)) ∙ in_order-with_all [] acc refl)

@@ -1,5 +1,5 @@
--- The text of an exploration spells its settings and its history: each line of the sections begins with `#` and is skipped, so a script reads just the
--- settings and the events of the transcript, and a legal history is the journal of its events.
+-- The text of an exploration spells its settings and its history. Each line of the sections begins with `#` and is skipped, so the
+-- settings and the events of the transcript are what is read. A legal history is the journal of its events.
 use Rattle.std.proofs.Common.{◌≡◌, ℕ, ◌+◌, true, false, List, [], ◌∷◌, ◌++◌, length, filter, Ok, refl, sym, ap, ◌∙◌, subst, append_assoc, append-nil}
 use Rattle.std.specs.Prelude.{codes, decimal, is_none}
 use Rattle.std.specs.List.{list_any, list_all, flat_map, enumerate_from}
@@ -91,7 +91,7 @@ each_said n (entry ∷ H) experts widths named =
 
 -- ---- the whole
 
--- whatever is skipped may stand behind the text
+-- skipped lines may follow the text
 pub spelled-more : (t : NamedContext) (settings : Settings) (H : List SetEntry) (more : Text) → AreNames t.attributes → SettingsCanBeWritten t.context.width settings → EachNamed H
     → IsLegal (opening t.context t.objects settings) H → Skips more → Spells t settings H (explore_text t settings H ++ more)
 unfolding explore_text

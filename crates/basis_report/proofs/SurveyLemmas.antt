@@ -1,4 +1,4 @@
--- Six pieces of a text, each put behind those before it.
+-- Six pieces of a text, each appended to those before it.
 use Rattle.std.proofs.Common.{◌≡◌, ◌∙◌, ◌++◌, ℕ, refl, append_assoc}
 use Rattle.fca_model.specs.Tables.{Text}
 use Rattle.basis_report.specs.Surveys.{survey_lines}

@@ -1,5 +1,5 @@
--- The verdict is right in both cases. Where no row refutes the implication it holds, so it follows from the basis, and there is a derivation, which is
--- sound; where a row does, it does not hold.
+-- The verdict is right in both cases. If no row refutes the implication, it holds, so it follows from the basis, and there is a sound
+-- derivation. If a row refutes it, it does not hold.
 use Rattle.std.proofs.Common.{◌≡◌, ℕ, suc, Bool, true, false, not, ◌&&◌, Option, Some, None, List, [], ◌∷◌, length, get_or, refl, sym, ap, ap₂, ◌∙◌, position, eqb, eq-eqb, ltb}
 use Rattle.std.specs.List.{list_any, list_all}
 use Rattle.std.proofs.lemmas.Bool.{false≢true, and_parts, and_from, or_from, not-true}
@@ -29,11 +29,11 @@ none_any p (x ∷ xs) h =
 abbrev refuter : Context → Rule → Option ℕ
 refuter K i = position (λ row. refutes row i) K.rows
 
--- what no row refutes holds
+-- an implication that no row refutes holds
 unrefuted : (K : Context) (i : Rule) → length i.conclusion ≡ K.width → refuter K i ≡ None → holds K i ≡ true
 unrefuted K i e none = unrefuted_holds K i e (none_any (λ row. refutes row i) K.rows (position_none (λ row. refutes row i) K.rows none))
 
--- what holds no row refutes
+-- no row refutes an implication that holds
 none_refutes : (K : Context) (i : Rule) → length i.conclusion ≡ K.width → holds K i ≡ true → refuter K i ≡ None
 none_refutes K i e h = go (refuter K i) refl
   where
@@ -46,7 +46,7 @@ none_refutes K i e h = go (refuter K i) refl
         let kept = AllPass-from_list_all (λ r. respects r i) K.rows (sym (holds_by_rows K i e) ∙ h) place [] there.0 in
         absurd (false≢true (sym (not-true (within i.conclusion row) broken.1) ∙ respects_at row i kept broken.0))
 
--- what no row refutes follows from the basis
+-- an implication that no row refutes follows from the basis
 pub unrefuted_follows : (t : NamedContext) (J : RuleList) (P C : Set) → J ≡ record { width = t.context.width; members = basis t.context }
     → length P ≡ t.context.width → length C ≡ t.context.width → position (λ row. refutes row (rule P C)) t.context.rows ≡ None
     → follows J.width J.members (rule P C) ≡ true
@@ -98,7 +98,7 @@ verdict_refuted t P C c h = go (first_refuting t (rule P C)) refl
     go None e = absurd (false≢true (sym h ∙ unrefuted t.context (rule P C) c e))
     go (Some place) e = (place, e, ap (λ o. verdict t J o (derivation_within (suc t.context.width) J P C)) e)
 
--- ---- as it is written
+-- ---- the verdict as it is written
 
 pub written_refuted : (t : NamedContext) (J : List Rule) (P C : Set) (place : ℕ) (text : Text) → first_refuting t (rule P C) ≡ Some place → text ≡ refutation_text t place → text ≡ follows_text t J P C
 unfolding follows_text

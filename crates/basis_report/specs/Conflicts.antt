@@ -1,7 +1,7 @@
--- Conflicts: the rows that oracles dropped, since each of them broke a rule: an accepted implication, or one that was known.
+-- Conflicts: the rows that oracles dropped. Each broke a rule, which is an accepted implication or one that was known.
 --
--- Where the oracle of expert 2 dropped its first row {a}, of the object g, against the first implication {} -> {a, b}, the lines behind `# conflicts 1` are
--- `# 2 1 X. g 1 .. XX {} -> {a, b}` alone.
+-- If the oracle of expert 2 dropped its first row {a}, of the object g, against the first implication {} -> {a, b}, the only line after
+-- `# conflicts 1` is `# 2 1 X. g 1 .. XX {} -> {a, b}`.
 use Rattle.std.specs.Prelude.{ℕ, ◌+◌, Option, Some, None, List, [], ◌∷◌, ◌++◌, length, unwrap_or, slice_get, slice_index_or, codes}
 use Rattle.std.specs.List.{flat_map, enumerate_from}
 use Rattle.fca_model.specs.Sets.{Set}
@@ -13,7 +13,8 @@ use Rattle.oracle_expert.specs.Oracles.{Conflicts}
 use Rattle.report_texts.specs.Reports.{count_line}
 use Rattle.basis_report.specs.Comments.{comment_line}
 
--- a dropped row: whose it is, its place in that expert's table, the row and its object's name there, and the place of the implication that it broke
+-- a dropped row: its expert, its place in the table of the expert, the row and the name of its object, and the place of the rule that it
+-- broke
 pub record DroppedRow : Type 0 where
   pub expert : ℕ
   pub place : ℕ
@@ -31,7 +32,7 @@ dropped_rows_at e D place (Some k) =
 abbrev pub dropped_rows_of : ℕ → NamedContext → Conflicts → List DroppedRow
 dropped_rows_of e D conflicts = flat_map (λ x. dropped_rows_at e D x.0 x.1) (enumerate_from 0 conflicts)
 
--- those of all oracles, each with its table and its conflicts; the first is that of expert e
+-- the dropped rows of all oracles, each given by its table and its conflicts. The first oracle is that of expert e
 abbrev pub dropped_rows_from : ℕ → List (NamedContext × Conflicts) → List DroppedRow
 dropped_rows_from e [] = []
 dropped_rows_from e (o ∷ os) = dropped_rows_of e o.0 o.1 ++ dropped_rows_from (e + 1) os
@@ -42,9 +43,11 @@ conflict_words attributes accepted d =
     ordinal d.expert ++ (codes " " ++ (ordinal d.place ++ (codes " " ++ (pattern d.row ++ (codes " " ++ (d.name ++ (codes " "
     ++ numbered_rule attributes d.broken (slice_index_or accepted d.broken (rule [] [])))))))))
 
+-- the line of a dropped row
 abbrev pub conflict_line : List Text → List Rule → DroppedRow → Text
 conflict_line attributes accepted d = comment_line (conflict_words attributes accepted d)
 
+-- the number of dropped rows, and a line for each
 abbrev pub conflicts_section : List Text → List Rule → List DroppedRow → Text
 conflicts_section attributes accepted ds = count_line (codes "# conflicts ") (length ds) ++ flat_map (conflict_line attributes accepted) ds
 

@@ -1,4 +1,4 @@
--- Whether an implication holds in a table, and why: a derivation of it from the basis, or the first row that refutes it.
+-- The verdict on an implication in a table: a derivation from the basis if it holds, or else the first row that refutes it.
 --
 -- Of the rows {a} and {a, b} over a, b the basis is {} -> {a}. For {b} -> {a} the text is `holds`, `steps 1`, `1 {} -> {a}`, and for {a} -> {b} it is
 -- `refuted 1 X. NAME` with the name of the first object.
@@ -11,11 +11,11 @@ use Rattle.canonical_basis.specs.Derivations.{derivation}
 use Rattle.expert_wire.specs.Texts.{line_end, ordinal, pattern}
 use Rattle.report_texts.specs.Reports.{count_line, arrow_line}
 
--- a step of a derivation: the number of the implication that is used, and its arrow text
+-- a step of a derivation: the number of the implication that it uses, and the arrow text
 abbrev pub step_line : List Text → List Rule → ℕ → Text
 step_line attributes J place = arrow_line [] attributes place (slice_index_or J place (rule [] []))
 
--- the implication holds, by these steps
+-- the implication holds by these steps
 abbrev pub derivation_text : List Text → List Rule → List ℕ → Text
 derivation_text attributes J steps = codes "holds\n" ++ (count_line (codes "steps ") (length steps) ++ flat_map (step_line attributes J) steps)
 
@@ -24,7 +24,7 @@ abbrev pub refutation_text : NamedContext → ℕ → Text
 refutation_text t place =
     codes "refuted " ++ (ordinal place ++ (codes " " ++ (pattern (unwrap_or (slice_get t.context.rows place) []) ++ (codes " " ++ (unwrap_or (slice_get t.objects place) [] ++ line_end)))))
 
--- by the first row that refutes the implication, if there is one; else by the steps
+-- the row that refutes the implication, if there is one, or else the steps
 abbrev pub verdict : NamedContext → List Rule → Option ℕ → Option (List ℕ) → Text
 verdict t J (Some place) steps = refutation_text t place
 verdict t J None steps = derivation_text t.attributes J (unwrap_or steps [])

@@ -1,4 +1,4 @@
-//! The rows that oracles dropped.
+//! Conflicts: the rows that oracles dropped.
 
 ghost use Rattle.std.specs.Prelude.{◌≡◌, ◌≤◌, ◌<◌, ◌++◌, ℕ, [], Some, length, map, IfOk, OnOk, slice_index_or};
 ghost use Rattle.std.specs.List.{flat_map};
@@ -47,7 +47,7 @@ pub fn conflicts_text(
     Ok(draft.into_bytes())
 }
 
-/// How many rows all oracles dropped.
+/// The number of rows that all oracles dropped.
 fn count_all_dropped_rows(oracles: &[Oracle]) -> usize
     requires { length oracles.now < 256 }
     ensures { result ≡ length (dropped_rows_from 0 (map (λ o. (o.table, o.conflicts)) oracles.now)) }
@@ -59,7 +59,7 @@ fn count_all_dropped_rows(oracles: &[Oracle]) -> usize
     count
 }
 
-/// How many rows the oracle dropped, whatever the number of its expert is.
+/// The number of rows that the oracle dropped. It does not depend on the number of the expert.
 fn count_dropped_rows(oracle: &Oracle) -> usize
     ensures count { (e : ℕ) → result ≡ length (dropped_rows_of e oracle.now.table oracle.now.conflicts) }
     ensures few { result ≤ MAX_OBJECTS }
@@ -73,7 +73,7 @@ fn count_dropped_rows(oracle: &Oracle) -> usize
     count
 }
 
-/// The lines of the rows that the oracle of the expert dropped.
+/// Appends the lines of the rows that the oracle of the expert dropped.
 fn write_dropped(
     draft: &mut Draft,
     table: &Table,
@@ -92,7 +92,7 @@ fn write_dropped(
     Ok(())
 }
 
-/// The line of the row at the place of what the expert knows, which broke a rule.
+/// Appends the line of the row at the place of the table that the expert knows. The row broke a rule.
 fn write_conflict(
     draft: &mut Draft,
     table: &Table,
@@ -121,7 +121,7 @@ fn write_conflict(
     draft.append_rule(table, b" ", broken, &implication_at(rules, broken))
 }
 
-/// The implication at the place, and one between sets of no attribute where there is none.
+/// The implication at the place. It is one between sets of no attribute if there is none.
 fn implication_at(rules: &[Implication], place: usize) -> Implication
     ensures { result ≡ slice_index_or rules.now place (rule [] []) }
 {

@@ -18,8 +18,8 @@ use report_texts::{write_arrows, write_count_line};
 use std::alloc::Global;
 use std::collections::BTreeMap;
 
-/// The transcript of the exploration, and then what came of it. Replayed on the same table the text gives itself, whatever lines that
-/// begin with `#` stand behind it, where its settings are those that a script can tell.
+/// The transcript of the exploration, and then its results. If its settings can be written, the text is a script that gives the same
+/// exploration of the same table, also if lines that begin with `#` follow.
 pub fn explore_text(alloc: Global, explore: &Explore) -> Result<Vec<u8>, Memory>
     ensures text { IfOk result (λ v. v.items ≡ explore_text explore.now.opening.table explore.now.opening.settings explore.now.journal) }
     ensures reads_back { OnOk result ((lines : List Text) → are_lines lines ≡ true
@@ -33,7 +33,7 @@ pub fn explore_text(alloc: Global, explore: &Explore) -> Result<Vec<u8>, Memory>
     Ok(draft.into_bytes())
 }
 
-/// The transcript, and what came of it.
+/// Appends the transcript and the results.
 fn write_exploration(alloc: Global, draft: &mut Draft, explore: &Explore) -> Result<(), Memory>
     ensures { OnOk result (draft.new ≡ draft.old ++ explore_text explore.now.opening.table explore.now.opening.settings explore.now.journal) }
 {
@@ -51,6 +51,7 @@ fn write_exploration(alloc: Global, draft: &mut Draft, explore: &Explore) -> Res
     )
 }
 
+/// Appends the recorded rows.
 pub(crate) fn write_recorded(
     draft: &mut Draft,
     table: &Table,
@@ -65,12 +66,14 @@ pub(crate) fn write_recorded(
     Ok(())
 }
 
+/// The number of recorded rows.
 fn count_recorded_rows(journal: &[Entry]) -> usize
     ensures { result ≡ length (filter (λ entry. is_recorded entry.event entry.reply) journal.now) }
 {
     journal.iter().filter(|entry| is_recorded(entry)).count()
 }
 
+/// Whether the entry records a row.
 fn is_recorded(entry: &Entry) -> bool
     ensures { result ≡ is_recorded entry.now.event entry.now.reply }
 {
@@ -80,7 +83,7 @@ fn is_recorded(entry: &Entry) -> bool
     )
 }
 
-/// The line of the row, if the entry records one.
+/// Appends the line of the row, if the entry records one.
 fn write_row(draft: &mut Draft, table: &Table, entry: &Entry) -> Result<(), Memory>
     ensures { OnOk result (draft.new ≡ draft.old ++ recorded_line entry.now.event entry.now.reply) }
 {
@@ -101,7 +104,7 @@ fn write_row(draft: &mut Draft, table: &Table, entry: &Entry) -> Result<(), Memo
     }
 }
 
-/// The accepted implications, with their numbers among all rules: what is known comes first.
+/// Appends the accepted implications with their numbers among all rules. The known implications come first.
 pub(crate) fn write_accepted(
     draft: &mut Draft,
     table: &Table,
@@ -117,6 +120,7 @@ pub(crate) fn write_accepted(
     Ok(())
 }
 
+/// Appends the open questions.
 pub(crate) fn write_open(
     draft: &mut Draft,
     table: &Table,
@@ -131,7 +135,7 @@ pub(crate) fn write_open(
     Ok(())
 }
 
-/// The accepted implications in the lectic order of their premises, where no question is open.
+/// Appends the accepted implications in the lectic order of their premises, if no question is open.
 pub(crate) fn write_basis(
     alloc: Global,
     draft: &mut Draft,
@@ -149,6 +153,7 @@ pub(crate) fn write_basis(
     write_arrows(draft, table, b"# ", &ordered)
 }
 
+/// The implications in the lectic order of their premises.
 fn in_lectic_order(alloc: Global, accepted: &[Implication]) -> Result<Vec<Implication>, Memory>
     ensures { IfOk result (λ v. v.items ≡ in_lectic_order accepted.now) }
 {

@@ -1,4 +1,4 @@
-//! Laws of the texts, each the contract of a function that does nothing.
+//! Laws of the texts. Each is the contract of a function that does nothing.
 
 ghost use Rattle.std.specs.Prelude.{◌≡◌, ◌++◌, ℕ, [], List, true, false, Some, length};
 ghost use Rattle.std.specs.List.{list_all};
@@ -24,7 +24,7 @@ pub fn exploration_reads_back()
         → IsLegal (opening t.context t.objects settings) H → Spells t settings H (explore_text t settings H) }
 {}
 
-/// Lines that begin with `#`, as those of conflicts and of sessions, change nothing of what the text of an exploration before them spells.
+/// The text of an exploration spells the same if lines that begin with `#` follow, as those of conflicts and of sessions do.
 pub fn comments_change_nothing()
     ensures any { (t : NamedContext) (settings : Settings) (H : List SetEntry) (lines : List Text) → AreNames t.attributes → SettingsCanBeWritten t.context.width settings → EachNamed H
         → IsLegal (opening t.context t.objects settings) H → are_lines lines ≡ true → SpellsBefore t settings H lines }
@@ -35,7 +35,7 @@ pub fn comments_change_nothing()
         → IsLegal (opening t.context t.objects settings) H → are_lines endings ≡ true → Spells t settings H (explore_text t settings H ++ sessions_text endings) }
 {}
 
-/// Where no question is open, the text of an exploration ends with the basis of all rows beside what is known, from scratch.
+/// If no question is open, the text of an exploration ends with the basis of all rows relative to what is known, from scratch.
 pub fn finished_ends_with_basis()
     ensures section { (t : NamedContext) (settings : Settings) (H : List SetEntry) → rows_respect settings.known t.context ≡ true → IsLegal (opening t.context t.objects settings) H
         → open_in (state_of_text t settings H) ≡ [] → basis_section t.attributes (state_of_text t settings H).accepted []
@@ -45,7 +45,8 @@ pub fn finished_ends_with_basis()
         ≡ text_before_basis t settings H ++ basis_lines t.attributes (basis_known settings.known (state_of_text t settings H).context) }
 {}
 
-/// The verdict on an implication is right: where it holds, a sound derivation from the basis is told, and else the first row that refutes it.
+/// The verdict on an implication is right. If the implication holds, the verdict is a sound derivation from the basis. Else it is the
+/// first row that refutes the implication.
 pub fn verdict_is_right()
     ensures held { (t : NamedContext) (P C : Set) → length P ≡ t.context.width → length C ≡ t.context.width → holds t.context (rule P C) ≡ true
         → (steps : List ℕ) × (is_sound (basis t.context) P C steps ≡ true) × (follows_text t (basis t.context) P C ≡ derivation_text t.attributes (basis t.context) steps) }

@@ -1,4 +1,4 @@
-//! Every text that is printed: JSON, verdicts, explorations and surveys, beside the lists of concepts and implications from below.
+//! The texts of explorations, verdicts and surveys. The lists of concepts and implications come from `report_texts`.
 #![tactic(auto)]
 
 mod conflicts;

@@ -1,4 +1,4 @@
-//! What tables and journals keep as names are names. Each function looks at each name once, and changes nothing.
+//! Names in tables and journals are valid. Each function looks at each name once and changes nothing, so that its contract can say so.
 
 ghost use Rattle.std.specs.Prelude.{◌≡◌, true};
 ghost use Rattle.std.specs.List.{list_all};
@@ -11,7 +11,7 @@ use context_table::Table;
 use explore_state::{Entry, Event};
 use oracle_expert::Oracle;
 
-/// The names of the attributes.
+/// Looks at the names of the attributes.
 pub(crate) fn look_at_attributes(table: &Table)
     ensures { AreNames table.now.attributes }
 {
@@ -20,7 +20,7 @@ pub(crate) fn look_at_attributes(table: &Table)
     }
 }
 
-/// The names of the objects.
+/// Looks at the names of the objects.
 fn look_at_objects(table: &Table)
     ensures { list_all is_name table.now.objects ≡ true }
 {
@@ -29,7 +29,7 @@ fn look_at_objects(table: &Table)
     }
 }
 
-/// The names of the objects of the oracles' tables.
+/// Looks at the names of the objects in the tables of the oracles.
 pub(crate) fn look_at_oracles(oracles: &[Oracle])
     ensures { list_all (λ o. list_all is_name o.table.objects) oracles.now ≡ true }
 {
@@ -38,7 +38,7 @@ pub(crate) fn look_at_oracles(oracles: &[Oracle])
     }
 }
 
-/// The names of the rows that experts gave.
+/// Looks at the names of the rows that experts gave.
 pub(crate) fn look_at_rows(journal: &[Entry])
     ensures { EachNamed journal.now }
 {
@@ -47,6 +47,7 @@ pub(crate) fn look_at_rows(journal: &[Entry])
     }
 }
 
+/// Looks at the name of the row, if the event gives one.
 fn look_at_row(event: &Event)
     ensures { IsNamed event.now }
 {

@@ -1,4 +1,4 @@
-//! The text of an exploration in pieces, each of which a thread may write.
+//! The text of an exploration in pieces. A thread may write each of them.
 
 ghost use Rattle.std.specs.Prelude.{◌≡◌, List, true, IfOk, OnOk};
 ghost use Rattle.std.specs.List.{flat_map};
@@ -16,8 +16,8 @@ use fca_model::Memory;
 use std::alloc::Global;
 use std::thread::{Threads, join_mut};
 
-/// The text of the exploration in pieces, which are written side by side where threads can be made: the transcript, the lists of what
-/// was recorded and accepted and is open, and the basis.
+/// The text of the exploration in three pieces: the transcript; the lists of recorded rows, accepted implications and open questions; and
+/// the basis. Threads write them at the same time, if threads can be had. It reads back as `explore_text` does.
 pub fn explore_pieces<R: Threads>(
     rt: &R,
     alloc: Global,
@@ -33,7 +33,7 @@ pub fn explore_pieces<R: Threads>(
     write_pieces(rt, &alloc, explore)
 }
 
-/// The pieces. The allocator is lent, since what threads write would be lost if they held it.
+/// The pieces. The allocator is lent: proofs lose what a thread writes if the thread owns it.
 fn write_pieces<R: Threads>(
     rt: &R,
     alloc: &Global,
@@ -62,7 +62,7 @@ fn write_pieces<R: Threads>(
     Ok(vec![in *alloc; transcript, lists, basis]?)
 }
 
-/// The lists, and the basis.
+/// The piece of the lists, and that of the basis.
 fn lists_and_basis<R: Threads>(
     rt: &R,
     alloc: &Global,
@@ -88,6 +88,7 @@ fn lists_and_basis<R: Threads>(
     Ok((first?, second?))
 }
 
+/// The piece of the transcript.
 fn transcript_piece(alloc: Global, explore: &Explore) -> Result<Vec<u8>, Memory>
     ensures { IfOk result (λ v. v.items ≡ transcript_of explore.now) }
 {
@@ -99,7 +100,7 @@ fn transcript_piece(alloc: Global, explore: &Explore) -> Result<Vec<u8>, Memory>
     )
 }
 
-/// The recorded rows, the accepted implications and the open questions.
+/// The piece of the recorded rows, the accepted implications and the open questions.
 fn lists_piece(alloc: Global, explore: &Explore) -> Result<Vec<u8>, Memory>
     ensures { IfOk result (λ v. v.items ≡ lists_of explore.now) }
 {
@@ -111,6 +112,7 @@ fn lists_piece(alloc: Global, explore: &Explore) -> Result<Vec<u8>, Memory>
     Ok(draft.into_bytes())
 }
 
+/// The piece of the basis.
 fn basis_piece(alloc: Global, explore: &Explore) -> Result<Vec<u8>, Memory>
     ensures { IfOk result (λ v. v.items ≡ basis_of explore.now) }
 {

@@ -1,4 +1,4 @@
-//! How sessions ended.
+//! The endings of sessions.
 
 ghost use Rattle.std.specs.Prelude.{◌≡◌, ◌++◌, true, map, IfOk, OnOk};
 ghost use Rattle.basis_report.specs.Comments.{are_lines, AreComments};
@@ -10,7 +10,7 @@ use fca_model::Memory;
 use report_texts::write_count_line;
 use std::alloc::Global;
 
-/// The endings of the sessions of all experts in the exploration of the table, in words.
+/// The endings of the sessions of all experts, in words. The table is that of their exploration.
 pub fn sessions_text(alloc: Global, table: &Table, endings: &[&str]) -> Result<Vec<u8>, Memory>
     ensures text { IfOk result (λ v. v.items ≡ sessions_text (map (λ words. words.now) endings.now)) }
     ensures skipped { are_lines (map (λ words. words.now) endings.now) ≡ true → IfOk result (λ v. AreComments v.items) }
@@ -23,6 +23,7 @@ pub fn sessions_text(alloc: Global, table: &Table, endings: &[&str]) -> Result<V
     Ok(draft.into_bytes())
 }
 
+/// Appends the line of the expert at the place.
 fn write_session(draft: &mut Draft, table: &Table, place: usize, words: &str) -> Result<(), Memory>
     ensures { OnOk result (draft.new ≡ draft.old ++ session_line place words.now) }
 {

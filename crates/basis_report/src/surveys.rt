@@ -1,4 +1,4 @@
-//! What was counted of a table and of an exploration of it.
+//! Surveys: what is counted of a table and of an exploration of it.
 
 ghost use Rattle.std.specs.Prelude.{◌≡◌, ◌++◌, IfOk, OnOk};
 ghost use Rattle.basis_report.specs.Surveys.{crosses, survey_text};
@@ -9,8 +9,8 @@ use fca_model::Memory;
 use report_texts::write_count_line;
 use std::alloc::Global;
 
-/// How many objects, attributes and crosses the table has, how many concepts and how many implications in its basis; and how many
-/// implications were accepted where it was explored.
+/// The numbers of objects, attributes and crosses of the table, of its concepts, of the members of its basis, and of the implications
+/// that an exploration of it accepted.
 pub fn survey_text(
     alloc: Global,
     table: &Table,
@@ -25,7 +25,7 @@ pub fn survey_text(
     Ok(draft.into_bytes())
 }
 
-/// The numbers, one a line.
+/// Appends the numbers, one a line.
 fn write_survey(
     draft: &mut Draft,
     table: &Table,
@@ -43,7 +43,7 @@ fn write_survey(
     write_count_line(draft, table, b"explored ", explored)
 }
 
-/// How many crosses the table has.
+/// The number of crosses of the table.
 fn crosses(table: &Table) -> usize
     ensures { result ≡ crosses table.now.context }
 {

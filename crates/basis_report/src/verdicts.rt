@@ -1,4 +1,4 @@
-//! Whether an implication holds, and why.
+//! Verdicts: whether an implication holds, and why.
 
 ghost use Rattle.std.specs.Prelude.{◌≡◌, ◌<◌, ◌++◌, ℕ, [], true, Some, length, codes, IfOk, OnOk, slice_index_or, nat_lt};
 ghost use Rattle.std.specs.List.{flat_map, list_all};
@@ -17,7 +17,7 @@ use report_texts::{object_text, write_arrow, write_count_line};
 use std::alloc::Global;
 use std::thread::Threads;
 
-/// The verdict on the implication from p to c, where the basis is not there yet: it is made only where no row refutes the implication.
+/// The verdict on the implication from p to c. The basis is made only if no row refutes the implication.
 pub fn verdict_text<R: Threads + Sync>(
     rt: &R,
     alloc: Global,
@@ -38,7 +38,7 @@ pub fn verdict_text<R: Threads + Sync>(
     follows_text(alloc, table, &list, p, c)
 }
 
-/// Whether the implication from p to c holds, by a derivation from the basis or by the first row that refutes it.
+/// The verdict on the implication from p to c: a derivation from the basis, or the first row that refutes the implication.
 pub fn follows_text(
     alloc: Global,
     table: &Table,
@@ -81,6 +81,7 @@ fn derivation_of(
     }
 }
 
+/// Appends that the implication holds, and the steps of its derivation.
 fn write_derivation(
     draft: &mut Draft,
     table: &Table,
@@ -98,6 +99,7 @@ fn write_derivation(
     Ok(())
 }
 
+/// Appends the row at the place, which refutes the implication.
 fn write_refutation(draft: &mut Draft, table: &Table, place: usize) -> Result<(), Memory>
     requires { place < length table.now.context.rows }
     ensures { OnOk result (draft.new ≡ draft.old ++ refutation_text table.now place) }

@@ -1,5 +1,5 @@
--- Texts that are appended to a draft, one behind the other. `Drafting` says how far the appending of a text has come: what is done was
--- appended, and with the rest it is the whole. Where a call is refused, what it appended is a front of the whole too.
+-- Texts that are appended to a draft, one after the other. `Drafting` says how far a text is appended: the done part was appended, and
+-- with the rest it is the whole. If a call fails, what it appended is a front of the whole.
 use Rattle.std.proofs.Common.{◌≡◌, ◌≤◌, ◌<◌, ℕ, suc, List, [], ◌∷◌, ◌++◌, length, drop, get_or, Some, refl, sym, ap, ◌∙◌, append_assoc, append-nil, subst}
 use Rattle.std.proofs.Math.Seq.{drop-cons}
 use Rattle.std.proofs.Math.ListN.{drop_of_length-le}
@@ -45,7 +45,7 @@ Drafting-last s x y = Drafting-fault s [] (Drafting-equal (sym (append-nil s)) x
 pub front-whole : {a b : Text} (s : Text) → b ≡ a ++ s → AppendsFront (Some a) (Some b) s
 front-whole s e = record { front = s; rest = []; whole = sym (append-nil s); gained = e }
 
--- ---- entries one behind the other
+-- ---- one entry after the other
 
 pub entries_text-drop : (attributes : List Text) (H : List SetEntry) (i : ℕ) (entry : SetEntry) → i < length H → entry ≡ get_or H i entry
     → entries_text attributes (drop i H) ≡ entry_lines attributes entry ++ entries_text attributes (drop (suc i) H)

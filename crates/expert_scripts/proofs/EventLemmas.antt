@@ -1,4 +1,4 @@
--- The line of an event, by an expert and with a row of the width and a name that is a name, says just this event.
+-- The line of an event is read back as this event, if its expert, the width of its row and the name are valid.
 use Rattle.std.proofs.Common.{◌≡◌, ◌<◌, ◌≤◌, ℕ, ◌^◌, true, false, cond, ◌∷◌, ◌++◌, length, Ok, Err, refl, ap, ap₂, ◌∙◌, subst, arith, ltb, append_assoc}
 use Rattle.std.specs.Prelude.{codes, decimal, IsUtf8, nat_le, ◌==◌}
 use Rattle.std.specs.List.{list_any, list_all}
@@ -21,7 +21,7 @@ use Rattle.expert_scripts.specs.declared.fault.ScriptFault.TheVariants.{BadLine,
 use Rattle.expert_scripts.specs.Scripts.{EventCanBeWritten, expert_in, event_by, row_by, row_event, event_of, event_of_words}
 use Rattle.expert_scripts.specs.Transcripts.{event_text}
 
--- the number of an expert, as it is written
+-- the number of an expert in digits
 pub expert_numeral : (e : ℕ) → is_expert e ≡ true → (is_numeral (decimal e) ≡ true) × (value_of (decimal e) ≡ e)
 expert_numeral e h =
     let bounds = and_parts (nat_le 1 e) (nat_le e MAX_EXPERTS) h in
@@ -36,7 +36,7 @@ expert_in-decimal k e h =
     ∙ ap (λ v. cond (is_expert v) (Ok v) (Err (BadExpert k))) written.1
     ∙ ap (λ b. cond b (Ok e) (Err (BadExpert k))) h
 
--- UTF-8 behind a verb and a space
+-- what stands after a verb and a space is UTF-8
 pub utf8_verb : (verb text : Text) → list_all (λ x. ltb x 128) (verb ++ codes " ") ≡ true → IsUtf8 text → IsUtf8 (verb ++ (32 ∷ text))
 utf8_verb verb text ascii utf8 = subst IsUtf8 (append_assoc verb (codes " ") text) (IsUtf8-append (verb ++ codes " ") text (utf8_words (verb ++ codes " ") ascii) utf8)
 

@@ -1,5 +1,5 @@
--- What a script says can be said: each event is of an expert, and its row has the width; the settings have a number of holders, implications
--- of the width, and names. A line gives such an event or such settings or none, case by case, and a script has those of its lines.
+-- The content of a script can be written. Each event is of an expert, and its row has the width. The settings have a valid number of
+-- holders, implications of the width, and valid names. That holds of each line, case by case, and so of the script.
 use Rattle.std.proofs.Common.{◌≡◌, ◌==◌, ◌&&◌, ◌<◌, ◌≤◌, ◌+◌, ℕ, Bool, true, false, cond, List, [], ◌∷◌, ◌++◌, map, length, get_or, Option, Some, None, Result, Ok, Err, refl, sym, ◌∙◌, subst, inl, inr, arith, nat_le}
 use Rattle.std.specs.Prelude.{IsUtf8, is_none, bytes_eq}
 use Rattle.std.specs.Ordering.{nat_cmp}
@@ -40,7 +40,7 @@ use Rattle.expert_scripts.proofs.NamedLemmas.{named-insert}
 
 -- ---- events
 
--- what the answer gives may be applied
+-- the events of the answer can be applied
 Fits : ℕ → Result SetEvent ScriptFault → Type 0
 Fits n r = (event : SetEvent) → r ≡ Ok event → may_apply n event ≡ true
 
@@ -139,9 +139,9 @@ events_of_lines-fit : (n : ℕ) (said : List (ℕ × Text)) → AllFit n (events
 events_of_lines-fit n [] = AllFit-ok n [] refl
 events_of_lines-fit n (l ∷ said) = all_ok-fit n (event_of n l.0 l.1) (map (λ (l : ℕ × Text). event_of n l.0 l.1) said) (event_of-fits n l.0 l.1) (events_of_lines-fit n said)
 
--- ---- what lines of settings tell
+-- ---- lines of settings
 
--- what is told are settings that can be told
+-- the settings of the answer can be written
 Tells : ℕ → Result PartialSettings ScriptFault → Type 0
 Tells n r = (t : PartialSettings) → r ≡ Ok t → SettingsCanBeWritten n (whole_settings t)
 
@@ -153,7 +153,7 @@ Tells-err : (n : ℕ) (fault : ScriptFault) → Tells n (Err fault)
 unfolding Tells
 Tells-err n fault t e = cc
 
--- where it is told only if the test passes
+-- an answer that is given only if the test passes
 Tells-if : (n : ℕ) (b : Bool) (r : Result PartialSettings ScriptFault) (fault : ScriptFault) → (b ≡ true → Tells n r) → Tells n (cond b r (Err fault))
 Tells-if n true r fault h = h refl
 Tells-if n false r fault h = Tells-err n fault
@@ -164,7 +164,7 @@ with_holders_word-fit n k t word can =
     Tells-if n (is_numeral word) (with_holders k t h) (BadLine k) (λ numeral. Tells-if n (is_expert h && is_none t.holders) (Ok (record t { holders = Some h })) (BadHolders k)
     (λ once. Tells-ok n (record t { holders = Some h }) (record { holders = (and_parts (is_expert h) (is_none t.holders) once).0; known = can.known; names = can.names })))
 
--- words behind a space are UTF-8 where the whole is
+-- the words after a space are UTF-8 if the whole is
 pub utf8_later : (text : Text) → IsUtf8 text → IsUtf8 (later_words text)
 utf8_later text h = elim (cases_lt (position_or_len is_space text) (length text)) [
   | inl lt ↦
@@ -220,7 +220,7 @@ with_rule-fit n t (Ok i) wide can =
       names = can.names;
     })
 
--- the same, of a line that may be none of settings
+-- the settings of an answer, if it has some, can be written
 MayTell : ℕ → Option (Result PartialSettings ScriptFault) → Type 0
 MayTell n o = (t : PartialSettings) → o ≡ Some (Ok t) → SettingsCanBeWritten n (whole_settings t)
 
@@ -252,7 +252,7 @@ setting_of-fit n k t line can = by (is_utf8 line) refl
 
 -- ---- all lines
 
--- what is said can be said
+-- the content can be written
 pub record IsFine (n : ℕ) (said : ScriptContent) : Type 0 where
   pub writable : SettingsCanBeWritten n said.settings
   pub fits : list_all (may_apply n) said.events ≡ true

@@ -1,5 +1,5 @@
--- How a known file is read line by line. `after` puts the implications found so far before those to come; a skipped line changes nothing but the number,
--- and each other line adds its implication or is the first fault. And the line that is written of an implication is read as it.
+-- How a known file is read line by line. `after` puts the implications found so far before those to come. A skipped line changes only
+-- the number, and each other line adds its implication or is the first fault. The line of an implication is read back as it.
 use Rattle.std.proofs.Common.{◌≡◌, ℕ, ◌+◌, ◌&&◌, true, false, cond, List, [], ◌∷◌, ◌++◌, map, length, Result, Ok, Err, eq-eqb, refl, ap, ap₂, sym, ◌∙◌, append_assoc, append-nil}
 use Rattle.std.specs.Prelude.{codes}
 use Rattle.fca_model.specs.Tables.{Text}

@@ -1,5 +1,5 @@
--- Names of experts in ascending order of their numbers: a name that is added takes its place, and one whose number is above all others
--- stands last; and the lines of all experts are those of the names in their order.
+-- Names of experts in ascending order of their numbers. A new name takes its place, and one whose number is above all others is last.
+-- The lines of all experts are those of the names in order.
 use Rattle.std.proofs.Common.{◌≡◌, ◌<◌, ◌≤◌, ℕ, zero, suc, ◌+◌, cond, List, [], ◌∷◌, ◌++◌, Some, None, refl, ap, ap₂, sym, ◌∙◌, subst, arith, inl, inr, ◌-◌, Ordering, Less, Equal, Greater}
 use Rattle.std.specs.Prelude.{⊤}
 use Rattle.std.specs.Ordering.{nat_cmp, is_eq, match_ordering, MatchOrdering}

@@ -1,5 +1,5 @@
--- What one line changes of what a script says: an event stands behind those before it, a line of settings changes what was told, a heading
--- says what may come, and the first fault is what is said of the whole.
+-- What one line changes in the content of a script: an event comes after those before it, a line of settings changes the settings, a
+-- heading decides which lines may come, and the first fault is that of the whole.
 use Rattle.std.proofs.Common.{◌≡◌, ℕ, true, false, cond, List, [], ◌∷◌, ◌++◌, map, Option, Some, None, Result, Ok, Err, refl, ap, sym, ◌∙◌, append_assoc, append-nil}
 use Rattle.std.specs.Str.{bytes_eq}
 use Rattle.fca_model.specs.Tables.{Text}
@@ -12,7 +12,7 @@ use Rattle.expert_scripts.specs.declared.fault.ScriptFault.{ScriptFault}
 use Rattle.expert_scripts.specs.Scripts.{ScriptContent, PartialSettings, no_settings, whole_settings, event_of, events_of_lines, setting_of, by_setting, script_content, settings_then_events, content_of_lines, second_heading, script_form}
 use Rattle.expert_scripts.specs.Stages.{after_events}
 
--- what is said, with these events
+-- the content with these events
 abbrev saying : PartialSettings → Option ℕ → List SetEvent → Result ScriptContent ScriptFault
 saying t second events = Ok (record { settings = whole_settings t; events = events; second = second })
 
@@ -30,7 +30,7 @@ after_events-first : (events : List SetEvent) (t : PartialSettings) (second : Op
 after_events-first events t second event (Ok more) = ap (saying t second) (sym (append_assoc events (event ∷ []) more))
 after_events-first events t second event (Err fault) = refl
 
--- what is said, where this comes of the first line
+-- the content, by the answer of the first line
 abbrev first_said : ℕ → List SetEvent → PartialSettings → Option ℕ → List (ℕ × Text) → Result SetEvent ScriptFault → Result ScriptContent ScriptFault
 first_said n events t second ls r = after_events events (script_content t second (all_ok (r ∷ map (λ l. event_of n l.0 l.1) ls)))
 
@@ -44,7 +44,7 @@ event_fault n k x events t second fault e ls = ap (first_said n events t second 
 
 -- ---- settings
 
--- what is said, where this comes of the first line
+-- the content, by the answer of the first line
 abbrev first_setting : ℕ → ℕ → Text → PartialSettings → ℕ → List (ℕ × Text) → Option (Result PartialSettings ScriptFault) → Result ScriptContent ScriptFault
 first_setting n k x t second ls o = by_setting o (λ later. settings_then_events n later second ls) (script_content t (Some second) (events_of_lines n ((k, x) ∷ ls)))
 

@@ -1,6 +1,6 @@
--- A transcript, with more lines behind it that begin with `#`, is read as its settings and its events. No text that a line is made of has a line
--- break, so the lines of the text are the lines that were written. The lines of settings come first, each of which tells what it was written
--- of; then the events one by one, each behind the skipped line of the reply before it.
+-- A transcript is read back as its settings and its events, also if lines that begin with `#` follow. No part of a line has a line
+-- break, so the lines of the text are the lines that were written. The lines of settings come first. Then come the events, each after
+-- the skipped line of the reply before it.
 use Rattle.std.proofs.Common.{◌≡◌, ℕ, ◌+◌, Bool, true, false, ◌&&◌, cond, List, [], ◌∷◌, ◌++◌, map, length, Option, Some, None, Result, Ok, Err, refl, sym, ap, ap₂, ◌∙◌, arith, append_assoc, append-nil, inl, inr}
 use Rattle.std.specs.Prelude.{codes, decimal, is_none, ◌==◌, nat_le, IsUtf8}
 use Rattle.std.specs.Str.{is_utf8}

@@ -1,7 +1,8 @@
 -- Known files: the implications that are known before an exploration begins.
 --
--- Blank lines and lines that begin with `#` say nothing. Each other line has the patterns of the premise and of the conclusion with a space between them, and
--- behind another space whatever one likes. Of width 3 the line `X.. .X. {a} -> {b}` says that a implies b, and `X..` is no such line.
+-- Blank lines and lines that begin with `#` are skipped. Each other line has the pattern of the premise, a space, and the pattern of the
+-- conclusion; after another space anything may stand. Of width 3 the line `X.. .X. {a} -> {b}` says that a implies b, and `X..` is no
+-- such line.
 -- An implication between attribute sets is that of Ganter and Wille, Formal Concept Analysis, section 2.3.
 use Rattle.std.specs.Prelude.{ℕ, ◌&&◌, ◌==◌, cond, Option, Some, None, Result, Ok, Err, List, [], ◌∷◌, map, length}
 use Rattle.fca_model.specs.Sets.{Set}
@@ -14,7 +15,7 @@ use Rattle.expert_wire.specs.Lines.{numbered_lines}
 use Rattle.expert_scripts.specs.declared.known_fault.KnownFault.{KnownFault}
 use Rattle.expert_scripts.specs.declared.known_fault.KnownFault.TheVariants.{BadLine, BadWidth}
 
--- the implication of two sets of the width n; k is the number of the line
+-- the implication between two sets of width n. The line is number k
 abbrev pub rule_of_width : ℕ → ℕ → Option Set → Option Set → Result Rule KnownFault
 rule_of_width n k None conclusion = Err (BadLine k)
 rule_of_width n k (Some P) None = Err (BadLine k)
@@ -24,7 +25,7 @@ rule_of_width n k (Some P) (Some C) = cond ((length P == n) && (length C == n)) 
 abbrev pub known_rule : ℕ → ℕ → Text → Result Rule KnownFault
 known_rule n k line = rule_of_width n k (set_of_pattern (first_word line)) (set_of_pattern (first_word (later_words line)))
 
--- one value before others, unless these have a fault
+-- one value before the others, or the fault of the others
 abbrev pub with_first : {X E : Type 0} → X → Result (List X) E → Result (List X) E
 with_first x (Ok xs) = Ok (x ∷ xs)
 with_first x (Err fault) = Err fault
@@ -35,7 +36,7 @@ all_ok [] = Ok []
 all_ok (Ok x ∷ rest) = with_first x (all_ok rest)
 all_ok (Err fault ∷ rest) = Err fault
 
--- the implications that lines say, the first of which is number k
+-- the implications of the lines. The first line is number k
 abbrev pub known_from : ℕ → ℕ → List Text → Result (List Rule) KnownFault
 known_from n k ls = all_ok (map (λ l. known_rule n l.0 l.1) (numbered_lines k ls))
 

@@ -1,7 +1,7 @@
 -- Events and settings as lines, and the transcript of an exploration.
 --
--- The transcript of plain settings begins with `exploration 1`. Over a and b, where one expert may hold a question, a implies b is known, and expert 2 is Ann,
--- it begins with the lines `exploration 2`, `holders 1`, `known X. .X {a} -> {b}` and `expert 2 Ann`.
+-- The transcript of plain settings begins with `exploration 1`. Over a and b, if one expert may hold a question, a implies b is known,
+-- and expert 2 is Ann, it begins with the lines `exploration 2`, `holders 1`, `known X. .X {a} -> {b}` and `expert 2 Ann`.
 use Rattle.std.specs.Prelude.{◌≡◌, ◌≤◌, ◌<◌, ⊤, ℕ, zero, suc, ◌+◌, Bool, true, ◌&&◌, ◌==◌, cond, Option, Some, None, List, [], ◌∷◌, ◌++◌, length, codes, decimal}
 use Rattle.std.specs.List.{flat_map}
 use Rattle.fca_model.specs.Tables.{Text}
@@ -18,14 +18,14 @@ use Rattle.expert_scripts.specs.Scripts.{second_heading}
 
 -- ---- events and their replies
 
--- what an event says in a script
+-- the text of an event in a script
 abbrev pub event_text : SetEvent → Text
 event_text (Draw e) = codes "draw " ++ decimal e
 event_text (Confirm e) = codes "confirm " ++ decimal e
 event_text (Row e name r) = codes "row " ++ (decimal e ++ (codes " " ++ (pattern r ++ (codes " " ++ name))))
 event_text (Leave e) = codes "leave " ++ decimal e
 
--- the line of an event, and behind `# ` that of its reply
+-- the line of an event, and then `# ` with the line of the reply
 abbrev pub entry_lines : List Text → SetEntry → Text
 entry_lines attributes entry = event_text entry.event ++ (line_end ++ (codes "# " ++ reply_line attributes entry.reply))
 
@@ -36,10 +36,11 @@ entries_text attributes (entry ∷ H) = entry_lines attributes entry ++ entries_
 
 -- ---- settings
 
--- nothing is known, all experts may hold one question, and no expert has a name
+-- plain settings: nothing is known, all experts may hold one question, and no expert has a name
 abbrev pub is_plain : Settings → Bool
 is_plain s = (length s.known == 0) && ((s.holders == MAX_EXPERTS) && (length s.expert_names == 0))
 
+-- `known ` and the full text of an implication
 abbrev pub known_line : List Text → Rule → Text
 known_line attributes i = (codes "known " ++ full_text attributes i) ++ line_end
 
@@ -47,12 +48,12 @@ known_line attributes i = (codes "known " ++ full_text attributes i) ++ line_end
 abbrev pub name_line : ℕ × RowName → Text
 name_line x = (codes "expert " ++ (decimal x.0 ++ (codes " " ++ x.1))) ++ line_end
 
--- the line of expert e, who has this name
+-- the line of expert e, if the expert has a name
 abbrev pub name_line_at : ℕ → Option RowName → Text
 name_line_at e None = []
 name_line_at e (Some name) = name_line (e, name)
 
--- the lines of so many experts from number e on, of those who have a name
+-- the lines of `count` experts from number e on. An expert without a name has no line
 abbrev pub name_lines_from : List (ℕ × RowName) → ℕ → ℕ → Text
 name_lines_from names e zero = []
 name_lines_from names e (suc count) = name_line_at e (name_of e names) ++ name_lines_from names (e + 1) count
@@ -72,27 +73,27 @@ opening_text attributes s = cond (is_plain s) (heading ++ line_end) ((second_hea
 
 -- ---- the whole
 
--- the heading, the settings where they are not plain, and each event with its reply
+-- the heading, the settings if they are not plain, and each event with its reply
 abbrev pub transcript : List Text → Settings → List SetEntry → Text
 transcript attributes s H = opening_text attributes s ++ entries_text attributes H
 
--- the number of the line `exploration 2`, where the transcript has it
+-- the number of the line `exploration 2`, if the transcript has it
 abbrev pub second_of : Settings → Option ℕ
 second_of s = cond (is_plain s) None (Some 1)
 
--- ---- what a transcript can tell
+-- ---- what can be written
 
 -- each of the texts is a name
 abbrev pub AreNames : List Text → Type 0
 AreNames [] = ⊤
 AreNames (x ∷ xs) = IsName x × AreNames xs
 
--- names of experts in ascending order of their numbers, which are above e
+-- valid names of experts, in ascending order of their numbers, which are above e
 abbrev pub AreExpertNames : ℕ → List (ℕ × RowName) → Type 0
 AreExpertNames e [] = ⊤
 AreExpertNames e (x ∷ xs) = (e < x.0) × (x.0 ≤ MAX_EXPERTS) × IsName x.1 × AreExpertNames x.0 xs
 
--- settings that may be read: 1 to MAX_EXPERTS holders, known implications of width n, and names of experts
+-- settings that are read back from a transcript: 1 to MAX_EXPERTS holders, known implications of width n, and valid names of experts
 pub record SettingsCanBeWritten (n : ℕ) (s : Settings) : Type 0 where
   pub holders : is_expert s.holders ≡ true
   pub known : HaveWidth n s.known

@@ -1,4 +1,4 @@
-//! The event of a line.
+//! Events, each read from a line.
 
 ghost use Rattle.std.specs.Prelude.{◌≡◌, ◌≤◌, ◌⊎◌, Ok, Err, IfOk, IfErr};
 ghost use Rattle.fca_model.specs.declared.TheConstants.{MAX_ATTRIBUTES};
@@ -30,6 +30,7 @@ pub(crate) fn read_event(
     }
 }
 
+/// The event of a line by its first word.
 fn event_of_words(
     alloc: Global,
     verb: &str,
@@ -50,6 +51,7 @@ fn event_of_words(
     }
 }
 
+/// The number of an expert, in digits.
 fn read_expert(word: &str, number: usize) -> Result<u8, ScriptFault>
     ensures { result ≡ expert_in number word.now }
 {
@@ -59,7 +61,7 @@ fn read_expert(word: &str, number: usize) -> Result<u8, ScriptFault>
     expert_of(word).ok_or(ScriptFault::BadExpert(number))
 }
 
-/// The row behind the word `row`.
+/// The row after the word `row`.
 fn read_row_event(alloc: Global, text: &str, n: u32, number: usize) -> Result<Event, ScriptFault>
     requires { n ≤ MAX_ATTRIBUTES }
     ensures ok { IfOk result (λ event. row_event n number text.now ≡ Ok event) }

@@ -1,4 +1,4 @@
-//! Why a text is no script.
+//! Why a text is not a script.
 
 use crate::known_fault::KnownFault;
 use fca_model::{Memory, NO_MEMORY};
@@ -11,17 +11,18 @@ const BAD_EXPERT: &str = "bad expert";
 
 const BAD_HOLDERS: &str = "bad holders";
 
-/// Lines are numbered from 1, and the first line at fault is told.
+/// The first line at fault, or that memory ran out. Lines are numbered from 1.
 #[derive(Debug, Drop)]
 pub enum ScriptFault {
-    /// It has the shape of no line of a script.
+    /// The line has not the shape of any line of a script.
     BadLine(usize),
-    /// It has another expert than 1 to 64, or names one again.
+    /// The expert is not 1 to 64, or has a name already.
     BadExpert(usize),
-    /// It has a pattern of another width.
+    /// A pattern has a wrong width.
     BadWidth(usize),
-    /// It has another number of holders than 1 to 64, or tells it again.
+    /// The number of holders is not 1 to 64, or was given before.
     BadHolders(usize),
+    /// Out of memory.
     Memory,
 }
 

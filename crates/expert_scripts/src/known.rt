@@ -1,4 +1,4 @@
-//! Reading a known file.
+//! Reads known files.
 
 ghost use Rattle.std.specs.Prelude.{◌≡◌, ◌≤◌, ◌⊎◌, Ok, Err, IfOk, IfErr, length};
 ghost use Rattle.fca_model.specs.declared.TheConstants.{MAX_ATTRIBUTES};
@@ -11,7 +11,7 @@ use std::alloc::Global;
 use text_pieces::bytes::{split_line, split_word};
 use text_pieces::set_of_marks;
 
-/// The implications of a known file, between sets of width n, in their order.
+/// The implications of a known file in order. Their sets have width n.
 pub fn read_known(alloc: Global, bytes: &[u8], n: u32) -> Result<ImplicationList, KnownFault>
     requires { n ≤ MAX_ATTRIBUTES }
     ensures ok { IfOk result (λ list. known_form bytes.now n ≡ Ok list.members) }
@@ -33,7 +33,7 @@ pub fn read_known(alloc: Global, bytes: &[u8], n: u32) -> Result<ImplicationList
     Ok(list)
 }
 
-/// The implication of a line that is not skipped, between sets of width n. The line is number `number`.
+/// The implication of a line that is not skipped. Its sets have width n, and `number` is the number of the line.
 pub fn read_rule(line: &[u8], n: u32, number: usize) -> Result<Implication, KnownFault>
     requires { n ≤ MAX_ATTRIBUTES }
     ensures ok { IfOk result (λ i. known_rule n number line.now ≡ Ok i) }

@@ -1,17 +1,18 @@
-//! Why a text is no known file.
+//! Why a text is not a known file.
 
 use fca_model::{Memory, NO_MEMORY};
 use std::error::Error;
 use std::fmt;
 use text_pieces::faults::{BAD_LINE, BAD_WIDTH, Description, Place};
 
-/// Lines are numbered from 1, and the first line at fault is told.
+/// The first line at fault, or that memory ran out. Lines are numbered from 1.
 #[derive(Debug, Drop)]
 pub enum KnownFault {
-    /// It is no pair of patterns.
+    /// The line does not begin with two patterns.
     BadLine(usize),
-    /// It has a pattern of another width.
+    /// A pattern has a wrong width.
     BadWidth(usize),
+    /// Out of memory.
     Memory,
 }
 

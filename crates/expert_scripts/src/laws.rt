@@ -1,4 +1,4 @@
-//! Laws of known files and scripts, each the contract of a function that does nothing.
+//! Laws of known files and scripts. Each is the contract of a function that does nothing.
 
 ghost use Rattle.std.specs.Prelude.{◌≡◌, ℕ, List, Ok, length};
 ghost use Rattle.fca_model.specs.Exploration.{Settings, SetEvent, SetEntry, events_of};
@@ -9,18 +9,18 @@ ghost use Rattle.expert_scripts.specs.Known.{known_rule};
 ghost use Rattle.expert_scripts.specs.Scripts.{EventCanBeWritten, EachEventCanBeWritten, event_of, script_form};
 ghost use Rattle.expert_scripts.specs.Transcripts.{AreNames, SettingsCanBeWritten, event_text, second_of, transcript};
 
-/// The line that is written of an implication is read as this implication.
+/// The line of an implication is read back as this implication.
 pub fn full_text_reads_back()
     ensures { (n k : ℕ) (attributes : List Text) (i : Rule) → length i.premise ≡ n → length i.conclusion ≡ n
         → known_rule n k (full_text attributes i) ≡ Ok i }
 {}
 
-/// The line that is written of an event is read as this event.
+/// The line of an event is read back as this event.
 pub fn event_reads_back()
     ensures { (n k : ℕ) (event : SetEvent) → EventCanBeWritten n event → event_of n k (event_text event) ≡ Ok event }
 {}
 
-/// A transcript is read as its settings and its events.
+/// A transcript is read back as its settings and its events.
 pub fn transcript_reads_back()
     ensures { (n : ℕ) (attributes : List Text) (settings : Settings) (H : List SetEntry) → AreNames attributes → SettingsCanBeWritten n settings → EachEventCanBeWritten n H
         → script_form (transcript attributes settings H) n ≡ Ok (record { settings = settings; events = events_of H; second = second_of settings }) }

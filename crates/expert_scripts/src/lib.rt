@@ -1,5 +1,5 @@
-//! Known files, scripts and transcripts. A known file lists the implications that are known before an exploration begins.
-//! A script gives the settings of an exploration and its events. A transcript is what an exploration is written as.
+//! Known files, scripts and transcripts. A known file lists the implications that are known before an exploration begins. A script
+//! gives the settings and the events of an exploration. A transcript is the script of an exploration, with the replies.
 #![tactic(auto)]
 
 mod events;

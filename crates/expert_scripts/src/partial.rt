@@ -16,7 +16,7 @@ use implication_closure::ImplicationList;
 use std::alloc::Global;
 use text_pieces::{is_numeral, split_word};
 
-/// The settings that the lines so far give. Each may be given once, except what is known.
+/// The settings that were given so far. Holders and the name of an expert are given once each, known implications any number of times.
 #[derive(Drop)]
 pub(crate) struct PartialSettings {
     known: ImplicationList,
@@ -38,7 +38,7 @@ impl PartialSettings {
         })
     }
 
-    /// The whole settings: what no line gave is plain.
+    /// The whole settings. What was not given is plain.
     pub(crate) fn into_settings(self) -> Settings
         ensures settings { settings_of result ≡ whole_settings (partial_of self) }
         ensures width { result.known.width ≡ self.known.width }
@@ -50,7 +50,7 @@ impl PartialSettings {
         }
     }
 
-    /// Takes the words of a line of settings. The answer is false if they are none.
+    /// Takes the words of a line. The answer is whether they are a line of settings.
     pub(crate) fn take(
         &mut self,
         alloc: Global,
@@ -79,6 +79,7 @@ impl PartialSettings {
         Ok(true)
     }
 
+    /// Takes the number of holders, which stands after the word `holders`.
     fn take_holders(&mut self, word: &str, number: usize) -> Result<(), ScriptFault>
         ensures ok { OnOk result (with_holders_word number (partial_of self.old) word.now ≡ Ok (partial_of self.new)) }
         ensures width { self.new.known.width ≡ self.old.known.width }
@@ -95,7 +96,7 @@ impl PartialSettings {
         Ok(())
     }
 
-    /// The name of an expert, behind the word `expert`.
+    /// Takes the name of an expert, which stands after the word `expert`.
     fn take_name(&mut self, alloc: Global, words: &str, number: usize) -> Result<(), ScriptFault>
         ensures ok { OnOk result (with_name_words number (partial_of self.old) words.now ≡ Ok (partial_of self.new)) }
         ensures width { self.new.known.width ≡ self.old.known.width }
@@ -119,7 +120,7 @@ impl PartialSettings {
         Ok(())
     }
 
-    /// The implication behind the word `known`.
+    /// Takes the implication after the word `known`.
     fn take_rule(&mut self, words: &str, n: u32, number: usize) -> Result<(), ScriptFault>
         requires wide { self.old.known.width ≡ n }
         requires narrow { n ≤ MAX_ATTRIBUTES }

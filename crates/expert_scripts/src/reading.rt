@@ -17,18 +17,18 @@ use fca_model::Memory;
 use std::alloc::Global;
 use text_pieces::split_word;
 
-/// What may come of a script.
+/// Which lines may come next.
 #[derive(Clone, Copy)]
 pub(crate) enum Stage {
     /// A heading, or an event.
     Heading,
-    /// A line of settings, or an event; with the number of the line `exploration 2`.
+    /// A line of settings, or an event. The number is that of the line `exploration 2`.
     Settings(usize),
-    /// An event; with that number, where there is one.
+    /// An event. The number is that of the line `exploration 2`, if there was one.
     Events(Option<usize>),
 }
 
-/// What was read of a script.
+/// A script of which the first lines were read.
 #[derive(Drop)]
 pub(crate) struct Reading {
     settings: PartialSettings,
@@ -37,7 +37,7 @@ pub(crate) struct Reading {
 }
 
 impl Reading {
-    /// Nothing was read.
+    /// A script of which no line was read.
     pub(crate) fn new(alloc: Global, n: u32) -> Result<Reading, Memory>
         requires { n ≤ MAX_ATTRIBUTES }
         ensures width { IfOk result (λ reading. reading.settings.known.width ≡ n) }
@@ -50,7 +50,7 @@ impl Reading {
         })
     }
 
-    /// What the script says, where no line is to come.
+    /// The whole script, if no line is left.
     pub(crate) fn into_script(self) -> Script
         ensures said { (n : ℕ) → content_to_come n self [] ≡ Ok (content_of result) }
         ensures width { result.settings.known.width ≡ self.settings.known.width }
@@ -116,7 +116,7 @@ impl Reading {
         self.take_event(alloc, line, n, number, None)
     }
 
-    /// Takes a line of settings, or an event, behind the line `exploration 2`, which is number `second`.
+    /// Takes a line of settings or an event. The line `exploration 2` was number `second`.
     fn take_setting(
         &mut self,
         alloc: Global,
@@ -140,7 +140,7 @@ impl Reading {
         self.take_event(alloc, line, n, number, Some(second))
     }
 
-    /// Takes an event; `second` is the number of the line `exploration 2`, where there was one.
+    /// Takes an event. The line `exploration 2` was number `second`, if there was one.
     fn take_event(
         &mut self,
         alloc: Global,
@@ -164,7 +164,7 @@ impl Reading {
     }
 }
 
-/// Takes a line of settings, and says whether the line is one.
+/// Takes a line. The answer is whether it is a line of settings.
 fn take_setting_line(
     settings: &mut PartialSettings,
     alloc: Global,

@@ -1,4 +1,4 @@
-//! A script as it is read.
+//! Scripts: settings and events.
 
 ghost use Rattle.std.specs.Prelude.{◌≡◌, ◌≤◌, ◌⊎◌, Ok, Err, IfOk, IfErr, true};
 ghost use Rattle.std.specs.List.{list_all};
@@ -15,17 +15,18 @@ use std::alloc::Global;
 use std::marker::Model;
 use text_pieces::bytes::split_line;
 
-/// What a script says.
+/// A script.
 #[derive(Drop)]
 pub struct Script {
-    /// The settings that it begins with.
+    /// The settings at its head.
     pub settings: Settings,
+    /// The events after the settings.
     pub events: Events,
-    /// The number of the line `exploration 2`, where it has one.
+    /// The number of the line `exploration 2`, if it has one.
     pub second: Option<usize>,
 }
 
-/// Events in their order: contracts see the list.
+/// Events in order. Contracts see the list.
 #[derive(Drop)]
 pub struct Events {
     events: Vec<Event>,
@@ -55,7 +56,7 @@ impl Events {
         &self.events
     }
 
-    /// The events, to be moved.
+    /// The events, by value.
     pub fn into_vec(self) -> Vec<Event>
         ensures { result.items ≡ self }
     {
@@ -63,7 +64,7 @@ impl Events {
     }
 }
 
-/// What a script says, whose rows and patterns have width n.
+/// The script of the bytes. Its rows and patterns have width n.
 pub fn read_script(alloc: Global, bytes: &[u8], n: u32) -> Result<Script, ScriptFault>
     requires { n ≤ MAX_ATTRIBUTES }
     ensures ok { IfOk result (λ script. script_form bytes.now n ≡ Ok (content_of script)) }

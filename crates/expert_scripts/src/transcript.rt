@@ -15,7 +15,7 @@ use fca_model::{MAX_EXPERTS, Memory};
 use implication_closure::Implication;
 use std::alloc::Global;
 
-/// The transcript of the journal of an exploration under the settings.
+/// The transcript of an exploration with these settings and this journal.
 pub fn transcript_text(
     alloc: Global,
     table: &Table,
@@ -29,7 +29,7 @@ pub fn transcript_text(
     Ok(draft.into_bytes())
 }
 
-/// Appends the transcript of the journal of an exploration under the settings. After an `Err` the draft holds a front of it.
+/// Appends the transcript of an exploration with these settings and this journal. After an `Err` the draft has gained a front of it.
 pub fn write_transcript(
     draft: &mut Draft,
     table: &Table,
@@ -43,7 +43,7 @@ pub fn write_transcript(
     write_entries(draft, table, journal)
 }
 
-/// The heading, and the settings where they are not plain.
+/// Appends the heading, and the settings if they are not plain.
 fn write_opening(draft: &mut Draft, table: &Table, settings: &Settings) -> Result<(), Memory>
     ensures whole { OnOk result (draft.new ≡ draft.old ++ opening_text table.now.attributes (settings_of settings.now)) }
     ensures front { AppendsFront (Some draft.old) (Some draft.new) (opening_text table.now.attributes (settings_of settings.now)) }
@@ -55,6 +55,7 @@ fn write_opening(draft: &mut Draft, table: &Table, settings: &Settings) -> Resul
     write_settings(draft, table, settings)
 }
 
+/// Appends the lines of the settings.
 fn write_settings(draft: &mut Draft, table: &Table, settings: &Settings) -> Result<(), Memory>
     ensures whole { OnOk result (draft.new ≡ draft.old ++ settings_text table.now.attributes (settings_of settings.now)) }
     ensures front { AppendsFront (Some draft.old) (Some draft.new) (settings_text table.now.attributes (settings_of settings.now)) }
@@ -72,6 +73,7 @@ fn write_settings(draft: &mut Draft, table: &Table, settings: &Settings) -> Resu
     write_names(draft, table, &settings.names)
 }
 
+/// Appends a line for each known implication.
 fn write_known(draft: &mut Draft, table: &Table, known: &[Implication]) -> Result<(), Memory>
     ensures whole { OnOk result (draft.new ≡ draft.old ++ flat_map (known_line table.now.attributes) known.now) }
     ensures front { AppendsFront (Some draft.old) (Some draft.new) (flat_map (known_line table.now.attributes) known.now) }
@@ -82,6 +84,7 @@ fn write_known(draft: &mut Draft, table: &Table, known: &[Implication]) -> Resul
     Ok(())
 }
 
+/// Appends a line for each expert with a name.
 fn write_names(draft: &mut Draft, table: &Table, names: &ExpertNames) -> Result<(), Memory>
     ensures whole { OnOk result (draft.new ≡ draft.old ++ names_text names.now) }
     ensures front { AppendsFront (Some draft.old) (Some draft.new) (names_text names.now) }
@@ -92,7 +95,7 @@ fn write_names(draft: &mut Draft, table: &Table, names: &ExpertNames) -> Result<
     Ok(())
 }
 
-/// The line of the expert, where it has a name.
+/// Appends the line of the expert, if the expert has a name.
 fn write_name(
     draft: &mut Draft,
     table: &Table,
@@ -117,6 +120,7 @@ fn write_name(
     }
 }
 
+/// Appends the lines of the journal.
 fn write_entries(draft: &mut Draft, table: &Table, journal: &[Entry]) -> Result<(), Memory>
     ensures whole { OnOk result (draft.new ≡ draft.old ++ entries_text table.now.attributes journal.now) }
     ensures front { AppendsFront (Some draft.old) (Some draft.new) (entries_text table.now.attributes journal.now) }
@@ -127,6 +131,7 @@ fn write_entries(draft: &mut Draft, table: &Table, journal: &[Entry]) -> Result<
     Ok(())
 }
 
+/// Appends the line of the event and the comment with the reply.
 fn write_entry(draft: &mut Draft, table: &Table, entry: &Entry) -> Result<(), Memory>
     ensures whole { OnOk result (draft.new ≡ draft.old ++ entry_lines table.now.attributes entry.now) }
     ensures front { AppendsFront (Some draft.old) (Some draft.new) (entry_lines table.now.attributes entry.now) }
@@ -136,6 +141,7 @@ fn write_entry(draft: &mut Draft, table: &Table, entry: &Entry) -> Result<(), Me
     draft.append_reply(table, &entry.reply)
 }
 
+/// Appends the line of the event.
 fn write_event(draft: &mut Draft, table: &Table, event: &Event) -> Result<(), Memory>
     ensures whole { OnOk result (draft.new ≡ draft.old ++ (event_text event.now ++ line_end)) }
     ensures front { AppendsFront (Some draft.old) (Some draft.new) (event_text event.now ++ line_end) }
@@ -159,6 +165,7 @@ fn write_event(draft: &mut Draft, table: &Table, event: &Event) -> Result<(), Me
     }
 }
 
+/// Appends a line of the words and the number of the expert.
 fn write_expert(draft: &mut Draft, table: &Table, words: &[u8], expert: u8) -> Result<(), Memory>
     ensures whole { OnOk result (draft.new ≡ draft.old ++ ((words.now ++ decimal expert) ++ line_end)) }
     ensures front { AppendsFront (Some draft.old) (Some draft.new) ((words.now ++ decimal expert) ++ line_end) }

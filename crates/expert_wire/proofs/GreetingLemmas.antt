@@ -1,5 +1,5 @@
--- The greeting is written in order: its words by their numbers, and then one name after the other. What is left of the names
--- from a place on is the name at that place, and then what is left behind it.
+-- The greeting is written in order: its words, and then one name after the other. The names from a place on are the name at that
+-- place and then the names after it.
 use Rattle.std.proofs.Common.{◌≡◌, ℕ, suc, zero, List, [], ◌∷◌, ◌++◌, drop, length, ◌≤◌, ap, sym, append_assoc, ◌∙◌}
 use Rattle.std.proofs.Math.ListN.{drop_of_length-le}
 use Rattle.std.specs.Prelude.{codes, decimal, Some, slice_get}

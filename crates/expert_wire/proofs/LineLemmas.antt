@@ -1,4 +1,4 @@
--- What one line adds to the lines that say something.
+-- What one line adds to the numbered lines.
 use Rattle.std.proofs.Common.{◌≡◌, ℕ, ◌+◌, true, false, not, cond, List, ◌∷◌, ap}
 use Rattle.fca_model.specs.Tables.{Text}
 use Rattle.expert_wire.specs.Lines.{is_skipped, numbered_lines}

@@ -1,5 +1,5 @@
--- Names, written one by one. `bridged` is what is still to be written of a list: the next name comes behind nothing
--- where it is the first, else behind a comma and a space.
+-- Names that are written one by one. `bridged` is the rest of a list: nothing stands before the first name, and a comma and a space
+-- before each later one.
 use Rattle.std.proofs.Common.{◌≡◌, ℕ, suc, ◌<◌, ◌≤◌, true, false, List, [], ◌∷◌, ◌++◌, length, drop, get_or, refl, sym, ap, ◌∙◌, append_assoc, arith, min, cond, inl, inr, Some, take, map, ap₂}
 use Rattle.std.proofs.Math.Nat.{le-min}
 use Rattle.std.proofs.lemmas.Bool.{cases_lt}
@@ -45,7 +45,7 @@ names_from-member i names A h k e = names_of-drop i names A h k ∙ ap (λ a. co
 pub names_from-none : (i : ℕ) (names : List Text) (A : Set) → i < length names → i < length A → get_or A i false ≡ false → names_from i names A ≡ names_from (suc i) names A
 names_from-none i names A h k e = names_of-drop i names A h k ∙ ap (λ a. cond a (get_or names i [] ∷ names_from (suc i) names A) (names_from (suc i) names A)) e
 
--- behind the last name, or the last place of the set, there is none
+-- after the last name, or the last place of the set, there is none
 pub names_from-end : (i : ℕ) (names : List Text) (A : Set) → min (length A) (length names) ≤ i → names_from i names A ≡ []
 names_from-end i names A h = elim (cases_lt i (length names)) [
   | inl lt ↦ ap (names_of (drop i names)) (drop_of_length-le A (few lt)) ∙ names_of-no_member (drop i names)
@@ -58,7 +58,7 @@ names_from-end i names A h = elim (cases_lt i (length names)) [
       | inr le ↦ le
     ]
 
--- what is still to be written, where the next place is a member
+-- the rest of the list if the next place is a member
 pub bridged-member : (between : Text) (i : ℕ) (names : List Text) (A : Set) (name tail : Text) → i < length names → i < length A → get_or A i false ≡ true → Some name ≡ slice_get names i
     → bridged between (names_from i names A) ++ tail ≡ (between ++ name) ++ (bridged (codes ", ") (names_from (suc i) names A) ++ tail)
 bridged-member between i names A name tail h k e named =
@@ -86,7 +86,7 @@ question_parts attributes words i gained e =
     regroup : (a b c d e f g h k : Text) → a ++ (b ++ (c ++ (d ++ (e ++ (f ++ (g ++ (h ++ k))))))) ≡ (a ++ (b ++ (c ++ (d ++ (e ++ (f ++ (g ++ h))))))) ++ k
     regroup a b c d e f g h k = simp append_assoc
 
--- the same behind a number
+-- the parts of a full text after a number, in a line
 pub rule_parts : (attributes : List Text) (words : Text) (place : ℕ) (i : Rule) (gained : Set) → gained ≡ minus i.conclusion i.premise
     → words ++ (ordinal place ++ (codes " " ++ (pattern i.premise ++ (codes " " ++ (pattern i.conclusion ++ (codes " " ++ (braces_text attributes i.premise ++ (codes " -> " ++ (braces_text attributes gained ++ line_end)))))))))
     ≡ (words ++ numbered_rule attributes place i) ++ line_end

@@ -1,5 +1,4 @@
--- What is written is read back: the pattern of a set marks the set. So a row of the width with a name that is a name is read as just
--- this row.
+-- A pattern is read back as its set. So the text of a row with a valid name and the right width is read back as this row.
 use Rattle.std.proofs.Common.{◌≡◌, ◌<◌, ℕ, zero, suc, true, false, ◌&&◌, cond, List, [], ◌∷◌, ◌++◌, map, length, get_or, Some, None, Ok, Err, refl, ap, ap₂, ◌∙◌, arith, eqb, ltb}
 use Rattle.std.specs.Prelude.{codes, IsUtf8, IsAscii, is_none, nat_lt, ◌==◌, bytes_eq}
 use Rattle.std.specs.List.{list_any, list_all}
@@ -18,7 +17,7 @@ use Rattle.expert_wire.specs.Words.{is_name, named_row, row_of_width, set_of_pat
 
 -- ---- sets
 
--- marks that are not a dash mark their set
+-- marks that are not a dash are the pattern of their set
 marked : (m : ℕ) (A : Set) → eqb m 45 ≡ false → list_all is_mark (m ∷ marks_of A) ≡ true → (B : Set) → map is_cross (m ∷ marks_of A) ≡ B → set_of_pattern (m ∷ marks_of A) ≡ Some B
 marked m A other marks B back =
     let some : nat_lt 0 (length (m ∷ marks_of A)) ≡ true = lt-ltb 0 (length (m ∷ marks_of A)) (omega arith) in

@@ -1,5 +1,5 @@
--- No text that a line is made of has a line break. `Skips` is said of a text
--- of skipped lines: before any other text it only moves the numbers of the lines on.
+-- No text within a line has a line break. `Skips` holds of a text whose lines are all skipped: before another text it changes only
+-- the numbers of the lines.
 use Rattle.std.proofs.Common.{◌≡◌, ℕ, zero, suc, ◌+◌, true, false, List, [], ◌∷◌, ◌++◌, Option, Some, None, refl, ap, ◌∙◌, append_assoc}
 use Rattle.std.specs.Prelude.{codes, is_none}
 use Rattle.std.specs.List.{list_any, list_all, flat_map}

@@ -1,4 +1,4 @@
--- Bytes that are text, the numbers of experts, and rows whose names are names.
+-- Bytes that are UTF-8, numbers of experts, and rows with valid names.
 use Rattle.std.proofs.Common.{◌≡◌, ◌≢◌, ◌≤◌, ◌^◌, ◌∙◌, ◌==◌, ℕ, Bool, true, false, cond, length, nat_lt, List, Some, None, Result, Ok, Err, refl, sym, ap, ap₂, subst, inl, inr, arith, nat_le}
 use Rattle.std.proofs.lemmas.Bool.{and_parts, cases_Bool, leb-true}
 use Rattle.std.specs.Borrow.{Bor}
@@ -28,7 +28,7 @@ no_expert n large = elim (cases_Bool (is_expert n)) [
   | inr f ↦ rw f refl
 ]
 
--- what `from_utf8` tells, as a test
+-- the answer of `from_utf8` as a test
 pub utf8_ok : {E : Type 0} (Q : E → Type 0) (bs : List ℕ) (r : Result (Bor (List ℕ)) E) → MatchResult r (λ s. (s.now ≡ bs) × IsUtf8 bs) (λ e. ¬ (IsUtf8 bs) × Q e)
     → MatchOption (result_ok r) (is_utf8 bs ≡ false) (λ s. (s.now ≡ bs) × (is_utf8 bs ≡ true))
 utf8_ok Q bs (Ok s) h = (h.0, is_utf8-from_IsUtf8 bs h.1)
@@ -39,7 +39,7 @@ utf8_ok Q bs (Err e) h = elim (cases_Bool (is_utf8 bs)) [
 
 -- ---- rows
 
--- a text that has none of the faults is a name
+-- a text without a fault is a name
 pub is_name-faultless : (text : Text) → name_fault text ≢ Some name.Empty → name_fault text ≢ Some name.Long → name_fault text ≢ Some name.Line → is_name text ≡ true
 unfolding name_fault
 is_name-faultless text = by (length text == 0) (nat_lt MAX_NAME_BYTES (length text)) (list_any is_line_break text)
@@ -53,7 +53,7 @@ is_name-faultless text = by (length text == 0) (nat_lt MAX_NAME_BYTES (length te
     by false false true some few unbroken = absurd (unbroken refl)
     by false false false some few unbroken = refl
 
--- marks with a name behind them are a row, if they have the width
+-- marks and then a name are a row, if the marks have the width
 module _ (n : ℕ) (text word later : Text) (r : Set) (first : word ≡ first_word text) (behind : later ≡ later_words text) (marked : set_of_pattern word ≡ Some r)
     (named : is_name later ≡ true) (fault : RequestFault) (said : fault ≡ cond (length r == n) Memory Width) where
   shaped : named_row n text ≡ cond (length r == n) (Ok (later, r)) (Err Width)
@@ -61,7 +61,7 @@ module _ (n : ℕ) (text word later : Text) (r : Set) (first : word ≡ first_wo
       ap₂ (λ w t. cond (is_name t) (row_of_width n t (set_of_pattern w)) (Err Line)) (sym first) (sym behind)
       ∙ ap₂ (λ b m. cond b (row_of_width n later m) (Err Line)) named marked
 
-  -- what is said without memory for the name is that, or the fault of the row
+  -- without memory for the name, the fault is out of memory or that of the row
   pub unnamed_row : (fault ≡ Memory) ⊎ (named_row n text ≡ Err fault)
   unnamed_row = elim (cases_Bool (length r == n)) [
     | inl wide ↦ inl (said ∙ ap (λ b. cond b Memory Width) wide)
@@ -70,7 +70,7 @@ module _ (n : ℕ) (text word later : Text) (r : Set) (first : word ≡ first_wo
         inr (shaped ∙ ap (λ b. cond b (Ok (later, r)) (Err Width)) other ∙ ap (λ f. Err f) (sym is))
   ]
 
-  -- that there is none is said only of a row
+  -- out of memory comes only for a row
   pub unnamed_only_row : fault ≡ Memory → IsOk (named_row n text)
   unnamed_only_row none = elim (cases_Bool (length r == n)) [
     | inl wide ↦ subst IsOk (sym (shaped ∙ ap (λ b. cond b (Ok (later, r)) (Err Width)) wide)) refl

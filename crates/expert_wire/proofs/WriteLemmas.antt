@@ -1,6 +1,6 @@
--- Calls that write, one behind the other: where the first wrote its whole text, both together write the one text and then the
--- other; where a call failed, it wrote a front of every longer text too. `Underway` says how far the writing of a text has come:
--- what is done was written, and with the rest it is the whole.
+-- Calls that write, one after the other. If the first wrote its whole text, both together write the one text and then the other. A
+-- call that failed wrote a front, also of every longer text. `Underway` says how far a text is written: the done part was written, and
+-- with the rest it is the whole.
 use Rattle.std.proofs.Common.{◌≡◌, ◌≤◌, ℕ, ◌+◌, ◌-◌, ◌^◌, List, [], ◌∷◌, ◌++◌, Option, Result, Ok, Err, refl, sym, ap, ◌∙◌, append_assoc, append-nil, arith, subst, ◌<◌, suc, length, get_or, drop}
 use Rattle.std.specs.List.{flat_map}
 use Rattle.std.proofs.Math.Seq.{drop-cons}
@@ -114,7 +114,7 @@ pub Underway-end : {h h' : Option Text} {f f' : ℕ} {o o' : Option Text} {a a' 
     → Underway h h' f f' o o' a a' whole [] → Writes h h' f f' o o' a a' whole (Ok tt)
 Underway-end {h} {h'} {f} {f'} {o} {o'} {a} {a'} x = subst (λ z. Writes h h' f f' o o' a a' z (Ok tt)) (sym (append-nil x.done) ∙ x.split) x.written
 
--- ---- texts one behind the other
+-- ---- one text after the other
 
 pub flat_map-drop : {X : Type 0} (f : X → Text) (xs : List X) (i : ℕ) (x : X) → i < length xs → x ≡ get_or xs i x → flat_map f (drop i xs) ≡ f x ++ flat_map f (drop (suc i) xs)
 flat_map-drop f xs i x h e = ap (flat_map f) (drop-cons xs i x h ∙ ap (λ y. y ∷ drop (suc i) xs) (sym e))

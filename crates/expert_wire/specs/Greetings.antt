@@ -1,4 +1,4 @@
--- The first lines of a session: who is greeted, and over which attributes.
+-- The first lines of a session: the number of the expert, and the attributes.
 --
 -- Expert 2 over a and b is greeted by `exploration 1`, `expert 2`, `attributes 2`, `a` and `b`.
 use Rattle.std.specs.Prelude.{ℕ, ◌++◌, codes, decimal}

@@ -10,7 +10,7 @@ use Rattle.expert_wire.specs.declared.parts.Part.{Part}
 use Rattle.expert_wire.specs.declared.parts.Part.TheVariants.{Bytes, Number, Ordinal, Pattern, Braces}
 use Rattle.expert_wire.specs.Texts.{ordinal, pattern, braces_text}
 
--- the text of a part, where the attributes have these names
+-- the text of a part. The attributes have these names
 abbrev pub part_text : List Text → Part → Text
 part_text attributes (Bytes bytes) = bytes.now
 part_text attributes (Number n) = decimal n
@@ -18,11 +18,12 @@ part_text attributes (Ordinal place) = ordinal place
 part_text attributes (Pattern A) = pattern A
 part_text attributes (Braces A) = braces_text attributes A
 
--- the text of parts, one behind the other
+-- the text of parts, one after the other
 abbrev pub parts_text : List Text → List Part → Text
 parts_text attributes parts = flat_map (part_text attributes) parts
 
--- what a call that writes a text leaves of a sink: all of the text and its count of faults where it succeeds, else a front of it and one fault more
+-- What a call that writes a text does to a sink. If it succeeds, the sink gains the text, and its count of faults stays. Else the sink
+-- gains a front of the text, and the count rises.
 pub record Writes (held held' : Option Text) (faults faults' : ℕ) (other other' : Option Text) (aside aside' : Asked) (text : Text) (result : Result (Unit {0}) Put) : Type 0 where
   pub whole : OnOk result (Appends held held' text)
   pub front : AppendsFront held held' text

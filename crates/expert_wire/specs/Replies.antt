@@ -7,7 +7,7 @@ use Rattle.fca_model.specs.Exploration.{SetReply}
 use Rattle.fca_model.specs.declared.Reply.TheVariants.{Ask, Done, AllHeld, Accepted, Taken, Left, NotHeld, Misses, Keeps, Breaks, Refuted, SupersededRow, SupersededBy}
 use Rattle.expert_wire.specs.Texts.{line_end, ordinal, pattern, full_text}
 
--- the name of an attribute, or nothing where there is no such attribute
+-- the name of an attribute. It is empty if there is no such attribute
 abbrev pub attribute_name : List Text → ℕ → Text
 attribute_name attributes m = unwrap_or (slice_get attributes m) []
 
@@ -19,7 +19,7 @@ numbered_row place r = ordinal place ++ (codes " " ++ pattern r)
 abbrev pub numbered_rule : List Text → ℕ → Rule → Text
 numbered_rule attributes place i = ordinal place ++ (codes " " ++ full_text attributes i)
 
--- what a reply says, where the attributes have these names
+-- the text of a reply. The attributes have these names
 abbrev pub reply_text : List Text → SetReply → Text
 reply_text attributes (Ask q) = codes "ask " ++ full_text attributes q
 reply_text attributes Done = codes "done"
@@ -39,6 +39,6 @@ reply_text attributes (SupersededBy place i) = codes "superseded accepted " ++ n
 abbrev pub reply_line : List Text → SetReply → Text
 reply_line attributes reply = reply_text attributes reply ++ line_end
 
--- the first line of a session, and of a transcript whose settings are plain
+-- the first line of a session, and of a transcript with plain settings
 abbrev pub heading : Text
 heading = codes "exploration 1"

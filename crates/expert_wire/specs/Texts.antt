@@ -6,17 +6,17 @@ use Rattle.fca_model.specs.Implications.{Rule}
 use Rattle.attr_bits.specs.Difference.{minus}
 use Rattle.text_pieces.specs.Marks.{marks_of}
 
--- what stands at the end of each line
+-- the end of each line
 abbrev pub line_end : Text
 line_end = codes "\n"
 
--- the number of the thing at a place: places are counted from 0, and in texts from 1
+-- the number of a place. Places begin at 0, and numbers in texts at 1
 abbrev pub ordinal : ℕ → Text
 ordinal place = decimal (place + 1)
 
 -- ---- sets
 
--- one mark for each attribute, and a dash where there are no attributes
+-- one mark for each attribute, or a dash if there are no attributes
 abbrev pub pattern : Set → Text
 pattern [] = codes "-"
 pattern (a ∷ A) = marks_of (a ∷ A)
@@ -27,12 +27,12 @@ names_of [] A = []
 names_of (name ∷ names) [] = []
 names_of (name ∷ names) (a ∷ A) = cond a (name ∷ names_of names A) (names_of names A)
 
--- each text behind a comma and a space
+-- each text after a comma and a space
 abbrev pub comma_tail : List Text → Text
 comma_tail [] = []
 comma_tail (x ∷ xs) = codes ", " ++ (x ++ comma_tail xs)
 
--- the texts with a comma and a space between two of them
+-- the texts, separated by a comma and a space
 abbrev pub comma_list : List Text → Text
 comma_list [] = []
 comma_list (x ∷ xs) = x ++ comma_tail xs
@@ -41,16 +41,16 @@ comma_list (x ∷ xs) = x ++ comma_tail xs
 abbrev pub names_in_braces : List Text → Text
 names_in_braces names = codes "{" ++ (comma_list names ++ codes "}")
 
--- a set of attributes by the names of its members
+-- the names of the members of a set, in braces
 abbrev pub braces_text : List Text → Set → Text
 braces_text attributes A = names_in_braces (names_of attributes A)
 
 -- ---- implications
 
--- `{a, b} -> {c}`: behind the arrow stands only what the premise lacks
+-- `{a, b} -> {c}`: only what the premise lacks stands after the arrow
 abbrev pub arrow_text : List Text → Rule → Text
 arrow_text attributes i = braces_text attributes i.premise ++ (codes " -> " ++ braces_text attributes (minus i.conclusion i.premise))
 
--- the patterns of both sets, and the arrow text
+-- the patterns of both sets, and then the arrow text
 abbrev pub full_text : List Text → Rule → Text
 full_text attributes i = pattern i.premise ++ (codes " " ++ (pattern i.conclusion ++ (codes " " ++ arrow_text attributes i)))

@@ -19,7 +19,7 @@ use itoa::Buffer;
 use std::alloc::Global;
 use std::marker::Model;
 
-/// A text that is written line by line; contracts see its bytes. After an `Err` it holds a front of what was to be appended.
+/// A text that is written line by line. Contracts see its bytes. After an `Err` the draft has gained a front of what was to be appended.
 #[derive(Drop)]
 pub struct Draft {
     sink: Growing,
@@ -34,7 +34,7 @@ impl Model for Draft {
 }
 
 impl Draft {
-    /// An empty text; it takes no memory yet.
+    /// An empty text. It takes no memory yet.
     pub fn new(alloc: Global) -> Draft
         ensures { result ≡ [] }
     {
@@ -59,7 +59,7 @@ impl Draft {
         Ok(())
     }
 
-    /// Appends the number, from 1 on, of what stands at the place.
+    /// Appends the number of the place. Numbers begin at 1.
     pub fn append_ordinal(&mut self, place: usize) -> Result<(), Memory>
         ensures whole { OnOk result (self.new ≡ self.old ++ ordinal place) }
         ensures kept { OnErr result (self.new ≡ self.old) }
@@ -92,7 +92,7 @@ impl Draft {
         }
     }
 
-    /// Appends a line of the words and the full text of the question.
+    /// Appends a line: the words, and the full text of the question.
     pub fn append_question(
         &mut self,
         table: &Table,
@@ -108,7 +108,7 @@ impl Draft {
         }
     }
 
-    /// Appends a line of the words, the number of the place, and the full text of the rule.
+    /// Appends a line: the words, the number of the place, and the full text of the rule.
     pub fn append_rule(
         &mut self,
         table: &Table,
@@ -126,7 +126,7 @@ impl Draft {
     }
 }
 
-/// Bytes that grow as they are written; a refused growth is a fault.
+/// Bytes that grow as they are written. It is a fault if memory runs out.
 #[derive(Drop)]
 pub struct Growing {
     /// The bytes.

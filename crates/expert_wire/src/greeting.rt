@@ -1,4 +1,4 @@
-//! The first lines of a session.
+//! The greeting: the first lines of a session.
 
 ghost use Rattle.std.specs.Prelude.{◌++◌, ℕ};
 ghost use Rattle.expert_wire.specs.Greetings.{greeting};
@@ -8,7 +8,7 @@ use crate::parts::{Part, write_parts};
 use context_table::Table;
 use fca_io::{Put, Sink};
 
-/// Writes the greeting of the expert, part by part; it takes no memory. After an `Err` the sink holds a front of it.
+/// Writes the greeting of the expert, part by part. It takes no memory. After an `Err` the sink has gained a front of the greeting.
 pub fn write_greeting<K: Sink>(sink: &mut K, table: &Table, expert: u8) -> Result<(), Put>
     ensures { Writes (K.held sink.old) (K.held sink.new) (K.faults sink.old) (K.faults sink.new) (K.beside sink.old) (K.beside sink.new)
         (K.asked_beside sink.old) (K.asked_beside sink.new) (greeting table.now expert) result }

@@ -1,4 +1,4 @@
-//! What experts write and are answered, as texts: rows, greetings, requests and replies.
+//! The lines between an expert and an exploration: requests, rows, greetings and replies.
 #![tactic(auto)]
 
 mod draft;

@@ -1,4 +1,4 @@
-//! The lines of a text that say nothing.
+//! Which lines of a text are skipped.
 
 ghost use Rattle.std.specs.Prelude.{◌≡◌};
 ghost use Rattle.expert_wire.specs.Lines.{is_skipped};

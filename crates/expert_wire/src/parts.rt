@@ -1,4 +1,4 @@
-//! Lines as they are written, part by part.
+//! Lines that are written part by part.
 
 ghost use Rattle.std.specs.Prelude.{◌≡◌, ◌≤◌, ◌++◌, ℕ, decimal, OnOk, OnErr, slice_range};
 ghost use Rattle.fca_model.specs.declared.TheConstants.{MAX_ATTRIBUTES};
@@ -18,17 +18,19 @@ const WIDEST: usize = MAX_ATTRIBUTES as usize;
 /// A part of a line.
 #[derive(Clone, Copy)]
 pub enum Part<'a> {
+    /// These bytes.
     Bytes(&'a [u8]),
     /// A number in decimal digits.
     Number(u64),
-    /// The number, from 1 on, of what stands at a place.
+    /// The number of a place. Numbers begin at 1.
     Ordinal(usize),
+    /// The pattern of a set of attributes.
     Pattern(Attrs),
-    /// The names of the members of a set of attributes.
+    /// The names of the members of a set of attributes, in braces.
     Braces(Attrs),
 }
 
-/// Writes the parts one behind the other. It takes no memory.
+/// Writes the parts in order. It takes no memory.
 pub fn write_parts<K: Sink>(sink: &mut K, table: &Table, parts: &[Part<'_>]) -> Result<(), Put>
     ensures { Writes (K.held sink.old) (K.held sink.new) (K.faults sink.old) (K.faults sink.new) (K.beside sink.old) (K.beside sink.new)
         (K.asked_beside sink.old) (K.asked_beside sink.new) (parts_text table.now.attributes parts.now) result }

@@ -1,4 +1,4 @@
-//! The line of a reply.
+//! The lines of replies.
 
 ghost use Rattle.std.specs.Prelude.{◌≡◌, ◌≤◌, ◌++◌, ℕ, OnOk, OnErr, codes};
 ghost use Rattle.std.specs.Io.KnownBytes.{Appends, Keeps};
@@ -15,7 +15,7 @@ use fca_io::{Put, Sink};
 use fca_model::Reply;
 use implication_closure::Implication;
 
-/// Writes the line of the reply, part by part; it takes no memory. After an `Err` the sink holds a front of the line.
+/// Writes the line of the reply, part by part. It takes no memory. After an `Err` the sink has gained a front of the line.
 pub fn write_reply<K: Sink>(sink: &mut K, table: &Table, reply: &Reply<Attrs>) -> Result<(), Put>
     ensures whole { OnOk result (Appends (K.held sink.old) (K.held sink.new) (reply_line table.now.attributes reply.now)) }
     ensures front { AppendsFront (K.held sink.old) (K.held sink.new) (reply_line table.now.attributes reply.now) }
@@ -50,6 +50,7 @@ pub fn write_reply<K: Sink>(sink: &mut K, table: &Table, reply: &Reply<Attrs>) -
     }
 }
 
+/// Writes a line of the words alone.
 pub(crate) fn write_words<K: Sink>(sink: &mut K, table: &Table, words: &[u8]) -> Result<(), Put>
     ensures { Writes (K.held sink.old) (K.held sink.new) (K.faults sink.old) (K.faults sink.new) (K.beside sink.old) (K.beside sink.new)
         (K.asked_beside sink.old) (K.asked_beside sink.new) (words.now ++ line_end) result }
@@ -57,6 +58,7 @@ pub(crate) fn write_words<K: Sink>(sink: &mut K, table: &Table, words: &[u8]) ->
     write_parts(sink, table, &[Part::Bytes(words), Part::Bytes(b"\n")])
 }
 
+/// Writes a line: the words, and the number of the place.
 fn write_place<K: Sink>(sink: &mut K, table: &Table, words: &[u8], place: usize) -> Result<(), Put>
     ensures { Writes (K.held sink.old) (K.held sink.new) (K.faults sink.old) (K.faults sink.new) (K.beside sink.old) (K.beside sink.new)
         (K.asked_beside sink.old) (K.asked_beside sink.new) ((words.now ++ ordinal place) ++ line_end) result }
@@ -68,6 +70,7 @@ fn write_place<K: Sink>(sink: &mut K, table: &Table, words: &[u8], place: usize)
     )
 }
 
+/// Writes a line: the words, the number of the place, and the pattern of the row.
 fn write_row<K: Sink>(
     sink: &mut K,
     table: &Table,
@@ -91,7 +94,7 @@ fn write_row<K: Sink>(
     )
 }
 
-/// The words, the number of the place, and the full text of the rule.
+/// Writes a line: the words, the number of the place, and the full text of the rule.
 pub(crate) fn write_rule<K: Sink>(
     sink: &mut K,
     table: &Table,
@@ -122,7 +125,7 @@ pub(crate) fn write_rule<K: Sink>(
     )
 }
 
-/// The words, and the full text of the question.
+/// Writes a line: the words, and the full text of the question.
 pub(crate) fn write_question<K: Sink>(
     sink: &mut K,
     table: &Table,
@@ -150,6 +153,7 @@ pub(crate) fn write_question<K: Sink>(
     )
 }
 
+/// Writes the line of the attribute that a row lacks: its number and its name.
 fn write_misses<K: Sink>(sink: &mut K, table: &Table, attribute: u32) -> Result<(), Put>
     ensures { Writes (K.held sink.old) (K.held sink.new) (K.faults sink.old) (K.faults sink.new) (K.beside sink.old) (K.beside sink.new)
         (K.asked_beside sink.old) (K.asked_beside sink.new)
@@ -168,7 +172,7 @@ fn write_misses<K: Sink>(sink: &mut K, table: &Table, attribute: u32) -> Result<
     )
 }
 
-/// The name of the attribute, or nothing where there is none.
+/// The name of the attribute. It is empty if the table has no such attribute.
 fn name_of(table: &Table, attribute: u32) -> &[u8]
     ensures { result.now ≡ attribute_name table.now.attributes attribute }
 {

@@ -1,4 +1,4 @@
-//! The request of a line of a session.
+//! Requests: what a line of a session asks for.
 
 ghost use Rattle.std.specs.Prelude.{◌≡◌, ◌≤◌, ◌⊎◌, Ok, Err, IfOk, IfErr, IsErrOf};
 ghost use Rattle.fca_model.specs.declared.TheConstants.{MAX_ATTRIBUTES};
@@ -33,7 +33,7 @@ pub enum RequestFault {
     Memory,
 }
 
-/// The request of the bytes before a line feed, where rows have width n. One carriage return at their end is dropped.
+/// The request of a line without its line feed. Rows have width n. One carriage return at the end is dropped.
 pub fn read_request(alloc: Global, line: &[u8], n: u32) -> Result<Request, RequestFault>
     requires { n ≤ MAX_ATTRIBUTES }
     ensures ok { IfOk result (λ request. request_form line.now n ≡ Ok request) }
@@ -46,6 +46,7 @@ pub fn read_request(alloc: Global, line: &[u8], n: u32) -> Result<Request, Reque
     }
 }
 
+/// The request of the text of a line.
 fn request_of(alloc: Global, text: &str, n: u32) -> Result<Request, RequestFault>
     requires { n ≤ MAX_ATTRIBUTES }
     ensures ok { IfOk result (λ request. request_of n text.now ≡ Ok request) }

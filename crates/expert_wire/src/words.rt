@@ -32,6 +32,7 @@ pub fn expert_of(digits: &str) -> Option<u8>
     }
 }
 
+/// The number as that of an expert, if it is one.
 fn expert_from_number(number: u64) -> Option<u8>
     ensures { result ≡ cond (is_expert number) (Some number) None }
 {
@@ -55,7 +56,7 @@ pub fn marks(word: &[u8]) -> Option<&[u8]>
     }
 }
 
-/// A pattern of width n and a name, with a space between them.
+/// The name and the row of a text: a pattern of width n, a space, and the name.
 pub fn read_row(alloc: Global, text: &str, n: u32) -> Result<(Name, Attrs), RequestFault>
     requires { n ≤ MAX_ATTRIBUTES }
     ensures ok { IfOk result (λ x. named_row n text.now ≡ Ok x) }
@@ -78,7 +79,7 @@ pub fn read_row(alloc: Global, text: &str, n: u32) -> Result<(Name, Attrs), Requ
     Ok((name, set_of_marks(marks)))
 }
 
-/// What is said of a row with a name for which there is no memory. Another width is told without it.
+/// The fault of a row if there is no memory for its name. A wrong width needs no memory, so it comes first.
 fn fault_without_memory(fits: bool) -> RequestFault
     ensures { result ≡ cond fits RequestFault.Memory RequestFault.Width }
 {

@@ -1,5 +1,5 @@
--- The values that are written as JSON have no number, and so no float: they are arrays and objects of strings. The names of a set are added one by one:
--- what was added and what is still to come are together the names of all members.
+-- The values are arrays and objects of strings, and so have no float. The names of a set are added one by one: the added ones and the
+-- rest are together the names of all members.
 use Rattle.std.proofs.Common.{◌≡◌, ℕ, suc, ◌+◌, ◌<◌, ◌≤◌, min, true, false, Some, List, [], ◌∷◌, ◌++◌, map, length, get_or, drop, refl, sym, ap, ◌∙◌, add-one, append_assoc, append-nil}
 use Rattle.std.specs.Prelude.{slice_get, unwrap_or}
 use Rattle.std.proofs.lemmas.Bool.{or_from}
@@ -59,7 +59,7 @@ pub named_same : (vs : List Value) (i : ℕ) (names : List Text) (A : Set) (all 
     → map view vs ++ map (λ n. string n) (names_from i names A) ≡ all → map view vs ++ map (λ n. string n) (names_from (i + 1) names A) ≡ all
 named_same vs i names A all h k e before = rw add-one (ap (λ ns. map view vs ++ map (λ n. string n) ns) (sym (names_from-none i names A h k e)) ∙ before)
 
--- behind the last place there is none
+-- after the last place there is none
 pub named_all : (vs : List Value) (i : ℕ) (names : List Text) (A : Set) (all : List Data) → min (length A) (length names) ≤ i
     → map view vs ++ map (λ n. string n) (names_from i names A) ≡ all → map view vs ≡ all
 named_all vs i names A all over before =

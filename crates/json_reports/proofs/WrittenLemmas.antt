@@ -1,5 +1,5 @@
--- The compact text of the values that are written as JSON, letter by letter: the text of an array is those of its items in brackets, with commas between
--- them, and the keys of the objects have no letter that is written by an escape.
+-- The compact text of the values, letter by letter. The text of an array is that of its items in brackets, separated by commas. The keys
+-- of the objects have no letter that needs an escape.
 use Rattle.std.proofs.Common.{◌≡◌, true, List, [], ◌∷◌, ◌++◌, map, refl, ap, ap₂, ◌∙◌, append_assoc}
 use Rattle.std.specs.Prelude.{codes}
 use Rattle.json.specs.Print.{escape_byte, quoted}

@@ -1,4 +1,4 @@
-//! Concepts and implications as JSON.
+//! Concepts and bases as one line of JSON.
 
 ghost use Rattle.std.specs.Prelude.{◌≡◌, ◌++◌, [], List, IfOk, false, map, string_bytes, slice_get, unwrap_or};
 ghost use Rattle.serde_json.specs.Data.{string};
@@ -43,6 +43,7 @@ fn line_of(alloc: Global, value: &Value) -> Result<Vec<u8>, AllocError>
     Ok(line)
 }
 
+/// The value of the concepts.
 fn concepts_value(alloc: Global, table: &Table, concepts: &[Concept]) -> Result<Value, AllocError>
     ensures { IfOk result (λ v. view v ≡ concepts_data table.now concepts.now) }
 {
@@ -53,6 +54,7 @@ fn concepts_value(alloc: Global, table: &Table, concepts: &[Concept]) -> Result<
     json!(in alloc; {"concepts": list})
 }
 
+/// The value of one concept.
 fn concept_value(alloc: Global, table: &Table, concept: &Concept) -> Result<Value, AllocError>
     ensures { IfOk result (λ v. view v ≡ concept_data table.now concept.now) }
 {
@@ -61,6 +63,7 @@ fn concept_value(alloc: Global, table: &Table, concept: &Concept) -> Result<Valu
     json!(in alloc; {"extent": extent, "intent": intent})
 }
 
+/// The value of the members of a basis.
 fn basis_value(alloc: Global, table: &Table, members: &[Implication]) -> Result<Value, AllocError>
     ensures { IfOk result (λ v. view v ≡ basis_data table.now.attributes members.now) }
 {
@@ -71,6 +74,7 @@ fn basis_value(alloc: Global, table: &Table, members: &[Implication]) -> Result<
     json!(in alloc; {"implications": list})
 }
 
+/// The value of one implication. Its conclusion has only what the premise lacks.
 fn implication_value(
     alloc: Global,
     table: &Table,

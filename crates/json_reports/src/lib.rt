@@ -1,4 +1,4 @@
-//! Concepts and bases as JSON, each as one line. It stands beside `basis_report` for proof time alone.
+//! Concepts and bases as one line of JSON. This crate is split from `basis_report` for proof time alone.
 #![tactic(auto)]
 
 mod json_lines;

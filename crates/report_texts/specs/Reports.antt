@@ -1,4 +1,4 @@
--- Concepts, their covers and implications as printed lists.
+-- Lists of concepts, of their covers and of implications as texts.
 use Rattle.std.specs.Prelude.{ℕ, List, [], ◌++◌, map, length, unwrap_or, slice_get, codes, decimal}
 use Rattle.std.specs.List.{flat_map, enumerate_from}
 use Rattle.fca_model.specs.Tables.{Text, NamedContext}
@@ -6,13 +6,13 @@ use Rattle.fca_model.specs.Implications.{Rule}
 use Rattle.lectic_concepts.specs.declared.Concept.{Concept}
 use Rattle.expert_wire.specs.Texts.{line_end, ordinal, names_in_braces, braces_text, arrow_text}
 
--- the line that heads a list: what its members are, and how many
+-- the line that heads a list: the words, and the number of its members
 abbrev pub count_line : Text → ℕ → Text
 count_line words n = words ++ (decimal n ++ line_end)
 
 -- ---- concepts
 
--- the names of the things at these places; where there is no such thing, nothing
+-- the names at these places. A name that is not there is empty
 abbrev pub names_at : List Text → List ℕ → List Text
 names_at names places = map (λ i. unwrap_or (slice_get names i) []) places
 
@@ -21,6 +21,7 @@ abbrev pub concept_line : NamedContext → ℕ → Concept → Text
 concept_line t place c =
     ordinal place ++ (codes " " ++ (braces_text t.attributes c.intent ++ (codes " | " ++ (names_in_braces (names_at t.objects c.extent) ++ line_end))))
 
+-- the number of concepts, and a line for each
 abbrev pub concepts_text : NamedContext → List Concept → Text
 concepts_text t cs = count_line (codes "concepts ") (length cs) ++ flat_map (λ x. concept_line t x.0 x.1) (enumerate_from 0 cs)
 
@@ -34,15 +35,18 @@ lattice_text t cs pairs = concepts_text t cs ++ (count_line (codes "covers ") (l
 
 -- ---- implications
 
--- the number of an implication behind the words, and its arrow text
+-- the words, the number of an implication, and its arrow text
 abbrev pub arrow_line : Text → List Text → ℕ → Rule → Text
 arrow_line words attributes place i = words ++ (ordinal place ++ (codes " " ++ (arrow_text attributes i ++ line_end)))
 
+-- a line for each implication
 abbrev pub arrow_lines : Text → List Text → List Rule → Text
 arrow_lines words attributes J = flat_map (λ x. arrow_line words attributes x.0 x.1) (enumerate_from 0 J)
 
+-- the number of members of a basis, and a line for each
 abbrev pub basis_text : List Text → List Rule → Text
 basis_text attributes J = count_line (codes "basis ") (length J) ++ arrow_lines [] attributes J
 
+-- the number of members of a direct basis, and a line for each
 abbrev pub direct_text : List Text → List Rule → Text
 direct_text attributes J = count_line (codes "direct ") (length J) ++ arrow_lines [] attributes J

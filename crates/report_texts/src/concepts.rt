@@ -38,6 +38,7 @@ pub fn lattice_text(
     Ok(draft.into_bytes())
 }
 
+/// Appends the number of concepts, and a line for each.
 fn write_concepts(draft: &mut Draft, table: &Table, concepts: &[Concept]) -> Result<(), Memory>
     ensures { OnOk result (draft.new ≡ draft.old ++ concepts_text table.now concepts.now) }
 {
@@ -54,6 +55,7 @@ fn write_concepts(draft: &mut Draft, table: &Table, concepts: &[Concept]) -> Res
     Ok(())
 }
 
+/// Appends a line for each cover.
 fn write_covers(draft: &mut Draft, covers: &[(usize, usize)]) -> Result<(), Memory>
     ensures { OnOk result (draft.new ≡ draft.old ++ flat_map cover_line covers.now) }
 {
@@ -66,7 +68,7 @@ fn write_covers(draft: &mut Draft, covers: &[(usize, usize)]) -> Result<(), Memo
     Ok(())
 }
 
-/// The line of the concept with that intent and extent.
+/// Appends the line of the concept with this intent and this extent.
 fn write_line<const W: usize>(
     draft: &mut Draft,
     table: &Table,
@@ -84,7 +86,7 @@ fn write_line<const W: usize>(
     draft.append_bytes(b"\n")
 }
 
-/// The names of the attributes in the set, in braces.
+/// Appends the names of the attributes in the set, in braces.
 fn write_attributes<const W: usize>(
     draft: &mut Draft,
     table: &Table,
@@ -105,7 +107,7 @@ fn write_attributes<const W: usize>(
     draft.append_bytes(b"}")
 }
 
-/// The names of the objects at these places, in braces.
+/// Appends the names of the objects at these places, in braces.
 fn write_objects(draft: &mut Draft, table: &Table, places: &[usize]) -> Result<(), Memory>
     ensures { OnOk result (draft.new ≡ draft.old ++ names_in_braces (names_at table.now.objects places.now)) }
 {
@@ -119,7 +121,7 @@ fn write_objects(draft: &mut Draft, table: &Table, places: &[usize]) -> Result<(
     draft.append_bytes(b"}")
 }
 
-/// The name of the object, or nothing where there is none.
+/// The name of the object. It is empty if the table has no such object.
 pub fn object_text(table: &Table, place: usize) -> &str
     ensures { result.now ≡ unwrap_or (slice_get table.now.objects place) [] }
 {

@@ -7,7 +7,7 @@ use context_table::Table;
 use expert_wire::{Draft, Part};
 use fca_model::Memory;
 
-/// Appends the line that heads a list: the words, and how many members it has.
+/// Appends the line that heads a list: the words, and the number of its members.
 pub fn write_count_line(
     draft: &mut Draft,
     table: &Table,

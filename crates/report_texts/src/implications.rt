@@ -1,4 +1,4 @@
-//! The texts of lists of implications.
+//! Lists of implications as texts.
 
 ghost use Rattle.std.specs.Prelude.{◌≡◌, ◌++◌, ℕ, codes, IfOk, OnOk};
 ghost use Rattle.report_texts.specs.Reports.{arrow_line, arrow_lines, basis_text, direct_text};
@@ -30,7 +30,7 @@ pub fn direct_text(alloc: Global, table: &Table, list: &ImplicationList) -> Resu
     Ok(draft.into_bytes())
 }
 
-/// Appends the implications, one a line behind the words, numbered from 1.
+/// Appends a line for each implication: the words, its number, and its arrow text. Numbers begin at 1.
 pub fn write_arrows(
     draft: &mut Draft,
     table: &Table,
@@ -45,7 +45,7 @@ pub fn write_arrows(
     Ok(())
 }
 
-/// Appends the line of one implication: the words, its number from 1, and its arrow text.
+/// Appends the line of one implication: the words, its number, and its arrow text.
 pub fn write_arrow(
     draft: &mut Draft,
     table: &Table,

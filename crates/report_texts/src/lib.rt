@@ -1,4 +1,4 @@
-//! The texts of concepts, of their covers and of implications, as printed lists.
+//! Lists of concepts, of their covers and of implications as texts.
 #![tactic(auto)]
 
 mod concepts;

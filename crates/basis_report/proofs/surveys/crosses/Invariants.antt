@@ -1,4 +1,4 @@
--- The crosses of the rows before this one; none of them has more than a number of 32 bits counts.
+-- The crosses of the rows before this one. None of the rows has more than a number of 32 bits counts.
 use Rattle.std.proofs.Common.{◌≡◌, ◌≤◌, ◌*◌, ◌^◌, take}
 use Rattle.std.specs.Prelude.{sum_by}
 use Rattle.fca_model.specs.Sets.{size}

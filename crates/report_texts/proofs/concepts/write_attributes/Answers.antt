@@ -5,7 +5,7 @@ use Rattle.std.proofs.lemmas.Result.{on_ok_weaker}
 use Rattle.fca_model.specs.Tables.{Text}
 use Rattle.report_texts.proofs.concepts.write_attributes.Goals as goal
 
--- behind what is there come the comma and the name
+-- the comma and the name come after the old text
 name_more : (old between name rest new : Text) → new ≡ (old ++ between) ++ name → new ++ rest ≡ old ++ ((between ++ name) ++ rest)
 name_more old between name rest new made = ap (λ d. d ++ rest) made ∙ regroup old between name rest
   where
