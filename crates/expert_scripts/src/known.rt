@@ -34,7 +34,7 @@ pub fn read_known(alloc: Global, bytes: &[u8], n: u32) -> Result<ImplicationList
 }
 
 /// The implication of a line that is not skipped. Its sets have width n, and `number` is the number of the line.
-pub fn read_rule(line: &[u8], n: u32, number: usize) -> Result<Implication, KnownFault>
+pub(crate) fn read_rule(line: &[u8], n: u32, number: usize) -> Result<Implication, KnownFault>
     requires { n ≤ MAX_ATTRIBUTES }
     ensures ok { IfOk result (λ i. known_rule n number line.now ≡ Ok i) }
     ensures refused { IfErr result (λ e. known_rule n number line.now ≡ Err e) }

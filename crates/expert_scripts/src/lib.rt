@@ -13,7 +13,7 @@ mod scripts;
 mod transcript;
 
 pub use fault::ScriptFault;
-pub use known::{read_known, read_rule};
+pub use known::read_known;
 pub use known_fault::KnownFault;
 pub use scripts::{Events, Script, read_script};
 pub use transcript::{transcript_text, write_transcript};

@@ -86,14 +86,11 @@ question_parts attributes words i gained e =
     regroup : (a b c d e f g h k : Text) → a ++ (b ++ (c ++ (d ++ (e ++ (f ++ (g ++ (h ++ k))))))) ≡ (a ++ (b ++ (c ++ (d ++ (e ++ (f ++ (g ++ h))))))) ++ k
     regroup a b c d e f g h k = simp append_assoc
 
--- the parts of a full text after a number, in a line
-pub rule_parts : (attributes : List Text) (words : Text) (place : ℕ) (i : Rule) (gained : Set) → gained ≡ minus i.conclusion i.premise
-    → words ++ (ordinal place ++ (codes " " ++ (pattern i.premise ++ (codes " " ++ (pattern i.conclusion ++ (codes " " ++ (braces_text attributes i.premise ++ (codes " -> " ++ (braces_text attributes gained ++ line_end)))))))))
+-- the number of a rule and then its full text, in a line
+pub rule_parts : (attributes : List Text) (words : Text) (place : ℕ) (i : Rule)
+    → (words ++ (ordinal place ++ codes " ")) ++ (full_text attributes i ++ line_end)
     ≡ (words ++ numbered_rule attributes place i) ++ line_end
-rule_parts attributes words place i gained e =
-    regroup words (ordinal place) (codes " ") (pattern i.premise ++ (codes " " ++ (pattern i.conclusion ++ (codes " " ++ (braces_text attributes i.premise ++ (codes " -> " ++ (braces_text attributes gained ++ line_end)))))))
-    ∙ question_parts attributes (words ++ (ordinal place ++ codes " ")) i gained e
-    ∙ ap (λ z. z ++ line_end) (sym (regroup words (ordinal place) (codes " ") (full_text attributes i)))
+rule_parts attributes words place i = regroup words (ordinal place) (codes " ") (full_text attributes i) line_end
   where
-    regroup : (a b c d : Text) → a ++ (b ++ (c ++ d)) ≡ (a ++ (b ++ c)) ++ d
-    regroup a b c d = simp append_assoc
+    regroup : (a b c d e : Text) → (a ++ (b ++ c)) ++ (d ++ e) ≡ (a ++ (b ++ (c ++ d))) ++ e
+    regroup a b c d e = simp append_assoc

@@ -105,24 +105,12 @@ pub(crate) fn write_rule<K: Sink>(
     ensures { Writes (K.held sink.old) (K.held sink.new) (K.faults sink.old) (K.faults sink.new) (K.beside sink.old) (K.beside sink.new)
         (K.asked_beside sink.old) (K.asked_beside sink.new) ((words.now ++ numbered_rule table.now.attributes place rule.now) ++ line_end) result }
 {
-    let gained = rule.conclusion.minus(&rule.premise);
     write_parts(
         sink,
         table,
-        &[
-            Part::Bytes(words),
-            Part::Ordinal(place),
-            Part::Bytes(b" "),
-            Part::Pattern(rule.premise),
-            Part::Bytes(b" "),
-            Part::Pattern(rule.conclusion),
-            Part::Bytes(b" "),
-            Part::Braces(rule.premise),
-            Part::Bytes(b" -> "),
-            Part::Braces(gained),
-            Part::Bytes(b"\n"),
-        ],
-    )
+        &[Part::Bytes(words), Part::Ordinal(place), Part::Bytes(b" ")],
+    )?;
+    write_question(sink, table, b"", rule)
 }
 
 /// Writes a line: the words, and the full text of the question.
