@@ -1,5 +1,7 @@
--- Lines that begin with `#` after the text of an exploration are skipped like those of its sections. So the whole spells the same history.
-use Rattle.std.proofs.Common.{◌≡◌, ℕ, zero, suc, ◌+◌, Bool, true, false, not, Option, Some, None, List, [], ◌∷◌, ◌++◌, length, map, get_or, refl, sym, ap, ap₂, ◌∙◌, append_assoc}
+-- Lines that begin with `#` after the text of an exploration are skipped like those of its sections. So the whole spells the same
+-- history.
+use Rattle.std.proofs.Common.{◌≡◌, ℕ, zero, suc, ◌+◌, Bool, true, false, not, Option, Some, None, List, [], ◌∷◌, ◌++◌, length, map}
+use Rattle.std.proofs.Common.{get_or, refl, sym, ap, ap₂, ◌∙◌, append_assoc}
 use Rattle.std.specs.Prelude.{codes, decimal, unwrap_or, slice_get, slice_index_or}
 use Rattle.std.specs.List.{list_any, list_all, flat_map, enumerate_from}
 use Rattle.std.proofs.lemmas.Bool.{and_parts, and_from, not-true}
@@ -13,12 +15,14 @@ use Rattle.expert_wire.specs.Texts.{line_end, ordinal, pattern}
 use Rattle.expert_wire.specs.Replies.{numbered_rule}
 use Rattle.expert_wire.specs.Words.{is_name}
 use Rattle.expert_wire.proofs.ReadLemmas.{pattern_no_break}
-use Rattle.expert_wire.proofs.SkipLemmas.{Skips, Skips-nil, Skips-append, Skips-comment, no_break-append, no_break-decimal, no_break-name, no_break-rule}
+use Rattle.expert_wire.proofs.SkipLemmas.{Skips, Skips-nil, Skips-append, Skips-comment, no_break-append, no_break-decimal, no_break-name}
+use Rattle.expert_wire.proofs.SkipLemmas.{no_break-rule}
 use Rattle.expert_scripts.specs.Transcripts.{AreNames, SettingsCanBeWritten}
 use Rattle.oracle_expert.specs.Oracles.{Conflicts}
 use Rattle.report_texts.specs.Reports.{count_line}
 use Rattle.basis_report.specs.Comments.{comment_line, comments, are_lines, AreComments}
-use Rattle.basis_report.specs.Conflicts.{DroppedRow, dropped_rows_at, dropped_rows_of, dropped_rows_from, conflict_words, conflict_line, conflicts_text}
+use Rattle.basis_report.specs.Conflicts.{DroppedRow, dropped_rows_at, dropped_rows_of, dropped_rows_from, conflict_words, conflict_line}
+use Rattle.basis_report.specs.Conflicts.{conflicts_text}
 use Rattle.basis_report.specs.Sessions.{session_line, sessions_text}
 use Rattle.basis_report.specs.Explorations.{EachNamed, explore_text, Spells}
 use Rattle.basis_report.proofs.SpelledLemmas.{Skips-count_line, spelled-more}
@@ -27,11 +31,15 @@ Skips-comments : (lines : List Text) → are_lines lines ≡ true → Skips (com
 Skips-comments [] h = Skips-nil
 Skips-comments (words ∷ lines) h =
     let parts = and_parts (not (list_any is_line_break words)) (are_lines lines) h in
-    Skips-append (comment_line words) (comments lines) (Skips-comment words (not-true (list_any is_line_break words) parts.0)) (Skips-comments lines parts.1)
+    Skips-append (comment_line words) (comments lines) (Skips-comment words (not-true (list_any is_line_break words) parts.0))
+    (Skips-comments lines parts.1)
 
-pub spelled-comments : (t : NamedContext) (settings : Settings) (H : List SetEntry) (lines : List Text) → AreNames t.attributes → SettingsCanBeWritten t.context.width settings → EachNamed H
-    → IsLegal (opening t.context t.objects settings) H → are_lines lines ≡ true → Spells t settings H (explore_text t settings H ++ comments lines)
-spelled-comments t settings H lines names can named legal h = spelled-more t settings H (comments lines) names can named legal (Skips-comments lines h)
+pub spelled-comments : (t : NamedContext) (settings : Settings) (H : List SetEntry) (lines : List Text) → AreNames t.attributes
+    → SettingsCanBeWritten t.context.width settings → EachNamed H
+    → IsLegal (opening t.context t.objects settings) H → are_lines lines ≡ true
+    → Spells t settings H (explore_text t settings H ++ comments lines)
+spelled-comments t settings H lines names can named legal h =
+    spelled-more t settings H (comments lines) names can named legal (Skips-comments lines h)
 
 -- ---- conflicts
 
@@ -47,27 +55,34 @@ no_break-at [] i h = refl
 no_break-at (name ∷ names) zero h = no_break-name name (and_parts (is_name name) (list_all is_name names) h).0
 no_break-at (name ∷ names) (suc i) h = no_break-at names i (and_parts (is_name name) (list_all is_name names) h).1
 
-named_at : (e : ℕ) (D : NamedContext) (place : ℕ) (o : Option ℕ) → list_all is_name D.objects ≡ true → list_all has_line_name (dropped_rows_at e D place o) ≡ true
+named_at : (e : ℕ) (D : NamedContext) (place : ℕ) (o : Option ℕ) → list_all is_name D.objects ≡ true
+    → list_all has_line_name (dropped_rows_at e D place o) ≡ true
 named_at e D place None h = refl
 named_at e D place (Some k) h =
-    let none : list_any is_line_break (unwrap_or (slice_get D.objects place) []) ≡ false = ap (list_any is_line_break) (unwrap_or-slice_get D.objects place []) ∙ no_break-at D.objects place h in
+    let none : list_any is_line_break (unwrap_or (slice_get D.objects place) []) ≡ false =
+    ap (list_any is_line_break) (unwrap_or-slice_get D.objects place []) ∙ no_break-at D.objects place h in
     and_from (not (list_any is_line_break (unwrap_or (slice_get D.objects place) []))) true (ap not none) refl
 
-named_of : (e : ℕ) (D : NamedContext) (xs : List (ℕ × Option ℕ)) → list_all is_name D.objects ≡ true → list_all has_line_name (flat_map (λ x. dropped_rows_at e D x.0 x.1) xs) ≡ true
+named_of : (e : ℕ) (D : NamedContext) (xs : List (ℕ × Option ℕ)) → list_all is_name D.objects ≡ true
+    → list_all has_line_name (flat_map (λ x. dropped_rows_at e D x.0 x.1) xs) ≡ true
 named_of e D [] h = refl
 named_of e D (x ∷ xs) h =
     let later = flat_map (λ x. dropped_rows_at e D x.0 x.1) xs in
     list_all-append has_line_name (dropped_rows_at e D x.0 x.1) later
-    ∙ and_from (list_all has_line_name (dropped_rows_at e D x.0 x.1)) (list_all has_line_name later) (named_at e D x.0 x.1 h) (named_of e D xs h)
+    ∙ and_from (list_all has_line_name (dropped_rows_at e D x.0 x.1)) (list_all has_line_name later) (named_at e D x.0 x.1 h)
+    (named_of e D xs h)
 
-named_from : (e : ℕ) (oracles : List (NamedContext × Conflicts)) → have_names oracles ≡ true → list_all has_line_name (dropped_rows_from e oracles) ≡ true
+named_from : (e : ℕ) (oracles : List (NamedContext × Conflicts)) → have_names oracles ≡ true
+    → list_all has_line_name (dropped_rows_from e oracles) ≡ true
 named_from e [] h = refl
 named_from e (o ∷ os) h =
     let parts = and_parts (list_all is_name o.0.objects) (have_names os) h in
     list_all-append has_line_name (dropped_rows_of e o.0 o.1) (dropped_rows_from (e + 1) os)
-    ∙ and_from (list_all has_line_name (dropped_rows_of e o.0 o.1)) (list_all has_line_name (dropped_rows_from (e + 1) os)) (named_of e o.0 (enumerate_from 0 o.1) parts.0) (named_from (e + 1) os parts.1)
+    ∙ and_from (list_all has_line_name (dropped_rows_of e o.0 o.1)) (list_all has_line_name (dropped_rows_from (e + 1) os))
+    (named_of e o.0 (enumerate_from 0 o.1) parts.0) (named_from (e + 1) os parts.1)
 
-no_break-conflict : (attributes : List Text) (accepted : List Rule) (d : DroppedRow) → list_all is_name attributes ≡ true → has_line_name d ≡ true
+no_break-conflict : (attributes : List Text) (accepted : List Rule) (d : DroppedRow) → list_all is_name attributes ≡ true
+    → has_line_name d ≡ true
     → list_any is_line_break (conflict_words attributes accepted d) ≡ false
 no_break-conflict attributes accepted d names named =
     let told = numbered_rule attributes d.broken (slice_index_or accepted d.broken (rule [] [])) in
@@ -80,7 +95,8 @@ no_break-conflict attributes accepted d names named =
     (no_break-append d.name (codes " " ++ told) (not-true (list_any is_line_break d.name) named)
     (no_break-rule attributes d.broken (slice_index_or accepted d.broken (rule [] [])) names))))
 
-Skips-dropped : (attributes : List Text) (accepted : List Rule) (ds : List DroppedRow) → list_all is_name attributes ≡ true → list_all has_line_name ds ≡ true
+Skips-dropped : (attributes : List Text) (accepted : List Rule) (ds : List DroppedRow) → list_all is_name attributes ≡ true
+    → list_all has_line_name ds ≡ true
     → Skips (flat_map (conflict_line attributes accepted) ds)
 Skips-dropped attributes accepted [] names h = Skips-nil
 Skips-dropped attributes accepted (d ∷ ds) names h =
@@ -89,7 +105,8 @@ Skips-dropped attributes accepted (d ∷ ds) names h =
     (Skips-comment (conflict_words attributes accepted d) (no_break-conflict attributes accepted d names parts.0))
     (Skips-dropped attributes accepted ds names parts.1)
 
-pub Skips-conflicts_text : (attributes : List Text) (accepted : List Rule) (oracles : List (NamedContext × Conflicts)) → list_all is_name attributes ≡ true → list_all (λ o. list_all is_name o.0.objects) oracles ≡ true
+pub Skips-conflicts_text : (attributes : List Text) (accepted : List Rule) (oracles : List (NamedContext × Conflicts))
+    → list_all is_name attributes ≡ true → list_all (λ o. list_all is_name o.0.objects) oracles ≡ true
     → Skips (conflicts_text attributes accepted oracles)
 unfolding conflicts_text
 Skips-conflicts_text attributes accepted oracles names h =
@@ -98,7 +115,8 @@ Skips-conflicts_text attributes accepted oracles names h =
 
 -- ---- sessions
 
-Skips-endings : (k : ℕ) (endings : List Text) → are_lines endings ≡ true → Skips (flat_map (λ x. session_line x.0 x.1) (enumerate_from k endings))
+Skips-endings : (k : ℕ) (endings : List Text) → are_lines endings ≡ true
+    → Skips (flat_map (λ x. session_line x.0 x.1) (enumerate_from k endings))
 Skips-endings k [] h = Skips-nil
 Skips-endings k (words ∷ endings) h =
     let parts = and_parts (not (list_any is_line_break words)) (are_lines endings) h in
@@ -116,13 +134,16 @@ lines-map : {X : Type 0} (words : X → Text) (xs : List X) → flat_map (λ x. 
 lines-map words [] = refl
 lines-map words (x ∷ xs) = ap (λ t. comment_line (words x) ++ t) (lines-map words xs)
 
-conflict_lines : (attributes : List Text) (accepted : List Rule) (ds : List DroppedRow) → list_all is_name attributes ≡ true → list_all has_line_name ds ≡ true → are_lines (map (conflict_words attributes accepted) ds) ≡ true
+conflict_lines : (attributes : List Text) (accepted : List Rule) (ds : List DroppedRow) → list_all is_name attributes ≡ true
+    → list_all has_line_name ds ≡ true → are_lines (map (conflict_words attributes accepted) ds) ≡ true
 conflict_lines attributes accepted [] names h = refl
 conflict_lines attributes accepted (d ∷ ds) names h =
     let parts = and_parts (has_line_name d) (list_all has_line_name ds) h in
-    and_from (not (list_any is_line_break (conflict_words attributes accepted d))) (are_lines (map (conflict_words attributes accepted) ds)) (ap not (no_break-conflict attributes accepted d names parts.0)) (conflict_lines attributes accepted ds names parts.1)
+    and_from (not (list_any is_line_break (conflict_words attributes accepted d))) (are_lines (map (conflict_words attributes accepted) ds))
+    (ap not (no_break-conflict attributes accepted d names parts.0)) (conflict_lines attributes accepted ds names parts.1)
 
-pub conflicts-comments : (attributes : List Text) (accepted : List Rule) (oracles : List (NamedContext × Conflicts)) → list_all is_name attributes ≡ true → list_all (λ o. list_all is_name o.0.objects) oracles ≡ true
+pub conflicts-comments : (attributes : List Text) (accepted : List Rule) (oracles : List (NamedContext × Conflicts))
+    → list_all is_name attributes ≡ true → list_all (λ o. list_all is_name o.0.objects) oracles ≡ true
     → AreComments (conflicts_text attributes accepted oracles)
 unfolding conflicts_text
 conflicts-comments attributes accepted oracles names h =

@@ -11,14 +11,18 @@ use Rattle.expert_wire.specs.Words.{is_name}
 use Rattle.expert_scripts.specs.Transcripts.{AreNames}
 
 -- one more name is valid
-pub name_more : (names : List Text) (i : ℕ) (name : Text) → Some name ≡ slice_get names i → IsName name → list_all is_name (drop i names) ≡ list_all is_name names
+pub name_more : (names : List Text) (i : ℕ) (name : Text) → Some name ≡ slice_get names i → IsName name
+    → list_all is_name (drop i names) ≡ list_all is_name names
     → list_all is_name (drop (i + 1) names) ≡ list_all is_name names
 name_more names i name named h before =
-    let here : is_name (get_or names i []) ≡ true = ap is_name (get_or_from_slice_get names i name [] (sym named)) ∙ ap is_none h.faultless in
-    sym (ap (list_all is_name) (drop_more names i [] (slice_get_within names i name (sym named))) ∙ ap (λ b. b && list_all is_name (drop (i + 1) names)) here) ∙ before
+    let here : is_name (get_or names i []) ≡ true = ap is_name (get_or_from_slice_get names i name [] (sym named))
+    ∙ ap is_none h.faultless in
+    sym (ap (list_all is_name) (drop_more names i [] (slice_get_within names i name (sym named)))
+    ∙ ap (λ b. b && list_all is_name (drop (i + 1) names)) here) ∙ before
 
 -- if those after this one are valid, so are all from this one on
-pub names_more : (names : List Text) (i : ℕ) (name : Text) → Some name ≡ slice_get names i → IsName name → (AreNames (drop i names) → AreNames names) → AreNames (drop (i + 1) names) → AreNames names
+pub names_more : (names : List Text) (i : ℕ) (name : Text) → Some name ≡ slice_get names i → IsName name
+    → (AreNames (drop i names) → AreNames names) → AreNames (drop (i + 1) names) → AreNames names
 names_more names i name named h before later =
     let here : IsName (get_or names i []) = subst IsName (sym (get_or_from_slice_get names i name [] (sym named))) h in
     before (subst AreNames (sym (drop_more names i [] (slice_get_within names i name (sym named)))) (here, later))

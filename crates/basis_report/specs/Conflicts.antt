@@ -26,7 +26,13 @@ pub record DroppedRow : Type 0 where
 abbrev pub dropped_rows_at : ℕ → NamedContext → ℕ → Option ℕ → List DroppedRow
 dropped_rows_at e D place None = []
 dropped_rows_at e D place (Some k) =
-    record { expert = e; place = place; row = unwrap_or (slice_get D.context.rows place) []; name = unwrap_or (slice_get D.objects place) []; broken = k } ∷ []
+    record {
+      expert = e;
+      place = place;
+      row = unwrap_or (slice_get D.context.rows place) [];
+      name = unwrap_or (slice_get D.objects place) [];
+      broken = k;
+    } ∷ []
 
 -- the dropped rows of a table, by their places
 abbrev pub dropped_rows_of : ℕ → NamedContext → Conflicts → List DroppedRow

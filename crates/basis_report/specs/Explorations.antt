@@ -5,7 +5,8 @@ use Rattle.std.specs.BTreeMap.{insert_entry}
 use Rattle.fca_model.specs.Sets.{Set, lectic_cmp}
 use Rattle.fca_model.specs.Tables.{Text, NamedContext}
 use Rattle.fca_model.specs.Implications.{Rule, rule}
-use Rattle.fca_model.specs.Exploration.{State, Settings, SetEvent, SetReply, SetEntry, plain, opening, open_in, state_after, events_of, journal_of}
+use Rattle.fca_model.specs.Exploration.{State, Settings, SetEvent, SetReply, SetEntry, plain, opening, open_in, state_after, events_of}
+use Rattle.fca_model.specs.Exploration.{journal_of}
 use Rattle.fca_model.specs.declared.Event.TheVariants.{Row}
 use Rattle.fca_model.specs.declared.Reply.TheVariants.{Taken}
 use Rattle.explore_state.specs.History.{History, state_of, open_of}
@@ -66,7 +67,8 @@ basis_section attributes acc (q ∷ J) = []
 -- the four sections after the transcript
 abbrev pub sections : List Text → List SetEntry → State → Text
 sections attributes H s =
-    recorded_section H ++ (accepted_section attributes (length s.settings.known) s.accepted ++ (open_section attributes (open_in s) ++ basis_section attributes s.accepted (open_in s)))
+    recorded_section H ++ (accepted_section attributes (length s.settings.known) s.accepted
+    ++ (open_section attributes (open_in s) ++ basis_section attributes s.accepted (open_in s)))
 
 -- the state after the events of a history of the table
 abbrev pub state_of_text : NamedContext → Settings → List SetEntry → State
@@ -80,7 +82,8 @@ explore_text t settings H = transcript t.attributes settings H ++ sections t.att
 abbrev pub text_before_basis : NamedContext → Settings → List SetEntry → Text
 text_before_basis t settings H =
     transcript t.attributes settings H
-    ++ (recorded_section H ++ (accepted_section t.attributes (length settings.known) (state_of_text t settings H).accepted ++ open_section t.attributes []))
+    ++ (recorded_section H ++ (accepted_section t.attributes (length settings.known) (state_of_text t settings H).accepted
+    ++ open_section t.attributes []))
 
 -- ---- its pieces
 
@@ -92,7 +95,8 @@ transcript_of h = transcript h.opening.table.attributes h.opening.settings h.jou
 abbrev pub lists_of : History → Text
 lists_of h =
     recorded_section h.journal
-    ++ (accepted_section h.opening.table.attributes (length h.opening.settings.known) (state_of h).accepted ++ open_section h.opening.table.attributes (open_of h))
+    ++ (accepted_section h.opening.table.attributes (length h.opening.settings.known) (state_of h).accepted
+    ++ open_section h.opening.table.attributes (open_of h))
 
 -- the section of the basis
 abbrev pub basis_of : History → Text

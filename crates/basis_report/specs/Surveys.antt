@@ -21,8 +21,8 @@ survey_lines objects attributes crosses concepts basis explored =
     ++ (count_line (codes "basis ") basis
     ++ count_line (codes "explored ") explored))))
 
--- the numbers of objects, attributes and crosses of the table, of its concepts, of the members of its basis, and of the implications
--- that an exploration of it accepted
+-- the numbers of objects, attributes and crosses of the table, of its concepts, of the members of its basis, and of the implications that
+-- an exploration of it accepted
 abbrev pub survey_text : NamedContext → ℕ → ℕ → ℕ → Text
 survey_text t concepts basis explored =
     survey_lines (length t.context.rows) t.context.width (crosses t.context) concepts basis explored

@@ -1,7 +1,7 @@
 -- The verdict on an implication in a table: a derivation from the basis if it holds, or else the first row that refutes it.
 --
--- Of the rows {a} and {a, b} over a, b the basis is {} -> {a}. For {b} -> {a} the text is `holds`, `steps 1`, `1 {} -> {a}`, and for {a} -> {b} it is
--- `refuted 1 X. NAME` with the name of the first object.
+-- Of the rows {a} and {a, b} over a, b the basis is {} -> {a}. For {b} -> {a} the text is `holds`, `steps 1`, `1 {} -> {a}`, and for {a}
+-- -> {b} it is `refuted 1 X. NAME` with the name of the first object.
 use Rattle.std.specs.Prelude.{ℕ, Option, Some, None, List, [], ◌++◌, length, position, unwrap_or, slice_get, slice_index_or, codes}
 use Rattle.std.specs.List.{flat_map}
 use Rattle.fca_model.specs.Sets.{Set}

@@ -26,7 +26,8 @@ pub fn conflicts_text(
     oracles: &[Oracle],
 ) -> Result<Vec<u8>, Memory>
     requires { length oracles.now ≤ explore.now.opening.experts }
-    ensures text { IfOk result (λ v. v.items ≡ conflicts_text explore.now.opening.table.attributes (rules_of (state_of explore.now)) (map (λ o. (o.table, o.conflicts)) oracles.now)) }
+    ensures text { IfOk result (λ v. v.items
+        ≡ conflicts_text explore.now.opening.table.attributes (rules_of (state_of explore.now)) (map (λ o. (o.table, o.conflicts)) oracles.now)) }
     ensures skipped { IfOk result (λ v. AreComments v.items) }
 {
     let table = explore.table();
@@ -81,7 +82,8 @@ fn write_dropped(
     expert: usize,
     oracle: &Oracle,
 ) -> Result<(), Memory>
-    ensures { OnOk result (draft.new ≡ draft.old ++ flat_map (conflict_line table.now.attributes rules.now) (dropped_rows_of expert oracle.now.table oracle.now.conflicts)) }
+    ensures { OnOk result (draft.new ≡ draft.old
+        ++ flat_map (conflict_line table.now.attributes rules.now) (dropped_rows_of expert oracle.now.table oracle.now.conflicts)) }
 {
     let known = oracle.table();
     for place in 0..known.rows().len() {
@@ -103,7 +105,8 @@ fn write_conflict(
     broken: usize,
 ) -> Result<(), Memory>
     requires { place < length known.now.context.rows }
-    ensures { OnOk result (draft.new ≡ draft.old ++ flat_map (conflict_line table.now.attributes rules.now) (dropped_rows_at expert known.now place (Some broken))) }
+    ensures { OnOk result (draft.new ≡ draft.old
+        ++ flat_map (conflict_line table.now.attributes rules.now) (dropped_rows_at expert known.now place (Some broken))) }
 {
     draft.append_parts(
         table,

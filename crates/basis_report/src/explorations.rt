@@ -5,7 +5,8 @@ ghost use Rattle.std.specs.List.{flat_map};
 ghost use Rattle.fca_model.specs.Tables.{Text};
 ghost use Rattle.expert_scripts.specs.Transcripts.{SettingsCanBeWritten};
 ghost use Rattle.basis_report.specs.Comments.{are_lines};
-ghost use Rattle.basis_report.specs.Explorations.{SpellsBefore, is_recorded, recorded_line, recorded_section, accepted_section, open_section, conclusions_by_premise, in_lectic_order, basis_section, explore_text};
+ghost use Rattle.basis_report.specs.Explorations.{SpellsBefore, is_recorded, recorded_line, recorded_section, accepted_section};
+ghost use Rattle.basis_report.specs.Explorations.{open_section, conclusions_by_premise, in_lectic_order, basis_section, explore_text};
 
 use crate::names::{look_at_attributes, look_at_rows};
 use attr_bits::Attrs;
@@ -23,7 +24,8 @@ use std::collections::BTreeMap;
 pub fn explore_text(alloc: Global, explore: &Explore) -> Result<Vec<u8>, Memory>
     ensures text { IfOk result (λ v. v.items ≡ explore_text explore.now.opening.table explore.now.opening.settings explore.now.journal) }
     ensures reads_back { OnOk result ((lines : List Text) → are_lines lines ≡ true
-        → SettingsCanBeWritten explore.now.opening.table.context.width explore.now.opening.settings → SpellsBefore explore.now.opening.table explore.now.opening.settings explore.now.journal lines) }
+        → SettingsCanBeWritten explore.now.opening.table.context.width explore.now.opening.settings
+        → SpellsBefore explore.now.opening.table explore.now.opening.settings explore.now.journal lines) }
 {
     let table = explore.table();
     look_at_attributes(table);
@@ -35,7 +37,8 @@ pub fn explore_text(alloc: Global, explore: &Explore) -> Result<Vec<u8>, Memory>
 
 /// Appends the transcript and the results.
 fn write_exploration(alloc: Global, draft: &mut Draft, explore: &Explore) -> Result<(), Memory>
-    ensures { OnOk result (draft.new ≡ draft.old ++ explore_text explore.now.opening.table explore.now.opening.settings explore.now.journal) }
+    ensures { OnOk result (draft.new ≡ draft.old
+        ++ explore_text explore.now.opening.table explore.now.opening.settings explore.now.journal) }
 {
     let table = explore.table();
     write_transcript(draft, table, explore.settings(), explore.journal())?;

@@ -26,7 +26,8 @@ pub fn explore_pieces<R: Threads>(
     ensures text { IfOk result (λ pieces. flat_map (λ piece. piece.items) pieces.items
         ≡ explore_text explore.now.opening.table explore.now.opening.settings explore.now.journal) }
     ensures reads_back { OnOk result ((lines : List Text) → are_lines lines ≡ true
-        → SettingsCanBeWritten explore.now.opening.table.context.width explore.now.opening.settings → SpellsBefore explore.now.opening.table explore.now.opening.settings explore.now.journal lines) }
+        → SettingsCanBeWritten explore.now.opening.table.context.width explore.now.opening.settings
+        → SpellsBefore explore.now.opening.table explore.now.opening.settings explore.now.journal lines) }
 {
     look_at_attributes(explore.table());
     look_at_rows(explore.journal());

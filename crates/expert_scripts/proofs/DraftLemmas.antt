@@ -1,6 +1,7 @@
 -- Texts that are appended to a draft, one after the other. `Drafting` says how far a text is appended: the done part was appended, and
 -- with the rest it is the whole. If a call fails, what it appended is a front of the whole.
-use Rattle.std.proofs.Common.{◌≡◌, ◌≤◌, ◌<◌, ℕ, suc, List, [], ◌∷◌, ◌++◌, length, drop, get_or, Some, refl, sym, ap, ◌∙◌, append_assoc, append-nil, subst}
+use Rattle.std.proofs.Common.{◌≡◌, ◌≤◌, ◌<◌, ℕ, suc, List, [], ◌∷◌, ◌++◌, length, drop, get_or, Some, refl, sym, ap, ◌∙◌, append_assoc}
+use Rattle.std.proofs.Common.{append-nil, subst}
 use Rattle.std.proofs.Math.Seq.{drop-cons}
 use Rattle.std.proofs.Math.ListN.{drop_of_length-le}
 use Rattle.fca_io.specs.Transfers.{AppendsFront}
@@ -26,11 +27,13 @@ Drafting-more {a} s rest x e = record {
   split = append_assoc x.done s rest ∙ x.split;
 }
 
-pub Drafting-fault : {a b c whole : Text} (s rest : Text) → Drafting a b whole (s ++ rest) → AppendsFront (Some b) (Some c) s → AppendsFront (Some a) (Some c) whole
+pub Drafting-fault : {a b c whole : Text} (s rest : Text) → Drafting a b whole (s ++ rest) → AppendsFront (Some b) (Some c) s
+    → AppendsFront (Some a) (Some c) whole
 Drafting-fault {a} s rest x y = record {
   front = x.done ++ y.front;
   rest = y.rest ++ rest;
-  whole = sym x.split ∙ ap (λ z. x.done ++ (z ++ rest)) y.whole ∙ ap (λ z. x.done ++ z) (append_assoc y.front y.rest rest) ∙ sym (append_assoc x.done y.front (y.rest ++ rest));
+  whole = sym x.split ∙ ap (λ z. x.done ++ (z ++ rest)) y.whole ∙ ap (λ z. x.done ++ z) (append_assoc y.front y.rest rest)
+      ∙ sym (append_assoc x.done y.front (y.rest ++ rest));
   gained = y.gained ∙ ap (λ z. z ++ y.front) x.added ∙ append_assoc a x.done y.front;
 }
 
@@ -38,7 +41,8 @@ pub Drafting-end : {a b whole : Text} → Drafting a b whole [] → b ≡ a ++ w
 Drafting-end {a} x = x.added ∙ ap (λ z. a ++ z) (sym (append-nil x.done) ∙ x.split)
 
 -- what is appended last
-pub Drafting-last : {a b c whole : Text} (s : Text) → Drafting a b whole s → AppendsFront (Some b) (Some c) s → AppendsFront (Some a) (Some c) whole
+pub Drafting-last : {a b c whole : Text} (s : Text) → Drafting a b whole s → AppendsFront (Some b) (Some c) s
+    → AppendsFront (Some a) (Some c) whole
 Drafting-last s x y = Drafting-fault s [] (Drafting-equal (sym (append-nil s)) x) y
 
 -- a text that was appended

@@ -1,5 +1,6 @@
 -- The line of an event is read back as this event, if its expert, the width of its row and the name are valid.
-use Rattle.std.proofs.Common.{◌≡◌, ◌<◌, ◌≤◌, ℕ, ◌^◌, true, false, cond, ◌∷◌, ◌++◌, length, Ok, Err, refl, ap, ap₂, ◌∙◌, subst, arith, ltb, append_assoc}
+use Rattle.std.proofs.Common.{◌≡◌, ◌<◌, ◌≤◌, ℕ, ◌^◌, true, false, cond, ◌∷◌, ◌++◌, length, Ok, Err, refl, ap, ap₂, ◌∙◌, subst, arith, ltb}
+use Rattle.std.proofs.Common.{append_assoc}
 use Rattle.std.specs.Prelude.{codes, decimal, IsUtf8, nat_le, ◌==◌}
 use Rattle.std.specs.List.{list_any, list_all}
 use Rattle.std.proofs.lemmas.Bool.{and_parts, leb-true}
@@ -48,25 +49,31 @@ of_verb : (n k : ℕ) (verb text : Text) → list_any is_space verb ≡ false �
     → event_of n k (verb ++ (32 ∷ text)) ≡ event_of_words n k verb text
 of_verb n k verb text one ascii utf8 =
     let line = verb ++ (32 ∷ text) in
-    ap (λ b. cond b (event_of_words n k (first_word line) (later_words line)) (Err (BadLine k))) (is_utf8-from_IsUtf8 line (utf8_verb verb text ascii utf8))
+    ap (λ b. cond b (event_of_words n k (first_word line) (later_words line)) (Err (BadLine k)))
+    (is_utf8-from_IsUtf8 line (utf8_verb verb text ascii utf8))
     ∙ ap₂ (event_of_words n k) (before_first-at is_space verb 32 text one refl) (after_first-at is_space verb 32 text one refl)
 
 row_event-written : (n k e : ℕ) (r : Set) (name : Text) → is_expert e ≡ true → (length r == n) ≡ true → IsName name
     → row_event n k (decimal e ++ (32 ∷ (pattern r ++ (32 ∷ name)))) ≡ Ok (Row e name r)
 row_event-written n k e r name expert wide named =
     let rest = pattern r ++ (32 ∷ name) in
-    ap₂ (λ w t. row_by k (expert_in k w) (named_row n t)) (before_first-at is_space (decimal e) 32 rest (decimal_no_space e) refl) (after_first-at is_space (decimal e) 32 rest (decimal_no_space e) refl)
+    ap₂ (λ w t. row_by k (expert_in k w) (named_row n t)) (before_first-at is_space (decimal e) 32 rest (decimal_no_space e) refl)
+    (after_first-at is_space (decimal e) 32 rest (decimal_no_space e) refl)
     ∙ ap₂ (row_by k) (expert_in-decimal k e expert) (named_row-written n r name wide named)
 
 utf8_row : (e : ℕ) (r : Set) (name : Text) → IsName name → IsUtf8 (decimal e ++ (32 ∷ (pattern r ++ (32 ∷ name))))
 utf8_row e r name named =
     IsUtf8-append (decimal e) (32 ∷ (pattern r ++ (32 ∷ name))) (utf8_decimal e)
-    (utf8_space (pattern r ++ (32 ∷ name)) (IsUtf8-append (pattern r) (32 ∷ name) (IsUtf8-from_ascii (pattern r) (ascii_pattern r)) (utf8_space name named.utf8)))
+    (utf8_space (pattern r ++ (32 ∷ name)) (IsUtf8-append (pattern r) (32 ∷ name) (IsUtf8-from_ascii (pattern r) (ascii_pattern r))
+    (utf8_space name named.utf8)))
 
 pub event_of-event_text : (n k : ℕ) (event : SetEvent) → EventCanBeWritten n event → event_of n k (event_text event) ≡ Ok event
-event_of-event_text n k (Draw e) h = of_verb n k (codes "draw") (decimal e) refl refl (utf8_decimal e) ∙ ap (event_by Draw) (expert_in-decimal k e h.expert)
-event_of-event_text n k (Confirm e) h = of_verb n k (codes "confirm") (decimal e) refl refl (utf8_decimal e) ∙ ap (event_by Confirm) (expert_in-decimal k e h.expert)
-event_of-event_text n k (Leave e) h = of_verb n k (codes "leave") (decimal e) refl refl (utf8_decimal e) ∙ ap (event_by Leave) (expert_in-decimal k e h.expert)
+event_of-event_text n k (Draw e) h = of_verb n k (codes "draw") (decimal e) refl refl (utf8_decimal e)
+    ∙ ap (event_by Draw) (expert_in-decimal k e h.expert)
+event_of-event_text n k (Confirm e) h = of_verb n k (codes "confirm") (decimal e) refl refl (utf8_decimal e)
+    ∙ ap (event_by Confirm) (expert_in-decimal k e h.expert)
+event_of-event_text n k (Leave e) h = of_verb n k (codes "leave") (decimal e) refl refl (utf8_decimal e)
+    ∙ ap (event_by Leave) (expert_in-decimal k e h.expert)
 event_of-event_text n k (Row e name r) h =
     of_verb n k (codes "row") (decimal e ++ (32 ∷ (pattern r ++ (32 ∷ name)))) refl refl (utf8_row e r name h.named)
     ∙ row_event-written n k e r name h.expert h.wide h.named

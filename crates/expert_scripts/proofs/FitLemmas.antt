@@ -1,6 +1,7 @@
 -- The content of a script can be written. Each event is of an expert, and its row has the width. The settings have a valid number of
 -- holders, implications of the width, and valid names. That holds of each line, case by case, and so of the script.
-use Rattle.std.proofs.Common.{◌≡◌, ◌==◌, ◌&&◌, ◌<◌, ◌≤◌, ◌+◌, ℕ, Bool, true, false, cond, List, [], ◌∷◌, ◌++◌, map, length, get_or, Option, Some, None, Result, Ok, Err, refl, sym, ◌∙◌, subst, inl, inr, arith, nat_le}
+use Rattle.std.proofs.Common.{◌≡◌, ◌==◌, ◌&&◌, ◌<◌, ◌≤◌, ◌+◌, ℕ, Bool, true, false, cond, List, [], ◌∷◌, ◌++◌, map, length, get_or}
+use Rattle.std.proofs.Common.{Option, Some, None, Result, Ok, Err, refl, sym, ◌∙◌, subst, inl, inr, arith, nat_le}
 use Rattle.std.specs.Prelude.{IsUtf8, is_none, bytes_eq}
 use Rattle.std.specs.Ordering.{nat_cmp}
 use Rattle.std.specs.BTreeMap.{insert_entry}
@@ -34,7 +35,10 @@ use Rattle.expert_scripts.specs.declared.known_fault.KnownFault.TheVariants.{Bad
 use Rattle.expert_scripts.specs.Known.{rule_of_width, known_rule, with_first, all_ok}
 use Rattle.expert_scripts.specs.declared.fault.ScriptFault.{ScriptFault}
 use Rattle.expert_scripts.specs.declared.fault.ScriptFault.TheVariants.{BadLine, BadExpert, BadHolders}
-use Rattle.expert_scripts.specs.Scripts.{ScriptContent, PartialSettings, no_settings, whole_settings, may_apply, expert_in, event_by, row_by, event_of, events_of_lines, with_holders, with_holders_word, with_name, with_name_words, with_rule, setting_of_words, setting_of, script_content, by_setting, settings_then_events, content_of_lines, second_heading, script_form}
+use Rattle.expert_scripts.specs.Scripts.{ScriptContent, PartialSettings, no_settings, whole_settings, may_apply, expert_in, event_by}
+use Rattle.expert_scripts.specs.Scripts.{row_by, event_of, events_of_lines, with_holders, with_holders_word, with_name, with_name_words}
+use Rattle.expert_scripts.specs.Scripts.{with_rule, setting_of_words, setting_of, script_content, by_setting, settings_then_events}
+use Rattle.expert_scripts.specs.Scripts.{content_of_lines, second_heading, script_form}
 use Rattle.expert_scripts.specs.Transcripts.{SettingsCanBeWritten}
 use Rattle.expert_scripts.proofs.NamedLemmas.{named-insert}
 
@@ -68,7 +72,8 @@ expert_by false b v f g h e q = cc
 expert_in-expert : (k : ℕ) (word : Text) → IsExperts (expert_in k word)
 expert_in-expert k word = expert_by (is_numeral word) (is_expert (value_of word)) (value_of word) (BadExpert k) (BadLine k) refl
 
-event_by-fits : (n : ℕ) (event : ℕ → SetEvent) → ((e : ℕ) → is_expert e ≡ true → may_apply n (event e) ≡ true) → (r : Result ℕ ScriptFault) → IsExperts r → Fits n (event_by event r)
+event_by-fits : (n : ℕ) (event : ℕ → SetEvent) → ((e : ℕ) → is_expert e ≡ true → may_apply n (event e) ≡ true) → (r : Result ℕ ScriptFault)
+    → IsExperts r → Fits n (event_by event r)
 unfolding IsExperts
 event_by-fits n event good (Ok e) h = Fits-ok n (event e) (good e (h e refl))
 event_by-fits n event good (Err fault) h = Fits-err n fault
@@ -78,7 +83,8 @@ IsWide n r = (x : Text × Set) → r ≡ Ok x → (length x.1 == n) ≡ true
 
 wide_by : (n : ℕ) (b : Bool) (name : Text) (row : Set) → (length row == n) ≡ b → IsWide n (cond b (Ok (name, row)) (Err Width))
 unfolding IsWide
-wide_by n true name row h x q = let same : (name, row) ≡ x = cc in let P : Text × Set → Type 0 = λ y. (length y.1 == n) ≡ true in subst P same h
+wide_by n true name row h x q = let same : (name, row) ≡ x = cc in let P : Text × Set → Type 0 = λ y. (length y.1 == n) ≡ true in
+    subst P same h
 wide_by n false name row h x q = cc
 
 row_of_width-wide : (n : ℕ) (name : Text) (row : Option Set) → IsWide n (row_of_width n name row)
@@ -123,21 +129,26 @@ AllFit n r = (events : List SetEvent) → r ≡ Ok events → list_all (may_appl
 
 AllFit-ok : (n : ℕ) (events : List SetEvent) → list_all (may_apply n) events ≡ true → AllFit n (Ok events)
 unfolding AllFit
-AllFit-ok n events may other e = let same : events ≡ other = cc in let P : List SetEvent → Type 0 = λ l. list_all (may_apply n) l ≡ true in subst P same may
+AllFit-ok n events may other e = let same : events ≡ other = cc in let P : List SetEvent → Type 0 = λ l. list_all (may_apply n) l ≡ true in
+    subst P same may
 
-first-fit : (n : ℕ) (event : SetEvent) (r : Result (List SetEvent) ScriptFault) → may_apply n event ≡ true → AllFit n r → AllFit n (with_first event r)
+first-fit : (n : ℕ) (event : SetEvent) (r : Result (List SetEvent) ScriptFault) → may_apply n event ≡ true → AllFit n r
+    → AllFit n (with_first event r)
 unfolding AllFit
-first-fit n event (Ok events) may h = AllFit-ok n (event ∷ events) (and_from (may_apply n event) (list_all (may_apply n) events) may (h events refl))
+first-fit n event (Ok events) may h = AllFit-ok n (event ∷ events)
+    (and_from (may_apply n event) (list_all (may_apply n) events) may (h events refl))
 first-fit n event (Err fault) may h = λ events e. cc
 
-all_ok-fit : (n : ℕ) (r : Result SetEvent ScriptFault) (rs : List (Result SetEvent ScriptFault)) → Fits n r → AllFit n (all_ok rs) → AllFit n (all_ok (r ∷ rs))
+all_ok-fit : (n : ℕ) (r : Result SetEvent ScriptFault) (rs : List (Result SetEvent ScriptFault)) → Fits n r → AllFit n (all_ok rs)
+    → AllFit n (all_ok (r ∷ rs))
 unfolding Fits AllFit
 all_ok-fit n (Ok event) rs h k = first-fit n event (all_ok rs) (h event refl) k
 all_ok-fit n (Err fault) rs h k = λ events e. cc
 
 events_of_lines-fit : (n : ℕ) (said : List (ℕ × Text)) → AllFit n (events_of_lines n said)
 events_of_lines-fit n [] = AllFit-ok n [] refl
-events_of_lines-fit n (l ∷ said) = all_ok-fit n (event_of n l.0 l.1) (map (λ (l : ℕ × Text). event_of n l.0 l.1) said) (event_of-fits n l.0 l.1) (events_of_lines-fit n said)
+events_of_lines-fit n (l ∷ said) = all_ok-fit n (event_of n l.0 l.1) (map (λ (l : ℕ × Text). event_of n l.0 l.1) said)
+    (event_of-fits n l.0 l.1) (events_of_lines-fit n said)
 
 -- ---- lines of settings
 
@@ -147,22 +158,27 @@ Tells n r = (t : PartialSettings) → r ≡ Ok t → SettingsCanBeWritten n (who
 
 Tells-ok : (n : ℕ) (t : PartialSettings) → SettingsCanBeWritten n (whole_settings t) → Tells n (Ok t)
 unfolding Tells
-Tells-ok n t can other e = let same : t ≡ other = cc in let P : PartialSettings → Type 0 = λ x. SettingsCanBeWritten n (whole_settings x) in subst P same can
+Tells-ok n t can other e = let same : t ≡ other = cc in let P : PartialSettings → Type 0 = λ x. SettingsCanBeWritten n (whole_settings x) in
+    subst P same can
 
 Tells-err : (n : ℕ) (fault : ScriptFault) → Tells n (Err fault)
 unfolding Tells
 Tells-err n fault t e = cc
 
 -- an answer that is given only if the test passes
-Tells-if : (n : ℕ) (b : Bool) (r : Result PartialSettings ScriptFault) (fault : ScriptFault) → (b ≡ true → Tells n r) → Tells n (cond b r (Err fault))
+Tells-if : (n : ℕ) (b : Bool) (r : Result PartialSettings ScriptFault) (fault : ScriptFault) → (b ≡ true → Tells n r)
+    → Tells n (cond b r (Err fault))
 Tells-if n true r fault h = h refl
 Tells-if n false r fault h = Tells-err n fault
 
-with_holders_word-fit : (n k : ℕ) (t : PartialSettings) (word : Text) → SettingsCanBeWritten n (whole_settings t) → Tells n (with_holders_word k t word)
+with_holders_word-fit : (n k : ℕ) (t : PartialSettings) (word : Text) → SettingsCanBeWritten n (whole_settings t)
+    → Tells n (with_holders_word k t word)
 with_holders_word-fit n k t word can =
     let h = value_of word in
-    Tells-if n (is_numeral word) (with_holders k t h) (BadLine k) (λ numeral. Tells-if n (is_expert h && is_none t.holders) (Ok (record t { holders = Some h })) (BadHolders k)
-    (λ once. Tells-ok n (record t { holders = Some h }) (record { holders = (and_parts (is_expert h) (is_none t.holders) once).0; known = can.known; names = can.names })))
+    Tells-if n (is_numeral word) (with_holders k t h) (BadLine k)
+    (λ numeral. Tells-if n (is_expert h && is_none t.holders) (Ok (record t { holders = Some h })) (BadHolders k)
+    (λ once. Tells-ok n (record t { holders = Some h })
+    (record { holders = (and_parts (is_expert h) (is_none t.holders) once).0; known = can.known; names = can.names })))
 
 -- the words after a space are UTF-8 if the whole is
 pub utf8_later : (text : Text) → IsUtf8 text → IsUtf8 (later_words text)
@@ -180,7 +196,8 @@ no_fault : (o : Option NameFault) → is_none o ≡ true → o ≡ None
 no_fault None h = refl
 no_fault (Some fault) h = cc
 
-with_name_words-fit : (n k : ℕ) (t : PartialSettings) (words : Text) → IsUtf8 words → SettingsCanBeWritten n (whole_settings t) → Tells n (with_name_words k t words)
+with_name_words-fit : (n k : ℕ) (t : PartialSettings) (words : Text) → IsUtf8 words → SettingsCanBeWritten n (whole_settings t)
+    → Tells n (with_name_words k t words)
 with_name_words-fit n k t words utf8 can =
     let e = value_of (first_word words) in
     let name = later_words words in
@@ -191,15 +208,22 @@ with_name_words-fit n k t words utf8 can =
     let expert = and_parts (nat_le 1 e) (nat_le e MAX_EXPERTS) (and_parts (is_expert e) (is_none (name_of e t.expert_names)) once).0 in
     let first : 1 ≤ e = leb-true 1 e expert.0 in
     let last : e ≤ MAX_EXPERTS = leb-true e MAX_EXPERTS expert.1 in
-    let faultless : name_fault name ≡ None = no_fault (name_fault name) (and_parts (is_numeral (first_word words)) (is_name name) shaped).1 in
+    let faultless : name_fault name ≡ None = no_fault (name_fault name)
+    (and_parts (is_numeral (first_word words)) (is_name name) shaped).1 in
     let is : IsName name = record { faultless = faultless; utf8 = utf8_later words utf8 } in
-    Tells-ok n (record t { expert_names = named }) (record { holders = can.holders; known = can.known; names = named-insert 0 e name t.expert_names (omega arith) last is can.names })))
+    Tells-ok n (record t { expert_names = named })
+    (record {
+      holders = can.holders;
+      known = can.known;
+      names = named-insert 0 e name t.expert_names (omega arith) last is can.names;
+    })))
 
 -- a line of a known file gives an implication of the width
 IsWideRule : ℕ → Result Rule KnownFault → Type 0
 IsWideRule n r = (i : Rule) → r ≡ Ok i → has_width n i ≡ true
 
-wide_rule_by : (n k : ℕ) (P C : Set) (b : Bool) → ((length P == n) && (length C == n)) ≡ b → IsWideRule n (cond b (Ok (rule P C)) (Err (WrongWidth k)))
+wide_rule_by : (n k : ℕ) (P C : Set) (b : Bool) → ((length P == n) && (length C == n)) ≡ b
+    → IsWideRule n (cond b (Ok (rule P C)) (Err (WrongWidth k)))
 unfolding IsWideRule
 wide_rule_by n k P C true h i e = let same : rule P C ≡ i = cc in let Q : Rule → Type 0 = λ x. has_width n x ≡ true in subst Q same h
 wide_rule_by n k P C false h i e = cc
@@ -210,13 +234,15 @@ rule_of_width-wide n k None conclusion i e = cc
 rule_of_width-wide n k (Some P) None i e = cc
 rule_of_width-wide n k (Some P) (Some C) i e = wide_rule_by n k P C ((length P == n) && (length C == n)) refl i e
 
-with_rule-fit : (n : ℕ) (t : PartialSettings) (r : Result Rule KnownFault) → IsWideRule n r → SettingsCanBeWritten n (whole_settings t) → Tells n (with_rule t r)
+with_rule-fit : (n : ℕ) (t : PartialSettings) (r : Result Rule KnownFault) → IsWideRule n r → SettingsCanBeWritten n (whole_settings t)
+    → Tells n (with_rule t r)
 unfolding IsWideRule
 with_rule-fit n t (Err fault) wide can = Tells-err n _
 with_rule-fit n t (Ok i) wide can =
     Tells-ok n (record t { known = t.known ++ i ∷ [] }) (record {
       holders = can.holders;
-      known = list_all-append (has_width n) t.known (i ∷ []) ∙ and_from (list_all (has_width n) t.known) (has_width n i && true) can.known (and_from (has_width n i) true (wide i refl) refl);
+      known = list_all-append (has_width n) t.known (i ∷ [])
+          ∙ and_from (list_all (has_width n) t.known) (has_width n i && true) can.known (and_from (has_width n i) true (wide i refl) refl);
       names = can.names;
     })
 
@@ -236,14 +262,16 @@ MayTell-cond : (n : ℕ) (b : Bool) (o p : Option (Result PartialSettings Script
 MayTell-cond n true o p h k = h
 MayTell-cond n false o p h k = k
 
-setting_of_words-fit : (n k : ℕ) (t : PartialSettings) (verb words : Text) → IsUtf8 words → SettingsCanBeWritten n (whole_settings t) → MayTell n (setting_of_words n k t verb words)
+setting_of_words-fit : (n k : ℕ) (t : PartialSettings) (verb words : Text) → IsUtf8 words → SettingsCanBeWritten n (whole_settings t)
+    → MayTell n (setting_of_words n k t verb words)
 setting_of_words-fit n k t verb words utf8 can =
     let wide = rule_of_width-wide n k (set_of_pattern (first_word words)) (set_of_pattern (first_word (later_words words))) in
     MayTell-cond n _ _ _ (MayTell-some n _ (with_holders_word-fit n k t words can))
     (MayTell-cond n _ _ _ (MayTell-some n _ (with_name_words-fit n k t words utf8 can))
     (MayTell-cond n _ _ _ (MayTell-some n _ (with_rule-fit n t (known_rule n k words) wide can)) (MayTell-none n)))
 
-setting_of-fit : (n k : ℕ) (t : PartialSettings) (line : Text) → SettingsCanBeWritten n (whole_settings t) → MayTell n (setting_of n k t line)
+setting_of-fit : (n k : ℕ) (t : PartialSettings) (line : Text) → SettingsCanBeWritten n (whole_settings t)
+    → MayTell n (setting_of n k t line)
 setting_of-fit n k t line can = by (is_utf8 line) refl
   where
     by : (b : Bool) → is_utf8 line ≡ b → MayTell n (cond b (setting_of_words n k t (first_word line) (later_words line)) None)
@@ -272,29 +300,39 @@ AreFine-cond : (n : ℕ) (b : Bool) (r s : Result ScriptContent ScriptFault) →
 AreFine-cond n true r s h k = h
 AreFine-cond n false r s h k = k
 
-script_content-fine : (n : ℕ) (t : PartialSettings) (second : Option ℕ) (r : Result (List SetEvent) ScriptFault) → SettingsCanBeWritten n (whole_settings t) → AllFit n r → AreFine n (script_content t second r)
+script_content-fine : (n : ℕ) (t : PartialSettings) (second : Option ℕ) (r : Result (List SetEvent) ScriptFault)
+    → SettingsCanBeWritten n (whole_settings t) → AllFit n r → AreFine n (script_content t second r)
 unfolding AllFit
-script_content-fine n t second (Ok events) can fit = AreFine-ok n (record { settings = whole_settings t; events = events; second = second }) (record { writable = can; fits = fit events refl })
+script_content-fine n t second (Ok events) can fit =
+    AreFine-ok n (record { settings = whole_settings t; events = events; second = second })
+    (record { writable = can; fits = fit events refl })
 script_content-fine n t second (Err fault) can fit = AreFine-err n fault
 
-by_setting-fine : (n : ℕ) (o : Option (Result PartialSettings ScriptFault)) (later : PartialSettings → Result ScriptContent ScriptFault) (otherwise : Result ScriptContent ScriptFault)
-    → MayTell n o → ((t : PartialSettings) → SettingsCanBeWritten n (whole_settings t) → AreFine n (later t)) → AreFine n otherwise → AreFine n (by_setting o later otherwise)
+by_setting-fine : (n : ℕ) (o : Option (Result PartialSettings ScriptFault)) (later : PartialSettings → Result ScriptContent ScriptFault)
+    (otherwise : Result ScriptContent ScriptFault)
+    → MayTell n o → ((t : PartialSettings) → SettingsCanBeWritten n (whole_settings t) → AreFine n (later t)) → AreFine n otherwise
+    → AreFine n (by_setting o later otherwise)
 unfolding MayTell
 by_setting-fine n None later otherwise h f g = g
 by_setting-fine n (Some (Ok t)) later otherwise h f g = f t (h t refl)
 by_setting-fine n (Some (Err fault)) later otherwise h f g = AreFine-err n fault
 
-settings_then_events-fine : (n second : ℕ) (ls : List (ℕ × Text)) (t : PartialSettings) → SettingsCanBeWritten n (whole_settings t) → AreFine n (settings_then_events n t second ls)
+settings_then_events-fine : (n second : ℕ) (ls : List (ℕ × Text)) (t : PartialSettings) → SettingsCanBeWritten n (whole_settings t)
+    → AreFine n (settings_then_events n t second ls)
 settings_then_events-fine n second [] t can = script_content-fine n t (Some second) (Ok []) can (AllFit-ok n [] refl)
 settings_then_events-fine n second (l ∷ ls) t can =
-    by_setting-fine n (setting_of n l.0 t l.1) (λ later. settings_then_events n later second ls) (script_content t (Some second) (events_of_lines n (l ∷ ls))) (setting_of-fit n l.0 t l.1 can)
-    (λ later h. settings_then_events-fine n second ls later h) (script_content-fine n t (Some second) (events_of_lines n (l ∷ ls)) can (events_of_lines-fit n (l ∷ ls)))
+    by_setting-fine n (setting_of n l.0 t l.1) (λ later. settings_then_events n later second ls)
+    (script_content t (Some second) (events_of_lines n (l ∷ ls))) (setting_of-fit n l.0 t l.1 can)
+    (λ later h. settings_then_events-fine n second ls later h)
+    (script_content-fine n t (Some second) (events_of_lines n (l ∷ ls)) can (events_of_lines-fit n (l ∷ ls)))
 
-content_of_lines-fine : (n : ℕ) (t : PartialSettings) (ls : List (ℕ × Text)) → SettingsCanBeWritten n (whole_settings t) → AreFine n (content_of_lines n t ls)
+content_of_lines-fine : (n : ℕ) (t : PartialSettings) (ls : List (ℕ × Text)) → SettingsCanBeWritten n (whole_settings t)
+    → AreFine n (content_of_lines n t ls)
 content_of_lines-fine n t [] can = script_content-fine n t None (Ok []) can (AllFit-ok n [] refl)
 content_of_lines-fine n t (l ∷ ls) can =
     AreFine-cond n (bytes_eq l.1 heading) _ _ (script_content-fine n t None (events_of_lines n ls) can (events_of_lines-fit n ls))
-    (AreFine-cond n (bytes_eq l.1 second_heading) _ _ (settings_then_events-fine n l.0 ls t can) (script_content-fine n t None (events_of_lines n (l ∷ ls)) can (events_of_lines-fit n (l ∷ ls))))
+    (AreFine-cond n (bytes_eq l.1 second_heading) _ _ (settings_then_events-fine n l.0 ls t can)
+    (script_content-fine n t None (events_of_lines n (l ∷ ls)) can (events_of_lines-fit n (l ∷ ls))))
 
 pub nothing-fine : (n : ℕ) → SettingsCanBeWritten n (whole_settings no_settings)
 nothing-fine n = record { holders = refl; known = refl; names = tt }

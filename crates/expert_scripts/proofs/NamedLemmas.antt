@@ -1,6 +1,7 @@
--- Names of experts in ascending order of their numbers. A new name takes its place, and one whose number is above all others is last.
--- The lines of all experts are those of the names in order.
-use Rattle.std.proofs.Common.{◌≡◌, ◌<◌, ◌≤◌, ℕ, zero, suc, ◌+◌, cond, List, [], ◌∷◌, ◌++◌, Some, None, refl, ap, ap₂, sym, ◌∙◌, subst, arith, inl, inr, ◌-◌, Ordering, Less, Equal, Greater}
+-- Names of experts in ascending order of their numbers. A new name takes its place, and one whose number is above all others is last. The
+-- lines of all experts are those of the names in order.
+use Rattle.std.proofs.Common.{◌≡◌, ◌<◌, ◌≤◌, ℕ, zero, suc, ◌+◌, cond, List, [], ◌∷◌, ◌++◌, Some, None, refl, ap, ap₂, sym, ◌∙◌, subst}
+use Rattle.std.proofs.Common.{arith, inl, inr, ◌-◌, Ordering, Less, Equal, Greater}
 use Rattle.std.specs.Prelude.{⊤}
 use Rattle.std.specs.Ordering.{nat_cmp, is_eq, match_ordering, MatchOrdering}
 use Rattle.std.specs.Cmp.{nat_cmp_is}
@@ -17,17 +18,20 @@ use Rattle.expert_scripts.specs.Transcripts.{AreExpertNames, name_line, name_lin
 
 -- ---- one name more
 
-placed : (low e : ℕ) (name : RowName) (x : ℕ × RowName) (xs later : List (ℕ × RowName)) → low < e → e ≤ MAX_EXPERTS → IsName name → AreExpertNames low (x ∷ xs)
+placed : (low e : ℕ) (name : RowName) (x : ℕ × RowName) (xs later : List (ℕ × RowName)) → low < e → e ≤ MAX_EXPERTS → IsName name
+    → AreExpertNames low (x ∷ xs)
     → (x.0 < e → AreExpertNames x.0 later) → (o : Ordering) → MatchOrdering o (e < x.0) (e ≡ x.0) (x.0 < e)
     → AreExpertNames low (match_ordering o ((e, name) ∷ x ∷ xs) ((x.0, name) ∷ xs) (x ∷ later))
 placed low e name x xs later l m h a f Less lt = (l, m, h, (lt, a.1, a.2, a.3))
 placed low e name x xs later l m h a f Equal eq = (a.0, a.1, h, a.3)
 placed low e name x xs later l m h a f Greater gt = (a.0, a.1, a.2, f gt)
 
-pub named-insert : (low e : ℕ) (name : RowName) (xs : List (ℕ × RowName)) → low < e → e ≤ MAX_EXPERTS → IsName name → AreExpertNames low xs → AreExpertNames low (insert_entry nat_cmp xs e name)
+pub named-insert : (low e : ℕ) (name : RowName) (xs : List (ℕ × RowName)) → low < e → e ≤ MAX_EXPERTS → IsName name → AreExpertNames low xs
+    → AreExpertNames low (insert_entry nat_cmp xs e name)
 named-insert low e name [] l m h a = (l, m, h, tt)
 named-insert low e name (x ∷ xs) l m h a =
-    placed low e name x xs (insert_entry nat_cmp xs e name) l m h a (λ gt. named-insert x.0 e name xs gt m h a.3) (nat_cmp e x.0) (ranked e x.0 (nat_cmp e x.0) refl)
+    placed low e name x xs (insert_entry nat_cmp xs e name) l m h a (λ gt. named-insert x.0 e name xs gt m h a.3) (nat_cmp e x.0)
+    (ranked e x.0 (nat_cmp e x.0) refl)
 
 -- ---- names that stand below a number
 
@@ -46,7 +50,8 @@ unnamed e (x ∷ xs) h = ap (λ o. cond (is_eq o) (Some x.1) (name_of e xs)) (sy
 pub insert-last : (e : ℕ) (name : RowName) (xs : List (ℕ × RowName)) → AreBelow e xs → insert_entry nat_cmp xs e name ≡ xs ++ (e, name) ∷ []
 insert-last e name [] h = refl
 insert-last e name (x ∷ xs) h =
-    ap (λ o. match_ordering o ((e, name) ∷ x ∷ xs) ((x.0, name) ∷ xs) (x ∷ insert_entry nat_cmp xs e name)) (sym (nat_cmp_is e x.0 Greater h.0))
+    ap (λ o. match_ordering o ((e, name) ∷ x ∷ xs) ((x.0, name) ∷ xs) (x ∷ insert_entry nat_cmp xs e name))
+    (sym (nat_cmp_is e x.0 Greater h.0))
     ∙ ap (λ l. x ∷ l) (insert-last e name xs h.1)
 
 pub below-push : (a b : ℕ) (name : RowName) (xs : List (ℕ × RowName)) → a < b → AreBelow a xs → AreBelow b (xs ++ (a, name) ∷ [])
@@ -68,25 +73,31 @@ named-first x xs e h = ap (λ o. cond (is_eq o) (Some x.1) (name_of e xs)) (sym 
 named-later : (x : ℕ × RowName) (xs : List (ℕ × RowName)) (e : ℕ) → x.0 < e → name_of e (x ∷ xs) ≡ name_of e xs
 named-later x xs e h = ap (λ o. cond (is_eq o) (Some x.1) (name_of e xs)) (sym (nat_cmp_is e x.0 Greater h))
 
-lines-later : (x : ℕ × RowName) (xs : List (ℕ × RowName)) (e count : ℕ) → x.0 < e → name_lines_from (x ∷ xs) e count ≡ name_lines_from xs e count
+lines-later : (x : ℕ × RowName) (xs : List (ℕ × RowName)) (e count : ℕ) → x.0 < e
+    → name_lines_from (x ∷ xs) e count ≡ name_lines_from xs e count
 lines-later x xs e zero h = refl
 lines-later x xs e (suc count) h =
     let next : x.0 < e + 1 = omega arith in
     ap₂ (λ o l. name_line_at e o ++ l) (named-later x xs e h) (lines-later x xs (e + 1) count next)
 
-pub lines-listed : (count low : ℕ) (xs : List (ℕ × RowName)) → low + count ≡ MAX_EXPERTS → AreExpertNames low xs → name_lines_from xs (low + 1) count ≡ flat_map name_line xs
+pub lines-listed : (count low : ℕ) (xs : List (ℕ × RowName)) → low + count ≡ MAX_EXPERTS → AreExpertNames low xs
+    → name_lines_from xs (low + 1) count ≡ flat_map name_line xs
 lines-listed zero low [] h a = refl
 lines-listed zero low (x ∷ xs) h a = absurd (let first = a.0 in let last = a.1 in omega arith)
 lines-listed (suc count) low [] h a = lines-listed count (low + 1) [] (omega arith) tt
 lines-listed (suc count) low (x ∷ xs) h a = elim (cases_lt (low + 1) x.0) [
   | inl lt ↦
       let none : low + 1 ≤ x.0 = omega arith in
-      ap (λ o. name_line_at (low + 1) o ++ name_lines_from (x ∷ xs) (low + 1 + 1) count) (ap (λ o. cond (is_eq o) (Some x.1) (name_of (low + 1) xs)) (sym (nat_cmp_is (low + 1) x.0 Less lt)) ∙ unnamed-above x.0 (low + 1) xs none a.3)
+      ap (λ o. name_line_at (low + 1) o ++ name_lines_from (x ∷ xs) (low + 1 + 1) count)
+      (ap (λ o. cond (is_eq o) (Some x.1) (name_of (low + 1) xs)) (sym (nat_cmp_is (low + 1) x.0 Less lt))
+      ∙ unnamed-above x.0 (low + 1) xs none a.3)
       ∙ lines-listed count (low + 1) (x ∷ xs) (omega arith) (lt, a.1, a.2, a.3)
   | inr le ↦
       let same : low + 1 ≡ x.0 = let first = a.0 in omega arith in
       let above : x.0 < low + 1 + 1 = omega arith in
-      ap₂ (λ o l. name_line_at (low + 1) o ++ l) (named-first x xs (low + 1) same) (lines-later x xs (low + 1 + 1) count above ∙ lines-listed count (low + 1) xs (omega arith) (subst (λ e. AreExpertNames e xs) (sym same) a.3))
+      ap₂ (λ o l. name_line_at (low + 1) o ++ l) (named-first x xs (low + 1) same)
+      (lines-later x xs (low + 1 + 1) count above
+      ∙ lines-listed count (low + 1) xs (omega arith) (subst (λ e. AreExpertNames e xs) (sym same) a.3))
       ∙ ap (λ e. name_line (e, x.1) ++ flat_map name_line xs) same
 ]
 
@@ -104,7 +115,8 @@ pub names_left-start : (xs : List (ℕ × RowName)) → names_left xs 1 ≡ name
 unfolding names_left names_text
 names_left-start xs = refl
 
-pub names_left-next : (xs : List (ℕ × RowName)) (e : ℕ) → e ≤ MAX_EXPERTS → names_left xs e ≡ name_line_at e (name_of e xs) ++ names_left xs (e + 1)
+pub names_left-next : (xs : List (ℕ × RowName)) (e : ℕ) → e ≤ MAX_EXPERTS
+    → names_left xs e ≡ name_line_at e (name_of e xs) ++ names_left xs (e + 1)
 unfolding names_left
 names_left-next xs e h = let one : MAX_EXPERTS + 1 - e ≡ suc (MAX_EXPERTS + 1 - (e + 1)) = omega arith in ap (name_lines_from xs e) one
 

@@ -2,8 +2,7 @@
 --
 -- Blank lines and lines that begin with `#` are skipped. Each other line has the pattern of the premise, a space, and the pattern of the
 -- conclusion; after another space anything may stand. Of width 3 the line `X.. .X. {a} -> {b}` says that a implies b, and `X..` is no
--- such line.
--- An implication between attribute sets is that of Ganter and Wille, Formal Concept Analysis, section 2.3.
+-- such line. An implication between attribute sets is that of Ganter and Wille, Formal Concept Analysis, section 2.3.
 use Rattle.std.specs.Prelude.{ℕ, ◌&&◌, ◌==◌, cond, Option, Some, None, Result, Ok, Err, List, [], ◌∷◌, map, length}
 use Rattle.fca_model.specs.Sets.{Set}
 use Rattle.fca_model.specs.Tables.{Text}

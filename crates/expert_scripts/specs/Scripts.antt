@@ -4,7 +4,8 @@
 -- `exploration 2`; then lines of settings may stand before the events: how many experts may hold one question, what is known, and names
 -- of experts. Over a and b the lines `exploration 2`, `holders 1`, `known X. .X`, `expert 2 Ann` and `draw 1` say that one expert may
 -- hold a question, that a implies b is known, that expert 2 is Ann, and that expert 1 draws.
-use Rattle.std.specs.Prelude.{◌≡◌, ⊤, ℕ, Bool, true, ◌&&◌, cond, Option, Some, None, Result, Ok, Err, List, [], ◌∷◌, ◌++◌, map, is_none, unwrap_or, bytes_eq, codes}
+use Rattle.std.specs.Prelude.{◌≡◌, ⊤, ℕ, Bool, true, ◌&&◌, cond, Option, Some, None, Result, Ok, Err, List, [], ◌∷◌, ◌++◌, map, is_none}
+use Rattle.std.specs.Prelude.{unwrap_or, bytes_eq, codes}
 use Rattle.std.specs.Ordering.{nat_cmp}
 use Rattle.std.specs.BTreeMap.{insert_entry}
 use Rattle.std.specs.Str.{is_utf8}
@@ -110,12 +111,14 @@ with_holders_word k t word = cond (is_numeral word) (with_holders k t (value_of 
 -- the settings with this name of expert e, which may be given once
 abbrev pub with_name : ℕ → PartialSettings → ℕ → RowName → Result PartialSettings ScriptFault
 with_name k t e name =
-    cond (is_expert e && is_none (name_of e t.expert_names)) (Ok (record t { expert_names = insert_entry nat_cmp t.expert_names e name })) (Err (BadExpert k))
+    cond (is_expert e && is_none (name_of e t.expert_names)) (Ok (record t { expert_names = insert_entry nat_cmp t.expert_names e name }))
+    (Err (BadExpert k))
 
 -- the settings with the name in the words `E NAME`
 abbrev pub with_name_words : ℕ → PartialSettings → Text → Result PartialSettings ScriptFault
 with_name_words k t words =
-    cond (is_numeral (first_word words) && is_name (later_words words)) (with_name k t (value_of (first_word words)) (later_words words)) (Err (BadLine k))
+    cond (is_numeral (first_word words) && is_name (later_words words)) (with_name k t (value_of (first_word words)) (later_words words))
+    (Err (BadLine k))
 
 -- the fault of a line of a known file as that of a script
 abbrev pub rule_fault : KnownFault → ScriptFault
@@ -152,7 +155,8 @@ script_content t second (Ok events) = Ok (record { settings = whole_settings t; 
 script_content t second (Err fault) = Err fault
 
 -- after a line of settings, what the later lines give, or its fault
-abbrev pub by_setting : Option (Result PartialSettings ScriptFault) → (PartialSettings → Result ScriptContent ScriptFault) → Result ScriptContent ScriptFault → Result ScriptContent ScriptFault
+abbrev pub by_setting : Option (Result PartialSettings ScriptFault) → (PartialSettings → Result ScriptContent ScriptFault)
+    → Result ScriptContent ScriptFault → Result ScriptContent ScriptFault
 by_setting None behind otherwise = otherwise
 by_setting (Some (Ok t)) behind otherwise = behind t
 by_setting (Some (Err fault)) behind otherwise = Err fault
@@ -161,7 +165,8 @@ by_setting (Some (Err fault)) behind otherwise = Err fault
 abbrev pub settings_then_events : ℕ → PartialSettings → ℕ → List (ℕ × Text) → Result ScriptContent ScriptFault
 settings_then_events n t second [] = script_content t (Some second) (Ok [])
 settings_then_events n t second (l ∷ ls) =
-    by_setting (setting_of n l.0 t l.1) (λ later. settings_then_events n later second ls) (script_content t (Some second) (events_of_lines n (l ∷ ls)))
+    by_setting (setting_of n l.0 t l.1) (λ later. settings_then_events n later second ls)
+    (script_content t (Some second) (events_of_lines n (l ∷ ls)))
 
 -- the content of lines, of which the first may be a heading
 abbrev pub content_of_lines : ℕ → PartialSettings → List (ℕ × Text) → Result ScriptContent ScriptFault

@@ -7,7 +7,8 @@ use Rattle.expert_scripts.specs.declared.partial.PartialSettings as read
 use Rattle.expert_scripts.specs.declared.reading.Reading as part
 use Rattle.expert_scripts.specs.declared.reading.Stage.{Stage}
 use Rattle.expert_scripts.specs.declared.reading.Stage.TheVariants.{Heading, Settings, Events}
-use Rattle.expert_scripts.specs.Scripts.{ScriptContent, PartialSettings, content_of_lines, settings_then_events, script_content, events_of_lines}
+use Rattle.expert_scripts.specs.Scripts.{ScriptContent, PartialSettings, content_of_lines, settings_then_events, script_content}
+use Rattle.expert_scripts.specs.Scripts.{events_of_lines}
 
 -- the settings that were given so far
 abbrev pub partial_of : read.PartialSettings → PartialSettings

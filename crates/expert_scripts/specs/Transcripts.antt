@@ -2,7 +2,8 @@
 --
 -- The transcript of plain settings begins with `exploration 1`. Over a and b, if one expert may hold a question, a implies b is known,
 -- and expert 2 is Ann, it begins with the lines `exploration 2`, `holders 1`, `known X. .X {a} -> {b}` and `expert 2 Ann`.
-use Rattle.std.specs.Prelude.{◌≡◌, ◌≤◌, ◌<◌, ⊤, ℕ, zero, suc, ◌+◌, Bool, true, ◌&&◌, ◌==◌, cond, Option, Some, None, List, [], ◌∷◌, ◌++◌, length, codes, decimal}
+use Rattle.std.specs.Prelude.{◌≡◌, ◌≤◌, ◌<◌, ⊤, ℕ, zero, suc, ◌+◌, Bool, true, ◌&&◌, ◌==◌, cond, Option, Some, None, List, [], ◌∷◌, ◌++◌}
+use Rattle.std.specs.Prelude.{length, codes, decimal}
 use Rattle.std.specs.List.{flat_map}
 use Rattle.fca_model.specs.Tables.{Text}
 use Rattle.fca_model.specs.Names.{IsName}

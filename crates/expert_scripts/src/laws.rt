@@ -22,6 +22,8 @@ pub fn event_reads_back()
 
 /// A transcript is read back as its settings and its events.
 pub fn transcript_reads_back()
-    ensures { (n : ℕ) (attributes : List Text) (settings : Settings) (H : List SetEntry) → AreNames attributes → SettingsCanBeWritten n settings → EachEventCanBeWritten n H
-        → script_form (transcript attributes settings H) n ≡ Ok (record { settings = settings; events = events_of H; second = second_of settings }) }
+    ensures { (n : ℕ) (attributes : List Text) (settings : Settings) (H : List SetEntry) → AreNames attributes
+        → SettingsCanBeWritten n settings → EachEventCanBeWritten n H
+        → script_form (transcript attributes settings H) n
+        ≡ Ok (record { settings = settings; events = events_of H; second = second_of settings }) }
 {}

@@ -3,7 +3,8 @@
 ghost use Rattle.std.specs.Prelude.{◌≡◌, ◌≤◌, ◌⊎◌, Some, None, Ok, Err, IfOk, IfErr, OnOk, true, false};
 ghost use Rattle.fca_model.specs.declared.TheConstants.{MAX_ATTRIBUTES};
 ghost use Rattle.exploration_terms.specs.Settings.{settings_of};
-ghost use Rattle.expert_scripts.specs.Scripts.{no_settings, whole_settings, with_holders_word, with_name_words, with_rule, setting_of_words};
+ghost use Rattle.expert_scripts.specs.Scripts.{no_settings, whole_settings, with_holders_word, with_name_words, with_rule};
+ghost use Rattle.expert_scripts.specs.Scripts.{setting_of_words};
 ghost use Rattle.expert_scripts.specs.Stages.{partial_of};
 ghost use Rattle.expert_scripts.specs.Known.{known_rule};
 
@@ -100,7 +101,8 @@ impl PartialSettings {
     fn take_name(&mut self, alloc: Global, words: &str, number: usize) -> Result<(), ScriptFault>
         ensures ok { OnOk result (with_name_words number (partial_of self.old) words.now ≡ Ok (partial_of self.new)) }
         ensures width { self.new.known.width ≡ self.old.known.width }
-        ensures refused { IfErr result (λ e. (e ≡ ScriptFault.Memory) ⊎ (with_name_words number (partial_of self.old) words.now ≡ Err e)) }
+        ensures refused { IfErr result (λ e. (e ≡ ScriptFault.Memory)
+            ⊎ (with_name_words number (partial_of self.old) words.now ≡ Err e)) }
     {
         let (word, name) = split_word(words);
         if !is_numeral(word.as_bytes()) {
@@ -126,7 +128,8 @@ impl PartialSettings {
         requires narrow { n ≤ MAX_ATTRIBUTES }
         ensures ok { OnOk result (with_rule (partial_of self.old) (known_rule n number words.now) ≡ Ok (partial_of self.new)) }
         ensures width { OnOk result (self.new.known.width ≡ n) }
-        ensures refused { IfErr result (λ e. (e ≡ ScriptFault.Memory) ⊎ (with_rule (partial_of self.old) (known_rule n number words.now) ≡ Err e)) }
+        ensures refused { IfErr result (λ e. (e ≡ ScriptFault.Memory)
+            ⊎ (with_rule (partial_of self.old) (known_rule n number words.now) ≡ Err e)) }
     {
         let rule = read_rule(words.as_bytes(), n, number)?;
         self.known.push(rule)?;

@@ -1,10 +1,12 @@
 //! A script while it is read, line by line.
 
-ghost use Rattle.std.specs.Prelude.{◌≡◌, ◌≤◌, ◌⊎◌, ℕ, List, ◌∷◌, [], Some, None, Ok, Err, IfOk, IfErr, OnOk, Option, true, false, bytes_eq};
+ghost use Rattle.std.specs.Prelude.{◌≡◌, ◌≤◌, ◌⊎◌, ℕ, List, ◌∷◌, [], Some, None, Ok, Err, IfOk, IfErr, OnOk, Option, true, false};
+ghost use Rattle.std.specs.Prelude.{bytes_eq};
 ghost use Rattle.fca_model.specs.Tables.{Text};
 ghost use Rattle.fca_model.specs.declared.TheConstants.{MAX_ATTRIBUTES};
 ghost use Rattle.expert_wire.specs.Replies.{heading};
-ghost use Rattle.expert_scripts.specs.Scripts.{ScriptContent, content_of, no_settings, content_of_lines, second_heading, settings_then_events, script_content, events_of_lines, setting_of};
+ghost use Rattle.expert_scripts.specs.Scripts.{ScriptContent, content_of, no_settings, content_of_lines, second_heading};
+ghost use Rattle.expert_scripts.specs.Scripts.{settings_then_events, script_content, events_of_lines, setting_of};
 ghost use Rattle.expert_scripts.specs.Stages.{partial_of, after_events, content_to_come};
 
 use crate::events::read_event;
@@ -78,7 +80,8 @@ impl Reading {
         requires wide { self.old.settings.known.width ≡ n }
         requires narrow { n ≤ MAX_ATTRIBUTES }
         ensures width { OnOk result (self.new.settings.known.width ≡ n) }
-        ensures ok { OnOk result ((ls : List (ℕ × Text)) → content_to_come n self.old ((number, line.now) ∷ ls) ≡ content_to_come n self.new ls) }
+        ensures ok { OnOk result ((ls : List (ℕ × Text))
+            → content_to_come n self.old ((number, line.now) ∷ ls) ≡ content_to_come n self.new ls) }
         ensures refused { IfErr result (λ e. (e ≡ ScriptFault.Memory)
             ⊎ ((ls : List (ℕ × Text)) → content_to_come n self.old ((number, line.now) ∷ ls) ≡ Err e)) }
     {
@@ -101,9 +104,11 @@ impl Reading {
         requires narrow { n ≤ MAX_ATTRIBUTES }
         ensures width { OnOk result (self.new.settings.known.width ≡ n) }
         ensures ok { OnOk result ((ls : List (ℕ × Text))
-            → after_events self.old.events.items (content_of_lines n (partial_of self.old.settings) ((number, line.now) ∷ ls)) ≡ content_to_come n self.new ls) }
+            → after_events self.old.events.items (content_of_lines n (partial_of self.old.settings) ((number, line.now) ∷ ls))
+            ≡ content_to_come n self.new ls) }
         ensures refused { IfErr result (λ e. (e ≡ ScriptFault.Memory)
-            ⊎ ((ls : List (ℕ × Text)) → after_events self.old.events.items (content_of_lines n (partial_of self.old.settings) ((number, line.now) ∷ ls)) ≡ Err e)) }
+            ⊎ ((ls : List (ℕ × Text))
+            → after_events self.old.events.items (content_of_lines n (partial_of self.old.settings) ((number, line.now) ∷ ls)) ≡ Err e)) }
     {
         if is_heading(line) {
             self.stage = Stage::Events(None);
@@ -130,9 +135,11 @@ impl Reading {
         requires stage { self.old.stage ≡ Stage.Settings second }
         ensures width { OnOk result (self.new.settings.known.width ≡ n) }
         ensures ok { OnOk result ((ls : List (ℕ × Text))
-            → after_events self.old.events.items (settings_then_events n (partial_of self.old.settings) second ((number, line.now) ∷ ls)) ≡ content_to_come n self.new ls) }
+            → after_events self.old.events.items (settings_then_events n (partial_of self.old.settings) second ((number, line.now) ∷ ls))
+            ≡ content_to_come n self.new ls) }
         ensures refused { IfErr result (λ e. (e ≡ ScriptFault.Memory)
-            ⊎ ((ls : List (ℕ × Text)) → after_events self.old.events.items (settings_then_events n (partial_of self.old.settings) second ((number, line.now) ∷ ls)) ≡ Err e)) }
+            ⊎ ((ls : List (ℕ × Text))
+            → after_events self.old.events.items (settings_then_events n (partial_of self.old.settings) second ((number, line.now) ∷ ls)) ≡ Err e)) }
     {
         if take_setting_line(&mut self.settings, alloc, line, n, number)? {
             return Ok(());
@@ -153,9 +160,12 @@ impl Reading {
         requires narrow { n ≤ MAX_ATTRIBUTES }
         ensures width { OnOk result (self.new.settings.known.width ≡ n) }
         ensures ok { OnOk result ((ls : List (ℕ × Text))
-            → after_events self.old.events.items (script_content (partial_of self.old.settings) second (events_of_lines n ((number, line.now) ∷ ls))) ≡ content_to_come n self.new ls) }
+            → after_events self.old.events.items (script_content (partial_of self.old.settings) second (events_of_lines n ((number, line.now) ∷ ls)))
+            ≡ content_to_come n self.new ls) }
         ensures refused { IfErr result (λ e. (e ≡ ScriptFault.Memory)
-            ⊎ ((ls : List (ℕ × Text)) → after_events self.old.events.items (script_content (partial_of self.old.settings) second (events_of_lines n ((number, line.now) ∷ ls))) ≡ Err e)) }
+            ⊎ ((ls : List (ℕ × Text))
+            → after_events self.old.events.items (script_content (partial_of self.old.settings) second (events_of_lines n ((number, line.now) ∷ ls)))
+            ≡ Err e)) }
     {
         let event = read_event(alloc, line, n, number)?;
         self.events.push(event)?;
@@ -179,7 +189,8 @@ fn take_setting_line(
         → setting_of n number (partial_of settings.old) line.now ≡ Some (Ok (partial_of settings.new))) }
     ensures none { IfOk result (λ is_setting. is_setting ≡ false → setting_of n number (partial_of settings.old) line.now ≡ None) }
     ensures same { IfOk result (λ is_setting. is_setting ≡ false → partial_of settings.new ≡ partial_of settings.old) }
-    ensures refused { IfErr result (λ e. (e ≡ ScriptFault.Memory) ⊎ (setting_of n number (partial_of settings.old) line.now ≡ Some (Err e))) }
+    ensures refused { IfErr result (λ e. (e ≡ ScriptFault.Memory)
+        ⊎ (setting_of n number (partial_of settings.old) line.now ≡ Some (Err e))) }
 {
     match text_of(line) {
         Some(text) => {

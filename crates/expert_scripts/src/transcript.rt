@@ -6,7 +6,8 @@ ghost use Rattle.fca_io.specs.Transfers.{AppendsFront};
 ghost use Rattle.exploration_terms.specs.Settings.{settings_of, name_of};
 ghost use Rattle.expert_wire.specs.Texts.{line_end};
 ghost use Rattle.fca_model.specs.Exploration.{is_expert};
-ghost use Rattle.expert_scripts.specs.Transcripts.{event_text, entries_text, entry_lines, known_line, name_line_at, names_text, settings_text, opening_text, transcript};
+ghost use Rattle.expert_scripts.specs.Transcripts.{event_text, entries_text, entry_lines, known_line, name_line_at, names_text};
+ghost use Rattle.expert_scripts.specs.Transcripts.{settings_text, opening_text, transcript};
 
 use context_table::Table;
 use expert_wire::{Draft, Part};

@@ -14,9 +14,11 @@ pub words-at : (t : NamedContext) (e a w : ℕ) → a ≡ e → w ≡ t.context.
 words-at t e a w p q = ap (λ x. heading ++ (line_end ++ (codes "expert " ++ (decimal x ++ (line_end ++ (codes "attributes " ++ (decimal w ++ line_end))))))) p
     ∙ ap (λ x. heading ++ (line_end ++ (codes "expert " ++ (decimal e ++ (line_end ++ (codes "attributes " ++ (decimal x ++ line_end))))))) q
 
-pub text_of-drop : (xs : List Text) (i : ℕ) (x : Text) → Some x ≡ slice_get xs i → text_of (drop i xs) ≡ (x ++ line_end) ++ text_of (drop (suc i) xs)
+pub text_of-drop : (xs : List Text) (i : ℕ) (x : Text) → Some x ≡ slice_get xs i
+    → text_of (drop i xs) ≡ (x ++ line_end) ++ text_of (drop (suc i) xs)
 text_of-drop [] i x e = cc
-text_of-drop (y ∷ ys) zero x e = let same : y ≡ x = cc in sym (append_assoc y line_end (text_of ys)) ∙ ap (λ z. (z ++ line_end) ++ text_of ys) same
+text_of-drop (y ∷ ys) zero x e = let same : y ≡ x = cc in
+    sym (append_assoc y line_end (text_of ys)) ∙ ap (λ z. (z ++ line_end) ++ text_of ys) same
 text_of-drop (y ∷ ys) (suc i) x e = text_of-drop ys i x e
 
 pub text_of-past : (xs : List Text) (i : ℕ) → length xs ≤ i → text_of (drop i xs) ≡ []

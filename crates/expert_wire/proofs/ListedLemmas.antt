@@ -36,14 +36,20 @@ abbrev pub names_from : ℕ → List Text → Set → List Text
 names_from i names A = names_of (drop i names) (drop i A)
 
 -- one place further
-names_of-drop : (i : ℕ) (names : List Text) (A : Set) → i < length names → i < length A → names_from i names A ≡ names_of (get_or names i [] ∷ drop (suc i) names) (get_or A i false ∷ drop (suc i) A)
-names_of-drop i names A h k = ap (λ xs. names_of xs (drop i A)) (drop-cons names i [] h) ∙ ap (names_of (get_or names i [] ∷ drop (suc i) names)) (drop-cons A i false k)
+names_of-drop : (i : ℕ) (names : List Text) (A : Set) → i < length names → i < length A
+    → names_from i names A ≡ names_of (get_or names i [] ∷ drop (suc i) names) (get_or A i false ∷ drop (suc i) A)
+names_of-drop i names A h k = ap (λ xs. names_of xs (drop i A)) (drop-cons names i [] h)
+    ∙ ap (names_of (get_or names i [] ∷ drop (suc i) names)) (drop-cons A i false k)
 
-pub names_from-member : (i : ℕ) (names : List Text) (A : Set) → i < length names → i < length A → get_or A i false ≡ true → names_from i names A ≡ get_or names i [] ∷ names_from (suc i) names A
-names_from-member i names A h k e = names_of-drop i names A h k ∙ ap (λ a. cond a (get_or names i [] ∷ names_from (suc i) names A) (names_from (suc i) names A)) e
+pub names_from-member : (i : ℕ) (names : List Text) (A : Set) → i < length names → i < length A → get_or A i false ≡ true
+    → names_from i names A ≡ get_or names i [] ∷ names_from (suc i) names A
+names_from-member i names A h k e = names_of-drop i names A h k
+    ∙ ap (λ a. cond a (get_or names i [] ∷ names_from (suc i) names A) (names_from (suc i) names A)) e
 
-pub names_from-none : (i : ℕ) (names : List Text) (A : Set) → i < length names → i < length A → get_or A i false ≡ false → names_from i names A ≡ names_from (suc i) names A
-names_from-none i names A h k e = names_of-drop i names A h k ∙ ap (λ a. cond a (get_or names i [] ∷ names_from (suc i) names A) (names_from (suc i) names A)) e
+pub names_from-none : (i : ℕ) (names : List Text) (A : Set) → i < length names → i < length A → get_or A i false ≡ false
+    → names_from i names A ≡ names_from (suc i) names A
+names_from-none i names A h k e = names_of-drop i names A h k
+    ∙ ap (λ a. cond a (get_or names i [] ∷ names_from (suc i) names A) (names_from (suc i) names A)) e
 
 -- after the last name, or the last place of the set, there is none
 pub names_from-end : (i : ℕ) (names : List Text) (A : Set) → min (length A) (length names) ≤ i → names_from i names A ≡ []
@@ -59,7 +65,8 @@ names_from-end i names A h = elim (cases_lt i (length names)) [
     ]
 
 -- the rest of the list if the next place is a member
-pub bridged-member : (between : Text) (i : ℕ) (names : List Text) (A : Set) (name tail : Text) → i < length names → i < length A → get_or A i false ≡ true → Some name ≡ slice_get names i
+pub bridged-member : (between : Text) (i : ℕ) (names : List Text) (A : Set) (name tail : Text) → i < length names → i < length A
+    → get_or A i false ≡ true → Some name ≡ slice_get names i
     → bridged between (names_from i names A) ++ tail ≡ (between ++ name) ++ (bridged (codes ", ") (names_from (suc i) names A) ++ tail)
 bridged-member between i names A name tail h k e named =
     ap (λ xs. bridged between xs ++ tail) (names_from-member i names A h k e)
@@ -83,7 +90,8 @@ question_parts attributes words i gained e =
     ap (λ A. words ++ (pattern i.premise ++ (codes " " ++ (pattern i.conclusion ++ (codes " " ++ (braces_text attributes i.premise ++ (codes " -> " ++ (braces_text attributes A ++ line_end)))))))) e
     ∙ regroup words (pattern i.premise) (codes " ") (pattern i.conclusion) (codes " ") (braces_text attributes i.premise) (codes " -> ") (braces_text attributes (minus i.conclusion i.premise)) line_end
   where
-    regroup : (a b c d e f g h k : Text) → a ++ (b ++ (c ++ (d ++ (e ++ (f ++ (g ++ (h ++ k))))))) ≡ (a ++ (b ++ (c ++ (d ++ (e ++ (f ++ (g ++ h))))))) ++ k
+    regroup : (a b c d e f g h k : Text) → a ++ (b ++ (c ++ (d ++ (e ++ (f ++ (g ++ (h ++ k)))))))
+        ≡ (a ++ (b ++ (c ++ (d ++ (e ++ (f ++ (g ++ h))))))) ++ k
     regroup a b c d e f g h k = simp append_assoc
 
 -- the number of a rule and then its full text, in a line

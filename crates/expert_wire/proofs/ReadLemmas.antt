@@ -18,11 +18,14 @@ use Rattle.expert_wire.specs.Words.{is_name, named_row, row_of_width, set_of_pat
 -- ---- sets
 
 -- marks that are not a dash are the pattern of their set
-marked : (m : ℕ) (A : Set) → eqb m 45 ≡ false → list_all is_mark (m ∷ marks_of A) ≡ true → (B : Set) → map is_cross (m ∷ marks_of A) ≡ B → set_of_pattern (m ∷ marks_of A) ≡ Some B
+marked : (m : ℕ) (A : Set) → eqb m 45 ≡ false → list_all is_mark (m ∷ marks_of A) ≡ true → (B : Set) → map is_cross (m ∷ marks_of A) ≡ B
+    → set_of_pattern (m ∷ marks_of A) ≡ Some B
 marked m A other marks B back =
     let some : nat_lt 0 (length (m ∷ marks_of A)) ≡ true = lt-ltb 0 (length (m ∷ marks_of A)) (omega arith) in
-    ap (λ b. cond (b && bytes_eq (marks_of A) []) (Some []) (cond (nat_lt 0 (length (m ∷ marks_of A)) && list_all is_mark (m ∷ marks_of A)) (Some (map is_cross (m ∷ marks_of A))) None)) other
-    ∙ ap (λ b. cond b (Some (map is_cross (m ∷ marks_of A))) None) (and_from (nat_lt 0 (length (m ∷ marks_of A))) (list_all is_mark (m ∷ marks_of A)) some marks)
+    ap (λ b. cond (b && bytes_eq (marks_of A) []) (Some [])
+    (cond (nat_lt 0 (length (m ∷ marks_of A)) && list_all is_mark (m ∷ marks_of A)) (Some (map is_cross (m ∷ marks_of A))) None)) other
+    ∙ ap (λ b. cond b (Some (map is_cross (m ∷ marks_of A))) None)
+    (and_from (nat_lt 0 (length (m ∷ marks_of A))) (list_all is_mark (m ∷ marks_of A)) some marks)
     ∙ ap Some back
 
 pub set_of_pattern-pattern : (A : Set) → set_of_pattern (pattern A) ≡ Some A
@@ -66,7 +69,8 @@ ascii_words (x ∷ xs) h (suc i) = ascii_words xs (and_parts (ltb x 128) (list_a
 pub utf8_words : (xs : Text) → list_all (λ x. ltb x 128) xs ≡ true → IsUtf8 xs
 utf8_words xs h = IsUtf8-from_ascii xs (ascii_words xs h)
 
-pub named_row-written : (n : ℕ) (r : Set) (name : Text) → (length r == n) ≡ true → IsName name → named_row n (pattern r ++ (32 ∷ name)) ≡ Ok (name, r)
+pub named_row-written : (n : ℕ) (r : Set) (name : Text) → (length r == n) ≡ true → IsName name
+    → named_row n (pattern r ++ (32 ∷ name)) ≡ Ok (name, r)
 named_row-written n r name wide named =
     let text = pattern r ++ (32 ∷ name) in
     let first : first_word text ≡ pattern r = before_first-at is_space (pattern r) 32 name (pattern_no_space r) refl in

@@ -32,29 +32,36 @@ faultless (Some fault) h = absurd (false≢true h)
 pub no_break-name : (name : Text) → is_name name ≡ true → list_any is_line_break name ≡ false
 no_break-name name h = no_break-faultless name (faultless (name_fault name) h)
 
-no_break-names_of : (attributes : List Text) (A : Set) → list_all is_name attributes ≡ true → list_all is_name (names_of attributes A) ≡ true
+no_break-names_of : (attributes : List Text) (A : Set) → list_all is_name attributes ≡ true
+    → list_all is_name (names_of attributes A) ≡ true
 no_break-names_of [] A h = refl
 no_break-names_of (name ∷ names) [] h = refl
-no_break-names_of (name ∷ names) (true ∷ A) h = let parts = and_parts (is_name name) (list_all is_name names) h in and_from (is_name name) (list_all is_name (names_of names A)) parts.0 (no_break-names_of names A parts.1)
+no_break-names_of (name ∷ names) (true ∷ A) h = let parts = and_parts (is_name name) (list_all is_name names) h in
+    and_from (is_name name) (list_all is_name (names_of names A)) parts.0 (no_break-names_of names A parts.1)
 no_break-names_of (name ∷ names) (false ∷ A) h = no_break-names_of names A (and_parts (is_name name) (list_all is_name names) h).1
 
 no_break-comma_tail : (names : List Text) → list_all is_name names ≡ true → list_any is_line_break (comma_tail names) ≡ false
 no_break-comma_tail [] h = refl
 no_break-comma_tail (name ∷ names) h =
-    let parts = and_parts (is_name name) (list_all is_name names) h in no_break-append name (comma_tail names) (no_break-name name parts.0) (no_break-comma_tail names parts.1)
+    let parts = and_parts (is_name name) (list_all is_name names) h in
+    no_break-append name (comma_tail names) (no_break-name name parts.0) (no_break-comma_tail names parts.1)
 
 pub no_break-names_in_braces : (names : List Text) → list_all is_name names ≡ true → list_any is_line_break (names_in_braces names) ≡ false
 no_break-names_in_braces [] h = refl
 no_break-names_in_braces (name ∷ names) h =
     let parts = and_parts (is_name name) (list_all is_name names) h in
-    no_break-append (name ++ comma_tail names) (codes "}") (no_break-append name (comma_tail names) (no_break-name name parts.0) (no_break-comma_tail names parts.1)) refl
+    no_break-append (name ++ comma_tail names) (codes "}")
+    (no_break-append name (comma_tail names) (no_break-name name parts.0) (no_break-comma_tail names parts.1)) refl
 
-pub no_break-arrow : (attributes : List Text) (i : Rule) → list_all is_name attributes ≡ true → list_any is_line_break (arrow_text attributes i) ≡ false
+pub no_break-arrow : (attributes : List Text) (i : Rule) → list_all is_name attributes ≡ true
+    → list_any is_line_break (arrow_text attributes i) ≡ false
 no_break-arrow attributes i h =
     no_break-append (braces_text attributes i.premise) (codes " -> " ++ braces_text attributes (minus i.conclusion i.premise)) (no_break-names_in_braces (names_of attributes i.premise) (no_break-names_of attributes i.premise h))
-    (no_break-names_in_braces (names_of attributes (minus i.conclusion i.premise)) (no_break-names_of attributes (minus i.conclusion i.premise) h))
+    (no_break-names_in_braces (names_of attributes (minus i.conclusion i.premise))
+    (no_break-names_of attributes (minus i.conclusion i.premise) h))
 
-pub no_break-full : (attributes : List Text) (i : Rule) → list_all is_name attributes ≡ true → list_any is_line_break (full_text attributes i) ≡ false
+pub no_break-full : (attributes : List Text) (i : Rule) → list_all is_name attributes ≡ true
+    → list_any is_line_break (full_text attributes i) ≡ false
 no_break-full attributes i h =
     no_break-append (pattern i.premise) (codes " " ++ (pattern i.conclusion ++ (codes " " ++ arrow_text attributes i))) (pattern_no_break i.premise)
     (no_break-append (pattern i.conclusion) (codes " " ++ arrow_text attributes i) (pattern_no_break i.conclusion) (no_break-arrow attributes i h))
@@ -62,15 +69,18 @@ no_break-full attributes i h =
 no_break-row : (place : ℕ) (r : Set) → list_any is_line_break (numbered_row place r) ≡ false
 no_break-row place r = no_break-append (ordinal place) (codes " " ++ pattern r) (no_break-decimal (place + 1)) (pattern_no_break r)
 
-pub no_break-rule : (attributes : List Text) (place : ℕ) (i : Rule) → list_all is_name attributes ≡ true → list_any is_line_break (numbered_rule attributes place i) ≡ false
+pub no_break-rule : (attributes : List Text) (place : ℕ) (i : Rule) → list_all is_name attributes ≡ true
+    → list_any is_line_break (numbered_rule attributes place i) ≡ false
 no_break-rule attributes place i h = no_break-append (ordinal place) (codes " " ++ full_text attributes i) (no_break-decimal (place + 1)) (no_break-full attributes i h)
 
-no_break-attribute : (attributes : List Text) (m : ℕ) → list_all is_name attributes ≡ true → list_any is_line_break (attribute_name attributes m) ≡ false
+no_break-attribute : (attributes : List Text) (m : ℕ) → list_all is_name attributes ≡ true
+    → list_any is_line_break (attribute_name attributes m) ≡ false
 no_break-attribute [] m h = refl
 no_break-attribute (name ∷ names) zero h = no_break-name name (and_parts (is_name name) (list_all is_name names) h).0
 no_break-attribute (name ∷ names) (suc m) h = no_break-attribute names m (and_parts (is_name name) (list_all is_name names) h).1
 
-pub no_break-reply : (attributes : List Text) (reply : SetReply) → list_all is_name attributes ≡ true → list_any is_line_break (reply_text attributes reply) ≡ false
+pub no_break-reply : (attributes : List Text) (reply : SetReply) → list_all is_name attributes ≡ true
+    → list_any is_line_break (reply_text attributes reply) ≡ false
 no_break-reply attributes (Ask q) h = no_break-full attributes q h
 no_break-reply attributes Done h = refl
 no_break-reply attributes AllHeld h = refl

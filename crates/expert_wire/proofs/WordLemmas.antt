@@ -29,7 +29,8 @@ no_expert n large = elim (cases_Bool (is_expert n)) [
 ]
 
 -- the answer of `from_utf8` as a test
-pub utf8_ok : {E : Type 0} (Q : E → Type 0) (bs : List ℕ) (r : Result (Bor (List ℕ)) E) → MatchResult r (λ s. (s.now ≡ bs) × IsUtf8 bs) (λ e. ¬ (IsUtf8 bs) × Q e)
+pub utf8_ok : {E : Type 0} (Q : E → Type 0) (bs : List ℕ) (r : Result (Bor (List ℕ)) E)
+    → MatchResult r (λ s. (s.now ≡ bs) × IsUtf8 bs) (λ e. ¬ (IsUtf8 bs) × Q e)
     → MatchOption (result_ok r) (is_utf8 bs ≡ false) (λ s. (s.now ≡ bs) × (is_utf8 bs ≡ true))
 utf8_ok Q bs (Ok s) h = (h.0, is_utf8-from_IsUtf8 bs h.1)
 utf8_ok Q bs (Err e) h = elim (cases_Bool (is_utf8 bs)) [
@@ -40,7 +41,8 @@ utf8_ok Q bs (Err e) h = elim (cases_Bool (is_utf8 bs)) [
 -- ---- rows
 
 -- a text without a fault is a name
-pub is_name-faultless : (text : Text) → name_fault text ≢ Some name.Empty → name_fault text ≢ Some name.Long → name_fault text ≢ Some name.Line → is_name text ≡ true
+pub is_name-faultless : (text : Text) → name_fault text ≢ Some name.Empty → name_fault text ≢ Some name.Long
+    → name_fault text ≢ Some name.Line → is_name text ≡ true
 unfolding name_fault
 is_name-faultless text = by (length text == 0) (nat_lt MAX_NAME_BYTES (length text)) (list_any is_line_break text)
   where
@@ -54,7 +56,8 @@ is_name-faultless text = by (length text == 0) (nat_lt MAX_NAME_BYTES (length te
     by false false false some few unbroken = refl
 
 -- marks and then a name are a row, if the marks have the width
-module _ (n : ℕ) (text word later : Text) (r : Set) (first : word ≡ first_word text) (behind : later ≡ later_words text) (marked : set_of_pattern word ≡ Some r)
+module _ (n : ℕ) (text word later : Text) (r : Set) (first : word ≡ first_word text) (behind : later ≡ later_words text)
+    (marked : set_of_pattern word ≡ Some r)
     (named : is_name later ≡ true) (fault : RequestFault) (said : fault ≡ cond (length r == n) Memory Width) where
   shaped : named_row n text ≡ cond (length r == n) (Ok (later, r)) (Err Width)
   shaped =

@@ -14,7 +14,8 @@ use Rattle.fca_io.specs.declared.outside.Put.{Put}
 use Rattle.fca_model.specs.Tables.{Text}
 use Rattle.expert_wire.specs.Parts.{Writes}
 
-pub Writes-nothing : (held : Option Text) (faults : ℕ) (other : Option Text) (aside : Asked) → Writes held held faults faults other other aside aside [] (Ok tt)
+pub Writes-nothing : (held : Option Text) (faults : ℕ) (other : Option Text) (aside : Asked)
+    → Writes held held faults faults other other aside aside [] (Ok tt)
 Writes-nothing held faults other aside = record {
   whole = Appends-nil held;
   front = record { front = []; rest = []; whole = refl; gained = Appends-nil held };
@@ -32,7 +33,8 @@ Rose-later a b c h r =
     let both : one_more a ≤ one_more b = le-min (omega arith) high in
     omega arith
 
-pub Writes-then : {h0 h1 h2 : Option Text} {f0 f1 f2 : ℕ} {o0 o1 o2 : Option Text} {a0 a1 a2 : Asked} {s t : Text} (r : Result (Unit {0}) Put)
+pub Writes-then : {h0 h1 h2 : Option Text} {f0 f1 f2 : ℕ} {o0 o1 o2 : Option Text} {a0 a1 a2 : Asked} {s t : Text}
+    (r : Result (Unit {0}) Put)
     → Writes h0 h1 f0 f1 o0 o1 a0 a1 s (Ok tt) → Writes h1 h2 f1 f2 o1 o2 a1 a2 t r → Writes h0 h2 f0 f2 o0 o2 a0 a2 (s ++ t) r
 Writes-then {h0} {h1} {h2} {f0} {f1} {f2} {o0} {o1} {o2} {a0} {a1} {a2} {s} {t} r x y = record {
   whole = whole r y.whole;
@@ -98,25 +100,34 @@ Underway-equal {whole = whole} e x = record { done = x.done; written = x.written
 
 pub Underway-more : {h h1 h' : Option Text} {f f1 f' : ℕ} {o o1 o' : Option Text} {a a1 a' : Asked} {whole : Text} (s rest : Text)
     → Underway h h1 f f1 o o1 a a1 whole (s ++ rest) → Writes h1 h' f1 f' o1 o' a1 a' s (Ok tt) → Underway h h' f f' o o' a a' whole rest
-Underway-more s rest x y = record { done = x.done ++ s; written = Writes-then (Ok tt) x.written y; split = append_assoc x.done s rest ∙ x.split }
+Underway-more s rest x y = record {
+  done = x.done ++ s;
+  written = Writes-then (Ok tt) x.written y;
+  split = append_assoc x.done s rest ∙ x.split;
+}
 
-pub Underway-fault : {h h1 h' : Option Text} {f f1 f' : ℕ} {o o1 o' : Option Text} {a a1 a' : Asked} {whole : Text} (s rest : Text) (e : Put)
+pub Underway-fault : {h h1 h' : Option Text} {f f1 f' : ℕ} {o o1 o' : Option Text} {a a1 a' : Asked} {whole : Text} (s rest : Text)
+    (e : Put)
     → Underway h h1 f f1 o o1 a a1 whole (s ++ rest) → Writes h1 h' f1 f' o1 o' a1 a' s (Err e) → Writes h h' f f' o o' a a' whole (Err e)
 Underway-fault {h} {h1} {h'} {f} {f1} {f'} {o} {o1} {o'} {a} {a1} {a'} {whole} s rest e x y =
-    subst (λ z. Writes h h' f f' o o' a a' z (Err e)) (append_assoc x.done s rest ∙ x.split) (Writes-front rest e (Writes-then (Err e) x.written y))
+    subst (λ z. Writes h h' f f' o o' a a' z (Err e)) (append_assoc x.done s rest ∙ x.split)
+    (Writes-front rest e (Writes-then (Err e) x.written y))
 
-pub Underway-last : {h h1 h' : Option Text} {f f1 f' : ℕ} {o o1 o' : Option Text} {a a1 a' : Asked} {whole s : Text} (r : Result (Unit {0}) Put)
+pub Underway-last : {h h1 h' : Option Text} {f f1 f' : ℕ} {o o1 o' : Option Text} {a a1 a' : Asked} {whole s : Text}
+    (r : Result (Unit {0}) Put)
     → Underway h h1 f f1 o o1 a a1 whole s → Writes h1 h' f1 f' o1 o' a1 a' s r → Writes h h' f f' o o' a a' whole r
 Underway-last {h} {h1} {h'} {f} {f1} {f'} {o} {o1} {o'} {a} {a1} {a'} r x y =
     subst (λ z. Writes h h' f f' o o' a a' z r) x.split (Writes-then r x.written y)
 
 pub Underway-end : {h h' : Option Text} {f f' : ℕ} {o o' : Option Text} {a a' : Asked} {whole : Text}
     → Underway h h' f f' o o' a a' whole [] → Writes h h' f f' o o' a a' whole (Ok tt)
-Underway-end {h} {h'} {f} {f'} {o} {o'} {a} {a'} x = subst (λ z. Writes h h' f f' o o' a a' z (Ok tt)) (sym (append-nil x.done) ∙ x.split) x.written
+Underway-end {h} {h'} {f} {f'} {o} {o'} {a} {a'} x =
+    subst (λ z. Writes h h' f f' o o' a a' z (Ok tt)) (sym (append-nil x.done) ∙ x.split) x.written
 
 -- ---- one text after the other
 
-pub flat_map-drop : {X : Type 0} (f : X → Text) (xs : List X) (i : ℕ) (x : X) → i < length xs → x ≡ get_or xs i x → flat_map f (drop i xs) ≡ f x ++ flat_map f (drop (suc i) xs)
+pub flat_map-drop : {X : Type 0} (f : X → Text) (xs : List X) (i : ℕ) (x : X) → i < length xs → x ≡ get_or xs i x
+    → flat_map f (drop i xs) ≡ f x ++ flat_map f (drop (suc i) xs)
 flat_map-drop f xs i x h e = ap (flat_map f) (drop-cons xs i x h ∙ ap (λ y. y ∷ drop (suc i) xs) (sym e))
 
 pub flat_map-past : {X : Type 0} (f : X → Text) (xs : List X) (i : ℕ) → length xs ≤ i → flat_map f (drop i xs) ≡ []

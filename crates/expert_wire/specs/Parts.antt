@@ -24,7 +24,8 @@ parts_text attributes parts = flat_map (part_text attributes) parts
 
 -- What a call that writes a text does to a sink. If it succeeds, the sink gains the text, and its count of faults stays. Else the sink
 -- gains a front of the text, and the count rises.
-pub record Writes (held held' : Option Text) (faults faults' : ℕ) (other other' : Option Text) (aside aside' : Asked) (text : Text) (result : Result (Unit {0}) Put) : Type 0 where
+pub record Writes (held held' : Option Text) (faults faults' : ℕ) (other other' : Option Text) (aside aside' : Asked) (text : Text)
+    (result : Result (Unit {0}) Put) : Type 0 where
   pub whole : OnOk result (Appends held held' text)
   pub front : AppendsFront held held' text
   pub quiet : OnOk result (faults' ≡ faults)

@@ -20,7 +20,8 @@ names_data names = array (items_of (map (λ name. string name) names))
 -- a concept: the names of its objects and those of its attributes
 abbrev pub concept_data : NamedContext → Concept → Data
 concept_data t c =
-    object (member (codes "extent") (names_data (names_at t.objects c.extent)) (member (codes "intent") (names_data (names_of t.attributes c.intent)) no_members))
+    object (member (codes "extent") (names_data (names_at t.objects c.extent))
+    (member (codes "intent") (names_data (names_of t.attributes c.intent)) no_members))
 
 -- all concepts
 abbrev pub concepts_data : NamedContext → List Concept → Data
@@ -29,7 +30,8 @@ concepts_data t cs = object (member (codes "concepts") (array (items_of (map (co
 -- an implication: the part of its conclusion that the premise lacks, and its premise
 abbrev pub implication_data : List Text → Rule → Data
 implication_data attributes i =
-    object (member (codes "conclusion") (names_data (names_of attributes (minus i.conclusion i.premise))) (member (codes "premise") (names_data (names_of attributes i.premise)) no_members))
+    object (member (codes "conclusion") (names_data (names_of attributes (minus i.conclusion i.premise)))
+    (member (codes "premise") (names_data (names_of attributes i.premise)) no_members))
 
 -- the members of a basis
 abbrev pub basis_data : List Text → List Rule → Data
@@ -62,7 +64,8 @@ names_json_text names = array_text (map quoted names)
 -- a concept
 abbrev pub concept_json_text : NamedContext → Concept → Text
 concept_json_text t c =
-    codes "{\"extent\":" ++ (names_json_text (names_at t.objects c.extent) ++ (codes ",\"intent\":" ++ (names_json_text (names_of t.attributes c.intent) ++ codes "}")))
+    codes "{\"extent\":" ++ (names_json_text (names_at t.objects c.extent)
+    ++ (codes ",\"intent\":" ++ (names_json_text (names_of t.attributes c.intent) ++ codes "}")))
 
 -- the line of the concepts
 abbrev pub concepts_json_text : NamedContext → List Concept → Text
@@ -71,7 +74,8 @@ concepts_json_text t cs = codes "{\"concepts\":" ++ (array_text (map (concept_js
 -- an implication
 abbrev pub implication_json_text : List Text → Rule → Text
 implication_json_text attributes i =
-    codes "{\"conclusion\":" ++ (names_json_text (names_of attributes (minus i.conclusion i.premise)) ++ (codes ",\"premise\":" ++ (names_json_text (names_of attributes i.premise) ++ codes "}")))
+    codes "{\"conclusion\":" ++ (names_json_text (names_of attributes (minus i.conclusion i.premise))
+    ++ (codes ",\"premise\":" ++ (names_json_text (names_of attributes i.premise) ++ codes "}")))
 
 -- the line of the basis
 abbrev pub basis_json_text : List Text → List Rule → Text

@@ -6,7 +6,8 @@ ghost use Rattle.serde_json.specs.View.{view};
 ghost use Rattle.serde_json.specs.Written.{compact_text, has_float};
 ghost use Rattle.expert_wire.specs.Texts.{line_end, names_of};
 ghost use Rattle.report_texts.specs.Reports.{names_at};
-ghost use Rattle.json_reports.specs.Json.{names_data, concept_data, concepts_data, implication_data, basis_data, concepts_json, basis_json};
+ghost use Rattle.json_reports.specs.Json.{names_data, concept_data, concepts_data, implication_data, basis_data, concepts_json};
+ghost use Rattle.json_reports.specs.Json.{basis_json};
 
 use attr_bits::Attrs;
 use context_table::Table;

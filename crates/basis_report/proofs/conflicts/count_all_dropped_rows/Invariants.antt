@@ -6,6 +6,7 @@ use Rattle.basis_report.proofs.conflicts.count_all_dropped_rows.Given as goal
 
 abbrev pub invariant-loop-oracle : goal.invariant-loop-oracle
 invariant-loop-oracle l = record {
-  counted : l.count + length (dropped_later l.oracle-index l.oracles) ≡ length (dropped_rows_from 0 (map (λ o. (o.table, o.conflicts)) l.oracles));
+  counted : l.count + length (dropped_later l.oracle-index l.oracles) ≡ length
+      (dropped_rows_from 0 (map (λ o. (o.table, o.conflicts)) l.oracles));
   few : l.count ≤ l.oracle-index * MAX_OBJECTS;
 }

@@ -12,14 +12,16 @@ loop-place-preserved c =
     let o = c.conflict.result in
     elim c.if-is_some.branch [
       | then-is_some w ↦ record {
-        counted = λ e. counted_step c.loop-place.count c.if-is_some.count (length (dropped_rows_of e D conflicts)) (dropped_behind e D place conflicts) (dropped_rows_at e D place o) (dropped_behind e D (place + 1) conflicts)
+        counted = λ e. counted_step c.loop-place.count c.if-is_some.count (length (dropped_rows_of e D conflicts))
+            (dropped_behind e D place conflicts) (dropped_rows_at e D place o) (dropped_behind e D (place + 1) conflicts)
             (place_step e D place conflicts o c.conflict.ensures)
             (w.count-is ∙ ap (λ n. c.loop-place.count + n) (sym (length-dropped e D place o (sym c.is_some.ensures ∙ w.if-is_some.true))))
             (c.loop-place.invariant.counted e);
         few = omega arith;
       }
       | else-is_some w ↦ record {
-        counted = λ e. counted_step c.loop-place.count c.if-is_some.count (length (dropped_rows_of e D conflicts)) (dropped_behind e D place conflicts) (dropped_rows_at e D place o) (dropped_behind e D (place + 1) conflicts)
+        counted = λ e. counted_step c.loop-place.count c.if-is_some.count (length (dropped_rows_of e D conflicts))
+            (dropped_behind e D place conflicts) (dropped_rows_at e D place o) (dropped_behind e D (place + 1) conflicts)
             (place_step e D place conflicts o c.conflict.ensures)
             (omega (arith, w.count-is, length-kept e D place o (sym c.is_some.ensures ∙ w.if-is_some.false)))
             (c.loop-place.invariant.counted e);

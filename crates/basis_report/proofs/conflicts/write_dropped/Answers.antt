@@ -15,12 +15,16 @@ loop-place-preserved c =
     let all = c.args.draft.now ++ flat_map line (dropped_rows_of e D conflicts) in
     elim c.match-conflict.branch [
       | in-Some+in_ok-write_conflict w ↦
-          written_step line c.loop-place.draft c.match-conflict.draft all (dropped_behind e D place conflicts) (dropped_rows_at e D place (Some w.in-Some.broken)) (dropped_behind e D (place + 1) conflicts)
+          written_step line c.loop-place.draft c.match-conflict.draft all (dropped_behind e D place conflicts)
+          (dropped_rows_at e D place (Some w.in-Some.broken)) (dropped_behind e D (place + 1) conflicts)
           (place_step e D place conflicts (Some w.in-Some.broken) (c.conflict.ensures ∙ ap (λ o. Some o) w.in-Some.is))
-          (w.draft-is ∙ w.in_ok-write_conflict.ensures ∙ ap (λ known. c.loop-place.draft ++ flat_map line (dropped_rows_at e known place (Some w.in-Some.broken))) c.table-known.ensures.table)
+          (w.draft-is ∙ w.in_ok-write_conflict.ensures
+          ∙ ap (λ known. c.loop-place.draft ++ flat_map line (dropped_rows_at e known place (Some w.in-Some.broken)))
+          c.table-known.ensures.table)
           c.loop-place.invariant
       | in_default w ↦
-          written_step line c.loop-place.draft c.match-conflict.draft all (dropped_behind e D place conflicts) [] (dropped_behind e D (place + 1) conflicts)
+          written_step line c.loop-place.draft c.match-conflict.draft all (dropped_behind e D place conflicts) []
+          (dropped_behind e D (place + 1) conflicts)
           (place_step e D place conflicts None (c.conflict.ensures ∙ ap (λ o. Some o) w.in_default.is))
           (w.draft-is ∙ sym (append-nil c.loop-place.draft))
           c.loop-place.invariant

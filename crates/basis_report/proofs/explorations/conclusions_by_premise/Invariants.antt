@@ -6,4 +6,5 @@ use Rattle.basis_report.proofs.explorations.conclusions_by_premise.Given as goal
 
 abbrev pub invariant-loop-implication : goal.invariant-loop-implication
 invariant-loop-implication l =
-    fold (λ entries i. insert_entry lectic_cmp entries i.premise i.conclusion) l.conclusions.entries (drop l.implication-index l.accepted) ≡ conclusions_by_premise l.accepted
+    fold (λ entries i. insert_entry lectic_cmp entries i.premise i.conclusion) l.conclusions.entries (drop l.implication-index l.accepted)
+    ≡ conclusions_by_premise l.accepted

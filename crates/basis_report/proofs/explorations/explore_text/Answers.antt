@@ -9,7 +9,8 @@ use Rattle.basis_report.proofs.explorations.explore_text.Goals as goal
 pub returns-clause-text : goal.returns-clause-text
 returns-clause-text c =
     let o = c.args.explore.now.opening in
-    c.into_bytes.ensures ∙ c.in_ok-write_exploration.ensures ∙ ap (λ d. d ++ explore_text o.table o.settings c.args.explore.now.journal) c.new-draft.ensures
+    c.into_bytes.ensures ∙ c.in_ok-write_exploration.ensures
+    ∙ ap (λ d. d ++ explore_text o.table o.settings c.args.explore.now.journal) c.new-draft.ensures
 
 pub returns-clause-reads_back : goal.returns-clause-reads_back
 returns-clause-reads_back c = λ lines whole can.

@@ -8,6 +8,9 @@ use Rattle.basis_report.proofs.laws.comments_change_nothing.Goals as goal
 pub returns : goal.returns
 returns c = record {
   any = spelled-comments;
-  conflicts = λ t settings H accepted oracles names can named legal objects. spelled-more t settings H (conflicts_text t.attributes accepted oracles) names can named legal (Skips-conflicts_text t.attributes accepted oracles (are_names t.attributes names) objects);
-  sessions = λ t settings H endings names can named legal lines. spelled-more t settings H (sessions_text endings) names can named legal (Skips-sessions_text endings lines);
+  conflicts = λ t settings H accepted oracles names can named legal objects. spelled-more t settings H
+      (conflicts_text t.attributes accepted oracles) names can named legal
+      (Skips-conflicts_text t.attributes accepted oracles (are_names t.attributes names) objects);
+  sessions = λ t settings H endings names can named legal lines. spelled-more t settings H (sessions_text endings) names can named legal
+      (Skips-sessions_text endings lines);
 }

@@ -10,4 +10,5 @@ returns g c =
     let transcript : c.in_ok-transcript.transcript.items ≡ transcript_of h = search rules in
     let lists : c.in_ok-lists.lists.items ≡ lists_of h = search rules in
     let basis : c.in_ok-lists.basis.items ≡ basis_of h = search rules in
-    ap (flat_map (λ (piece : Vec ℕ Global). piece.items)) c.in_ok-vec.ensures.items ∙ joined-three _ _ _ _ _ _ transcript lists basis ∙ explore_text-pieces h
+    ap (flat_map (λ (piece : Vec ℕ Global). piece.items)) c.in_ok-vec.ensures.items ∙ joined-three _ _ _ _ _ _ transcript lists basis
+    ∙ explore_text-pieces h

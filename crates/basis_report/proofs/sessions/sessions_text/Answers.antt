@@ -13,6 +13,7 @@ returns-clause-skipped c = λ whole.
     let over : length endings ≤ k = omega arith in
     let text : c.into_bytes.result.items ≡ sessions_text (map (λ words. words.now) endings) =
     c.into_bytes.ensures ∙ sym (append-nil c.loop-place.draft)
-    ∙ ap (λ ws. c.loop-place.draft ++ flat_map (λ x. session_line x.0 x.1) (enumerate_from k (map (λ words. words.now) ws))) (sym (drop_of_length-le endings over))
+    ∙ ap (λ ws. c.loop-place.draft ++ flat_map (λ x. session_line x.0 x.1) (enumerate_from k (map (λ words. words.now) ws)))
+    (sym (drop_of_length-le endings over))
     ∙ c.loop-place.invariant in
     subst AreComments (sym text) (sessions-comments (map (λ words. words.now) endings) whole)

@@ -7,4 +7,5 @@ use Rattle.expert_scripts.proofs.laws.transcript_reads_back.Goals as goal
 
 pub returns : goal.returns
 returns c = λ n attributes settings H names can said.
-    ap (λ t. script_form t n) (sym (append-nil (transcript attributes settings H))) ∙ script_form-transcript n attributes settings H [] names can said Skips-nil
+    ap (λ t. script_form t n) (sym (append-nil (transcript attributes settings H)))
+    ∙ script_form-transcript n attributes settings H [] names can said Skips-nil

@@ -21,7 +21,8 @@ pub loop-rest-preserved-then-is_skipped : goal.loop-rest-preserved-then-is_skipp
 loop-rest-preserved-then-is_skipped c =
     let k = c.loop-rest.number + 1 in
     let line = c.split_line.result.0.now in
-    let cut = lines-cut c.loop-rest.rest.now line c.split_line.result.1.now c.is_empty.result c.is_empty.ensures c.loop-rest-test.true c.split_line.ensures.line c.split_line.ensures.after_events in
+    let cut = lines-cut c.loop-rest.rest.now line c.split_line.result.1.now c.is_empty.result c.is_empty.ensures c.loop-rest-test.true
+    c.split_line.ensures.line c.split_line.ensures.after_events in
     let skip : is_skipped line ≡ true = sym c.is_skipped.ensures ∙ c.if-is_skipped.true in
     let said = ap (numbered_lines k) cut.0 ∙ numbered_lines-skipped k line (lines c.split_line.result.1.now) skip in
     record {
@@ -34,13 +35,15 @@ pub loop-rest-preserved : goal.loop-rest-preserved
 loop-rest-preserved c =
     let k = c.loop-rest.number + 1 in
     let line = c.split_line.result.0.now in
-    let cut = lines-cut c.loop-rest.rest.now line c.split_line.result.1.now c.is_empty.result c.is_empty.ensures c.loop-rest-test.true c.split_line.ensures.line c.split_line.ensures.after_events in
+    let cut = lines-cut c.loop-rest.rest.now line c.split_line.result.1.now c.is_empty.result c.is_empty.ensures c.loop-rest-test.true
+    c.split_line.ensures.line c.split_line.ensures.after_events in
     let kept : is_skipped line ≡ false = sym c.is_skipped.ensures ∙ c.if-is_skipped.false in
     let said = ap (numbered_lines k) cut.0 ∙ numbered_lines-kept k line (lines c.split_line.result.1.now) kept in
     record {
       counted = let less = cut.1 in let counted = c.loop-rest.invariant.counted in omega arith;
       width = c.in_ok-take.ensures.width;
-      said = sym (c.in_ok-take.ensures.ok (numbered_lines (k + 1) (lines c.split_line.result.1.now))) ∙ ap (content_to_come c.args.n c.loop-rest.reading) (sym said) ∙ c.loop-rest.invariant.said;
+      said = sym (c.in_ok-take.ensures.ok (numbered_lines (k + 1) (lines c.split_line.result.1.now)))
+          ∙ ap (content_to_come c.args.n c.loop-rest.reading) (sym said) ∙ c.loop-rest.invariant.said;
     }
 
 pub returns-in_err-take-clause-refused : goal.returns-in_err-take-clause-refused
@@ -48,27 +51,32 @@ returns-in_err-take-clause-refused c =
     let p = err_from_is_err_and c.from_residual-in_err-take.result c.from_residual-in_err-take.ensures.1 in
     let k = c.loop-rest.number + 1 in
     let line = c.split_line.result.0.now in
-    let cut = lines-cut c.loop-rest.rest.now line c.split_line.result.1.now c.is_empty.result c.is_empty.ensures c.loop-rest-test.true c.split_line.ensures.line c.split_line.ensures.after_events in
+    let cut = lines-cut c.loop-rest.rest.now line c.split_line.result.1.now c.is_empty.result c.is_empty.ensures c.loop-rest-test.true
+    c.split_line.ensures.line c.split_line.ensures.after_events in
     let kept : is_skipped line ≡ false = sym c.is_skipped.ensures ∙ c.if-is_skipped.false in
     let said = ap (numbered_lines k) cut.0 ∙ numbered_lines-kept k line (lines c.split_line.result.1.now) kept in
     rw (p.1, p.2) (elim c.in_err-take.ensures.refused [
       | inl m ↦ inl m
-      | inr e ↦ inr (sym c.loop-rest.invariant.said ∙ ap (content_to_come c.args.n c.loop-rest.reading) said ∙ e (numbered_lines (k + 1) (lines c.split_line.result.1.now)))
+      | inr e ↦ inr (sym c.loop-rest.invariant.said ∙ ap (content_to_come c.args.n c.loop-rest.reading) said
+          ∙ e (numbered_lines (k + 1) (lines c.split_line.result.1.now)))
     ])
 
 pub returns-clause-ok : goal.returns-clause-ok
 returns-clause-ok c =
     let none = lines-none c.loop-rest.rest.now c.is_empty.result c.is_empty.ensures c.loop-rest-test.false in
-    sym c.loop-rest.invariant.said ∙ ap (λ ls. content_to_come c.args.n c.loop-rest.reading (numbered_lines (c.loop-rest.number + 1) ls)) none ∙ c.into_script.ensures.said c.args.n
+    sym c.loop-rest.invariant.said ∙ ap (λ ls. content_to_come c.args.n c.loop-rest.reading (numbered_lines (c.loop-rest.number + 1) ls))
+    none ∙ c.into_script.ensures.said c.args.n
 
 pub returns-clause-writable : goal.returns-clause-writable
 returns-clause-writable c =
     let none = lines-none c.loop-rest.rest.now c.is_empty.result c.is_empty.ensures c.loop-rest-test.false in
     (script_form-fine c.args.bytes.now c.args.n (content_of c.into_script.result)
-    (sym c.loop-rest.invariant.said ∙ ap (λ ls. content_to_come c.args.n c.loop-rest.reading (numbered_lines (c.loop-rest.number + 1) ls)) none ∙ c.into_script.ensures.said c.args.n)).kept
+    (sym c.loop-rest.invariant.said ∙ ap (λ ls. content_to_come c.args.n c.loop-rest.reading (numbered_lines (c.loop-rest.number + 1) ls))
+    none ∙ c.into_script.ensures.said c.args.n)).kept
 
 pub returns-clause-fits : goal.returns-clause-fits
 returns-clause-fits c =
     let none = lines-none c.loop-rest.rest.now c.is_empty.result c.is_empty.ensures c.loop-rest-test.false in
     (script_form-fine c.args.bytes.now c.args.n (content_of c.into_script.result)
-    (sym c.loop-rest.invariant.said ∙ ap (λ ls. content_to_come c.args.n c.loop-rest.reading (numbered_lines (c.loop-rest.number + 1) ls)) none ∙ c.into_script.ensures.said c.args.n)).fits
+    (sym c.loop-rest.invariant.said ∙ ap (λ ls. content_to_come c.args.n c.loop-rest.reading (numbered_lines (c.loop-rest.number + 1) ls))
+    none ∙ c.into_script.ensures.said c.args.n)).fits

@@ -9,13 +9,23 @@ pub loop-implication-init : goal.loop-implication-init
 loop-implication-init c = Drafting-start c.args.draft.now (flat_map (known_line c.args.table.now.attributes) c.args.known.now)
 
 pub loop-implication-preserved : goal.loop-implication-preserved
-loop-implication-preserved c = rw add-one (Drafting-more _ _ (Drafting-equal (flat_map-drop (known_line c.args.table.now.attributes) c.args.known.now c.loop-implication.implication-index c.implication-item.result c.loop-implication-test.true c.implication-item.is) c.loop-implication.invariant) c.in_ok-append_question.ensures.whole)
+loop-implication-preserved c = rw add-one (Drafting-more _ _
+    (Drafting-equal (flat_map-drop (known_line c.args.table.now.attributes) c.args.known.now c.loop-implication.implication-index
+    c.implication-item.result c.loop-implication-test.true c.implication-item.is) c.loop-implication.invariant)
+    c.in_ok-append_question.ensures.whole)
 
 pub returns-in_err-append_question-clause-front : goal.returns-in_err-append_question-clause-front
-returns-in_err-append_question-clause-front c = Drafting-fault _ _ (Drafting-equal (flat_map-drop (known_line c.args.table.now.attributes) c.args.known.now c.loop-implication.implication-index c.implication-item.result c.loop-implication-test.true c.implication-item.is) c.loop-implication.invariant) c.in_err-append_question.ensures.front
+returns-in_err-append_question-clause-front c =
+    Drafting-fault _ _ (Drafting-equal (flat_map-drop
+    (known_line c.args.table.now.attributes) c.args.known.now c.loop-implication.implication-index c.implication-item.result
+    c.loop-implication-test.true c.implication-item.is) c.loop-implication.invariant) c.in_err-append_question.ensures.front
 
 pub returns-clause-whole : goal.returns-clause-whole
-returns-clause-whole c = Drafting-end (Drafting-equal (flat_map-past (known_line c.args.table.now.attributes) c.args.known.now c.loop-implication.implication-index c.loop-implication-test.false) c.loop-implication.invariant)
+returns-clause-whole c = Drafting-end (Drafting-equal
+    (flat_map-past (known_line c.args.table.now.attributes) c.args.known.now c.loop-implication.implication-index
+    c.loop-implication-test.false) c.loop-implication.invariant)
 
 pub returns-clause-front : goal.returns-clause-front
-returns-clause-front c = front-whole (flat_map (known_line c.args.table.now.attributes) c.args.known.now) (Drafting-end (Drafting-equal (flat_map-past (known_line c.args.table.now.attributes) c.args.known.now c.loop-implication.implication-index c.loop-implication-test.false) c.loop-implication.invariant))
+returns-clause-front c = front-whole (flat_map (known_line c.args.table.now.attributes) c.args.known.now)
+    (Drafting-end (Drafting-equal (flat_map-past (known_line c.args.table.now.attributes) c.args.known.now
+    c.loop-implication.implication-index c.loop-implication-test.false) c.loop-implication.invariant))

@@ -8,21 +8,24 @@ use Rattle.expert_scripts.proofs.NamedLemmas.{names_left, names_left-start, name
 use Rattle.expert_scripts.proofs.transcript.write_names.Goals as goal
 
 pub loop-expert-init : goal.loop-expert-init
-loop-expert-init c = Drafting-equal (sym (names_left-start c.args.names.now)) (Drafting-start c.args.draft.now (names_text c.args.names.now))
+loop-expert-init c = Drafting-equal (sym (names_left-start c.args.names.now))
+    (Drafting-start c.args.draft.now (names_text c.args.names.now))
 
 pub loop-expert-preserved : goal.loop-expert-preserved
 loop-expert-preserved c =
     let e = c.loop-expert.expert in
     let names = c.args.names.now in
     let inside : e ≤ MAX_EXPERTS = omega arith in
-    Drafting-more (name_line_at e (name_of e names)) (names_left names (e + 1)) (Drafting-equal (names_left-next names e inside) c.loop-expert.invariant) c.in_ok-write_name.ensures.whole
+    Drafting-more (name_line_at e (name_of e names)) (names_left names (e + 1))
+    (Drafting-equal (names_left-next names e inside) c.loop-expert.invariant) c.in_ok-write_name.ensures.whole
 
 pub returns-in_err-write_name-clause-front : goal.returns-in_err-write_name-clause-front
 returns-in_err-write_name-clause-front c =
     let e = c.loop-expert.expert in
     let names = c.args.names.now in
     let inside : e ≤ MAX_EXPERTS = omega arith in
-    Drafting-fault (name_line_at e (name_of e names)) (names_left names (e + 1)) (Drafting-equal (names_left-next names e inside) c.loop-expert.invariant) c.in_err-write_name.ensures.front
+    Drafting-fault (name_line_at e (name_of e names)) (names_left names (e + 1))
+    (Drafting-equal (names_left-next names e inside) c.loop-expert.invariant) c.in_err-write_name.ensures.front
 
 pub returns-clause-whole : goal.returns-clause-whole
 returns-clause-whole c =
@@ -32,4 +35,5 @@ returns-clause-whole c =
 pub returns-clause-front : goal.returns-clause-front
 returns-clause-front c =
     let past : MAX_EXPERTS < c.loop-expert.expert = omega arith in
-    front-whole (names_text c.args.names.now) (Drafting-end (Drafting-equal (names_left-end c.args.names.now c.loop-expert.expert past) c.loop-expert.invariant))
+    front-whole (names_text c.args.names.now) (Drafting-end
+    (Drafting-equal (names_left-end c.args.names.now c.loop-expert.expert past) c.loop-expert.invariant))

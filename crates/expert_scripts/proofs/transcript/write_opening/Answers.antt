@@ -16,14 +16,16 @@ returns-clause-whole c =
     let other = opening_text-other attributes s (λ plain. false≢true (sym c.if-is_plain.false ∙ c.is_plain.ensures.1 plain)) in
     let text = settings_text attributes s in
     on_ok_weaker c.write_settings.result (λ written.
-    written ∙ ap (λ t. t ++ text) c.in_ok-append_parts.ensures.whole ∙ append_assoc c.args.draft.now (second_heading ++ line_end) text ∙ ap (λ t. c.args.draft.now ++ t) (sym other)) c.write_settings.ensures.whole
+    written ∙ ap (λ t. t ++ text) c.in_ok-append_parts.ensures.whole ∙ append_assoc c.args.draft.now (second_heading ++ line_end) text
+    ∙ ap (λ t. c.args.draft.now ++ t) (sym other)) c.write_settings.ensures.whole
 
 pub returns-in_err-append_parts-clause-front : goal.returns-in_err-append_parts-clause-front
 returns-in_err-append_parts-clause-front c =
     let s = settings_of c.args.settings.now in
     let attributes = c.args.table.now.attributes in
     let other = opening_text-other attributes s (λ plain. false≢true (sym c.if-is_plain.false ∙ c.is_plain.ensures.1 plain)) in
-    Drafting-fault (second_heading ++ line_end) (settings_text attributes s) (Drafting-equal other (Drafting-start c.args.draft.now (opening_text attributes s))) c.in_err-append_parts.ensures.front
+    Drafting-fault (second_heading ++ line_end) (settings_text attributes s)
+    (Drafting-equal other (Drafting-start c.args.draft.now (opening_text attributes s))) c.in_err-append_parts.ensures.front
 
 pub returns-clause-front : goal.returns-clause-front
 returns-clause-front c =
@@ -31,5 +33,6 @@ returns-clause-front c =
     let attributes = c.args.table.now.attributes in
     let other = opening_text-other attributes s (λ plain. false≢true (sym c.if-is_plain.false ∙ c.is_plain.ensures.1 plain)) in
     Drafting-last (settings_text attributes s)
-    (Drafting-more (second_heading ++ line_end) (settings_text attributes s) (Drafting-equal other (Drafting-start c.args.draft.now (opening_text attributes s))) c.in_ok-append_parts.ensures.whole)
+    (Drafting-more (second_heading ++ line_end) (settings_text attributes s)
+    (Drafting-equal other (Drafting-start c.args.draft.now (opening_text attributes s))) c.in_ok-append_parts.ensures.whole)
     c.write_settings.ensures.front

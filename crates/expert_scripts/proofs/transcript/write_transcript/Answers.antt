@@ -7,12 +7,14 @@ pub returns-in_err-write_opening-clause-front : goal.returns-in_err-write_openin
 returns-in_err-write_opening-clause-front c =
     let s = settings_of c.args.settings.now in
     let attributes = c.args.table.now.attributes in
-    Drafting-fault (opening_text attributes s) (entries_text attributes c.args.journal.now) (Drafting-start c.args.draft.now (transcript attributes s c.args.journal.now)) c.in_err-write_opening.ensures.front
+    Drafting-fault (opening_text attributes s) (entries_text attributes c.args.journal.now)
+    (Drafting-start c.args.draft.now (transcript attributes s c.args.journal.now)) c.in_err-write_opening.ensures.front
 
 pub returns-clause-front : goal.returns-clause-front
 returns-clause-front c =
     let s = settings_of c.args.settings.now in
     let attributes = c.args.table.now.attributes in
     let entries = entries_text attributes c.args.journal.now in
-    Drafting-last entries (Drafting-more (opening_text attributes s) entries (Drafting-start c.args.draft.now (transcript attributes s c.args.journal.now)) c.in_ok-write_opening.ensures.whole)
+    Drafting-last entries (Drafting-more (opening_text attributes s) entries
+    (Drafting-start c.args.draft.now (transcript attributes s c.args.journal.now)) c.in_ok-write_opening.ensures.whole)
     c.write_entries.ensures.front

@@ -10,8 +10,10 @@ returns-in-Err-Memory-clause-refused c =
     let told = c.in-Err-Memory.ensures in
     unnamed_row c.args.n c.args.text.now c.as_bytes.result.now c.split_word.result.1.now (map is_cross c.in-Some.marks.now)
     (c.as_bytes.ensures.value ∙ c.split_word.ensures.first) c.split_word.ensures.later c.in-Some.ensures
-    (is_name-faultless c.split_word.result.1.now (λ e. let x = told.empty.1 e in cc) (λ e. let x = told.long.1 e in cc) (λ e. let x = told.line.1 e in cc))
-    c.fault_without_memory.result (c.fault_without_memory.ensures ∙ ap (λ k. cond (k == c.args.n) Memory Width) (sym (length-map c.in-Some.marks.now is_cross)))
+    (is_name-faultless c.split_word.result.1.now (λ e. let x = told.empty.1 e in cc) (λ e. let x = told.long.1 e in cc)
+    (λ e. let x = told.line.1 e in cc))
+    c.fault_without_memory.result (c.fault_without_memory.ensures
+    ∙ ap (λ k. cond (k == c.args.n) Memory Width) (sym (length-map c.in-Some.marks.now is_cross)))
 
 pub returns-in-Err-Memory-clause-memory : goal.returns-in-Err-Memory-clause-memory
 returns-in-Err-Memory-clause-memory c is =
@@ -19,5 +21,7 @@ returns-in-Err-Memory-clause-memory c is =
     let none : c.fault_without_memory.result ≡ Memory = cc is in
     unnamed_only_row c.args.n c.args.text.now c.as_bytes.result.now c.split_word.result.1.now (map is_cross c.in-Some.marks.now)
     (c.as_bytes.ensures.value ∙ c.split_word.ensures.first) c.split_word.ensures.later c.in-Some.ensures
-    (is_name-faultless c.split_word.result.1.now (λ e. let x = told.empty.1 e in cc) (λ e. let x = told.long.1 e in cc) (λ e. let x = told.line.1 e in cc))
-    c.fault_without_memory.result (c.fault_without_memory.ensures ∙ ap (λ k. cond (k == c.args.n) Memory Width) (sym (length-map c.in-Some.marks.now is_cross))) none
+    (is_name-faultless c.split_word.result.1.now (λ e. let x = told.empty.1 e in cc) (λ e. let x = told.long.1 e in cc)
+    (λ e. let x = told.line.1 e in cc))
+    c.fault_without_memory.result (c.fault_without_memory.ensures
+    ∙ ap (λ k. cond (k == c.args.n) Memory Width) (sym (length-map c.in-Some.marks.now is_cross))) none

@@ -7,4 +7,5 @@ use Rattle.json_reports.proofs.json_lines.attribute_names.Given as goal
 
 abbrev pub invariant-loop-attribute : goal.invariant-loop-attribute
 invariant-loop-attribute l =
-    map view l.names.items ++ map (λ name. string name) (names_from l.attribute l.table.attributes l.set) ≡ map (λ name. string name) (names_of l.table.attributes l.set)
+    map view l.names.items ++ map (λ name. string name) (names_from l.attribute l.table.attributes l.set) ≡ map (λ name. string name)
+    (names_of l.table.attributes l.set)

@@ -10,4 +10,5 @@ line_of-requires c = ap has_float c.in_ok-value.ensures ∙ no_float-basis c.arg
 
 pub returns : goal.returns
 unfolding basis_json
-returns c = c.in_ok-line_of.ensures ∙ ap (λ d. compact_text d ++ line_end) (c.in_ok-value.ensures ∙ ap (basis_data c.args.table.now.attributes) c.as_slice.ensures.members)
+returns c = c.in_ok-line_of.ensures ∙ ap (λ d. compact_text d ++ line_end)
+    (c.in_ok-value.ensures ∙ ap (basis_data c.args.table.now.attributes) c.as_slice.ensures.members)

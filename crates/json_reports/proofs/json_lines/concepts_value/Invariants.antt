@@ -4,4 +4,5 @@ use Rattle.json_reports.specs.Json.{concept_data}
 use Rattle.json_reports.proofs.json_lines.concepts_value.Given as goal
 
 abbrev pub invariant-loop-concept : goal.invariant-loop-concept
-invariant-loop-concept l = map view l.list.items ++ map (concept_data l.table) (drop l.concept-index l.concepts) ≡ map (concept_data l.table) l.concepts
+invariant-loop-concept l = map view l.list.items ++ map (concept_data l.table) (drop l.concept-index l.concepts) ≡ map
+    (concept_data l.table) l.concepts

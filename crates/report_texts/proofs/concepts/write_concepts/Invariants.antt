@@ -4,4 +4,5 @@ use Rattle.report_texts.specs.Reports.{concept_line, concepts_text}
 use Rattle.report_texts.proofs.concepts.write_concepts.Given as goal
 
 abbrev pub invariant-loop-place : goal.invariant-loop-place
-invariant-loop-place l = l.draft ++ flat_map (λ x. concept_line l.table x.0 x.1) (enumerate_from l.place (drop l.place l.concepts)) ≡ l.fn.draft ++ concepts_text l.table l.concepts
+invariant-loop-place l = l.draft ++ flat_map (λ x. concept_line l.table x.0 x.1) (enumerate_from l.place (drop l.place l.concepts))
+    ≡ l.fn.draft ++ concepts_text l.table l.concepts
