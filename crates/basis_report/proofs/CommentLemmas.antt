@@ -111,7 +111,8 @@ pub Skips-conflicts_text : (attributes : List Text) (accepted : List Rule) (orac
 unfolding conflicts_text
 Skips-conflicts_text attributes accepted oracles names h =
     let ds = dropped_rows_from 0 oracles in
-    Skips-append (count_line (codes "# conflicts ") (length ds)) (flat_map (conflict_line attributes accepted) ds) (Skips-count_line (codes "conflicts ") (length ds) refl) (Skips-dropped attributes accepted ds names (named_from 0 oracles h))
+    Skips-append (count_line (codes "# conflicts ") (length ds)) (flat_map (conflict_line attributes accepted) ds)
+    (Skips-count_line (codes "conflicts ") (length ds) refl) (Skips-dropped attributes accepted ds names (named_from 0 oracles h))
 
 -- ---- sessions
 
@@ -121,12 +122,14 @@ Skips-endings k [] h = Skips-nil
 Skips-endings k (words ∷ endings) h =
     let parts = and_parts (not (list_any is_line_break words)) (are_lines endings) h in
     Skips-append (session_line k words) (flat_map (λ x. session_line x.0 x.1) (enumerate_from (k + 1) endings))
-    (Skips-comment (ordinal k ++ (codes " " ++ words)) (no_break-append (ordinal k) (codes " " ++ words) (no_break-decimal (k + 1)) (not-true (list_any is_line_break words) parts.0)))
+    (Skips-comment (ordinal k ++ (codes " " ++ words))
+    (no_break-append (ordinal k) (codes " " ++ words) (no_break-decimal (k + 1)) (not-true (list_any is_line_break words) parts.0)))
     (Skips-endings (k + 1) endings parts.1)
 
 pub Skips-sessions_text : (endings : List Text) → are_lines endings ≡ true → Skips (sessions_text endings)
 Skips-sessions_text endings h =
-    Skips-append (count_line (codes "# sessions ") (length endings)) (flat_map (λ x. session_line x.0 x.1) (enumerate_from 0 endings)) (Skips-count_line (codes "sessions ") (length endings) refl) (Skips-endings 0 endings h)
+    Skips-append (count_line (codes "# sessions ") (length endings)) (flat_map (λ x. session_line x.0 x.1) (enumerate_from 0 endings))
+    (Skips-count_line (codes "sessions ") (length endings) refl) (Skips-endings 0 endings h)
 
 -- ---- both texts consist of such lines
 
@@ -151,8 +154,11 @@ conflicts-comments attributes accepted oracles names h =
     let head = codes "conflicts " ++ decimal (length ds) in
     let later = map (conflict_words attributes accepted) ds in record {
       lines = head ∷ later;
-      whole = and_from (not (list_any is_line_break head)) (are_lines later) (ap not (no_break-append (codes "conflicts ") (decimal (length ds)) refl (no_break-decimal (length ds)))) (conflict_lines attributes accepted ds names (named_from 0 oracles h));
-      text_is = ap₂ (λ a b. codes "# " ++ a ++ b) (sym (append_assoc (codes "conflicts ") (decimal (length ds)) line_end)) (lines-map (conflict_words attributes accepted) ds);
+      whole = and_from (not (list_any is_line_break head)) (are_lines later)
+          (ap not (no_break-append (codes "conflicts ") (decimal (length ds)) refl (no_break-decimal (length ds))))
+          (conflict_lines attributes accepted ds names (named_from 0 oracles h));
+      text_is = ap₂ (λ a b. codes "# " ++ a ++ b) (sym (append_assoc (codes "conflicts ") (decimal (length ds)) line_end))
+          (lines-map (conflict_words attributes accepted) ds);
     }
 
 abbrev session_words : ℕ × Text → Text
@@ -162,14 +168,19 @@ ending_lines : (k : ℕ) (endings : List Text) → are_lines endings ≡ true �
 ending_lines k [] h = refl
 ending_lines k (words ∷ endings) h =
     let parts = and_parts (not (list_any is_line_break words)) (are_lines endings) h in
-    and_from (not (list_any is_line_break (ordinal k ++ (codes " " ++ words)))) (are_lines (map session_words (enumerate_from (k + 1) endings)))
-    (ap not (no_break-append (ordinal k) (codes " " ++ words) (no_break-decimal (k + 1)) (not-true (list_any is_line_break words) parts.0))) (ending_lines (k + 1) endings parts.1)
+    and_from (not (list_any is_line_break (ordinal k ++ (codes " " ++ words))))
+    (are_lines (map session_words (enumerate_from (k + 1) endings)))
+    (ap not (no_break-append (ordinal k) (codes " " ++ words) (no_break-decimal (k + 1))
+    (not-true (list_any is_line_break words) parts.0))) (ending_lines (k + 1) endings parts.1)
 
 pub sessions-comments : (endings : List Text) → are_lines endings ≡ true → AreComments (sessions_text endings)
 sessions-comments endings h =
     let head = codes "sessions " ++ decimal (length endings) in
     let later = map session_words (enumerate_from 0 endings) in record {
       lines = head ∷ later;
-      whole = and_from (not (list_any is_line_break head)) (are_lines later) (ap not (no_break-append (codes "sessions ") (decimal (length endings)) refl (no_break-decimal (length endings)))) (ending_lines 0 endings h);
-      text_is = ap₂ (λ a b. codes "# " ++ a ++ b) (sym (append_assoc (codes "sessions ") (decimal (length endings)) line_end)) (lines-map session_words (enumerate_from 0 endings));
+      whole = and_from (not (list_any is_line_break head)) (are_lines later)
+          (ap not (no_break-append (codes "sessions ") (decimal (length endings)) refl (no_break-decimal (length endings))))
+          (ending_lines 0 endings h);
+      text_is = ap₂ (λ a b. codes "# " ++ a ++ b) (sym (append_assoc (codes "sessions ") (decimal (length endings)) line_end))
+          (lines-map session_words (enumerate_from 0 endings));
     }

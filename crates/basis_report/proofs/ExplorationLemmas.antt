@@ -27,8 +27,10 @@ sections-known attributes H s S e =
     (open_questions K s.context s.accepted)))) e
 
 -- the head of the accepted implications, before any of them
-pub accepted_section-begun : (attributes : List Text) (k : ℕ) (acc : List Rule) (before after : Text) → after ≡ before ++ count_line (codes "# accepted ") (length acc)
-    → after ++ flat_map (λ x. (codes "# " ++ numbered_rule attributes x.0 x.1) ++ line_end) (enumerate_from (k + 0) acc) ≡ before ++ accepted_section attributes k acc
+pub accepted_section-begun : (attributes : List Text) (k : ℕ) (acc : List Rule) (before after : Text)
+    → after ≡ before ++ count_line (codes "# accepted ") (length acc)
+    → after ++ flat_map (λ x. (codes "# " ++ numbered_rule attributes x.0 x.1) ++ line_end) (enumerate_from (k + 0) acc)
+    ≡ before ++ accepted_section attributes k acc
 accepted_section-begun attributes k acc before after e =
     let lines : ℕ → Text = λ n. flat_map (λ x. (codes "# " ++ numbered_rule attributes x.0 x.1) ++ line_end) (enumerate_from n acc) in
     let head = count_line (codes "# accepted ") (length acc) in

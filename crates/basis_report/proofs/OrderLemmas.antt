@@ -7,7 +7,7 @@ use Rattle.std.specs.Prelude.{codes}
 use Rattle.std.specs.Ordering.{is_lt, ordering_reverse, match_ordering}
 use Rattle.std.specs.BTreeMap.{insert_entry}
 use Rattle.std.specs.List.{list_all, list_any}
-use Rattle.std.proofs.lemmas.Bool.{false≢true, and_parts, and_from, false_from_ne_true, not-true}
+use Rattle.std.proofs.lemmas.Bool.{false≢true, and_parts, and_from, or_parts, false_from_ne_true, not-true}
 use Rattle.std.proofs.lemmas.List.Folds.{list_all-map}
 use Rattle.fca_model.specs.Sets.{Set, same, lectic_cmp, increasing}
 use Rattle.fca_model.specs.SetLaws.{lectic_total}
@@ -47,10 +47,6 @@ swap true b c = refl
 swap false true c = refl
 swap false false c = refl
 
-or_none : (a b : Bool) → (a || b) ≡ false → (a ≡ false) × (b ≡ false)
-or_none false b h = (refl, h)
-or_none true b h = absurd (false≢true (sym h))
-
 de_morgan : (a b : Bool) → (a || not b) ≡ not (not a && b)
 de_morgan true b = refl
 de_morgan false b = refl
@@ -62,7 +58,7 @@ list_all-insert_entry : (p : Rule → Bool) (P C : Set) (Es : List (Set × Set))
     → list_all p (map ruled (insert_entry lectic_cmp Es P C)) ≡ (p (rule P C) && list_all p (map ruled Es))
 list_all-insert_entry p P C [] h = refl
 list_all-insert_entry p P C (e ∷ Es) h =
-    let apart = or_none (same e.0 P) (has_key P Es) h in
+    let apart = or_parts (same e.0 P) (has_key P Es) h in
     go (lectic_cmp P e.0) refl apart.0 (list_all-insert_entry p P C Es apart.1)
   where
     go : (o : Ordering) → lectic_cmp P e.0 ≡ o → same e.0 P ≡ false
@@ -149,7 +145,7 @@ key-insert_entry Q P C Es new apart none =
   where
     none_all : (Q : Set) (Fs : List (Set × Set)) → has_key Q Fs ≡ false → list_all (λ i. not (same i.premise Q)) (map ruled Fs) ≡ true
     none_all Q [] h = refl
-    none_all Q (f ∷ Fs) h = let parts = or_none (same f.0 Q) (has_key Q Fs) h in
+    none_all Q (f ∷ Fs) h = let parts = or_parts (same f.0 Q) (has_key Q Fs) h in
         and_from (not (same f.0 Q)) (list_all (λ i. not (same i.premise Q)) (map ruled Fs)) (ap not parts.0) (none_all Q Fs parts.1)
 
     key_any : (Q : Set) (Fs : List (Set × Set)) → has_key Q Fs ≡ not (list_all (λ i. not (same i.premise Q)) (map ruled Fs))
@@ -163,7 +159,7 @@ still_new : (i : Rule) (Es : List (Set × Set)) (J : List Rule) → has_key i.pr
 still_new i Es [] new apart news = refl
 still_new i Es (j ∷ J) new apart news =
     let parts = and_parts (not (has_key j.premise Es)) (are_new Es J) news in
-    let aparts = or_none (same j.premise i.premise) (has_premise J i.premise) apart in
+    let aparts = or_parts (same j.premise i.premise) (has_premise J i.premise) apart in
     and_from (not (has_key j.premise (insert_entry lectic_cmp Es i.premise i.conclusion)))
     (are_new (insert_entry lectic_cmp Es i.premise i.conclusion) J)
     (ap not (key-insert_entry j.premise i.premise i.conclusion Es new (other_way j.premise i.premise aparts.0)
@@ -212,7 +208,8 @@ pub basis_section-basis : (attributes : List Text) (S : List Rule) (K : Context)
     → open_questions S K acc ≡ []
     → basis_section attributes acc [] ≡ basis_lines attributes (basis_known S K)
 basis_section-basis attributes S K acc h done =
-    ap₂ (λ n J. count_line (codes "# basis ") n ++ arrow_lines (codes "# ") attributes J) (accepted_length S K acc h done) (in_lectic_order-basis S K acc h done)
+    ap₂ (λ n J. count_line (codes "# basis ") n ++ arrow_lines (codes "# ") attributes J) (accepted_length S K acc h done)
+    (in_lectic_order-basis S K acc h done)
 
 -- a legal history that leaves no question open
 pub finished_basis : (t : NamedContext) (settings : Settings) (H : List SetEntry) → rows_respect settings.known t.context ≡ true

@@ -28,9 +28,12 @@ use Rattle.basis_report.specs.Explorations.{basis_section, sections, state_of_te
 -- ---- each section is skipped
 
 pub Skips-count_line : (words : Text) (n : ℕ) → list_any is_line_break words ≡ false → Skips (count_line (codes "# " ++ words) n)
-Skips-count_line words n h = subst Skips (ap (λ t. codes "# " ++ t) (append_assoc words (decimal n) line_end)) (Skips-comment (words ++ decimal n) (no_break-append words (decimal n) h (no_break-decimal n)))
+Skips-count_line words n h =
+    subst Skips (ap (λ t. codes "# " ++ t) (append_assoc words (decimal n) line_end))
+    (Skips-comment (words ++ decimal n) (no_break-append words (decimal n) h (no_break-decimal n)))
 
-grouped : (a b c : Text) → codes "# " ++ ((a ++ (codes " " ++ (b ++ (codes " " ++ c)))) ++ line_end) ≡ codes "# " ++ (a ++ (codes " " ++ (b ++ (codes " " ++ (c ++ line_end)))))
+grouped : (a b c : Text) → codes "# " ++ ((a ++ (codes " " ++ (b ++ (codes " " ++ c)))) ++ line_end)
+    ≡ codes "# " ++ (a ++ (codes " " ++ (b ++ (codes " " ++ (c ++ line_end)))))
 grouped a b c = simp append_assoc
 
 Skips-recorded : (event : SetEvent) (reply : SetReply) → IsNamed event → Skips (recorded_line event reply)
@@ -50,23 +53,31 @@ Skips-recorded_lines (entry ∷ H) h =
 Skips-recorded_section : (H : List SetEntry) → EachNamed H → Skips (recorded_section H)
 Skips-recorded_section H h =
     let n = length (filter (λ entry. is_recorded entry.event entry.reply) H) in
-    Skips-append (count_line (codes "# recorded ") n) (flat_map (λ entry. recorded_line entry.event entry.reply) H) (Skips-count_line (codes "recorded ") n refl) (Skips-recorded_lines H h)
+    Skips-append (count_line (codes "# recorded ") n) (flat_map (λ entry. recorded_line entry.event entry.reply) H)
+    (Skips-count_line (codes "recorded ") n refl) (Skips-recorded_lines H h)
 
 Skips-accepted_section : (attributes : List Text) (k : ℕ) (acc : List Rule) → list_all is_name attributes ≡ true
     → Skips (accepted_section attributes k acc)
 Skips-accepted_section attributes k acc h =
-    Skips-append (count_line (codes "# accepted ") (length acc)) (flat_map (λ x. (codes "# " ++ numbered_rule attributes x.0 x.1) ++ line_end) (enumerate_from k acc)) (Skips-count_line (codes "accepted ") (length acc) refl)
-    (Skips-flat_map (λ x. (codes "# " ++ numbered_rule attributes x.0 x.1) ++ line_end) (enumerate_from k acc) (λ x. Skips-comment (numbered_rule attributes x.0 x.1) (no_break-rule attributes x.0 x.1 h)))
+    Skips-append (count_line (codes "# accepted ") (length acc))
+    (flat_map (λ x. (codes "# " ++ numbered_rule attributes x.0 x.1) ++ line_end) (enumerate_from k acc))
+    (Skips-count_line (codes "accepted ") (length acc) refl)
+    (Skips-flat_map (λ x. (codes "# " ++ numbered_rule attributes x.0 x.1) ++ line_end) (enumerate_from k acc)
+    (λ x. Skips-comment (numbered_rule attributes x.0 x.1) (no_break-rule attributes x.0 x.1 h)))
 
 Skips-open_section : (attributes : List Text) (J : List Rule) → list_all is_name attributes ≡ true → Skips (open_section attributes J)
 Skips-open_section attributes J h =
-    Skips-append (count_line (codes "# open ") (length J)) (flat_map (λ i. (codes "# " ++ full_text attributes i) ++ line_end) J) (Skips-count_line (codes "open ") (length J) refl)
-    (Skips-flat_map (λ i. (codes "# " ++ full_text attributes i) ++ line_end) J (λ i. Skips-comment (full_text attributes i) (no_break-full attributes i h)))
+    Skips-append (count_line (codes "# open ") (length J)) (flat_map (λ i. (codes "# " ++ full_text attributes i) ++ line_end) J)
+    (Skips-count_line (codes "open ") (length J) refl)
+    (Skips-flat_map (λ i. (codes "# " ++ full_text attributes i) ++ line_end) J
+    (λ i. Skips-comment (full_text attributes i) (no_break-full attributes i h)))
 
-Skips-arrow : (attributes : List Text) (place : ℕ) (i : Rule) → list_all is_name attributes ≡ true → Skips (arrow_line (codes "# ") attributes place i)
+Skips-arrow : (attributes : List Text) (place : ℕ) (i : Rule) → list_all is_name attributes ≡ true
+    → Skips (arrow_line (codes "# ") attributes place i)
 Skips-arrow attributes place i h =
     subst Skips (regroup (ordinal place) (arrow_text attributes i))
-    (Skips-comment (ordinal place ++ (codes " " ++ arrow_text attributes i)) (no_break-append (ordinal place) (codes " " ++ arrow_text attributes i) (no_break-decimal (place + 1)) (no_break-arrow attributes i h)))
+    (Skips-comment (ordinal place ++ (codes " " ++ arrow_text attributes i))
+    (no_break-append (ordinal place) (codes " " ++ arrow_text attributes i) (no_break-decimal (place + 1)) (no_break-arrow attributes i h)))
   where
     regroup : (a b : Text) → codes "# " ++ ((a ++ (codes " " ++ b)) ++ line_end) ≡ codes "# " ++ (a ++ (codes " " ++ (b ++ line_end)))
     regroup a b = simp append_assoc
@@ -75,8 +86,10 @@ Skips-basis_section : (attributes : List Text) (acc J : List Rule) → list_all 
     → Skips (basis_section attributes acc J)
 Skips-basis_section attributes acc (q ∷ J) h = Skips-nil
 Skips-basis_section attributes acc [] h =
-    Skips-append (count_line (codes "# basis ") (length acc)) (arrow_lines (codes "# ") attributes (in_lectic_order acc)) (Skips-count_line (codes "basis ") (length acc) refl)
-    (Skips-flat_map (λ x. arrow_line (codes "# ") attributes x.0 x.1) (enumerate_from 0 (in_lectic_order acc)) (λ x. Skips-arrow attributes x.0 x.1 h))
+    Skips-append (count_line (codes "# basis ") (length acc)) (arrow_lines (codes "# ") attributes (in_lectic_order acc))
+    (Skips-count_line (codes "basis ") (length acc) refl)
+    (Skips-flat_map (λ x. arrow_line (codes "# ") attributes x.0 x.1) (enumerate_from 0 (in_lectic_order acc))
+    (λ x. Skips-arrow attributes x.0 x.1 h))
 
 pub Skips-sections : (attributes : List Text) (H : List SetEntry) (s : State) → list_all is_name attributes ≡ true → EachNamed H
     → Skips (sections attributes H s)

@@ -27,7 +27,8 @@ is_recorded event reply = false
 
 -- `# I PATTERN NAME` of the row, if the entry records one
 abbrev pub recorded_line : SetEvent → SetReply → Text
-recorded_line (Row e name r) (Taken place) = codes "# " ++ (ordinal place ++ (codes " " ++ (pattern r ++ (codes " " ++ (name ++ line_end)))))
+recorded_line (Row e name r) (Taken place) =
+    codes "# " ++ (ordinal place ++ (codes " " ++ (pattern r ++ (codes " " ++ (name ++ line_end)))))
 recorded_line event reply = []
 
 -- the number of recorded rows, and a line for each
@@ -41,7 +42,8 @@ recorded_section H =
 -- the accepted implications, each with its number among all rules. The first k rules are known beforehand
 abbrev pub accepted_section : List Text → ℕ → List Rule → Text
 accepted_section attributes k acc =
-    count_line (codes "# accepted ") (length acc) ++ flat_map (λ x. (codes "# " ++ numbered_rule attributes x.0 x.1) ++ line_end) (enumerate_from k acc)
+    count_line (codes "# accepted ") (length acc)
+    ++ flat_map (λ x. (codes "# " ++ numbered_rule attributes x.0 x.1) ++ line_end) (enumerate_from k acc)
 
 -- the number of open questions, and a line for each
 abbrev pub open_section : List Text → List Rule → Text

@@ -17,12 +17,15 @@ step_line attributes J place = arrow_line [] attributes place (slice_index_or J 
 
 -- the implication holds by these steps
 abbrev pub derivation_text : List Text → List Rule → List ℕ → Text
-derivation_text attributes J steps = codes "holds\n" ++ (count_line (codes "steps ") (length steps) ++ flat_map (step_line attributes J) steps)
+derivation_text attributes J steps =
+    codes "holds\n" ++ (count_line (codes "steps ") (length steps) ++ flat_map (step_line attributes J) steps)
 
 -- the row at the place refutes the implication
 abbrev pub refutation_text : NamedContext → ℕ → Text
 refutation_text t place =
-    codes "refuted " ++ (ordinal place ++ (codes " " ++ (pattern (unwrap_or (slice_get t.context.rows place) []) ++ (codes " " ++ (unwrap_or (slice_get t.objects place) [] ++ line_end)))))
+    codes "refuted " ++ (ordinal place
+    ++ (codes " " ++ (pattern (unwrap_or (slice_get t.context.rows place) [])
+    ++ (codes " " ++ (unwrap_or (slice_get t.objects place) [] ++ line_end)))))
 
 -- the row that refutes the implication, if there is one, or else the steps
 abbrev pub verdict : NamedContext → List Rule → Option ℕ → Option (List ℕ) → Text

@@ -2,7 +2,7 @@
 
 ghost use Rattle.std.specs.Prelude.{◌≡◌, Some};
 ghost use Rattle.std.specs.List.{flat_map};
-ghost use Rattle.expert_wire.specs.Parts.{Writes};
+ghost use Rattle.expert_wire.specs.Parts.{WritesTo};
 ghost use Rattle.text_pieces.specs.declared.faults.Place.TheVariants.{Whole, Field};
 ghost use Rattle.command_io.specs.ErrLines.{plain_line, placed_line, numbered_line, breaks_line, name_of, stop_line};
 ghost use Rattle.command_io.specs.Streams.{moment, GainsLine};
@@ -43,8 +43,7 @@ pub(crate) fn report_plain<E: Sink>(err: &mut E, words: &str)
 }
 
 fn write_stop<E: Sink>(err: &mut E, file: &[u8], stop: &Stop) -> Result<(), Put>
-    ensures { Writes (E.held err.old) (E.held err.new) (E.faults err.old) (E.faults err.new) (E.beside err.old) (E.beside err.new)
-        (E.asked_beside err.old) (E.asked_beside err.new) (stop_line file.now stop.now) result }
+    ensures { WritesTo E.held E.faults E.beside E.asked_beside err.old err.new (stop_line file.now stop.now) result }
 {
     match stop {
         Stop::NoCommand => write_plain(err, NO_SUCH_COMMAND),
@@ -93,24 +92,21 @@ fn name_of(file: &[u8], origin: Origin) -> &[u8]
 
 /// A line of these words alone.
 fn write_plain<E: Sink>(err: &mut E, words: &str) -> Result<(), Put>
-    ensures { Writes (E.held err.old) (E.held err.new) (E.faults err.old) (E.faults err.new) (E.beside err.old) (E.beside err.new)
-        (E.asked_beside err.old) (E.asked_beside err.new) (plain_line words.now) result }
+    ensures { WritesTo E.held E.faults E.beside E.asked_beside err.old err.new (plain_line words.now) result }
 {
     write_parts(err, &[b"fca: ", words.as_bytes(), b"\n"])
 }
 
 /// A line of these words on the whole of what has this name.
 fn write_whole<E: Sink>(err: &mut E, name: &[u8], words: &str) -> Result<(), Put>
-    ensures { Writes (E.held err.old) (E.held err.new) (E.faults err.old) (E.faults err.new) (E.beside err.old) (E.beside err.new)
-        (E.asked_beside err.old) (E.asked_beside err.new) (placed_line name.now (Whole, words.now)) result }
+    ensures { WritesTo E.held E.faults E.beside E.asked_beside err.old err.new (placed_line name.now (Whole, words.now)) result }
 {
     write_parts(err, &[b"fca: ", name, b": ", words.as_bytes(), b"\n"])
 }
 
 /// The line of a fault in what has this name.
 fn write_placed<E: Sink>(err: &mut E, name: &[u8], description: &Description) -> Result<(), Put>
-    ensures { Writes (E.held err.old) (E.held err.new) (E.faults err.old) (E.faults err.new) (E.beside err.old) (E.beside err.new)
-        (E.asked_beside err.old) (E.asked_beside err.new) (placed_line name.now description.now) result }
+    ensures { WritesTo E.held E.faults E.beside E.asked_beside err.old err.new (placed_line name.now description.now) result }
 {
     match description.place {
         Place::Whole => write_whole(err, name, description.words),
@@ -129,8 +125,7 @@ fn write_numbered<'a, E: Sink>(
     number: usize,
     words: &'a str,
 ) -> Result<(), Put>
-    ensures { Writes (E.held err.old) (E.held err.new) (E.faults err.old) (E.faults err.new) (E.beside err.old) (E.beside err.new)
-        (E.asked_beside err.old) (E.asked_beside err.new) (numbered_line name.now kind.now number words.now) result }
+    ensures { WritesTo E.held E.faults E.beside E.asked_beside err.old err.new (numbered_line name.now kind.now number words.now) result }
 {
     write_parts(
         err,
@@ -155,8 +150,8 @@ fn write_field<E: Sink>(
     field: usize,
     words: &str,
 ) -> Result<(), Put>
-    ensures { Writes (E.held err.old) (E.held err.new) (E.faults err.old) (E.faults err.new) (E.beside err.old) (E.beside err.new)
-        (E.asked_beside err.old) (E.asked_beside err.new) (placed_line name.now (Field number field, words.now)) result }
+    ensures { WritesTo E.held E.faults E.beside E.asked_beside err.old err.new
+        (placed_line name.now (Field number field, words.now)) result }
 {
     write_parts(
         err,
@@ -176,8 +171,7 @@ fn write_field<E: Sink>(
 
 /// A line on the row that breaks one of the known implications, by their places.
 fn write_breaks<E: Sink>(err: &mut E, name: &[u8], row: usize, rule: usize) -> Result<(), Put>
-    ensures { Writes (E.held err.old) (E.held err.new) (E.faults err.old) (E.faults err.new) (E.beside err.old) (E.beside err.new)
-        (E.asked_beside err.old) (E.asked_beside err.new) (breaks_line name.now row rule) result }
+    ensures { WritesTo E.held E.faults E.beside E.asked_beside err.old err.new (breaks_line name.now row rule) result }
 {
     write_parts(
         err,
@@ -195,8 +189,7 @@ fn write_breaks<E: Sink>(err: &mut E, name: &[u8], row: usize, rule: usize) -> R
 
 /// The parts, one behind the other.
 fn write_parts<E: Sink>(err: &mut E, parts: &[&[u8]]) -> Result<(), Put>
-    ensures { Writes (E.held err.old) (E.held err.new) (E.faults err.old) (E.faults err.new) (E.beside err.old) (E.beside err.new)
-        (E.asked_beside err.old) (E.asked_beside err.new) (flat_map (λ part. part.now) parts.now) result }
+    ensures { WritesTo E.held E.faults E.beside E.asked_beside err.old err.new (flat_map (λ part. part.now) parts.now) result }
 {
     for part in parts {
         write_part(err, part)?;
@@ -206,8 +199,7 @@ fn write_parts<E: Sink>(err: &mut E, parts: &[&[u8]]) -> Result<(), Put>
 
 /// Appends the part to a stream, as err. After an `Err` the stream holds a front of it.
 pub(crate) fn write_part<E: Sink>(err: &mut E, part: &[u8]) -> Result<(), Put>
-    ensures { Writes (E.held err.old) (E.held err.new) (E.faults err.old) (E.faults err.new) (E.beside err.old) (E.beside err.new)
-        (E.asked_beside err.old) (E.asked_beside err.new) part.now result }
+    ensures { WritesTo E.held E.faults E.beside E.asked_beside err.old err.new part.now result }
 {
     write_text(err, part)
 }

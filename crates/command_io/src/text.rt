@@ -2,7 +2,7 @@
 
 ghost use Rattle.std.specs.Prelude.{◌≡◌};
 ghost use Rattle.std.specs.List.{flat_map};
-ghost use Rattle.expert_wire.specs.Parts.{Writes};
+ghost use Rattle.expert_wire.specs.Parts.{WritesTo};
 
 use crate::err_line::write_part;
 use fca_io::{Put, Sink};
@@ -62,8 +62,7 @@ impl Text {
 
     /// Appends the whole text to out. After an `Err` out holds a front of it.
     pub(crate) fn write<K: Sink>(self, out: &mut K) -> Result<(), Put>
-        ensures { Writes (K.held out.old) (K.held out.new) (K.faults out.old) (K.faults out.new) (K.beside out.old) (K.beside out.new)
-            (K.asked_beside out.old) (K.asked_beside out.new) self result }
+        ensures { WritesTo K.held K.faults K.beside K.asked_beside out.old out.new self result }
     {
         match self.layout {
             Layout::Whole(bytes) => write_part(out, &bytes),
@@ -75,8 +74,7 @@ impl Text {
 
 /// The pieces, one behind the other.
 fn write_pieces<K: Sink>(out: &mut K, pieces: &[Vec<u8>]) -> Result<(), Put>
-    ensures { Writes (K.held out.old) (K.held out.new) (K.faults out.old) (K.faults out.new) (K.beside out.old) (K.beside out.new)
-        (K.asked_beside out.old) (K.asked_beside out.new) (flat_map (λ piece. piece.items) pieces.now) result }
+    ensures { WritesTo K.held K.faults K.beside K.asked_beside out.old out.new (flat_map (λ piece. piece.items) pieces.now) result }
 {
     for piece in pieces {
         write_part(out, piece)?;

@@ -39,7 +39,8 @@ expert_in-decimal k e h =
 
 -- what stands after a verb and a space is UTF-8
 pub utf8_verb : (verb text : Text) → list_all (λ x. ltb x 128) (verb ++ codes " ") ≡ true → IsUtf8 text → IsUtf8 (verb ++ (32 ∷ text))
-utf8_verb verb text ascii utf8 = subst IsUtf8 (append_assoc verb (codes " ") text) (IsUtf8-append (verb ++ codes " ") text (utf8_words (verb ++ codes " ") ascii) utf8)
+utf8_verb verb text ascii utf8 =
+    subst IsUtf8 (append_assoc verb (codes " ") text) (IsUtf8-append (verb ++ codes " ") text (utf8_words (verb ++ codes " ") ascii) utf8)
 
 pub utf8_space : (text : Text) → IsUtf8 text → IsUtf8 (32 ∷ text)
 utf8_space text h = IsUtf8-append (codes " ") text (utf8_words (codes " ") refl) h

@@ -12,10 +12,12 @@ one_holder = refl
 no_holder : setting_of_words 2 2 no_settings (codes "holders") (codes "0") ≡ Some (Err (BadHolders 2))
 no_holder = refl
 
-a_implies_b : setting_of_words 2 3 no_settings (codes "known") (codes "X. .X") ≡ Some (Ok (record no_settings { known = rule (true ∷ false ∷ []) (false ∷ true ∷ []) ∷ [] }))
+a_implies_b : setting_of_words 2 3 no_settings (codes "known") (codes "X. .X")
+    ≡ Some (Ok (record no_settings { known = rule (true ∷ false ∷ []) (false ∷ true ∷ []) ∷ [] }))
 a_implies_b = refl
 
-expert_2_is_ann : setting_of_words 2 4 no_settings (codes "expert") (codes "2 Ann") ≡ Some (Ok (record no_settings { expert_names = (2, codes "Ann") ∷ [] }))
+expert_2_is_ann : setting_of_words 2 4 no_settings (codes "expert") (codes "2 Ann")
+    ≡ Some (Ok (record no_settings { expert_names = (2, codes "Ann") ∷ [] }))
 unfolding name_fault
 expert_2_is_ann = refl
 

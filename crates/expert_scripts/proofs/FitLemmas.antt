@@ -15,7 +15,6 @@ use Rattle.std.proofs.Math.ListN.{drop_of_length-le}
 use Rattle.fca_model.specs.Sets.{Set}
 use Rattle.fca_model.specs.Tables.{Text}
 use Rattle.fca_model.specs.Names.{IsName, name_fault}
-use Rattle.fca_model.specs.declared.names.NameFault.{NameFault}
 use Rattle.fca_model.specs.Implications.{Rule, rule}
 use Rattle.fca_model.specs.Exploration.{SetEvent, is_expert}
 use Rattle.fca_model.specs.declared.TheConstants.{MAX_EXPERTS}
@@ -30,6 +29,7 @@ use Rattle.expert_wire.specs.Replies.{heading}
 use Rattle.text_pieces.specs.Numerals.{is_numeral, value_of}
 use Rattle.text_pieces.specs.Words.{is_space, first_word, later_words}
 use Rattle.expert_wire.specs.Words.{named_row, row_of_width, is_name, set_of_pattern}
+use Rattle.expert_wire.proofs.SkipLemmas.{no_fault}
 use Rattle.expert_scripts.specs.declared.known_fault.KnownFault.{KnownFault}
 use Rattle.expert_scripts.specs.declared.known_fault.KnownFault.TheVariants.{BadWidth as WrongWidth}
 use Rattle.expert_scripts.specs.Known.{rule_of_width, known_rule, with_first, all_ok}
@@ -191,10 +191,6 @@ utf8_later text h = elim (cases_lt (position_or_len is_space text) (length text)
       let none : later_words text ≡ [] = drop_of_length-le text (omega arith) in
       subst IsUtf8 (sym none) IsUtf8-nil
 ]
-
-no_fault : (o : Option NameFault) → is_none o ≡ true → o ≡ None
-no_fault None h = refl
-no_fault (Some fault) h = cc
 
 with_name_words-fit : (n k : ℕ) (t : PartialSettings) (words : Text) → IsUtf8 words → SettingsCanBeWritten n (whole_settings t)
     → Tells n (with_name_words k t words)

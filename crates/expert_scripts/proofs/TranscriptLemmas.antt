@@ -57,7 +57,9 @@ are_names (name ∷ names) h = and_from (is_name name) (list_all is_name names) 
 
 utf8_continued : (names : List Text) → AreNames names → IsUtf8 (comma_tail names)
 utf8_continued [] h = utf8_words [] refl
-utf8_continued (name ∷ names) h = IsUtf8-append (codes ", ") (name ++ comma_tail names) (utf8_words (codes ", ") refl) (IsUtf8-append name (comma_tail names) h.0.utf8 (utf8_continued names h.1))
+utf8_continued (name ∷ names) h =
+    IsUtf8-append (codes ", ") (name ++ comma_tail names) (utf8_words (codes ", ") refl)
+    (IsUtf8-append name (comma_tail names) h.0.utf8 (utf8_continued names h.1))
 
 utf8_braced : (names : List Text) → AreNames names → IsUtf8 (names_in_braces names)
 utf8_braced [] h = utf8_words (codes "{}") refl
@@ -77,10 +79,13 @@ utf8_full attributes i h =
     let premise = utf8_braced (names_of attributes i.premise) (AreNames-names_of attributes i.premise h) in
     let gained = utf8_braced (names_of attributes (minus i.conclusion i.premise))
     (AreNames-names_of attributes (minus i.conclusion i.premise) h) in
-    let arrow = IsUtf8-append (braces_text attributes i.premise) (codes " -> " ++ braces_text attributes (minus i.conclusion i.premise)) premise
+    let arrow = IsUtf8-append (braces_text attributes i.premise)
+    (codes " -> " ++ braces_text attributes (minus i.conclusion i.premise)) premise
     (IsUtf8-append (codes " -> ") (braces_text attributes (minus i.conclusion i.premise)) (utf8_words (codes " -> ") refl) gained) in
-    let later = IsUtf8-append (pattern i.conclusion) (codes " " ++ arrow_text attributes i) (IsUtf8-from_ascii (pattern i.conclusion) (ascii_pattern i.conclusion)) (utf8_space (arrow_text attributes i) arrow) in
-    IsUtf8-append (pattern i.premise) (codes " " ++ (pattern i.conclusion ++ (codes " " ++ arrow_text attributes i))) (IsUtf8-from_ascii (pattern i.premise) (ascii_pattern i.premise))
+    let later = IsUtf8-append (pattern i.conclusion) (codes " " ++ arrow_text attributes i)
+    (IsUtf8-from_ascii (pattern i.conclusion) (ascii_pattern i.conclusion)) (utf8_space (arrow_text attributes i) arrow) in
+    IsUtf8-append (pattern i.premise) (codes " " ++ (pattern i.conclusion ++ (codes " " ++ arrow_text attributes i)))
+    (IsUtf8-from_ascii (pattern i.premise) (ascii_pattern i.premise))
     (utf8_space (pattern i.conclusion ++ (codes " " ++ arrow_text attributes i)) later)
 
 -- ---- one line of settings
@@ -127,7 +132,8 @@ settings_line n k t later second x rest whole said e =
 -- ---- all lines of settings
 
 settled_holders : (n k : ℕ) (t : PartialSettings) (second h : ℕ) (rest : Text) → is_expert h ≡ true → t.holders ≡ None
-    → settings_then_events n t second (numbered_lines k (lines (((codes "holders " ++ decimal h) ++ line_end) ++ rest))) ≡ settings_then_events n (record t { holders = Some h }) second (numbered_lines (k + 1) (lines rest))
+    → settings_then_events n t second (numbered_lines k (lines (((codes "holders " ++ decimal h) ++ line_end) ++ rest)))
+    ≡ settings_then_events n (record t { holders = Some h }) second (numbered_lines (k + 1) (lines rest))
 settled_holders n k t second h rest e none =
     settings_line n k t (record t { holders = Some h }) second (codes "holders " ++ decimal h) rest (no_break-decimal h) refl
     (settings_verb n k t (codes "holders") (decimal h) refl (utf8_verb (codes "holders") (decimal h) refl (utf8_decimal h))
@@ -148,7 +154,8 @@ settings_known n attributes (i ∷ J) k t second rest names wide =
     let read : with_rule t (known_rule n k text) ≡ Ok later =
     ap (with_rule t) (full_text-read n k attributes i (eqb-true (length i.premise) n both.0) (eqb-true (length i.conclusion) n both.1))
     in
-    let first = settings_line n k t later second (codes "known " ++ text) (more ++ rest) (no_break-full attributes i (are_names attributes names)) refl
+    let first = settings_line n k t later second (codes "known " ++ text) (more ++ rest)
+    (no_break-full attributes i (are_names attributes names)) refl
     (settings_verb n k t (codes "known") text refl (utf8_verb (codes "known") text refl (utf8_full attributes i names)) ∙ ap Some read) in
     let later = settings_known n attributes J (k + 1) later second rest names parts.1 in (
       later.0,

@@ -1,6 +1,7 @@
 -- Names that are written one by one. `bridged` is the rest of a list: nothing stands before the first name, and a comma and a space
 -- before each later one.
-use Rattle.std.proofs.Common.{◌≡◌, ℕ, suc, ◌<◌, ◌≤◌, true, false, List, [], ◌∷◌, ◌++◌, length, drop, get_or, refl, sym, ap, ◌∙◌, append_assoc, arith, min, cond, inl, inr, Some, take, map, ap₂}
+use Rattle.std.proofs.Common.{◌≡◌, ℕ, suc, ◌<◌, ◌≤◌, true, false, List, [], ◌∷◌, ◌++◌, length, drop, get_or, refl, sym, ap, ◌∙◌}
+use Rattle.std.proofs.Common.{append_assoc, arith, min, cond, inl, inr, Some, take, map, ap₂}
 use Rattle.std.proofs.Math.Nat.{le-min}
 use Rattle.std.proofs.lemmas.Bool.{cases_lt}
 use Rattle.std.proofs.lemmas.Option.{get_or_from_slice_get}
@@ -84,11 +85,16 @@ pattern-some (a ∷ A) h = refl
 
 -- the parts of a full text, in a line
 pub question_parts : (attributes : List Text) (words : Text) (i : Rule) (gained : Set) → gained ≡ minus i.conclusion i.premise
-    → words ++ (pattern i.premise ++ (codes " " ++ (pattern i.conclusion ++ (codes " " ++ (braces_text attributes i.premise ++ (codes " -> " ++ (braces_text attributes gained ++ line_end)))))))
+    → words ++ (pattern i.premise
+    ++ (codes " " ++ (pattern i.conclusion
+    ++ (codes " " ++ (braces_text attributes i.premise ++ (codes " -> " ++ (braces_text attributes gained ++ line_end)))))))
     ≡ (words ++ full_text attributes i) ++ line_end
 question_parts attributes words i gained e =
-    ap (λ A. words ++ (pattern i.premise ++ (codes " " ++ (pattern i.conclusion ++ (codes " " ++ (braces_text attributes i.premise ++ (codes " -> " ++ (braces_text attributes A ++ line_end)))))))) e
-    ∙ regroup words (pattern i.premise) (codes " ") (pattern i.conclusion) (codes " ") (braces_text attributes i.premise) (codes " -> ") (braces_text attributes (minus i.conclusion i.premise)) line_end
+    ap (λ A. words ++ (pattern i.premise
+    ++ (codes " " ++ (pattern i.conclusion
+    ++ (codes " " ++ (braces_text attributes i.premise ++ (codes " -> " ++ (braces_text attributes A ++ line_end)))))))) e
+    ∙ regroup words (pattern i.premise) (codes " ") (pattern i.conclusion) (codes " ") (braces_text attributes i.premise) (codes " -> ")
+    (braces_text attributes (minus i.conclusion i.premise)) line_end
   where
     regroup : (a b c d e f g h k : Text) → a ++ (b ++ (c ++ (d ++ (e ++ (f ++ (g ++ (h ++ k)))))))
         ≡ (a ++ (b ++ (c ++ (d ++ (e ++ (f ++ (g ++ h))))))) ++ k

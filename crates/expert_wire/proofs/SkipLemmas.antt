@@ -1,5 +1,5 @@
--- No text within a line has a line break. `Skips` holds of a text whose lines are all skipped: before another text it changes only
--- the numbers of the lines.
+-- No text within a line has a line break. `Skips` holds of a text whose lines are all skipped: before another text it changes only the
+-- numbers of the lines.
 use Rattle.std.proofs.Common.{◌≡◌, ℕ, zero, suc, ◌+◌, true, false, List, [], ◌∷◌, ◌++◌, Option, Some, None, refl, ap, ◌∙◌, append_assoc}
 use Rattle.std.specs.Prelude.{codes, is_none}
 use Rattle.std.specs.List.{list_any, list_all, flat_map}
@@ -10,7 +10,8 @@ use Rattle.fca_model.specs.Names.{name_fault, is_line_break}
 use Rattle.fca_model.specs.declared.names.NameFault.{NameFault}
 use Rattle.fca_model.specs.Implications.{Rule}
 use Rattle.fca_model.specs.Exploration.{SetReply}
-use Rattle.fca_model.specs.declared.Reply.TheVariants.{Ask, Done, AllHeld, Accepted, Taken, Left, NotHeld, Misses, Keeps, Breaks, Refuted, SupersededRow, SupersededBy}
+use Rattle.fca_model.specs.declared.Reply.TheVariants.{Ask, Done, AllHeld, Accepted, Taken, Left, NotHeld, Misses, Keeps, Breaks, Refuted}
+use Rattle.fca_model.specs.declared.Reply.TheVariants.{SupersededRow, SupersededBy}
 use Rattle.attr_bits.specs.Difference.{minus}
 use Rattle.text_pieces.specs.Lines.{lines}
 pub use Rattle.text_pieces.proofs.LineLemmas.{no_break-append}
@@ -25,12 +26,12 @@ use Rattle.expert_wire.proofs.ReadLemmas.{pattern_no_break}
 
 -- ---- texts without a line break
 
-faultless : (fault : Option NameFault) → is_none fault ≡ true → fault ≡ None
-faultless None h = refl
-faultless (Some fault) h = absurd (false≢true h)
+pub no_fault : (fault : Option NameFault) → is_none fault ≡ true → fault ≡ None
+no_fault None h = refl
+no_fault (Some fault) h = absurd (false≢true h)
 
 pub no_break-name : (name : Text) → is_name name ≡ true → list_any is_line_break name ≡ false
-no_break-name name h = no_break-faultless name (faultless (name_fault name) h)
+no_break-name name h = no_break-faultless name (no_fault (name_fault name) h)
 
 no_break-names_of : (attributes : List Text) (A : Set) → list_all is_name attributes ≡ true
     → list_all is_name (names_of attributes A) ≡ true
@@ -56,22 +57,26 @@ no_break-names_in_braces (name ∷ names) h =
 pub no_break-arrow : (attributes : List Text) (i : Rule) → list_all is_name attributes ≡ true
     → list_any is_line_break (arrow_text attributes i) ≡ false
 no_break-arrow attributes i h =
-    no_break-append (braces_text attributes i.premise) (codes " -> " ++ braces_text attributes (minus i.conclusion i.premise)) (no_break-names_in_braces (names_of attributes i.premise) (no_break-names_of attributes i.premise h))
+    no_break-append (braces_text attributes i.premise) (codes " -> " ++ braces_text attributes (minus i.conclusion i.premise))
+    (no_break-names_in_braces (names_of attributes i.premise) (no_break-names_of attributes i.premise h))
     (no_break-names_in_braces (names_of attributes (minus i.conclusion i.premise))
     (no_break-names_of attributes (minus i.conclusion i.premise) h))
 
 pub no_break-full : (attributes : List Text) (i : Rule) → list_all is_name attributes ≡ true
     → list_any is_line_break (full_text attributes i) ≡ false
 no_break-full attributes i h =
-    no_break-append (pattern i.premise) (codes " " ++ (pattern i.conclusion ++ (codes " " ++ arrow_text attributes i))) (pattern_no_break i.premise)
-    (no_break-append (pattern i.conclusion) (codes " " ++ arrow_text attributes i) (pattern_no_break i.conclusion) (no_break-arrow attributes i h))
+    no_break-append (pattern i.premise) (codes " " ++ (pattern i.conclusion ++ (codes " " ++ arrow_text attributes i)))
+    (pattern_no_break i.premise)
+    (no_break-append (pattern i.conclusion) (codes " " ++ arrow_text attributes i) (pattern_no_break i.conclusion)
+    (no_break-arrow attributes i h))
 
 no_break-row : (place : ℕ) (r : Set) → list_any is_line_break (numbered_row place r) ≡ false
 no_break-row place r = no_break-append (ordinal place) (codes " " ++ pattern r) (no_break-decimal (place + 1)) (pattern_no_break r)
 
 pub no_break-rule : (attributes : List Text) (place : ℕ) (i : Rule) → list_all is_name attributes ≡ true
     → list_any is_line_break (numbered_rule attributes place i) ≡ false
-no_break-rule attributes place i h = no_break-append (ordinal place) (codes " " ++ full_text attributes i) (no_break-decimal (place + 1)) (no_break-full attributes i h)
+no_break-rule attributes place i h =
+    no_break-append (ordinal place) (codes " " ++ full_text attributes i) (no_break-decimal (place + 1)) (no_break-full attributes i h)
 
 no_break-attribute : (attributes : List Text) (m : ℕ) → list_all is_name attributes ≡ true
     → list_any is_line_break (attribute_name attributes m) ≡ false
@@ -88,7 +93,8 @@ no_break-reply attributes (Accepted place) h = no_break-decimal (place + 1)
 no_break-reply attributes (Taken place) h = no_break-decimal (place + 1)
 no_break-reply attributes Left h = refl
 no_break-reply attributes NotHeld h = refl
-no_break-reply attributes (Misses m) h = no_break-append (ordinal m) (codes " " ++ attribute_name attributes m) (no_break-decimal (m + 1)) (no_break-attribute attributes m h)
+no_break-reply attributes (Misses m) h =
+    no_break-append (ordinal m) (codes " " ++ attribute_name attributes m) (no_break-decimal (m + 1)) (no_break-attribute attributes m h)
 no_break-reply attributes Keeps h = refl
 no_break-reply attributes (Breaks place i) h = no_break-rule attributes place i h
 no_break-reply attributes (Refuted place r) h = no_break-row place r

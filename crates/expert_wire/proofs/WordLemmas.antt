@@ -1,5 +1,6 @@
 -- Bytes that are UTF-8, numbers of experts, and rows with valid names.
-use Rattle.std.proofs.Common.{◌≡◌, ◌≢◌, ◌≤◌, ◌^◌, ◌∙◌, ◌==◌, ℕ, Bool, true, false, cond, length, nat_lt, List, Some, None, Result, Ok, Err, refl, sym, ap, ap₂, subst, inl, inr, arith, nat_le}
+use Rattle.std.proofs.Common.{◌≡◌, ◌≢◌, ◌≤◌, ◌^◌, ◌∙◌, ◌==◌, ℕ, Bool, true, false, cond, length, nat_lt, List, Some, None, Result, Ok}
+use Rattle.std.proofs.Common.{Err, refl, sym, ap, ap₂, subst, inl, inr, arith, nat_le}
 use Rattle.std.proofs.lemmas.Bool.{and_parts, cases_Bool, leb-true}
 use Rattle.std.specs.Borrow.{Bor}
 use Rattle.std.specs.Prelude.{MatchResult, MatchOption, IsUtf8, is_none, IsOk, ◌⊎◌}

@@ -1,7 +1,8 @@
--- Calls that write, one after the other. If the first wrote its whole text, both together write the one text and then the other. A
--- call that failed wrote a front, also of every longer text. `Underway` says how far a text is written: the done part was written, and
--- with the rest it is the whole.
-use Rattle.std.proofs.Common.{◌≡◌, ◌≤◌, ℕ, ◌+◌, ◌-◌, ◌^◌, List, [], ◌∷◌, ◌++◌, Option, Result, Ok, Err, refl, sym, ap, ◌∙◌, append_assoc, append-nil, arith, subst, ◌<◌, suc, length, get_or, drop}
+-- Calls that write, one after the other. If the first wrote its whole text, both together write the one text and then the other. A call
+-- that failed wrote a front, also of every longer text. `Underway` says how far a text is written: the done part was written, and with
+-- the rest it is the whole.
+use Rattle.std.proofs.Common.{◌≡◌, ◌≤◌, ℕ, ◌+◌, ◌-◌, ◌^◌, List, [], ◌∷◌, ◌++◌, Option, Result, Ok, Err, refl, sym, ap, ◌∙◌, append_assoc}
+use Rattle.std.proofs.Common.{append-nil, arith, subst, ◌<◌, suc, length, get_or, drop}
 use Rattle.std.specs.List.{flat_map}
 use Rattle.std.proofs.Math.Seq.{drop-cons}
 use Rattle.std.proofs.Math.ListN.{drop_of_length-le}

@@ -9,7 +9,9 @@ use Rattle.expert_wire.specs.Replies.{heading}
 
 -- the lines before the names of the attributes
 abbrev pub greeting_words : NamedContext → ℕ → Text
-greeting_words t e = heading ++ (line_end ++ (codes "expert " ++ (decimal e ++ (line_end ++ (codes "attributes " ++ (decimal t.context.width ++ line_end))))))
+greeting_words t e =
+    heading ++ (line_end ++ (codes "expert "
+    ++ (decimal e ++ (line_end ++ (codes "attributes " ++ (decimal t.context.width ++ line_end))))))
 
 -- the greeting of expert e
 abbrev pub greeting : NamedContext → ℕ → Text

@@ -33,3 +33,10 @@ pub record Writes (held held' : Option Text) (faults faults' : ℕ) (other other
   pub later : faults ≤ faults'
   pub beside : Keeps other other'
   pub same_beside : aside' ≡ aside
+
+-- what a call that writes a text does to a sink, by the members of its trait and by the sink before and after
+abbrev pub WritesTo : {S : Type 0} → (S → Option Text) → (S → ℕ) → (S → Option Text) → (S → Asked) → S → S → Text
+    → Result (Unit {0}) Put → Type 0
+WritesTo held faults beside asked_beside sink sink' text result =
+    Writes (held sink) (held sink') (faults sink) (faults sink') (beside sink) (beside sink') (asked_beside sink)
+    (asked_beside sink') text result

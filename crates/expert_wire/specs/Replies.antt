@@ -4,7 +4,8 @@ use Rattle.fca_model.specs.Sets.{Set}
 use Rattle.fca_model.specs.Tables.{Text}
 use Rattle.fca_model.specs.Implications.{Rule}
 use Rattle.fca_model.specs.Exploration.{SetReply}
-use Rattle.fca_model.specs.declared.Reply.TheVariants.{Ask, Done, AllHeld, Accepted, Taken, Left, NotHeld, Misses, Keeps, Breaks, Refuted, SupersededRow, SupersededBy}
+use Rattle.fca_model.specs.declared.Reply.TheVariants.{Ask, Done, AllHeld, Accepted, Taken, Left, NotHeld, Misses, Keeps, Breaks, Refuted}
+use Rattle.fca_model.specs.declared.Reply.TheVariants.{SupersededRow, SupersededBy}
 use Rattle.expert_wire.specs.Texts.{line_end, ordinal, pattern, full_text}
 
 -- the name of an attribute. It is empty if there is no such attribute

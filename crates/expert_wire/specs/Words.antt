@@ -1,5 +1,6 @@
 -- Patterns of sets, and rows with their names.
-use Rattle.std.specs.Prelude.{ℕ, Bool, ◌&&◌, ◌==◌, nat_lt, cond, Option, Some, None, Result, Ok, Err, [], map, length, is_none, bytes_eq, codes}
+use Rattle.std.specs.Prelude.{ℕ, Bool, ◌&&◌, ◌==◌, nat_lt, cond, Option, Some, None, Result, Ok, Err, [], map, length, is_none, bytes_eq}
+use Rattle.std.specs.Prelude.{codes}
 use Rattle.std.specs.List.{list_all}
 use Rattle.fca_model.specs.Names.{name_fault}
 use Rattle.fca_model.specs.Sets.{Set}

@@ -2,7 +2,7 @@
 
 ghost use Rattle.std.specs.Prelude.{◌++◌, ℕ};
 ghost use Rattle.expert_wire.specs.Greetings.{greeting};
-ghost use Rattle.expert_wire.specs.Parts.{Writes};
+ghost use Rattle.expert_wire.specs.Parts.{WritesTo};
 
 use crate::parts::{Part, write_parts};
 use context_table::Table;
@@ -10,8 +10,7 @@ use fca_io::{Put, Sink};
 
 /// Writes the greeting of the expert, part by part. It takes no memory. After an `Err` the sink has gained a front of the greeting.
 pub fn write_greeting<K: Sink>(sink: &mut K, table: &Table, expert: u8) -> Result<(), Put>
-    ensures { Writes (K.held sink.old) (K.held sink.new) (K.faults sink.old) (K.faults sink.new) (K.beside sink.old) (K.beside sink.new)
-        (K.asked_beside sink.old) (K.asked_beside sink.new) (greeting table.now expert) result }
+    ensures { WritesTo K.held K.faults K.beside K.asked_beside sink.old sink.new (greeting table.now expert) result }
 {
     let width = table.rows().width();
     write_parts(

@@ -3,7 +3,7 @@
 ghost use Rattle.std.specs.Prelude.{◌≡◌, ◌≤◌, ◌++◌, ℕ, decimal, OnOk, OnErr, slice_range};
 ghost use Rattle.fca_model.specs.declared.TheConstants.{MAX_ATTRIBUTES};
 ghost use Rattle.expert_wire.specs.Texts.{ordinal, pattern, braces_text};
-ghost use Rattle.expert_wire.specs.Parts.{part_text, parts_text, Writes};
+ghost use Rattle.expert_wire.specs.Parts.{part_text, parts_text, WritesTo};
 
 use attr_bits::Attrs;
 use context_table::Table;
@@ -32,8 +32,7 @@ pub enum Part<'a> {
 
 /// Writes the parts in order. It takes no memory.
 pub fn write_parts<K: Sink>(sink: &mut K, table: &Table, parts: &[Part<'_>]) -> Result<(), Put>
-    ensures { Writes (K.held sink.old) (K.held sink.new) (K.faults sink.old) (K.faults sink.new) (K.beside sink.old) (K.beside sink.new)
-        (K.asked_beside sink.old) (K.asked_beside sink.new) (parts_text table.now.attributes parts.now) result }
+    ensures { WritesTo K.held K.faults K.beside K.asked_beside sink.old sink.new (parts_text table.now.attributes parts.now) result }
 {
     for part in parts {
         write_part(sink, table, part)?;
@@ -42,8 +41,7 @@ pub fn write_parts<K: Sink>(sink: &mut K, table: &Table, parts: &[Part<'_>]) -> 
 }
 
 fn write_part<K: Sink>(sink: &mut K, table: &Table, part: &Part<'_>) -> Result<(), Put>
-    ensures { Writes (K.held sink.old) (K.held sink.new) (K.faults sink.old) (K.faults sink.new) (K.beside sink.old) (K.beside sink.new)
-        (K.asked_beside sink.old) (K.asked_beside sink.new) (part_text table.now.attributes part.now) result }
+    ensures { WritesTo K.held K.faults K.beside K.asked_beside sink.old sink.new (part_text table.now.attributes part.now) result }
 {
     match part {
         Part::Bytes(bytes) => write_bytes(sink, bytes),
@@ -58,15 +56,13 @@ fn write_part<K: Sink>(sink: &mut K, table: &Table, part: &Part<'_>) -> Result<(
 }
 
 fn write_bytes<K: Sink>(sink: &mut K, bytes: &[u8]) -> Result<(), Put>
-    ensures { Writes (K.held sink.old) (K.held sink.new) (K.faults sink.old) (K.faults sink.new) (K.beside sink.old) (K.beside sink.new)
-        (K.asked_beside sink.old) (K.asked_beside sink.new) bytes.now result }
+    ensures { WritesTo K.held K.faults K.beside K.asked_beside sink.old sink.new bytes.now result }
 {
     write_text(sink, bytes)
 }
 
 fn write_pattern<K: Sink>(sink: &mut K, set: &Attrs) -> Result<(), Put>
-    ensures { Writes (K.held sink.old) (K.held sink.new) (K.faults sink.old) (K.faults sink.new) (K.beside sink.old) (K.beside sink.new)
-        (K.asked_beside sink.old) (K.asked_beside sink.new) (pattern set.now) result }
+    ensures { WritesTo K.held K.faults K.beside K.asked_beside sink.old sink.new (pattern set.now) result }
 {
     let width = set.width();
     if width == 0 {
@@ -77,8 +73,7 @@ fn write_pattern<K: Sink>(sink: &mut K, set: &Attrs) -> Result<(), Put>
 }
 
 fn write_braces<K: Sink>(sink: &mut K, table: &Table, set: &Attrs) -> Result<(), Put>
-    ensures { Writes (K.held sink.old) (K.held sink.new) (K.faults sink.old) (K.faults sink.new) (K.beside sink.old) (K.beside sink.new)
-        (K.asked_beside sink.old) (K.asked_beside sink.new) (braces_text table.now.attributes set.now) result }
+    ensures { WritesTo K.held K.faults K.beside K.asked_beside sink.old sink.new (braces_text table.now.attributes set.now) result }
 {
     write_bytes(sink, b"{")?;
     let mut between = b"".as_slice();
@@ -93,8 +88,7 @@ fn write_braces<K: Sink>(sink: &mut K, table: &Table, set: &Attrs) -> Result<(),
 }
 
 fn write_both<K: Sink>(sink: &mut K, first: &[u8], second: &[u8]) -> Result<(), Put>
-    ensures { Writes (K.held sink.old) (K.held sink.new) (K.faults sink.old) (K.faults sink.new) (K.beside sink.old) (K.beside sink.new)
-        (K.asked_beside sink.old) (K.asked_beside sink.new) (first.now ++ second.now) result }
+    ensures { WritesTo K.held K.faults K.beside K.asked_beside sink.old sink.new (first.now ++ second.now) result }
 {
     write_bytes(sink, first)?;
     write_bytes(sink, second)

@@ -6,7 +6,7 @@ ghost use Rattle.fca_io.specs.Faults.{Rose};
 ghost use Rattle.fca_io.specs.Transfers.{AppendsFront};
 ghost use Rattle.expert_wire.specs.Texts.{line_end, ordinal, full_text};
 ghost use Rattle.expert_wire.specs.Replies.{attribute_name, numbered_row, numbered_rule, reply_line};
-ghost use Rattle.expert_wire.specs.Parts.{Writes};
+ghost use Rattle.expert_wire.specs.Parts.{WritesTo};
 
 use crate::parts::{Part, write_parts};
 use attr_bits::Attrs;
@@ -52,16 +52,14 @@ pub fn write_reply<K: Sink>(sink: &mut K, table: &Table, reply: &Reply<Attrs>) -
 
 /// Writes a line of the words alone.
 pub(crate) fn write_words<K: Sink>(sink: &mut K, table: &Table, words: &[u8]) -> Result<(), Put>
-    ensures { Writes (K.held sink.old) (K.held sink.new) (K.faults sink.old) (K.faults sink.new) (K.beside sink.old) (K.beside sink.new)
-        (K.asked_beside sink.old) (K.asked_beside sink.new) (words.now ++ line_end) result }
+    ensures { WritesTo K.held K.faults K.beside K.asked_beside sink.old sink.new (words.now ++ line_end) result }
 {
     write_parts(sink, table, &[Part::Bytes(words), Part::Bytes(b"\n")])
 }
 
 /// Writes a line: the words, and the number of the place.
 fn write_place<K: Sink>(sink: &mut K, table: &Table, words: &[u8], place: usize) -> Result<(), Put>
-    ensures { Writes (K.held sink.old) (K.held sink.new) (K.faults sink.old) (K.faults sink.new) (K.beside sink.old) (K.beside sink.new)
-        (K.asked_beside sink.old) (K.asked_beside sink.new) ((words.now ++ ordinal place) ++ line_end) result }
+    ensures { WritesTo K.held K.faults K.beside K.asked_beside sink.old sink.new ((words.now ++ ordinal place) ++ line_end) result }
 {
     write_parts(
         sink,
@@ -78,8 +76,8 @@ fn write_row<K: Sink>(
     place: usize,
     row: &Attrs,
 ) -> Result<(), Put>
-    ensures { Writes (K.held sink.old) (K.held sink.new) (K.faults sink.old) (K.faults sink.new) (K.beside sink.old) (K.beside sink.new)
-        (K.asked_beside sink.old) (K.asked_beside sink.new) ((words.now ++ numbered_row place row.now) ++ line_end) result }
+    ensures { WritesTo K.held K.faults K.beside K.asked_beside sink.old sink.new
+        ((words.now ++ numbered_row place row.now) ++ line_end) result }
 {
     write_parts(
         sink,
@@ -102,8 +100,8 @@ pub(crate) fn write_rule<K: Sink>(
     place: usize,
     rule: &Implication,
 ) -> Result<(), Put>
-    ensures { Writes (K.held sink.old) (K.held sink.new) (K.faults sink.old) (K.faults sink.new) (K.beside sink.old) (K.beside sink.new)
-        (K.asked_beside sink.old) (K.asked_beside sink.new) ((words.now ++ numbered_rule table.now.attributes place rule.now) ++ line_end) result }
+    ensures { WritesTo K.held K.faults K.beside K.asked_beside sink.old sink.new
+        ((words.now ++ numbered_rule table.now.attributes place rule.now) ++ line_end) result }
 {
     write_parts(
         sink,
@@ -120,8 +118,8 @@ pub(crate) fn write_question<K: Sink>(
     words: &[u8],
     question: &Implication,
 ) -> Result<(), Put>
-    ensures { Writes (K.held sink.old) (K.held sink.new) (K.faults sink.old) (K.faults sink.new) (K.beside sink.old) (K.beside sink.new)
-        (K.asked_beside sink.old) (K.asked_beside sink.new) ((words.now ++ full_text table.now.attributes question.now) ++ line_end) result }
+    ensures { WritesTo K.held K.faults K.beside K.asked_beside sink.old sink.new
+        ((words.now ++ full_text table.now.attributes question.now) ++ line_end) result }
 {
     let gained = question.conclusion.minus(&question.premise);
     write_parts(
@@ -143,8 +141,7 @@ pub(crate) fn write_question<K: Sink>(
 
 /// Writes the line of the attribute that a row lacks: its number and its name.
 fn write_misses<K: Sink>(sink: &mut K, table: &Table, attribute: u32) -> Result<(), Put>
-    ensures { Writes (K.held sink.old) (K.held sink.new) (K.faults sink.old) (K.faults sink.new) (K.beside sink.old) (K.beside sink.new)
-        (K.asked_beside sink.old) (K.asked_beside sink.new)
+    ensures { WritesTo K.held K.faults K.beside K.asked_beside sink.old sink.new
         ((codes "misses " ++ (ordinal attribute ++ (codes " " ++ attribute_name table.now.attributes attribute))) ++ line_end) result }
 {
     write_parts(

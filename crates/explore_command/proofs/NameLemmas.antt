@@ -1,7 +1,6 @@
 -- Names of experts by the words of their files, one after the other: each is named behind those before it, and so the names stand in the order
 -- of the experts.
-use Rattle.std.proofs.Common.{◌≡◌, ◌<◌, ◌≤◌, ℕ, suc, ◌+◌, Bool, true, false, cond, List, [], ◌∷◌, ◌++◌, length, drop, get_or, Option, Some, None, refl, sym, ap, ◌∙◌, subst, arith, append_assoc, append-nil, nat_le}
-use Rattle.std.specs.Prelude.{is_none}
+use Rattle.std.proofs.Common.{◌≡◌, ◌<◌, ◌≤◌, ℕ, suc, ◌+◌, Bool, true, false, cond, List, [], ◌∷◌, ◌++◌, length, drop, get_or, None, refl, sym, ap, ◌∙◌, subst, arith, append_assoc, append-nil, nat_le}
 use Rattle.std.specs.Ordering.{nat_cmp}
 use Rattle.std.specs.BTreeMap.{insert_entry}
 use Rattle.std.specs.Str.{is_utf8}
@@ -11,7 +10,6 @@ use Rattle.std.proofs.lemmas.Bool.{and_parts, leb-true}
 use Rattle.std.proofs.lemmas.Str.{IsUtf8-from_is_utf8}
 use Rattle.fca_model.specs.Tables.{Text}
 use Rattle.fca_model.specs.Names.{IsName, name_fault}
-use Rattle.fca_model.specs.declared.names.NameFault.{NameFault}
 use Rattle.fca_model.specs.declared.TheConstants.{MAX_EXPERTS}
 use Rattle.fca_model.specs.Exploration.{RowName, is_expert}
 use Rattle.fca_model.specs.Implications.{Rule}
@@ -20,6 +18,7 @@ use Rattle.implication_closure.specs.Closing.{HaveWidth}
 use Rattle.explore_state.specs.Faults.{first_break}
 use Rattle.explore_state.proofs.OpenLemmas.{unbroken_rows}
 use Rattle.expert_wire.specs.Words.{is_name}
+use Rattle.expert_wire.proofs.SkipLemmas.{no_fault}
 use Rattle.expert_scripts.specs.Transcripts.{AreExpertNames}
 use Rattle.expert_scripts.proofs.NamedLemmas.{AreBelow, below-more, below-push, insert-last}
 use Rattle.explore_command.specs.Panels.{is_named, names_from, names_told, settings_by, MayExplore}
@@ -56,10 +55,6 @@ pub NamesOn-all : (e i : ℕ) (files : List Text) (before : List (ℕ × RowName
 NamesOn-all e i files before past on = sym (append-nil before) ∙ ap (λ l. before ++ names_from e l) (sym (drop_of_length-le files past)) ∙ on.names
 
 -- ---- settings that can be written
-
-no_fault : (o : Option NameFault) → is_none o ≡ true → o ≡ None
-no_fault None h = refl
-no_fault (Some fault) h = cc
 
 named_is : (file : Text) → is_named file ≡ true → IsName file
 named_is file h =

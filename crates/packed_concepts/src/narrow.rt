@@ -1,7 +1,7 @@
 //! The text of packed concepts in sets of as many words as the table needs.
 
 ghost use Rattle.std.specs.Prelude.{◌≡◌, IfOk};
-ghost use Rattle.expert_wire.specs.Parts.{Writes};
+ghost use Rattle.expert_wire.specs.Parts.{WritesTo};
 
 use crate::text::PackedText;
 use attr_bits::WORDS;
@@ -72,8 +72,7 @@ impl ConceptsText {
 
     /// Appends the whole text to the sink. After an `Err` the sink holds a front of it.
     pub fn write<K: Sink>(self, out: &mut K) -> Result<(), Put>
-        ensures { Writes (K.held out.old) (K.held out.new) (K.faults out.old) (K.faults out.new) (K.beside out.old) (K.beside out.new)
-            (K.asked_beside out.old) (K.asked_beside out.new) self result }
+        ensures { WritesTo K.held K.faults K.beside K.asked_beside out.old out.new self result }
     {
         match self.sets {
             Sets::OneWord(text) => text.write(out),

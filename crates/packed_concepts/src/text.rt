@@ -2,7 +2,7 @@
 
 ghost use Rattle.std.specs.Prelude.{◌≡◌, ◌^◌, ◌<◌, ◌≤◌, ◌++◌, All, IfOk, length, take};
 ghost use Rattle.std.specs.List.{flat_map};
-ghost use Rattle.expert_wire.specs.Parts.{Writes};
+ghost use Rattle.expert_wire.specs.Parts.{WritesTo};
 ghost use Rattle.packed_concepts.specs.Lines.{head_of, lines_from, lines_text};
 ghost use Rattle.packed_concepts.specs.Packing.{IsNamed, Holds};
 
@@ -75,8 +75,7 @@ impl<const W: usize> PackedText<W> {
 
     /// Appends the whole text to the sink. After an `Err` the sink holds a front of it.
     pub fn write<K: Sink>(self, out: &mut K) -> Result<(), Put>
-        ensures { Writes (K.held out.old) (K.held out.new) (K.faults out.old) (K.faults out.new) (K.beside out.old) (K.beside out.new)
-            (K.asked_beside out.old) (K.asked_beside out.new) self.entry result }
+        ensures { WritesTo K.held K.faults K.beside K.asked_beside out.old out.new self.entry result }
     {
         let PackedText {
             names,
@@ -116,8 +115,8 @@ fn write_all<K: Sink, const W: usize>(
     requires named { All (λ page. All (IsNamed names.now) page) pages.now }
     requires holds { All (λ page. All (Holds (length buffer.old)) page) pages.now }
     requires room { 64 ≤ length buffer.old }
-    ensures { Writes (K.held out.old) (K.held out.new) (K.faults out.old) (K.faults out.new) (K.beside out.old) (K.beside out.new)
-        (K.asked_beside out.old) (K.asked_beside out.new) (lines_text names.now (flat_map (λ page. page) pages.now)) result }
+    ensures { WritesTo K.held K.faults K.beside K.asked_beside out.old out.new
+        (lines_text names.now (flat_map (λ page. page) pages.now)) result }
 {
     let head = put_head(buffer, count);
     let end = pass_pages(out, names, buffer, head, pages)?;

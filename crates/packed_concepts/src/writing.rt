@@ -2,7 +2,7 @@
 
 ghost use Rattle.std.specs.Prelude.{◌≡◌, ◌+◌, ◌*◌, ◌^◌, ◌<◌, ◌≤◌, ◌++◌, [], All, IfOk, IfErr, OnOk, length, take};
 ghost use Rattle.std.specs.List.{flat_map};
-ghost use Rattle.expert_wire.specs.Parts.{Writes};
+ghost use Rattle.expert_wire.specs.Parts.{WritesTo};
 ghost use Rattle.expert_wire.specs.Texts.{ordinal};
 ghost use Rattle.packed_concepts.specs.Lines.{line_of, lines_from};
 ghost use Rattle.packed_concepts.specs.Packing.{IsNamed, Holds};
@@ -27,8 +27,7 @@ pub(crate) const MANY_BYTES: usize = 1 << 18;
 
 /// Appends the part to the sink. After an `Err` the sink holds a front of it.
 pub(crate) fn write_part<K: Sink>(out: &mut K, part: &[u8]) -> Result<(), Put>
-    ensures { Writes (K.held out.old) (K.held out.new) (K.faults out.old) (K.faults out.new) (K.beside out.old) (K.beside out.new)
-        (K.asked_beside out.old) (K.asked_beside out.new) part.now result }
+    ensures { WritesTo K.held K.faults K.beside K.asked_beside out.old out.new part.now result }
 {
     write_text(out, part)
 }
@@ -40,8 +39,8 @@ fn make_way<K: Sink>(out: &mut K, buffer: &[u8], end: usize, room: usize) -> Res
     ensures passed { IfOk result (λ start. HasPassed (K.held out.old) (K.held out.new) (K.faults out.old) (K.faults out.new) (K.beside out.old) (K.beside out.new)
         (K.asked_beside out.old) (K.asked_beside out.new) (take end buffer.now) (take start buffer.now) []) }
     ensures room { IfOk result (λ start. start + room ≤ length buffer.now) }
-    ensures failed { IfErr result (λ fault. Writes (K.held out.old) (K.held out.new) (K.faults out.old) (K.faults out.new) (K.beside out.old) (K.beside out.new)
-        (K.asked_beside out.old) (K.asked_beside out.new) (take end buffer.now) (Err fault)) }
+    ensures failed { IfErr result (λ fault. WritesTo K.held K.faults K.beside K.asked_beside out.old out.new
+        (take end buffer.now) (Err fault)) }
 {
     if end < MANY_BYTES && room <= buffer.len() - end {
         return Ok(end);
@@ -69,8 +68,8 @@ fn pass_line<K: Sink, const W: usize>(
         (K.asked_beside out.old) (K.asked_beside out.new) (take end buffer.old) (take new_end buffer.new)
         (line_of names.now (ordinal place) intent.now places.now)) }
     ensures end { IfOk result (λ new_end. new_end ≤ length buffer.new) }
-    ensures failed { IfErr result (λ fault. Writes (K.held out.old) (K.held out.new) (K.faults out.old) (K.faults out.new) (K.beside out.old) (K.beside out.new)
-        (K.asked_beside out.old) (K.asked_beside out.new) (take end buffer.old) (Err fault)) }
+    ensures failed { IfErr result (λ fault. WritesTo K.held K.faults K.beside K.asked_beside out.old out.new
+        (take end buffer.old) (Err fault)) }
     ensures room { length buffer.new ≡ length buffer.old }
 {
     let room = LINE + PIECE_ROOM * (intent.width() as usize + places.len());
@@ -97,8 +96,8 @@ fn pass_page<K: Sink, const W: usize>(
         (K.asked_beside out.old) (K.asked_beside out.new) (take end buffer.old) (take new_end buffer.new)
         (lines_from names.now place page.now)) }
     ensures end { IfOk result (λ new_end. new_end ≤ length buffer.new) }
-    ensures failed { IfErr result (λ fault. Writes (K.held out.old) (K.held out.new) (K.faults out.old) (K.faults out.new) (K.beside out.old) (K.beside out.new)
-        (K.asked_beside out.old) (K.asked_beside out.new) (take end buffer.old ++ lines_from names.now place page.now) (Err fault)) }
+    ensures failed { IfErr result (λ fault. WritesTo K.held K.faults K.beside K.asked_beside out.old out.new
+        (take end buffer.old ++ lines_from names.now place page.now) (Err fault)) }
     ensures room { length buffer.new ≡ length buffer.old }
 {
     let _count = page.len();
@@ -131,8 +130,8 @@ pub(crate) fn pass_pages<K: Sink, const W: usize>(
         (K.asked_beside out.old) (K.asked_beside out.new) (take end buffer.old) (take new_end buffer.new)
         (lines_from names.now 0 (flat_map (λ page. page) pages.now))) }
     ensures end { IfOk result (λ new_end. new_end ≤ length buffer.new) }
-    ensures failed { IfErr result (λ fault. Writes (K.held out.old) (K.held out.new) (K.faults out.old) (K.faults out.new) (K.beside out.old) (K.beside out.new)
-        (K.asked_beside out.old) (K.asked_beside out.new) (take end buffer.old ++ lines_from names.now 0 (flat_map (λ page. page) pages.now)) (Err fault)) }
+    ensures failed { IfErr result (λ fault. WritesTo K.held K.faults K.beside K.asked_beside out.old out.new
+        (take end buffer.old ++ lines_from names.now 0 (flat_map (λ page. page) pages.now)) (Err fault)) }
     ensures room { length buffer.new ≡ length buffer.old }
 {
     let mut waits = end;

@@ -19,7 +19,8 @@ names_at names places = map (λ i. unwrap_or (slice_get names i) []) places
 -- the concept at a place: its number, its intent, and the objects of its extent
 abbrev pub concept_line : NamedContext → ℕ → Concept → Text
 concept_line t place c =
-    ordinal place ++ (codes " " ++ (braces_text t.attributes c.intent ++ (codes " | " ++ (names_in_braces (names_at t.objects c.extent) ++ line_end))))
+    ordinal place ++ (codes " "
+    ++ (braces_text t.attributes c.intent ++ (codes " | " ++ (names_in_braces (names_at t.objects c.extent) ++ line_end))))
 
 -- the number of concepts, and a line for each
 abbrev pub concepts_text : NamedContext → List Concept → Text

@@ -7,5 +7,6 @@ use Rattle.basis_report.proofs.explorations.write_accepted.Given as goal
 
 abbrev pub invariant-loop-place : goal.invariant-loop-place
 invariant-loop-place l =
-    l.draft ++ flat_map (λ x. (codes "# " ++ numbered_rule l.table.attributes x.0 x.1) ++ line_end) (enumerate_from (length l.known + l.place) (drop l.place l.accepted))
+    l.draft ++ flat_map (λ x. (codes "# " ++ numbered_rule l.table.attributes x.0 x.1) ++ line_end)
+    (enumerate_from (length l.known + l.place) (drop l.place l.accepted))
     ≡ l.fn.draft ++ accepted_section l.table.attributes (length l.known) l.accepted

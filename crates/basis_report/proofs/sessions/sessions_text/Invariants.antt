@@ -7,4 +7,5 @@ use Rattle.basis_report.proofs.sessions.sessions_text.Given as goal
 abbrev pub invariant-loop-place : goal.invariant-loop-place
 invariant-loop-place l =
     l.draft ++ flat_map (λ x. session_line x.0 x.1) (enumerate_from l.place (map (λ words. words.now) (drop l.place l.endings)))
-    ≡ count_line (codes "# sessions ") (length (map (λ words. words.now) l.endings)) ++ flat_map (λ x. session_line x.0 x.1) (enumerate_from 0 (map (λ words. words.now) l.endings))
+    ≡ count_line (codes "# sessions ") (length (map (λ words. words.now) l.endings))
+    ++ flat_map (λ x. session_line x.0 x.1) (enumerate_from 0 (map (λ words. words.now) l.endings))

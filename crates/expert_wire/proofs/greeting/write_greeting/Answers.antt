@@ -2,7 +2,8 @@ use Rattle.std.proofs.Common.{◌≡◌, ◌≤◌, length, add-one, sym, ap, �
 use Rattle.std.proofs.lemmas.Result.{err_from_is_err_and}
 use Rattle.text_pieces.specs.Lines.{text_of}
 use Rattle.expert_wire.specs.Greetings.{greeting, greeting_words}
-use Rattle.expert_wire.proofs.WriteLemmas.{Writes-equal, Writes-front, Underway-start, Underway-equal, Underway-more, Underway-fault, Underway-end}
+use Rattle.expert_wire.proofs.WriteLemmas.{Writes-equal, Writes-front, Underway-start, Underway-equal, Underway-more, Underway-fault}
+use Rattle.expert_wire.proofs.WriteLemmas.{Underway-end}
 use Rattle.expert_wire.proofs.GreetingLemmas.{words-at, text_of-drop, text_of-past}
 use Rattle.expert_wire.proofs.greeting.write_greeting.Goals as goal
 

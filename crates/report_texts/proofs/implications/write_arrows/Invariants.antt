@@ -5,5 +5,5 @@ use Rattle.report_texts.proofs.implications.write_arrows.Given as goal
 
 abbrev pub invariant-loop-place : goal.invariant-loop-place
 invariant-loop-place l =
-    l.draft ++ flat_map (λ x. arrow_line l.words l.table.attributes x.0 x.1) (enumerate_from l.place (drop l.place l.list)) ≡ l.fn.draft
-    ++ arrow_lines l.words l.table.attributes l.list
+    l.draft ++ flat_map (λ x. arrow_line l.words l.table.attributes x.0 x.1) (enumerate_from l.place (drop l.place l.list))
+    ≡ l.fn.draft ++ arrow_lines l.words l.table.attributes l.list
