@@ -22,7 +22,7 @@ loop-rest-preserved-then-is_skipped c =
     let k = c.loop-rest.number + 1 in
     let line = c.split_line.result.0.now in
     let cut = lines-cut c.loop-rest.rest.now line c.split_line.result.1.now c.is_empty.result c.is_empty.ensures c.loop-rest-test.true
-    c.split_line.ensures.line c.split_line.ensures.after_events in
+    c.split_line.ensures.line c.split_line.ensures.behind in
     let skip : is_skipped line ≡ true = sym c.is_skipped.ensures ∙ c.if-is_skipped.true in
     let said = ap (numbered_lines k) cut.0 ∙ numbered_lines-skipped k line (lines c.split_line.result.1.now) skip in
     record {
@@ -36,7 +36,7 @@ loop-rest-preserved c =
     let k = c.loop-rest.number + 1 in
     let line = c.split_line.result.0.now in
     let cut = lines-cut c.loop-rest.rest.now line c.split_line.result.1.now c.is_empty.result c.is_empty.ensures c.loop-rest-test.true
-    c.split_line.ensures.line c.split_line.ensures.after_events in
+    c.split_line.ensures.line c.split_line.ensures.behind in
     let kept : is_skipped line ≡ false = sym c.is_skipped.ensures ∙ c.if-is_skipped.false in
     let said = ap (numbered_lines k) cut.0 ∙ numbered_lines-kept k line (lines c.split_line.result.1.now) kept in
     record {
@@ -52,7 +52,7 @@ returns-in_err-take-clause-refused c =
     let k = c.loop-rest.number + 1 in
     let line = c.split_line.result.0.now in
     let cut = lines-cut c.loop-rest.rest.now line c.split_line.result.1.now c.is_empty.result c.is_empty.ensures c.loop-rest-test.true
-    c.split_line.ensures.line c.split_line.ensures.after_events in
+    c.split_line.ensures.line c.split_line.ensures.behind in
     let kept : is_skipped line ≡ false = sym c.is_skipped.ensures ∙ c.if-is_skipped.false in
     let said = ap (numbered_lines k) cut.0 ∙ numbered_lines-kept k line (lines c.split_line.result.1.now) kept in
     rw (p.1, p.2) (elim c.in_err-take.ensures.refused [
@@ -72,7 +72,7 @@ returns-clause-writable c =
     let none = lines-none c.loop-rest.rest.now c.is_empty.result c.is_empty.ensures c.loop-rest-test.false in
     (script_form-fine c.args.bytes.now c.args.n (content_of c.into_script.result)
     (sym c.loop-rest.invariant.said ∙ ap (λ ls. content_to_come c.args.n c.loop-rest.reading (numbered_lines (c.loop-rest.number + 1) ls))
-    none ∙ c.into_script.ensures.said c.args.n)).kept
+    none ∙ c.into_script.ensures.said c.args.n)).writable
 
 pub returns-clause-fits : goal.returns-clause-fits
 returns-clause-fits c =
