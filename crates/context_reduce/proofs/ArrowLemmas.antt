@@ -1,4 +1,4 @@
--- Arrows, as the loops find them, and what they tell: an arrow that is there is written, since it lies where the object lacks the
+-- Arrows, as the loops find them, and what they show: an arrow that is there is written, since it lies where the object lacks the
 -- attribute.
 use Rattle.std.proofs.Common.{◌≡◌, ◌∙◌, ◌<◌, ◌+◌, ◌++◌, ◌∷◌, ◌&&◌, [], List, ℕ, Bool, true, false, not, ◌||◌, All, subst, Vec, Global}
 use Rattle.std.proofs.Common.{length, map, get_or, refl, sym, ap, ap₂, arith, append_assoc}

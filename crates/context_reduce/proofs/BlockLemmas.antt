@@ -1,6 +1,5 @@
 -- Blocks of rows. The rows of a block that contain X are among those that have what a few members of X have in common, so where these are
--- none, no row of
--- the block contains X, and the meet of the larger rows goes on behind the block.
+-- none, no row of the block contains X, and the meet of the larger rows goes on behind the block.
 use Rattle.std.proofs.Common.{◌≡◌, ℕ, zero, suc, ◌+◌, ◌<◌, ◌≤◌, ◌*◌, Bool, true, false, not, ◌&&◌, ◌||◌, List, [], ◌∷◌, ◌++◌, cond, map}
 use Rattle.std.proofs.Math.Bool.{or-false}
 use Rattle.std.proofs.Common.{filter, fold, take, drop, length, replicate, get_or, refl, sym, ap, ◌∙◌, arith, inl, inr, subst, Some}
@@ -128,7 +127,7 @@ module _ (X : Set) where
     pub meet_whole : (n : ℕ) (M : Set) → M ≡ meet_before n → length K.rows ≤ n → M ≡ meet_of_larger K X
     meet_whole n M m le = m ∙ ap (λ Rs. fold meet (full K.width) (filter (strictly_within X) Rs)) (take_all n K.rows le)
 
-    -- once it is within X
+    -- after it has come to lie within X
     pub meet_settled : (n : ℕ) (M : Set) → M ≡ meet_before n → within M X ≡ true → M ≡ meet_of_larger K X
     meet_settled n M m inside =
         sym (ap (λ Rs. fold meet (full K.width) (filter (strictly_within X) Rs)) (sym (take-append-drop n K.rows))

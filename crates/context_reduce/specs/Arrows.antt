@@ -1,10 +1,8 @@
 -- The arrows of a context, as one list for each object.
 --
 -- The rows {a, b}, {a, c}, {a} over a, b, c have the arrows `XXb`, `XbX`, `Xuu`: the third object has up arrows to b and c, since a alone
--- has a larger column
--- than theirs, and no down arrow, since of the larger rows one lacks b and one lacks c. No arrow leads to a, and none from the third
--- object: these two are
--- reducible. (Ganter and Wille, "Formal Concept Analysis", the arrow relations.)
+-- has a larger column than theirs, and no down arrow, since of the larger rows one lacks b and one lacks c. There is no arrow to a, and none
+-- from the third object: these two are reducible. (Ganter and Wille, "Formal Concept Analysis", the arrow relations.)
 use Rattle.std.specs.Prelude.{◌≡◌, ◌<◌, ℕ, Bool, true, false, not, List, [], length, map, slice_index_or}
 use Rattle.std.specs.List.{list_any, range_with_len}
 use Rattle.fca_model.specs.Context.{Context}
@@ -44,7 +42,7 @@ points_down Cross = false
 points_down Plain = false
 points_down Up = false
 
--- the lists of arrows tell what is irreducible: the attributes to which there is an up arrow, and the objects from which there is a down
+-- the lists of arrows show what is irreducible: the attributes to which there is an up arrow, and the objects from which there is a down
 -- arrow
 pub record TellIrreducibles (K : Context) (lists : List (List Arrow)) : Type 0 where
   pub attributes : (m : ℕ) → m < K.width → not (reducible (transpose K) (column K m)) ≡ list_any

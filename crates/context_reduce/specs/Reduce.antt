@@ -1,16 +1,12 @@
 -- Clarifying and reducing, and arrows.
 --
 -- An object whose row is the intersection of all rows that strictly contain it adds nothing to the lattice of intents, and neither does one
--- whose row an
--- earlier object has; attributes likewise, by columns. The column of an attribute is the set of the objects that have it. So what is said
--- of objects in the
--- context is said of attributes in the transposed context, where objects and attributes are exchanged. (Ganter and Wille, "Formal Concept
--- Analysis",
--- reduced contexts and the arrow relations.)
+-- whose row an earlier object has; attributes likewise, by columns. The column of an attribute is the set of the objects that have it. So
+-- what is said of objects in the context is said of attributes in the transposed context, where objects and attributes are exchanged.
+-- (Ganter and Wille, "Formal Concept Analysis", reduced contexts and the arrow relations.)
 --
 -- Of the rows {a, b}, {a, c}, {a} over a, b, c the row {a} is the intersection of the other two, so the third object is reducible; the
--- column of a, all
--- objects, is the intersection of no columns, so a is reducible. What is left are the first two objects with b and c.
+-- column of a, all objects, is the intersection of no columns, so a is reducible. What is left are the first two objects with b and c.
 use Rattle.std.specs.Prelude.{◌≡◌, ℕ, Bool, true, false, not, ◌&&◌, ◌||◌, List, [], length, map, filter, fold, slice_index_or, take, ◌∷◌}
 use Rattle.std.specs.Prelude.{◌+◌, nat_le, nat_lt}
 use Rattle.std.specs.List.{list_all, list_any, range_with_len}

@@ -1,5 +1,6 @@
 -- One turn of a loop that takes one thing after the other, and the byte order mark.
-use Rattle.std.proofs.Common.{◌≡◌, ◌≢◌, ◌∙◌, ◌<◌, ◌+◌, ◌-◌, ◌==◌, ◌&&◌, ◌++◌, ◌∷◌, [], ℕ, suc, List, Option, Some, None, Ok, Err, Result, IsErr, IsErrAnd, ◌⊎◌, bytes_eq, cond, MatchOption, Bor, length, drop, refl, sym, ap, inl, inr, arith}
+use Rattle.std.proofs.Common.{◌≡◌, ◌≢◌, ◌∙◌, ◌<◌, ◌+◌, ◌-◌, ◌==◌, ◌&&◌, ◌++◌, ◌∷◌, [], ℕ, suc, List, Option, Some, None, Ok, Err, Result}
+use Rattle.std.proofs.Common.{IsErr, IsErrAnd, ◌⊎◌, bytes_eq, cond, MatchOption, Bor, length, drop, refl, sym, ap, inl, inr, arith}
 use Rattle.std.proofs.lemmas.Bool.{cases_Bool, eqb-true, and_parts}
 use Rattle.std.specs.Option.{unwrap_or}
 use Rattle.std.specs.Str.Pattern.{FindsCharPrefix}
@@ -14,7 +15,8 @@ use Rattle.cxt_format.specs.declared.CxtFault.TheVariants as fault
 use lib.Utf8.{encode}
 
 module _ {X : Type 0} (take : List X → Left → Taken X) (xs : List X) (n i : ℕ) (left : Left) where
-  pub more-Ok : (x : X) (rest : Left) → i < n → take xs left ≡ Ok (x, rest) → more take xs (n - i) left ≡ more take (xs ++ x ∷ []) (n - (i + 1)) rest
+  pub more-Ok : (x : X) (rest : Left) → i < n → take xs left ≡ Ok (x, rest)
+      → more take xs (n - i) left ≡ more take (xs ++ x ∷ []) (n - (i + 1)) rest
   more-Ok x rest below is =
       let one : n - i ≡ suc (n - (i + 1)) = omega arith in
       rw (one, is) refl
@@ -24,24 +26,27 @@ module _ {X : Type 0} (take : List X → Left → Taken X) (xs : List X) (n i : 
       let one : n - i ≡ suc (n - (i + 1)) = omega arith in
       rw (one, is) refl
 
--- what is made of a name that was taken: a fault where it stands among those seen
+-- what is made of a name that was taken: a fault if it stands among those seen
 abbrev pub looked_up : List Text → ℕ → Text × Left → Taken Text
 looked_up seen k p = cond (list_any (bytes_eq p.0) seen) (Err (fault.DuplicateAttribute k)) (Ok p)
 
 attribute-then : (seen : List Text) (k : ℕ) (rest : Left) (told : Result Text CxtFault)
-    → then {Y = Text × Left} (new_name seen k told) (λ x. Ok (x, rest)) ≡ then {X = Text × Left} (then {Y = Text × Left} told (λ x. Ok (x, rest))) (looked_up seen k)
+    → then {Y = Text × Left} (new_name seen k told) (λ x. Ok (x, rest)) ≡ then {X = Text × Left}
+    (then {Y = Text × Left} told (λ x. Ok (x, rest))) (looked_up seen k)
 attribute-then seen k rest (Err e) = refl
 attribute-then seen k rest (Ok name) = elim (cases_Bool (list_any (bytes_eq name) seen)) [
   | inl is ↦ rw is refl
   | inr isnt ↦ rw isnt refl
 ]
 
-attribute-next_of : (seen : List Text) (k : ℕ) (lines : List Line) → next_of (attribute_form seen) k lines ≡ then (next_of name_form k lines) (looked_up seen k)
+attribute-next_of : (seen : List Text) (k : ℕ) (lines : List Line)
+    → next_of (attribute_form seen) k lines ≡ then (next_of name_form k lines) (looked_up seen k)
 attribute-next_of seen k [] = refl
 attribute-next_of seen k (line ∷ lines) = attribute-then seen k (record { number = k + 1; lines = lines }) (name_form k line)
 
 -- the name of an attribute is a name, which is then looked up among those before
-pub next-attribute_form : (seen : List Text) (left : Left) → next (attribute_form seen) left ≡ then (next name_form left) (looked_up seen left.number)
+pub next-attribute_form : (seen : List Text) (left : Left)
+    → next (attribute_form seen) left ≡ then (next name_form left) (looked_up seen left.number)
 next-attribute_form seen left = attribute-next_of seen left.number left.lines
 
 without_mark-other : (s : List ℕ) → ((rest : List ℕ) → s ≢ 239 ∷ 187 ∷ 191 ∷ rest) → without_mark s ≡ s
@@ -56,9 +61,10 @@ without_mark-other (a ∷ b ∷ c ∷ s) h = elim (cases_Bool ((a == 239) && (b 
   | inr isnt ↦ rw isnt refl
 ]
 
--- what is left where the mark was looked for at the front, and taken off where it was found
+-- what is left after the mark was looked for at the front, and taken off if it was found
 pub without_mark-stripped : (text : Bor (List ℕ)) (r : Option (Bor (List ℕ)))
-    → MatchOption r (FindsCharPrefix 65279 text.now None) (λ x. (n : ℕ) × FindsCharPrefix 65279 text.now (Some n) × (x.now ≡ drop n text.now) × (length x.now + n ≡ length text.now))
+    → MatchOption r (FindsCharPrefix 65279 text.now None)
+    (λ x. (n : ℕ) × FindsCharPrefix 65279 text.now (Some n) × (x.now ≡ drop n text.now) × (length x.now + n ≡ length text.now))
     → (unwrap_or r text).now ≡ without_mark text.now
 unfolding encode
 without_mark-stripped text None h = sym (without_mark-other text.now h)

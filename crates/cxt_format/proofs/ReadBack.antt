@@ -1,7 +1,8 @@
 -- Reading what was written gives the table. The lines of the text are the lines that were written, and the form takes them one
 -- after the other: each takes what it was written for and leaves the rest. Where there are no attributes, the empty lines of the
 -- rows are the blank lines at the end.
-use Rattle.std.proofs.Common.{◌≡◌, ◌∙◌, ◌<◌, ◌≤◌, ◌+◌, ◌^◌, ◌==◌, ◌++◌, ◌∷◌, [], ℕ, zero, suc, List, true, Option, Some, None, Result, Ok, All, length, map, bytes_eq, refl, sym, ap, subst, append_assoc, eq-eqb, inl, inr, arith}
+use Rattle.std.proofs.Common.{◌≡◌, ◌∙◌, ◌<◌, ◌≤◌, ◌+◌, ◌^◌, ◌==◌, ◌++◌, ◌∷◌, [], ℕ, zero, suc, List, true, Option, Some, None, Result, Ok}
+use Rattle.std.proofs.Common.{All, length, map, bytes_eq, refl, sym, ap, subst, append_assoc, eq-eqb, inl, inr, arith}
 use Rattle.std.proofs.lemmas.Bool.{cases_Bool}
 use Rattle.std.proofs.lemmas.List.{append-nil}
 use Rattle.std.proofs.lemmas.Str.{utf8_valid_len-IsUtf8}
@@ -16,13 +17,15 @@ use Rattle.context_table.specs.Table.{IsTable, repeat_from}
 use Rattle.text_pieces.specs.Left.{Left, after_blanks_of}
 use Rattle.text_pieces.specs.Lines.{Line, lines}
 use Rattle.cxt_format.specs.Words.{title_form, row_of}
-use Rattle.cxt_format.specs.Form.{Taken, objects_form, attributes_form, rows_form, head_form, body_form, table_form, end_form, without_mark, cxt_form}
+use Rattle.cxt_format.specs.Form.{Taken, objects_form, attributes_form, rows_form, head_form, body_form, table_form, end_form, without_mark}
+use Rattle.cxt_format.specs.Form.{cxt_form}
 use Rattle.text_pieces.specs.Marks.{marks_of}
 use Rattle.text_pieces.specs.Lists.{EachName, EachWide}
 use Rattle.text_pieces.proofs.ItemLemmas.{EachWide-from_All}
 use Rattle.cxt_format.specs.Written.{title_line, head_lines, cxt_lines, cxt_text}
 use Rattle.cxt_format.specs.declared.CxtFault.{CxtFault}
-use Rattle.text_pieces.proofs.LineLemmas.{IsLine, IsLine-more, EachLine, EachLine-append, IsLine-nil, IsLine-name, lines-text_of, IsUtf8-text_of}
+use Rattle.text_pieces.proofs.LineLemmas.{IsLine, IsLine-more, EachLine, EachLine-append, IsLine-nil, IsLine-name, lines-text_of}
+use Rattle.text_pieces.proofs.LineLemmas.{IsUtf8-text_of}
 use Rattle.text_pieces.proofs.MarkLemmas.{IsLine-marks_of}
 use Rattle.text_pieces.proofs.NumeralLemmas.{IsLine-decimal}
 use Rattle.cxt_format.proofs.WordLemmas.{count_form-decimal, row_of-marks_of, is_blank_line-marks_of}
@@ -77,17 +80,22 @@ no-rows-back seen [] left wide = rw (append-nil seen) refl
 no-rows-back seen ([] ∷ rows) left wide = no-rows-back (seen ++ [] ∷ []) rows left wide.1 ∙ rw (append_assoc seen ([] ∷ []) rows) refl
 no-rows-back seen ((mark ∷ row) ∷ rows) left wide = cc wide.0
 
-no-rows-end : (rows : List Set) (k : ℕ) → EachWide zero rows → (m : ℕ) × (after_blanks_of k (map marks_of rows) ≡ record { number = m; lines = [] })
+no-rows-end : (rows : List Set) (k : ℕ) → EachWide zero rows
+    → (m : ℕ) × (after_blanks_of k (map marks_of rows) ≡ record { number = m; lines = [] })
 no-rows-end [] k wide = (k, refl)
 no-rows-end ([] ∷ rows) k wide = no-rows-end rows (k + 1) wide.1
 no-rows-end ((mark ∷ row) ∷ rows) k wide = cc wide.0
 
 -- the rows, and the end of the file
 rows-and-end : (width : ℕ) (rows : List Set) (k : ℕ) → EachWide width rows
-    → (left : Left) × (rows_form width [] (length rows) (record { number = k; lines = map marks_of rows }) ≡ Ok (rows, left)) × (end_form left ≡ Ok tt)
+    → (left : Left) × (rows_form width [] (length rows) (record { number = k; lines = map marks_of rows }) ≡ Ok (rows, left))
+    × (end_form left ≡ Ok tt)
 rows-and-end zero rows k wide =
-    let done = no-rows-end rows k wide in
-    (record { number = k; lines = map marks_of rows }, no-rows-back [] rows (record { number = k; lines = map marks_of rows }) wide, rw done.1 refl)
+    let done = no-rows-end rows k wide in (
+      record { number = k; lines = map marks_of rows },
+      no-rows-back [] rows (record { number = k; lines = map marks_of rows }) wide,
+      rw done.1 refl,
+    )
 rows-and-end (suc width) rows k wide =
     let left = rows-back width [] rows k wide in
     (record { number = left.0; lines = [] }, left.1, refl)
@@ -99,13 +107,18 @@ unfolding name_fault
 title-back None named = refl
 title-back (Some title) named = rw (named title refl).faultless refl
 
-head-back : (t : NamedContext) (rest : List Line) → ForSome t.title IsName → length t.objects ≤ MAX_OBJECTS → length t.attributes ≤ MAX_ATTRIBUTES
+head-back : (t : NamedContext) (rest : List Line) → ForSome t.title IsName → length t.objects ≤ MAX_OBJECTS
+    → length t.attributes ≤ MAX_ATTRIBUTES
     → head_form (record { number = 1; lines = head_lines t ++ rest })
     ≡ Ok (record { title = t.title; objects = length t.objects; attributes = length t.attributes }, record { number = 6; lines = rest })
 head-back t rest named objects attributes =
     let few : length t.objects < 2 ^ 64 = omega arith in
     let narrow : length t.attributes < 2 ^ 64 = omega arith in
-    rw (title-back t.title named, count_form-decimal MAX_OBJECTS 3 (length t.objects) objects few, count_form-decimal MAX_ATTRIBUTES 4 (length t.attributes) attributes narrow) refl
+    rw (
+      title-back t.title named,
+      count_form-decimal MAX_OBJECTS 3 (length t.objects) objects few,
+      count_form-decimal MAX_ATTRIBUTES 4 (length t.attributes) attributes narrow,
+    ) refl
 
 -- ---- the whole
 
@@ -116,21 +129,30 @@ pub record IsNamed (t : NamedContext) : Type 0 where
   pub attributes : EachName t.attributes
 
 body-back : (t : NamedContext) → IsTable t → IsNamed t
-    → body_form (record { title = t.title; objects = length t.objects; attributes = length t.attributes }) (record { number = 6; lines = t.objects ++ (t.attributes ++ map marks_of t.context.rows) }) ≡ Ok t
+    → body_form (record { title = t.title; objects = length t.objects; attributes = length t.attributes })
+    (record { number = 6; lines = t.objects ++ (t.attributes ++ map marks_of t.context.rows) }) ≡ Ok t
 body-back t table named =
     let P : ℕ → Type 0 = λ width. EachWide width t.context.rows in
-    let wide : EachWide (length t.attributes) t.context.rows = subst P (sym table.each_attribute) (EachWide-from_All t.context.width t.context.rows table.even) in
+    let wide : EachWide (length t.attributes) t.context.rows =
+    subst P (sym table.each_attribute) (EachWide-from_All t.context.width t.context.rows table.even) in
     let objects = objects-back [] t.objects 6 (t.attributes ++ map marks_of t.context.rows) named.objects in
     let attributes = attributes-back [] t.attributes 0 objects.0 (map marks_of t.context.rows) named.attributes table.differing in
     let rows = rows-and-end (length t.attributes) t.context.rows attributes.0 wide in
-    let of_width : ℕ → Result NamedContext CxtFault = λ width. Ok (record { title = t.title; objects = t.objects; attributes = t.attributes; context = record { width = width; rows = t.context.rows } }) in
+    let of_width : ℕ → Result NamedContext CxtFault =
+    λ width. Ok (record {
+      title = t.title;
+      objects = t.objects;
+      attributes = t.attributes;
+      context = record { width = width; rows = t.context.rows };
+    }) in
     rw (objects.1, attributes.1, table.each_object, rows.1, rows.2) (ap of_width table.each_attribute)
 
 table-back : (t : NamedContext) → IsTable t → IsNamed t → table_form (cxt_lines t) ≡ Ok t
 table-back t table named =
     let P : ℕ → Type 0 = λ n. n ≤ MAX_ATTRIBUTES in
     rw (
-      head-back t (t.objects ++ t.attributes ++ map marks_of t.context.rows) named.title table.few_objects (subst P (sym table.each_attribute) table.few_attributes),
+      head-back t (t.objects ++ t.attributes ++ map marks_of t.context.rows) named.title table.few_objects
+          (subst P (sym table.each_attribute) table.few_attributes),
       append_assoc t.objects t.attributes (map marks_of t.context.rows),
     )
     (body-back t table named)
@@ -149,7 +171,9 @@ EachLine-cxt_lines t table named =
       (IsLine-title t.title named.title, (IsLine-decimal (length t.objects), (IsLine-decimal (length t.attributes), (IsLine-nil, tt)))),
     ) in
     EachLine-append (head_lines t ++ t.objects ++ t.attributes) (map marks_of t.context.rows)
-    (EachLine-append (head_lines t ++ t.objects) t.attributes (EachLine-append (head_lines t) t.objects head (EachLine-names t.objects named.objects)) (EachLine-names t.attributes named.attributes))
+    (EachLine-append (head_lines t ++ t.objects) t.attributes
+    (EachLine-append (head_lines t) t.objects head (EachLine-names t.objects named.objects))
+    (EachLine-names t.attributes named.attributes))
     (EachLine-rows t.context.rows)
 
 without_mark-B : (s : List ℕ) → without_mark (66 ∷ 10 ∷ s) ≡ 66 ∷ 10 ∷ s
@@ -161,7 +185,8 @@ pub cxt_form-cxt_text : (t : NamedContext) → IsTable t → IsNamed t → cxt_f
 unfolding cxt_form
 cxt_form-cxt_text t table named =
     let each = EachLine-cxt_lines t table named in
-    let whole : utf8_valid_len (cxt_text t) == length (cxt_text t) ≡ true = eq-eqb _ _ (utf8_valid_len-IsUtf8 (cxt_text t) (IsUtf8-text_of (cxt_lines t) each)) in
+    let whole : utf8_valid_len (cxt_text t) == length (cxt_text t) ≡ true =
+    eq-eqb _ _ (utf8_valid_len-IsUtf8 (cxt_text t) (IsUtf8-text_of (cxt_lines t) each)) in
     let unmarked : without_mark (cxt_text t) ≡ cxt_text t = without_mark-B _ in
     let read : lines (without_mark (cxt_text t)) ≡ cxt_lines t = ap lines unmarked ∙ lines-text_of (cxt_lines t) each in
     rw whole (ap table_form read ∙ table-back t table named)

@@ -1,5 +1,6 @@
 -- Texts that are written line by line. What is still to be written shrinks from the front, by one line each time.
-use Rattle.std.proofs.Common.{◌≡◌, ◌∙◌, ◌≤◌, ◌+◌, ◌++◌, ◌∷◌, [], ℕ, zero, suc, List, Some, length, drop, slice_get, refl, sym, ap, subst, append_assoc, arith}
+use Rattle.std.proofs.Common.{◌≡◌, ◌∙◌, ◌≤◌, ◌+◌, ◌++◌, ◌∷◌, [], ℕ, zero, suc, List, Some, length, drop, slice_get, refl, sym, ap, subst}
+use Rattle.std.proofs.Common.{append_assoc, arith}
 use Rattle.std.proofs.lemmas.List.{append-nil, drop_all}
 use Rattle.fca_model.specs.Names.{IsName}
 use Rattle.fca_model.specs.Tables.{Text}
@@ -12,7 +13,8 @@ pub append-line : (text : List ℕ) (line : Line) (rest : List ℕ) → text ++ 
 append-line text line rest = append_assoc (text ++ line) (10 ∷ []) rest ∙ append_assoc text line (10 ∷ rest)
 
 -- one line was written, and is not left any more
-pub written-line : (text more line rest all : List ℕ) → more ≡ text ++ line ++ 10 ∷ [] → text ++ (line ++ 10 ∷ rest) ≡ all → more ++ rest ≡ all
+pub written-line : (text more line rest all : List ℕ) → more ≡ text ++ line ++ 10 ∷ [] → text ++ (line ++ 10 ∷ rest) ≡ all
+    → more ++ rest ≡ all
 written-line text more line rest all is so_far = rw is (append-line text line rest ∙ so_far)
 
 pub text_of-append : (xs ys : List Line) → text_of (xs ++ ys) ≡ text_of xs ++ text_of ys
@@ -26,7 +28,8 @@ NamesAt names text all left = (text ++ text_of left ≡ all) × (EachName left �
 abbrev pub NamesWritten : List Text → ℕ → List ℕ → List ℕ → Type 0
 NamesWritten names i text all = (text ++ text_of (drop i names) ≡ all) × (EachName (drop i names) → EachName names)
 
-pub NamesWritten-more : (names : List Text) (i : ℕ) (name line : Text) (text more all : List ℕ) → Some name ≡ slice_get names i → line ≡ name → IsName name
+pub NamesWritten-more : (names : List Text) (i : ℕ) (name line : Text) (text more all : List ℕ) → Some name ≡ slice_get names i
+    → line ≡ name → IsName name
     → more ≡ text ++ line ++ 10 ∷ [] → NamesWritten names i text all → NamesWritten names (i + 1) more all
 NamesWritten-more names i name line text more all at same named is so_far =
     let left = drop-item names i name (sym at) in
@@ -37,7 +40,8 @@ NamesWritten-more names i name line text more all at same named is so_far =
       λ rest. now.1 (named, rest),
     )
 
-pub NamesWritten-all : (names : List Text) (i : ℕ) (text all : List ℕ) → length names ≤ i → NamesWritten names i text all → (text ≡ all) × EachName names
+pub NamesWritten-all : (names : List Text) (i : ℕ) (text all : List ℕ) → length names ≤ i → NamesWritten names i text all
+    → (text ≡ all) × EachName names
 NamesWritten-all names i text all done so_far =
     let Q : List Text → Type 0 = λ xs. NamesAt names text all xs in
     let now : NamesAt names text all [] = subst Q (drop_all i names done) so_far in
@@ -56,7 +60,8 @@ written-head t0 t1 t2 t3 t4 t5 a b c d e e1 e2 e3 e4 e5 =
     sym (append-nil t5) ∙ written-line t4 t5 e [] all e5 s4
 
 -- four lists of lines, written one after the other
-pub written-lists : (t1 t2 t3 t4 : List ℕ) (a b c d : List Line) → t1 ≡ text_of a → t2 ≡ t1 ++ text_of b → t3 ≡ t2 ++ text_of c → t4 ≡ t3 ++ text_of d
+pub written-lists : (t1 t2 t3 t4 : List ℕ) (a b c d : List Line) → t1 ≡ text_of a → t2 ≡ t1 ++ text_of b → t3 ≡ t2 ++ text_of c
+    → t4 ≡ t3 ++ text_of d
     → t4 ≡ text_of (a ++ b ++ c ++ d)
 written-lists t1 t2 t3 t4 a b c d e1 e2 e3 e4 =
     let two = e2 ∙ ap (λ t. t ++ text_of b) e1 ∙ sym (text_of-append a b) in

@@ -1,5 +1,6 @@
 -- What the form makes of the lines that are written of numbers and rows, and how wide a row is that was read.
-use Rattle.std.proofs.Common.{◌≡◌, ◌∙◌, ◌<◌, ◌≤◌, ◌^◌, ◌&&◌, ◌∷◌, [], ℕ, Bool, true, false, nat_le, IfOk, Some, Ok, length, take, drop, refl, inl, inr, arith}
+use Rattle.std.proofs.Common.{◌≡◌, ◌∙◌, ◌<◌, ◌≤◌, ◌^◌, ◌&&◌, ◌∷◌, [], ℕ, Bool, true, false, nat_le, IfOk, Some, Ok, length, take, drop}
+use Rattle.std.proofs.Common.{refl, inl, inr, arith}
 use Rattle.std.specs.Fmt.{decimal}
 use Rattle.std.specs.List.{list_all}
 use Rattle.std.proofs.Math.ListN.{drop_of_length-le}
@@ -31,9 +32,10 @@ is_blank_line-marks_of false row = refl
 
 -- a row that was read has as many places as there are attributes
 pub wide-row_form : (width k : ℕ) (line : Line) → IfOk (row_form width k line) (λ row. length row ≡ width)
-wide-row_form width k line = elim (cases_Bool (nat_le width (length line) && (list_all is_mark (take width line) && is_blank_line (drop width line)))) [
-  | inl is ↦
-      let long = and_parts (nat_le width (length line)) (list_all is_mark (take width line) && is_blank_line (drop width line)) is in
-      rw is (length-map (take width line) is_cross ∙ length-take-le width line (leb-true width (length line) long.0))
-  | inr isnt ↦ rw isnt tt
-]
+wide-row_form width k line = elim (cases_Bool (nat_le width (length line)
+    && (list_all is_mark (take width line) && is_blank_line (drop width line)))) [
+      | inl is ↦
+          let long = and_parts (nat_le width (length line)) (list_all is_mark (take width line) && is_blank_line (drop width line)) is in
+          rw is (length-map (take width line) is_cross ∙ length-take-le width line (leb-true width (length line) long.0))
+      | inr isnt ↦ rw isnt tt
+    ]

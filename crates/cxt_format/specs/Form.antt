@@ -11,7 +11,7 @@ use Rattle.cxt_format.specs.declared.read.Head.{Head}
 use Rattle.cxt_format.specs.declared.CxtFault.{CxtFault}
 use Rattle.cxt_format.specs.declared.CxtFault.TheVariants as fault
 
--- the code says what the form says, unless memory was refused
+-- the answer of the code is what the form says, unless memory ran out
 abbrev pub Tells : {X : Type 0} → Result X CxtFault → Result X CxtFault → Type 0
 Tells told form = MatchResult told (λ x. form ≡ Ok x) (λ e. (e ≡ fault.Memory) ⊎ (form ≡ Err e))
 
@@ -19,7 +19,7 @@ Tells told form = MatchResult told (λ x. form ≡ Ok x) (λ e. (e ≡ fault.Mem
 abbrev pub Taken : Type 0 → Type 0
 Taken X = Result (X × Left) CxtFault
 
--- the code took what the form takes, seen in this way, and left these lines, unless memory was refused
+-- the code took what the form takes, seen in this way, and left these lines, unless memory ran out
 abbrev pub Takes : {X Y : Type 0} → (X → Y) → Result X CxtFault → Taken Y → Left → Type 0
 Takes view told form left = MatchResult told (λ x. form ≡ Ok (view x, left)) (λ e. (e ≡ fault.Memory) ⊎ (form ≡ Err e))
 
@@ -32,7 +32,7 @@ abbrev pub next_of : {X : Type 0} → (ℕ → Line → Result X CxtFault) → �
 next_of form k [] = Err (fault.Ended k)
 next_of form k (line ∷ lines) = then (form k line) (λ x. Ok (x, record { number = k + 1; lines = lines }))
 
--- what the form makes of the next line, which there must be
+-- what the form makes of the next line; it is a fault if there is none
 abbrev pub next : {X : Type 0} → (ℕ → Line → Result X CxtFault) → Left → Taken X
 next form left = next_of form left.number left.lines
 
@@ -49,7 +49,7 @@ objects_form names n left = more (λ before. next name_form) names n left
 abbrev pub attributes_form : List Text → ℕ → Left → Taken (List Text)
 attributes_form names n left = more (λ before. next (attribute_form before)) names n left
 
--- the next row, after blank lines; where there are no attributes, no line is read
+-- the next row, after blank lines; without attributes no line is read
 abbrev pub next_row : ℕ → Left → Taken Set
 next_row zero left = Ok ([], left)
 next_row (suc width) left = next (row_form (suc width)) (after_blanks left)
@@ -82,7 +82,12 @@ body_form head left =
     then (attributes_form [] head.attributes objects.1) (λ attributes.
     then (rows_form head.attributes [] head.objects attributes.1) (λ rows.
     then (end_form rows.1) (λ rest.
-    Ok (record { title = head.title; objects = objects.0; attributes = attributes.0; context = record { width = head.attributes; rows = rows.0 } })))))
+    Ok (record {
+      title = head.title;
+      objects = objects.0;
+      attributes = attributes.0;
+      context = record { width = head.attributes; rows = rows.0 };
+    })))))
 
 -- the table that the lines write
 abbrev pub table_form : List Line → Result NamedContext CxtFault

@@ -1,5 +1,6 @@
 -- What one line of a Burmeister file says, by the line's place.
-use Rattle.std.specs.Prelude.{ℕ, ◌&&◌, nat_le, nat_lt, Bool, cond, List, Option, Some, None, Result, Ok, Err, length, map, take, drop, codes, bytes_eq}
+use Rattle.std.specs.Prelude.{ℕ, ◌&&◌, nat_le, nat_lt, Bool, cond, List, Option, Some, None, Result, Ok, Err, length, map, take, drop}
+use Rattle.std.specs.Prelude.{codes, bytes_eq}
 use Rattle.std.specs.List.{list_all, list_any}
 use Rattle.fca_model.specs.Sets.{Set}
 use Rattle.fca_model.specs.Tables.{Text}
@@ -13,7 +14,7 @@ use Rattle.text_pieces.specs.Numerals.{is_numeral, value_of}
 use Rattle.cxt_format.specs.declared.CxtFault.{CxtFault}
 use Rattle.cxt_format.specs.declared.CxtFault.TheVariants as fault
 
--- the letter B, with blanks round it
+-- the letter B, with blanks around it
 abbrev pub is_b_line : Line → Bool
 is_b_line line = bytes_eq (trim line) (codes "B")
 
@@ -65,7 +66,8 @@ count_form most k line =
 -- the row of n attributes that the line writes: n marks, and then blanks alone
 abbrev pub row_of : ℕ → Line → Option Set
 row_of n line =
-    cond (nat_le n (length line) && (list_all is_mark (take n line) && is_blank_line (drop n line))) (Some (map is_cross (take n line))) None
+    cond (nat_le n (length line) && (list_all is_mark (take n line) && is_blank_line (drop n line)))
+    (Some (map is_cross (take n line))) None
 
 abbrev pub row_by : ℕ → Option Set → Result Set CxtFault
 row_by k None = Err (fault.BadRow k)

@@ -5,7 +5,7 @@ use Rattle.fca_model.specs.Tables.{Text, NamedContext}
 use Rattle.text_pieces.specs.Lines.{Line, text_of}
 use Rattle.text_pieces.specs.Marks.{marks_of}
 
--- the line of the title, which is empty where there is none
+-- the line of the title, which is empty if there is none
 abbrev pub title_line : Option Text → Line
 title_line None = []
 title_line (Some title) = title

@@ -3,6 +3,7 @@
 
 ghost use Rattle.std.specs.Prelude.{◌≡◌};
 
+pub mod laws;
 mod narrow;
 mod read;
 mod words;

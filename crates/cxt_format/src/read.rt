@@ -1,4 +1,4 @@
-//! The reader.
+//! The reader of tables.
 
 ghost use Rattle.std.specs.Prelude.{◌≡◌, ◌<◌, ◌≤◌, ◌-◌, ◌*◌, ◌^◌, [], IfOk, false, length, vec_len, bytes_eq};
 ghost use Rattle.std.specs.List.{list_any};
@@ -17,7 +17,7 @@ use indexmap::IndexSet;
 use std::alloc::Global;
 use text_pieces::Lines;
 
-/// What stands before the names.
+/// The title and the numbers of objects and attributes, which stand before the names.
 #[derive(Drop)]
 pub struct Head {
     title: Option<Name>,
@@ -25,7 +25,7 @@ pub struct Head {
     pub(crate) attributes: usize,
 }
 
-/// The table that the bytes of a file write.
+/// Reads the table that the bytes of a file write.
 pub fn read_cxt(alloc: Global, bytes: &[u8]) -> Result<Table, CxtFault>
     ensures { Tells result (form.cxt_form bytes.now) }
 {
@@ -171,7 +171,7 @@ pub(crate) fn read_attributes(
     Ok(names.into_iter().collect(alloc)?)
 }
 
-/// Attribute names in their order, looked up by hash.
+/// Reads attribute names in their order. They are looked up by hash.
 fn read_new_names(
     alloc: Global,
     count: usize,
@@ -208,7 +208,7 @@ fn next_attribute(
     }
 }
 
-/// The rows, in as many words as the caller wants.
+/// Reads the rows, in as many words as the caller wants.
 pub(crate) fn read_rows<const W: usize>(
     alloc: Global,
     width: u32,
@@ -216,7 +216,7 @@ pub(crate) fn read_rows<const W: usize>(
     lines: &mut Lines<'_>,
 ) -> Result<RowsOf<W>, CxtFault>
     requires width { width ≤ MAX_ATTRIBUTES }
-    requires narrow { width ≤ 64 * W }
+    requires room { width ≤ 64 * W }
     requires words { W ≤ 1024 }
     ensures form { Takes (λ rows. rows.rows) result (form.rows_form width [] count lines.old) lines.new }
     ensures width { IfOk result (λ rows. rows.width ≡ width) }
@@ -229,7 +229,7 @@ pub(crate) fn read_rows<const W: usize>(
     Ok(rows)
 }
 
-/// Only blank lines are left.
+/// Reads the blank lines that are left. It refuses any other line.
 pub(crate) fn read_end(lines: &mut Lines<'_>) -> Result<(), CxtFault>
     ensures { result ≡ form.end_form lines.old }
 {

@@ -1,4 +1,4 @@
-//! What one line of a file says.
+//! The readers of single lines.
 
 ghost use Rattle.std.specs.Prelude.{◌≡◌, ◌≤◌};
 ghost use Rattle.cxt_format.specs.Words as form;

@@ -1,4 +1,4 @@
-//! The writer.
+//! The writer of tables.
 
 ghost use Rattle.std.specs.Prelude.{◌≡◌, ◌≤◌, ◌+◌, ◌-◌, ◌++◌, ◌∷◌, [], IfOk, OnOk, Ok, map, length, take, drop};
 ghost use Rattle.std.specs.Option.{ForSome};
@@ -17,13 +17,13 @@ use fca_model::Memory;
 use std::alloc::Global;
 use text_pieces::marks_of;
 
-/// How many characters of a row are put at once.
+/// The number of characters of a row that are written at once.
 const BLOCK: u32 = 64;
 
-/// The bytes of these.
+/// The bytes of so many characters.
 const BLOCK_BYTES: usize = BLOCK as usize;
 
-/// The written form of the table.
+/// Writes the table.
 pub fn write_cxt(alloc: Global, table: &Table) -> Result<Vec<u8>, Memory>
     ensures written { IfOk result (λ text. text.items ≡ cxt_text table.now) }
     ensures reads_back { IfOk result (λ text. cxt_form text.items ≡ Ok table.now) }

@@ -13,9 +13,11 @@ returns-in_err-next_row-clause-form g c =
     let loop = c.loop-place in
     let why : (e ≡ fault.Memory) ⊎ (rows_form c.args.width [] c.args.count c.args.lines.now ≡ Err e) = elim c.in_err-next_row.ensures.form [
       | inl is ↦ inl is
-      | inr is ↦ inr (sym loop.invariant.2 ∙ more-Err (λ before. next_row c.args.width) loop.rows.rows c.args.count loop._place loop.lines e c.loop-place-test.true is)
+      | inr is ↦ inr (sym loop.invariant.2 ∙ more-Err
+          (λ before. next_row c.args.width) loop.rows.rows c.args.count loop._place loop.lines e c.loop-place-test.true is)
     ] in
-    Takes-passed (λ rows. rows.rows) c.from_residual-in_err-next_row.result (rows_form c.args.width [] c.args.count c.args.lines.now) c.next_row.new.lines e c.from_residual-in_err-next_row.ensures why
+    Takes-passed (λ rows. rows.rows) c.from_residual-in_err-next_row.result
+    (rows_form c.args.width [] c.args.count c.args.lines.now) c.next_row.new.lines e c.from_residual-in_err-next_row.ensures why
 
 pub loop-place-preserved : goal.loop-place-preserved
 loop-place-preserved g c =
@@ -25,6 +27,7 @@ loop-place-preserved g c =
       rw rows (length_push loop.rows.rows c.in_ok-next_row.field-0 ∙ ap (λ (n : ℕ). n + 1) loop.invariant.0),
       ap (λ (K : Context). K.width) pushed ∙ loop.invariant.1,
       rw rows
-          (sym (more-Ok (λ before. next_row c.args.width) loop.rows.rows c.args.count loop._place loop.lines c.in_ok-next_row.field-0 c.next_row.new.lines c.loop-place-test.true c.in_ok-next_row.ensures.form)
+          (sym (more-Ok (λ before. next_row c.args.width) loop.rows.rows c.args.count loop._place loop.lines c.in_ok-next_row.field-0
+          c.next_row.new.lines c.loop-place-test.true c.in_ok-next_row.ensures.form)
           ∙ loop.invariant.2),
     )

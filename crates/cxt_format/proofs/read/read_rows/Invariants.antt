@@ -4,4 +4,5 @@ use Rattle.cxt_format.proofs.read.read_rows.Given as goal
 
 abbrev pub invariant-loop-place : goal.invariant-loop-place
 invariant-loop-place g l =
-    (length l.rows.rows ≡ l._place) × (l.rows.width ≡ l.width) × (rows_form l.width l.rows.rows (l.count - l._place) l.lines ≡ rows_form l.width [] l.count l.fn.lines)
+    (length l.rows.rows ≡ l._place) × (l.rows.width ≡ l.width)
+    × (rows_form l.width l.rows.rows (l.count - l._place) l.lines ≡ rows_form l.width [] l.count l.fn.lines)

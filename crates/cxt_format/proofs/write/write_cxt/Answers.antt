@@ -11,7 +11,8 @@ pub returns : goal.returns
 returns c =
     let t = c.args.table.now in
     let rows = ap (λ (K : Context). c.write_attributes.new.text.items ++ text_of (map marks_of K.rows)) c.rows.ensures.rows in
-    let written = written-lists c.write_head.new.text.items c.write_objects.new.text.items c.write_attributes.new.text.items c.write_rows.new.text.items
+    let written = written-lists c.write_head.new.text.items c.write_objects.new.text.items c.write_attributes.new.text.items
+    c.write_rows.new.text.items
     (head_lines t) t.objects t.attributes (map marks_of t.context.rows)
     (c.in_ok-write_head.ensures.written ∙ ap (λ text. text ++ text_of (head_lines t)) c.new-text.ensures.items)
     c.in_ok-write_objects.ensures.written c.in_ok-write_attributes.ensures.written (c.in_ok-write_rows.ensures ∙ rows) in

@@ -6,13 +6,17 @@ use Rattle.cxt_format.proofs.write.write_objects.Goals as goal
 
 pub loop-i-preserved : goal.loop-i-preserved
 loop-i-preserved c =
-    NamesWritten-more c.args.table.now.objects c.loop-i.i c.object.result.now c.bytes.result.now c.loop-i.text.items c.write_line.new.text.items
-    (c.args.text.now.items ++ text_of c.args.table.now.objects) c.object.ensures c.bytes.ensures.value c.bytes.ensures.name c.in_ok-write_line.ensures c.loop-i.invariant
+    NamesWritten-more c.args.table.now.objects c.loop-i.i c.object.result.now c.bytes.result.now c.loop-i.text.items
+    c.write_line.new.text.items
+    (c.args.text.now.items ++ text_of c.args.table.now.objects) c.object.ensures c.bytes.ensures.value c.bytes.ensures.name
+    c.in_ok-write_line.ensures c.loop-i.invariant
 
 pub returns : goal.returns
 returns c =
     let P : ℕ → Type 0 = λ n. n ≤ c.loop-i.i in
     let done : length c.args.table.now.objects ≤ c.loop-i.i =
-    subst P (c.len-i-end.ensures ∙ ap (λ (K : Context). length K.rows) c.rows.ensures.rows ∙ sym c.rows.ensures.table.each_object) c.loop-i-test.false in
-    let all = NamesWritten-all c.args.table.now.objects c.loop-i.i c.loop-i.text.items (c.args.text.now.items ++ text_of c.args.table.now.objects) done c.loop-i.invariant in
+    subst P (c.len-i-end.ensures ∙ ap (λ (K : Context). length K.rows) c.rows.ensures.rows
+    ∙ sym c.rows.ensures.table.each_object) c.loop-i-test.false in
+    let all = NamesWritten-all c.args.table.now.objects c.loop-i.i c.loop-i.text.items
+    (c.args.text.now.items ++ text_of c.args.table.now.objects) done c.loop-i.invariant in
     record { written = all.0; named = all.1 }

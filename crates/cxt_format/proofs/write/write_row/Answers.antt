@@ -13,8 +13,10 @@ loop-block-preserved c =
     let count : ℕ = c.min-end.result - from in
     let inside : from < length row = omega (arith, c.loop-block-test.true, c.width.ensures.width) in
     let start : min (length row) from ≡ from = omega arith in
-    let next : from + count ≡ min (length row) (64 * (c.loop-block.block + 1)) = omega (arith, c.min-end.ensures, c.width-in-loop-block.ensures.width) in
+    let next : from + count ≡ min (length row) (64 * (c.loop-block.block + 1)) =
+    omega (arith, c.min-end.ensures, c.width-in-loop-block.ensures.width) in
     c.in_ok-extend_from_slice.ensures.items
     ∙ ap₂ (λ (xs ys : List ℕ). xs ++ ys) (c.loop-block.invariant ∙ ap (λ k. old ++ marks_of (take k row)) start) c.marks_of-marks.ensures
     ∙ append_assoc old (marks_of (take from row)) (marks_of (take count (drop from row)))
-    ∙ ap (λ xs. old ++ xs) (sym (map-append mark_of (take from row) (take count (drop from row))) ∙ ap marks_of (sym (take-add from count row)) ∙ ap (λ k. marks_of (take k row)) next)
+    ∙ ap (λ xs. old ++ xs) (sym (map-append mark_of (take from row) (take count (drop from row)))
+    ∙ ap marks_of (sym (take-add from count row)) ∙ ap (λ k. marks_of (take k row)) next)
