@@ -74,6 +74,6 @@ pub trait Listener {
         ensures within { IsWithinRoom (ends self.old) }
         ensures same { (listens self.new ≡ listens self.old) × (listens_at self.new ≡ listens_at self.old) }
 
-        ensures later { (other : List ℕ) → open_faults self.old other ≤ open_faults self.new other }
-        ensures later_accept { accept_faults self.old ≤ accept_faults self.new };
+        ensures quiet { (other : List ℕ) → open_faults self.new other ≡ open_faults self.old other }
+        ensures quiet_accept { accept_faults self.new ≡ accept_faults self.old };
 }

@@ -146,7 +146,7 @@ impl Listener for MemoryLink {
         ensures given { Some self.new.ends ≡ option_map (with_given end) (Some self.old.ends) }
         ensures within { IsWithinRoom (Some self.old.ends) }
         ensures same { (self.new.listens ≡ self.old.listens) × (self.new.address ≡ self.old.address) }
-        ensures later { self.old.plan.faults ≤ self.new.plan.faults }
+        ensures quiet { self.new.plan.faults ≡ self.old.plan.faults }
     {
         if self.given.len() + self.to_come.len() < self.room {
             self.given.push_reserved(end);
