@@ -26,25 +26,28 @@ increasing_keys (X ∷ Xs) h = and_from (list_all (λ B. is_lt (lectic_cmp X B))
 
 list_any-insert_key : (p : Set → Bool) (A : Set) (Xs : List Set) → list_any p Xs ≡ true → list_any p (insert_key lectic_cmp Xs A) ≡ true
 list_any-insert_key p A [] h = absurd (false≢true h)
-list_any-insert_key p A (X ∷ Xs) h = elim (lectic_cmp A X) as (λ o. list_any p (match_ordering o (A ∷ X ∷ Xs) (X ∷ Xs) (X ∷ insert_key lectic_cmp Xs A)) ≡ true) [
-  | Less ↦ or_right (p A) (list_any p (X ∷ Xs)) h
-  | Equal ↦ h
-  | Greater ↦ elim (or_cases (p X) (list_any p Xs) h) [
-    | inl here ↦ or_left (p X) (list_any p (insert_key lectic_cmp Xs A)) here
-    | inr there ↦ or_right (p X) (list_any p (insert_key lectic_cmp Xs A)) (list_any-insert_key p A Xs there)
-  ]
-]
+list_any-insert_key p A (X ∷ Xs) h = elim (lectic_cmp A X) as (λ o. list_any p
+    (match_ordering o (A ∷ X ∷ Xs) (X ∷ Xs) (X ∷ insert_key lectic_cmp Xs A)) ≡ true) [
+      | Less ↦ or_right (p A) (list_any p (X ∷ Xs)) h
+      | Equal ↦ h
+      | Greater ↦ elim (or_cases (p X) (list_any p Xs) h) [
+        | inl here ↦ or_left (p X) (list_any p (insert_key lectic_cmp Xs A)) here
+        | inr there ↦ or_right (p X) (list_any p (insert_key lectic_cmp Xs A)) (list_any-insert_key p A Xs there)
+      ]
+    ]
 
 has-insert_key : (A : Set) (Xs : List Set) → Has A (insert_key lectic_cmp Xs A)
 has-insert_key A [] = or_left (same A A) false (same_refl A)
 has-insert_key A (X ∷ Xs) = go (lectic_cmp A X) refl (has-insert_key A Xs)
   where
-    go : (o : Ordering) → lectic_cmp A X ≡ o → Has A (insert_key lectic_cmp Xs A) → list_any (same A) (match_ordering o (A ∷ X ∷ Xs) (X ∷ Xs) (X ∷ insert_key lectic_cmp Xs A)) ≡ true
+    go : (o : Ordering) → lectic_cmp A X ≡ o → Has A (insert_key lectic_cmp Xs A)
+        → list_any (same A) (match_ordering o (A ∷ X ∷ Xs) (X ∷ Xs) (X ∷ insert_key lectic_cmp Xs A)) ≡ true
     go Less e rest = or_left (same A A) (list_any (same A) (X ∷ Xs)) (same_refl A)
     go Equal e rest = or_left (same A X) (list_any (same A) Xs) (ap (same A) (sym (lectic_equal A X e)) ∙ same_refl A)
     go Greater e rest = or_right (same A X) (list_any (same A) (insert_key lectic_cmp Xs A)) rest
 
-pub list_all-insert_key : (p : Set → Bool) (A : Set) (Xs : List Set) → list_all p Xs ≡ true → p A ≡ true → list_all p (insert_key lectic_cmp Xs A) ≡ true
+pub list_all-insert_key : (p : Set → Bool) (A : Set) (Xs : List Set) → list_all p Xs ≡ true → p A ≡ true
+    → list_all p (insert_key lectic_cmp Xs A) ≡ true
 list_all-insert_key p A [] h t = and_from (p A) true t refl
 list_all-insert_key p A (X ∷ Xs) h t =
     let parts = and_parts (p X) (list_all p Xs) h in
@@ -65,7 +68,8 @@ grows_trans n old mid new a b = record { kept = λ p h. b.kept p (a.kept p h); w
 pub grows_by_key : (old new : List Set) (A : Set) → new ≡ insert_key lectic_cmp old A → Grows (length A) old new
 grows_by_key old new A e = record {
   kept = λ p h. subst (λ Zs. list_any p Zs ≡ true) (sym e) (list_any-insert_key p A old h);
-  wide = λ w. subst (λ Zs. AreWide (length A) Zs) (sym e) (list_all-insert_key (λ X. eqb (length X) (length A)) A old w (eq-eqb (length A) (length A) refl));
+  wide = λ w. subst (λ Zs. AreWide (length A) Zs) (sym e)
+      (list_all-insert_key (λ X. eqb (length X) (length A)) A old w (eq-eqb (length A) (length A) refl));
 }
 
 pub has_by_key : (old new : List Set) (A : Set) → new ≡ insert_key lectic_cmp old A → Has A new
@@ -80,7 +84,8 @@ any_has p A Xs h t = list_any-mono (same A) p (λ X e. ap p (sym (same-true A X 
 pub larger_none : (C : Set) (Xs : List Set) → HasLarger C 0 Xs
 larger_none C Xs i l = absurd (omega arith)
 
-pub larger_more : (n : ℕ) (mid new : List Set) (C X : Set) (m : ℕ) → HasLarger C m mid → Grows n mid new → X ≡ set C m true → Has X new → HasLarger C (m + 1) new
+pub larger_more : (n : ℕ) (mid new : List Set) (C X : Set) (m : ℕ) → HasLarger C m mid → Grows n mid new → X ≡ set C m true → Has X new
+    → HasLarger C (m + 1) new
 larger_more n mid new C X m g more is has i l f = elim (cases_lt i m) [
   | inl lt ↦ more.kept (same (set C i true)) (g i lt f)
   | inr le ↦ let e : i ≡ m = omega arith in subst (λ Z. Has Z new) (is ∙ ap (λ j. set C j true) (sym e)) has
@@ -92,9 +97,11 @@ larger_skips Xs C m g t i l f = elim (cases_lt i m) [
   | inr le ↦ let e : i ≡ m = omega arith in absurd (false≢true (sym f ∙ ap (λ j. get_or C j false) e ∙ t))
 ]
 
-pub larger_one : (n i : ℕ) (Cs mid new : List Set) (C : Set) → i < length Cs → C ≡ get_or Cs i C → Grows n mid new → HaveLarger (take i Cs) mid → HasLarger C (length C) new → HaveLarger (take (i + 1) Cs) new
+pub larger_one : (n i : ℕ) (Cs mid new : List Set) (C : Set) → i < length Cs → C ≡ get_or Cs i C → Grows n mid new
+    → HaveLarger (take i Cs) mid → HasLarger C (length C) new → HaveLarger (take (i + 1) Cs) new
 larger_one n i Cs mid new C l is more all one D h j lt f =
-    let split = sym (list_any-append (same D) (take i Cs) (C ∷ [])) ∙ ap (λ Zs. list_any (same D) Zs) (sym (take_more Cs i C l ∙ ap (λ Y. take i Cs ++ Y ∷ []) (sym is))) ∙ h in
+    let split = sym (list_any-append (same D) (take i Cs) (C ∷ []))
+    ∙ ap (λ Zs. list_any (same D) Zs) (sym (take_more Cs i C l ∙ ap (λ Y. take i Cs ++ Y ∷ []) (sym is))) ∙ h in
     elim (or_cases (list_any (same D) (take i Cs)) (same D C || false) split) [
       | inl first ↦ more.kept (same (set D j true)) (all D first j lt f)
       | inr here ↦ elim (or_cases (same D C) false here) [
@@ -107,4 +114,5 @@ larger_one n i Cs mid new C l is more all one D h j lt f =
 
 -- the set at a place has the width of all
 pub wide_at : (n i : ℕ) (Cs : List Set) (C : Set) → AreWide n Cs → i < length Cs → C ≡ get_or Cs i C → length C ≡ n
-wide_at n i Cs C w l is = eqb-true (length C) n (ap (λ (Y : Set). eqb (length Y) n) is ∙ AllPass-from_list_all (λ (Y : Set). eqb (length Y) n) Cs w i C l)
+wide_at n i Cs C w l is = eqb-true (length C) n
+    (ap (λ (Y : Set). eqb (length Y) n) is ∙ AllPass-from_list_all (λ (Y : Set). eqb (length Y) n) Cs w i C l)

@@ -20,34 +20,42 @@ use Rattle.implication_closure.specs.Closing.{RuleList}
 use Rattle.pseudo_levels.specs.LeastBasis.{IsLeastBasis}
 
 -- a list with the members of the basis that is no longer is a least basis
-pub least_from_members : (K : Context) (J : List Rule) → SameMembers J (basis_known [] K) → length J ≡ length (basis_known [] K) → IsLeastBasis K J
+pub least_from_members : (K : Context) (J : List Rule) → SameMembers J (basis_known [] K) → length J ≡ length (basis_known [] K)
+    → IsLeastBasis K J
 unfolding follows equivalent
 least_from_members K J h len =
     let B = basis_known [] K in
     record {
       sound = h (holds K) ∙ basis_holds [] K;
-      complete = λ i e f. follows_holds [] K i e f refl ∙ all_sets_agree (λ T. not (respects_all B T) || respects T i) (λ T. not (respects_all J T) || respects T i) K.width
+      complete = λ i e f. follows_holds [] K i e f refl
+          ∙ all_sets_agree (λ T. not (respects_all B T) || respects T i) (λ T. not (respects_all J T) || respects T i) K.width
           (λ T w. ap (λ b. not b || respects T i) (sym (h (respects T))));
       least = λ L eq.
-          let as_basis = sym (all_sets_agree (λ T. beq (respects_all L T) (respects_all J T)) (λ T. beq (respects_all L T) (respects_all B T)) K.width
+          let as_basis = sym (all_sets_agree (λ T. beq (respects_all L T) (respects_all J T))
+          (λ T. beq (respects_all L T) (respects_all B T)) K.width
           (λ T w. ap (beq (respects_all L T)) (h (respects T)))) ∙ eq in
           let few = least_equivalent [] K refl L as_basis in
           omega (arith, len, few);
     }
 
 length-filter_cons : {X : Type 0} (p : X → Bool) (x : X) (xs : List X) → length (filter p (x ∷ xs)) ≡ cond (p x) 1 0 + length (filter p xs)
-length-filter_cons p x xs = elim (p x) as (λ b. length (cond b (x ∷ filter p xs) (filter p xs)) ≡ cond b 1 0 + length (filter p xs)) [ true ↦ omega arith | false ↦ omega arith ]
+length-filter_cons p x xs = elim (p x) as (λ b. length (cond b (x ∷ filter p xs) (filter p xs)) ≡ cond b 1 0 + length (filter p xs))
+    [ true ↦ omega arith | false ↦ omega arith ]
 
 below_next : (m k : ℕ) → cond (ltb m (suc k)) 1 0 ≡ cond (ltb m k) 1 0 + cond (eqb m k) 1 0
 below_next m k = elim (cases_lt m k) [
-  | inl lt ↦ counted (ltb m (suc k)) (ltb m k) (eqb m k) true true false (lt-ltb m (suc k) (omega arith)) (lt-ltb m k lt) (ne_eqb m k (omega arith)) refl
+  | inl lt ↦ counted (ltb m (suc k)) (ltb m k) (eqb m k) true true false (lt-ltb m (suc k) (omega arith)) (lt-ltb m k lt)
+      (ne_eqb m k (omega arith)) refl
   | inr ge ↦ elim (cases_eq m k) [
-    | inl e ↦ counted (ltb m (suc k)) (ltb m k) (eqb m k) true false true (lt-ltb m (suc k) (omega arith)) (le-ltb m k ge) (eq-eqb m k e) refl
-    | inr ne ↦ counted (ltb m (suc k)) (ltb m k) (eqb m k) false false false (le-ltb m (suc k) (omega arith)) (le-ltb m k ge) (ne_eqb m k ne) refl
+    | inl e ↦ counted (ltb m (suc k)) (ltb m k) (eqb m k) true false true (lt-ltb m (suc k) (omega arith)) (le-ltb m k ge)
+        (eq-eqb m k e) refl
+    | inr ne ↦ counted (ltb m (suc k)) (ltb m k) (eqb m k) false false false (le-ltb m (suc k) (omega arith)) (le-ltb m k ge)
+        (ne_eqb m k ne) refl
   ]
 ]
   where
-    counted : (a b c a₁ b₁ c₁ : Bool) → a ≡ a₁ → b ≡ b₁ → c ≡ c₁ → cond a₁ 1 0 ≡ cond b₁ 1 0 + cond c₁ 1 0 → cond a 1 0 ≡ cond b 1 0 + cond c 1 0
+    counted : (a b c a₁ b₁ c₁ : Bool) → a ≡ a₁ → b ≡ b₁ → c ≡ c₁ → cond a₁ 1 0 ≡ cond b₁ 1 0 + cond c₁ 1 0
+        → cond a 1 0 ≡ cond b 1 0 + cond c 1 0
     counted a b c a₁ b₁ c₁ ea eb ec e = ap (λ x. cond x 1 0) ea ∙ e ∙ sym (ap₂ (λ x y. cond x 1 0 + cond y 1 0) eb ec)
 
 module _ (S : List Rule) (K : Context) where
@@ -75,11 +83,14 @@ module _ (S : List Rule) (K : Context) where
     where
       none : (is : List Rule) → length (filter (λ i. ltb (size i.premise) 0) is) ≡ 0
       none [] = refl
-      none (i ∷ is) = ap (λ b. length (cond b (i ∷ filter (λ i. ltb (size i.premise) 0) is) (filter (λ i. ltb (size i.premise) 0) is))) (le-ltb (size i.premise) 0 (omega arith)) ∙ none is
+      none (i ∷ is) = ap (λ b. length (cond b (i ∷ filter (λ i. ltb (size i.premise) 0) is) (filter (λ i. ltb (size i.premise) 0) is)))
+          (le-ltb (size i.premise) 0 (omega arith)) ∙ none is
   levels_length (suc k) =
-      length-append (levels_below k S K) (filter (λ i. eqb (size i.premise) k) (basis_known S K)) ∙ ap (λ n. n + length (filter (λ i. eqb (size i.premise) k) (basis_known S K))) (levels_length k) ∙ sym (split (basis_known S K))
+      length-append (levels_below k S K) (filter (λ i. eqb (size i.premise) k) (basis_known S K))
+      ∙ ap (λ n. n + length (filter (λ i. eqb (size i.premise) k) (basis_known S K))) (levels_length k) ∙ sym (split (basis_known S K))
     where
-      split : (is : List Rule) → length (filter (λ i. ltb (size i.premise) (suc k)) is) ≡ length (filter (λ i. ltb (size i.premise) k) is) + length (filter (λ i. eqb (size i.premise) k) is)
+      split : (is : List Rule) → length (filter (λ i. ltb (size i.premise) (suc k)) is) ≡ length
+          (filter (λ i. ltb (size i.premise) k) is) + length (filter (λ i. eqb (size i.premise) k) is)
       split [] = omega arith
       split (i ∷ is) = omega (
         arith,
@@ -95,7 +106,8 @@ module _ (S : List Rule) (K : Context) where
   by_size_length = levels_length (suc K.width) ∙ ap length (filter_all (λ i. ltb (size i.premise) (suc K.width)) (basis_known S K) sizes)
 
 pub by_size_least : (K : Context) (J : List Rule) → J ≡ by_size [] K → IsLeastBasis K J
-by_size_least K J e = subst (λ zs. IsLeastBasis K zs) (sym e) (least_from_members K (by_size [] K) (by_size_members [] K) (by_size_length [] K))
+by_size_least K J e = subst (λ zs. IsLeastBasis K zs) (sym e)
+    (least_from_members K (by_size [] K) (by_size_members [] K) (by_size_length [] K))
 
 -- a list of implications is its width and its members
 pub list_is : (J : RuleList) (n : ℕ) (ms : List Rule) → J.width ≡ n → J.members ≡ ms → J ≡ record { width = n; members = ms }

@@ -1,9 +1,10 @@
 -- An index of implications. Each is in the bucket of two attributes of its premise, so a set can break those alone whose
 -- bucket stands for two of its own attributes.
-use Rattle.std.specs.Prelude.{◌≡◌, ℕ, zero, suc, ◌/◌, ◌%◌, ◌≢◌, Bool, true, false, not, ◌&&◌, List, [], slice_index_or, nat_le, ◌++◌, ◌∷◌}
+use Rattle.std.specs.Prelude.{◌≡◌, ℕ, zero, suc, ◌/◌, ◌%◌, ◌≢◌, ◌≤◌, Bool, true, false, not, ◌&&◌, List, [], length, take, slice_index_or, nat_le, ◌++◌, ◌∷◌}
 use Rattle.std.specs.List.{list_all}
 use Rattle.fca_model.specs.Sets.{Set, within, strictly_within}
 use Rattle.fca_model.specs.Implications.{Rule}
+use Rattle.implication_closure.specs.Closing.{RuleList}
 
 -- the set takes in the premise strictly, but not the conclusion
 abbrev pub breaks_below : Set → Rule → Bool
@@ -13,6 +14,12 @@ breaks_below X i = strictly_within i.premise X && not (within i.conclusion X)
 pub record IsBroken (J : List Rule) (X : Set) (i : Rule) : Type 0 where
   pub broken : breaks_below X i ≡ true
   pub member : (p : Rule → Bool) → list_all p J ≡ true → p i ≡ true
+
+-- the first of these implications were put last, up to some place
+pub record HasTaken (old : RuleList) (more : List Rule) (new : RuleList) : Type 0 where
+  pub count : ℕ
+  pub inside : count ≤ length more
+  pub members : new ≡ record old { members = old.members ++ take count more }
 
 -- ---- buckets
 

@@ -10,7 +10,8 @@ use Rattle.fca_model.specs.Levels.{level_of, absorbs_all}
 
 -- ---- one candidate
 
--- P's implication to its closure, where P is not closed, respects S, and takes in the conclusion of each member found whose premise lies strictly within it
+-- P's implication to its closure, where P is not closed, respects S, and takes in the conclusion of each member found whose premise lies
+-- strictly within it
 abbrev pub judged : List Rule → Context → List Rule → Set → Option Rule
 judged S K found P = cond (respects_all S P && (absorbs_all found P && not (same (closure K P) P))) (Some (rule P (closure K P))) None
 
@@ -32,7 +33,7 @@ Has A Xs = list_any (same A) Xs ≡ true
 abbrev pub HasLarger : Set → ℕ → List Set → Type 0
 HasLarger C m Xs = (i : ℕ) → i < m → slice_index_or C i false ≡ false → Has (slice_set C i true) Xs
 
--- the same for each of the sets
+-- C with one attribute more is one of them for each of the sets C, whichever attribute C lacks
 abbrev pub HaveLarger : List Set → List Set → Type 0
 HaveLarger Cs Xs = (C : Set) → Has C Cs → HasLarger C (length C) Xs
 
@@ -40,6 +41,17 @@ HaveLarger Cs Xs = (C : Set) → Has C Cs → HasLarger C (length C) Xs
 pub record Grows (n : ℕ) (old new : List Set) : Type 0 where
   pub kept : (p : Set → Bool) → list_any p old ≡ true → list_any p new ≡ true
   pub wide : AreWide n old → AreWide n new
+
+-- A is C with one attribute more
+pub record IsLarger (C A : Set) : Type 0 where
+  pub attribute : ℕ
+  pub inside : attribute < length C
+  pub lacks : slice_index_or C attribute false ≡ false
+  pub larger : A ≡ slice_set C attribute true
+
+-- each of the candidates new is among the candidates old, or has the property
+abbrev pub AddsOnly : (Set → Type 0) → List Set → List Set → Type 0
+AddsOnly Q old new = (p : Set → Bool) → list_all p old ≡ true → ((A : Set) → Q A → p A ≡ true) → list_all p new ≡ true
 
 -- ---- what they lead to
 
@@ -49,16 +61,19 @@ leads k Xs P = list_any (λ X. nat_le k (size X) && within X P) Xs
 
 -- the candidates lead to each set of size k or more that respects S and what was found, and is not closed
 abbrev pub LeadsAll : List Rule → Context → ℕ → List Rule → List Set → Type 0
-LeadsAll S K k found Xs = (P : Set) → length P ≡ K.width → respects_all S P ≡ true → respects_all found P ≡ true → is_closed K P ≡ false → k ≤ size P → leads k Xs P ≡ true
+LeadsAll S K k found Xs = (P : Set) → length P ≡ K.width → respects_all S P ≡ true → respects_all found P ≡ true → is_closed K P ≡ false
+    → k ≤ size P → leads k Xs P ≡ true
 
 -- the larger candidates lead to each such set that is larger than k, but where it contains the premise of one of these questions
 abbrev pub LeadsOn : List Rule → Context → ℕ → List Rule → List Rule → List Set → Type 0
-LeadsOn S K k found questions Xs = (P : Set) → length P ≡ K.width → respects_all S P ≡ true → respects_all found P ≡ true → is_closed K P ≡ false → suc k ≤ size P
+LeadsOn S K k found questions Xs = (P : Set) → length P ≡ K.width → respects_all S P ≡ true → respects_all found P ≡ true
+    → is_closed K P ≡ false → suc k ≤ size P
     → (list_any (λ q. within q.premise P) questions || leads (suc k) Xs P) ≡ true
 
 -- larger candidates lead to each such set that contains one of the sets Xs, of size k, that is no member of the basis
 abbrev pub IsSettled : List Rule → Context → ℕ → List Rule → List Set → List Set → Type 0
-IsSettled S K k found Xs candidates = (P : Set) → length P ≡ K.width → respects_all S P ≡ true → respects_all found P ≡ true → is_closed K P ≡ false → suc k ≤ size P
+IsSettled S K k found Xs candidates = (P : Set) → length P ≡ K.width → respects_all S P ≡ true → respects_all found P ≡ true
+    → is_closed K P ≡ false → suc k ≤ size P
     → list_any (λ X. not (is_some (judged S K found X)) && within X P) Xs ≡ true → leads (suc k) candidates P ≡ true
 
 -- the members of the level were found, and all else of its size is settled

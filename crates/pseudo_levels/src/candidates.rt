@@ -1,9 +1,9 @@
 //! The sets among which the members of the basis are found.
 
-ghost use Rattle.std.specs.Prelude.{◌≡◌, ℕ, ◌∷◌, [], OnOk, IfOk, length, map, filter, replicate, false, true, ◌<◌, ◌≤◌, ◌^◌, ◌==◌};
-ghost use Rattle.fca_model.specs.Sets.{size, increasing};
+ghost use Rattle.std.specs.Prelude.{◌≡◌, ℕ, ◌∷◌, [], OnOk, OnErr, IfOk, length, map, filter, replicate, false, true, ◌<◌, ◌≤◌, ◌^◌, ◌==◌};
+ghost use Rattle.fca_model.specs.Sets.{Set, size, increasing};
 ghost use Rattle.pseudo_levels.specs.BySize.{together, AreBySize};
-ghost use Rattle.pseudo_levels.specs.Search.{AreWide, Has, HasLarger, HaveLarger, Grows};
+ghost use Rattle.pseudo_levels.specs.Search.{AddsOnly, AreWide, Has, HasLarger, HaveLarger, IsLarger, Grows};
 
 use attr_bits::Attrs;
 use fca_model::{MAX_ATTRIBUTES, Memory};
@@ -46,6 +46,8 @@ impl Candidates {
     /// Puts the set among them.
     pub fn add(&mut self, set: Attrs) -> Result<(), Memory>
         ensures added { OnOk result (Has set self.new) }
+        ensures only { AddsOnly (λ A. A ≡ set) self.old self.new }
+        ensures err { OnErr result (self.new ≡ self.old) }
         ensures grows { Grows (length set) self.old self.new }
     {
         let size = set.size() as usize;
@@ -54,9 +56,10 @@ impl Candidates {
         Ok(())
     }
 
-    /// Puts the set with each further attribute among them.
+    /// Puts the set with each further attribute among them. If memory runs out, some of these sets are there, and all candidates before.
     pub fn grow(&mut self, set: &Attrs) -> Result<(), Memory>
         ensures grown { OnOk result (HasLarger set.now (length set.now) self.new) }
+        ensures only { AddsOnly (IsLarger set.now) self.old self.new }
         ensures grows { Grows (length set.now) self.old self.new }
     {
         for i in 0..set.width() {
@@ -67,9 +70,10 @@ impl Candidates {
         Ok(())
     }
 
-    /// Puts each of the sets with each further attribute among them.
+    /// Puts each of the sets with each further attribute among them. If memory runs out, some of these sets are there, and all candidates before.
     pub fn grow_all(&mut self, sets: &[Attrs]) -> Result<(), Memory>
         ensures grown { OnOk result (HaveLarger sets.now self.new) }
+        ensures only { AddsOnly (λ A. (C : Set) × Has C sets.now × IsLarger C A) self.old self.new }
         ensures grows { (n : ℕ) → AreWide n sets.now → Grows n self.old self.new }
     {
         for set in sets {
@@ -92,7 +96,7 @@ impl Candidates {
     }
 }
 
-/// Puts trees of no sets last until there is one for the size.
+/// Appends empty trees until there is one for the size.
 fn make_room(alloc: Global, by_size: &mut Vec<BTreeSet<Attrs>>, size: usize) -> Result<(), Memory>
     requires { size < 2 ^ 32 }
     ensures room { OnOk result (size < length by_size.new.items) }

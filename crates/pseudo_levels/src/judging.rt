@@ -12,7 +12,7 @@ use rayon::prelude::*;
 use std::alloc::Global;
 use std::thread::Threads;
 
-/// The answer for each candidate, in their order, from as many threads as serve.
+/// The answer for each candidate, in their order. Several threads share the work.
 pub fn level<R: Threads + Sync>(
     rt: &R,
     alloc: Global,
@@ -26,7 +26,7 @@ pub fn level<R: Threads + Sync>(
     judge_in_threads(rt, alloc, rows, &smaller, candidates)
 }
 
-/// The same, by an index.
+/// The answer for each candidate, in their order, by an index of the smaller members. Several threads share the work.
 pub(crate) fn judge_in_threads<R: Threads + Sync>(
     rt: &R,
     alloc: Global,
@@ -51,7 +51,7 @@ pub(crate) fn judge_in_threads<R: Threads + Sync>(
     }
 }
 
-/// The answer for each candidate, in their order, from this thread.
+/// The answer for each candidate, in their order, by this thread alone.
 pub fn judge_all(
     alloc: Global,
     rows: &Rows,
@@ -68,11 +68,11 @@ pub fn judge_all(
     )
 }
 
-/// The set's implication to its closure, where it is a member of the basis by the smaller ones.
+/// The implication of the set to its closure, if that is a member of the basis by the smaller ones.
 pub(crate) fn judge(rows: &Rows, smaller: &MemberIndex, set: &Attrs) -> Option<Implication>
     ensures { result ≡ judged [] rows.now smaller.now.members set.now }
 {
-    if smaller.broken(set).is_some() {
+    if smaller.broken_member(set).is_some() {
         return None;
     }
     let closure = rows.closure(set);

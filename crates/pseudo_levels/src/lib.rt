@@ -1,5 +1,5 @@
-//! The Duquenne-Guigues basis level by level: the pseudo-intents of one size are found among
-//! candidates, and each set of that size leads to larger candidates. No list of all sets is made.
+//! The Duquenne-Guigues basis level by level: the pseudo-intents of one size are found among candidates, and each set of that size adds larger candidates.
+//! Nothing lists all sets.
 #![tactic(auto)]
 
 mod candidates;
@@ -44,7 +44,7 @@ pub fn basis_by_levels<R: Threads + Sync>(
     Ok(found.into_list())
 }
 
-/// The members of the basis of this size; what the other candidates of the size lead to becomes a candidate.
+/// The members of the basis of this size. The other candidates of the size add larger ones.
 fn next_members<R: Threads + Sync>(
     rt: &R,
     alloc: Global,

@@ -4,7 +4,7 @@ ghost use Rattle.std.specs.Prelude.{◌≡◌, ℕ, suc, ◌+◌, ◌*◌, ◌<�
 ghost use Rattle.fca_model.specs.Implications.{Rule};
 ghost use Rattle.fca_model.specs.Levels.{absorbs_all};
 ghost use Rattle.implication_closure.specs.Closing.{RuleList, HaveWidth};
-ghost use Rattle.pseudo_levels.specs.Index.{IsBroken, IsBrokenIn, IsPut, breaks_below, bucket, meets};
+ghost use Rattle.pseudo_levels.specs.Index.{HasTaken, IsBroken, IsBrokenIn, IsPut, breaks_below, bucket, meets};
 
 use attr_bits::Attrs;
 use fca_model::{MAX_ATTRIBUTES, Memory};
@@ -12,8 +12,8 @@ use implication_closure::{Implication, ImplicationList};
 use std::alloc::Global;
 use std::marker::Model;
 
-/// A list of implications, each also in the bucket of the first two attributes of its premise. A
-/// set breaks only members whose two attributes it has, and looks into no other bucket.
+/// A list of implications. Each is also in the bucket of the first two attributes of its premise. A set can break only members whose two attributes it has, so no
+/// other bucket is searched.
 #[derive(Drop)]
 pub struct MemberIndex {
     alloc: Global,
@@ -72,10 +72,11 @@ impl MemberIndex {
         }
     }
 
-    /// Puts the implications last; where memory is refused, some of them may be there.
+    /// Puts the implications last. If memory runs out, the first of them may be there.
     pub fn extend_from_slice(&mut self, more: &[Implication]) -> Result<(), Memory>
         requires { HaveWidth self.old.width more.now }
         ensures ok { OnOk result (self.new ≡ record self.old { members = self.old.members ++ more.now }) }
+        ensures err { OnErr result (HasTaken self.old more.now self.new) }
         ensures width { self.new.width ≡ self.old.width }
     {
         for i in more {
@@ -92,15 +93,15 @@ impl MemberIndex {
     }
 
     /// A member whose premise lies strictly within the set and whose conclusion does not.
-    pub fn broken(&self, set: &Attrs) -> Option<Implication>
+    pub fn broken_member(&self, set: &Attrs) -> Option<Implication>
         ensures broken { MatchOption result (absorbs_all self.now.members set.now ≡ true) (λ i. IsBroken self.now.members set.now i) }
         ensures wide { IfSome result (λ i. length i.conclusion ≡ self.now.width) }
     {
         let width = self.list.width();
-        if let Some(i) = broken_in(&self.buckets, 0, set) {
+        if let Some(i) = search_bucket(&self.buckets, 0, set) {
             return Some(i);
         }
-        broken_by_pairs(&self.buckets, width, set)
+        search_pairs(&self.buckets, width, set)
     }
 }
 
@@ -115,7 +116,7 @@ fn file(alloc: Global, buckets: &mut Vec<Vec<Implication>>, i: &Implication) -> 
     Ok(())
 }
 
-/// Puts empty buckets last until there is one at the place.
+/// Appends empty buckets until there is one at the place.
 fn make_room(alloc: Global, buckets: &mut Vec<Vec<Implication>>, place: usize) -> Result<(), Memory>
     requires { place ≤ MAX_ATTRIBUTES * MAX_ATTRIBUTES }
     ensures room { OnOk result (place < length buckets.new.items) }
@@ -127,7 +128,7 @@ fn make_room(alloc: Global, buckets: &mut Vec<Vec<Implication>>, place: usize) -
     Ok(())
 }
 
-/// The bucket of the first two attributes of a premise, of which the second is the first where there is one alone.
+/// The bucket of the first two attributes of a premise. If it has one attribute alone, that counts twice.
 fn bucket_of(premise: &Attrs) -> usize
     ensures met { meets (length premise.now) result premise.now ≡ true }
     ensures in_range { result ≤ MAX_ATTRIBUTES * MAX_ATTRIBUTES }
@@ -150,7 +151,7 @@ fn bucket_of_pair(width: u32, first: u32, second: u32) -> usize
 }
 
 /// An implication that the set breaks, of a bucket of two of its attributes.
-fn broken_by_pairs(buckets: &[Vec<Implication>], width: u32, set: &Attrs) -> Option<Implication>
+fn search_pairs(buckets: &[Vec<Implication>], width: u32, set: &Attrs) -> Option<Implication>
     ensures { MatchOption result
         ((a b : ℕ) → a ≤ b → slice_index_or set.now a false ≡ true → slice_index_or set.now b false ≡ true → absorbs_all (bucket (suc (a * width + b)) (map (λ v. v.items) buckets.now)) set.now ≡ true)
         (λ i. IsBrokenIn (map (λ v. v.items) buckets.now) set.now i) }
@@ -158,7 +159,7 @@ fn broken_by_pairs(buckets: &[Vec<Implication>], width: u32, set: &Attrs) -> Opt
     let _width = set.width();
     let mut from = 0;
     while let Some(first) = set.next_member(from) {
-        if let Some(i) = broken_by_first(buckets, width, first, set) {
+        if let Some(i) = search_first(buckets, width, first, set) {
             return Some(i);
         }
         from = first + 1;
@@ -167,7 +168,7 @@ fn broken_by_pairs(buckets: &[Vec<Implication>], width: u32, set: &Attrs) -> Opt
 }
 
 /// An implication that the set breaks, of a bucket of this attribute and a later one.
-fn broken_by_first(
+fn search_first(
     buckets: &[Vec<Implication>],
     width: u32,
     first: u32,
@@ -181,7 +182,7 @@ fn broken_by_first(
     let _width = set.width();
     let mut from = first;
     while let Some(second) = set.next_member(from) {
-        if let Some(i) = broken_in(buckets, bucket_of_pair(width, first, second), set) {
+        if let Some(i) = search_bucket(buckets, bucket_of_pair(width, first, second), set) {
             return Some(i);
         }
         from = second + 1;
@@ -190,7 +191,7 @@ fn broken_by_first(
 }
 
 /// The first implication of a bucket that the set breaks.
-fn broken_in(buckets: &[Vec<Implication>], place: usize, set: &Attrs) -> Option<Implication>
+fn search_bucket(buckets: &[Vec<Implication>], place: usize, set: &Attrs) -> Option<Implication>
     ensures { result ≡ find (breaks_below set.now) (bucket place (map (λ v. v.items) buckets.now)) }
 {
     if place < buckets.len() {

@@ -1,4 +1,4 @@
-//! What a level leads to.
+//! The candidates that a level adds.
 
 ghost use Rattle.std.specs.Prelude.{◌≡◌, [], ◌∷◌, OnOk, IfOk, length, map, filter, true, None, ◌==◌};
 ghost use Rattle.std.specs.List.{list_all};
@@ -13,8 +13,7 @@ use fca_model::Memory;
 use implication_closure::Implication;
 use std::alloc::Global;
 
-/// The members of the basis among the candidates of size k, which were judged by the smaller
-/// members; what the other candidates of that size lead to becomes a candidate.
+/// The members of the basis among the candidates of size k, by the answers for these. The other candidates of that size add larger ones.
 pub fn open_level(
     alloc: Global,
     candidates: &mut Candidates,
@@ -36,14 +35,14 @@ pub fn open_level(
     members(alloc, answers)
 }
 
-/// The implications that are there.
+/// The implications among the answers.
 fn members(alloc: Global, answers: &[Option<Implication>]) -> Result<Vec<Implication>, Memory>
     ensures { IfOk result (λ members. members.items ≡ members_of answers.now) }
 {
     Ok(answers.iter().filter_map(|answer| *answer).collect(alloc)?)
 }
 
-/// Puts what the sets of size k that are no members lead to among the candidates.
+/// Adds the larger candidates that come of the sets of size k which are no members.
 fn settle_all(
     candidates: &mut Candidates,
     found: &MemberIndex,
@@ -67,15 +66,15 @@ fn settle_all(
     Ok(())
 }
 
-/// Puts what a set that is no member leads to among the candidates: where it breaks a member found,
-/// itself with that member's conclusion; else it is closed, and leads to itself with each further attribute.
+/// Adds the larger candidates that come of a set which is no member. If it breaks a member found, that is itself with the conclusion of the member. Otherwise it is
+/// closed, and gets each further attribute.
 fn settle(candidates: &mut Candidates, found: &MemberIndex, set: &Attrs) -> Result<(), Memory>
     requires wide { length set.now ≡ found.now.width }
     ensures settled { (K : Context) → K.width ≡ found.now.width → judged [] K found.now.members set.now ≡ None
         → OnOk result (IsSettled [] K (size set.now) found.now.members (set.now ∷ []) candidates.new) }
     ensures grows { Grows found.now.width candidates.old candidates.new }
 {
-    match found.broken(set) {
+    match found.broken_member(set) {
         Some(member) => candidates.add(set.join(&member.conclusion)),
         None => candidates.grow(set),
     }

@@ -10,4 +10,6 @@ invariant_of-self-in-Ok c =
     let old : List (List Rule) = map (λ v. v.items) c.self.inside.buckets.items in
     let new : List (List Rule) = map (λ v. v.items) c.file.new.buckets.items in
     subst (λ (J : RuleList). IsFiled J.width J.members new) (sym c.in_ok-push.ensures.ok)
-    (filed_more c.self.inside.list.width c.self.inside.list.members old new c.args.i c.self.invariant (subst (λ n. IsPut n old new c.args.i) (c.requires.premise ∙ sym (ap (λ (J : RuleList). J.width) c.self.view_is)) c.in-Ok.ensures.ok))
+    (filed_more c.self.inside.list.width c.self.inside.list.members old new c.args.i c.self.invariant
+    (subst (λ n. IsPut n old new c.args.i) (c.requires.premise
+    ∙ sym (ap (λ (J : RuleList). J.width) c.self.view_is)) c.in-Ok.ensures.ok))
