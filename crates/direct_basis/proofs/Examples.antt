@@ -15,7 +15,8 @@ s row = map (λ (c : ℕ). eqb c 88) row
 abbrev five_rows : Context
 five_rows = record { width = 4; rows = s (codes ".XXX") ∷ s (codes "..XX") ∷ s (codes "XX.X") ∷ s (codes "XX..") ∷ s (codes "..X.") ∷ [] }
 
-pub three_members : direct five_rows ≡ rule (s (codes ".XX.")) (s (codes ".XXX")) ∷ rule (s (codes "X...")) (s (codes "XX..")) ∷ rule (s (codes "X.X.")) (s (codes "XXXX")) ∷ []
+pub three_members : direct five_rows ≡ rule (s (codes ".XX.")) (s (codes ".XXX")) ∷ rule (s (codes "X...")) (s (codes "XX..")) ∷ rule
+    (s (codes "X.X.")) (s (codes "XXXX")) ∷ []
 unfolding direct all_sets
 three_members = refl
 
@@ -24,7 +25,8 @@ pub one_pass_over_three : one_pass (direct five_rows) (s (codes "X.X.")) ≡ s (
 unfolding direct all_sets
 one_pass_over_three = refl
 
-pub one_pass_over_two : one_pass (rule (s (codes ".XX.")) (s (codes ".XXX")) ∷ rule (s (codes "X...")) (s (codes "XX..")) ∷ []) (s (codes "X.X.")) ≡ s (codes "XXX.")
+pub one_pass_over_two : one_pass (rule (s (codes ".XX.")) (s (codes ".XXX")) ∷ rule (s (codes "X...")) (s (codes "XX..")) ∷ [])
+    (s (codes "X.X.")) ≡ s (codes "XXX.")
 one_pass_over_two = refl
 
 -- {b, d} gives nothing: it is free, and no proper premise
@@ -40,7 +42,8 @@ pub no_rows : direct (record { width = 3; rows = [] }) ≡ rule (s (codes "...")
 unfolding direct all_sets
 no_rows = refl
 
-pub nominal : direct (record { width = 3; rows = s (codes "X..") ∷ s (codes ".X.") ∷ s (codes "..X") ∷ [] }) ≡ rule (s (codes ".XX")) (s (codes "XXX")) ∷ rule (s (codes "X.X")) (s (codes "XXX")) ∷ rule (s (codes "XX.")) (s (codes "XXX")) ∷ []
+pub nominal : direct (record { width = 3; rows = s (codes "X..") ∷ s (codes ".X.") ∷ s (codes "..X") ∷ [] }) ≡ rule (s (codes ".XX"))
+    (s (codes "XXX")) ∷ rule (s (codes "X.X")) (s (codes "XXX")) ∷ rule (s (codes "XX.")) (s (codes "XXX")) ∷ []
 unfolding direct all_sets
 nominal = refl
 

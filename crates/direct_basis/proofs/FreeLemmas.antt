@@ -1,5 +1,5 @@
--- Free sets. A proper premise is free: were a member in the closure of the others, that closure would be the closure of the whole set. What lies within a
--- free set is free, since with fewer members each closure has less.
+-- Free sets. A proper premise is free: were a member in the closure of the others, that closure would be the closure of the whole set.
+-- What lies within a free set is free, since with fewer members each closure has less.
 use Rattle.std.proofs.Common.{◌≡◌, ℕ, zero, suc, ◌<◌, Bool, true, false, not, [], ◌∷◌, map, length, get_or, set, refl, sym, ap, ◌∙◌, subst, inl, inr}
 use Rattle.std.proofs.lemmas.Bool.{false≢true, cases_Bool, or_right, not-false, false_from_ne_true}
 use Rattle.std.proofs.lemmas.List.{length-set}
@@ -61,7 +61,8 @@ module _ (K : Context) where
       not-true false h = refl
 
   -- what one member less gives is in what the parts give together
-  part_has : (A : Set) (a m : ℕ) → length A ≡ K.width → get_or A a false ≡ true → m < K.width → get_or (closed_without A a) m false ≡ true → get_or (from_parts K A) m false ≡ true
+  part_has : (A : Set) (a m : ℕ) → length A ≡ K.width → get_or A a false ≡ true → m < K.width → get_or (closed_without A a) m false ≡ true
+      → get_or (from_parts K A) m false ≡ true
   part_has A a m e t l h =
       let test : ℕ → Bool = λ i. get_or (closed_without A i) m false in
       let some : list_any test (members A) ≡ true = elim (cases_Bool (list_any test (members A))) [
@@ -71,7 +72,8 @@ module _ (K : Context) where
             absurd (false≢true (sym (ap not h) ∙ members_at (λ i. not (test i)) A all_fail a t))
       ] in
       get_or-joins A (map (closed_without A) (members A)) m (subst (λ n. m < n) (sym e) l)
-      ∙ or_right (get_or A m false) (list_any (λ C. get_or C m false) (map (closed_without A) (members A))) (list_any-map (λ C. get_or C m false) (closed_without A) (members A) ∙ some)
+      ∙ or_right (get_or A m false) (list_any (λ C. get_or C m false) (map (closed_without A) (members A)))
+      (list_any-map (λ C. get_or C m false) (closed_without A) (members A) ∙ some)
 
   -- all that comes from the parts lies in the closure
   parts_within : (A : Set) → length A ≡ K.width → within (from_parts K A) (closure K A) ≡ true
@@ -86,8 +88,12 @@ module _ (K : Context) where
       let wide = length-set A a false ∙ e in
       let all_in : within (closure K A) (closure K B) ≡ true = subst (λ Z. within (closure K A) Z ≡ true) (closure_idempotent K B wide)
       (closure_monotone K A (closure K B) (within_by_place A (closure K B) a (closure_extensive K B wide) h)) in
-      ap not (same_from (closure K A) (from_parts K A) (within_antisymm (closure K A) (from_parts K A) (length-closure K A ∙ sym (length-joins A (map (closed_without A) (members A)) ∙ e))
-      (within_from_places (closure K A) (from_parts K A) (λ m l u. part_has A a m e t (subst (λ n. m < n) (length-closure K A) l) (within_at_place (closure K A) (closure K B) all_in m u)))
+      ap not (same_from (closure K A) (from_parts K A)
+      (within_antisymm (closure K A) (from_parts K A)
+      (length-closure K A ∙ sym (length-joins A (map (closed_without A) (members A)) ∙ e))
+      (within_from_places (closure K A) (from_parts K A)
+      (λ m l u. part_has A a m e t (subst (λ n. m < n) (length-closure K A) l)
+      (within_at_place (closure K A) (closure K B) all_in m u)))
       (parts_within A e)))
 
   pub proper_free : (A : Set) → length A ≡ K.width → proper K A ≡ true → free K A ≡ true
@@ -95,4 +101,6 @@ module _ (K : Context) where
 
   pub free_within : (A B : Set) → within B A ≡ true → free K A ≡ true → free K B ≡ true
   free_within A B w f = free_from B (λ b t. false_from_ne_true (comes_again B b) (λ u.
-      false≢true (sym (free_at A b f (within_at_place B A w b t)) ∙ within_at_place (closed_without B b) (closed_without A b) (closure_monotone K (without B b) (without A b) (without_mono B A b w)) b u)))
+      false≢true (sym (free_at A b f (within_at_place B A w b t))
+      ∙ within_at_place (closed_without B b) (closed_without A b)
+      (closure_monotone K (without B b) (without A b) (without_mono B A b w)) b u)))

@@ -1,6 +1,7 @@
--- The sets visited have every proper premise. A free set of k + 1 members is, without its first member, a free set of k members, which was visited; and its
--- first member comes before all of those. So each free set is visited, by induction on its size, and each proper premise is free. Put in their places, the
--- proper ones are a list in lectic order with the same members as the definition's, so the same list.
+-- The sets visited have every proper premise. A free set of k + 1 members is, without its first member, a free set of k members, which
+-- was visited; and its first member comes before all of those. So each free set is visited, by induction on its size, and each proper
+-- premise is free. Put in their places, the proper ones are a list in lectic order with the same members as the definition's, so the same
+-- list.
 use Rattle.std.proofs.Common.{◌≡◌, ℕ, zero, suc, ◌+◌, ◌<◌, Bool, true, false, ◌&&◌, ◌||◌, List, [], ◌∷◌, ◌++◌, take, map, filter, length, replicate, get_or, set, All, refl, sym, ap, ◌∙◌, arith, eqb, eqb-true, eq-eqb, add-one, Ordering, Less, Equal, Greater}
 use Rattle.std.proofs.Math.Bool.{or-false, or_assoc, or_comm}
 use Rattle.std.proofs.lemmas.Bool.{false≢true, and_parts, and_from, or_left}
@@ -27,7 +28,8 @@ use Rattle.direct_basis.proofs.FreeLemmas.{proper_free, free_within}
 
 -- ---- the first member
 
-pub first_place_at : (A : Set) (m : ℕ) → m < length A → get_or A m false ≡ true → ((i : ℕ) → i < m → get_or A i false ≡ false) → m ≡ first_place A
+pub first_place_at : (A : Set) (m : ℕ) → m < length A → get_or A m false ≡ true → ((i : ℕ) → i < m → get_or A i false ≡ false)
+    → m ≡ first_place A
 first_place_at [] m l t f = absurd (omega arith)
 first_place_at (true ∷ A) zero l t f = refl
 first_place_at (true ∷ A) (suc m) l t f = absurd (false≢true (sym (f 0 (omega arith))))
@@ -40,7 +42,8 @@ first_place_none (true ∷ A) f = absurd (false≢true (sym (f 0 (omega arith)))
 first_place_none (false ∷ A) f = ap suc (first_place_none A (λ i h. f (suc i) (omega arith)))
 
 -- a set with members has its first, and without it begins later
-first_is_member : (A : Set) (k : ℕ) → size A ≡ suc k → (get_or A (first_place A) false ≡ true) × (first_place A < first_place (set A (first_place A) false))
+first_is_member : (A : Set) (k : ℕ) → size A ≡ suc k
+    → (get_or A (first_place A) false ≡ true) × (first_place A < first_place (set A (first_place A) false))
 first_is_member [] k e = absurd (omega arith)
 first_is_member (true ∷ A) k e = (refl, omega arith)
 first_is_member (false ∷ A) k e = let r = first_is_member A k (omega arith) in (r.0, omega (arith, r.1))
@@ -58,11 +61,13 @@ no_members (false ∷ A) z = ap (λ X. false ∷ X) (no_members A (omega arith))
 
 -- ---- tests over lists of lists
 
-list_all-flat_map : {X Y : Type 0} (p : Y → Bool) (f : X → List Y) (xs : List X) → list_all p (flat_map f xs) ≡ list_all (λ x. list_all p (f x)) xs
+list_all-flat_map : {X Y : Type 0} (p : Y → Bool) (f : X → List Y) (xs : List X)
+    → list_all p (flat_map f xs) ≡ list_all (λ x. list_all p (f x)) xs
 list_all-flat_map p f [] = refl
 list_all-flat_map p f (x ∷ xs) = list_all-append p (f x) (flat_map f xs) ∙ ap (λ b. list_all p (f x) && b) (list_all-flat_map p f xs)
 
-list_any-flat_map : {X Y : Type 0} (p : Y → Bool) (f : X → List Y) (xs : List X) → list_any p (flat_map f xs) ≡ list_any (λ x. list_any p (f x)) xs
+list_any-flat_map : {X Y : Type 0} (p : Y → Bool) (f : X → List Y) (xs : List X)
+    → list_any p (flat_map f xs) ≡ list_any (λ x. list_any p (f x)) xs
 list_any-flat_map p f [] = refl
 list_any-flat_map p f (x ∷ xs) = list_any-append p (f x) (flat_map f xs) ∙ ap (λ b. list_any p (f x) || b) (list_any-flat_map p f xs)
 
@@ -92,7 +97,8 @@ same-insert_key A B [] = or-false (same A B)
 same-insert_key A B (X ∷ Xs) = by (lectic_cmp B X) refl (same-insert_key A B Xs)
   where
     by : (o : Ordering) → lectic_cmp B X ≡ o → list_any (same A) (insert_key lectic_cmp Xs B) ≡ (list_any (same A) Xs || same A B)
-        → list_any (same A) (match_ordering o (B ∷ X ∷ Xs) (X ∷ Xs) (X ∷ insert_key lectic_cmp Xs B)) ≡ ((same A X || list_any (same A) Xs) || same A B)
+        → list_any (same A) (match_ordering o (B ∷ X ∷ Xs) (X ∷ Xs) (X ∷ insert_key lectic_cmp Xs B))
+        ≡ ((same A X || list_any (same A) Xs) || same A B)
     by Less e rest = or_comm (same A B) (same A X || list_any (same A) Xs)
     by Equal e rest = there_already (same A X) (list_any (same A) Xs) (same A B) (ap (same A) (lectic_equal B X e))
       where
@@ -113,19 +119,23 @@ module _ (K : Context) where
   larger_wide : (A : Set) → length A ≡ K.width → list_all (λ X. eqb (length X) K.width) (larger A) ≡ true
   larger_wide A e =
       list_all-map (λ X. eqb (length X) K.width) (λ i. set A i true) (range_with_len 0 (first_place A))
-      ∙ list_all_from (λ i. eqb (length (set A i true)) K.width) (λ i. eq-eqb (length (set A i true)) K.width (length-set A i true ∙ e)) (range_with_len 0 (first_place A))
+      ∙ list_all_from (λ i. eqb (length (set A i true)) K.width) (λ i. eq-eqb (length (set A i true)) K.width (length-set A i true ∙ e))
+      (range_with_len 0 (first_place A))
 
   visited_wide : (k : ℕ) → list_all (λ X. eqb (length X) K.width) (visited K k) ≡ true
   unfolding visited
-  visited_wide zero = and_from (eqb (length (replicate K.width false)) K.width) true (eq-eqb (length (replicate K.width false)) K.width (length-replicate K.width false)) refl
+  visited_wide zero = and_from (eqb (length (replicate K.width false)) K.width) true
+      (eq-eqb (length (replicate K.width false)) K.width (length-replicate K.width false)) refl
   visited_wide (suc k) =
       let wide : Set → Bool = λ X. eqb (length X) K.width in
       list_all-flat_map wide larger (filter (free K) (visited K k))
-      ∙ list_all-mono wide (λ X. list_all wide (larger X)) (λ X h. larger_wide X (eqb-true (length X) K.width h)) (filter (free K) (visited K k))
+      ∙ list_all-mono wide (λ X. list_all wide (larger X)) (λ X h. larger_wide X (eqb-true (length X) K.width h))
+      (filter (free K) (visited K k))
       (list_all-filter_kept wide (free K) (visited K k) (visited_wide k))
 
   pub level_wide : (k : ℕ) → All (λ A. length A ≡ K.width) (filter (free K) (visited K k))
-  level_wide k = all_wide K.width (filter (free K) (visited K k)) (list_all-filter_kept (λ X. eqb (length X) K.width) (free K) (visited K k) (visited_wide k))
+  level_wide k = all_wide K.width (filter (free K) (visited K k))
+      (list_all-filter_kept (λ X. eqb (length X) K.width) (free K) (visited K k) (visited_wide k))
 
   -- A is visited where A without its first member is free and was visited
   is_larger : (A : Set) (k : ℕ) → size A ≡ suc k → list_any (same A) (larger (set A (first_place A) false)) ≡ true
@@ -134,11 +144,13 @@ module _ (K : Context) where
       let B = set A (first_place A) false in
       let f : ℕ → Set = λ i. set B i true in
       list_any-map (same A) f (range_with_len 0 (first_place B))
-      ∙ range_any_from (λ i. same A (f i)) 0 (first_place B) (first_place A) (omega arith) (omega (arith, r.1)) (same_from A (f (first_place A)) (sym (restored A (first_place A) r.0)))
+      ∙ range_any_from (λ i. same A (f i)) 0 (first_place B) (first_place A) (omega arith) (omega (arith, r.1))
+      (same_from A (f (first_place A)) (sym (restored A (first_place A) r.0)))
 
   pub visited_has : (k : ℕ) (A : Set) → length A ≡ K.width → free K A ≡ true → size A ≡ k → list_any (same A) (visited K k) ≡ true
   unfolding visited
-  visited_has zero A e f z = or_left (same A (replicate K.width false)) false (same_from A (replicate K.width false) (no_members A z ∙ ap (λ n. replicate n false) e))
+  visited_has zero A e f z = or_left (same A (replicate K.width false)) false
+      (same_from A (replicate K.width false) (no_members A z ∙ ap (λ n. replicate n false) e))
   visited_has (suc k) A e f z =
       let r = first_is_member A k z in
       let B = set A (first_place A) false in
@@ -146,7 +158,8 @@ module _ (K : Context) where
       let free_B = free_within K A B (within-without A (first_place A)) f in
       let below = visited_has k B (length-set A (first_place A) false ∙ e) free_B (omega arith) in
       list_any-flat_map (same A) larger (filter (free K) (visited K k))
-      ∙ any_has (λ X. list_any (same A) (larger X)) B (filter (free K) (visited K k)) (in_filter (free K) B (visited K k) below free_B) (is_larger A k z)
+      ∙ any_has (λ X. list_any (same A) (larger X)) B (filter (free K) (visited K k)) (in_filter (free K) B (visited K k) below free_B)
+      (is_larger A k z)
 
   -- ---- the proper premises in order
 
@@ -163,23 +176,30 @@ module _ (K : Context) where
   all_visited_has A e f =
       let small = size_le A in
       list_any-flat_map (same A) (visited K) (range_with_len 0 (K.width + 1))
-      ∙ range_any_from (λ k. list_any (same A) (visited K k)) 0 (K.width + 1) (size A) (omega arith) (omega (arith, small, e)) (visited_has (size A) A e f refl)
+      ∙ range_any_from (λ k. list_any (same A) (visited K k)) 0 (K.width + 1) (size A) (omega arith) (omega (arith, small, e))
+      (visited_has (size A) A e f refl)
 
-  pub found_is : (Xs : List Set) → increasing Xs ≡ true → Xs ≡ placed [] (filter (proper K) (flat_map (visited K) (range_with_len 0 (K.width + 1)))) → Xs ≡ filter (proper K) (all_sets K.width)
+  pub found_is : (Xs : List Set) → increasing Xs ≡ true
+      → Xs ≡ placed [] (filter (proper K) (flat_map (visited K) (range_with_len 0 (K.width + 1))))
+      → Xs ≡ filter (proper K) (all_sets K.width)
   found_is Xs up is =
-      let here : (A : Set) → list_any (same A) Xs ≡ list_any (same A) (filter (proper K) all_visited) = λ A. ap (list_any (same A)) is ∙ same-placed A [] (filter (proper K) all_visited) in
+      let here : (A : Set) → list_any (same A) Xs ≡ list_any (same A) (filter (proper K) all_visited) = λ A. ap (list_any (same A)) is
+      ∙ same-placed A [] (filter (proper K) all_visited) in
       let wide : Set → Bool = λ X. eqb (length X) K.width in
-      same_members Xs (filter (proper K) (all_sets K.width)) up (increasing-filter (proper K) (all_sets K.width) (all_sets_increasing K.width))
+      same_members Xs (filter (proper K) (all_sets K.width)) up
+      (increasing-filter (proper K) (all_sets K.width) (all_sets_increasing K.width))
       (λ A h.
       let parts = of_filter (proper K) A all_visited (sym (here A) ∙ h) in
-      in_filter (proper K) A (all_sets K.width) (in_all_sets K.width A (eqb-true (length A) K.width (at_member wide A all_visited parts.0 all_visited_wide))) parts.1)
+      in_filter (proper K) A (all_sets K.width) (in_all_sets K.width A
+      (eqb-true (length A) K.width (at_member wide A all_visited parts.0 all_visited_wide))) parts.1)
       (λ A h.
       let parts = of_filter (proper K) A (all_sets K.width) h in
       let e = eqb-true (length A) K.width (at_member wide A (all_sets K.width) parts.0 (all_sets_widths K.width)) in
       here A ∙ in_filter (proper K) A all_visited (all_visited_has A e (proper_free K A e parts.1)) parts.1)
 
   pub proper_wide : All (λ P. length P ≡ K.width) (filter (proper K) (all_sets K.width))
-  proper_wide = all_wide K.width (filter (proper K) (all_sets K.width)) (list_all-filter_kept (λ X. eqb (length X) K.width) (proper K) (all_sets K.width) (all_sets_widths K.width))
+  proper_wide = all_wide K.width (filter (proper K) (all_sets K.width))
+      (list_all-filter_kept (λ X. eqb (length X) K.width) (proper K) (all_sets K.width) (all_sets_widths K.width))
 
   pub direct_is : (Xs : List Set) → Xs ≡ filter (proper K) (all_sets K.width) → map (λ P. rule P (closure K P)) Xs ≡ direct K
   unfolding direct
@@ -188,25 +208,36 @@ module _ (K : Context) where
 -- ---- as the loops go
 
 -- more was visited: what was kept of it, and what was put in its place
-pub more_kept : (p : Set → Bool) (first old new Xs Ys Zs : List Set) → Zs ≡ Xs ++ Ys → old ≡ first ++ filter p Xs → new ≡ old ++ filter p Ys → new ≡ first ++ filter p Zs
+pub more_kept : (p : Set → Bool) (first old new Xs Ys Zs : List Set) → Zs ≡ Xs ++ Ys → old ≡ first ++ filter p Xs → new ≡ old ++ filter p Ys
+    → new ≡ first ++ filter p Zs
 more_kept p first old new Xs Ys Zs z o n =
-    n ∙ ap (λ Ws. Ws ++ filter p Ys) o ∙ append_assoc first (filter p Xs) (filter p Ys) ∙ ap (λ Ws. first ++ Ws) (sym (ap (filter p) z ∙ filter-append p Xs Ys))
+    n ∙ ap (λ Ws. Ws ++ filter p Ys) o ∙ append_assoc first (filter p Xs) (filter p Ys)
+    ∙ ap (λ Ws. first ++ Ws) (sym (ap (filter p) z ∙ filter-append p Xs Ys))
 
-pub more_placed : (p : Set → Bool) (first old new Xs Ys Zs : List Set) → Zs ≡ Xs ++ Ys → old ≡ placed first (filter p Xs) → new ≡ placed old (filter p Ys) → new ≡ placed first (filter p Zs)
+pub more_placed : (p : Set → Bool) (first old new Xs Ys Zs : List Set) → Zs ≡ Xs ++ Ys → old ≡ placed first (filter p Xs)
+    → new ≡ placed old (filter p Ys) → new ≡ placed first (filter p Zs)
 more_placed p first old new Xs Ys Zs z o n =
-    n ∙ ap (λ Ws. placed Ws (filter p Ys)) o ∙ sym (ap (λ Ws. placed first (filter p Ws)) z ∙ ap (placed first) (filter-append p Xs Ys) ∙ fold-append (insert_key lectic_cmp) first (filter p Xs) (filter p Ys))
+    n ∙ ap (λ Ws. placed Ws (filter p Ys)) o ∙ sym
+    (ap (λ Ws. placed first (filter p Ws)) z ∙ ap (placed first) (filter-append p Xs Ys)
+    ∙ fold-append (insert_key lectic_cmp) first (filter p Xs) (filter p Ys))
 
-pub flat_map-take : {X Y : Type 0} (f : X → List Y) (xs : List X) (k : ℕ) (x : X) → k < length xs → x ≡ get_or xs k x → flat_map f (take (k + 1) xs) ≡ flat_map f (take k xs) ++ f x
+pub flat_map-take : {X Y : Type 0} (f : X → List Y) (xs : List X) (k : ℕ) (x : X) → k < length xs → x ≡ get_or xs k x
+    → flat_map f (take (k + 1) xs) ≡ flat_map f (take k xs) ++ f x
 flat_map-take f xs k x l is =
-    ap (flat_map f) (take_more xs k x l ∙ ap (λ y. take k xs ++ y ∷ []) (sym is)) ∙ flat_map-append f (take k xs) (x ∷ []) ∙ ap (λ ys. flat_map f (take k xs) ++ ys) (append-nil (f x))
+    ap (flat_map f) (take_more xs k x l ∙ ap (λ y. take k xs ++ y ∷ []) (sym is)) ∙ flat_map-append f (take k xs) (x ∷ [])
+    ∙ ap (λ ys. flat_map f (take k xs) ++ ys) (append-nil (f x))
 
 pub flat_map-range : {Y : Type 0} (f : ℕ → List Y) (n : ℕ) → flat_map f (range_with_len 0 (n + 1)) ≡ flat_map f (range_with_len 0 n) ++ f n
-flat_map-range f n = ap (flat_map f) (range_more 0 n n (omega arith)) ∙ flat_map-append f (range_with_len 0 n) (n ∷ []) ∙ ap (λ ys. flat_map f (range_with_len 0 n) ++ ys) (append-nil (f n))
+flat_map-range f n = ap (flat_map f) (range_more 0 n n (omega arith)) ∙ flat_map-append f (range_with_len 0 n) (n ∷ [])
+    ∙ ap (λ ys. flat_map f (range_with_len 0 n) ++ ys) (append-nil (f n))
 
-pub level_next : (K : Context) (k : ℕ) (level next : List Set) → level ≡ filter (free K) (visited K k) → next ≡ filter (free K) (flat_map larger level) → next ≡ filter (free K) (visited K (k + 1))
+pub level_next : (K : Context) (k : ℕ) (level next : List Set) → level ≡ filter (free K) (visited K k)
+    → next ≡ filter (free K) (flat_map larger level) → next ≡ filter (free K) (visited K (k + 1))
 unfolding visited
-level_next K k level next is e = e ∙ ap (λ Xs. filter (free K) (flat_map larger Xs)) is ∙ ap (λ j. filter (free K) (visited K j)) (sym (add-one k))
+level_next K k level next is e = e ∙ ap (λ Xs. filter (free K) (flat_map larger Xs)) is
+    ∙ ap (λ j. filter (free K) (visited K j)) (sym (add-one k))
 
-pub visited_next : (K : Context) (k : ℕ) (level : List Set) → level ≡ filter (free K) (visited K k) → flat_map larger level ≡ visited K (k + 1)
+pub visited_next : (K : Context) (k : ℕ) (level : List Set) → level ≡ filter (free K) (visited K k)
+    → flat_map larger level ≡ visited K (k + 1)
 unfolding visited
 visited_next K k level is = ap (flat_map larger) is ∙ ap (visited K) (sym (add-one k))

@@ -1,4 +1,5 @@
--- Tests of the members of a set. The members are the places at which the list of Booleans has true; so all of them pass a test where each such place does.
+-- Tests of the members of a set. The members are the places at which the list of Booleans has true; so all of them pass a test where each
+-- such place does.
 use Rattle.std.proofs.Common.{◌≡◌, ℕ, zero, suc, ◌+◌, ◌<◌, ◌≤◌, Bool, true, false, not, ◌&&◌, ◌||◌, List, [], ◌∷◌, ◌++◌, add-one, filter, length, get_or, refl, sym, ap, ◌∙◌, arith, inl, inr}
 use Rattle.std.proofs.lemmas.Bool.{and_parts, and_from, cases_lt, or_left, or_right}
 use Rattle.std.proofs.lemmas.List.Folds.{list_all-append}
@@ -29,22 +30,27 @@ range_any_from p a (suc n) i l u t = elim (cases_lt a i) [
 
 pub range_more : (a n j : ℕ) → a + n ≡ j → range_with_len a (n + 1) ≡ range_with_len a n ++ j ∷ []
 range_more a zero j e = let h : a ≡ j = omega arith in ap (λ x. x ∷ []) h
-range_more a (suc n) j e = ap (range_with_len a) (add-one (suc n)) ∙ ap (λ xs. a ∷ xs) (ap (range_with_len (a + 1)) (sym (add-one n)) ∙ range_more (a + 1) n j (omega arith))
+range_more a (suc n) j e = ap (range_with_len a) (add-one (suc n))
+    ∙ ap (λ xs. a ∷ xs) (ap (range_with_len (a + 1)) (sym (add-one n)) ∙ range_more (a + 1) n j (omega arith))
 
 -- ---- members
 
 pub members_from : (p : ℕ → Bool) (A : Set) → ((a : ℕ) → get_or A a false ≡ true → p a ≡ true) → list_all p (members A) ≡ true
-members_from p A h = each p (members A) (λ a among. h a (among (λ i. get_or A i false) (filter_passes (λ i. get_or A i false) (range_with_len 0 (length A)))))
+members_from p A h = each p (members A) (λ a among. h a
+    (among (λ i. get_or A i false) (filter_passes (λ i. get_or A i false) (range_with_len 0 (length A)))))
 
 pub members_at : (p : ℕ → Bool) (A : Set) → list_all p (members A) ≡ true → (a : ℕ) → get_or A a false ≡ true → p a ≡ true
 members_at p A h a t =
     let has : ℕ → Bool = λ i. get_or A i false in
     let below = member_below A a t in
-    implies_at (has a) (p a) (range_all_at (λ i. not (has i) || p i) 0 (length A) (sym (list_all-filter p has (range_with_len 0 (length A))) ∙ h) a (omega arith) (omega arith)) t
+    implies_at (has a) (p a) (range_all_at (λ i. not (has i) || p i) 0 (length A)
+    (sym (list_all-filter p has (range_with_len 0 (length A))) ∙ h) a (omega arith) (omega arith)) t
 
 -- one element more that may be kept
-pub list_all-filter_more : {X : Type 0} (q p : X → Bool) (xs : List X) (x : X) → list_all q (filter p xs) ≡ true → (p x ≡ true → q x ≡ true) → list_all q (filter p (xs ++ x ∷ [])) ≡ true
+pub list_all-filter_more : {X : Type 0} (q p : X → Bool) (xs : List X) (x : X) → list_all q (filter p xs) ≡ true → (p x ≡ true → q x ≡ true)
+    → list_all q (filter p (xs ++ x ∷ [])) ≡ true
 list_all-filter_more {X = X} q p xs x h t =
     let test : X → Bool = λ y. not (p y) || q y in
     list_all-filter q p (xs ++ x ∷ []) ∙ list_all-append test xs (x ∷ [])
-    ∙ and_from (list_all test xs) (test x && true) (sym (list_all-filter q p xs) ∙ h) (and_from (test x) true (implies_from (p x) (q x) t) refl)
+    ∙ and_from (list_all test xs) (test x && true) (sym (list_all-filter q p xs) ∙ h)
+    (and_from (test x) true (implies_from (p x) (q x) t) refl)

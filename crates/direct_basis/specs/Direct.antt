@@ -1,12 +1,12 @@
 -- Proper premises, and the direct basis that they give.
 --
--- A set A is a proper premise where its closure is more than A joined with the closures of A without one of its members: it gives an attribute that
--- neither belongs to it nor comes from fewer of its members. The implications from each proper premise to its closure are the direct basis: one pass over
--- them gives the closure of any set. (Ganter and Wille, "Formal Concept Analysis", proper premises, in implications between attributes; Bertet and
--- Monjardet, 2010, "The multiple facets of the canonical direct unit implicational basis".)
+-- A set A is a proper premise if its closure is more than A joined with the closures of A without one of its members: it gives an
+-- attribute that neither belongs to it nor comes from fewer of its members. The implications from each proper premise to its closure are
+-- the direct basis: one pass over them gives the closure of any set. (Ganter and Wille, "Formal Concept Analysis", proper premises, in
+-- implications between attributes; Bertet and Monjardet, 2010, "The multiple facets of the canonical direct unit implicational basis".)
 --
--- Of the rows {b, c, d}, {c, d}, {a, b, d}, {a, b}, {c} over a, b, c, d the proper premises are {b, c}, {a} and {a, c}. {a, c} gives d, which neither
--- {a} nor {c} does; it is no pseudo-intent, since it does not contain the closure {a, b} of {a}.
+-- Of the rows {b, c, d}, {c, d}, {a, b, d}, {a, b}, {c} over a, b, c, d the proper premises are {b, c}, {a} and {a, c}. {a, c} gives d,
+-- which neither {a} nor {c} does; it is no pseudo-intent, since it does not contain the closure {a, b} of {a}.
 use Rattle.std.specs.Prelude.{ℕ, Bool, false, not, List, length, map, filter, fold, slice_index_or, slice_set}
 use Rattle.std.specs.List.{range_with_len}
 use Rattle.fca_model.specs.Sets.{Set, within, join, same, all_sets}

@@ -1,9 +1,9 @@
 -- The search for proper premises by sizes.
 --
--- A set is free where no member of it lies in the closure of the others. A proper premise is free, and so is each set within a free one. So each free set
--- is met once, from itself without its first member: a level has the free sets of one size, and the sets visited next are those of the level with one
--- attribute more that comes before all members. (Free sets are the minimal generators of the intents: Bastide, Taouil, Pasquier, Stumme and Lakhal, 2000,
--- "Mining frequent patterns with counting inference".)
+-- A set is free if no member of it lies in the closure of the others. A proper premise is free, and so is each set within a free one. So
+-- each free set is met once, from itself without its first member: a level has the free sets of one size, and the sets visited next are
+-- those of the level with one attribute more that comes before all members. (Free sets are the minimal generators of the intents:
+-- Bastide, Taouil, Pasquier, Stumme and Lakhal, 2000, "Mining frequent patterns with counting inference".)
 use Rattle.std.specs.Prelude.{◌≡◌, ℕ, zero, suc, Bool, true, false, not, List, [], ◌∷◌, map, filter, fold, replicate, slice_index_or, slice_set}
 use Rattle.std.specs.List.{list_all, range_with_len, flat_map}
 use Rattle.std.specs.BTreeSet.{insert_key}
@@ -20,7 +20,7 @@ pub record IsOfFree (K : Context) (A X : Set) : Type 0 where
   pub free_set : free K A ≡ true
   pub joined : X ≡ from_parts K A
 
--- the first member's place, and the width where there is none
+-- the place of the first member, or the width if there is none
 abbrev pub first_place : Set → ℕ
 first_place [] = 0
 first_place (true ∷ A) = 0

@@ -1,5 +1,5 @@
-//! The proper premises by sizes, among the sets of which no member lies in the closure of the
-//! others. Of these sets only two sizes are kept at a time, and no list of all sets is made.
+//! The proper premises by sizes. They are among the free sets, of which no member lies in the closure of the others. Only two sizes of free sets are kept at a
+//! time, and nothing lists all sets.
 
 ghost use Rattle.std.specs.Prelude.{◌≡◌, ◌≤◌, ◌++◌, ◌∷◌, [], ◌+◌, false, IfOk, OnOk, MatchOption, All, length, filter};
 ghost use Rattle.std.specs.List.{flat_map, range_with_len};
@@ -22,7 +22,7 @@ pub(crate) fn proper_sets(alloc: Global, rows: &Rows) -> Result<Vec<Attrs>, Memo
     Ok(found.iter().copied().collect(alloc)?)
 }
 
-/// The proper premises among the sets that are visited, from the empty set to the largest.
+/// The proper premises among the visited sets, from the empty set to the largest.
 fn search(alloc: Global, rows: &Rows) -> Result<BTreeSet<Attrs>, Memory>
     ensures { IfOk result (λ found. found.keys ≡ placed [] (filter (proper rows.now) (flat_map (visited rows.now) (range_with_len 0 (rows.now.width + 1))))) }
 {
@@ -35,8 +35,7 @@ fn search(alloc: Global, rows: &Rows) -> Result<BTreeSet<Attrs>, Memory>
     Ok(found)
 }
 
-/// The free sets that have one attribute more than those of the level. Puts the proper premises among
-/// what is visited to those that were found.
+/// The free sets with one attribute more than those of the level. The proper premises among the visited sets join those that were found.
 fn next_level(
     alloc: Global,
     rows: &Rows,
@@ -71,7 +70,7 @@ fn grow(
     Ok(())
 }
 
-/// The first member's place, and the width where there is none.
+/// The place of the first member, or the width if there is none.
 fn first_place(set: &Attrs) -> u32
     ensures first { result ≡ first_place set.now }
     ensures below { result ≤ length set.now }
@@ -82,7 +81,7 @@ fn first_place(set: &Attrs) -> u32
     }
 }
 
-/// Puts the set last in the level where it is free, and among those found where it is a proper premise.
+/// Appends the set to the level if it is free, and adds it to those found if it is a proper premise.
 fn visit(
     rows: &Rows,
     set: Attrs,
@@ -102,8 +101,7 @@ fn visit(
     Ok(())
 }
 
-/// The set joined with the closures of the set without one member, and none where such a closure has
-/// the member again.
+/// The set joined with the closures of the set without one member. There is none if such a closure has the member again.
 fn join_of_parts(rows: &Rows, set: &Attrs) -> Option<Attrs>
     requires { length set.now ≡ rows.now.width }
     ensures { MatchOption result (free rows.now set.now ≡ false) (λ joined. IsOfFree rows.now set.now joined) }

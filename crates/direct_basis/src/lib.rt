@@ -20,8 +20,8 @@ use levels::proper_sets;
 pub use passing::one_pass;
 use std::alloc::Global;
 
-/// One pass over the direct basis gives the closure of any set. Each member holds, each implication
-/// that holds follows, and the Duquenne-Guigues basis has no more members.
+/// One pass over the direct basis gives the closure of any set. Each member holds, each implication that holds follows, and the Duquenne-Guigues basis has no more
+/// members.
 pub fn direct_is_direct()
     ensures one_pass { (K : Context) (X : Set) → length X ≡ K.width → one_pass (direct K) X ≡ closure K X }
     ensures holds { (K : Context) → list_all (holds K) (direct K) ≡ true }

@@ -8,8 +8,8 @@ ghost use Rattle.direct_basis.specs.Direct.{direct, one_pass};
 use attr_bits::Attrs;
 use implication_closure::{Implication, ImplicationList};
 
-/// The set with the conclusions of all members whose premise lies within it. What they add opens no
-/// further premise, so this is the closure under the list only where the list is direct.
+/// The set with the conclusions of all members whose premise lies within it. What they add opens no further premise, so this is the closure under the list only if
+/// the list is direct.
 pub fn one_pass(list: &ImplicationList, x: &Attrs) -> Attrs
     requires { length x.now ≡ list.now.width }
     ensures pass { result ≡ one_pass list.now.members x.now }
@@ -18,7 +18,7 @@ pub fn one_pass(list: &ImplicationList, x: &Attrs) -> Attrs
     pass_over(list.as_slice(), x)
 }
 
-/// The same over a list of members.
+/// The set with the conclusions of all these members whose premise lies within it.
 fn pass_over(members: &[Implication], x: &Attrs) -> Attrs
     requires { HaveWidth (length x.now) members.now }
     ensures { result ≡ one_pass members.now x.now }

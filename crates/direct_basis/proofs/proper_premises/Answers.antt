@@ -18,12 +18,14 @@ pub returns-clause-members : goal.returns-clause-members
 returns-clause-members c =
     let K = c.args.rows.now in
     let is = direct_is K c.deref.result.now (c.deref.ensures.value ∙ c.in_ok-premises.ensures) in
-    subst (λ (members : List Rule). IfOk c.close_in_rows.result (λ (list : RuleList). list ≡ record { width = K.width; members = members })) is c.close_in_rows.ensures
+    subst (λ (members : List Rule). IfOk c.close_in_rows.result (λ (list : RuleList). list ≡ record { width = K.width; members = members }))
+    is c.close_in_rows.ensures
 
 pub returns-clause-holds : goal.returns-clause-holds
 returns-clause-holds c =
     let K = c.args.rows.now in
-    IfOk-weaker c.close_in_rows.result (λ (list : RuleList). list ≡ record { width = K.width; members = direct K }) (λ (list : RuleList). list_all (holds K) list.members ≡ true)
+    IfOk-weaker c.close_in_rows.result (λ (list : RuleList). list ≡ record { width = K.width; members = direct K })
+    (λ (list : RuleList). list_all (holds K) list.members ≡ true)
     (λ list e. ap (λ (l : RuleList). list_all (holds K) l.members) e ∙ direct_holds K) (returns-clause-members c)
 
 pub returns-clause-follows : goal.returns-clause-follows

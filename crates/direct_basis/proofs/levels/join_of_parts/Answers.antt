@@ -23,7 +23,8 @@ returns-then-has-2 c =
     let A = c.args.set.now in
     let a = c.loop-a.a in
     let again : get_or (closure K (without A a)) a false ≡ true =
-    sym (c.has-then-has.ensures ∙ ap (λ (Z : Set). get_or Z a false) (c.closure-closed.ensures ∙ ap (closure K) c.without.ensures)) ∙ c.if-has-2.true in
+    sym (c.has-then-has.ensures ∙ ap (λ (Z : Set). get_or Z a false) (c.closure-closed.ensures ∙ ap (closure K) c.without.ensures))
+    ∙ c.if-has-2.true in
     false_from_ne_true (free K A) (λ f. false≢true (sym (free_at K A a f (sym c.has.ensures ∙ c.if-has.true)) ∙ again))
 
 pub join-joined-requires : goal.join-joined-requires
@@ -31,7 +32,8 @@ join-joined-requires c =
     let K = c.args.rows.now in
     let A = c.args.set.now in
     let made = ap length c.closure-closed.ensures ∙ length-closure K c.without.result in
-    let wide = ap length c.loop-a.invariant.joined ∙ length-joins A (map (λ a. closure K (without A a)) (filter (λ a. get_or A a false) (range_with_len 0 c.loop-a.a))) in
+    let wide = ap length c.loop-a.invariant.joined
+    ∙ length-joins A (map (λ a. closure K (without A a)) (filter (λ a. get_or A a false) (range_with_len 0 c.loop-a.a))) in
     omega (arith, made, wide, c.requires)
 
 pub loop-a-preserved : goal.loop-a-preserved
@@ -45,14 +47,18 @@ loop-a-preserved c =
     let so_far = fold join A (map part (filter has (range_with_len 0 k))) in
     let range = range_more 0 k k (omega arith) in
     let joined = ap (λ is. fold join A (map part (filter has is))) range ∙ joins_more part has A (range_with_len 0 k) k in
-    let free_more : (has k ≡ true → lacks k ≡ true) → list_all lacks (filter has (range_with_len 0 (k + 1))) ≡ true = λ t. ap (λ is. list_all lacks (filter has is)) range ∙ list_all-filter_more lacks has (range_with_len 0 k) k c.loop-a.invariant.free t in
+    let free_more : (has k ≡ true → lacks k ≡ true)
+    → list_all lacks (filter has (range_with_len 0 (k + 1))) ≡ true = λ t. ap (λ is. list_all lacks (filter has is)) range
+    ∙ list_all-filter_more lacks has (range_with_len 0 k) k c.loop-a.invariant.free t in
     elim c.if-has.branch [
       | then-has+else-has-2 w ↦
           let t : has k ≡ true = sym c.has.ensures ∙ w.if-has.true in
           let closed : w.closure-closed.result ≡ part k = w.closure-closed.ensures ∙ ap (closure K) w.without.ensures in
           record {
-            joined = w.joined-is ∙ w.join-joined.ensures ∙ ap₂ join c.loop-a.invariant.joined closed ∙ sym (joined ∙ ap (λ b. cond b (join so_far (part k)) so_far) t);
-            free = free_more (λ _. ap not (ap (λ (Z : Set). get_or Z k false) (sym closed) ∙ sym w.has-then-has.ensures ∙ w.if-has-2.false));
+            joined = w.joined-is ∙ w.join-joined.ensures ∙ ap₂ join c.loop-a.invariant.joined closed
+                ∙ sym (joined ∙ ap (λ b. cond b (join so_far (part k)) so_far) t);
+            free = free_more (λ _. ap not (ap (λ (Z : Set). get_or Z k false) (sym closed) ∙ sym w.has-then-has.ensures
+                ∙ w.if-has-2.false));
           }
       | else-has w ↦
           let t : has k ≡ false = sym c.has.ensures ∙ w.if-has.false in

@@ -7,6 +7,8 @@ use Rattle.direct_basis.proofs.levels.join_of_parts.Given as goal
 
 abbrev pub invariant-loop-a : goal.invariant-loop-a
 invariant-loop-a l = record {
-  joined : l.joined ≡ fold join l.set (map (λ a. closure l.rows (without l.set a)) (filter (λ a. get_or l.set a false) (range_with_len 0 l.a)));
-  free : list_all (λ a. not (get_or (closure l.rows (without l.set a)) a false)) (filter (λ a. get_or l.set a false) (range_with_len 0 l.a)) ≡ true;
+  joined : l.joined ≡ fold join l.set (map (λ a. closure l.rows (without l.set a))
+      (filter (λ a. get_or l.set a false) (range_with_len 0 l.a)));
+  free : list_all (λ a. not (get_or (closure l.rows (without l.set a)) a false)) (filter (λ a. get_or l.set a false) (range_with_len 0 l.a))
+      ≡ true;
 }

@@ -16,6 +16,8 @@ loop-set-preserved c =
     let after : List Set = flat_map larger (take (k + 1) Ls) in
     let one_more = flat_map-take larger Ls k S c.loop-set-test.true c.set-item.is in
     record {
-      level = more_kept (free K) [] c.loop-set.next.items c.grow.new.level.items before (larger S) after one_more c.loop-set.invariant.level c.in_ok-grow.ensures.level;
-      found = more_placed (proper K) c.args.found.now.keys c.loop-set.found.keys c.grow.new.found.keys before (larger S) after one_more c.loop-set.invariant.found c.in_ok-grow.ensures.found;
+      level = more_kept (free K) [] c.loop-set.next.items c.grow.new.level.items before
+          (larger S) after one_more c.loop-set.invariant.level c.in_ok-grow.ensures.level;
+      found = more_placed (proper K) c.args.found.now.keys c.loop-set.found.keys c.grow.new.found.keys before
+          (larger S) after one_more c.loop-set.invariant.found c.in_ok-grow.ensures.found;
     }
