@@ -60,6 +60,6 @@ fn the_basis_of_one_row_by_levels(rt: HostRuntime) -> Result<(), Memory> {
 fn no_member_of_an_empty_index_is_broken(rt: HostRuntime) -> Result<(), Memory> {
     let list = ImplicationList::new(rt.alloc(), 3)?;
     let index = MemberIndex::of(rt.alloc(), &list)?;
-    assert!(&rt; index.broken(&Attrs::full(3)).is_none());
+    assert!(&rt; index.broken_member(&Attrs::full(3)).is_none());
     Ok(())
 }
