@@ -8,7 +8,7 @@ use Rattle.std.proofs.lemmas.Bool.{and_parts}
 use Rattle.fca_model.specs.Names.{is_line_break}
 use Rattle.fca_model.specs.Tables.{Text, NamedContext}
 use Rattle.fca_model.specs.Implications.{Rule}
-use Rattle.fca_model.specs.Exploration.{State, Settings, SetEvent, SetReply, SetEntry, IsLegal, opening, open_in, events_of, journal_of}
+use Rattle.fca_model.specs.Exploration.{State, Settings, SetEvent, SetReply, SetEntry, IsLegal, opening, open_in, journal_of}
 use Rattle.fca_model.specs.Exploration.{expert_of, has_width, is_expert}
 use Rattle.fca_model.specs.declared.Event.TheVariants.{Row}
 use Rattle.fca_model.specs.declared.Reply.TheVariants.{Taken}

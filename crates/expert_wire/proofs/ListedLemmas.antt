@@ -1,7 +1,7 @@
 -- Names that are written one by one. `bridged` is the rest of a list: nothing stands before the first name, and a comma and a space
 -- before each later one.
 use Rattle.std.proofs.Common.{◌≡◌, ℕ, suc, ◌<◌, ◌≤◌, true, false, List, [], ◌∷◌, ◌++◌, length, drop, get_or, refl, sym, ap, ◌∙◌}
-use Rattle.std.proofs.Common.{append_assoc, arith, min, cond, inl, inr, Some, take, map, ap₂}
+use Rattle.std.proofs.Common.{append_assoc, arith, min, cond, inl, inr, Some}
 use Rattle.std.proofs.Math.Nat.{le-min}
 use Rattle.std.proofs.lemmas.Bool.{cases_lt}
 use Rattle.std.proofs.lemmas.Option.{get_or_from_slice_get}

@@ -1,5 +1,5 @@
 -- A pattern is read back as its set. So the text of a row with a valid name and the right width is read back as this row.
-use Rattle.std.proofs.Common.{◌≡◌, ◌<◌, ℕ, zero, suc, true, false, ◌&&◌, cond, List, [], ◌∷◌, ◌++◌, map, length, get_or, Some, None, Ok}
+use Rattle.std.proofs.Common.{◌≡◌, ◌<◌, ℕ, zero, suc, true, false, ◌&&◌, cond, [], ◌∷◌, ◌++◌, map, length, get_or, Some, None, Ok}
 use Rattle.std.proofs.Common.{Err, refl, ap, ap₂, ◌∙◌, arith, eqb, ltb}
 use Rattle.std.specs.Prelude.{codes, IsUtf8, IsAscii, is_none, nat_lt, ◌==◌, bytes_eq}
 use Rattle.std.specs.List.{list_any, list_all}

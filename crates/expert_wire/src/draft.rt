@@ -100,8 +100,8 @@ impl Draft {
         question: &Implication,
     ) -> Result<(), Memory>
         ensures whole { OnOk result (self.new ≡ self.old ++ ((words.now ++ full_text table.now.attributes question.now) ++ line_end)) }
-        ensures front { AppendsFront (Some self.old) (Some self.new) ((words.now ++ full_text table.now.attributes question.now)
-            ++ line_end) }
+        ensures front { AppendsFront (Some self.old) (Some self.new)
+            ((words.now ++ full_text table.now.attributes question.now) ++ line_end) }
     {
         match write_question(&mut self.sink, table, words, question) {
             Ok(()) => Ok(()),
@@ -119,8 +119,8 @@ impl Draft {
     ) -> Result<(), Memory>
         ensures whole { OnOk result (self.new
             ≡ self.old ++ ((words.now ++ numbered_rule table.now.attributes place rule.now) ++ line_end)) }
-        ensures front { AppendsFront (Some self.old) (Some self.new) ((words.now ++ numbered_rule table.now.attributes place rule.now)
-            ++ line_end) }
+        ensures front { AppendsFront (Some self.old) (Some self.new)
+            ((words.now ++ numbered_rule table.now.attributes place rule.now) ++ line_end) }
     {
         match write_rule(&mut self.sink, table, words, place, rule) {
             Ok(()) => Ok(()),

@@ -1,4 +1,4 @@
-use Rattle.std.proofs.Common.{◌≡◌, ◌∙◌}
+use Rattle.std.proofs.Common.{◌∙◌}
 use Rattle.basis_report.proofs.ExplorationLemmas.{three_parts, lists_of-parts}
 use Rattle.basis_report.proofs.pieces.lists_piece.Goals as goal
 
