@@ -43,8 +43,7 @@ NO_MEMORY = b"fca: no memory\n"
 
 # What is known to be wrong: a part, and the first words of its commands. The list is empty where all is right.
 KNOWN = [
-    ("stacks", "concepts first.cxt --json"),  # ends by a signal below 1,168 KB: lectic_concepts goes as deep as the table has attributes
-    ("stacks", "explore first-bare.cxt"),  # below 1,328 KB: so does next_level
+    ("stacks", "explore first-bare.cxt"),  # ends by a signal below 1,328 KB: next_level goes as deep as the table has attributes
 ]
 
 SMALL = refused_memory.COMMANDS + [

@@ -9,12 +9,12 @@ ghost use Rattle.fca_model.specs.Sets.{increasing};
 ghost use Rattle.fca_model.specs.Pseudo.{intents as closed_sets, covers, is_cover};
 ghost use Rattle.lattice_covers.specs.Neighbours.{IsLink, pairs_with};
 
-use attr_bits::{Attrs, Bits, WORDS};
+use attr_bits::{Attrs, Bits, FOUR_WORDS, ONE_WORD, WORDS};
 use chain::{Link, closure_if_allowed, link_of};
 use derivation::{Rows, RowsOf};
 use extent_places::{has, insert};
 use fca_model::Memory;
-use lectic_concepts::{FOUR_WORDS, ONE_WORD, resize_sets};
+use lectic_concepts::resize_sets;
 use places::place_in;
 use std::alloc::Global;
 

@@ -1,5 +1,6 @@
 -- Intents: members of their list, and the least intent that contains a set and one attribute more.
-use Rattle.std.proofs.Common.{◌≡◌, All, ℕ, ◌<◌, true, false, length, get_or, set, sym, ap, ◌∙◌, subst, arith, inl, inr, eqb, eqb-true, ne_eqb, get_or-set_same, get_or-set_other, length-set, List}
+use Rattle.std.proofs.Common.{◌≡◌, All, ℕ, ◌<◌, true, false, length, get_or, set, sym, ap, ◌∙◌, subst, arith, inl, inr, eqb, eqb-true}
+use Rattle.std.proofs.Common.{ne_eqb, get_or-set_same, get_or-set_other, length-set, List}
 use Rattle.std.proofs.lemmas.Bool.{cases_eq, false≢true}
 use Rattle.std.proofs.lemmas.List.Elements.{All-filter}
 use Rattle.std.proofs.lemmas.List.Folds.{list_all_at}
@@ -7,7 +8,8 @@ use Rattle.std.specs.List.{list_all, list_any}
 use Rattle.fca_model.specs.Sets.{Set, same, within, all_sets, increasing}
 use Rattle.fca_model.specs.Context.{Context, closure, is_closed}
 use Rattle.fca_model.specs.Pseudo.{intents}
-use Rattle.fca_model.proofs.SetLemmas.{same-true, same_from, within_from_places, within_at_place, set_within, all_sets_increasing, all_sets_widths}
+use Rattle.fca_model.proofs.SetLemmas.{same-true, same_from, within_from_places, within_at_place, set_within, all_sets_increasing}
+use Rattle.fca_model.proofs.SetLemmas.{all_sets_widths}
 use Rattle.fca_model.proofs.SortedLemmas.{at_member, increasing-filter, in_filter, of_filter, in_all_sets}
 use Rattle.fca_model.proofs.ClosureLemmas.{length-closure, closure_extensive, closure_monotone, closure_idempotent}
 
@@ -28,13 +30,18 @@ pub of_intents : (K : Context) (X : Set) → In X (intents K) → IsIntent K X
 unfolding intents
 of_intents K X h =
     let parts = of_filter (is_closed K) X (all_sets K.width) h in
-    record { wide = eqb-true (length X) K.width (at_member (λ A. eqb (length A) K.width) X (all_sets K.width) parts.0 (all_sets_widths K.width)); closed = parts.1 }
+    record {
+      wide = eqb-true (length X) K.width (at_member (λ A. eqb (length A) K.width) X (all_sets K.width) parts.0
+          (all_sets_widths K.width));
+      closed = parts.1;
+    }
 
 pub intents_increasing : (K : Context) → increasing (intents K) ≡ true
 unfolding intents
 intents_increasing K = increasing-filter (is_closed K) (all_sets K.width) (all_sets_increasing K.width)
 
-wide_at : (n : ℕ) (Xs : List Set) → list_all (λ A. eqb (length A) n) Xs ≡ true → (i : ℕ) (d : Set) → i < length Xs → length (get_or Xs i d) ≡ n
+wide_at : (n : ℕ) (Xs : List Set) → list_all (λ A. eqb (length A) n) Xs ≡ true → (i : ℕ) (d : Set) → i < length Xs
+    → length (get_or Xs i d) ≡ n
 wide_at n Xs h i d l = elim (cases_eq (length (get_or Xs i d)) n) [
   | inl e ↦ e
   | inr other ↦ absurd (false≢true (sym (list_all_at (λ A. eqb (length A) n) Xs i d l (ne_eqb _ n other)) ∙ h))
@@ -43,19 +50,24 @@ wide_at n Xs h i d l = elim (cases_eq (length (get_or Xs i d)) n) [
 -- all intents are as wide as the context
 pub intents_wide : (K : Context) → All (λ A. length A ≡ K.width) (intents K)
 unfolding intents
-intents_wide K = All-filter (is_closed K) (λ A. length A ≡ K.width) (all_sets K.width) (wide_at K.width (all_sets K.width) (all_sets_widths K.width))
+intents_wide K = All-filter (is_closed K) (λ A. length A ≡ K.width) (all_sets K.width)
+    (wide_at K.width (all_sets K.width) (all_sets_widths K.width))
 
 -- ---- closures
 
 pub closed-closure : (K : Context) (A : Set) → length A ≡ K.width → IsIntent K (closure K A)
-closed-closure K A e = record { wide = length-closure K A; closed = same_from (closure K A) (closure K (closure K A)) (sym (closure_idempotent K A e)) }
+closed-closure K A e = record {
+  wide = length-closure K A;
+  closed = same_from (closure K A) (closure K (closure K A)) (sym (closure_idempotent K A e));
+}
 
 -- the closure of A lies within each intent that contains A
 pub closure_least : (K : Context) (A C : Set) → IsIntent K C → within A C ≡ true → within (closure K A) C ≡ true
 closure_least K A C c h = subst (λ X. within (closure K A) X ≡ true) (sym (same-true C (closure K C) c.closed)) (closure_monotone K A C h)
 
 -- D is the closure of P with attribute i
-module _ (K : Context) (P : Set) (i : ℕ) (wide : length P ≡ K.width) (inside : i < K.width) (D : Set) (is : D ≡ closure K (set P i true)) where
+module _ (K : Context) (P : Set) (i : ℕ) (wide : length P ≡ K.width) (inside : i < K.width) (D : Set)
+    (is : D ≡ closure K (set P i true)) where
   long : length (set P i true) ≡ K.width
   long = length-set P i true ∙ wide
 

@@ -1,8 +1,8 @@
-//! Which closures of an intent with one attribute more are its children in the tree, and what is seen of such closures beforehand. A closure that is no child
-//! has another attribute before the one that was added; that is noted, and holds of all larger intents (In-Close5 by Andrews, 2018, and FCbO by Krajca,
-//! Outrata and Vychodil, 2010).
+//! Which closures of an intent with one attribute more are its children in the tree. A closure that is no child has another attribute before the one that was
+//! added. Such a member is a witness, and a larger intent has it in its closure too, so the witness shows beforehand that this closure is no child either
+//! (In-Close5 by Andrews, 2018, and FCbO by Krajca, Outrata and Vychodil, 2010).
 
-ghost use Rattle.std.specs.Prelude.{◌≡◌, ◌<◌, ◌+◌, ◌++◌, true, false, IfOk, length, slice_set, slice_index_or};
+ghost use Rattle.std.specs.Prelude.{◌≡◌, ◌<◌, ◌+◌, ◌++◌, true, false, IfOk, filter, length, slice_set, slice_index_or};
 ghost use Rattle.std.specs.Bool.{MatchBool};
 ghost use Rattle.fca_model.specs.Sets.{within};
 ghost use Rattle.fca_model.specs.Context.{closure};
@@ -13,7 +13,7 @@ use derivation::RowsOf;
 use fca_model::Memory;
 use std::alloc::Global;
 
-/// Each attribute is a member of the closure with it.
+/// The witnesses to begin with: each attribute is a member of the closure with it.
 pub fn own_witnesses<const W: usize>(
     alloc: Global,
     rows: &RowsOf<W>,
@@ -29,8 +29,7 @@ pub fn own_witnesses<const W: usize>(
     Ok(seen)
 }
 
-/// Whether the closure of a with attribute i is to be looked at: a lacks i, and the closure was not seen to have another attribute before i that
-/// a lacks.
+/// Whether the closure of a with attribute i is to be computed: a lacks i, and no witness before i that a lacks was seen.
 pub fn is_open<const W: usize>(rows: &RowsOf<W>, a: &Bits<W>, i: u32, seen: &[u32]) -> bool
     requires wide { length a.now ≡ rows.now.width }
     requires inside { i < rows.now.width }
@@ -58,8 +57,8 @@ pub fn is_child<const W: usize>(rows: &RowsOf<W>, a: &Bits<W>, i: u32, closed: &
     closed.first_missing(a) == Some(i)
 }
 
-/// Notes the last attribute before i that the closure of a with attribute i has and a lacks. In scales, where an attribute implies those before it, no other
-/// stays outside the intents below for so long.
+/// Notes a witness: the last attribute before i that the closure of a with attribute i has and a lacks. In scales, where an attribute implies those before it,
+/// no other stays outside the intents below for so long.
 pub fn note<const W: usize>(
     rows: &RowsOf<W>,
     a: &Bits<W>,
@@ -76,7 +75,7 @@ pub fn note<const W: usize>(
     }
 }
 
-/// Puts what was seen of the closure with attribute i in the place of what was seen before.
+/// Puts a witness for attribute i in the place of the one before.
 fn put(seen: &mut Vec<u32>, i: u32, member: u32)
     ensures { seen.new.items ≡ slice_set seen.old.items i member }
 {
@@ -85,7 +84,14 @@ fn put(seen: &mut Vec<u32>, i: u32, member: u32)
     }
 }
 
-/// What is seen of the closures of a holds of those of a larger set.
+/// No witnesses.
+pub(crate) fn no_witnesses<const W: usize>(alloc: Global, rows: &RowsOf<W>, a: &Bits<W>) -> Vec<u32>
+    ensures { AreSeen rows.now a.now result.items }
+{
+    Vec::new(alloc)
+}
+
+/// The witnesses for a, which are witnesses for a larger set too.
 pub fn pass_witnesses<'a, const W: usize>(
     rows: &RowsOf<W>,
     a: &Bits<W>,
@@ -98,4 +104,22 @@ pub fn pass_witnesses<'a, const W: usize>(
     ensures { AreSeen rows.now larger.now result.now }
 {
     seen
+}
+
+/// Copies the witnesses for a, which are witnesses for a larger set too, among the rows that contain it.
+pub(crate) fn copy_witnesses<const W: usize>(
+    alloc: Global,
+    rows: &RowsOf<W>,
+    a: &Bits<W>,
+    seen: &[u32],
+    above: &RowsOf<W>,
+    larger: &Bits<W>,
+) -> Result<Vec<u32>, Memory>
+    requires seen { AreSeen rows.now a.now seen.now }
+    requires larger { within a.now larger.now ≡ true }
+    requires wide { length larger.now ≡ rows.now.width }
+    requires above { above.now ≡ record { width = rows.now.width; rows = filter (within larger.now) rows.now.rows } }
+    ensures { IfOk result (λ seen. AreSeen above.now larger.now seen.items) }
+{
+    Ok(Vec::from_slice(alloc, seen)?)
 }

@@ -1,45 +1,47 @@
-//! All intents as a tree: each is followed by those that contain it and agree with it before an attribute that it
-//! lacks, from the last such attribute on. Below an intent only the rows that contain it matter; where few attributes are left to be tried, it does not
-//! pay to set them apart.
+//! All intents, by their tree. An intent is followed by those that contain it and agree with it before an attribute that it lacks, from the last such attribute
+//! on.
 
-ghost use Rattle.std.specs.Prelude.{◌≡◌, ◌≤◌, ◌<◌, ◌+◌, ◌*◌, ◌++◌, ℕ, true, OnOk, IfOk, All, IfSome, MatchOption, length, filter, slice_set};
-ghost use Rattle.fca_model.specs.Sets.{within};
+ghost use Rattle.std.specs.Prelude.{◌≡◌, ◌≤◌, ◌*◌, ◌++◌, true, All, IfOk, OnOk, length};
 ghost use Rattle.fca_model.specs.Context.{is_closed};
 ghost use Rattle.fca_model.specs.Pseudo.{intents};
-ghost use Rattle.lectic_concepts.specs.Branches.{branch, AreSeen};
+ghost use Rattle.lectic_concepts.specs.Branches.{branch};
+ghost use Rattle.lectic_concepts.specs.Steps.{IsStep, HasDescended};
 
-use crate::failures::{is_child, is_open, note, own_witnesses};
-use attr_bits::{Attrs, Bits};
+use crate::children::{Child, Descent, Step, child_at, last_child, step_below};
+use crate::failures::{no_witnesses, own_witnesses};
+use attr_bits::{Attrs, Bits, WordCount};
 use derivation::{Rows, RowsOf};
 use fca_model::Memory;
 use std::alloc::Global;
 
-/// How many attributes one word holds.
-pub const ONE_WORD: u32 = 64;
-
-/// How many attributes four words hold.
-pub const FOUR_WORDS: u32 = 256;
-
-/// For so many attributes the rows that matter are not set apart.
+/// How many attributes are few: below an intent that lacks no more of those to be tried, it does not pay to set the rows apart.
 const FEW: u32 = 3;
 
 /// All intents, each once, in lectic order. They are found in sets as narrow as the table.
 pub fn all_intents(alloc: Global, rows: &Rows) -> Result<Vec<Attrs>, Memory>
     ensures { IfOk result (λ all. all.items ≡ intents rows.now) }
 {
-    let width = rows.width();
-    if width <= ONE_WORD {
-        let found = intents_of(alloc, &rows.resize::<1>(alloc)?)?;
-        return resize_sets(alloc, width, &found);
+    match WordCount::of(rows.width()) {
+        WordCount::One => narrow_intents::<1>(alloc, rows),
+        WordCount::Two => narrow_intents::<2>(alloc, rows),
+        WordCount::Four => narrow_intents::<4>(alloc, rows),
+        WordCount::All => intents_of(alloc, rows),
     }
-    if width <= FOUR_WORDS {
-        let found = intents_of(alloc, &rows.resize::<4>(alloc)?)?;
-        return resize_sets(alloc, width, &found);
-    }
-    intents_of(alloc, rows)
 }
 
-/// The same sets in another number of words.
+/// All intents, found in sets of W words.
+fn narrow_intents<const W: usize>(alloc: Global, rows: &Rows) -> Result<Vec<Attrs>, Memory>
+    requires words { W ≤ 1024 }
+    requires fits { rows.now.width ≤ 64 * W }
+    ensures { IfOk result (λ all. all.items ≡ intents rows.now) }
+{
+    let width = rows.width();
+    let narrow = rows.resize::<W>(alloc)?;
+    let found = intents_of(alloc, &narrow)?;
+    resize_sets(alloc, width, &found)
+}
+
+/// Copies the sets into sets of another number of words.
 pub fn resize_sets<const W: usize, const V: usize>(
     alloc: Global,
     width: u32,
@@ -57,119 +59,105 @@ pub fn resize_sets<const W: usize, const V: usize>(
     Ok(all)
 }
 
-/// All intents, as sets of the words that the rows have.
+/// All intents, as sets of as many words as the rows have.
 pub fn intents_of<const W: usize>(alloc: Global, rows: &RowsOf<W>) -> Result<Vec<Bits<W>>, Memory>
     ensures intents { IfOk result (λ all. all.items ≡ intents rows.now) }
     ensures even { IfOk result (λ all. All (λ A. length A ≡ rows.now.width) all.items) }
 {
+    let width = rows.width();
+    let least = rows.closure(&Bits::empty(width));
+    let seen = own_witnesses(alloc, rows, &least)?;
+    let first = Step {
+        rows: rows.copy()?,
+        intent: least,
+        seen,
+        from: 0,
+        end: width,
+    };
     let mut all = Vec::new(alloc);
-    let least = rows.closure(&Bits::empty(rows.width()));
-    let mut seen = own_witnesses(alloc, rows, &least)?;
-    add_branch(alloc, &mut all, rows, &least, 0, &mut seen)?;
+    add_branch(alloc, &mut all, first)?;
     Ok(all)
 }
 
-/// Puts the intents that contain a and agree with it before attribute `from` last. The rows that contain a child are set apart first, where that pays, and
-/// what was seen of the closures of a goes down with them.
+/// Puts the intent of the step last, and behind it all that contain it and agree with it before the attributes of the step. Steps that are not done wait in a
+/// list, so a deep tree takes no more stack than a flat one.
 fn add_branch<const W: usize>(
     alloc: Global,
     all: &mut Vec<Bits<W>>,
-    rows: &RowsOf<W>,
-    a: &Bits<W>,
-    from: u32,
-    seen: &mut Vec<u32>,
+    first: Step<W>,
 ) -> Result<(), Memory>
-    requires wide { length a.now ≡ rows.now.width }
-    requires closed { is_closed rows.now a.now ≡ true }
-    requires inside { from ≤ rows.now.width }
-    requires seen { AreSeen rows.now a.now seen.old.items }
-    ensures { OnOk result (all.new.items ≡ all.old.items ++ branch rows.now a.now from) }
+    requires step { IsStep first.rows.width first }
+    requires whole { first.end ≡ first.rows.width }
+    ensures { OnOk result (all.new.items ≡ all.old.items ++ branch first.entry.rows first.entry.intent first.entry.from) }
 {
-    all.push(*a)?;
-    for i in (from..rows.width()).rev() {
-        if let Some(child) = child_at(rows, a, i, seen) {
-            if lacks_few(&child, i + 1) {
-                let mut none = none_seen(alloc, rows, &child);
-                add_branch(alloc, all, rows, &child, i + 1, &mut none)?;
-            } else {
-                let above = rows_above(alloc, rows, &child)?;
-                let mut passed = seen_among(alloc, rows, a, seen, &above, &child)?;
-                add_branch(alloc, all, &above, &child, i + 1, &mut passed)?;
+    all.push(first.intent)?;
+    let mut steps = Vec::with_capacity(alloc, first.rows.width() as usize)?;
+    steps.push(first)?;
+    while let Some(mut step) = steps.pop() {
+        match next_step(alloc, all, &mut step)? {
+            Descent::End => {}
+            Descent::Whole => steps.push(step)?,
+            Descent::Below(below) => {
+                steps.push(step)?;
+                steps.push(below)?;
             }
         }
     }
     Ok(())
 }
 
-/// The least intent that contains a and attribute i, where it agrees with a before i and a lacks i.
-fn child_at<const W: usize>(
+/// Puts the next child of the step last. If the child lacks few attributes, all intents below it follow at once; if it lacks more, its step is given back.
+fn next_step<const W: usize>(
+    alloc: Global,
+    all: &mut Vec<Bits<W>>,
+    step: &mut Step<W>,
+) -> Result<Descent<W>, Memory>
+    requires { IsStep step.old.rows.width step.old }
+    ensures { IfOk result (λ descent. HasDescended step.old.rows.width all.old.items all.new.items step.old step.new descent) }
+{
+    let _width = step.rows.width();
+    let Some(child) = last_child(
+        &step.rows,
+        &step.intent,
+        step.from,
+        step.end,
+        &mut step.seen,
+    ) else {
+        return Ok(Descent::End);
+    };
+    step.end = child.attribute;
+    let from = child.attribute + 1;
+    if lacks_few(&child.intent, from) {
+        add_few(alloc, all, &step.rows, &child.intent, from)?;
+        return Ok(Descent::Whole);
+    }
+    all.push(child.intent)?;
+    let below = step_below(alloc, step, &child)?;
+    Ok(Descent::Below(below))
+}
+
+/// Puts the intents that contain a and agree with it before attribute `from` last. It calls itself at most as often as a lacks attributes from there on, and
+/// it is called where these are few.
+fn add_few<const W: usize>(
+    alloc: Global,
+    all: &mut Vec<Bits<W>>,
     rows: &RowsOf<W>,
     a: &Bits<W>,
-    i: u32,
-    seen: &mut Vec<u32>,
-) -> Option<Bits<W>>
+    from: u32,
+) -> Result<(), Memory>
     requires wide { length a.now ≡ rows.now.width }
     requires closed { is_closed rows.now a.now ≡ true }
-    requires inside { i < rows.now.width }
-    requires seen { AreSeen rows.now a.now seen.old.items }
-    ensures wide { IfSome result (λ D. length D ≡ rows.now.width) }
-    ensures closed { IfSome result (λ D. is_closed rows.now D ≡ true) }
-    ensures larger { IfSome result (λ D. within a.now D ≡ true) }
-    ensures splits { MatchOption result
-        (branch rows.now a.now i ≡ branch rows.now a.now (i + 1))
-        (λ D. branch rows.now a.now i ≡ branch rows.now a.now (i + 1) ++ branch rows.now D (i + 1)) }
-    ensures seen { AreSeen rows.now a.now seen.new.items }
+    requires inside { from ≤ rows.now.width }
+    ensures { OnOk result (all.new.items ≡ all.old.items ++ branch rows.now a.now from) }
 {
-    if !is_open(rows, a, i, seen) {
-        return None;
+    all.push(*a)?;
+    let mut seen = no_witnesses(alloc, rows, a);
+    for i in (from..rows.width()).rev() {
+        if let Some(child) = child_at(rows, a, i, &mut seen) {
+            add_few(alloc, all, rows, &child, i + 1)?;
+        }
     }
-    let closed = rows.closure(&a.with(i));
-    if is_child(rows, a, i, &closed) {
-        return Some(closed);
-    }
-    note(rows, a, i, &closed, seen);
-    None
-}
-
-/// Nothing is known of the closures.
-fn none_seen<const W: usize>(alloc: Global, rows: &RowsOf<W>, a: &Bits<W>) -> Vec<u32>
-    ensures { AreSeen rows.now a.now result.items }
-{
-    Vec::new(alloc)
-}
-
-/// What was seen of the closures of a holds of those of a larger set, and of the rows that contain it.
-fn seen_among<const W: usize>(
-    alloc: Global,
-    rows: &RowsOf<W>,
-    a: &Bits<W>,
-    seen: &[u32],
-    above: &RowsOf<W>,
-    child: &Bits<W>,
-) -> Result<Vec<u32>, Memory>
-    requires seen { AreSeen rows.now a.now seen.now }
-    requires larger { within a.now child.now ≡ true }
-    requires wide { length child.now ≡ rows.now.width }
-    requires above { above.now ≡ record { width = rows.now.width; rows = filter (within child.now) rows.now.rows } }
-    ensures { IfOk result (λ seen. AreSeen above.now child.now seen.items) }
-{
-    Ok(Vec::from_slice(alloc, seen)?)
-}
-
-/// The rows that contain a, which have the same branch.
-fn rows_above<const W: usize>(
-    alloc: Global,
-    rows: &RowsOf<W>,
-    a: &Bits<W>,
-) -> Result<RowsOf<W>, Memory>
-    requires wide { length a.now ≡ rows.now.width }
-    requires closed { is_closed rows.now a.now ≡ true }
-    ensures width { IfOk result (λ above. above.width ≡ rows.now.width) }
-    ensures closed { IfOk result (λ above. is_closed above a.now ≡ true) }
-    ensures branch { IfOk result (λ above. (k : ℕ) → branch above a.now k ≡ branch rows.now a.now k) }
-    ensures rows { IfOk result (λ above. above ≡ record { width = rows.now.width; rows = filter (within a.now) rows.now.rows }) }
-{
-    rows.supersets(alloc, a)
+    Ok(())
 }
 
 /// Whether a lacks few attributes from that one on. What is found is the same either way, so no contract speaks of it.

@@ -3,10 +3,10 @@
 ghost use Rattle.std.specs.Prelude.{IfOk};
 ghost use Rattle.oracle_expert.specs.Narrow.{AreRowsOf};
 
+use attr_bits::{FOUR_WORDS, ONE_WORD};
 use derivation::Rows;
 use extent_blocks::IndexedRows;
 use fca_model::Memory;
-use lectic_concepts::{FOUR_WORDS, ONE_WORD};
 use std::alloc::Global;
 
 /// The rows and columns of a table in sets of few words, where these have room for its attributes.

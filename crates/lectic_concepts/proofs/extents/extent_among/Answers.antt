@@ -11,7 +11,9 @@ returns g c =
     let K : Context = c.args.rows.now in
     let A : Set = c.args.a.now in
     let test : ℕ → Bool = λ p. is_above A (slice_get K.rows p) in
-    let Xs : List ℕ = c.args.reached.now.extent.items in
-    let at_end : length Xs ≤ c.loop-place.place-index = subst (λ (Ys : List ℕ). length Ys ≤ c.loop-place.place-index) c.deref-place-items.ensures.value c.loop-place-test.false in
-    sym (append-nil c.loop-place.found.items) ∙ ap (λ q. c.loop-place.found.items ++ q) (sym (at_drop_all (filter test) Xs c.loop-place.place-index at_end))
-    ∙ c.loop-place.invariant ∙ ap (filter test) c.requires.reached ∙ filter-extent K c.args.reached.now.intent A c.requires.larger
+    let Xs : List ℕ = c.args.concept.now.extent.items in
+    let at_end : length Xs ≤ c.loop-place.place-index =
+    subst (λ (Ys : List ℕ). length Ys ≤ c.loop-place.place-index) c.deref-place-items.ensures.value c.loop-place-test.false in
+    sym (append-nil c.loop-place.found.items) ∙ ap (λ q. c.loop-place.found.items ++ q)
+    (sym (at_drop_all (filter test) Xs c.loop-place.place-index at_end))
+    ∙ c.loop-place.invariant ∙ ap (filter test) c.requires.concept ∙ filter-extent K c.args.concept.now.intent A c.requires.larger

@@ -13,7 +13,8 @@ loop-last-smaller-else-within g c =
 
 pub loop-last-preserved-else-within : goal.loop-last-preserved-else-within
 loop-last-preserved-else-within g c =
-    subst (AreConcepts c.args.rows.now {W = g.row.W}) (sym c.pop.ensures.rest) (All-take (IsConcept c.args.rows.now {W = g.row.W}) (vec_len c.loop-last.chain - 1) c.loop-last.chain.items c.loop-last.invariant)
+    subst (AreConcepts c.args.rows.now {W = g.row.W}) (sym c.pop.ensures.rest)
+    (All-take (IsConcept c.args.rows.now {W = g.row.W}) (vec_len c.loop-last.chain - 1) c.loop-last.chain.items c.loop-last.invariant)
 
 pub loop-last-smaller : goal.loop-last-smaller
 loop-last-smaller g c =
@@ -24,4 +25,5 @@ loop-last-smaller g c =
 
 pub loop-last-preserved : goal.loop-last-preserved
 loop-last-preserved g c =
-    subst (AreConcepts c.args.rows.now {W = g.row.W}) (sym c.pop.ensures.rest) (All-take (IsConcept c.args.rows.now {W = g.row.W}) (vec_len c.loop-last.chain - 1) c.loop-last.chain.items c.loop-last.invariant)
+    subst (AreConcepts c.args.rows.now {W = g.row.W}) (sym c.pop.ensures.rest)
+    (All-take (IsConcept c.args.rows.now {W = g.row.W}) (vec_len c.loop-last.chain - 1) c.loop-last.chain.items c.loop-last.invariant)

@@ -5,5 +5,6 @@ use Rattle.lectic_concepts.proofs.failures.is_child.Goals as goal
 
 pub returns : goal.returns
 returns g c =
-    child_if c.args.rows.now c.args.a.now c.args.i c.requires.lacks c.requires.wide c.requires.inside c.args.closed.now c.requires.closed c.eq.result
+    child_if c.args.rows.now c.args.a.now c.args.i c.requires.lacks c.requires.wide c.requires.inside c.args.closed.now c.requires.closed
+    c.eq.result
     (c.eq.ensures ∙ ap (λ o. option_eq nat_eq o (Some c.args.i)) c.first_missing.ensures)

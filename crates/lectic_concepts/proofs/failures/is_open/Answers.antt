@@ -11,5 +11,6 @@ returns-else-member-i g c =
     let i : ℕ = c.args.i in
     let member : get_or c.args.seen.now i i ≡ c.unwrap_or-member.result =
     sym (c.unwrap_or-member.ensures ∙ ap (λ o. unwrap_or o i) c.copied.ensures ∙ c.get.ensures.lookup.4 (omega arith) i) in
-    open_or_seen c.args.rows.now c.args.a.now c.args.seen.now i c.unwrap_or-member.result c.has-else-member-i.result (sym c.has.ensures ∙ c.if-has.false) c.requires.wide c.requires.inside c.requires.seen
+    open_or_seen c.args.rows.now c.args.a.now c.args.seen.now i c.unwrap_or-member.result c.has-else-member-i.result
+    (sym c.has.ensures ∙ c.if-has.false) c.requires.wide c.requires.inside c.requires.seen
     member c.if-member-i.false c.has-else-member-i.ensures
