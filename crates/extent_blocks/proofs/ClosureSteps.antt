@@ -1,43 +1,41 @@
 -- A closure by the rows at places. The closure lies within what is met, and what is kept lies within the closure.
-use Rattle.std.proofs.Common.{◌≡◌, ℕ, zero, suc, ◌+◌, ◌<◌, ◌≤◌, Bool, true, false, ◌&&◌, Some, None, List, [], ◌∷◌, length, get_or, set, length-set, refl, sym, ap, ◌∙◌, subst, arith, ltb}
+use Rattle.std.proofs.Common.{◌≡◌, ℕ, ◌+◌, ◌<◌, ◌≤◌, Bool, true, false, ◌&&◌, Some, None, List, [], length, get_or, set}
+use Rattle.std.proofs.Common.{length-set, refl, sym, ap, ◌∙◌, subst, arith, ltb}
 use Rattle.std.proofs.lemmas.Bool.{false≢true, and_parts, and_from, lt-ltb, ltb-true}
 use Rattle.std.proofs.lemmas.List.{get_or_read}
-use Rattle.std.specs.List.{list_all}
 use Rattle.fca_model.specs.Sets.{Set, within, meet, full, size}
 use Rattle.fca_model.specs.Context.{Context, closure}
 use Rattle.fca_model.specs.Implications.{rule, respects}
 use Rattle.fca_model.specs.Exploration.{first_missing}
-use Rattle.fca_model.proofs.SetLemmas.{within_refl, within_trans, within_antisymm, within-meet, within_full, length-full, length-meet, get_or-meet, set_within, size-set, size_le, size_strict, strictly_from}
+use Rattle.fca_model.proofs.SetLemmas.{within_refl, within_trans, within_antisymm, within-meet, within_full, length-full, length-meet}
+use Rattle.fca_model.proofs.SetLemmas.{get_or-meet, set_within, size-set, size_le, size_strict, strictly_from}
 use Rattle.fca_model.proofs.StepLemmas.{first_missing_none}
 use Rattle.fca_model.proofs.ClosureLemmas.{length-closure, within-closure, closure_in_rows, respects_from, respects_at}
 use Rattle.attr_bits.proofs.DifferenceLemmas.{first_missing-parts}
 use Rattle.attr_bits.proofs.PlaceLemmas.{member_below}
 use Rattle.extent_blocks.specs.Blocks.{Part, IsExtentWith, in_parts, row_at, contains_at, has_at}
+use Rattle.std.proofs.lemmas.List.Sums.{AllPass-from_list_all}
+use Rattle.fca_model.proofs.ListLemmas.{all_by_place}
 
 and_lost : (a b : Bool) → b ≡ false → (a && b) ≡ false
 and_lost true b e = e
 and_lost false b e = refl
-
-all_at : (p : Set → Bool) (Rs : List Set) (g : ℕ) → g < length Rs → list_all p Rs ≡ true → p (get_or Rs g []) ≡ true
-all_at p [] g l h = absurd (omega (arith, l))
-all_at p (R ∷ Rs) zero l h = (and_parts (p R) (list_all p Rs) h).0
-all_at p (R ∷ Rs) (suc g) l h = all_at p Rs g (omega (arith, l)) (and_parts (p R) (list_all p Rs) h).1
-
-all_from : (p : Set → Bool) (Rs : List Set) → ((g : ℕ) → g < length Rs → p (get_or Rs g []) ≡ true) → list_all p Rs ≡ true
-all_from p [] h = refl
-all_from p (R ∷ Rs) h = and_from (p R) (list_all p Rs) (h 0 (omega arith)) (all_from p Rs (λ g l. h (suc g) (omega (arith, l))))
 
 module _ (K : Context) (A : Set) where
   -- a row that contains A
   pub row_above : (g : ℕ) → contains_at K A g ≡ true → within (closure K A) (row_at K g) ≡ true
   row_above g t =
       let p = and_parts (ltb g (length K.rows)) (within A (row_at K g)) t in
-      respects_at (row_at K g) (rule A (closure K A)) (all_at (λ R. respects R (rule A (closure K A))) K.rows g (ltb-true g (length K.rows) p.0) (closure_in_rows K A)) p.1
+      respects_at (row_at K g) (rule A (closure K A))
+      (AllPass-from_list_all (λ R. respects R (rule A (closure K A))) K.rows (closure_in_rows K A) g [] (ltb-true g (length K.rows) p.0))
+      p.1
 
   -- what lies within each such row
-  pub below_rows : (D : Set) → length D ≡ K.width → ((g : ℕ) → contains_at K A g ≡ true → within D (row_at K g) ≡ true) → within D (closure K A) ≡ true
-  below_rows D e h = within-closure K A D e ∙ all_from (λ R. respects R (rule A D)) K.rows (λ g l.
-      respects_from (row_at K g) (rule A D) (λ w. h g (and_from (ltb g (length K.rows)) (within A (row_at K g)) (lt-ltb g (length K.rows) l) w)))
+  pub below_rows : (D : Set) → length D ≡ K.width → ((g : ℕ) → contains_at K A g ≡ true → within D (row_at K g) ≡ true)
+      → within D (closure K A) ≡ true
+  below_rows D e h = within-closure K A D e ∙ all_by_place (λ R. respects R (rule A D)) [] K.rows (λ g l.
+      respects_from (row_at K g) (rule A D) (λ w. h g
+      (and_from (ltb g (length K.rows)) (within A (row_at K g)) (lt-ltb g (length K.rows) l) w)))
 
   -- the start
   pub begins : (M : Set) (n : ℕ) → M ≡ full n → n ≡ K.width → (length M ≡ K.width) × (within (closure K A) M ≡ true)
@@ -51,7 +49,8 @@ module _ (K : Context) (A : Set) where
     missing_inside = omega (arith, member_below M k (first_missing-parts M B k missing).0, m_wide)
 
     -- a row that lacks it
-    module _ (g : ℕ) (found : in_parts Ps g ≡ true) (with : has_at K i g ≡ true) (lacks : has_at K k g ≡ false) (R N : Set) (r : R ≡ get_or K.rows g R) (n : N ≡ meet M R) where
+    module _ (g : ℕ) (found : in_parts Ps g ≡ true) (with : has_at K i g ≡ true) (lacks : has_at K k g ≡ false) (R N : Set)
+        (r : R ≡ get_or K.rows g R) (n : N ≡ meet M R) where
       contains : contains_at K A g ≡ true
       contains = sym (extent g) ∙ and_from (in_parts Ps g) (has_at K i g) found with
 
@@ -67,14 +66,18 @@ module _ (K : Context) (A : Set) where
       pub met_above : within (closure K A) N ≡ true
       met_above =
           ap (within (closure K A)) n ∙ within-meet (closure K A) M R
-          ∙ and_from (within (closure K A) M) (within (closure K A) R) above (subst (λ X. within (closure K A) X ≡ true) (sym row) (row_above g contains))
+          ∙ and_from (within (closure K A) M) (within (closure K A) R) above
+          (subst (λ X. within (closure K A) X ≡ true) (sym row) (row_above g contains))
 
       pub met_less : size N < size M
       met_less =
-          let part = (and_parts (within (meet M R) M) (within (meet M R) R) (sym (within-meet (meet M R) M R) ∙ within_refl (meet M R))).0 in
-          let lost : get_or N k false ≡ false = ap (λ X. get_or X k false) n ∙ get_or-meet M R k ∙ and_lost (get_or M k false) (get_or R k false) (ap (λ X. get_or X k false) row ∙ lacks) in
+          let part = (and_parts (within (meet M R) M) (within (meet M R) R) (sym (within-meet (meet M R) M R) ∙ within_refl (meet M R))).0
+          in
+          let lost : get_or N k false ≡ false = ap (λ X. get_or X k false) n ∙ get_or-meet M R k
+          ∙ and_lost (get_or M k false) (get_or R k false) (ap (λ X. get_or X k false) row ∙ lacks) in
           size_strict N M (met_wide ∙ sym m_wide)
-          (strictly_from N M (subst (λ X. within X M ≡ true) (sym n) part) (λ e. false≢true (sym lost ∙ ap (λ X. get_or X k false) e ∙ (first_missing-parts M B k missing).0)))
+          (strictly_from N M (subst (λ X. within X M ≡ true) (sym n) part)
+          (λ e. false≢true (sym lost ∙ ap (λ X. get_or X k false) e ∙ (first_missing-parts M B k missing).0)))
 
     -- none lacks it
     module _ (none : (g : ℕ) → in_parts Ps g ≡ true → has_at K i g ≡ true → has_at K k g ≡ true) (N : Set) (n : N ≡ set B k true) where
@@ -90,10 +93,14 @@ module _ (K : Context) (A : Set) where
 
       pub kept_more : (size N ≡ size B + 1) × (size N ≤ K.width)
       kept_more =
-          let le : size N ≤ length N = size_le N in
-          (ap size n ∙ size-set B k (omega (arith, missing_inside, b_wide)) (first_missing-parts M B k missing).1, omega (arith, le, kept_wide))
+          let le : size N ≤ length N = size_le N in (
+            ap size n ∙ size-set B k (omega (arith, missing_inside, b_wide)) (first_missing-parts M B k missing).1,
+            omega (arith, le, kept_wide),
+          )
 
   -- the end
-  pub ends : (M B : Set) → length M ≡ K.width → within (closure K A) M ≡ true → within B (closure K A) ≡ true → first_missing 0 M B ≡ None → M ≡ closure K A
+  pub ends : (M B : Set) → length M ≡ K.width → within (closure K A) M ≡ true → within B (closure K A) ≡ true → first_missing 0 M B ≡ None
+      → M ≡ closure K A
   ends M B wide above below none =
-      within_antisymm M (closure K A) (wide ∙ sym (length-closure K A)) (within_trans M B (closure K A) (first_missing_none 0 M B none) below) above
+      within_antisymm M (closure K A) (wide ∙ sym (length-closure K A))
+      (within_trans M B (closure K A) (first_missing_none 0 M B none) below) above

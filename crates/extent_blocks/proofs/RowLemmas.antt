@@ -1,7 +1,9 @@
--- A closure as the meet of rows one after another: at each step the closure lies within what is met, which lies within each row that was met.
-use Rattle.std.proofs.Common.{◌≡◌, ℕ, zero, suc, ◌+◌, ◌*◌, ◌/◌, ◌%◌, ◌<◌, ◌≤◌, Bool, true, false, ◌&&◌, ◌||◌, List, [], ◌∷◌, length, get_or, take, sym, ap, ◌∙◌, subst, arith, eqb, eqb-true, ltb, inl, inr}
-use Rattle.std.proofs.lemmas.Bool.{false≢true, and_parts, and_from, eq-eqb, cases_eq, cases_lt, ltb-true, or_left, or_right}
-use Rattle.std.proofs.lemmas.List.Folds.{list_any_more}
+-- A closure as the meet of rows one after another: at each step the closure lies within what is met, which lies within each row that was
+-- met.
+use Rattle.std.proofs.Common.{◌≡◌, ℕ, ◌+◌, ◌*◌, ◌/◌, ◌%◌, ◌<◌, ◌≤◌, Bool, true, false, ◌&&◌, ◌||◌, List, [], length, get_or}
+use Rattle.std.proofs.Common.{take, sym, ap, ◌∙◌, subst, arith, eqb, eqb-true, ltb, inl, inr}
+use Rattle.std.proofs.lemmas.Bool.{false≢true, and_parts, and_from, eq-eqb, cases_eq, cases_lt, ltb-true}
+use Rattle.std.proofs.lemmas.List.Folds.{list_any_more, list_any_at}
 use Rattle.std.specs.List.{list_any}
 use Rattle.fca_model.specs.Sets.{Set, within, meet, full, IsNextMember}
 use Rattle.fca_model.specs.Context.{Context, closure}
@@ -25,7 +27,8 @@ module _ (K : Context) (A : Set) where
   meeting_more M R N g v t r n = record {
     wide = ap length n ∙ length-meet M R ∙ v.wide;
     above = ap (within (closure K A)) n ∙ within-meet (closure K A) M R
-        ∙ and_from (within (closure K A) M) (within (closure K A) R) v.above (subst (λ X. within (closure K A) X ≡ true) (sym r) (row_above K A g t));
+        ∙ and_from (within (closure K A) M) (within (closure K A) R) v.above
+        (subst (λ X. within (closure K A) X ≡ true) (sym r) (row_above K A g t));
   }
 
   -- a row that contains A contains what lies within A
@@ -65,7 +68,12 @@ module _ (K : Context) (A S : Set) (n : ℕ) (O C L : Set) (Cs : List Set) (c : 
     g = n * 256 + m
 
     below_256 : m < 256
-    below_256 = omega (arith, member_below O m (and_parts (get_or O m false) (get_or C m false) (sym (get_or-meet O C m) ∙ ap (λ X. get_or X m false) (sym l) ∙ next.member)).0, small)
+    below_256 = omega (
+      arith,
+      member_below O m (and_parts (get_or O m false) (get_or C m false)
+          (sym (get_or-meet O C m) ∙ ap (λ X. get_or X m false) (sym l) ∙ next.member)).0,
+      small,
+    )
 
     pub next_passes : (in_block n O (n * 256 + m) && in_column Cs (n * 256 + m)) ≡ true
     next_passes =
@@ -98,7 +106,8 @@ module _ (K : Context) (A S : Set) (n : ℕ) (O C L : Set) (Cs : List Set) (c : 
   pub met_enough : (M : Set) → within M A ≡ true → IsMet K test M
   met_enough M w g t = contains_within K A M g (containing g t) w
 
-  pub met_all : (from : ℕ) (M : Set) → HasMet K A S test from M → ((i : ℕ) → from ≤ i → i < length L → get_or L i false ≡ false) → IsMet K test M
+  pub met_all : (from : ℕ) (M : Set) → HasMet K A S test from M → ((i : ℕ) → from ≤ i → i < length L → get_or L i false ≡ false)
+      → IsMet K test M
   met_all from M v none g t = elim (cases_lt (g % 256) from) [
     | inl before ↦ v.below g t before
     | inr on ↦ let q = place_of g t in absurd (false≢true (sym (none (g % 256) on (member_below L (g % 256) q.1)) ∙ q.1))
@@ -110,22 +119,21 @@ met_past K n O M Cs le g t = absurd (false≢true (sym (none_past n O Cs le g) �
 
 -- ---- one block after another
 
-any_at : {X : Type 0} (p : X → Bool) (xs : List X) (k : ℕ) (d : X) → k < length xs → p (get_or xs k d) ≡ true → list_any p xs ≡ true
-any_at p [] k d l h = absurd (omega (arith, l))
-any_at p (x ∷ xs) zero d l h = or_left (p x) (list_any p xs) h
-any_at p (x ∷ xs) (suc k) d l h = or_right (p x) (list_any p xs) (any_at p xs k d (omega (arith, l)) h)
-
 or_parts : {P : Type 0} (a b c : Bool) → ((a || b) && c) ≡ true → ((a && c) ≡ true → P) → ((b && c) ≡ true → P) → P
 or_parts true b c t f h = f t
 or_parts false b c t f h = h t
 
-module _ {X : Type 0} (q : X → ℕ → Bool) (col : ℕ → Bool) (xs : List X) (k : ℕ) (x : X) (inside : k < length xs) (is : x ≡ get_or xs k x) where
-  pub block_contained : (p : ℕ → Bool) → ((g : ℕ) → (list_any (λ y. q y g) xs && col g) ≡ p g) → (g : ℕ) → (q x g && col g) ≡ true → p g ≡ true
+module _ {X : Type 0} (q : X → ℕ → Bool) (col : ℕ → Bool) (xs : List X) (k : ℕ) (x : X) (inside : k < length xs)
+    (is : x ≡ get_or xs k x) where
+  pub block_contained : (p : ℕ → Bool) → ((g : ℕ) → (list_any (λ y. q y g) xs && col g) ≡ p g) → (g : ℕ) → (q x g && col g) ≡ true
+      → p g ≡ true
   block_contained p all g t =
       let h = and_parts (q x g) (col g) t in
-      sym (all g) ∙ and_from (list_any (λ y. q y g) xs) (col g) (any_at (λ y. q y g) xs k x inside (subst (λ y. q y g ≡ true) is h.0)) h.1
+      sym (all g) ∙ and_from (list_any (λ y. q y g) xs) (col g)
+      (list_any_at (λ y. q y g) xs k x inside (subst (λ y. q y g ≡ true) is h.0)) h.1
 
-  pub blocks_met : (K : Context) (M N : Set) → within N M ≡ true → IsMet K (λ g. list_any (λ y. q y g) (take k xs) && col g) M → IsMet K (λ g. q x g && col g) N
+  pub blocks_met : (K : Context) (M N : Set) → within N M ≡ true → IsMet K (λ g. list_any (λ y. q y g) (take k xs) && col g) M
+      → IsMet K (λ g. q x g && col g) N
       → IsMet K (λ g. list_any (λ y. q y g) (take (k + 1) xs) && col g) N
   blocks_met K M N less old new g t =
       or_parts (list_any (λ y. q y g) (take k xs)) (q x g) (col g)

@@ -1,7 +1,7 @@
 -- The places of rows, in blocks of 256.
 --
--- Place g is the one of number g % 256 in block g / 256. Of the rows {a, b}, {b} the column of a is the set with place 0 alone, and the extent of {b} has
--- both places: those of it that have a are the extent of {a, b}.
+-- Place g is the one of number g % 256 in block g / 256. Of the rows {a, b}, {b} the column of a is the set with place 0 alone, and the
+-- extent of {b} has both places: those of it that have a are the extent of {a, b}.
 use Rattle.std.specs.Prelude.{◌≡◌, ◌==◌, ◌<◌, ◌&&◌, ◌/◌, ◌%◌, ℕ, Bool, true, false, List, [], length, nat_lt, slice_index_or}
 use Rattle.std.specs.Int.{div_ceil}
 use Rattle.std.specs.List.{list_any}

@@ -17,7 +17,8 @@ loop-place-preserved g c =
     let p = c.loop-place.place in
     let Cs : List Set = c.loop-place.column.items in
     let lt : p < length K.rows = omega (arith, c.loop-place-test.true, ap length c.as_slice-row-items.ensures.rows) in
-    let row : R ≡ row_at K p = get_or_read K.rows p R lt (c.row-item.is ∙ ap (λ (Rs : List Set). get_or Rs p R) c.as_slice-row-items.ensures.rows) [] in
+    let row : R ≡ row_at K p = get_or_read K.rows p R lt
+    (c.row-item.is ∙ ap (λ (Rs : List Set). get_or Rs p R) c.as_slice-row-items.ensures.rows) [] in
     let answer : within A (row_at K p) ≡ c.within.result = ap (within A) (sym row) ∙ sym c.within.ensures in
     let blocks = div_ceil_times (length K.rows) 256 (omega arith) in
     elim c.if-within.branch [
@@ -30,14 +31,17 @@ loop-place-preserved g c =
           let wide : length C ≡ 256 = ap length is ∙ v.wide (p / 256) [] inside in
           record {
             count = ap length items ∙ length-set Cs (p / 256) N ∙ v.count;
-            wide = subst (λ (Xs : List Set). All (λ B. length B ≡ 256) Xs) (sym items) (all_wide Cs (p / 256) N (ap length w.insert.ensures ∙ length-set C (p % 256) true ∙ wide) v.wide);
-            places = λ q. ap (λ (Xs : List Set). in_column Xs q) items ∙ placed Cs p C N inside is wide w.insert.ensures (λ r. within A (row_at K r)) (answer ∙ w.if-within.true) v.places q;
+            wide = subst (λ (Xs : List Set). All (λ B. length B ≡ 256) Xs) (sym items)
+                (all_wide Cs (p / 256) N (ap length w.insert.ensures ∙ length-set C (p % 256) true ∙ wide) v.wide);
+            places = λ q. ap (λ (Xs : List Set). in_column Xs q) items
+                ∙ placed Cs p C N inside is wide w.insert.ensures (λ r. within A (row_at K r)) (answer ∙ w.if-within.true) v.places q;
           }
       | else-within w ↦
           let items : c.if-within.column.items ≡ Cs = ap (λ xs. xs.items) w.column-is in
           record {
             count = ap length items ∙ v.count;
             wide = subst (λ (Xs : List Set). All (λ B. length B ≡ 256) Xs) (sym items) v.wide;
-            places = λ q. ap (λ (Xs : List Set). in_column Xs q) items ∙ left_out Cs p (λ r. within A (row_at K r)) (answer ∙ w.if-within.false) v.places q;
+            places = λ q. ap (λ (Xs : List Set). in_column Xs q) items
+                ∙ left_out Cs p (λ r. within A (row_at K r)) (answer ∙ w.if-within.false) v.places q;
           }
     ]

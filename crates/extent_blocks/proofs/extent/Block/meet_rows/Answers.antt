@@ -15,14 +15,19 @@ loop-j-init g c =
     let n = c.args.self.now.number in
     let C : Set = c.in-Some.having.now in
     let column = lent c.args.column.now n C c.in-Some.ensures.lookup.3.0 c.in-Some.ensures.lookup.1 in
-    record { inside = omega arith; met = met_start c.args.rows.now c.args.a.now c.args.start.now n c.args.self.now.objects C c.meet-left.result c.args.column.now column c.meet-left.ensures c.requires.containing c.requires.start }
+    record {
+      inside = omega arith;
+      met = met_start c.args.rows.now c.args.a.now c.args.start.now n c.args.self.now.objects C
+          c.meet-left.result c.args.column.now column c.meet-left.ensures c.requires.containing c.requires.start;
+    }
 
 pub bounds-as_slice-self : goal.bounds-as_slice-self
 bounds-as_slice-self g c =
     let n = c.args.self.now.number in
     let C : Set = c.in-Some.having.now in
     let column = lent c.args.column.now n C c.in-Some.ensures.lookup.3.0 c.in-Some.ensures.lookup.1 in
-    let inside = next_inside c.args.rows.now c.args.a.now c.args.start.now n c.args.self.now.objects C c.meet-left.result c.args.column.now column c.meet-left.ensures c.requires.containing
+    let inside = next_inside c.args.rows.now c.args.a.now c.args.start.now n c.args.self.now.objects C c.meet-left.result c.args.column.now
+    column c.meet-left.ensures c.requires.containing
     c.loop-j.from c.in-Some-next_member.j (omega (arith, c.width.ensures.width, c.width.ensures.narrow)) c.in-Some-next_member.ensures in
     omega (arith, inside, ap length c.as_slice.ensures.rows)
 
@@ -31,7 +36,8 @@ offset_bounds-as_slice-self g c =
     let n = c.args.self.now.number in
     let C : Set = c.in-Some.having.now in
     let column = lent c.args.column.now n C c.in-Some.ensures.lookup.3.0 c.in-Some.ensures.lookup.1 in
-    let inside = next_inside c.args.rows.now c.args.a.now c.args.start.now n c.args.self.now.objects C c.meet-left.result c.args.column.now column c.meet-left.ensures c.requires.containing
+    let inside = next_inside c.args.rows.now c.args.a.now c.args.start.now n c.args.self.now.objects C c.meet-left.result c.args.column.now
+    column c.meet-left.ensures c.requires.containing
     c.loop-j.from c.in-Some-next_member.j (omega (arith, c.width.ensures.width, c.width.ensures.narrow)) c.in-Some-next_member.ensures in
     omega (arith, inside, ap length c.as_slice.ensures.rows)
 
@@ -40,7 +46,8 @@ overflow_mul-self g c =
     let n = c.args.self.now.number in
     let C : Set = c.in-Some.having.now in
     let column = lent c.args.column.now n C c.in-Some.ensures.lookup.3.0 c.in-Some.ensures.lookup.1 in
-    let inside = next_inside c.args.rows.now c.args.a.now c.args.start.now n c.args.self.now.objects C c.meet-left.result c.args.column.now column c.meet-left.ensures c.requires.containing
+    let inside = next_inside c.args.rows.now c.args.a.now c.args.start.now n c.args.self.now.objects C c.meet-left.result c.args.column.now
+    column c.meet-left.ensures c.requires.containing
     c.loop-j.from c.in-Some-next_member.j (omega (arith, c.width.ensures.width, c.width.ensures.narrow)) c.in-Some-next_member.ensures in
     omega (arith, inside, c.len.ensures, c.len.type_inv)
 
@@ -49,7 +56,8 @@ overflow_add-self g c =
     let n = c.args.self.now.number in
     let C : Set = c.in-Some.having.now in
     let column = lent c.args.column.now n C c.in-Some.ensures.lookup.3.0 c.in-Some.ensures.lookup.1 in
-    let inside = next_inside c.args.rows.now c.args.a.now c.args.start.now n c.args.self.now.objects C c.meet-left.result c.args.column.now column c.meet-left.ensures c.requires.containing
+    let inside = next_inside c.args.rows.now c.args.a.now c.args.start.now n c.args.self.now.objects C c.meet-left.result c.args.column.now
+    column c.meet-left.ensures c.requires.containing
     c.loop-j.from c.in-Some-next_member.j (omega (arith, c.width.ensures.width, c.width.ensures.narrow)) c.in-Some-next_member.ensures in
     omega (arith, inside, c.len.ensures, c.len.type_inv)
 
@@ -58,13 +66,17 @@ returns-then-within-clause-meeting g c =
     let n = c.args.self.now.number in
     let C : Set = c.in-Some.having.now in
     let column = lent c.args.column.now n C c.in-Some.ensures.lookup.3.0 c.in-Some.ensures.lookup.1 in
-    let inside = next_inside c.args.rows.now c.args.a.now c.args.start.now n c.args.self.now.objects C c.meet-left.result c.args.column.now column c.meet-left.ensures c.requires.containing
+    let inside = next_inside c.args.rows.now c.args.a.now c.args.start.now n c.args.self.now.objects C c.meet-left.result c.args.column.now
+    column c.meet-left.ensures c.requires.containing
     c.loop-j.from c.in-Some-next_member.j (omega (arith, c.width.ensures.width, c.width.ensures.narrow)) c.in-Some-next_member.ensures in
     let R : Set = c.index-as_slice-self.result in
     let row : R ≡ row_at c.args.rows.now (n * 256 + c.in-Some-next_member.j) =
-    c.index-as_slice-self.is ∙ ap (λ (Rs : List Set). get_or Rs (n * 256 + c.in-Some-next_member.j) R) c.as_slice.ensures.rows ∙ get_or_default c.args.rows.now.rows (n * 256 + c.in-Some-next_member.j) R [] inside in
-    let met = met_more c.args.rows.now c.args.a.now c.args.start.now n c.args.self.now.objects C c.meet-left.result c.args.column.now column c.meet-left.ensures c.requires.containing
-    c.loop-j.from c.in-Some-next_member.j (omega (arith, c.width.ensures.width, c.width.ensures.narrow)) c.in-Some-next_member.ensures c.loop-j.met R c.meet-met.result c.loop-j.invariant.met row c.meet-met.ensures in
+    c.index-as_slice-self.is ∙ ap (λ (Rs : List Set). get_or Rs (n * 256 + c.in-Some-next_member.j) R) c.as_slice.ensures.rows
+    ∙ get_or_default c.args.rows.now.rows (n * 256 + c.in-Some-next_member.j) R [] inside in
+    let met = met_more c.args.rows.now c.args.a.now c.args.start.now n c.args.self.now.objects C c.meet-left.result c.args.column.now column
+    c.meet-left.ensures c.requires.containing
+    c.loop-j.from c.in-Some-next_member.j (omega (arith, c.width.ensures.width, c.width.ensures.narrow)) c.in-Some-next_member.ensures
+    c.loop-j.met R c.meet-met.result c.loop-j.invariant.met row c.meet-met.ensures in
     met.meeting
 
 pub returns-then-within-clause-less : goal.returns-then-within-clause-less
@@ -72,13 +84,17 @@ returns-then-within-clause-less g c =
     let n = c.args.self.now.number in
     let C : Set = c.in-Some.having.now in
     let column = lent c.args.column.now n C c.in-Some.ensures.lookup.3.0 c.in-Some.ensures.lookup.1 in
-    let inside = next_inside c.args.rows.now c.args.a.now c.args.start.now n c.args.self.now.objects C c.meet-left.result c.args.column.now column c.meet-left.ensures c.requires.containing
+    let inside = next_inside c.args.rows.now c.args.a.now c.args.start.now n c.args.self.now.objects C c.meet-left.result c.args.column.now
+    column c.meet-left.ensures c.requires.containing
     c.loop-j.from c.in-Some-next_member.j (omega (arith, c.width.ensures.width, c.width.ensures.narrow)) c.in-Some-next_member.ensures in
     let R : Set = c.index-as_slice-self.result in
     let row : R ≡ row_at c.args.rows.now (n * 256 + c.in-Some-next_member.j) =
-    c.index-as_slice-self.is ∙ ap (λ (Rs : List Set). get_or Rs (n * 256 + c.in-Some-next_member.j) R) c.as_slice.ensures.rows ∙ get_or_default c.args.rows.now.rows (n * 256 + c.in-Some-next_member.j) R [] inside in
-    let met = met_more c.args.rows.now c.args.a.now c.args.start.now n c.args.self.now.objects C c.meet-left.result c.args.column.now column c.meet-left.ensures c.requires.containing
-    c.loop-j.from c.in-Some-next_member.j (omega (arith, c.width.ensures.width, c.width.ensures.narrow)) c.in-Some-next_member.ensures c.loop-j.met R c.meet-met.result c.loop-j.invariant.met row c.meet-met.ensures in
+    c.index-as_slice-self.is ∙ ap (λ (Rs : List Set). get_or Rs (n * 256 + c.in-Some-next_member.j) R) c.as_slice.ensures.rows
+    ∙ get_or_default c.args.rows.now.rows (n * 256 + c.in-Some-next_member.j) R [] inside in
+    let met = met_more c.args.rows.now c.args.a.now c.args.start.now n c.args.self.now.objects C c.meet-left.result c.args.column.now column
+    c.meet-left.ensures c.requires.containing
+    c.loop-j.from c.in-Some-next_member.j (omega (arith, c.width.ensures.width, c.width.ensures.narrow)) c.in-Some-next_member.ensures
+    c.loop-j.met R c.meet-met.result c.loop-j.invariant.met row c.meet-met.ensures in
     met.less
 
 pub returns-then-within-clause-below : goal.returns-then-within-clause-below
@@ -86,7 +102,8 @@ returns-then-within-clause-below g c =
     let n = c.args.self.now.number in
     let C : Set = c.in-Some.having.now in
     let column = lent c.args.column.now n C c.in-Some.ensures.lookup.3.0 c.in-Some.ensures.lookup.1 in
-    met_enough c.args.rows.now c.args.a.now c.args.start.now n c.args.self.now.objects C c.meet-left.result c.args.column.now column c.meet-left.ensures c.requires.containing
+    met_enough c.args.rows.now c.args.a.now c.args.start.now n c.args.self.now.objects C c.meet-left.result c.args.column.now column
+    c.meet-left.ensures c.requires.containing
     c.meet-met.result (sym c.within.ensures ∙ c.if-within.true)
 
 pub loop-j-preserved : goal.loop-j-preserved
@@ -94,13 +111,17 @@ loop-j-preserved g c =
     let n = c.args.self.now.number in
     let C : Set = c.in-Some.having.now in
     let column = lent c.args.column.now n C c.in-Some.ensures.lookup.3.0 c.in-Some.ensures.lookup.1 in
-    let inside = next_inside c.args.rows.now c.args.a.now c.args.start.now n c.args.self.now.objects C c.meet-left.result c.args.column.now column c.meet-left.ensures c.requires.containing
+    let inside = next_inside c.args.rows.now c.args.a.now c.args.start.now n c.args.self.now.objects C c.meet-left.result c.args.column.now
+    column c.meet-left.ensures c.requires.containing
     c.loop-j.from c.in-Some-next_member.j (omega (arith, c.width.ensures.width, c.width.ensures.narrow)) c.in-Some-next_member.ensures in
     let R : Set = c.index-as_slice-self.result in
     let row : R ≡ row_at c.args.rows.now (n * 256 + c.in-Some-next_member.j) =
-    c.index-as_slice-self.is ∙ ap (λ (Rs : List Set). get_or Rs (n * 256 + c.in-Some-next_member.j) R) c.as_slice.ensures.rows ∙ get_or_default c.args.rows.now.rows (n * 256 + c.in-Some-next_member.j) R [] inside in
-    let met = met_more c.args.rows.now c.args.a.now c.args.start.now n c.args.self.now.objects C c.meet-left.result c.args.column.now column c.meet-left.ensures c.requires.containing
-    c.loop-j.from c.in-Some-next_member.j (omega (arith, c.width.ensures.width, c.width.ensures.narrow)) c.in-Some-next_member.ensures c.loop-j.met R c.meet-met.result c.loop-j.invariant.met row c.meet-met.ensures in
+    c.index-as_slice-self.is ∙ ap (λ (Rs : List Set). get_or Rs (n * 256 + c.in-Some-next_member.j) R) c.as_slice.ensures.rows
+    ∙ get_or_default c.args.rows.now.rows (n * 256 + c.in-Some-next_member.j) R [] inside in
+    let met = met_more c.args.rows.now c.args.a.now c.args.start.now n c.args.self.now.objects C c.meet-left.result c.args.column.now column
+    c.meet-left.ensures c.requires.containing
+    c.loop-j.from c.in-Some-next_member.j (omega (arith, c.width.ensures.width, c.width.ensures.narrow)) c.in-Some-next_member.ensures
+    c.loop-j.met R c.meet-met.result c.loop-j.invariant.met row c.meet-met.ensures in
     record { inside = omega (arith, c.in-Some-next_member.ensures.in_range); met = met }
 
 pub returns-clause-below : goal.returns-clause-below
@@ -108,5 +129,6 @@ returns-clause-below g c =
     let n = c.args.self.now.number in
     let C : Set = c.in-Some.having.now in
     let column = lent c.args.column.now n C c.in-Some.ensures.lookup.3.0 c.in-Some.ensures.lookup.1 in
-    met_all c.args.rows.now c.args.a.now c.args.start.now n c.args.self.now.objects C c.meet-left.result c.args.column.now column c.meet-left.ensures c.requires.containing
+    met_all c.args.rows.now c.args.a.now c.args.start.now n c.args.self.now.objects C c.meet-left.result c.args.column.now column
+    c.meet-left.ensures c.requires.containing
     c.loop-j.from c.loop-j.met c.loop-j.invariant.met c.in_default-next_member.ensures

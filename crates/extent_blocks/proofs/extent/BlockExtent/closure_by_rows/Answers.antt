@@ -14,7 +14,9 @@ meet_of_rows-requires g c = (
       c.requires.wide ∙ sym (ap (λ (X : Context). X.width) c.rows-2.ensures),
       λ p.
           ap₂ (λ a b. a && b)
-          (ap (λ xs. list_any (λ x. in_block x.number x.objects p) xs) c.deref.ensures.value ∙ sym (parts_of (λ x. x.number) (λ x. x.objects) c.self.inside.blocks.items p) ∙ ap (λ (Ps : List Part). in_parts Ps p) c.self.view_is)
+          (ap (λ xs. list_any (λ x. in_block x.number x.objects p) xs) c.deref.ensures.value
+          ∙ sym (parts_of (λ x. x.number) (λ x. x.objects) c.self.inside.blocks.items p)
+          ∙ ap (λ (Ps : List Part). in_parts Ps p) c.self.view_is)
           (c.column.ensures.places p)
           ∙ c.requires.extent p ∙ sym (ap (λ (X : Context). contains_at X c.args.a.now p) c.rows-2.ensures),
     ),

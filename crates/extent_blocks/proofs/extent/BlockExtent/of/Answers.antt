@@ -8,4 +8,5 @@ use Rattle.extent_blocks.proofs.extent.BlockExtent.of.Goals as goal
 pub returns : goal.returns
 returns g c = λ p.
     parts_of (λ x. x.number) (λ x. x.objects) c.in_ok-number_blocks.field-0.items p ∙ c.in_ok-number_blocks.ensures p
-    ∙ ap (λ (Cs : List Set). in_column Cs p) c.deref.ensures.value ∙ c.in_ok-column.ensures.places p ∙ ap (λ (X : Context). contains_at X c.args.a.now p) c.rows.ensures
+    ∙ ap (λ (Cs : List Set). in_column Cs p) c.deref.ensures.value ∙ c.in_ok-column.ensures.places p
+    ∙ ap (λ (X : Context). contains_at X c.args.a.now p) c.rows.ensures

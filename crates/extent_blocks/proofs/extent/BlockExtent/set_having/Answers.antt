@@ -9,6 +9,8 @@ pub returns : goal.returns
 returns g c = on_ok_weaker c.keep_in.result (λ kept p.
     parts_of (λ x. x.number) (λ x. x.objects) c.keep_in.new.kept.items p ∙ kept p
     ∙ ap₂ (λ a b. a && b)
-    (ap (λ xs. list_any (λ x. in_block x.number x.objects p) xs) c.deref.ensures.value ∙ sym (parts_of (λ x. x.number) (λ x. x.objects) c.above.inside.blocks.items p) ∙ ap (λ (Ps : List Part). in_parts Ps p) c.above.view_is)
+    (ap (λ xs. list_any (λ x. in_block x.number x.objects p) xs) c.deref.ensures.value
+    ∙ sym (parts_of (λ x. x.number) (λ x. x.objects) c.above.inside.blocks.items p)
+    ∙ ap (λ (Ps : List Part). in_parts Ps p) c.above.view_is)
     (c.column.ensures.places p))
     c.keep_in.ensures

@@ -10,5 +10,7 @@ returns g c =
     let width : K.width ≡ c.args.self.now.width = ap (λ (X : Context). X.width) c.self.view_is in
     let inside : c.args.i < K.width = omega (arith, c.requires, width) in
     let here : get_or (map (λ v. v.items) c.self.inside.columns.items) c.args.i [] ≡ c.deref.result.now =
-    get_or-map (λ v. v.items) c.self.inside.columns.items c.args.i c.index.result.now [] (omega (arith, inside, c.self.invariant.room)) ∙ ap (λ v. v.items) (sym c.index.ensures) ∙ sym c.deref.ensures.value in
-    subst (λ (X : Context). IsColumn X c.args.i c.deref.result.now) c.self.view_is (subst (IsColumn K c.args.i) here (c.self.invariant.columns c.args.i inside))
+    get_or-map (λ v. v.items) c.self.inside.columns.items c.args.i c.index.result.now [] (omega (arith, inside, c.self.invariant.room))
+    ∙ ap (λ v. v.items) (sym c.index.ensures) ∙ sym c.deref.ensures.value in
+    subst (λ (X : Context). IsColumn X c.args.i c.deref.result.now) c.self.view_is
+    (subst (IsColumn K c.args.i) here (c.self.invariant.columns c.args.i inside))
