@@ -1,5 +1,7 @@
 -- Cells of at most one byte: what the first two bytes say of the first cell, and a mark that is put into a row.
-use Rattle.std.proofs.Common.{◌≡◌, ◌∙◌, ◌<◌, ◌≤◌, ◌+◌, ◌-◌, ◌%◌, ◌^◌, ◌∷◌, [], ◌≢◌, ℕ, Bool, true, false, not, ◌&&◌, ◌||◌, ◌==◌, cond, eqb, nat_le, Some, take, drop, length, get_or, set, inl, inr, refl, sym, ap, subst, eqb-true, le-leb, ext_get_or, get_or-set_same, get_or-set_other, pow_mono, ◌*◌, arith}
+use Rattle.std.proofs.Common.{◌≡◌, ◌∙◌, ◌<◌, ◌≤◌, ◌+◌, ◌-◌, ◌%◌, ◌^◌, ◌∷◌, [], ◌≢◌, ℕ, Bool, true, false, not, ◌&&◌, ◌||◌, ◌==◌, cond, eqb}
+use Rattle.std.proofs.Common.{nat_le, Some, take, drop, length, get_or, set, inl, inr, refl, sym, ap, subst, eqb-true, le-leb, ext_get_or}
+use Rattle.std.proofs.Common.{get_or-set_same, get_or-set_other, pow_mono, ◌*◌, arith}
 use Rattle.std.specs.Int.{bit_at}
 use Rattle.std.specs.Int.{from_bool}
 use Rattle.std.proofs.lemmas.Bool.{cases_Bool, cases_eq, cases_lt, lt-leb}
@@ -14,7 +16,7 @@ use Rattle.csv_context.specs.Form.{mark_of}
 use Rattle.csv_context.specs.Cells.{TakesCell, is_cross, is_short}
 use Rattle.csv_context.proofs.LineLemmas.{next_field-none, next_field-one}
 
--- where both hold, each does
+-- if both hold, each does
 pub both : (a b : Bool) → (a && b) ≡ true → (a ≡ true) × (b ≡ true)
 both true b h = (refl, h)
 both false b h = cc h
@@ -43,27 +45,32 @@ of_short P large small one dot none comma b short = elim (cases_Bool (b == 88)) 
 ]
 
 mark_of-short : (b : ℕ) → is_short b ≡ true → is_comma b ≡ false → mark_of (trim (b ∷ [])) ≡ Some (is_cross b)
-mark_of-short = of_short (λ b. is_comma b ≡ false → mark_of (trim (b ∷ [])) ≡ Some (is_cross b)) (λ _. refl) (λ _. refl) (λ _. refl) (λ _. refl) (λ _. refl) (λ other. cc other)
+mark_of-short = of_short (λ b. is_comma b ≡ false → mark_of (trim (b ∷ [])) ≡ Some (is_cross b)) (λ _. refl) (λ _. refl) (λ _. refl)
+    (λ _. refl) (λ _. refl) (λ other. cc other)
 
 -- an empty cell
-pub TakesCell-none : (cells : Text) → 2 ≤ length cells → is_comma (get_or cells 0 0) ≡ true → TakesCell cells (is_cross (get_or cells 0 0)) (drop 1 cells)
+pub TakesCell-none : (cells : Text) → 2 ≤ length cells → is_comma (get_or cells 0 0) ≡ true
+    → TakesCell cells (is_cross (get_or cells 0 0)) (drop 1 cells)
 TakesCell-none cells long comma =
     let is : get_or cells 0 0 ≡ 44 = eqb-true (get_or cells 0 0) 44 comma in
     record { field = []; fields = next_field-none cells long comma; says = sym (ap (λ (b : ℕ). Some (is_cross b)) is) }
 
 -- a cell of one byte
-pub TakesCell-one : (cells : Text) → 2 ≤ length cells → is_comma (get_or cells 0 0) ≡ false → is_comma (get_or cells 1 0) ≡ true → is_short (get_or cells 0 0) ≡ true
+pub TakesCell-one : (cells : Text) → 2 ≤ length cells → is_comma (get_or cells 0 0) ≡ false → is_comma (get_or cells 1 0) ≡ true
+    → is_short (get_or cells 0 0) ≡ true
     → TakesCell cells (is_cross (get_or cells 0 0)) (drop 2 cells)
 TakesCell-one [] long other comma short = absurd (omega arith)
 TakesCell-one (b ∷ []) long other comma short = absurd (omega arith)
-TakesCell-one (b ∷ c ∷ cells) long other comma short = record { field = b ∷ []; fields = next_field-one (b ∷ c ∷ cells) long other comma; says = mark_of-short b short other }
+TakesCell-one (b ∷ c ∷ cells) long other comma short =
+    record { field = b ∷ []; fields = next_field-one (b ∷ c ∷ cells) long other comma; says = mark_of-short b short other }
 
 -- the bytes behind a place, as a slice has them
 behind-drop : (cells : Text) (size : ℕ) → take (length cells - size) (drop size cells) ≡ drop size cells
 behind-drop cells size = take_all (length cells - size) (drop size cells) (omega (arith, length-drop size cells))
 
 -- both, by the number of its bytes
-pub TakesCell-first : (cells : Text) (size : ℕ) → 2 ≤ length cells → size ≡ from_bool (not (is_comma (get_or cells 0 0))) → is_short (get_or cells 0 0) ≡ true → is_comma (get_or cells size 0) ≡ true
+pub TakesCell-first : (cells : Text) (size : ℕ) → 2 ≤ length cells → size ≡ from_bool (not (is_comma (get_or cells 0 0)))
+    → is_short (get_or cells 0 0) ≡ true → is_comma (get_or cells size 0) ≡ true
     → TakesCell cells (is_cross (get_or cells 0 0)) (take (length cells - (size + 1)) (drop (size + 1) cells))
 TakesCell-first cells size long is short comma = elim (cases_Bool (is_comma (get_or cells 0 0))) [
   | inl first ↦
@@ -79,31 +86,38 @@ TakesCell-first cells size long is short comma = elim (cases_Bool (is_comma (get
 
 -- bits that are put into a set from a place on
 abbrev Puts : Set → ℕ → ℕ → Set → Type 0
-Puts old from bits new = (i : ℕ) → i < length old → get_or new i false ≡ (get_or old i false || (nat_le from i && eqb (bit_at bits (i - from)) 1))
+Puts old from bits new = (i : ℕ) → i < length old
+    → get_or new i false ≡ (get_or old i false || (nat_le from i && eqb (bit_at bits (i - from)) 1))
 
 -- no bit
 put-none : (old new : Set) (from : ℕ) → length new ≡ length old → Puts old from 0 new → new ≡ old
 put-none old new from wide put = ext_get_or false new old wide (λ i lt.
-    put i (omega (arith, wide)) ∙ ap (λ x. get_or old i false || (nat_le from i && eqb x 1)) (bit_at-zero (i - from)) ∙ ap (λ x. get_or old i false || x) (and-false (nat_le from i)) ∙ or-false (get_or old i false))
+    put i (omega (arith, wide)) ∙ ap (λ x. get_or old i false || (nat_le from i && eqb x 1)) (bit_at-zero (i - from))
+    ∙ ap (λ x. get_or old i false || x) (and-false (nat_le from i)) ∙ or-false (get_or old i false))
 
 -- the bit of one place
-put-one : (old new : Set) (place k from : ℕ) → place < length old → from + k ≡ place → length new ≡ length old → Puts old from (2 ^ k) new → new ≡ set old place true
-put-one old new place k from below split wide put = ext_get_or false new (set old place true) (wide ∙ sym (length-set old place true)) (λ i lt. elim (cases_eq i place) [
-  | inl here ↦
-      let down : i - from ≡ k = omega arith in
-      let le : from ≤ i = omega arith in
-      put i (omega (arith, wide)) ∙ rw (down, bit_at-pow_same k, le-leb from i le) (or_comm (get_or old i false) true) ∙ sym (ap (λ j. get_or (set old place true) j false) here ∙ get_or-set_same old place true false below)
-  | inr other ↦
-      let none : (nat_le from i && eqb (bit_at (2 ^ k) (i - from)) 1) ≡ false = elim (cases_lt i from) [
-        | inl before ↦ ap (λ x. x && eqb (bit_at (2 ^ k) (i - from)) 1) (lt-leb from i before)
-        | inr le ↦
-            let apart : i - from ≢ k = λ e. other (omega arith) in
-            ap (λ x. nat_le from i && eqb x 1) (bit_at-pow_other k (i - from) apart) ∙ and-false (nat_le from i)
-      ] in
-      put i (omega (arith, wide)) ∙ ap (λ x. get_or old i false || x) none ∙ or-false (get_or old i false) ∙ sym (get_or-set_other old place i true false other)
-])
+put-one : (old new : Set) (place k from : ℕ) → place < length old → from + k ≡ place → length new ≡ length old → Puts old from (2 ^ k) new
+    → new ≡ set old place true
+put-one old new place k from below split wide put =
+    ext_get_or false new (set old place true) (wide ∙ sym (length-set old place true)) (λ i lt. elim (cases_eq i place) [
+      | inl here ↦
+          let down : i - from ≡ k = omega arith in
+          let le : from ≤ i = omega arith in
+          put i (omega (arith, wide)) ∙ rw (down, bit_at-pow_same k, le-leb from i le) (or_comm (get_or old i false) true)
+          ∙ sym (ap (λ j. get_or (set old place true) j false) here ∙ get_or-set_same old place true false below)
+      | inr other ↦
+          let none : (nat_le from i && eqb (bit_at (2 ^ k) (i - from)) 1) ≡ false = elim (cases_lt i from) [
+            | inl before ↦ ap (λ x. x && eqb (bit_at (2 ^ k) (i - from)) 1) (lt-leb from i before)
+            | inr le ↦
+                let apart : i - from ≢ k = λ e. other (omega arith) in
+                ap (λ x. nat_le from i && eqb x 1) (bit_at-pow_other k (i - from) apart) ∙ and-false (nat_le from i)
+          ] in
+          put i (omega (arith, wide)) ∙ ap (λ x. get_or old i false || x) none ∙ or-false (get_or old i false)
+          ∙ sym (get_or-set_other old place i true false other)
+    ])
 
-pub put-mark : (old new : Set) (place from bits : ℕ) (mark : Bool) → place < length old → from ≡ place - place % 64 → bits ≡ from_bool mark * 2 ^ (place % 64) % 2 ^ 64 → length new ≡ length old → Puts old from bits new
+pub put-mark : (old new : Set) (place from bits : ℕ) (mark : Bool) → place < length old → from ≡ place - place % 64
+    → bits ≡ from_bool mark * 2 ^ (place % 64) % 2 ^ 64 → length new ≡ length old → Puts old from bits new
     → new ≡ cond mark (set old place true) old
 put-mark old new place from bits false below down is wide put =
     let none : bits ≡ 0 = omega arith in

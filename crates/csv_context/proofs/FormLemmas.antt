@@ -1,6 +1,8 @@
 -- One field, and one record, more. What is left of a record after a field is one field shorter, and the form goes on from there with what
 -- the field says.
-use Rattle.std.proofs.Common.{◌≡◌, ◌∙◌, ◌<◌, ◌+◌, ◌-◌, ◌++◌, ◌∷◌, [], ℕ, zero, suc, Bool, true, false, cond, List, Some, None, Result, Ok, Err, drop, length, replicate, set, slice_get, bytes_eq, inl, inr, refl, sym, ap, subst, length-append, append_assoc, arith}
+use Rattle.std.proofs.Common.{◌≡◌, ◌∙◌, ◌<◌, ◌+◌, ◌-◌, ◌++◌, ◌∷◌, [], ℕ, zero, suc, Bool, true, false, cond, List, Some, None, Result, Ok}
+use Rattle.std.proofs.Common.{Err, drop, length, replicate, set, slice_get, bytes_eq, inl, inr, refl, sym, ap, subst, length-append}
+use Rattle.std.proofs.Common.{append_assoc, arith}
 use Rattle.std.specs.Prelude.{◌⊎◌, IsErr, IsErrAnd}
 use Rattle.fca_model.specs.Sets.{Set}
 use Rattle.fca_model.specs.Tables.{Text}
@@ -35,10 +37,12 @@ module _ (seen : List Text) (fields : Record) (place : ℕ) (field : Text) (at :
       → attributes_form seen (place + 1) (drop place fields) ≡ attributes_form (seen ++ name ∷ []) (place + 1 + 1) (drop (place + 1) fields)
   attributes_form-Ok name is = rw (drop-item fields place field (sym at), is) refl
 
-  pub attributes_form-Err : (e : CsvFault) → attribute_form seen (place + 1) field ≡ Err e → attributes_form seen (place + 1) (drop place fields) ≡ Err e
+  pub attributes_form-Err : (e : CsvFault) → attribute_form seen (place + 1) field ≡ Err e
+      → attributes_form seen (place + 1) (drop place fields) ≡ Err e
   attributes_form-Err e is = rw (drop-item fields place field (sym at), is) refl
 
-repeat_from-append : (before names : List Text) (i : ℕ) (name : Text) → repeat_from before i names ≡ None → list_any (bytes_eq name) (before ++ names) ≡ false
+repeat_from-append : (before names : List Text) (i : ℕ) (name : Text) → repeat_from before i names ≡ None
+    → list_any (bytes_eq name) (before ++ names) ≡ false
     → repeat_from before i (names ++ name ∷ []) ≡ None
 repeat_from-append before [] i name none new =
     let unseen : list_any (bytes_eq name) before ≡ false = rw append-nil at new in
@@ -52,12 +56,14 @@ repeat_from-append before (x ∷ names) i name none new = elim (cases_Bool (list
 ]
 
 -- a name that was not seen is no repeat
-pub first_repeat-append : (names : List Text) (name : Text) → first_repeat names ≡ None → list_any (bytes_eq name) names ≡ false → first_repeat (names ++ name ∷ []) ≡ None
+pub first_repeat-append : (names : List Text) (name : Text) → first_repeat names ≡ None → list_any (bytes_eq name) names ≡ false
+    → first_repeat (names ++ name ∷ []) ≡ None
 first_repeat-append names name none new = repeat_from-append [] names 0 name none new
 
 -- ---- one mark more at the front of a row
 
-pub set-front : (front : Set) (i k : ℕ) → length front ≡ i → set (front ++ replicate (suc k) false) i true ≡ front ++ true ∷ [] ++ replicate k false
+pub set-front : (front : Set) (i k : ℕ) → length front ≡ i
+    → set (front ++ replicate (suc k) false) i true ≡ front ++ true ∷ [] ++ replicate k false
 set-front front i k placed =
     let P : ℕ → Type 0 = λ j. set (front ++ replicate (suc k) false) j true ≡ front ++ true ∷ [] ++ replicate k false in
     subst P placed (set-append_seam front false (replicate k false) true ∙ sym (append_assoc front (true ∷ []) (replicate k false)))
@@ -69,16 +75,20 @@ ReadTo-zero i width cells =
     let all : width - 0 ≡ width = omega arith in
     record { front = []; placed = refl; filled = rw all refl; says = refl }
 
-module _ (i width : ℕ) (cells : Record) (row : Set) (place : ℕ) (field : Text) (at : Some field ≡ slice_get cells place) (r : ReadTo i width cells row place) where
-  says-next : row_form i 2 [] cells ≡ then (cell_form i (place + 2) field) (λ mark. row_form i (place + 2 + 1) (r.front ++ mark ∷ []) (drop (place + 1) cells))
+module _ (i width : ℕ) (cells : Record) (row : Set) (place : ℕ) (field : Text) (at : Some field ≡ slice_get cells place)
+    (r : ReadTo i width cells row place) where
+  says-next : row_form i 2 [] cells ≡ then (cell_form i (place + 2) field)
+      (λ mark. row_form i (place + 2 + 1) (r.front ++ mark ∷ []) (drop (place + 1) cells))
   says-next = r.says ∙ rw (drop-item cells place field (sym at)) refl
 
-  says-more : (mark : Bool) → cell_form i (place + 2) field ≡ Ok mark → row_form i 2 [] cells ≡ row_form i (place + 1 + 2) (r.front ++ mark ∷ []) (drop (place + 1) cells)
+  says-more : (mark : Bool) → cell_form i (place + 2) field ≡ Ok mark
+      → row_form i 2 [] cells ≡ row_form i (place + 1 + 2) (r.front ++ mark ∷ []) (drop (place + 1) cells)
   says-more mark is =
       let next : place + 2 + 1 ≡ place + 1 + 2 = omega arith in
       says-next ∙ rw (is, next) refl
 
-  filled-more : place < width → (mark : Bool) → cond mark (set row place true) row ≡ r.front ++ mark ∷ [] ++ replicate (width - (place + 1)) false
+  filled-more : place < width → (mark : Bool) → cond mark (set row place true) row ≡ r.front ++ mark ∷ [] ++ replicate
+      (width - (place + 1)) false
   filled-more below true =
       let one : width - place ≡ suc (width - (place + 1)) = omega arith in
       ap (λ (x : Set). set x place true) r.filled ∙ rw one (set-front r.front place (width - (place + 1)) r.placed)
@@ -86,7 +96,8 @@ module _ (i width : ℕ) (cells : Record) (row : Set) (place : ℕ) (field : Tex
       let one : width - place ≡ suc (width - (place + 1)) = omega arith in
       r.filled ∙ rw one (sym (append_assoc r.front (false ∷ []) (replicate (width - (place + 1)) false)))
 
-  pub ReadTo-more : (mark : Bool) → place < width → cell_form i (place + 2) field ≡ Ok mark → ReadTo i width cells (cond mark (set row place true) row) (place + 1)
+  pub ReadTo-more : (mark : Bool) → place < width → cell_form i (place + 2) field ≡ Ok mark
+      → ReadTo i width cells (cond mark (set row place true) row) (place + 1)
   ReadTo-more mark below is = record {
     front = r.front ++ mark ∷ [];
     placed = length-append r.front (mark ∷ []) ∙ ap (λ (n : ℕ). n + 1) r.placed;
@@ -100,7 +111,8 @@ module _ (i width : ℕ) (cells : Record) (row : Set) (place : ℕ) (field : Tex
 -- ---- fields that are left
 
 -- what is left begins with the field at this place, and goes on with those behind it
-pub left-field : (fields : Record) (place : ℕ) (field : Text) (more : Record) → drop place fields ≡ field ∷ more → (Some field ≡ slice_get fields place) × (drop (place + 1) fields ≡ more)
+pub left-field : (fields : Record) (place : ℕ) (field : Text) (more : Record) → drop place fields ≡ field ∷ more
+    → (Some field ≡ slice_get fields place) × (drop (place + 1) fields ≡ more)
 left-field [] zero field more left = cc
 left-field [] (suc place) field more left = cc
 left-field (f ∷ fields) zero field more left = (cc, cc)
@@ -119,12 +131,15 @@ slice_get-behind (f ∷ fields) place =
 -- ---- one object more
 
 -- what is left begins with an object, which is put last
-pub objects_form-more : (width n m : ℕ) (names new_names : List Text) (rows new_rows : List Set) (fields : Record) (left records : List Record) (object : Object)
-    → left ≡ fields ∷ records → object_form width (n + 2) fields ≡ Ok object → m ≡ n + 1 → new_names ≡ names ++ object.name ∷ [] → new_rows ≡ rows ++ object.row ∷ []
+pub objects_form-more : (width n m : ℕ) (names new_names : List Text) (rows new_rows : List Set) (fields : Record)
+    (left records : List Record) (object : Object)
+    → left ≡ fields ∷ records → object_form width (n + 2) fields ≡ Ok object → m ≡ n + 1 → new_names ≡ names ++ object.name ∷ []
+    → new_rows ≡ rows ++ object.row ∷ []
     → objects_form width (m + 2) (new_names, new_rows) records ≡ objects_form width (n + 2) (names, rows) left
 objects_form-more width n m names new_names rows new_rows fields left records object l is e x y =
     let at : m + 2 ≡ n + 2 + 1 = omega (arith, e) in
-    let more : Object → Result (List Text × List Set) CsvFault = λ o. objects_form width (n + 2 + 1) (names ++ o.name ∷ [], rows ++ o.row ∷ []) records in
+    let more : Object → Result (List Text × List Set) CsvFault =
+    λ o. objects_form width (n + 2 + 1) (names ++ o.name ∷ [], rows ++ o.row ∷ []) records in
     ap (λ (zs : List Text). objects_form width (m + 2) (zs, new_rows) records) x
     ∙ ap (λ (zs : List Set). objects_form width (m + 2) (names ++ object.name ∷ [], zs) records) y
     ∙ ap (λ (k : ℕ). objects_form width k (names ++ object.name ∷ [], rows ++ object.row ∷ []) records) at

@@ -2,11 +2,13 @@
 -- (`ends-between`). So each record takes a byte at least, and the records of a text are the same for any bound on their number that is
 -- above the number of bytes (`records_from-bound`). A read then takes the first of the records left (`Reads-found`).
 use Rattle.std.specs.Prelude.{Result, Ok, Err, IfOk, IfErr, OnOk, OnErr, MatchResult, is_ok}
-use Rattle.std.proofs.Common.{Bor, ◌≡◌, ◌∙◌, ◌<◌, ◌≤◌, ◌+◌, ◌==◌, ◌||◌, ◌∷◌, ◌++◌, [], ℕ, zero, suc, Bool, true, false, List, Option, Some, None, cond, length, refl, sym, ap, subst, inl, inr, arith}
+use Rattle.std.proofs.Common.{Bor, ◌≡◌, ◌∙◌, ◌<◌, ◌≤◌, ◌+◌, ◌==◌, ◌||◌, ◌∷◌, ◌++◌, [], ℕ, zero, suc, Bool, true, false, List, Option, Some}
+use Rattle.std.proofs.Common.{None, cond, length, refl, sym, ap, subst, inl, inr, arith}
 use Rattle.std.proofs.lemmas.Bool.{cases_Bool}
 use Rattle.std.specs.Str.{IsUtf8}
 use Rattle.csv.specs.Machine.{Read, next_record, step, in_field, start_field, start_record, is_end, ends_at_end, fields_after}
-use Rattle.csv.specs.Reading.{ExplainsRead, Ready, ReadRecord, Reached, default_config, error_kind, has_failed, is_flexible, reader_state, reader_trim, records_from, records_next, stops_reader, took_first, unread_of}
+use Rattle.csv.specs.Reading.{ExplainsRead, Ready, ReadRecord, Reached, default_config, error_kind, has_failed, is_flexible, reader_state}
+use Rattle.csv.specs.Reading.{reader_trim, records_from, records_next, stops_reader, took_first, unread_of}
 use Rattle.csv.specs.Records.{AllText}
 use Rattle.csv.specs.declared.error.Error.{Error}
 use Rattle.csv.specs.declared.error.ErrorKind.{ErrorKind}
@@ -18,21 +20,23 @@ use Rattle.csv.specs.declared.parser.State.TheVariants as st
 use Rattle.csv.specs.declared.reader.Reader.{Reader}
 use Rattle.csv.specs.declared.reader.Trim.TheVariants as trim
 use Rattle.csv.proofs.ReadFacts.{rows-end, rows-more}
-use Rattle.csv_context.specs.Records.{Record, IsOpen, IsText, Reads, records_by, records_left, unread}
+use Rattle.csv_context.specs.Records.{Record, IsOpen, IsText, Reads, records_by, records_left, unread_bytes}
 use Rattle.csv_context.proofs.Texts.{GivesText, next_record-text}
 
 -- ---- where a record ends
 
--- where a step ends a record, it leads between two records
+-- a step that ends a record leads between two records
 abbrev IsBetween : State × Action → Type 0
 IsBetween p = is_end p.1 ≡ true → ends_at_end p.0 ≡ false
 
-other-between : (test : Bool) (s : State) (a : Action) (p : State × Action) → is_end a ≡ false → IsBetween p → IsBetween (cond test (s, a) p)
+other-between : (test : Bool) (s : State) (a : Action) (p : State × Action) → is_end a ≡ false → IsBetween p
+    → IsBetween (cond test (s, a) p)
 other-between true s a p goes_on between ends = cc
 other-between false s a p goes_on between ends = between ends
 
 in_field-between : (comma end cr : Bool)
-    → IsBetween (cond comma (st.StartField, act.EndField) (cond end (cond cr st.AfterCr st.StartRecord, act.EndRecord) (st.InField, act.Copy)))
+    → IsBetween (cond comma (st.StartField, act.EndField)
+    (cond end (cond cr st.AfterCr st.StartRecord, act.EndRecord) (st.InField, act.Copy)))
 in_field-between true end cr ends = cc
 in_field-between false true true ends = refl
 in_field-between false true false ends = refl
@@ -61,7 +65,8 @@ ends-between st.AfterCr c = other-between (c == 10) st.StartRecord act.Skip (sta
 abbrev IsLeft : ℕ → Read → Type 0
 IsLeft size p = (ends_at_end p.1 ≡ false) × (length p.2 ≤ size)
 
-next_record-left : (s : State) (fields : List (List ℕ)) (field xs : List ℕ) (p : Read) → next_record default_config s fields field xs ≡ Some p → IsLeft (length xs) p
+next_record-left : (s : State) (fields : List (List ℕ)) (field xs : List ℕ) (p : Read)
+    → next_record default_config s fields field xs ≡ Some p → IsLeft (length xs) p
 unfolding next_record
 next_record-left s fields field [] p e = elim (cases_Bool (ends_at_end s)) [
   | inl it ↦
@@ -82,7 +87,8 @@ next_record-left s fields field (c ∷ rest) p e = elim (cases_Bool (is_end (ste
 ]
 
 -- between two records, a record takes a byte at least
-next_record-shorter : (s : State) (xs : List ℕ) (p : Read) → ends_at_end s ≡ false → next_record default_config s [] [] xs ≡ Some p → length p.2 < length xs
+next_record-shorter : (s : State) (xs : List ℕ) (p : Read) → ends_at_end s ≡ false → next_record default_config s [] [] xs ≡ Some p
+    → length p.2 < length xs
 unfolding next_record
 next_record-shorter s [] p between e = let none = rw between at e in cc
 next_record-shorter s (c ∷ rest) p between e = elim (cases_Bool (is_end (step default_config s c).1)) [
@@ -98,7 +104,7 @@ next_record-shorter s (c ∷ rest) p between e = elim (cases_Bool (is_end (step 
 
 -- ---- the records left
 
--- a bound on the number of records makes no difference where it is above the number of bytes
+-- a bound on the number of records makes no difference if it is above the number of bytes
 records_from-bound : (n m : ℕ) (s : State) (xs : List ℕ) → ends_at_end s ≡ false → length xs < n → length xs < m
     → records_from default_config n s xs ≡ records_from default_config m s xs
 unfolding records_from
@@ -107,7 +113,8 @@ records_from-bound (suc n) zero s xs between below under = absurd (omega arith)
 records_from-bound (suc n) (suc m) s xs between below under = by (next_record default_config s [] [] xs) refl (records_from-bound n m)
   where
     by : (o : Option Read) → next_record default_config s [] [] xs ≡ o
-        → ((t : State) (ys : List ℕ) → ends_at_end t ≡ false → length ys < n → length ys < m → records_from default_config n t ys ≡ records_from default_config m t ys)
+        → ((t : State) (ys : List ℕ) → ends_at_end t ≡ false → length ys < n → length ys < m
+        → records_from default_config n t ys ≡ records_from default_config m t ys)
         → records_next (records_from default_config n) o ≡ records_next (records_from default_config m) o
     by None e more = refl
     by (Some p) e more =
@@ -154,11 +161,12 @@ took s t xs ys fields p between text e is to left =
       first = cc;
     }
 
-Reads-found : (a b : Reader (Bor (List ℕ))) (fields : Record) → IsOpen a → took_first b ≡ true → ReadRecord bytes_of a b true fields → Reads a b true fields
+Reads-found : (a b : Reader (Bor (List ℕ))) (fields : Record) → IsOpen a → took_first b ≡ true → ReadRecord bytes_of a b true fields
+    → Reads a b true fields
 unfolding Reached
-Reads-found a b fields open' begun r = by (unread a) refl open'.text
+Reads-found a b fields open' begun r = by (unread_bytes a) refl open'.text
   where
-    by : (left : Option (List ℕ)) → unread a ≡ left → IsText left → Reads a b true fields
+    by : (left : Option (List ℕ)) → unread_bytes a ≡ left → IsText left → Reads a b true fields
     by None e text = absurd text
     by (Some xs) e text =
         let m = rows-more bytes_of a b fields default_config (reader_state a) xs xs [] open'.settings e (refl, refl) r in
@@ -175,20 +183,23 @@ Reads-found a b fields open' begun r = by (unread a) refl open'.text
         )
 
 Reads-none : (a b : Reader (Bor (List ℕ))) (fields : Record) → IsOpen a → ReadRecord bytes_of a b false fields → Reads a b false fields
-Reads-none a b fields open' r = by (unread a) refl open'.text
+Reads-none a b fields open' r = by (unread_bytes a) refl open'.text
   where
-    by : (left : Option (List ℕ)) → unread a ≡ left → IsText left → Reads a b false fields
+    by : (left : Option (List ℕ)) → unread_bytes a ≡ left → IsText left → Reads a b false fields
     by None e text = absurd text
     by (Some xs) e text = rw e (records_by-None (reader_state a) xs (rows-end bytes_of a b fields default_config xs open'.settings e r))
 
 -- the answer of a read, by whether there was a record
-Reads-record : (a b : Reader (Bor (List ℕ))) (found : Bool) (fields : Record) → IsOpen a → took_first b ≡ true → ReadRecord bytes_of a b found fields → Reads a b found fields
+Reads-record : (a b : Reader (Bor (List ℕ))) (found : Bool) (fields : Record) → IsOpen a → took_first b ≡ true
+    → ReadRecord bytes_of a b found fields → Reads a b found fields
 Reads-record a b true fields open' begun r = Reads-found a b fields open' begun r
 Reads-record a b false fields open' begun r = Reads-none a b fields open' r
 
 -- the same of what the library's call answers, passed on with another error
-pub Reads-told : {E D : Type 0} (Q : E → Type 0) (a b : Reader (Bor (List ℕ))) (fields : Record) (told : Result Bool E) (answer : Result Bool D) → IsOpen a
-    → (reader_trim a ≡ trim.None → OnOk told (took_first b ≡ true)) → IfOk told (λ found. reader_trim a ≡ trim.None → Ready a → ReadRecord bytes_of a b found fields)
+pub Reads-told : {E D : Type 0} (Q : E → Type 0) (a b : Reader (Bor (List ℕ))) (fields : Record) (told : Result Bool E)
+    (answer : Result Bool D) → IsOpen a
+    → (reader_trim a ≡ trim.None → OnOk told (took_first b ≡ true))
+    → IfOk told (λ found. reader_trim a ≡ trim.None → Ready a → ReadRecord bytes_of a b found fields)
     → MatchResult told (λ found. answer ≡ Ok found) Q → is_ok answer ≡ is_ok told
     → IfOk answer (λ found. Reads a b found fields)
 Reads-told Q a b fields (Ok found) answer open' begun reads cases variant =
@@ -197,16 +208,21 @@ Reads-told Q a b fields (Err e) (Ok found) open' begun reads cases variant = cc
 Reads-told Q a b fields (Err e) (Err d) open' begun reads cases variant = tt
 
 -- a reader that takes records of any length fails only for good, so it has no record left
-failed-none : (a b : Reader (Bor (List ℕ))) (why : ErrorKind) → is_flexible a ≡ true → has_failed b ≡ stops_reader why → ExplainsRead bytes_of a b false why → records_left b ≡ []
-failed-none a b (kind.Io e) flexible fails why = ap (λ stopped. records_by (reader_state b) (cond stopped None (unread_of bytes_of b))) fails
-failed-none a b kind.OutOfMemory flexible fails why = ap (λ stopped. records_by (reader_state b) (cond stopped None (unread_of bytes_of b))) fails
+failed-none : (a b : Reader (Bor (List ℕ))) (why : ErrorKind) → is_flexible a ≡ true → has_failed b ≡ stops_reader why
+    → ExplainsRead bytes_of a b false why → records_left b ≡ []
+failed-none a b (kind.Io e) flexible fails why =
+    ap (λ stopped. records_by (reader_state b) (cond stopped None (unread_of bytes_of b))) fails
+failed-none a b kind.OutOfMemory flexible fails why =
+    ap (λ stopped. records_by (reader_state b) (cond stopped None (unread_of bytes_of b))) fails
 failed-none a b (kind.UnequalLengths pos expected len) flexible fails why = let strict = why.0 in cc
 failed-none a b (kind.Utf8 pos err) flexible fails why = let text = why.0 in cc
 failed-none a b (kind.Serialize text) flexible fails why = absurd why
 failed-none a b (kind.Deserialize pos err) flexible fails why = absurd why
 
-pub records_left-failed : {D : Type 0} (a b : Reader (Bor (List ℕ))) (told : Result Bool Error) (answer : Result Bool D) → IsOpen a → is_flexible a ≡ true
-    → IfErr told (λ e. has_failed b ≡ stops_reader (error_kind e)) → IfErr told (λ e. Ready a → ExplainsRead bytes_of a b false (error_kind e)) → is_ok answer ≡ is_ok told
+pub records_left-failed : {D : Type 0} (a b : Reader (Bor (List ℕ))) (told : Result Bool Error) (answer : Result Bool D) → IsOpen a
+    → is_flexible a ≡ true
+    → IfErr told (λ e. has_failed b ≡ stops_reader (error_kind e))
+    → IfErr told (λ e. Ready a → ExplainsRead bytes_of a b false (error_kind e)) → is_ok answer ≡ is_ok told
     → OnErr answer (records_left b ≡ [])
 records_left-failed a b (Ok found) (Ok x) open' flexible fails why variant = tt
 records_left-failed a b (Err e) (Ok x) open' flexible fails why variant = tt

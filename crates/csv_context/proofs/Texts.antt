@@ -2,7 +2,8 @@
 -- below 128 is one byte, and one step. The bytes of any other are at least 128, so no mark of the format: they only join the field at
 -- hand, and the field has the whole character in the end.
 use Rattle.std.specs.Prelude.{◌<◌, ◌≤◌, ◌&&◌}
-use Rattle.std.proofs.Common.{◌≡◌, ◌==◌, ◌++◌, ◌∷◌, ◌∙◌, [], ℕ, List, Bool, Some, None, refl, sym, subst, true, false, append_assoc, inl, inr, arith, Option}
+use Rattle.std.proofs.Common.{◌≡◌, ◌==◌, ◌++◌, ◌∷◌, ◌∙◌, [], ℕ, List, Bool, Some, None, refl, sym, subst, true, false, append_assoc, inl}
+use Rattle.std.proofs.Common.{inr, arith, Option}
 use Rattle.std.proofs.lemmas.List.{append-nil}
 use Rattle.std.proofs.lemmas.Bool.{cases_Bool, eqb-true, ne_eqb, le-ltb}
 use Rattle.std.proofs.lemmas.Str.{IsUtf8-append, IsUtf8-nil, IsUtf8-encode, IsUtf8-past_char, encode_ascii}
@@ -20,7 +21,7 @@ use Rattle.csv.specs.declared.parser.State.TheVariants as st
 use Rattle.csv.specs.declared.parser.Action.{Action}
 use Rattle.csv.specs.declared.parser.Action.TheVariants as act
 
--- where a byte past ASCII leads, from each state
+-- the state after a byte past ASCII, from each state
 abbrev pub past : State → State
 past st.StartRecord = st.InField
 past st.StartField = st.InField
@@ -45,11 +46,31 @@ pub not-mark : (b m : ℕ) → 128 ≤ b → m < 128 → (b == m) ≡ false
 not-mark b m h l = ne_eqb b m (λ e. absurd (omega arith))
 
 pub high-step : (s : State) (b : ℕ) → 128 ≤ b → step default_config s b ≡ (past s, what s)
-high-step st.StartRecord b h = rw (not-mark b 13 h (omega arith), not-mark b 10 h (omega arith), not-mark b 34 h (omega arith), not-mark b 44 h (omega arith)) refl
-high-step st.StartField b h = rw (not-mark b 34 h (omega arith), not-mark b 44 h (omega arith), not-mark b 13 h (omega arith), not-mark b 10 h (omega arith)) refl
+high-step st.StartRecord b h = rw (
+  not-mark b 13 h (omega arith),
+  not-mark b 10 h (omega arith),
+  not-mark b 34 h (omega arith),
+  not-mark b 44 h (omega arith),
+) refl
+high-step st.StartField b h = rw (
+  not-mark b 34 h (omega arith),
+  not-mark b 44 h (omega arith),
+  not-mark b 13 h (omega arith),
+  not-mark b 10 h (omega arith),
+) refl
 high-step st.InField b h = rw (not-mark b 44 h (omega arith), not-mark b 13 h (omega arith), not-mark b 10 h (omega arith)) refl
-high-step st.AfterQuote b h = rw (not-mark b 34 h (omega arith), not-mark b 44 h (omega arith), not-mark b 13 h (omega arith), not-mark b 10 h (omega arith)) refl
-high-step st.AfterCr b h = rw (not-mark b 10 h (omega arith), not-mark b 13 h (omega arith), not-mark b 34 h (omega arith), not-mark b 44 h (omega arith)) refl
+high-step st.AfterQuote b h = rw (
+  not-mark b 34 h (omega arith),
+  not-mark b 44 h (omega arith),
+  not-mark b 13 h (omega arith),
+  not-mark b 10 h (omega arith),
+) refl
+high-step st.AfterCr b h = rw (
+  not-mark b 10 h (omega arith),
+  not-mark b 13 h (omega arith),
+  not-mark b 34 h (omega arith),
+  not-mark b 44 h (omega arith),
+) refl
 high-step st.InQuoted b h = rw (not-mark b 34 h (omega arith)) refl
 high-step st.InEscape b h = refl
 high-step st.InComment b h = rw (not-mark b 10 h (omega arith)) refl
@@ -59,7 +80,8 @@ unfolding AllText
 AllText-snoc [] field a t = (t, tt)
 AllText-snoc (f ∷ fs) field a t = (a.0, AllText-snoc fs field a.1 t)
 
-pub fields-text : (a : Action) (fields : List (List ℕ)) (field : List ℕ) → AllText fields → IsUtf8 field → AllText (fields_after a fields field)
+pub fields-text : (a : Action) (fields : List (List ℕ)) (field : List ℕ) → AllText fields → IsUtf8 field
+    → AllText (fields_after a fields field)
 fields-text act.Skip fields field p t = p
 fields-text act.Copy fields field p t = p
 fields-text act.EndField fields field p t = AllText-snoc fields field p t
@@ -116,7 +138,8 @@ joined s field (b ∷ bs) = joined (past s) (field_after (what s) b field) bs
 high-run : (s : State) (fields : List (List ℕ)) (field hs rest : List ℕ) → High hs
     → next_record default_config s fields field (hs ++ rest) ≡ next_record default_config (run s hs) fields (joined s field hs) rest
 high-run s fields field [] rest h = refl
-high-run s fields field (b ∷ hs) rest h = one-high s fields field b (hs ++ rest) h.0 ∙ high-run (past s) fields (field_after (what s) b field) hs rest h.1
+high-run s fields field (b ∷ hs) rest h = one-high s fields field b (hs ++ rest) h.0
+    ∙ high-run (past s) fields (field_after (what s) b field) hs rest h.1
 
 in-field : (field hs : List ℕ) → joined st.InField field hs ≡ field ++ hs
 in-field field [] = sym (append-nil field)
@@ -150,7 +173,8 @@ by-size false false false a b c d e hb hc hd = hd
 pub encode-high : (c : ℕ) → 128 ≤ c → High (encode c)
 unfolding encode
 encode-high c h = by-size (ltb c 128) (ltb c 2048) (ltb c 65536) _ _ _ _ (le-ltb c 128 h)
-    (omega arith, (omega arith, tt)) (omega arith, (omega arith, (omega arith, tt))) (omega arith, (omega arith, (omega arith, (omega arith, tt))))
+    (omega arith, (omega arith, tt)) (omega arith, (omega arith, (omega arith, tt)))
+    (omega arith, (omega arith, (omega arith, (omega arith, tt))))
 
 both-true : (x y : Bool) → (x && y) ≡ true → (x ≡ true) × (y ≡ true)
 both-true true y e = (refl, e)
@@ -171,18 +195,21 @@ text-record (c ∷ cs) sc s fields field a t =
     let one : IsUtf8 (c ∷ []) = subst IsUtf8 (encode_ascii c low) (IsUtf8-encode c both.0) in
     rw (encode_ascii c low) (elim (cases_Bool (is_end (step default_config s c).1)) [
       | inl it ↦ rw it (fields-text (step default_config s c).1 fields field a t, (cs, (both.1, refl)))
-      | inr it ↦ rw it (text-record cs both.1 (step default_config s c).0 (fields_after (step default_config s c).1 fields field) (field_after (step default_config s c).1 c field)
+      | inr it ↦ rw it (text-record cs both.1 (step default_config s c).0 (fields_after (step default_config s c).1 fields field)
+          (field_after (step default_config s c).1 c field)
           (fields-text (step default_config s c).1 fields field a t) (field-text (step default_config s c).1 c field one t))
     ]))
     (λ high.
     let hs = encode-high c (omega arith) in
     rw (high-run s fields field (encode c) (encodes cs) hs)
-    (text-record cs both.1 (run s (encode c)) fields (joined s field (encode c)) a (joined-text s field (encode c) t (IsUtf8-encode c both.0))))
+    (text-record cs both.1 (run s (encode c)) fields (joined s field (encode c)) a
+    (joined-text s field (encode c) t (IsUtf8-encode c both.0))))
 
 -- a record of a text has texts as its fields, and what is left is a text
 pub next_record-text : (xs : List ℕ) → IsUtf8 xs → (s : State) → GivesText (next_record default_config s [] [] xs)
 unfolding AllText
-next_record-text xs t s = subst (λ (ys : List ℕ). GivesText (next_record default_config s [] [] ys)) t.1.1 (text-record t.0 t.1.0 s [] [] tt IsUtf8-nil)
+next_record-text xs t s = subst (λ (ys : List ℕ). GivesText (next_record default_config s [] [] ys)) t.1.1
+    (text-record t.0 t.1.0 s [] [] tt IsUtf8-nil)
 
 -- the bytes after a byte order mark are text
 pub no-mark-text : (xs : List ℕ) → IsUtf8 xs → IsUtf8 (strip_bom xs)
@@ -194,6 +221,7 @@ no-mark-text (a ∷ b ∷ c ∷ rest) t = elim (cases_Bool (is_bom a b c)) [
   | inl it ↦
       let one = both-true ((a == 239) && (b == 187)) (c == 191) it in
       let two = both-true (a == 239) (b == 187) one.0 in
-      rw it (IsUtf8-past_char (a ∷ b ∷ c ∷ rest) rest 65279 t (λ i. eqb-true a 239 two.0 i ∷ eqb-true b 187 two.1 i ∷ eqb-true c 191 one.1 i ∷ rest))
+      rw it (IsUtf8-past_char (a ∷ b ∷ c ∷ rest) rest 65279 t
+      (λ i. eqb-true a 239 two.0 i ∷ eqb-true b 187 two.1 i ∷ eqb-true c 191 one.1 i ∷ rest))
   | inr it ↦ rw it t
 ]

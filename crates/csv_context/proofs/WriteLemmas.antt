@@ -1,6 +1,7 @@
--- Records that are written one by one: what is still to be written of the table shrinks from the front, by one record each time. A row is written in blocks of
--- cells.
-use Rattle.std.proofs.Common.{◌≡◌, ◌∙◌, ◌<◌, ◌≤◌, ◌+◌, ◌==◌, ◌||◌, ◌++◌, ◌∷◌, [], ℕ, Bool, true, false, List, None, Some, codes, cond, drop, length, length-set, map, set, take, slice_get, refl, sym, ap, append_assoc, arith}
+-- Records that are written one by one. What is still to be written of the table shrinks from the front, by one record each time. A row is
+-- written in blocks of cells.
+use Rattle.std.proofs.Common.{◌≡◌, ◌∙◌, ◌<◌, ◌≤◌, ◌+◌, ◌==◌, ◌||◌, ◌++◌, ◌∷◌, [], ℕ, Bool, true, false, List, None, Some, codes, cond, drop}
+use Rattle.std.proofs.Common.{length, length-set, map, set, take, slice_get, refl, sym, ap, append_assoc, arith}
 use Rattle.std.proofs.lemmas.Bool.{ne_eqb}
 use Rattle.std.proofs.lemmas.List.{take-set, take_more_set}
 use Rattle.fca_model.specs.Names.{IsName, name_fault}
@@ -12,26 +13,31 @@ use Rattle.csv.specs.Writing.{default_writer, escaped, field_text, fields_text, 
 use Rattle.csv_context.specs.Records.{Record}
 use Rattle.csv_context.specs.Written.{cell_text, cells_text, object_record, object_records, text_of}
 
-pub EachName-more : (names : List Text) (i : ℕ) (name : Text) → Some name ≡ slice_get names i → IsName name → (EachName (drop i names) → EachName names)
+pub EachName-more : (names : List Text) (i : ℕ) (name : Text) → Some name ≡ slice_get names i → IsName name
+    → (EachName (drop i names) → EachName names)
     → EachName (drop (i + 1) names) → EachName names
 EachName-more names i name at is so_far rest = so_far (rw (drop-item names i name (sym at)) (is, rest))
 
 -- one object more
 pub objects-more : (names : List Text) (rows : List Set) (i : ℕ) (name : Text) (row : Set) (text more all : List ℕ)
     → Some name ≡ slice_get names i → slice_get rows i ≡ Some row → more ≡ text ++ row_text default_writer (object_record name row)
-    → text ++ text_of (object_records (drop i names) (drop i rows)) ≡ all → more ++ text_of (object_records (drop (i + 1) names) (drop (i + 1) rows)) ≡ all
+    → text ++ text_of (object_records (drop i names) (drop i rows)) ≡ all
+    → more ++ text_of (object_records (drop (i + 1) names) (drop (i + 1) rows)) ≡ all
 objects-more names rows i name row text more all named wide is so_far =
     let left = rw (drop-item names i name (sym named), drop-item rows i row wide) at so_far in
-    rw is (append_assoc text (row_text default_writer (object_record name row)) (text_of (object_records (drop (i + 1) names) (drop (i + 1) rows))) ∙ left)
+    rw is (append_assoc text (row_text default_writer (object_record name row))
+    (text_of (object_records (drop (i + 1) names) (drop (i + 1) rows))) ∙ left)
 
 -- ---- cells
 
-fields_text-append : (xs ys : Record) → fields_text default_writer (xs ++ ys) ≡ fields_text default_writer xs ++ fields_text default_writer ys
+fields_text-append : (xs ys : Record) → fields_text default_writer (xs ++ ys) ≡ fields_text default_writer xs
+    ++ fields_text default_writer ys
 unfolding fields_text
 fields_text-append [] ys = refl
 fields_text-append (x ∷ xs) ys =
     ap (λ (rest : List ℕ). 44 ∷ (field_text default_writer x ++ rest)) (fields_text-append xs ys)
-    ∙ ap (λ (rest : List ℕ). 44 ∷ rest) (sym (append_assoc (field_text default_writer x) (fields_text default_writer xs) (fields_text default_writer ys)))
+    ∙ ap (λ (rest : List ℕ). 44 ∷ rest) (sym (append_assoc (field_text default_writer x) (fields_text default_writer xs)
+    (fields_text default_writer ys)))
 
 map-append : (xs ys : Set) → map cell_text (xs ++ ys) ≡ map cell_text xs ++ map cell_text ys
 map-append [] ys = refl
@@ -46,13 +52,15 @@ unfolding fields_text
 cells_text-one true = refl
 cells_text-one false = refl
 
--- one cell more, in a list that has room: a comma and an X are put, and the X counts where the mark is one
+-- one cell more, in a list that has room: a comma and an X are put, and the X counts if the mark is a cross
 pub cells-more : (row : Set) (cells : List ℕ) (size : ℕ) (mark : Bool) → take size cells ≡ cells_text row → size + 1 < length cells
     → take (size + cond mark 2 1) (set (set cells size 44) (size + 1) 88) ≡ cells_text (row ++ mark ∷ [])
 cells-more row cells size mark so_far room =
-    let one : take (size + 1) (set cells size 44) ≡ cells_text row ++ 44 ∷ [] = take_more_set cells size 44 (omega arith) ∙ ap (λ (xs : List ℕ). xs ++ 44 ∷ []) so_far in
+    let one : take (size + 1) (set cells size 44) ≡ cells_text row ++ 44 ∷ [] = take_more_set cells size 44 (omega arith)
+    ∙ ap (λ (xs : List ℕ). xs ++ 44 ∷ []) so_far in
     let longer : length (set cells size 44) ≡ length cells = length-set cells size 44 in
-    let comma : take (size + 1) (set (set cells size 44) (size + 1) 88) ≡ cells_text row ++ 44 ∷ [] = take-set (set cells size 44) (size + 1) 88 ∙ one in
+    let comma : take (size + 1) (set (set cells size 44) (size + 1) 88) ≡ cells_text row ++ 44 ∷ [] =
+    take-set (set cells size 44) (size + 1) 88 ∙ one in
     let cross : take (size + 1 + 1) (set (set cells size 44) (size + 1) 88) ≡ (cells_text row ++ 44 ∷ []) ++ 88 ∷ [] =
     take_more_set (set cells size 44) (size + 1) 88 (omega arith) ∙ ap (λ (xs : List ℕ). xs ++ 88 ∷ []) one in
     by mark comma cross ∙ sym (cells_text-append row (mark ∷ []) ∙ ap (λ (xs : List ℕ). cells_text row ++ xs) (cells_text-one mark))
@@ -119,12 +127,14 @@ name-shows name is = field_text-some (needs_quotes default_writer name) name (es
     by [] fault = cc
     by (b ∷ bytes) fault = omega arith
 
--- the header, once all names are written
-pub header-text : (names : List Text) → row_text default_writer (codes "object" ∷ names) ≡ (codes "object" ++ fields_text default_writer names) ++ 10 ∷ []
+-- the header, after all names are written
+pub header-text : (names : List Text) → row_text default_writer (codes "object" ∷ names)
+    ≡ (codes "object" ++ fields_text default_writer names) ++ 10 ∷ []
 header-text names = row_text-filled (codes "object") names (omega arith)
 
 -- one name more of the header
-pub fields_text-cons : (field : Text) (fields : Record) → fields_text default_writer (field ∷ fields) ≡ 44 ∷ (field_text default_writer field ++ fields_text default_writer fields)
+pub fields_text-cons : (field : Text) (fields : Record)
+    → fields_text default_writer (field ∷ fields) ≡ 44 ∷ (field_text default_writer field ++ fields_text default_writer fields)
 unfolding fields_text
 fields_text-cons field fields = refl
 
@@ -132,13 +142,15 @@ fields_text-none : fields_text default_writer [] ≡ []
 unfolding fields_text
 fields_text-none = refl
 
-pub header-more : (names : List Text) (i : ℕ) (name bytes : Text) (text comma more all : List ℕ) → Some name ≡ slice_get names i → bytes ≡ name
+pub header-more : (names : List Text) (i : ℕ) (name bytes : Text) (text comma more all : List ℕ) → Some name ≡ slice_get names i
+    → bytes ≡ name
     → comma ≡ text ++ 44 ∷ [] → more ≡ comma ++ field_text default_writer bytes
     → text ++ fields_text default_writer (drop i names) ≡ all → more ++ fields_text default_writer (drop (i + 1) names) ≡ all
 header-more names i name bytes text comma more all at same put is so_far =
     let field = field_text default_writer name in
     let rest = fields_text default_writer (drop (i + 1) names) in
-    let first : more ≡ (text ++ 44 ∷ []) ++ field = is ∙ ap (λ (b : Text). comma ++ field_text default_writer b) same ∙ ap (λ (t : List ℕ). t ++ field) put in
+    let first : more ≡ (text ++ 44 ∷ []) ++ field = is ∙ ap (λ (b : Text). comma ++ field_text default_writer b) same
+    ∙ ap (λ (t : List ℕ). t ++ field) put in
     ap (λ (t : List ℕ). t ++ rest) first
     ∙ append_assoc (text ++ 44 ∷ []) field rest
     ∙ append_assoc text (44 ∷ []) (field ++ rest)
@@ -147,22 +159,26 @@ header-more names i name bytes text comma more all at same put is so_far =
     ∙ so_far
 
 pub header-done : (names : List Text) (i : ℕ) (old text last : List ℕ) → length names ≤ i
-    → text ++ fields_text default_writer (drop i names) ≡ (old ++ codes "object") ++ fields_text default_writer names → last ≡ text ++ 10 ∷ []
+    → text ++ fields_text default_writer (drop i names) ≡ (old ++ codes "object") ++ fields_text default_writer names
+    → last ≡ text ++ 10 ∷ []
     → last ≡ old ++ row_text default_writer (codes "object" ∷ names)
 header-done names i old text last done so_far ended =
     let rest = fields_text default_writer names in
     ended
-    ∙ ap (λ (t : List ℕ). t ++ 10 ∷ []) (written-all (fields_text default_writer) names i text ((old ++ codes "object") ++ rest) done fields_text-none so_far ∙ append_assoc old (codes "object") rest)
+    ∙ ap (λ (t : List ℕ). t ++ 10 ∷ []) (written-all (fields_text default_writer) names i text
+    ((old ++ codes "object") ++ rest) done fields_text-none so_far ∙ append_assoc old (codes "object") rest)
     ∙ append_assoc old (codes "object" ++ rest) (10 ∷ [])
     ∙ ap (λ (t : List ℕ). old ++ t) (sym (header-text names))
 
--- an object, once its name and its cells are written
-pub object-done : (name bytes : Text) (row : Set) (old named filled last : List ℕ) → IsName name → bytes ≡ name → named ≡ old ++ field_text default_writer bytes
+-- an object, after its name and its cells are written
+pub object-done : (name bytes : Text) (row : Set) (old named filled last : List ℕ) → IsName name → bytes ≡ name
+    → named ≡ old ++ field_text default_writer bytes
     → filled ≡ named ++ cells_text row → last ≡ filled ++ 10 ∷ [] → last ≡ old ++ row_text default_writer (object_record name row)
 object-done name bytes row old named filled last is same put cells ended =
     let field = field_text default_writer name in
     ended
     ∙ ap (λ (t : List ℕ). t ++ 10 ∷ [])
-    (cells ∙ ap (λ (t : List ℕ). t ++ cells_text row) (put ∙ ap (λ (b : Text). old ++ field_text default_writer b) same) ∙ append_assoc old field (cells_text row))
+    (cells ∙ ap (λ (t : List ℕ). t ++ cells_text row) (put ∙ ap (λ (b : Text). old ++ field_text default_writer b) same)
+    ∙ append_assoc old field (cells_text row))
     ∙ append_assoc old (field ++ cells_text row) (10 ∷ [])
     ∙ ap (λ (t : List ℕ). old ++ t) (sym (row_text-filled name (map cell_text row) (name-shows name is)))

@@ -56,13 +56,15 @@ unfolding AllText fields_text
 fields_text-text [] text = IsUtf8-nil
 fields_text-text (field ∷ fields) text =
     IsUtf8-cons 44 (field_text default_writer field ++ fields_text default_writer fields) (omega arith)
-    (IsUtf8-append (field_text default_writer field) (fields_text default_writer fields) (field_text-text field text.0) (fields_text-text fields text.1))
+    (IsUtf8-append (field_text default_writer field) (fields_text default_writer fields) (field_text-text field text.0)
+    (fields_text-text fields text.1))
 
 row_body-text : (fields : Record) → AllText fields → IsUtf8 (row_body default_writer fields)
 unfolding AllText
 row_body-text [] text = IsUtf8-nil
 row_body-text (field ∷ fields) text =
-    IsUtf8-append (field_text default_writer field) (fields_text default_writer fields) (field_text-text field text.0) (fields_text-text fields text.1)
+    IsUtf8-append (field_text default_writer field) (fields_text default_writer fields) (field_text-text field text.0)
+    (fields_text-text fields text.1)
 
 row_text-text : (fields : Record) → AllText fields → IsUtf8 (row_text default_writer fields)
 row_text-text fields text =

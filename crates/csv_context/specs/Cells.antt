@@ -1,4 +1,4 @@
--- Cells behind the name of an object: one that is taken off the front, and a row that is read up to a place.
+-- The cells of an object: one that is taken off the front, and a row that is read up to a place.
 use Rattle.std.specs.Prelude.{◌≡◌, ℕ, ◌+◌, ◌-◌, ◌==◌, ◌||◌, Bool, false, [], ◌∷◌, ◌++◌, Some, drop, length, replicate}
 use Rattle.fca_model.specs.Sets.{Set}
 use Rattle.fca_model.specs.Tables.{Text}

@@ -2,7 +2,8 @@
 -- record 2 and field 3, `bad cell`.
 use Rattle.fca_model.specs.Tables.{Text}
 use Rattle.fca_model.specs.declared.TheConstants.{NO_MEMORY}
-use Rattle.text_pieces.specs.declared.faults.TheConstants.{NOT_UTF8, EMPTY_NAME, LONG_NAME, BAD_NAME, DUPLICATE_ATTRIBUTE, NO_HEADER, RAGGED, TOO_MANY_ATTRIBUTES}
+use Rattle.text_pieces.specs.declared.faults.TheConstants.{NOT_UTF8, EMPTY_NAME, LONG_NAME, BAD_NAME, DUPLICATE_ATTRIBUTE, NO_HEADER}
+use Rattle.text_pieces.specs.declared.faults.TheConstants.{RAGGED, TOO_MANY_ATTRIBUTES}
 use Rattle.text_pieces.specs.declared.faults.Place.{Place}
 use Rattle.text_pieces.specs.declared.faults.Place.TheVariants.{Whole, Byte, Record, Field}
 use Rattle.csv_context.specs.declared.TheConstants.{BAD_CELL, TOO_MANY_OBJECTS}

@@ -1,5 +1,6 @@
 -- The CSV form of a table: what its records say, or the first fault. Records and fields are numbered from 1.
-use Rattle.std.specs.Prelude.{◌≡◌, ◌⊎◌, MatchResult, ℕ, ◌+◌, ◌==◌, ◌||◌, nat_lt, Bool, true, false, cond, List, [], ◌∷◌, ◌++◌, Option, Some, None, Result, Ok, Err, length, bytes_eq}
+use Rattle.std.specs.Prelude.{◌≡◌, ◌⊎◌, MatchResult, ℕ, ◌+◌, ◌==◌, ◌||◌, nat_lt, Bool, true, false, cond, List, [], ◌∷◌, ◌++◌, Option, Some}
+use Rattle.std.specs.Prelude.{None, Result, Ok, Err, length, bytes_eq}
 use Rattle.std.specs.List.{list_any}
 use Rattle.std.specs.Str.Lossy.{utf8_valid_len}
 use Rattle.fca_model.specs.Sets.{Set}
@@ -14,11 +15,11 @@ use Rattle.csv_context.specs.declared.read.Object.{Object}
 use Rattle.csv_context.specs.declared.CsvFault.{CsvFault}
 use Rattle.csv_context.specs.declared.CsvFault.TheVariants as fault
 
--- the code says what the form says, seen in this way, unless memory was refused
+-- the answer of the code is what the form says, seen in this way, unless memory ran out
 abbrev pub TellsBy : {X Y : Type 0} → (X → Y) → Result X CsvFault → Result Y CsvFault → Type 0
 TellsBy view told form = MatchResult told (λ x. form ≡ Ok (view x)) (λ e. (e ≡ fault.Memory) ⊎ (form ≡ Err e))
 
--- the code says what the form says, unless memory was refused
+-- the answer of the code is what the form says, unless memory ran out
 abbrev pub Tells : {X : Type 0} → Result X CsvFault → Result X CsvFault → Type 0
 Tells told form = TellsBy (λ x. x) told form
 
@@ -48,7 +49,7 @@ new_name seen j (Err e) = Err e
 abbrev pub attribute_form : List Text → ℕ → Text → Result Text CsvFault
 attribute_form seen j field = new_name seen j (name_form 1 j field)
 
--- the names seen so far, and those in the fields from field j on
+-- the names seen so far, followed by those in the fields from field j on
 abbrev pub attributes_form : List Text → ℕ → List Text → Result (List Text) CsvFault
 attributes_form seen j [] = Ok seen
 attributes_form seen j (field ∷ fields) = then (attribute_form seen j field) (λ name. attributes_form (seen ++ name ∷ []) (j + 1) fields)
@@ -74,7 +75,7 @@ cell_by i j (Some mark) = Ok mark
 abbrev pub cell_form : ℕ → ℕ → Text → Result Bool CsvFault
 cell_form i j field = cell_by i j (mark_of (trim field))
 
--- the marks so far, and those in the fields of record i from field j on
+-- the marks so far, followed by those in the fields of record i from field j on
 abbrev pub row_form : ℕ → ℕ → Set → List Text → Result Set CsvFault
 row_form i j row [] = Ok row
 row_form i j row (field ∷ fields) = then (cell_form i j field) (λ mark. row_form i (j + 1) (row ++ mark ∷ []) fields)
@@ -93,11 +94,12 @@ object_form width i fields =
     (Err fault.TooManyObjects)
     (cond (length fields == width + 1) (entry_form i fields) (Err (fault.RaggedRecord i)))
 
--- the names and the rows so far, and those of the records from record i on
+-- the names and the rows so far, followed by those of the records from record i on
 abbrev pub objects_form : ℕ → ℕ → List Text × List Set → List Record → Result (List Text × List Set) CsvFault
 objects_form width i objects [] = Ok objects
 objects_form width i objects (fields ∷ records) =
-    then (object_form width i fields) (λ object. objects_form width (i + 1) (objects.0 ++ object.name ∷ [], objects.1 ++ object.row ∷ []) records)
+    then (object_form width i fields) (λ object. objects_form width (i + 1)
+    (objects.0 ++ object.name ∷ [], objects.1 ++ object.row ∷ []) records)
 
 -- ---- the table
 
@@ -107,7 +109,12 @@ table_form [] = Err fault.NoHeader
 table_form (fields ∷ records) =
     then (header_form fields) (λ attributes.
     then (objects_form (length attributes) 2 ([], []) records) (λ objects.
-    Ok (record { title = None; objects = objects.0; attributes = attributes; context = record { width = length attributes; rows = objects.1 } })))
+    Ok (record {
+      title = None;
+      objects = objects.0;
+      attributes = attributes;
+      context = record { width = length attributes; rows = objects.1 };
+    })))
 
 -- the table that the bytes of a file write, or the first fault: bytes that are not UTF-8, then the first record at fault
 unfoldable pub csv_form : List ℕ → Result NamedContext CsvFault

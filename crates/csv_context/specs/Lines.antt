@@ -1,5 +1,5 @@
--- Records without quotes. Each is a line, and its fields are the pieces between commas; an empty line is no record. A carriage return ends a line, and so does a
--- line feed.
+-- Records without quotes. Each is a line, and its fields are the pieces between commas. An empty line is no record. A carriage return ends
+-- a line, and so does a line feed.
 use Rattle.std.specs.Prelude.{◌≡◌, ◌<◌, ℕ, ◌==◌, Bool, false, cond, List, [], ◌∷◌, ◌++◌, Option, Some, None, length, IsUtf8}
 use Rattle.std.proofs.Common.{Bor}
 use Rattle.std.specs.List.{list_any}
@@ -18,14 +18,14 @@ abbrev pub is_quote : ℕ → Bool
 is_quote b = b == 34
 
 -- the pieces with a byte in front of the first
-abbrev pub joined : ℕ → List Text → List Text
-joined b [] = (b ∷ []) ∷ []
-joined b (piece ∷ pieces) = (b ∷ piece) ∷ pieces
+abbrev pub add_byte : ℕ → List Text → List Text
+add_byte b [] = (b ∷ []) ∷ []
+add_byte b (piece ∷ pieces) = (b ∷ piece) ∷ pieces
 
 -- the pieces of a line between its commas
 abbrev pub fields_in : Text → Record
 fields_in [] = [] ∷ []
-fields_in (b ∷ line) = cond (is_comma b) ([] ∷ fields_in line) (joined b (fields_in line))
+fields_in (b ∷ line) = cond (is_comma b) ([] ∷ fields_in line) (add_byte b (fields_in line))
 
 -- the fields behind a comma, if there is one
 abbrev pub fields_behind : Option (Bor (List ℕ)) → Record
@@ -42,7 +42,7 @@ pub record IsUnquoted (bytes : List ℕ) : Type 0 where
   pub text : IsUtf8 bytes
   pub plain : list_any is_quote bytes ≡ false
 
--- the records of bytes before which no byte order mark is looked for
+-- the records of bytes that begin with no byte order mark
 abbrev pub records_in : List ℕ → List Record
 records_in bytes = records default_config bytes
 

@@ -19,9 +19,9 @@ csv_records bytes = records default_config (strip_bom bytes)
 
 -- ---- a reader over the bytes of a text
 
--- the bytes that a reader has left, where it has not failed
-abbrev pub unread : Reader (Bor (List ℕ)) → Option (List ℕ)
-unread reader = source_of (λ (bytes : Bor (List ℕ)). Some bytes.now) reader
+-- the bytes that a reader has left, unless it has failed
+abbrev pub unread_bytes : Reader (Bor (List ℕ)) → Option (List ℕ)
+unread_bytes reader = source_of (λ (bytes : Bor (List ℕ)). Some bytes.now) reader
 
 abbrev pub records_by : State → Option (List ℕ) → List Record
 records_by state None = []
@@ -29,7 +29,7 @@ records_by state (Some bytes) = records_from default_config (length bytes + 1) s
 
 -- the records that a reader has left
 abbrev pub records_left : Reader (Bor (List ℕ)) → List Record
-records_left reader = records_by (reader_state reader) (unread reader)
+records_left reader = records_by (reader_state reader) (unread_bytes reader)
 
 abbrev pub IsText : Option (List ℕ) → Type 0
 IsText None = ⊥
@@ -41,9 +41,9 @@ pub record IsOpen (reader : Reader (Bor (List ℕ))) : Type 0 where
   pub ready : Ready reader
   pub settings : reader_config reader ≡ default_config
   pub between : ends_at_end (reader_state reader) ≡ false
-  pub text : IsText (unread reader)
+  pub text : IsText (unread_bytes reader)
 
--- a read took the first of the records left, whose fields are text, or found that none is left
+-- a read took the first of the records that were left, whose fields are text, or found that none was left
 abbrev pub Reads : Reader (Bor (List ℕ)) → Reader (Bor (List ℕ)) → Bool → Record → Type 0
 Reads old new true fields = IsOpen new × AllText fields × (records_left old ≡ fields ∷ records_left new)
 Reads old new false fields = records_left old ≡ []

@@ -21,7 +21,7 @@ header_record t = codes "object" ∷ t.attributes
 abbrev pub object_record : Text → Set → Record
 object_record name row = name ∷ map cell_text row
 
--- the records of objects, as many as there are names and rows
+-- the records of objects, one for each name and row
 abbrev pub object_records : List Text → List Set → List Record
 object_records [] rows = []
 object_records (name ∷ names) [] = []
@@ -31,7 +31,7 @@ object_records (name ∷ names) (row ∷ rows) = object_record name row ∷ obje
 abbrev pub table_records : NamedContext → List Record
 table_records t = header_record t ∷ object_records t.objects t.context.rows
 
--- the bytes of records, with quotes where a field needs them, each record ended by a line feed
+-- the bytes of records: a field has quotes if it needs them, and a line feed ends each record
 abbrev pub text_of : List Record → List ℕ
 text_of [] = []
 text_of (fields ∷ records) = row_text default_writer fields ++ text_of records

@@ -1,4 +1,4 @@
-//! Cells of at most one byte, as nearly all are: no branch depends on what one of them says.
+//! Cells of at most one byte, as nearly all are. No branch depends on what one of them says.
 
 ghost use Rattle.std.specs.Prelude.{◌≡◌, ◌<◌, ◌≤◌, ◌+◌, ℕ, IsTrue, true, drop, if◌then◌else◌, length, slice_set};
 ghost use Rattle.csv_context.specs.Lines.{fields_in};
@@ -8,15 +8,15 @@ ghost use Rattle.csv_context.specs.Cells.{ReadTo, TakesCell};
 use attr_bits::Attrs;
 use fca_model::MAX_ATTRIBUTES;
 
-/// A row into which the cells before a place are read, and the cells from there on.
+/// A row that has the cells before a place, and the cells from there on.
 #[derive(Drop)]
-pub struct Begun<'a> {
+pub struct RowStart<'a> {
     pub row: Attrs,
     pub place: u32,
     pub left: &'a [u8],
 }
 
-/// What the first two bytes say of the first cell, if it is short, and the bytes behind its comma.
+/// The first cell, as its first two bytes show it, and the bytes behind its comma.
 #[derive(Drop)]
 struct FirstCell<'a> {
     is_short: bool,
@@ -25,7 +25,7 @@ struct FirstCell<'a> {
 }
 
 /// Reads cells as long as each has at most one byte and bytes are behind it.
-pub fn begin_row(width: u32, cells: &[u8]) -> Begun<'_>
+pub fn begin_row(width: u32, cells: &[u8]) -> RowStart<'_>
     requires { width ≤ MAX_ATTRIBUTES }
     ensures read { (i : ℕ) → ReadTo i width (fields_in cells.now) result.row result.place }
     ensures left { drop result.place (fields_in cells.now) ≡ fields_in result.left.now }
@@ -44,10 +44,10 @@ pub fn begin_row(width: u32, cells: &[u8]) -> Begun<'_>
         left = cell.behind;
         place += 1;
     }
-    Begun { row, place, left }
+    RowStart { row, place, left }
 }
 
-/// Adds the attribute at this place where the cell is a cross.
+/// Adds the attribute at this place if the cell is a cross.
 pub fn put_mark(row: &mut Attrs, place: u32, cross: bool)
     requires { place < length row.old }
     ensures { row.new ≡ (if cross then slice_set row.old place true else row.old) }

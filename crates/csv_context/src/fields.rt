@@ -1,4 +1,4 @@
-//! What the fields of one record say.
+//! The fields of one record.
 
 ghost use Rattle.std.specs.Prelude.{◌≡◌, ◌<◌, ◌≤◌, ◌+◌, [], IfOk, IsUtf8, Some, drop, false, length, slice_get, bytes_eq};
 ghost use Rattle.std.specs.List.{list_any};
@@ -53,7 +53,7 @@ pub fn name_of(alloc: Global, i: usize, j: usize, field: &[u8]) -> Result<Name, 
     }
 }
 
-/// The name of an attribute in field `j` of record 1, which may be none of those seen.
+/// The name of an attribute in field `j` of record 1. It refuses one that was seen.
 pub fn attribute_of(
     alloc: Global,
     seen: &IndexSet<Name>,
@@ -71,7 +71,7 @@ pub fn attribute_of(
     Ok(name)
 }
 
-/// Whether the cell is a cross, or none where it is no cell.
+/// Whether the cell is a cross, or `None` if the text is no cell.
 fn mark_of(cell: &[u8]) -> Option<bool>
     ensures { result ≡ form.mark_of cell.now }
 {
@@ -94,7 +94,7 @@ pub fn cell_of(i: usize, j: usize, field: &[u8]) -> Result<bool, CsvFault>
 
 /// The row in the cells on the line of record `i`, those behind its first field.
 pub fn row_in(width: u32, i: usize, line: &[u8]) -> Result<Attrs, CsvFault>
-    requires narrow { width ≤ MAX_ATTRIBUTES }
+    requires few { width ≤ MAX_ATTRIBUTES }
     requires whole { length (fields_in line.now) ≡ width + 1 }
     ensures form { result ≡ form.row_form i 2 [] (drop 1 (fields_in line.now)) }
     ensures wide { IfOk result (λ row. length row ≡ width) }
@@ -108,15 +108,15 @@ pub fn row_in(width: u32, i: usize, line: &[u8]) -> Result<Attrs, CsvFault>
 
 /// The row in cells of record `i`.
 fn row_of_cells(width: u32, i: usize, cells: &[u8]) -> Result<Attrs, CsvFault>
-    requires narrow { width ≤ MAX_ATTRIBUTES }
+    requires few { width ≤ MAX_ATTRIBUTES }
     requires whole { length (fields_in cells.now) ≡ width }
     ensures form { result ≡ form.row_form i 2 [] (fields_in cells.now) }
     ensures wide { IfOk result (λ row. length row ≡ width) }
 {
-    let begun = begin_row(width, cells);
-    let mut row = begun.row;
-    let mut left = Some(begun.left);
-    for place in begun.place..width {
+    let start = begin_row(width, cells);
+    let mut row = start.row;
+    let mut left = Some(start.left);
+    for place in start.place..width {
         let Some(rest) = left else { unreachable!() };
         let (field, behind) = next_field(rest);
         let cross = cell_of(i, place as usize + 2, field)?;
@@ -128,7 +128,7 @@ fn row_of_cells(width: u32, i: usize, cells: &[u8]) -> Result<Attrs, CsvFault>
 
 /// The row in the cells of record `i`, those behind its first field.
 pub fn row_of(width: u32, i: usize, fields: &ByteRecord) -> Result<Attrs, CsvFault>
-    requires narrow { width ≤ MAX_ATTRIBUTES }
+    requires few { width ≤ MAX_ATTRIBUTES }
     requires whole { length (fields_of fields.now) ≡ width + 1 }
     ensures form { result ≡ form.row_form i 2 [] (drop 1 (fields_of fields.now)) }
     ensures wide { IfOk result (λ row. length row ≡ width) }

@@ -1,10 +1,11 @@
-//! The CSV form of tables: the reader and the writer of `.csv` files, and what reads records for other forms.
+//! The CSV form of tables: the reader and the writer of `.csv` files, and the reader of records for other forms.
 #![tactic(auto)]
 
 ghost use Rattle.std.specs.Prelude.{◌≡◌};
 
 mod cells;
 mod fields;
+pub mod laws;
 mod lines;
 mod read;
 mod records;
@@ -12,7 +13,7 @@ mod write;
 
 use fca_model::{Memory, NO_MEMORY};
 pub use fields::{field_at, text_of};
-pub use lines::{next_field, next_line, read_fields, unquoted};
+pub use lines::{next_field, next_line, read_fields, unquoted_bytes};
 pub use read::read_csv;
 pub use records::{next_record, open};
 use std::alloc::{AllocError, AllocFailed};

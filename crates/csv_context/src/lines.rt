@@ -1,4 +1,4 @@
-//! Records without quotes: each is a line, whose fields are parted by commas.
+//! Records without quotes: each is a line, and commas part its fields.
 
 ghost use Rattle.std.specs.Prelude.{◌≡◌, ◌+◌, ◌∷◌, [], IfSome, MatchOption, OnOk, length};
 ghost use Rattle.csv.specs.Reading.{is_bom, strip_bom};
@@ -11,8 +11,8 @@ use csv::ByteRecord;
 use fca_model::Memory;
 use memchr::{memchr, memchr2};
 
-/// The bytes of the text behind its byte order mark, where they have no quote.
-pub fn unquoted(text: &str) -> Option<&[u8]>
+/// The bytes of the text behind its byte order mark, if they have no quote.
+pub fn unquoted_bytes(text: &str) -> Option<&[u8]>
     ensures unquoted { IfSome result (λ bytes. IsUnquoted bytes.now) }
     ensures records { IfSome result (λ bytes. csv_records text.now ≡ records_in bytes.now) }
 {
@@ -77,7 +77,7 @@ fn is_line_break(byte: u8) -> bool
     byte == b'\n' || byte == b'\r'
 }
 
-/// How many commas a line has.
+/// The number of commas of a line.
 pub fn commas_in(line: &[u8]) -> usize
     ensures { result + 1 ≡ length (fields_in line.now) }
 {
@@ -106,7 +106,7 @@ pub fn next_field(line: &[u8]) -> (&[u8], Option<&[u8]>)
     long_field(line)
 }
 
-/// The same of a field of any length.
+/// The first field of a line, of any length, and the bytes behind its comma.
 fn long_field(line: &[u8]) -> (&[u8], Option<&[u8]>)
     ensures { fields_in line.now ≡ result.0.now ∷ fields_behind result.1 }
 {
@@ -116,7 +116,7 @@ fn long_field(line: &[u8]) -> (&[u8], Option<&[u8]>)
     }
 }
 
-/// Makes the fields of the line those of a record. After an `Err` it has the first of them.
+/// Reads the fields of the line into a record. After an `Err` the record has the first of them.
 pub fn read_fields(fields: &mut ByteRecord, line: &[u8]) -> Result<(), Memory>
     ensures whole { OnOk result (fields_of fields.new ≡ fields_in line.now) }
     ensures front { AreFirst (fields_of fields.new) (fields_in line.now) }

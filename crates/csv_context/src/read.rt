@@ -1,4 +1,4 @@
-//! The reader.
+//! The reader of tables.
 
 ghost use Rattle.std.specs.Prelude.{◌≡◌, ◌<◌, ◌≤◌, ◌+◌, [], IfOk, None, Ok, OnOk, drop, length, vec_len};
 ghost use Rattle.csv.specs.Records.{AllText, fields_of};
@@ -10,7 +10,7 @@ ghost use Rattle.csv_context.specs.Form.{Tells, TellsBy};
 
 use crate::CsvFault;
 use crate::fields::{attribute_of, field_at, name_of, row_in, row_of};
-use crate::lines::{commas_in, next_field, next_line, read_fields, unquoted};
+use crate::lines::{commas_in, next_field, next_line, read_fields, unquoted_bytes};
 use crate::records::{next_record, open};
 use attr_bits::Attrs;
 use context_table::{Table, TableFault};
@@ -34,7 +34,7 @@ pub struct Objects {
     rows: Rows,
 }
 
-/// The table that the bytes of a file write.
+/// Reads the table that the bytes of a file write.
 pub fn read_csv(alloc: Global, bytes: &[u8]) -> Result<Table, CsvFault>
     ensures { Tells result (form.csv_form bytes.now) }
 {
@@ -47,13 +47,13 @@ pub fn read_csv(alloc: Global, bytes: &[u8]) -> Result<Table, CsvFault>
 fn read_text(alloc: Global, text: &str) -> Result<Table, CsvFault>
     ensures { Tells result (form.table_form (csv_records text.now)) }
 {
-    match unquoted(text) {
+    match unquoted_bytes(text) {
         Some(bytes) => read_lines(alloc, bytes),
         None => read_records(alloc, text),
     }
 }
 
-/// The table whose records are lines.
+/// Reads the table whose records are lines.
 fn read_lines(alloc: Global, bytes: &[u8]) -> Result<Table, CsvFault>
     requires { IsUnquoted bytes.now }
     ensures { Tells result (form.table_form (records_in bytes.now)) }
@@ -75,7 +75,7 @@ fn read_records(alloc: Global, text: &str) -> Result<Table, CsvFault>
     read_left(alloc, &mut reader)
 }
 
-/// The table of the records that the reader has left.
+/// Reads the table of the records that the reader has left.
 fn read_left(alloc: Global, reader: &mut Reader<&[u8]>) -> Result<Table, CsvFault>
     requires { IsOpen reader.old }
     ensures { Tells result (form.table_form (records_left reader.old)) }
@@ -89,7 +89,7 @@ fn read_left(alloc: Global, reader: &mut Reader<&[u8]>) -> Result<Table, CsvFaul
     table_of(alloc, attributes, objects)
 }
 
-/// The table of these attributes and objects; it has no title.
+/// The table of these attributes and objects. It has no title.
 fn table_of(alloc: Global, attributes: Vec<Name>, objects: Objects) -> Result<Table, CsvFault>
     requires few_attributes { vec_len attributes ≤ MAX_ATTRIBUTES }
     requires differing { first_repeat attributes.items ≡ None }
@@ -105,7 +105,7 @@ fn table_of(alloc: Global, attributes: Vec<Name>, objects: Objects) -> Result<Ta
     }
 }
 
-/// The names of the attributes.
+/// Reads the names of the attributes.
 fn read_header(alloc: Global, fields: &ByteRecord) -> Result<Vec<Name>, CsvFault>
     requires { AllText (fields_of fields.now) }
     ensures form { TellsBy (λ names. names.items) result (form.header_form (fields_of fields.now)) }
@@ -122,7 +122,7 @@ fn read_header(alloc: Global, fields: &ByteRecord) -> Result<Vec<Name>, CsvFault
     Ok(names.into_iter().collect(alloc)?)
 }
 
-/// Attribute names in their order, looked up by hash.
+/// Reads attribute names in their order. They are looked up by hash.
 fn read_attributes(alloc: Global, fields: &ByteRecord) -> Result<IndexSet<Name>, CsvFault>
     requires text { AllText (fields_of fields.now) }
     requires some { 0 < length (fields_of fields.now) }
@@ -140,7 +140,7 @@ fn read_attributes(alloc: Global, fields: &ByteRecord) -> Result<IndexSet<Name>,
 
 fn read_objects(alloc: Global, width: u32, reader: &mut Reader<&[u8]>) -> Result<Objects, CsvFault>
     requires open { IsOpen reader.old }
-    requires narrow { width ≤ MAX_ATTRIBUTES }
+    requires few { width ≤ MAX_ATTRIBUTES }
     ensures form { TellsBy (λ objects. (objects.names.items, objects.rows.rows)) result (form.objects_form width 2 ([], []) (records_left reader.old)) }
     ensures few { IfOk result (λ objects. vec_len objects.names ≤ MAX_OBJECTS) }
     ensures counted { IfOk result (λ objects. vec_len objects.names ≡ length objects.rows.rows) }
@@ -157,10 +157,10 @@ fn read_objects(alloc: Global, width: u32, reader: &mut Reader<&[u8]>) -> Result
     Ok(Objects { names, rows })
 }
 
-/// The objects whose records are lines.
+/// Reads the objects whose records are lines.
 fn read_object_lines(alloc: Global, width: u32, bytes: &[u8]) -> Result<Objects, CsvFault>
     requires unquoted { IsUnquoted bytes.now }
-    requires narrow { width ≤ MAX_ATTRIBUTES }
+    requires few { width ≤ MAX_ATTRIBUTES }
     ensures form { TellsBy (λ objects. (objects.names.items, objects.rows.rows)) result (form.objects_form width 2 ([], []) (records_in bytes.now)) }
     ensures few { IfOk result (λ objects. vec_len objects.names ≤ MAX_OBJECTS) }
     ensures counted { IfOk result (λ objects. vec_len objects.names ≡ length objects.rows.rows) }
@@ -178,9 +178,9 @@ fn read_object_lines(alloc: Global, width: u32, bytes: &[u8]) -> Result<Objects,
     Ok(Objects { names, rows })
 }
 
-/// The object on the line of record `i`.
+/// Reads the object on the line of record `i`.
 fn read_line(alloc: Global, width: u32, i: usize, line: &[u8]) -> Result<Object, CsvFault>
-    requires narrow { width ≤ MAX_ATTRIBUTES }
+    requires few { width ≤ MAX_ATTRIBUTES }
     requires text { AllText (fields_in line.now) }
     ensures form { Tells result (form.object_form width i (fields_in line.now)) }
     ensures wide { IfOk result (λ object. length object.row ≡ width) }
@@ -198,9 +198,9 @@ fn read_line(alloc: Global, width: u32, i: usize, line: &[u8]) -> Result<Object,
     Ok(Object { name, row })
 }
 
-/// The object in record `i`.
+/// Reads the object in record `i`.
 fn read_object(alloc: Global, width: u32, i: usize, fields: &ByteRecord) -> Result<Object, CsvFault>
-    requires narrow { width ≤ MAX_ATTRIBUTES }
+    requires few { width ≤ MAX_ATTRIBUTES }
     requires text { AllText (fields_of fields.now) }
     ensures form { Tells result (form.object_form width i (fields_of fields.now)) }
     ensures wide { IfOk result (λ object. length object.row ≡ width) }

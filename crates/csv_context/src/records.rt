@@ -21,7 +21,7 @@ pub fn open<'a>(alloc: Global, text: &'a str) -> Reader<&'a [u8]>
         .from_reader(alloc, text.as_bytes())
 }
 
-/// Reads the next record, and says whether there was one. After an `Err` the reader has no record left, and nothing is said of
+/// Reads the next record, and returns whether there was one. After an `Err` the reader has no record left, and nothing is known of
 /// the fields.
 pub fn next_record(reader: &mut Reader<&[u8]>, fields: &mut ByteRecord) -> Result<bool, Memory>
     requires { IsOpen reader.old }

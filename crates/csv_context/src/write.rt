@@ -1,4 +1,4 @@
-//! The writer.
+//! The writer of tables.
 
 ghost use Rattle.std.specs.Prelude.{◌≡◌, ◌≤◌, ◌+◌, ◌-◌, ◌*◌, ◌++◌, ◌∷◌, [], IfOk, OnOk, Ok, drop, length, map, take};
 ghost use Rattle.fca_model.specs.Names.{IsName};
@@ -14,10 +14,10 @@ use context_table::Table;
 use fca_model::{Memory, Name};
 use std::alloc::Global;
 
-/// How many cells of a row are put at once.
+/// The number of cells of a row that are written at once.
 const BLOCK: u32 = 64;
 
-/// The written form of the table.
+/// Writes the table.
 pub fn write_csv(alloc: Global, table: &Table) -> Result<Vec<u8>, Memory>
     ensures written { IfOk result (λ text. text.items ≡ csv_text table.now) }
     ensures reads_back { IfOk result (λ text. csv_form text.items ≡ Ok (untitled_context table.now)) }
@@ -77,7 +77,8 @@ fn write_cells(text: &mut Vec<u8>, row: &Attrs) -> Result<(), Memory>
     Ok(())
 }
 
-/// The cells of the places from `from` to `end`, and how many bytes they are. An X is put behind each comma, and stays where it is a cross.
+/// The cells of the places from `from` to `end`, and their number of bytes. Each comma gets an X behind it, which the next cell overwrites
+/// unless it is a cross.
 fn cells_of(row: &Attrs, from: u32, end: u32) -> ([u8; 128], usize)
     requires order { from ≤ end }
     requires few { end ≤ from + BLOCK }
@@ -95,7 +96,7 @@ fn cells_of(row: &Attrs, from: u32, end: u32) -> ([u8; 128], usize)
     (cells, size)
 }
 
-/// Writes the field, between quotes where it needs them.
+/// Writes the field, between quotes if it needs them.
 fn write_field(text: &mut Vec<u8>, field: &[u8]) -> Result<(), Memory>
     ensures { OnOk result (text.new.items ≡ text.old.items ++ csv.field_text default_writer field.now) }
 {
@@ -135,7 +136,7 @@ fn needs_quotes(field: &[u8]) -> bool
     field.iter().any(|byte| is_special(*byte))
 }
 
-/// Whether a field with this byte stands between quotes.
+/// Whether a field with this byte needs quotes.
 fn is_special(byte: u8) -> bool
     ensures { result ≡ csv.needs_byte default_writer byte }
 {

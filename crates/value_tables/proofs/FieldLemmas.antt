@@ -10,7 +10,7 @@ use Rattle.fca_model.specs.declared.TheConstants.{MAX_NAME_BYTES}
 use Rattle.fca_model.specs.declared.names.NameFault.{NameFault}
 use Rattle.fca_model.specs.Tables.{Text}
 use Rattle.text_pieces.proofs.ItemLemmas.{drop-item}
-use Rattle.csv_context.specs.Lines.{fields_in, joined, is_comma}
+use Rattle.csv_context.specs.Lines.{fields_in, add_byte, is_comma}
 use Rattle.csv_context.specs.Records.{Record}
 use Rattle.csv_context.proofs.LineLemmas.{any_drop, any_take}
 use Rattle.value_tables.specs.Form.{bad_field, first_bad, is_field, is_name}
@@ -134,7 +134,7 @@ AreParts-more : (n m : ℕ) (pieces : Record) → n ≤ m → AreParts n pieces 
 AreParts-more n m [] le parts = tt
 AreParts-more n m (piece ∷ pieces) le parts = (omega (arith, parts.0), parts.1, AreParts-more n m pieces le parts.2)
 
-AreParts-joined : (n b : ℕ) (pieces : Record) → is_line_break b ≡ false → AreParts n pieces → AreParts (suc n) (joined b pieces)
+AreParts-joined : (n b : ℕ) (pieces : Record) → is_line_break b ≡ false → AreParts n pieces → AreParts (suc n) (add_byte b pieces)
 AreParts-joined n b [] plain parts = (omega arith, rw plain refl, tt)
 AreParts-joined n b (piece ∷ pieces) plain parts = (omega (arith, parts.0), rw plain parts.1, AreParts-more n (suc n) pieces (omega arith) parts.2)
 

@@ -4,7 +4,7 @@ use Rattle.std.proofs.lemmas.Bool.{cases_Bool}
 use Rattle.std.proofs.lemmas.List.{drop-append-le, drop_all, length-take-le, take-append-drop, take-set, take-set-le, take-take, take_all, take_more_set}
 use Rattle.std.proofs.lemmas.List.Sums.{sum_by-append, sum_by-cons}
 use Rattle.fca_model.specs.Tables.{Text}
-use Rattle.csv_context.specs.Lines.{fields_in, joined, is_comma}
+use Rattle.csv_context.specs.Lines.{fields_in, add_byte, is_comma}
 use Rattle.csv_context.specs.Records.{Record}
 use Rattle.value_tables.specs.Cells.{cut}
 use Rattle.value_tables.proofs.CellLemmas.{cut_append}
@@ -26,12 +26,12 @@ extended-cons : (c : ℕ) (piece : Text) (pieces : Record) → 0 < length pieces
 extended-cons c piece [] some = absurd (omega arith)
 extended-cons c piece (next ∷ pieces) some = refl
 
-extended-joined : (c b : ℕ) (pieces : Record) → extended c (joined b pieces) ≡ joined b (extended c pieces)
+extended-joined : (c b : ℕ) (pieces : Record) → extended c (add_byte b pieces) ≡ add_byte b (extended c pieces)
 extended-joined c b [] = refl
 extended-joined c b (piece ∷ []) = refl
 extended-joined c b (piece ∷ next ∷ pieces) = refl
 
-joined-some : (b : ℕ) (pieces : Record) → 0 < length (joined b pieces)
+joined-some : (b : ℕ) (pieces : Record) → 0 < length (add_byte b pieces)
 joined-some b [] = omega arith
 joined-some b (piece ∷ pieces) = omega arith
 
@@ -42,7 +42,7 @@ fields_in-some (b ∷ line) = elim (cases_Bool (is_comma b)) [
   | inr isnt ↦ rw isnt (joined-some b (fields_in line))
 ]
 
-joined-append : (b : ℕ) (pieces more : Record) → 0 < length pieces → joined b (pieces ++ more) ≡ joined b pieces ++ more
+joined-append : (b : ℕ) (pieces more : Record) → 0 < length pieces → add_byte b (pieces ++ more) ≡ add_byte b pieces ++ more
 joined-append b [] more some = absurd (omega arith)
 joined-append b (piece ∷ pieces) more some = refl
 
@@ -50,14 +50,14 @@ fields_in-comma : (line : Text) (c : ℕ) → is_comma c ≡ true → fields_in 
 fields_in-comma [] c comma = rw comma refl
 fields_in-comma (b ∷ line) c comma = elim (cases_Bool (is_comma b)) [
   | inl is ↦ rw is (ap (λ (ps : Record). [] ∷ ps) (fields_in-comma line c comma))
-  | inr isnt ↦ rw isnt (ap (joined b) (fields_in-comma line c comma) ∙ joined-append b (fields_in line) ([] ∷ []) (fields_in-some line))
+  | inr isnt ↦ rw isnt (ap (add_byte b) (fields_in-comma line c comma) ∙ joined-append b (fields_in line) ([] ∷ []) (fields_in-some line))
 ]
 
 fields_in-other : (line : Text) (c : ℕ) → is_comma c ≡ false → fields_in (line ++ c ∷ []) ≡ extended c (fields_in line)
 fields_in-other [] c other = rw other refl
 fields_in-other (b ∷ line) c other = elim (cases_Bool (is_comma b)) [
   | inl is ↦ rw is (ap (λ (ps : Record). [] ∷ ps) (fields_in-other line c other) ∙ sym (extended-cons c [] (fields_in line) (fields_in-some line)))
-  | inr isnt ↦ rw isnt (ap (joined b) (fields_in-other line c other) ∙ sym (extended-joined c b (fields_in line)))
+  | inr isnt ↦ rw isnt (ap (add_byte b) (fields_in-other line c other) ∙ sym (extended-joined c b (fields_in line)))
 ]
 
 -- ---- the pieces so far

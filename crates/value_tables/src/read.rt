@@ -17,7 +17,7 @@ use crate::fields::{FieldKind, first_bad, has_line_break, name_at, named};
 use crate::pieces::pieces_of;
 use crate::values::Values;
 use csv::{ByteRecord, Reader};
-use csv_context::{field_at, next_line, next_record, open, read_fields, text_of, unquoted};
+use csv_context::{field_at, next_line, next_record, open, read_fields, text_of, unquoted_bytes};
 use fca_model::{MAX_ATTRIBUTES, MAX_NAME_BYTES, MAX_OBJECTS, Memory, Name};
 use indexmap::IndexSet;
 use std::alloc::Global;
@@ -42,7 +42,7 @@ pub fn read_values(alloc: Global, bytes: &[u8]) -> Result<Values, ValuesFault>
 fn read_text(alloc: Global, text: &str) -> Result<Values, ValuesFault>
     ensures { Tells ValuesFault.Memory result (form.table_form (csv_records text.now)) }
 {
-    match unquoted(text) {
+    match unquoted_bytes(text) {
         Some(bytes) => read_lines(alloc, bytes),
         None => read_records(alloc, text),
     }

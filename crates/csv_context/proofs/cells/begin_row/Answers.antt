@@ -13,7 +13,8 @@ loop-left-init c =
     record {
       wide = ap length c.empty-row.ensures ∙ length-replicate width false;
       within = omega arith;
-      read = λ i. subst (λ (row : Set). ReadTo i width (fields_in c.args.cells.now) row 0) (sym c.empty-row.ensures) (ReadTo-zero i width (fields_in c.args.cells.now));
+      read = λ i. subst (λ (row : Set). ReadTo i width (fields_in c.args.cells.now) row 0) (sym c.empty-row.ensures)
+          (ReadTo-zero i width (fields_in c.args.cells.now));
       left = refl;
     }
 
@@ -34,7 +35,8 @@ loop-left-preserved c =
       read = λ i.
           let says : cell_form i (loop.place + 2) takes.field ≡ Ok cell.result.is_cross = ap (cell_by i (loop.place + 2)) takes.says in
           subst (λ (row : Set). ReadTo i width cells row (loop.place + 1)) (sym c.put_mark.ensures)
-          (ReadTo-more i width cells loop.row loop.place takes.field found.0 (loop.invariant.read i) cell.result.is_cross c.if-place-width.true says);
+          (ReadTo-more i width cells loop.row loop.place takes.field found.0
+          (loop.invariant.read i) cell.result.is_cross c.if-place-width.true says);
       left = found.1;
     }
   where

@@ -6,4 +6,5 @@ pub returns : goal.returns
 returns c =
     let place : ℕ = c.args.place in
     let bits : ℕ = c.from.result * 2 ^ (place % 64) % 2 ^ 64 in
-    put-mark c.args.row.now c.insert_bits.new.self place (place - place % 64) bits c.args.cross c.requires refl (ap (λ x. x * 2 ^ (place % 64) % 2 ^ 64) c.from.ensures) c.insert_bits.ensures.width c.insert_bits.ensures.members
+    put-mark c.args.row.now c.insert_bits.new.self place (place - place % 64) bits c.args.cross c.requires refl
+    (ap (λ x. x * 2 ^ (place % 64) % 2 ^ 64) c.from.ensures) c.insert_bits.ensures.width c.insert_bits.ensures.members

@@ -18,10 +18,12 @@ loop-place-preserved c =
     let cells = fields_in c.args.cells.now in
     let next = c.next_field in
     let field = next.result.0.now in
-    let left : drop loop.place cells ≡ field ∷ fields_behind next.result.1 = loop.invariant.left ∙ ap fields_behind c.in-Some.is ∙ next.ensures in
+    let left : drop loop.place cells ≡ field ∷ fields_behind next.result.1 = loop.invariant.left ∙ ap fields_behind c.in-Some.is
+    ∙ next.ensures in
     let found = left-field cells loop.place field (fields_behind next.result.1) left in
     record {
       read = subst (λ (row : Set). ReadTo c.args.i c.args.width cells row (loop.place + 1)) (sym c.put_mark.ensures)
-          (ReadTo-more c.args.i c.args.width cells loop.row loop.place field found.0 loop.invariant.read c.in_ok-cross.cross c.loop-place-test.true (sym c.in_ok-cross.ensures));
+          (ReadTo-more c.args.i c.args.width cells loop.row loop.place field found.0 loop.invariant.read c.in_ok-cross.cross
+          c.loop-place-test.true (sym c.in_ok-cross.ensures));
       left = found.1;
     }

@@ -8,7 +8,8 @@ returns-then-is_empty c =
     next_line-end c.args.bytes.now c.without_ends-rest.result.now c.requires c.without_ends-rest.ensures (eqb-true _ 0 none)
 
 pub returns-in-Some : goal.returns-in-Some
-returns-in-Some c = next_line-Some c.args.bytes.now c.without_ends-rest.result.now c.in-Some.end c.requires c.without_ends-rest.ensures c.in-Some.ensures
+returns-in-Some c = next_line-Some c.args.bytes.now c.without_ends-rest.result.now c.in-Some.end c.requires c.without_ends-rest.ensures
+    c.in-Some.ensures
 
 pub returns-in-None : goal.returns-in-None
 returns-in-None c =

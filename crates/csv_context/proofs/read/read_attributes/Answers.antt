@@ -8,7 +8,8 @@ use Rattle.csv_context.proofs.FormLemmas.{TellsBy-passed, attributes_form-Ok, at
 use Rattle.csv_context.proofs.read.read_attributes.Goals as goal
 
 pub attribute_of-requires : goal.attribute_of-requires
-attribute_of-requires c = field-text (fields_of c.args.fields.now) c.loop-place.place c.field_at-field.result.now c.requires.text c.field_at-field.ensures
+attribute_of-requires c = field-text (fields_of c.args.fields.now) c.loop-place.place c.field_at-field.result.now c.requires.text
+    c.field_at-field.ensures
 
 pub returns-in_err-attribute_of-clause-form : goal.returns-in_err-attribute_of-clause-form
 returns-in_err-attribute_of-clause-form c =
@@ -17,7 +18,8 @@ returns-in_err-attribute_of-clause-form c =
     let fields = fields_of c.args.fields.now in
     let why : (e ≡ fault.Memory) ⊎ (attributes_form [] 2 (drop 1 fields) ≡ Err e) = elim c.in_err-attribute_of.ensures.form [
       | inl is ↦ inl is
-      | inr is ↦ inr (sym loop.invariant.2 ∙ attributes_form-Err loop.names.keys fields loop.place c.field_at-field.result.now c.field_at-field.ensures e is)
+      | inr is ↦ inr (sym loop.invariant.2 ∙ attributes_form-Err loop.names.keys fields loop.place c.field_at-field.result.now
+          c.field_at-field.ensures e is)
     ] in
     TellsBy-passed (λ names. names.keys) c.from_residual.result (attributes_form [] 2 (drop 1 fields)) e c.from_residual.ensures why
 
@@ -30,6 +32,7 @@ loop-place-preserved c =
       rw keys (ap (λ (n : ℕ). n + 1) (length_push loop.names.keys name ∙ loop.invariant.0)),
       rw keys (first_repeat-append loop.names.keys name loop.invariant.1 new),
       rw keys
-          (sym (attributes_form-Ok loop.names.keys (fields_of c.args.fields.now) loop.place c.field_at-field.result.now c.field_at-field.ensures name c.in_ok-attribute_of.ensures.form)
+          (sym (attributes_form-Ok loop.names.keys (fields_of c.args.fields.now) loop.place c.field_at-field.result.now
+          c.field_at-field.ensures name c.in_ok-attribute_of.ensures.form)
           ∙ loop.invariant.2),
     )

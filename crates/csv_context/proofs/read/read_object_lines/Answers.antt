@@ -17,9 +17,12 @@ loop-line-preserved c =
     record {
       unquoted = c.in-Some.ensures.unquoted;
       few = omega (arith, c.in_ok-object.ensures.within, c.len.ensures, count);
-      counted = count ∙ ap (λ (n : ℕ). n + 1) loop.invariant.counted ∙ sym (ap (λ (K : Context). length K.rows) rows ∙ length_push loop.rows.rows object.row);
+      counted = count ∙ ap (λ (n : ℕ). n + 1) loop.invariant.counted
+          ∙ sym (ap (λ (K : Context). length K.rows) rows ∙ length_push loop.rows.rows object.row);
       wide = ap (λ (K : Context). K.width) rows ∙ loop.invariant.wide;
-      says = objects_form-more c.args.width (vec_len loop.names) (vec_len c.push.new.self) loop.names.items c.push.new.self.items loop.rows.rows c.push-in-Some.new.self.rows
-          fields (records_in loop.left.now) (records_in c.in-Some.behind.now) object c.in-Some.ensures.first form count c.in_ok-push.ensures.items (ap (λ (K : Context). K.rows) rows)
+      says = objects_form-more c.args.width (vec_len loop.names)
+          (vec_len c.push.new.self) loop.names.items c.push.new.self.items loop.rows.rows c.push-in-Some.new.self.rows
+          fields (records_in loop.left.now) (records_in c.in-Some.behind.now) object c.in-Some.ensures.first form count
+          c.in_ok-push.ensures.items (ap (λ (K : Context). K.rows) rows)
           ∙ loop.invariant.says;
     }

@@ -10,7 +10,8 @@ invariant-loop-line l = record {
   few : vec_len l.names ≤ MAX_OBJECTS;
   counted : vec_len l.names ≡ length l.rows.rows;
   wide : l.rows.width ≡ l.width;
-  says : objects_form l.width (vec_len l.names + 2) (l.names.items, l.rows.rows) (records_in l.left) ≡ objects_form l.width 2 ([], []) (records_in l.fn.bytes);
+  says : objects_form l.width (vec_len l.names + 2) (l.names.items, l.rows.rows) (records_in l.left) ≡ objects_form l.width 2 ([], [])
+      (records_in l.fn.bytes);
 }
 
 abbrev pub decreases-loop-line : goal.decreases-loop-line

@@ -10,7 +10,8 @@ invariant-loop-record l = record {
   few : vec_len l.names ≤ MAX_OBJECTS;
   counted : vec_len l.names ≡ length l.rows.rows;
   wide : l.rows.width ≡ l.width;
-  says : objects_form l.width (vec_len l.names + 2) (l.names.items, l.rows.rows) (records_left l.reader) ≡ objects_form l.width 2 ([], []) (records_left l.fn.reader);
+  says : objects_form l.width (vec_len l.names + 2) (l.names.items, l.rows.rows) (records_left l.reader) ≡ objects_form l.width 2 ([], [])
+      (records_left l.fn.reader);
 }
 
 abbrev pub decreases-loop-record : goal.decreases-loop-record

@@ -1,4 +1,5 @@
-use Rattle.std.proofs.Common.{◌≡◌, ◌∙◌, ◌<◌, ◌≤◌, ◌+◌, ◌++◌, ◌∷◌, [], ℕ, Bool, false, List, cond, drop, get_or-drop, length, length-drop, length-set, set, take, sym, ap, refl, arith}
+use Rattle.std.proofs.Common.{◌≡◌, ◌∙◌, ◌<◌, ◌≤◌, ◌+◌, ◌++◌, ◌∷◌, [], ℕ, Bool, false, List, cond, drop, get_or-drop, length, length-drop}
+use Rattle.std.proofs.Common.{length-set, set, take, sym, ap, refl, arith}
 use Rattle.std.proofs.lemmas.List.{take_more}
 use Rattle.fca_model.specs.Sets.{Set}
 use Rattle.csv_context.specs.Written.{cells_text}
@@ -17,9 +18,11 @@ loop-j-preserved c =
     let part : Set = drop from row in
     let mark : Bool = c.has.result in
     let below : loop.j < length part = omega (arith, length-drop from row, c.requires.inside, c.loop-j-test.true) in
-    let room : loop.size + 1 < length loop.cells = omega (arith, loop.invariant.few, loop.invariant.room, c.requires.few, c.loop-j-test.true) in
+    let room : loop.size + 1 < length loop.cells =
+    omega (arith, loop.invariant.few, loop.invariant.room, c.requires.few, c.loop-j-test.true) in
     let next : take (loop.j + 1) part ≡ take loop.j part ++ mark ∷ [] =
-    take_more part loop.j false below ∙ ap (λ (m : Bool). take loop.j part ++ m ∷ []) (get_or-drop from row loop.j false ∙ sym c.has.ensures) in
+    take_more part loop.j false below ∙ ap (λ (m : Bool). take loop.j part ++ m ∷ [])
+    (get_or-drop from row loop.j false ∙ sym c.has.ensures) in
     let sized : c.if-has.size ≡ cond mark 2 1 = elim c.if-has.branch [
       | then-has w ↦ w.size-is ∙ ap (λ (m : Bool). cond m 2 1) (sym w.if-has.true)
       | else-has w ↦ w.size-is ∙ ap (λ (m : Bool). cond m 2 1) (sym w.if-has.false)

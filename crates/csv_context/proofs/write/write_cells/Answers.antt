@@ -21,9 +21,12 @@ loop-block-preserved c =
     let count : ℕ = c.min-end.result - from in
     let inside : from < length row = omega (arith, c.loop-block-test.true, c.width.ensures.width) in
     let start : min (length row) from ≡ from = omega arith in
-    let next : from + count ≡ min (length row) (64 * (c.loop-block.block + 1)) = omega (arith, c.min-end.ensures, c.width-in-loop-block.ensures.width) in
+    let next : from + count ≡ min (length row) (64 * (c.loop-block.block + 1)) =
+    omega (arith, c.min-end.ensures, c.width-in-loop-block.ensures.width) in
     c.in_ok-extend_from_slice.ensures.items
-    ∙ ap₂ (λ (xs ys : List ℕ). xs ++ ys) (c.loop-block.invariant ∙ ap (λ (k : ℕ). old ++ cells_text (take k row)) start) c.cells_of-size.ensures.cells
+    ∙ ap₂ (λ (xs ys : List ℕ). xs ++ ys) (c.loop-block.invariant
+    ∙ ap (λ (k : ℕ). old ++ cells_text (take k row)) start) c.cells_of-size.ensures.cells
     ∙ append_assoc old (cells_text (take from row)) (cells_text (take count (drop from row)))
     ∙ ap (λ (xs : List ℕ). old ++ xs)
-    (sym (cells_text-append (take from row) (take count (drop from row))) ∙ ap cells_text (sym (take-add from count row)) ∙ ap (λ (k : ℕ). cells_text (take k row)) next)
+    (sym (cells_text-append (take from row) (take count (drop from row))) ∙ ap cells_text (sym (take-add from count row))
+    ∙ ap (λ (k : ℕ). cells_text (take k row)) next)

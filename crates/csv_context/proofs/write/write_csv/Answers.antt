@@ -10,5 +10,6 @@ returns c =
     let header = c.in_ok-write_header.ensures in
     let objects = c.in_ok-write_objects.ensures in
     let first = header.written ∙ ap (λ (text : List ℕ). text ++ row_text default_writer (header_record t)) c.new-text.ensures.items in
-    let written : c.write_objects.new.text.items ≡ csv_text t = objects.written ∙ ap (λ (text : List ℕ). text ++ text_of (object_records t.objects t.context.rows)) first in
+    let written : c.write_objects.new.text.items ≡ csv_text t = objects.written
+    ∙ ap (λ (text : List ℕ). text ++ text_of (object_records t.objects t.context.rows)) first in
     record { written = written; reads_back = rw written (csv_form-csv_text t objects.table objects.named header.named) }

@@ -5,7 +5,11 @@ use Rattle.csv_context.proofs.WriteLemmas.{EachName-more, header-done, header-mo
 use Rattle.csv_context.proofs.write.write_header.Goals as goal
 
 pub loop-i-init : goal.loop-i-init
-loop-i-init c = record { written = ap (λ text. text ++ fields_text default_writer c.args.table.now.attributes) c.in_ok-extend_from_slice.ensures.items; named = λ named. named }
+loop-i-init c = record {
+  written = ap (λ text. text ++ fields_text default_writer c.args.table.now.attributes)
+      c.in_ok-extend_from_slice.ensures.items;
+  named = λ named. named;
+}
 
 pub loop-i-preserved : goal.loop-i-preserved
 loop-i-preserved c =
@@ -25,4 +29,5 @@ returns-clause-written c =
     let P : Context → Type 0 = λ K. c.width-i-end.result ≡ K.width in
     let width = subst P c.rows.ensures.rows c.width-i-end.ensures.width in
     let done : length names ≤ c.loop-i.i = omega (arith, width, c.rows.ensures.table.each_attribute, c.loop-i-test.false) in
-    header-done names c.loop-i.i c.args.text.now.items c.loop-i.text.items c.push-2.new.self.items done c.loop-i.invariant.written c.in_ok-push-2.ensures.items
+    header-done names c.loop-i.i c.args.text.now.items c.loop-i.text.items c.push-2.new.self.items done c.loop-i.invariant.written
+    c.in_ok-push-2.ensures.items

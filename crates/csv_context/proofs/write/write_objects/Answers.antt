@@ -14,6 +14,7 @@ loop-i-preserved c =
     let row = subst P c.rows-in-loop-i.ensures.rows c.get.ensures.row in
     record {
       written = objects-more t.objects t.context.rows loop.i name c.get.result loop.text.items c.write_object.new.text.items
-          (c.args.text.now.items ++ text_of (object_records t.objects t.context.rows)) c.object.ensures row wrote.written loop.invariant.written;
+          (c.args.text.now.items ++ text_of (object_records t.objects t.context.rows)) c.object.ensures row wrote.written
+          loop.invariant.written;
       named = EachName-more t.objects loop.i name c.object.ensures wrote.named loop.invariant.named;
     }

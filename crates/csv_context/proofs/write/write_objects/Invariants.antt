@@ -7,6 +7,7 @@ abbrev pub invariant-loop-i : goal.invariant-loop-i
 invariant-loop-i l =
     let t = l.table in
     record {
-      written : l.text.items ++ text_of (object_records (drop l.i t.objects) (drop l.i t.context.rows)) ≡ l.fn.text.items ++ text_of (object_records t.objects t.context.rows);
+      written : l.text.items ++ text_of (object_records (drop l.i t.objects) (drop l.i t.context.rows)) ≡ l.fn.text.items ++ text_of
+          (object_records t.objects t.context.rows);
       named : EachName (drop l.i t.objects) → EachName t.objects;
     }

@@ -24,5 +24,6 @@ returns c =
     let field : List ℕ = c.args.field.now in
     let old : List ℕ = c.args.text.now.items in
     c.in_ok-push-2.ensures.items
-    ∙ ap (λ (text : List ℕ). text ++ 34 ∷ []) (c.loop-byte.invariant ∙ ap (λ (bytes : List ℕ). old ++ 34 ∷ escaped default_writer bytes) (take_all c.loop-byte.byte-index field c.loop-byte-test.false))
+    ∙ ap (λ (text : List ℕ). text ++ 34 ∷ []) (c.loop-byte.invariant
+    ∙ ap (λ (bytes : List ℕ). old ++ 34 ∷ escaped default_writer bytes) (take_all c.loop-byte.byte-index field c.loop-byte-test.false))
     ∙ append_assoc old (34 ∷ escaped default_writer field) (34 ∷ [])
