@@ -16,7 +16,7 @@ use derivation::{Rows, RowsOf};
 pub use derivations::{Derivation, check, derive};
 use fca_model::{MAX_ATTRIBUTES, Memory};
 use implication_closure::{ImplicationList, ImplicationListOf};
-use lectic_basis::basis_watched;
+use lectic_basis::known_with_basis;
 use ordering::{close_in_list, premises_in_order};
 use reducing::reduce_list;
 use std::alloc::Global;
@@ -32,7 +32,7 @@ pub fn basis<R: Threads + Sync>(
     ensures least { IfOk result (λ list. IsLeastBasis rows.now list.members) }
 {
     let nothing = ImplicationList::new(alloc, rows.width())?;
-    basis_watched(alloc, rows, &nothing)
+    known_with_basis(alloc, rows, &nothing)
 }
 
 /// The same, in sets of the words that the rows have.

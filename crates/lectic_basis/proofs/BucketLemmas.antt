@@ -33,7 +33,8 @@ swap_fewer : {X : Type 0} (xs : List X) (k : ℕ) (x : X) → k < length xs → 
 swap_fewer {X = X} xs k x lt =
     let y : X = get_or xs (length xs - 1) x in
     let same : length (set xs k y) ≡ length xs = length-set xs k y in
-    let e : length (take (length xs - 1) (set xs k y)) ≡ length xs - 1 = length-take-le (length xs - 1) (set xs k y) (omega (arith, same)) in
+    let e : length (take (length xs - 1) (set xs k y)) ≡ length xs - 1 =
+    length-take-le (length xs - 1) (set xs k y) (omega (arith, same)) in
     omega (arith, e, lt)
 
 -- ---- one empty bucket more
@@ -59,18 +60,22 @@ module _ {V X : Type 0} (f : V → List X) where
   length_set : (vs : List V) (n : ℕ) (w : V) → length (map f (set vs n w)) ≡ length (map f vs)
   length_set vs n w = length-map (set vs n w) f ∙ length-set vs n w ∙ sym (length-map vs f)
 
-  pub put_is : (vs : List V) (w : ℕ) (v u : V) (i : X) → w < length vs → v ≡ get_or vs w v → f u ≡ f v ++ i ∷ [] → IsPut (map f vs) (map f (set vs w u)) w i
+  pub put_is : (vs : List V) (w : ℕ) (v u : V) (i : X) → w < length vs → v ≡ get_or vs w v → f u ≡ f v ++ i ∷ []
+      → IsPut (map f vs) (map f (set vs w u)) w i
   put_is vs w v u i lt at more = record {
     room = length_set vs w u;
     here = bucket_set_same vs w u lt ∙ more ∙ ap (λ is. is ++ i ∷ []) (bucket_is vs w v lt at);
     elsewhere = λ n other. bucket_set_other vs w n u other;
   }
 
-  pub emptied_more : (vs us : List V) (v : V) → us ≡ vs ++ v ∷ [] → f v ≡ [] → ((w : ℕ) → bucket w (map f vs) ≡ []) → (w : ℕ) → bucket w (map f us) ≡ []
-  emptied_more vs us v pushed none empty w = ap (λ (xs : List V). bucket w (map f xs)) pushed ∙ ap (bucket w) (map-append f vs (v ∷ [])) ∙ empty_more (map f vs) (f v) none empty w
+  pub emptied_more : (vs us : List V) (v : V) → us ≡ vs ++ v ∷ [] → f v ≡ [] → ((w : ℕ) → bucket w (map f vs) ≡ []) → (w : ℕ)
+      → bucket w (map f us) ≡ []
+  emptied_more vs us v pushed none empty w = ap (λ (xs : List V). bucket w (map f xs)) pushed ∙ ap (bucket w) (map-append f vs (v ∷ []))
+      ∙ empty_more (map f vs) (f v) none empty w
 
   pub still_is : (vs : List V) (z o : ℕ) (w v : V) → z < length vs → o ≢ z → v ≡ get_or (set vs o w) z v → f v ≡ bucket z (map f vs)
-  still_is vs z o w v lt other at = bucket_is (set vs o w) z v (omega (arith, lt, length-set vs o w)) at ∙ bucket_set_other vs o z w (λ e. other (sym e))
+  still_is vs z o w v lt other at = bucket_is (set vs o w) z v (omega (arith, lt, length-set vs o w)) at
+      ∙ bucket_set_other vs o z w (λ e. other (sym e))
 
   -- i was read, put last into bucket o, and then taken out of bucket z as r
   module _ (vs : List V) (z k o : ℕ) (u vo wo vz wz : V) (i r : X)
@@ -99,7 +104,8 @@ module _ {V X : Type 0} (f : V → List X) where
     moved_is = record {
       room = length_set (set vs o wo) z wz ∙ length_set vs o wo;
       out = λ p. swap_all p old k i there i_at ∙ ap (λ is. p i && list_all p is) (sym new_z);
-      into = bucket_set_other (set vs o wo) z o wz other ∙ bucket_set_same vs o wo o_inside ∙ wo_is ∙ ap (λ is. is ++ i ∷ []) (bucket_is vs o vo o_inside vo_is);
+      into = bucket_set_other (set vs o wo) z o wz other ∙ bucket_set_same vs o wo o_inside ∙ wo_is
+          ∙ ap (λ is. is ++ i ∷ []) (bucket_is vs o vo o_inside vo_is);
       elsewhere = λ w not_z not_o. bucket_set_other (set vs o wo) z w wz not_z ∙ bucket_set_other vs o w wo not_o;
       front = ap (take k) new_z ∙ swap_front old k i there;
       fewer = subst (λ is. length is < length old) (sym new_z) (swap_fewer old k i there);
@@ -111,7 +117,8 @@ module _ {X : Type 0} (p : X → Bool) {old new : List (List X)} where
   pub put_all : {w : ℕ} {i : X} → IsPut old new w i → p i ≡ true → InBuckets p old → InBuckets p new
   put_all {w = w} {i = i} put mine h v = elim (cases_eq v w) [
     | inl e ↦ subst (λ u. list_all p (bucket u new) ≡ true) (sym e)
-        (ap (list_all p) put.here ∙ list_all-append p (bucket w old) (i ∷ []) ∙ and_from (list_all p (bucket w old)) (p i && true) (h w) (and_from (p i) true mine refl))
+        (ap (list_all p) put.here ∙ list_all-append p (bucket w old) (i ∷ [])
+        ∙ and_from (list_all p (bucket w old)) (p i && true) (h w) (and_from (p i) true mine refl))
     | inr other ↦ ap (list_all p) (put.elsewhere v other) ∙ h v
   ]
 
@@ -122,7 +129,8 @@ module _ {X : Type 0} (p : X → Bool) {old new : List (List X)} where
         | inl e ↦ subst (λ u. list_all p (bucket u new) ≡ true) (sym e) parts.1
         | inr not_z ↦ elim (cases_eq v o) [
           | inl e ↦ subst (λ u. list_all p (bucket u new) ≡ true) (sym e)
-              (ap (list_all p) m.into ∙ list_all-append p (bucket o old) (i ∷ []) ∙ and_from (list_all p (bucket o old)) (p i && true) (h o) (and_from (p i) true parts.0 refl))
+              (ap (list_all p) m.into ∙ list_all-append p (bucket o old) (i ∷ [])
+              ∙ and_from (list_all p (bucket o old)) (p i && true) (h o) (and_from (p i) true parts.0 refl))
           | inr not_o ↦ ap (list_all p) (m.elsewhere v not_z not_o) ∙ h v
         ]
       ]
@@ -138,8 +146,10 @@ module _ {X Y : Type 0} (g : X → Y) where
   room_map : (old new : List (List X)) → length new ≡ length old → length (map (map g) new) ≡ length (map (map g) old)
   room_map old new e = length-map new (map g) ∙ e ∙ sym (length-map old (map g))
 
-  last_map : (old new : List (List X)) (w : ℕ) (i : X) → bucket w new ≡ bucket w old ++ i ∷ [] → bucket w (map (map g) new) ≡ bucket w (map (map g) old) ++ g i ∷ []
-  last_map old new w i e = bucket_map w new ∙ ap (map g) e ∙ map-append g (bucket w old) (i ∷ []) ∙ ap (λ xs. xs ++ g i ∷ []) (sym (bucket_map w old))
+  last_map : (old new : List (List X)) (w : ℕ) (i : X) → bucket w new ≡ bucket w old ++ i ∷ []
+      → bucket w (map (map g) new) ≡ bucket w (map (map g) old) ++ g i ∷ []
+  last_map old new w i e = bucket_map w new ∙ ap (map g) e ∙ map-append g (bucket w old) (i ∷ [])
+      ∙ ap (λ xs. xs ++ g i ∷ []) (sym (bucket_map w old))
 
   other_map : (old new : List (List X)) (w : ℕ) → bucket w new ≡ bucket w old → bucket w (map (map g) new) ≡ bucket w (map (map g) old)
   other_map old new w e = bucket_map w new ∙ ap (map g) e ∙ sym (bucket_map w old)
@@ -159,7 +169,9 @@ module _ {X Y : Type 0} (g : X → Y) where
           ∙ ap (λ b. p (g i) && b) (sym (ap (list_all p) (bucket_map z new) ∙ list_all-map p g (bucket z new)));
       into = last_map old new o i m.into;
       elsewhere = λ v not_z not_o. other_map old new v (m.elsewhere v not_z not_o);
-      front = ap (take k) (bucket_map z new) ∙ take-map g k (bucket z new) ∙ ap (map g) m.front ∙ sym (take-map g k (bucket z old)) ∙ ap (take k) (sym (bucket_map z old));
+      front = ap (take k) (bucket_map z new) ∙ take-map g k (bucket z new) ∙ ap (map g) m.front ∙ sym (take-map g k (bucket z old))
+          ∙ ap (take k) (sym (bucket_map z old));
       fewer = subst (λ Ys. length Ys < length (bucket z (map (map g) old))) (sym (bucket_map z new))
-          (subst (λ Ys. length (map g (bucket z new)) < length Ys) (sym (bucket_map z old)) (omega (arith, m.fewer, length-map (bucket z new) g, length-map (bucket z old) g)));
+          (subst (λ Ys. length (map g (bucket z new)) < length Ys) (sym (bucket_map z old))
+          (omega (arith, m.fewer, length-map (bucket z new) g, length-map (bucket z old) g)));
     }

@@ -14,7 +14,8 @@ use Rattle.lectic_basis.proofs.BucketLemmas.{bucket_map, bucket_is, put_is, put_
 module _ {X : Type 0} {Y : Type 0} (passes : X → Bool) (g h : X → Y) (agree : (x : X) → passes x ≡ true → g x ≡ h x) where
   same_map : (xs : List X) → list_all passes xs ≡ true → map g xs ≡ map h xs
   same_map [] t = refl
-  same_map (x ∷ xs) t = let parts = and_parts (passes x) (list_all passes xs) t in ap₂ (λ y ys. y ∷ ys) (agree x parts.0) (same_map xs parts.1)
+  same_map (x ∷ xs) t = let parts = and_parts (passes x) (list_all passes xs) t in
+      ap₂ (λ y ys. y ∷ ys) (agree x parts.0) (same_map xs parts.1)
 
   same_maps : (Es : List (List X)) → InBuckets passes Es → map (map g) Es ≡ map (map h) Es
   same_maps [] t = refl
@@ -23,30 +24,26 @@ module _ {X : Type 0} {Y : Type 0} (passes : X → Bool) (g h : X → Y) (agree 
 pub length_bucket_map : {X Y : Type 0} (g : X → Y) (w : ℕ) (Es : List (List X)) → length (bucket w (map (map g) Es)) ≡ length (bucket w Es)
 length_bucket_map g w Es = ap length (bucket_map g w Es) ∙ length-map (bucket w Es) g
 
-entry_below : (J : List Rule) (e : ℕ) → is_entry J e ≡ true → e < length J
-entry_below J e h = ltb-true e (length J) h
-
-pub entry_from : (J : List Rule) (e : ℕ) → e < length J → is_entry J e ≡ true
-entry_from J e lt = lt-ltb e (length J) lt
-
 -- ---- one entry
 
-module _ (J : List Rule) (Es : List (List ℕ)) (entries : HaveEntries J Es) (w k e : ℕ) (there : k < length (bucket w Es)) (is : e ≡ get_or (bucket w Es) k e) where
+module _ (J : List Rule) (Es : List (List ℕ)) (entries : HaveEntries J Es) (w k e : ℕ) (there : k < length (bucket w Es))
+    (is : e ≡ get_or (bucket w Es) k e) where
   pub entry_inside : e < length J
-  entry_inside = entry_below J e (ap (is_entry J) is ∙ AllPass-from_list_all (is_entry J) (bucket w Es) (entries w) k e there)
+  entry_inside = ltb-true e (length J) (ap (is_entry J) is ∙ AllPass-from_list_all (is_entry J) (bucket w Es) (entries w) k e there)
 
   pub entry_waits : waiting_at w k (map (map (member_at J)) Es) ≡ member_at J e
-  entry_waits = ap (λ B. member_at B k) (bucket_map (member_at J) w Es) ∙ get_or-map (member_at J) (bucket w Es) k e (rule [] []) there ∙ ap (member_at J) (sym is)
+  entry_waits = ap (λ B. member_at B k) (bucket_map (member_at J) w Es) ∙ get_or-map (member_at J) (bucket w Es) k e (rule [] []) there
+      ∙ ap (member_at J) (sym is)
 
 -- ---- a longer list
 
 module _ (J : List Rule) (i : Rule) (Es : List (List ℕ)) (entries : HaveEntries J Es) where
   still_at : (e : ℕ) → is_entry J e ≡ true → member_at (J ++ i ∷ []) e ≡ member_at J e
-  still_at e h = get_or_append_left J (i ∷ []) (rule [] []) e (entry_below J e h)
+  still_at e h = get_or_append_left J (i ∷ []) (rule [] []) e (ltb-true e (length J) h)
 
   pub longer_entries : HaveEntries (J ++ i ∷ []) Es
   longer_entries w = list_all-mono (is_entry J) (is_entry (J ++ i ∷ []))
-      (λ e h. entry_from (J ++ i ∷ []) e (omega (arith, entry_below J e h, length-append J (i ∷ []))))
+      (λ e h. lt-ltb e (length (J ++ i ∷ [])) (omega (arith, ltb-true e (length J) h, length-append J (i ∷ []))))
       (bucket w Es) (entries w)
 
   pub longer_view : map (map (member_at (J ++ i ∷ []))) Es ≡ map (map (member_at J)) Es
@@ -54,7 +51,8 @@ module _ (J : List Rule) (i : Rule) (Es : List (List ℕ)) (entries : HaveEntrie
 
 -- ---- as the code has it
 
-same_set : {V X : Type 0} (f : V → List X) (vs : List V) (n : ℕ) (v u : V) → n < length vs → v ≡ get_or vs n v → f u ≡ f v → map f (set vs n u) ≡ map f vs
+same_set : {V X : Type 0} (f : V → List X) (vs : List V) (n : ℕ) (v u : V) → n < length vs → v ≡ get_or vs n v → f u ≡ f v
+    → map f (set vs n u) ≡ map f vs
 same_set f vs n v u lt is same = map-set f vs n u ∙ ap (set (map f vs) n) (same ∙ bucket_is f vs n v lt is) ∙ set-get_or (map f vs) n []
 
 module _ {V : Type 0} (f : V → List ℕ) (L : RuleList) (vs : List V) (W : Watched) where
@@ -96,19 +94,26 @@ module _ {V : Type 0} (f : V → List ℕ) (L : RuleList) (vs : List V) (W : Wat
         pub stored_waits : waiting_at w k W.buckets ≡ member_at L.members e
         stored_waits = ap (waiting_at w k) buckets_is ∙ entry_waits L.members (map f vs) s.1 w k e stored_there e_is
 
-        pub stored_moved : {o : ℕ} {new : List (List ℕ)} → IsMoved (map f vs) new w k o e → IsMoved W.buckets (map (map (member_at L.members)) new) w k o (waiting_at w k W.buckets)
+        pub stored_moved : {o : ℕ} {new : List (List ℕ)} → IsMoved (map f vs) new w k o e
+            → IsMoved W.buckets (map (map (member_at L.members)) new) w k o (waiting_at w k W.buckets)
         stored_moved {o = o} {new = new} m =
             subst (λ Bs. IsMoved Bs (map (map (member_at L.members)) new) w k o (waiting_at w k W.buckets)) (sym buckets_is)
-            (subst (λ j. IsMoved (map (map (member_at L.members)) (map f vs)) (map (map (member_at L.members)) new) w k o j) (sym stored_waits) (moved_map (member_at L.members) m))
+            (subst (λ j. IsMoved (map (map (member_at L.members)) (map f vs)) (map (map (member_at L.members)) new) w k o j)
+            (sym stored_waits) (moved_map (member_at L.members) m))
 
-      pub stored_put : (e : ℕ) (u : V) → f u ≡ f v ++ e ∷ [] → IsPut W.buckets (map (map (member_at L.members)) (map f (set vs w u))) w (member_at W.list.members e)
+      pub stored_put : (e : ℕ) (u : V) → f u ≡ f v ++ e ∷ []
+          → IsPut W.buckets (map (map (member_at L.members)) (map f (set vs w u))) w (member_at W.list.members e)
       stored_put e u more =
           let new : List (List Rule) = map (map (member_at L.members)) (map f (set vs w u)) in
           subst (λ (M : RuleList). IsPut W.buckets new w (member_at M.members e)) (sym list_is)
-          (subst (λ Bs. IsPut Bs new w (member_at L.members e)) (sym buckets_is) (put_map (member_at L.members) (put_is f vs w v u e (omega (arith, inside, stored_room)) is more)))
+          (subst (λ Bs. IsPut Bs new w (member_at L.members e)) (sym buckets_is)
+          (put_map (member_at L.members) (put_is f vs w v u e (omega (arith, inside, stored_room)) is more)))
 
-      pub stored_put_entries : (e : ℕ) (u : V) → f u ≡ f v ++ e ∷ [] → e < length W.list.members → HaveEntries L.members (map f (set vs w u))
-      stored_put_entries e u more lt = put_all (is_entry L.members) (put_is f vs w v u e (omega (arith, inside, stored_room)) is more) (entry_from L.members e (stored_inside e lt)) s.1
+      pub stored_put_entries : (e : ℕ) (u : V) → f u ≡ f v ++ e ∷ [] → e < length W.list.members
+          → HaveEntries L.members (map f (set vs w u))
+      stored_put_entries e u more lt = put_all (is_entry L.members) (put_is f vs w v u e (omega (arith, inside, stored_room)) is more)
+          (lt-ltb e (length L.members) (stored_inside e lt)) s.1
 
       pub stored_same_entries : {u : V} → f u ≡ f v → HaveEntries L.members (map f (set vs w u))
-      stored_same_entries {u = u} same = subst (λ Es. HaveEntries L.members Es) (sym (same_set f vs w v u (omega (arith, inside, stored_room)) is same)) s.1
+      stored_same_entries {u = u} same = subst (λ Es. HaveEntries L.members Es)
+          (sym (same_set f vs w v u (omega (arith, inside, stored_room)) is same)) s.1

@@ -27,7 +27,8 @@ module _ (n : ℕ) (J : List Rule) (old new : List (List Rule)) (w : ℕ) (i : R
     room = put.room ∙ filed.room;
     sorted = λ v. elim (cases_eq v w) [
       | inl e ↦ subst (λ u. list_all (λ j. get_or j.premise u false) (bucket u new) ≡ true) (sym e)
-          (at_w (λ j. get_or j.premise w false) ∙ and_from (list_all (λ j. get_or j.premise w false) (bucket w old)) (get_or i.premise w false && true) (filed.sorted w) (and_from (get_or i.premise w false) true has refl))
+          (at_w (λ j. get_or j.premise w false) ∙ and_from (list_all (λ j. get_or j.premise w false) (bucket w old))
+          (get_or i.premise w false && true) (filed.sorted w) (and_from (get_or i.premise w false) true has refl))
       | inr other ↦ ap (list_all (λ j. get_or j.premise v false)) (put.elsewhere v other) ∙ filed.sorted v
     ];
     sound = λ p h.
@@ -37,7 +38,8 @@ module _ (n : ℕ) (J : List Rule) (old new : List (List Rule)) (w : ℕ) (i : R
 
   pub put_kept : (X : Set) → HasKept X old new
   put_kept X p out v l = elim (cases_eq v w) [
-    | inl e ↦ subst (λ u. list_all p (bucket u old) ≡ true) (sym e) (and_parts (list_all p (bucket w old)) (p i && true) (sym (at_w p) ∙ out w (subst (λ u. get_or X u false ≡ false) e l))).0
+    | inl e ↦ subst (λ u. list_all p (bucket u old) ≡ true) (sym e)
+        (and_parts (list_all p (bucket w old)) (p i && true) (sym (at_w p) ∙ out w (subst (λ u. get_or X u false ≡ false) e l))).0
     | inr other ↦ ap (list_all p) (sym (put.elsewhere v other)) ∙ out v l
   ]
 
@@ -49,11 +51,14 @@ module _ (n : ℕ) (J : List Rule) (old new : List (List Rule)) (w : ℕ) (i : R
       (and_from (within i.conclusion X || p i) true (or_right (within i.conclusion X) (p i) mine) refl)
 
 -- what is kept of J, with a member more whose conclusion is within B
-covers_more : (J : List Rule) (old new : List (List Rule)) (i : Rule) (A B : Set) → HasKept A old new → IsGood J old A → within A B ≡ true → within i.conclusion B ≡ true → Covers (J ++ i ∷ []) new A B
+covers_more : (J : List Rule) (old new : List (List Rule)) (i : Rule) (A B : Set) → HasKept A old new → IsGood J old A → within A B ≡ true
+    → within i.conclusion B ≡ true → Covers (J ++ i ∷ []) new A B
 covers_more J old new i A B kept good up mine p out =
     list_all-append (λ j. within j.conclusion B || p j) J (i ∷ [])
     ∙ and_from (list_all (λ j. within j.conclusion B || p j) J) ((within i.conclusion B || p i) && true)
-    (list_all-mono (λ j. within j.conclusion A || p j) (λ j. within j.conclusion B || p j) (λ j h. wider (within j.conclusion A) (within j.conclusion B) (p j) (λ t. within_trans j.conclusion A B t up) h) J (good p (kept p out)))
+    (list_all-mono (λ j. within j.conclusion A || p j) (λ j. within j.conclusion B || p j)
+    (λ j h. wider (within j.conclusion A) (within j.conclusion B) (p j) (λ t. within_trans j.conclusion A B t up) h) J
+    (good p (kept p out)))
     (and_from (within i.conclusion B || p i) true (or_left (within i.conclusion B) (p i) mine) refl)
   where
     wider : (a b c : Bool) → (a ≡ true → b ≡ true) → (a || c) ≡ true → (b || c) ≡ true
@@ -67,16 +72,21 @@ none_filed n J Bs i filed = record {
   sound = λ p h. filed.sound p (and_parts (list_all p J) (p i && true) (sym (list_all-append p J (i ∷ [])) ∙ h)).0;
 }
 
-pub push_filed : (n : ℕ) (J : List Rule) (old new : List (List Rule)) (from : ℕ) (i : Rule) → IsPutBefore from old new i → IsFiled n J old → ((k : ℕ) → from ≡ suc k → get_or i.premise k false ≡ true) → IsFiled n (J ++ i ∷ []) new
+pub push_filed : (n : ℕ) (J : List Rule) (old new : List (List Rule)) (from : ℕ) (i : Rule) → IsPutBefore from old new i → IsFiled n J old
+    → ((k : ℕ) → from ≡ suc k → get_or i.premise k false ≡ true) → IsFiled n (J ++ i ∷ []) new
 push_filed n J old new zero i put filed has = subst (λ Bs. IsFiled n (J ++ i ∷ []) Bs) (sym put) (none_filed n J old i filed)
 push_filed n J old new (suc k) i put filed has = put_filed n J old new k i put filed (has k refl)
 
-pub push_good : (n : ℕ) (J : List Rule) (old new : List (List Rule)) (from : ℕ) (i : Rule) → IsPutBefore from old new i → (X : Set) (k : ℕ) → from ≡ suc k → get_or X k false ≡ false → IsGood J old X → IsGood (J ++ i ∷ []) new X
+pub push_good : (n : ℕ) (J : List Rule) (old new : List (List Rule)) (from : ℕ) (i : Rule) → IsPutBefore from old new i → (X : Set) (k : ℕ)
+    → from ≡ suc k → get_or X k false ≡ false → IsGood J old X → IsGood (J ++ i ∷ []) new X
 push_good n J old new zero i put X k e l good = absurd (omega (arith, e))
-push_good n J old new (suc m) i put X k e l good = let same : k ≡ m = omega (arith, e) in put_good n J old new m i put X (subst (λ u. get_or X u false ≡ false) same l) good
+push_good n J old new (suc m) i put X k e l good = let same : k ≡ m = omega (arith, e) in
+    put_good n J old new m i put X (subst (λ u. get_or X u false ≡ false) same l) good
 
-pub push_covers : (n : ℕ) (J : List Rule) (old new : List (List Rule)) (from : ℕ) (i : Rule) → IsPutBefore from old new i → (A B : Set) → IsGood J old A → within A B ≡ true → within i.conclusion B ≡ true → Covers (J ++ i ∷ []) new A B
-push_covers n J old new zero i put A B good up mine = covers_more J old new i A B (λ p out. subst (λ Bs. Outside A p Bs) put out) good up mine
+pub push_covers : (n : ℕ) (J : List Rule) (old new : List (List Rule)) (from : ℕ) (i : Rule) → IsPutBefore from old new i → (A B : Set)
+    → IsGood J old A → within A B ≡ true → within i.conclusion B ≡ true → Covers (J ++ i ∷ []) new A B
+push_covers n J old new zero i put A B good up mine =
+    covers_more J old new i A B (λ p out. subst (λ Bs. Outside A p Bs) put out) good up mine
 push_covers n J old new (suc k) i put A B good up mine = covers_more J old new i A B (put_kept n J old new k i put A) good up mine
 
 -- ---- closures
@@ -88,16 +98,19 @@ kept_good J old new X kept good p out = good p (kept p out)
 -- a good set covers what is larger
 pub good_covers : (J : List Rule) (Bs : List (List Rule)) (A B : Set) → within A B ≡ true → IsGood J Bs A → Covers J Bs A B
 good_covers J Bs A B up good p out =
-    list_all-mono (λ j. within j.conclusion A || p j) (λ j. within j.conclusion B || p j) (λ j h. wider (within j.conclusion A) (within j.conclusion B) (p j) (λ t. within_trans j.conclusion A B t up) h) J (good p out)
+    list_all-mono (λ j. within j.conclusion A || p j) (λ j. within j.conclusion B || p j)
+    (λ j h. wider (within j.conclusion A) (within j.conclusion B) (p j) (λ t. within_trans j.conclusion A B t up) h) J (good p out)
   where
     wider : (a b c : Bool) → (a ≡ true → b ≡ true) → (a || c) ≡ true → (b || c) ≡ true
     wider true b c t h = or_left b c (t refl)
     wider false b c t h = or_right b c h
 
 -- the closure of a set that respects all members is the set
-pub closed_good : (J : List Rule) (Bs : List (List Rule)) (limit : ℕ) (A B C : Set) (agrees : Bool) → (agrees ≡ true → IsClosedBefore J Bs limit A B C) → (agrees ≡ false → Differs J limit A B)
+pub closed_good : (J : List Rule) (Bs : List (List Rule)) (limit : ℕ) (A B C : Set) (agrees : Bool)
+    → (agrees ≡ true → IsClosedBefore J Bs limit A B C) → (agrees ≡ false → Differs J limit A B)
     → respects_all J B ≡ true → agree_before limit A B ≡ true → IsGood J Bs B
-closed_good J Bs limit A B C false closed differs respecting agree = absurd (false≢true (sym (differs refl B (within_refl B) respecting) ∙ agree))
+closed_good J Bs limit A B C false closed differs respecting agree =
+    absurd (false≢true (sym (differs refl B (within_refl B) respecting) ∙ agree))
 closed_good J Bs limit A B C true closed differs respecting agree =
     let h = closed refl in
     subst (λ X. IsGood J Bs X) (within_antisymm C B h.closure.wide (h.closure.least B (within_refl B) respecting) h.closure.above) h.good
@@ -109,17 +122,24 @@ pub record IsWaiting (n : ℕ) (J : List Rule) (X : Set) (k : ℕ) (Bs : List (L
   pub filed : IsFiled n (take k J) Bs
   pub good : IsGood (take k J) Bs X
 
-pub waiting_none : {n : ℕ} {J : List Rule} {X : Set} {Bs : List (List Rule)} → length Bs ≡ n → ((w : ℕ) → bucket w Bs ≡ []) → IsWaiting n J X 0 Bs
+pub waiting_none : {n : ℕ} {J : List Rule} {X : Set} {Bs : List (List Rule)} → length Bs ≡ n → ((w : ℕ) → bucket w Bs ≡ [])
+    → IsWaiting n J X 0 Bs
 waiting_none room empty = record {
-  filed = record { room = room; sorted = λ w. ap (list_all (λ j. get_or j.premise w false)) (empty w); sound = λ p h w. ap (list_all p) (empty w) };
+  filed = record {
+    room = room;
+    sorted = λ w. ap (list_all (λ j. get_or j.premise w false)) (empty w);
+    sound = λ p h w. ap (list_all p) (empty w);
+  };
   good = λ p out. refl;
 }
 
-module _ {n : ℕ} {J : List Rule} {X : Set} {k : ℕ} {old : List (List Rule)} (w : IsWaiting n J X k old) (i : Rule) (lt : k < length J) (is : i ≡ get_or J k i) where
+module _ {n : ℕ} {J : List Rule} {X : Set} {k : ℕ} {old : List (List Rule)} (w : IsWaiting n J X k old) (i : Rule) (lt : k < length J)
+    (is : i ≡ get_or J k i) where
   next : take (k + 1) J ≡ take k J ++ i ∷ []
   next = take_more J k i lt ∙ ap (λ y. take k J ++ y ∷ []) (sym is)
 
-  pub waiting_more : (new : List (List Rule)) (o : ℕ) → first_missing 0 i.premise X ≡ Some o → IsPut old new o i → IsWaiting n J X (k + 1) new
+  pub waiting_more : (new : List (List Rule)) (o : ℕ) → first_missing 0 i.premise X ≡ Some o → IsPut old new o i
+      → IsWaiting n J X (k + 1) new
   waiting_more new o missing put =
       let parts = first_missing-parts i.premise X o missing in
       record {

@@ -1,6 +1,6 @@
--- The steps of the walk. At a set that is no intent a member is pushed, and the walk goes on with its closure, or ends where that differs before the
--- attribute by which the set was entered. Below an intent each attribute that it lacks is tried, the last first; what was found at attribute i is what stands up
--- to place i of the intent.
+-- The steps of the walk. At a set that is no intent a member is pushed, and the walk goes on with its closure, or ends where that differs
+-- before the attribute by which the set was entered. Below an intent each attribute that it lacks is tried, the last first; what was
+-- found at attribute i is what stands up to place i of the intent.
 use Rattle.std.proofs.Common.{◌≡◌, ℕ, zero, suc, ◌+◌, ◌-◌, ◌<◌, ◌≤◌, Bool, true, false, not, ◌&&◌, ◌||◌, ◌⊎◌, inl, inr, leb, Option, Some, None, MatchOption, IfSome, Result, Ok, Err, IfOk, OnOk, List, [], ◌∷◌, ◌++◌, length, get_or, set, replicate, length-set, refl, sym, ap, ◌∙◌, subst, arith}
 use Rattle.std.proofs.lemmas.Bool.{false≢true, and_parts, false_from_ne_true, leb-false}
 use Rattle.std.proofs.lemmas.List.Folds.{list_all-append}
@@ -27,8 +27,10 @@ use Rattle.lectic_basis.proofs.WaitLemmas.{push_filed, push_good, push_covers, k
 
 -- ---- the start
 
-pub root_visit : (S : List Rule) (K : Context) (A : Set) (F : Watched) → list_all (holds K) S ≡ true → IsClosure S (replicate K.width false) A
-    → F.list ≡ record { width = K.width; members = S } → IsFiled F.list.width F.list.members F.buckets → IsGood F.list.members F.buckets A → IsVisit S K K A 0 F
+pub root_visit : (S : List Rule) (K : Context) (A : Set) (F : Watched) → list_all (holds K) S ≡ true
+    → IsClosure S (replicate K.width false) A
+    → F.list ≡ record { width = K.width; members = S } → IsFiled F.list.width F.list.members F.buckets → IsGood F.list.members F.buckets A
+    → IsVisit S K K A 0 F
 root_visit S K A F known a list filed good = record {
   at = record { holds = known; family = tree.root_family S K A a; inside = omega arith; near = λ X h. refl; filed = filed; good = good };
   least = tree.root_from S K A a;
@@ -72,26 +74,33 @@ module _ {S : List Rule} {K L : Context} {A : Set} {from : ℕ} {F : Watched} (v
     visit_closed one = record {
       at = v.at;
       least = tree.visit_behind S K A v.at.family from v.at.inside v.least;
-      found = v.found ∙ tree.visit_closed S K A v.at.family from v.at.inside v.least (same_from A (closure K A) (sym (same-true B A one) ∙ closure_is));
+      found = v.found ∙ tree.visit_closed S K A v.at.family from v.at.inside v.least
+          (same_from A (closure K A) (sym (same-true B A one) ∙ closure_is));
     }
 
     -- a pseudo-intent, whose member was pushed
-    module _ (differs : same B A ≡ false) (G : Watched) (list : G.list ≡ record { width = F.list.width; members = F.list.members ++ rule A B ∷ [] }) (put : IsPutBefore from F.buckets G.buckets (rule A B)) where
+    module _ (differs : same B A ≡ false) (G : Watched)
+        (list : G.list ≡ record { width = F.list.width; members = F.list.members ++ rule A B ∷ [] })
+        (put : IsPutBefore from F.buckets G.buckets (rule A B)) where
       open_set : is_closed K A ≡ false
-      open_set = false_from_ne_true (is_closed K A) (λ t. false≢true (sym differs ∙ same_from B A (closure_is ∙ sym (same-true A (closure K A) t))))
+      open_set = false_from_ne_true (is_closed K A)
+          (λ t. false≢true (sym differs ∙ same_from B A (closure_is ∙ sym (same-true A (closure K A) t))))
 
       pushed : G.list ≡ record { width = F.list.width; members = F.list.members ++ rule A (closure K A) ∷ [] }
       pushed = list ∙ ap (λ X. record { width = F.list.width; members = F.list.members ++ rule A X ∷ [] }) closure_is
 
       filed_pushed : IsFiled G.list.width G.list.members G.buckets
-      filed_pushed = subst (λ (M : RuleList). IsFiled M.width M.members G.buckets) (sym list) (push_filed F.list.width F.list.members F.buckets G.buckets from (rule A B) put v.at.filed v.entered)
+      filed_pushed = subst (λ (M : RuleList). IsFiled M.width M.members G.buckets) (sym list)
+          (push_filed F.list.width F.list.members F.buckets G.buckets from (rule A B) put v.at.filed v.entered)
 
       good_pushed : (X : Set) → IsPartBefore A from X → IsGood F.list.members F.buckets X → IsGood G.list.members G.buckets X
-      good_pushed X h good = subst (λ (M : RuleList). IsGood M.members G.buckets X) (sym list) (push_good F.list.width F.list.members F.buckets G.buckets from (rule A B) put X h.attribute h.entered h.lacks good)
+      good_pushed X h good = subst (λ (M : RuleList). IsGood M.members G.buckets X) (sym list)
+          (push_good F.list.width F.list.members F.buckets G.buckets from (rule A B) put X h.attribute h.entered h.lacks good)
 
       pub visit_ends : agree_before from A B ≡ false → HasFound S K A from (IsPartBefore A from) F G
       visit_ends ends = record {
-        found = tree.visit_ends S K A v.at.family from v.at.inside v.least open_set (ap (agree_before from A) (sym closure_is) ∙ ends) F.list G.list v.found pushed;
+        found = tree.visit_ends S K A v.at.family from v.at.inside v.least open_set
+            (ap (agree_before from A) (sym closure_is) ∙ ends) F.list G.list v.found pushed;
         filed = filed_pushed;
         kept = good_pushed;
       }
@@ -104,7 +113,8 @@ module _ {S : List Rule} {K L : Context} {A : Set} {from : ℕ} {F : Watched} (v
           above = closure_up;
           agree = agree;
           filed = filed_pushed;
-          covers = subst (λ (M : RuleList). Covers M.members G.buckets A B) (sym list) (push_covers F.list.width F.list.members F.buckets G.buckets from (rule A B) put A B v.at.good closure_up (within_refl B));
+          covers = subst (λ (M : RuleList). Covers M.members G.buckets A B) (sym list)
+              (push_covers F.list.width F.list.members F.buckets G.buckets from (rule A B) put A B v.at.good closure_up (within_refl B));
         }
 
         agree_closure : agree_before from A (closure K A) ≡ true
@@ -122,9 +132,11 @@ module _ {S : List Rule} {K L : Context} {A : Set} {from : ℕ} {F : Watched} (v
           family_b = family_of_closed S K v.at.holds B (ap length closure_is ∙ length-closure K A) closed_b
 
           respecting : respects_all G.list.members B ≡ true
-          respecting = subst (λ (M : RuleList). respects_all M.members B ≡ true) (sym grown ∙ m.list) (closed_respects_where S K (up_to K.width B) B family_b closed_b)
+          respecting = subst (λ (M : RuleList). respects_all M.members B ≡ true) (sym grown ∙ m.list)
+              (closed_respects_where S K (up_to K.width B) B family_b closed_b)
 
-          pub visit_below : (C : Set) (agrees : Bool) → (agrees ≡ true → IsClosedBefore G.list.members H.buckets from A B C) → (agrees ≡ false → Differs G.list.members from A B) → IsBelow S K L B from H
+          pub visit_below : (C : Set) (agrees : Bool) → (agrees ≡ true → IsClosedBefore G.list.members H.buckets from A B C)
+              → (agrees ≡ false → Differs G.list.members from A B) → IsBelow S K L B from H
           visit_below C agrees closed differs = record {
             at = record {
               holds = v.at.holds;
@@ -132,41 +144,52 @@ module _ {S : List Rule} {K L : Context} {A : Set} {from : ℕ} {F : Watched} (v
               inside = v.at.inside;
               near = λ X h. v.at.near X (within_trans A B X closure_up h);
               filed = m.filed;
-              good = subst (λ (M : RuleList). IsGood M.members H.buckets B) (sym m.list) (closed_good G.list.members H.buckets from A B C agrees closed differs respecting agree);
+              good = subst (λ (M : RuleList). IsGood M.members H.buckets B) (sym m.list)
+                  (closed_good G.list.members H.buckets from A B C agrees closed differs respecting agree);
             };
-            least = subst (λ X. IsLeastBehind S K X from) (sym closure_is) (tree.grows_behind S K A v.at.family from v.at.inside v.least open_set agree_closure);
+            least = subst (λ X. IsLeastBehind S K X from) (sym closure_is)
+                (tree.grows_behind S K A v.at.family from v.at.inside v.least open_set agree_closure);
             found = grown;
           }
 
           pub visit_done : {I : Watched} → HasFound S K B from (IsPart B) H I → HasFound S K A from (IsPartBefore A from) F I
           visit_done x = record {
-            found = x.found ∙ ap (λ X. found_where S K (up_to from X)) closure_is ∙ tree.grows_done S K A v.at.family from v.at.inside v.least open_set agree_closure;
+            found = x.found ∙ ap (λ X. found_where S K (up_to from X)) closure_is
+                ∙ tree.grows_done S K A v.at.family from v.at.inside v.least open_set agree_closure;
             filed = x.filed;
             kept = λ X h good. x.kept X (within_trans X A B h.part closure_up)
-                (subst (λ (M : RuleList). IsGood M.members H.buckets X) (sym m.list) (kept_good G.list.members G.buckets H.buckets X (m.kept X h.part) (good_pushed X h good)));
+                (subst (λ (M : RuleList). IsGood M.members H.buckets X) (sym m.list)
+                (kept_good G.list.members G.buckets H.buckets X (m.kept X h.part) (good_pushed X h good)));
           }
 
 -- what is found grows
 pub longer_push : (L M : RuleList) (i : Rule) → M ≡ record { width = L.width; members = L.members ++ i ∷ [] } → IsLonger L.members M.members
-longer_push L M i e T r = (and_parts (list_all (respects T) L.members) (list_all (respects T) (i ∷ [])) (sym (list_all-append (respects T) L.members (i ∷ [])) ∙ subst (λ (N : RuleList). respects_all N.members T ≡ true) e r)).0
+longer_push L M i e T r = (and_parts (list_all (respects T) L.members) (list_all (respects T) (i ∷ []))
+    (sym (list_all-append (respects T) L.members (i ∷ [])) ∙ subst (λ (N : RuleList). respects_all N.members T ≡ true) e r)).0
 
-pub found_longer : {S : List Rule} {K : Context} {A : Set} {j i : ℕ} {F G H : Watched} → HasFound S K A j (IsPart A) F G → HasFound S K A i (IsPart A) G H → i ≤ j → IsLonger G.list.members H.list.members
+pub found_longer : {S : List Rule} {K : Context} {A : Set} {j i : ℕ} {F G H : Watched} → HasFound S K A j (IsPart A) F G
+    → HasFound S K A i (IsPart A) G H → i ≤ j → IsLonger G.list.members H.list.members
 found_longer {S = S} {K = K} {A = A} {j = j} {i = i} x y le T r =
     let r' : respects_all (members_where S K (up_to i A)) T ≡ true = subst (λ (M : RuleList). respects_all M.members T ≡ true) y.found r in
     subst (λ (M : RuleList). respects_all M.members T ≡ true) (sym x.found)
-    (where_all S K (up_to j A) (respects T) (where_known S K (up_to i A) (respects T) r') (λ P e t first. where_at S K (up_to i A) (respects T) r' P e t (up_to_less i j A P le first)))
+    (where_all S K (up_to j A) (respects T) (where_known S K (up_to i A) (respects T) r')
+    (λ P e t first. where_at S K (up_to i A) (respects T) r' P e t (up_to_less i j A P le first)))
 
 -- ---- what is told
 
-match_weaker : {T A A' : Type 0} {B B' : T → Type 0} (o : Option T) → (A → A') → ((x : T) → B x → B' x) → MatchOption o A B → MatchOption o A' B'
+match_weaker : {T A A' : Type 0} {B B' : T → Type 0} (o : Option T) → (A → A') → ((x : T) → B x → B' x) → MatchOption o A B
+    → MatchOption o A' B'
 match_weaker None f h m = f m
 match_weaker (Some x) f h m = h x m
 
-told_weaker : {T E A A' : Type 0} {B B' : T → Type 0} (r : Result (Option T) E) → (A → A') → ((x : T) → B x → B' x) → IfOk r (λ o. MatchOption o A B) → IfOk r (λ o. MatchOption o A' B')
-told_weaker {A = A} {A' = A'} {B = B} {B' = B'} r f h m = IfOk-weaker r (λ o. MatchOption o A B) (λ o. MatchOption o A' B') (λ o. match_weaker o f h) m
+told_weaker : {T E A A' : Type 0} {B B' : T → Type 0} (r : Result (Option T) E) → (A → A') → ((x : T) → B x → B' x)
+    → IfOk r (λ o. MatchOption o A B) → IfOk r (λ o. MatchOption o A' B')
+told_weaker {A = A} {A' = A'} {B = B} {B' = B'} r f h m =
+    IfOk-weaker r (λ o. MatchOption o A B) (λ o. MatchOption o A' B') (λ o. match_weaker o f h) m
 
 -- what is forced below holds behind the intent that is told
-pub told_forced : {E : Type 0} (J M : List Rule) (A C : Set) (ws : List ℕ) (r : Result (Option Set) E) → AreForced J A ws → within A C ≡ true → OnOk r (IsLonger J M)
+pub told_forced : {E : Type 0} (J M : List Rule) (A C : Set) (ws : List ℕ) (r : Result (Option Set) E) → AreForced J A ws
+    → within A C ≡ true → OnOk r (IsLonger J M)
     → IfOk r (λ o. IfSome o (λ b. within C b ≡ true)) → IfOk r (λ o. IfSome o (λ b. AreForced M b ws))
 told_forced J M A C ws (Err e) f up more larger = larger
 told_forced J M A C ws (Ok None) f up more larger = larger
@@ -175,7 +198,8 @@ told_forced J M A C ws (Ok (Some b)) f up more larger = forced_larger M A b ws (
 -- ---- below an intent
 
 -- all behind attribute j - 1 were visited
-pub trying : {S : List Rule} {K L : Context} {A : Set} {from j i : ℕ} {F G : Watched} → IsBelow S K L A from F → j ≤ K.width → HasFound S K A j (IsPart A) F G → j ≡ suc i → from ≤ i → IsTrying S K L A i G
+pub trying : {S : List Rule} {K L : Context} {A : Set} {from j i : ℕ} {F G : Watched} → IsBelow S K L A from F → j ≤ K.width
+    → HasFound S K A j (IsPart A) F G → j ≡ suc i → from ≤ i → IsTrying S K L A i G
 trying {S = S} {K = K} {A = A} {from = from} {i = i} {F = F} {G = G} b le g e on =
     record {
       at = record {
@@ -191,11 +215,13 @@ trying {S = S} {K = K} {A = A} {from = from} {i = i} {F = F} {G = G} b le g e on
       found = subst (λ k. G.list ≡ found_where S K (up_to k A)) e g.found;
     }
 
-pub below_start : {S : List Rule} {K L : Context} {A : Set} {from : ℕ} {F : Watched} → IsBelow S K L A from F → HasFound S K A K.width (IsPart A) F F
+pub below_start : {S : List Rule} {K L : Context} {A : Set} {from : ℕ} {F : Watched} → IsBelow S K L A from F
+    → HasFound S K A K.width (IsPart A) F F
 below_start b = record { found = b.found; filed = b.at.filed; kept = λ X h good. good }
 
 -- one attribute after the other
-pub found_then : {S : List Rule} {K : Context} {A : Set} {j i : ℕ} {F G H : Watched} → HasFound S K A j (IsPart A) F G → HasFound S K A i (IsPart A) G H → HasFound S K A i (IsPart A) F H
+pub found_then : {S : List Rule} {K : Context} {A : Set} {j i : ℕ} {F G H : Watched} → HasFound S K A j (IsPart A) F G
+    → HasFound S K A i (IsPart A) G H → HasFound S K A i (IsPart A) F H
 found_then x y = record { found = y.found; filed = y.filed; kept = λ X h good. y.kept X h (x.kept X h good) }
 
 module _ {S : List Rule} {K L : Context} {A : Set} {i : ℕ} {G : Watched} (t : IsTrying S K L A i G) where
@@ -236,19 +262,22 @@ module _ {S : List Rule} {K L : Context} {A : Set} {i : ℕ} {G : Watched} (t : 
 
     module _ {H : Watched} (m : HasMoved A G H) where
       good_moved : (Y : Set) → within Y A ≡ true → IsGood G.list.members G.buckets Y → IsGood H.list.members H.buckets Y
-      good_moved Y h good = subst (λ (M : RuleList). IsGood M.members H.buckets Y) (sym m.list) (kept_good G.list.members G.buckets H.buckets Y (m.kept Y h) good)
+      good_moved Y h good = subst (λ (M : RuleList). IsGood M.members H.buckets Y) (sym m.list)
+          (kept_good G.list.members G.buckets H.buckets Y (m.kept Y h) good)
 
       pub below_none : Differs G.list.members i A X → HasFound S K A i (IsPart A) G H
       below_none differs = record {
         found = m.list ∙ t.found ∙ tree.none_below S K A t.at.family.wide i i on inside t.least lacks
-            (λ T h r. differs T (subst (λ Y. within Y T ≡ true) (sym x) h) (subst (λ (M : RuleList). respects_all M.members T ≡ true) (sym t.found) r));
+            (λ T h r. differs T (subst (λ Y. within Y T ≡ true) (sym x) h)
+            (subst (λ (M : RuleList). respects_all M.members T ≡ true) (sym t.found) r));
         filed = m.filed;
         kept = good_moved;
       }
 
       module _ {C : Set} (c : IsClosedBefore G.list.members H.buckets i A X C) where
         closed : IsClosure (members_where S K (up_to (suc i) A)) (set A i true) C
-        closed = subst (λ (M : RuleList). IsClosure M.members (set A i true) C) t.found (subst (λ Y. IsClosure G.list.members Y C) x c.closure)
+        closed = subst (λ (M : RuleList). IsClosure M.members (set A i true) C) t.found
+            (subst (λ Y. IsClosure G.list.members Y C) x c.closure)
 
         up_c : within A C ≡ true
         up_c = tree.child_up S K A t.at.family.wide i i on inside t.least lacks C closed
@@ -265,12 +294,14 @@ module _ {S : List Rule} {K L : Context} {A : Set} {i : ℕ} {G : Watched} (t : 
           };
           least = tree.child_least S K A t.at.family.wide i i on inside t.least lacks C closed c.agree;
           found = m.list ∙ t.found ∙ tree.child_found S K A t.at.family.wide i i on inside t.least lacks C closed c.agree;
-          entered = λ k e. let one : i ≡ k = omega (arith, e) in subst (λ j. get_or C j false ≡ true) one (tree.child_has S K A t.at.family.wide i i on inside t.least lacks C closed);
+          entered = λ k e. let one : i ≡ k = omega (arith, e) in
+              subst (λ j. get_or C j false ≡ true) one (tree.child_has S K A t.at.family.wide i i on inside t.least lacks C closed);
         })
 
         pub below_visited : {I : Watched} → HasFound S K C (i + 1) (IsPartBefore C (i + 1)) H I → HasFound S K A i (IsPart A) G I
         below_visited done = record {
-          found = done.found ∙ ap (λ k. found_where S K (up_to k C)) (sym next) ∙ tree.child_done S K A t.at.family.wide i i on inside t.least lacks C closed c.agree;
+          found = done.found ∙ ap (λ k. found_where S K (up_to k C)) (sym next)
+              ∙ tree.child_done S K A t.at.family.wide i i on inside t.least lacks C closed c.agree;
           filed = done.filed;
           kept = λ Y h good. done.kept Y (record {
             part = within_trans Y A C h up_c;
@@ -282,8 +313,10 @@ module _ {S : List Rule} {K L : Context} {A : Set} {i : ℕ} {G : Watched} (t : 
 
         -- the same of what is left behind an intent
         pub below_told : {E : Type 0} (I : Watched) (r : Result (Option Set) E)
-            → IfOk r (λ o. MatchOption o (HasFound S K C (i + 1) (IsPartBefore C (i + 1)) H I) (λ b. (J : Watched) → HasFound S K b (i + 1) (IsPart b) I J → HasFound S K C (i + 1) (IsPartBefore C (i + 1)) H J))
-            → IfOk r (λ o. MatchOption o (HasFound S K A i (IsPart A) G I) (λ b. (J : Watched) → HasFound S K b (i + 1) (IsPart b) I J → HasFound S K A i (IsPart A) G J))
+            → IfOk r (λ o. MatchOption o (HasFound S K C (i + 1) (IsPartBefore C (i + 1)) H I)
+            (λ b. (J : Watched) → HasFound S K b (i + 1) (IsPart b) I J → HasFound S K C (i + 1) (IsPartBefore C (i + 1)) H J))
+            → IfOk r (λ o. MatchOption o (HasFound S K A i (IsPart A) G I)
+            (λ b. (J : Watched) → HasFound S K b (i + 1) (IsPart b) I J → HasFound S K A i (IsPart A) G J))
         below_told I r told = told_weaker r below_visited (λ b done J h. below_visited (done J h)) told
 
         -- it lies within the closure of A with i, so both have the same rows
@@ -292,25 +325,32 @@ module _ {S : List Rule} {K L : Context} {A : Set} {i : ℕ} {G : Watched} (t : 
             let wide : length (set A i true) ≡ K.width = length-set A i true ∙ t.at.family.wide in
             let T = closure K (set A i true) in
             let intent = closed_closure S K (set A i true) wide in
-            closed.least T (closure_extensive K (set A i true) wide) (closed_respects_where S K (up_to (suc i) A) T (family_of_closed S K t.at.holds T (length-closure K (set A i true)) intent) intent)
+            closed.least T (closure_extensive K (set A i true) wide)
+            (closed_respects_where S K (up_to (suc i) A) T
+            (family_of_closed S K t.at.holds T (length-closure K (set A i true)) intent) intent)
 
         pub below_extent : (Ps : List Part) → IsExtent K A Ps → IsExtentWith K C i Ps
-        below_extent Ps extent = extent_larger K A C i Ps extent (omega (arith, inside, t.at.family.wide)) (within_set A i) closed.above below_shared
+        below_extent Ps extent = extent_larger K A C i Ps extent (omega (arith, inside, t.at.family.wide))
+            (within_set A i) closed.above below_shared
 
         pub below_wide : length C ≡ K.width
         below_wide = closed.wide ∙ length-set A i true ∙ t.at.family.wide
 
 -- what is told lies within the closure
-pub told_extent : {E : Type 0} (K : Context) (C : Set) (i : ℕ) (Ps : List Part) (r : Result (Option Set) E) → IsExtentWith K C i Ps → IfOk r (λ o. IfSome o (λ b. within C b ≡ true))
+pub told_extent : {E : Type 0} (K : Context) (C : Set) (i : ℕ) (Ps : List Part) (r : Result (Option Set) E) → IsExtentWith K C i Ps
+    → IfOk r (λ o. IfSome o (λ b. within C b ≡ true))
     → IfOk r (λ o. IfSome o (λ b. within b (closure K C) ≡ true)) → IfOk r (λ o. IfSome o (λ b. IsExtentWith K b i Ps))
 told_extent K C i Ps (Err e) extent larger shared = larger
 told_extent K C i Ps (Ok None) extent larger shared = larger
 told_extent K C i Ps (Ok (Some b)) extent larger shared = extent_shared K C b i Ps extent larger shared
 
 -- where i is seen to force an attribute before it that A lacks, no member is left out
-pub below_forced : {S : List Rule} {K L : Context} {A : Set} {i : ℕ} {G : Watched} (w : ℕ) (ws : List ℕ) → IsTrying S K L A i G → get_or A i false ≡ false → AreForced G.list.members A ws → get_or ws i i ≡ w → w < i → get_or A w false ≡ false
+pub below_forced : {S : List Rule} {K L : Context} {A : Set} {i : ℕ} {G : Watched} (w : ℕ) (ws : List ℕ) → IsTrying S K L A i G
+    → get_or A i false ≡ false → AreForced G.list.members A ws → get_or ws i i ≡ w → w < i → get_or A w false ≡ false
     → HasFound S K A i (IsPart A) G G
-below_forced {A = A} {i = i} {G = G} w ws t lacks f is lt missing = below_none t lacks refl (record { list = refl; filed = t.at.filed; kept = λ Y h p o. o }) (forced_differs G.list.members A ws i w (omega (arith, t.inside, t.at.family.wide)) f is lt missing)
+below_forced {A = A} {i = i} {G = G} w ws t lacks f is lt missing =
+    below_none t lacks refl (record { list = refl; filed = t.at.filed; kept = λ Y h p o. o })
+    (forced_differs G.list.members A ws i w (omega (arith, t.inside, t.at.family.wide)) f is lt missing)
 
 tried_parts : (a l b : Bool) → (not a && (l || b)) ≡ false → (a ≡ true) ⊎ ((a ≡ false) × (l ≡ false) × (b ≡ false))
 tried_parts true l b e = inl refl
@@ -319,20 +359,24 @@ tried_parts false true b e = absurd (false≢true (sym e))
 tried_parts false false true e = absurd (false≢true (sym e))
 
 -- where none of some attributes is tried, no member is left out
-pub none_found : {S : List Rule} {K L : Context} {A : Set} {from : ℕ} {F G : Watched} (ws : List ℕ) → IsBelow S K L A from F → AreForced G.list.members A ws → (d j i : ℕ) → j ≡ d + i → from ≤ i → j ≤ K.width
+pub none_found : {S : List Rule} {K L : Context} {A : Set} {from : ℕ} {F G : Watched} (ws : List ℕ) → IsBelow S K L A from F
+    → AreForced G.list.members A ws → (d j i : ℕ) → j ≡ d + i → from ≤ i → j ≤ K.width
     → HasFound S K A j (IsPart A) F G → NoneTried A ws i j → HasFound S K A i (IsPart A) F G
-none_found {S = S} {K = K} {A = A} {F = F} {G = G} ws b f zero j i e least le h none = let same : j ≡ i = omega (arith, e) in subst (λ k. HasFound S K A k (IsPart A) F G) same h
+none_found {S = S} {K = K} {A = A} {F = F} {G = G} ws b f zero j i e least le h none = let same : j ≡ i = omega (arith, e) in
+    subst (λ k. HasFound S K A k (IsPart A) F G) same h
 none_found {S = S} {K = K} {L = L} {A = A} {F = F} {G = G} ws b f (suc d) j i e least le h none =
     let k : ℕ = d + i in
     let t : IsTrying S K L A k G = trying b le h (omega (arith, e)) (omega (arith, least)) in
-    let step : HasFound S K A k (IsPart A) G G = elim (tried_parts (get_or A k false) (leb k (get_or ws k k)) (get_or A (get_or ws k k) false) (none k (omega arith) (omega (arith, e)))) [
+    let step : HasFound S K A k (IsPart A) G G = elim (tried_parts (get_or A k false) (leb k (get_or ws k k))
+    (get_or A (get_or ws k k) false) (none k (omega arith) (omega (arith, e)))) [
       | inl has ↦ below_member t has
       | inr (lacks, less, missing) ↦ below_forced (get_or ws k k) ws t lacks f refl (leb-false k (get_or ws k k) less) missing
     ] in
     none_found ws b f d k i refl least (omega (arith, le, e)) (found_then h step) (λ m l u. none m l (omega (arith, u, e)))
 
 -- the last attribute that is tried
-pub last_found : {S : List Rule} {K L : Context} {A : Set} {from before i : ℕ} {F G : Watched} (ws : List ℕ) → IsBelow S K L A from F → AreForced G.list.members A ws → before ≤ K.width
+pub last_found : {S : List Rule} {K L : Context} {A : Set} {from before i : ℕ} {F G : Watched} (ws : List ℕ) → IsBelow S K L A from F
+    → AreForced G.list.members A ws → before ≤ K.width
     → HasFound S K A before (IsPart A) F G → IsLastTried A ws from before i → HasFound S K A (i + 1) (IsPart A) F G
 last_found {before = before} {i = i} ws b f le h t =
     let inside : i < before = t.in_range in
@@ -340,14 +384,16 @@ last_found {before = before} {i = i} ws b f le h t =
     none_found ws b f (before - (i + 1)) before (i + 1) (omega (arith, inside)) (omega (arith, least)) le h t.last
 
 pub tried_lacks : (A : Set) (ws : List ℕ) (i : ℕ) → is_tried A ws i ≡ true → get_or A i false ≡ false
-tried_lacks A ws i t = lacking (get_or A i false) (and_parts (not (get_or A i false)) (leb i (get_or ws i i) || get_or A (get_or ws i i) false) t).0
+tried_lacks A ws i t = lacking (get_or A i false)
+    (and_parts (not (get_or A i false)) (leb i (get_or ws i i) || get_or A (get_or ws i i) false) t).0
   where
     lacking : (a : Bool) → not a ≡ true → a ≡ false
     lacking true e = absurd (false≢true e)
     lacking false e = refl
 
 -- where nothing is told, nothing is tried
-pub none_told : (A : Set) (ws : List ℕ) (from before : ℕ) (o : Option ℕ) → is_some o ≡ false → MatchOption o (NoneTried A ws from before) (IsLastTried A ws from before) → NoneTried A ws from before
+pub none_told : (A : Set) (ws : List ℕ) (from before : ℕ) (o : Option ℕ) → is_some o ≡ false
+    → MatchOption o (NoneTried A ws from before) (IsLastTried A ws from before) → NoneTried A ws from before
 none_told A ws from before None e h = h
 none_told A ws from before (Some i) e h = absurd (false≢true (sym e))
 

@@ -1,6 +1,6 @@
--- The closure under members that wait. A member of the bucket of an attribute z of the set has either an attribute of its premise outside the set, and waits
--- for that from now on; or its premise lies within the set, and its conclusion is joined. Once each attribute of the set was looked through, the premise of
--- each member that still waits for an attribute outside does not lie within the set.
+-- The closure under members that wait. A member of the bucket of an attribute z of the set has either an attribute of its premise outside
+-- the set, and waits for that from now on; or its premise lies within the set, and its conclusion is joined. Once each attribute of the
+-- set was looked through, the premise of each member that still waits for an attribute outside does not lie within the set.
 use Rattle.std.proofs.Common.{◌≡◌, ℕ, ◌+◌, ◌-◌, ◌<◌, ◌≤◌, Bool, true, false, not, ◌&&◌, ◌||◌, Some, None, List, [], ◌∷◌, ◌++◌, length, get_or, set, take, refl, sym, ap, ◌∙◌, subst, arith, inl, inr, get_or-set_other, length-set, eqb, eqb-true}
 use Rattle.std.proofs.lemmas.Bool.{false≢true, and_parts, and_from, cases_Bool, cases_eq, or_left, or_right, false_from_ne_true}
 use Rattle.std.proofs.lemmas.List.{take_more, get_or_default}
@@ -22,7 +22,9 @@ use Rattle.lectic_basis.specs.Watches.{Watched, CanClose, HasMoved, bucket, wait
 
 -- a set between two that agree
 pub agree_between : (k : ℕ) (A D T : Set) → within A D ≡ true → within D T ≡ true → agree_before k A T ≡ true → agree_before k A D ≡ true
-agree_between k A D T a d h = agree_from k A D (λ j l. bool_iff (get_or A j false) (get_or D j false) (within_at_place A D a j) (λ t. agree_at k A T h j l ∙ within_at_place D T d j t))
+agree_between k A D T a d h = agree_from k A D
+    (λ j l. bool_iff (get_or A j false) (get_or D j false) (within_at_place A D a j)
+    (λ t. agree_at k A T h j l ∙ within_at_place D T d j t))
 
 -- ---- one bucket
 
@@ -61,7 +63,8 @@ module _ {z k : ℕ} {C D : Set} {old mid : List (List Rule)} (s : IsSettling z 
   passes p h = ap p is ∙ AllPass-from_list_all p (bucket z mid) h k i there
 
   -- i is moved to the bucket of an attribute outside
-  module _ {new : List (List Rule)} {o : ℕ} (m : IsMoved mid new z k o i) (has : get_or i.premise o false ≡ true) (lacks : get_or D o false ≡ false) where
+  module _ {new : List (List Rule)} {o : ℕ} (m : IsMoved mid new z k o i) (has : get_or i.premise o false ≡ true)
+      (lacks : get_or D o false ≡ false) where
     all_z : (p : Rule → Bool) → list_all p (bucket z mid) ≡ (p i && list_all p (bucket z new))
     all_z p = m.out p
 
@@ -71,10 +74,12 @@ module _ {z k : ℕ} {C D : Set} {old mid : List (List Rule)} (s : IsSettling z 
     sorted_move : IsSorted new
     sorted_move w = elim (cases_eq w z) [
       | inl e ↦ subst (λ v. list_all (λ j. get_or j.premise v false) (bucket v new) ≡ true) (sym e)
-          (and_parts (get_or i.premise z false) (list_all (λ j. get_or j.premise z false) (bucket z new)) (sym (all_z (λ j. get_or j.premise z false)) ∙ s.sorted z)).1
+          (and_parts (get_or i.premise z false) (list_all (λ j. get_or j.premise z false) (bucket z new))
+          (sym (all_z (λ j. get_or j.premise z false)) ∙ s.sorted z)).1
       | inr not_z ↦ elim (cases_eq w o) [
         | inl e ↦ subst (λ v. list_all (λ j. get_or j.premise v false) (bucket v new) ≡ true) (sym e)
-            (all_o (λ j. get_or j.premise o false) ∙ and_from (list_all (λ j. get_or j.premise o false) (bucket o mid)) (get_or i.premise o false && true) (s.sorted o) (and_from (get_or i.premise o false) true has refl))
+            (all_o (λ j. get_or j.premise o false) ∙ and_from (list_all (λ j. get_or j.premise o false) (bucket o mid))
+            (get_or i.premise o false && true) (s.sorted o) (and_from (get_or i.premise o false) true has refl))
         | inr not_o ↦ ap (list_all (λ j. get_or j.premise w false)) (m.elsewhere w not_z not_o) ∙ s.sorted w
       ]
     ]
@@ -84,15 +89,18 @@ module _ {z k : ℕ} {C D : Set} {old mid : List (List Rule)} (s : IsSettling z 
     kept_move X not_has_z not_has_o p out w l = elim (cases_eq w z) [
       | inl e ↦ subst (λ v. list_all p (bucket v mid) ≡ true) (sym e)
           (all_z p ∙ and_from (p i) (list_all p (bucket z new))
-          (and_parts (p i) true (and_parts (list_all p (bucket o mid)) (p i && true) (sym (all_o p) ∙ out o not_has_o)).1).0 (out z not_has_z))
+          (and_parts (p i) true (and_parts (list_all p (bucket o mid)) (p i && true) (sym (all_o p) ∙ out o not_has_o)).1).0
+          (out z not_has_z))
       | inr not_z ↦ elim (cases_eq w o) [
-        | inl e ↦ subst (λ v. list_all p (bucket v mid) ≡ true) (sym e) (and_parts (list_all p (bucket o mid)) (p i && true) (sym (all_o p) ∙ out o not_has_o)).0
+        | inl e ↦ subst (λ v. list_all p (bucket v mid) ≡ true) (sym e)
+            (and_parts (list_all p (bucket o mid)) (p i && true) (sym (all_o p) ∙ out o not_has_o)).0
         | inr not_o ↦ ap (list_all p) (sym (m.elsewhere w not_z not_o)) ∙ out w l
       ]
     ]
 
     outside : (X : Set) → within X C ≡ true → get_or X o false ≡ false
-    outside X h = false_from_ne_true (get_or X o false) (λ t. false≢true (sym lacks ∙ within_at_place C D s.up o (within_at_place X C h o t)))
+    outside X h = false_from_ne_true (get_or X o false)
+        (λ t. false≢true (sym lacks ∙ within_at_place C D s.up o (within_at_place X C h o t)))
 
     pub settle_move : IsSettling z k C D old new
     settle_move = record {
@@ -109,10 +117,14 @@ module _ {z k : ℕ} {C D : Set} {old mid : List (List Rule)} (s : IsSettling z 
   -- its conclusion is joined
   module _ (wide : (w : ℕ) → HaveWidth (length C) (bucket w old)) where
     i_wide : length i.conclusion ≡ length D
-    i_wide = eqb-true (length i.conclusion) (length C) (and_parts (eqb (length i.premise) (length C)) (eqb (length i.conclusion) (length C)) (passes (has_width (length C)) (s.sound (has_width (length C)) wide z))).1 ∙ sym s.wide
+    i_wide = eqb-true (length i.conclusion) (length C)
+        (and_parts (eqb (length i.premise) (length C)) (eqb (length i.conclusion) (length C))
+        (passes (has_width (length C)) (s.sound (has_width (length C)) wide z))).1 ∙ sym s.wide
 
     pub premise_wide : length i.premise ≡ length C
-    premise_wide = eqb-true (length i.premise) (length C) (and_parts (eqb (length i.premise) (length C)) (eqb (length i.conclusion) (length C)) (passes (has_width (length C)) (s.sound (has_width (length C)) wide z))).0
+    premise_wide = eqb-true (length i.premise) (length C)
+        (and_parts (eqb (length i.premise) (length C)) (eqb (length i.conclusion) (length C))
+        (passes (has_width (length C)) (s.sound (has_width (length C)) wide z))).0
 
     pub join_fits : length i.conclusion ≤ length D
     join_fits = omega (arith, i_wide)
@@ -130,11 +142,14 @@ module _ {z k : ℕ} {C D : Set} {old mid : List (List Rule)} (s : IsSettling z 
           kept = s.kept;
           bounded = λ T h r.
               let d : within D T ≡ true = s.bounded T h r in
-              ap (λ X. within X T) e ∙ join_within D i.conclusion T d (respects_at T i (passes (respects T) (s.sound (respects T) r z)) (within_trans i.premise D T inside d));
-          taken = ap (list_all (λ j. within j.conclusion E)) (take_more (bucket z mid) k i there ∙ ap (λ x. take k (bucket z mid) ++ x ∷ []) (sym is))
+              ap (λ X. within X T) e ∙ join_within D i.conclusion T d
+              (respects_at T i (passes (respects T) (s.sound (respects T) r z)) (within_trans i.premise D T inside d));
+          taken = ap (list_all (λ j. within j.conclusion E))
+              (take_more (bucket z mid) k i there ∙ ap (λ x. take k (bucket z mid) ++ x ∷ []) (sym is))
               ∙ list_all-append (λ j. within j.conclusion E) (take k (bucket z mid)) (i ∷ [])
               ∙ and_from (list_all (λ j. within j.conclusion E) (take k (bucket z mid))) (within i.conclusion E && true)
-              (list_all-mono (λ j. within j.conclusion D) (λ j. within j.conclusion E) (λ j h. within_trans j.conclusion D E h more) (take k (bucket z mid)) s.taken)
+              (list_all-mono (λ j. within j.conclusion D) (λ j. within j.conclusion E) (λ j h. within_trans j.conclusion D E h more)
+              (take k (bucket z mid)) s.taken)
               (and_from (within i.conclusion E) true mine refl);
         }
 
@@ -153,7 +168,8 @@ pub record IsClosing (n : ℕ) (J : List Rule) (limit : ℕ) (A X P D : Set) (ol
   pub bounded : (T : Set) → within X T ≡ true → respects_all J T ≡ true → within D T ≡ true
   pub agree : agree_before limit A D ≡ true
 
-pub closing_start : {F : Watched} {limit : ℕ} {A X : Set} → CanClose F limit A X → IsClosing F.list.width F.list.members limit A X A X F.buckets F.buckets
+pub closing_start : {F : Watched} {limit : ℕ} {A X : Set} → CanClose F limit A X
+    → IsClosing F.list.width F.list.members limit A X A X F.buckets F.buckets
 closing_start {A = A} {X = X} can = record {
   p_wide = can.done_wide;
   d_wide = can.wide;
@@ -168,8 +184,13 @@ closing_start {A = A} {X = X} can = record {
 }
 
 -- the list stays the same
-pub closing_moved : {F G : Watched} {A : Set} → G.list ≡ F.list → IsFiled F.list.width F.list.members G.buckets → ((Y : Set) → within Y A ≡ true → HasKept Y F.buckets G.buckets) → HasMoved A F G
-closing_moved {G = G} list filed kept = record { list = list; filed = subst (λ (L : RuleList). IsFiled L.width L.members G.buckets) (sym list) filed; kept = kept }
+pub closing_moved : {F G : Watched} {A : Set} → G.list ≡ F.list → IsFiled F.list.width F.list.members G.buckets
+    → ((Y : Set) → within Y A ≡ true → HasKept Y F.buckets G.buckets) → HasMoved A F G
+closing_moved {G = G} list filed kept = record {
+  list = list;
+  filed = subst (λ (L : RuleList). IsFiled L.width L.members G.buckets) (sym list) filed;
+  kept = kept;
+}
 
 module _ {n : ℕ} {J : List Rule} {limit : ℕ} {A X : Set} {old : List (List Rule)} where
   module _ {P D : Set} {mid : List (List Rule)} (c : IsClosing n J limit A X P D old mid) where
@@ -215,7 +236,8 @@ module _ {n : ℕ} {J : List Rule} {limit : ℕ} {A X : Set} {old : List (List R
       closing_kept = kept_next
 
       -- one attribute more
-      module _ (all : list_all (λ i. within i.conclusion E) (bucket z new) ≡ true) (agree : agree_before limit A E ≡ true) {Q : Set} (q : Q ≡ set P z true) where
+      module _ (all : list_all (λ i. within i.conclusion E) (bucket z new) ≡ true) (agree : agree_before limit A E ≡ true) {Q : Set}
+          (q : Q ≡ set P z true) where
         z_inside : z < length P
         z_inside = omega (arith, member_below D z z_has, c.d_wide, c.p_wide)
 
@@ -227,8 +249,10 @@ module _ {n : ℕ} {J : List Rule} {limit : ℕ} {A X : Set} {old : List (List R
             let all_mid : Outside P (λ i. within i.conclusion E || p i) mid =
             s.kept P c.part z_lacks (λ i. within i.conclusion E || p i) (λ w l. elim (cases_eq w z) [
               | inl e ↦ subst (λ v. list_all (λ i. within i.conclusion E || p i) (bucket v new) ≡ true) (sym e)
-                  (list_all-mono (λ i. within i.conclusion E) (λ i. within i.conclusion E || p i) (λ i h. or_left (within i.conclusion E) (p i) h) (bucket z new) all)
-              | inr other ↦ list_all-mono p (λ i. within i.conclusion E || p i) (λ i h. or_right (within i.conclusion E) (p i) h) (bucket w new) (out w (get_or-set_other P z w true false other ∙ l))
+                  (list_all-mono (λ i. within i.conclusion E) (λ i. within i.conclusion E || p i)
+                  (λ i h. or_left (within i.conclusion E) (p i) h) (bucket z new) all)
+              | inr other ↦ list_all-mono p (λ i. within i.conclusion E || p i) (λ i h. or_right (within i.conclusion E) (p i) h)
+                  (bucket w new) (out w (get_or-set_other P z w true false other ∙ l))
             ]) in
             list_all-mono (λ i. within i.conclusion D || (within i.conclusion E || p i)) (λ i. within i.conclusion E || p i)
             (λ i h. elim (cases_Bool (within i.conclusion D)) [
@@ -267,8 +291,10 @@ module _ {n : ℕ} {J : List Rule} {limit : ℕ} {A X : Set} {old : List (List R
           closure = record {
             wide = c.d_wide ∙ sym x_wide;
             above = c.above;
-            respecting = list_all-mono (λ i. within i.conclusion D || not (within i.premise D)) (respects D) (λ i h. turned (within i.conclusion D) (not (within i.premise D)) h) J
-                (good (λ i. not (within i.premise D)) (λ w l. list_all-mono (λ i. get_or i.premise w false) (λ i. not (within i.premise D)) (λ i h. ap not (not_within_at i.premise D w h l)) (bucket w mid) (c.filed.sorted w)));
+            respecting = list_all-mono (λ i. within i.conclusion D || not (within i.premise D)) (respects D)
+                (λ i h. turned (within i.conclusion D) (not (within i.premise D)) h) J
+                (good (λ i. not (within i.premise D)) (λ w l. list_all-mono (λ i. get_or i.premise w false) (λ i. not (within i.premise D))
+                (λ i h. ap not (not_within_at i.premise D w h l)) (bucket w mid) (c.filed.sorted w)));
             least = c.bounded;
           };
           agree = c.agree;

@@ -1,8 +1,8 @@
 -- Attributes that an attribute forces.
 --
--- Where the closure of a set with attribute i was seen to have another attribute, so have the closures of larger sets with i, also under more implications. (Andrews,
--- "Making use of empty intersections to improve the performance of CbO-type algorithms", 2017, and Krajca, Outrata and Vychodil, FCbO, 2010, pass such failures down
--- the tree; LinCbO with pruning does so too.)
+-- Where the closure of a set with attribute i was seen to have another attribute, so have the closures of larger sets with i, also under
+-- more implications. (Andrews, "Making use of empty intersections to improve the performance of CbO-type algorithms", 2017, and Krajca,
+-- Outrata and Vychodil, FCbO, 2010, pass such failures down the tree; LinCbO with pruning does so too.)
 --
 -- Under {a} -> {c} each set that contains {b} and has a has c, and so each that contains {b, d}.
 use Rattle.std.specs.Prelude.{◌≡◌, ℕ, ◌<◌, ◌≤◌, ◌+◌, Bool, true, false, not, ◌&&◌, ◌||◌, List, nat_le, slice_index_or}
@@ -15,7 +15,8 @@ IsLonger J M = (T : Set) → respects_all M T ≡ true → respects_all J T ≡ 
 
 -- each set that contains A, has i and respects J has the attribute at place i; where none stands there, that is i itself
 abbrev pub AreForced : List Rule → Set → List ℕ → Type 0
-AreForced J A ws = (i : ℕ) (T : Set) → within A T ≡ true → slice_index_or T i false ≡ true → respects_all J T ≡ true → slice_index_or T (slice_index_or ws i i) false ≡ true
+AreForced J A ws = (i : ℕ) (T : Set) → within A T ≡ true → slice_index_or T i false ≡ true → respects_all J T ≡ true
+    → slice_index_or T (slice_index_or ws i i) false ≡ true
 
 -- attribute i is tried below A: A lacks it, and what it forces is not before it, or A has that
 abbrev pub is_tried : Set → List ℕ → ℕ → Bool

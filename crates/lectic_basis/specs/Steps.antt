@@ -15,8 +15,8 @@ use Rattle.lectic_basis.specs.declared.tree.Step.{Step}
 pub record IsStep (S : List Rule) (K : Context) {W : ℕ} (step : Step W) (first F : Watched) : Type 0 where
   pub below : IsBelow S K K step.intent step.from first
   pub found : HasFound S K step.intent step.end (IsPart step.intent) first F
-  pub near : IsExtent K step.intent step.desk.near
-  pub forced : AreForced F.list.members step.intent step.desk.forced.items
+  pub near : IsExtent K step.intent step.lists.near
+  pub forced : AreForced F.list.members step.intent step.lists.forced.items
   pub order : step.from ≤ step.end
   pub inside : step.end ≤ K.width
 
@@ -24,8 +24,8 @@ pub record IsStep (S : List Rule) (K : Context) {W : ℕ} (step : Step W) (first
 pub record IsBegun (K : Context) (A : Set) (start : ℕ) (ws : List ℕ) {W : ℕ} (step : Step W) : Type 0 where
   pub intent : step.intent ≡ A
   pub from : step.from ≡ start
-  pub near : IsExtent K A step.desk.near
-  pub forced : step.desk.forced.items ≡ ws
+  pub near : IsExtent K A step.lists.near
+  pub forced : step.lists.forced.items ≡ ws
   pub order : start ≤ step.end
   pub inside : step.end ≤ K.width
   pub none : NoneTried A ws step.end K.width
@@ -35,8 +35,8 @@ pub record IsFurther (K : Context) (i : ℕ) (F : Watched) {W : ℕ} (old new : 
   pub intent : new.intent ≡ old.intent
   pub from : new.from ≡ old.from
   pub end : new.end ≡ i
-  pub near : IsExtent K new.intent new.desk.near
-  pub forced : AreForced F.list.members new.intent new.desk.forced.items
+  pub near : IsExtent K new.intent new.lists.near
+  pub forced : AreForced F.list.members new.intent new.lists.forced.items
 
 -- all below that comes of attribute i was visited, or is once all below the step told is
 abbrev pub HasTried : List Rule → Context → ℕ → Watched → Watched → {W : ℕ} → Step W → Step W → Option (Step W) → Type 0
@@ -49,7 +49,8 @@ HasTried S K i F G old new (Some step) =
 abbrev pub AreLeft : List Rule → Context → (Watched → Type 0) → {W : ℕ} → List (Step W) → Watched → Type 0
 AreLeft S K Wanted [] F = Wanted F
 AreLeft S K Wanted (step ∷ steps) F =
-    (first : Watched) × IsStep S K step first F × ((G : Watched) → HasFound S K step.intent step.from (IsPart step.intent) first G → AreLeft S K Wanted steps G)
+    (first : Watched) × IsStep S K step first F × ((G : Watched) → HasFound S K step.intent step.from (IsPart step.intent) first G
+    → AreLeft S K Wanted steps G)
 
 -- the room for steps that is left
 abbrev pub room_left : ℕ → {W : ℕ} → List (Step W) → ℕ

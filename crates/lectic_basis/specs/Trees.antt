@@ -1,10 +1,11 @@
 -- The intents and the pseudo-intents together, and the members of the basis up to a place of the tree.
 --
--- The family of a context has the sets that take in the conclusion of each basis member whose premise lies strictly within them: the intents and the
--- pseudo-intents. A tree visits it in lectic order: below a set A are those that agree with A before an attribute. (Ganter and Wille, "Formal Concept
--- Analysis", pseudo-intents and the algorithm Next Closure.)
+-- The family of a context has the sets that take in the conclusion of each basis member whose premise lies strictly within them: the
+-- intents and the pseudo-intents. A tree visits it in lectic order: below a set A are those that agree with A before an attribute.
+-- (Ganter and Wille, "Formal Concept Analysis", pseudo-intents and the algorithm Next Closure.)
 --
--- Of the rows {a}, {b}, {c} over a, b, c the family is {}, {c}, {b}, {b, c}, {a}, {a, c}, {a, b}, {a, b, c}; {b, c}, {a, c} and {a, b} are not closed.
+-- Of the rows {a}, {b}, {c} over a, b, c the family is {}, {c}, {b}, {b, c}, {a}, {a, c}, {a, b}, {a, b, c}; {b, c}, {a, c} and {a, b} are
+-- not closed.
 use Rattle.std.specs.Prelude.{◌≡◌, ℕ, zero, suc, length, Bool, true, false, not, ◌&&◌, ◌||◌, List, ◌++◌, filter, slice_index_or}
 use Rattle.fca_model.specs.Sets.{Set, within, strictly_within, agree_before}
 use Rattle.fca_model.specs.Context.{Context, closure}

@@ -1,7 +1,7 @@
 -- The states of the walk through the tree.
 --
--- A walk below a set A looks at the sets of the family that agree with A before an attribute, and the members found so far are those whose premise comes
--- before them. So what a set asks for is one fact, that all sets below it contain it, and the members that wait.
+-- A walk below a set A looks at the sets of the family that agree with A before an attribute, and the members found so far are those
+-- whose premise comes before them. So what a set asks for is one fact, that all sets below it contain it, and the members that wait.
 use Rattle.std.specs.Prelude.{◌≡◌, ◌<◌, ◌≤◌, ℕ, suc, true, false, List, slice_index_or}
 use Rattle.std.specs.List.{list_all}
 use Rattle.fca_model.specs.Sets.{Set, within}

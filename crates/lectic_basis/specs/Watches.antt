@@ -1,9 +1,11 @@
 -- Members that wait for an attribute.
 --
--- Each member is in the bucket of one attribute of its premise. While that attribute is outside a set, the premise does not lie within the set, and the member
--- need not be looked at. A member in no bucket, or in the bucket of an attribute of the set, has to have its conclusion within the set.
+-- Each member is in the bucket of one attribute of its premise. While that attribute is outside a set, the premise does not lie within
+-- the set, and the member need not be looked at. A member in no bucket, or in the bucket of an attribute of the set, has to have its
+-- conclusion within the set.
 --
--- Where {a, b} -> {c} waits for b, a set without b need not look at it. For {b} it is looked at, and waits for a from then on, which is as good for {}.
+-- Where {a, b} -> {c} waits for b, a set without b need not look at it. For {b} it is looked at, and waits for a from then on, which is as
+-- good for {}.
 use Rattle.std.specs.Prelude.{◌≡◌, ◌≢◌, ℕ, zero, suc, ◌<◌, ◌++◌, ◌∷◌, length, Bool, true, false, ◌&&◌, ◌||◌, List, [], take, slice_index_or}
 use Rattle.std.specs.List.{list_all}
 use Rattle.fca_model.specs.Sets.{Set, within, agree_before}
@@ -77,8 +79,8 @@ pub record IsMoved {X : Type 0} (old new : List (List X)) (z k o : ℕ) (i : X) 
   pub front : take k (bucket z new) ≡ take k (bucket z old)
   pub fewer : length (bucket z new) < length (bucket z old)
 
--- Bucket z is looked through: the first k members in it have their conclusion within D, which came from C, and the others that were looked at wait for an
--- attribute outside D.
+-- Bucket z is looked through: the first k members in it have their conclusion within D, which came from C, and the others that were
+-- looked at wait for an attribute outside D.
 pub record IsSettling (z k : ℕ) (C D : Set) (old new : List (List Rule)) : Type 0 where
   pub wide : length D ≡ length C
   pub up : within C D ≡ true
@@ -89,7 +91,8 @@ pub record IsSettling (z k : ℕ) (C D : Set) (old new : List (List Rule)) : Typ
   pub bounded : (T : Set) → within C T ≡ true → InBuckets (respects T) old → within D T ≡ true
   pub taken : list_all (λ i. within i.conclusion D) (take k (bucket z new)) ≡ true
 
--- the closure of X may be looked for: each member waits for an attribute outside A, or has its conclusion within X, which agrees with A before an attribute
+-- the closure of X may be looked for: each member waits for an attribute outside A, or has its conclusion within X, which agrees with A
+-- before an attribute
 pub record CanClose (F : Watched) (limit : ℕ) (A X : Set) : Type 0 where
   pub done_wide : length A ≡ F.list.width
   pub wide : length X ≡ F.list.width

@@ -10,8 +10,8 @@ use crate::watched_list::WatchedList;
 use attr_bits::Bits;
 use fca_model::Memory;
 
-/// Closes the set, which contains `done`, under the members. Whether the closure agrees with `done` before the limit; where it does not, the set is a part of it
-/// that differs there. Members that wait for an attribute of the closure wait for another from then on.
+/// Closes the set, which contains `done`, under the members. Whether the closure agrees with `done` before the limit. If it does not, the set is left as a part of
+/// it that differs there. Members that wait for an attribute of the closure wait for another from then on.
 pub fn close<const W: usize>(
     found: &mut WatchedList<W>,
     done: &Bits<W>,
@@ -35,8 +35,8 @@ pub fn close<const W: usize>(
     Ok(true)
 }
 
-/// Looks through the bucket of attribute z of the set, which takes in conclusions. Whether it still agrees with `done` before the limit; if not, the rest of
-/// the bucket is not looked at.
+/// Looks through the bucket of attribute z of the set, which takes in conclusions. Whether it still agrees with `done` before the limit. If not, the rest of the
+/// bucket is not looked at.
 fn settle<const W: usize>(
     found: &mut WatchedList<W>,
     z: u32,

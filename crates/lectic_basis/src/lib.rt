@@ -1,5 +1,5 @@
-//! The basis by a tree in lectic order: the intents and the pseudo-intents are visited together, and closures go by the members found so far, each of which
-//! waits for one attribute of its premise.
+//! The basis by a tree in lectic order. The intents and the pseudo-intents are visited together. Closures go by the members found so far, each of which waits for
+//! one attribute of its premise.
 #![tactic(auto)]
 
 mod closing;
@@ -11,7 +11,7 @@ ghost use Rattle.std.specs.List.{list_all};
 ghost use Rattle.fca_model.specs.Implications.{holds};
 ghost use Rattle.fca_model.specs.Pseudo.{basis_known};
 
-use attr_bits::{Attrs, FOUR_WORDS, ONE_WORD, TWO_WORDS};
+use attr_bits::{Attrs, WordCount};
 pub use closing::close;
 use derivation::{Rows, RowsOf};
 use extent_blocks::IndexedRows;
@@ -22,7 +22,7 @@ use tree::visit_all;
 pub use watched_list::WatchedList;
 
 /// The known implications, and behind them the basis relative to them, in lectic order of the premises. It is found in sets as narrow as the table.
-pub fn basis_watched(
+pub fn known_with_basis(
     alloc: Global,
     rows: &Rows,
     known: &ImplicationList,
@@ -31,21 +31,16 @@ pub fn basis_watched(
     requires holds { list_all (holds rows.now) known.now.members ≡ true }
     ensures { IfOk result (λ list. list ≡ record { width = rows.now.width; members = known.now.members ++ basis_known known.now.members rows.now }) }
 {
-    let width = rows.width();
-    if width <= ONE_WORD {
-        return widened(alloc, rows.resize::<1>(alloc)?, known);
+    match WordCount::of(rows.width()) {
+        WordCount::One => widen_basis(alloc, rows.resize::<1>(alloc)?, known),
+        WordCount::Two => widen_basis(alloc, rows.resize::<2>(alloc)?, known),
+        WordCount::Four => widen_basis(alloc, rows.resize::<4>(alloc)?, known),
+        WordCount::All => widen_basis(alloc, rows.copy()?, known),
     }
-    if width <= TWO_WORDS {
-        return widened(alloc, rows.resize::<2>(alloc)?, known);
-    }
-    if width <= FOUR_WORDS {
-        return widened(alloc, rows.resize::<4>(alloc)?, known);
-    }
-    widened(alloc, rows.copy()?, known)
 }
 
-/// The same, found in sets of the words that the rows have.
-fn widened<const W: usize>(
+/// The known implications and the basis relative to them, found in W words and given in all words.
+fn widen_basis<const W: usize>(
     alloc: Global,
     rows: RowsOf<W>,
     known: &ImplicationList,
@@ -57,9 +52,8 @@ fn widened<const W: usize>(
     basis_in_words(alloc, rows, known)?.widen(alloc)
 }
 
-/// The known implications, and behind them the basis relative to them, in lectic order of the premises, in sets of the words that the rows have. (Ganter, "Two
-/// basic algorithms in concept analysis", 1984, for the order; Janostik, Konecny and Krajca, "LinCbO", 2021, for the tree; Moskewicz and others, "Chaff", 2001,
-/// for what waits.)
+/// The known implications, and behind them the basis relative to them, in lectic order of the premises, in sets of W words. (Ganter, "Two basic algorithms in
+/// concept analysis", 1984, for the order; Janostik, Konecny and Krajca, "LinCbO", 2021, for the tree; Moskewicz and others, "Chaff", 2001, for what waits.)
 pub fn basis_in_words<const W: usize>(
     alloc: Global,
     rows: RowsOf<W>,
@@ -69,23 +63,10 @@ pub fn basis_in_words<const W: usize>(
     requires holds { list_all (holds rows) known.now.members ≡ true }
     ensures { IfOk result (λ list. list ≡ record { width = rows.entry.width; members = known.now.members ++ basis_known known.now.members rows.entry }) }
 {
-    let sheet = IndexedRows::new(alloc, rows)?;
-    basis_by(alloc, &sheet, known)
-}
-
-/// The same, where the columns are there.
-fn basis_by<const W: usize>(
-    alloc: Global,
-    sheet: &IndexedRows<W>,
-    known: &ImplicationList,
-) -> Result<ImplicationListOf<W>, Memory>
-    requires wide { known.now.width ≡ sheet.now.width }
-    requires holds { list_all (holds sheet.now) known.now.members ≡ true }
-    ensures { IfOk result (λ list. list ≡ record { width = sheet.now.width; members = known.now.members ++ basis_known known.now.members sheet.now }) }
-{
-    let _width = sheet.rows().width();
+    let indexed = IndexedRows::new(alloc, rows)?;
+    let _width = indexed.rows().width();
     let least = known.naive_closure(&Attrs::empty(known.width()));
     let mut found = WatchedList::of(alloc, known, &least)?;
-    visit_all(alloc, sheet, known, &mut found, &least.resize(), 0)?;
+    visit_all(alloc, &indexed, known, &mut found, &least.resize(), 0)?;
     Ok(found.into_list())
 }

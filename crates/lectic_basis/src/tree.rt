@@ -1,5 +1,5 @@
 //! The walk through the tree. Below a set of the family are, for each later attribute that it lacks, the sets that agree with it before that attribute and
-//! have it. Found members that wait for an attribute outside a set still do so when all below it was visited.
+//! have it. Found members that wait for an attribute outside a set still do so after all below it was visited.
 
 ghost use Rattle.std.specs.Prelude.{◌≡◌, ◌<◌, ◌≤◌, ◌+◌, true, false, List, OnOk, IfOk, IfSome, MatchOption, length, slice_index_or, slice_set};
 ghost use Rattle.fca_model.specs.Sets.{within};
@@ -19,66 +19,66 @@ use fca_model::{Implication, Memory};
 use implication_closure::ImplicationList;
 use std::alloc::Global;
 
-/// What goes down the tree with an intent: the places of the rows that contain it, and what attributes force. The lists of a step are used again by later ones.
+/// What goes down the tree with an intent: the places of the rows that contain it, and what attributes force. Later steps use the lists of a step again.
 #[derive(Drop)]
-pub(crate) struct Desk {
+pub(crate) struct StepLists {
     pub(crate) near: BlockExtent,
     pub(crate) forced: Vec<u32>,
 }
 
-/// An intent below which more may be. From attribute `end` on all were tried, and none before `from` is to be.
+/// An intent below which more may be. The walk has tried all attributes from `end` on, and tries none before `from`.
 #[derive(Drop)]
 pub(crate) struct Step<const W: usize> {
     pub(crate) intent: Bits<W>,
     pub(crate) from: u32,
     pub(crate) end: u32,
-    pub(crate) desk: Desk,
+    pub(crate) lists: StepLists,
 }
 
 /// Visits a, and then all that agree with it before attribute `from`.
 pub(crate) fn visit_all<const W: usize>(
     alloc: Global,
-    sheet: &IndexedRows<W>,
+    indexed: &IndexedRows<W>,
     known: &ImplicationList,
     found: &mut WatchedList<W>,
     a: &Bits<W>,
     from: u32,
 ) -> Result<(), Memory>
-    requires { IsVisit known.now.members sheet.now sheet.now a.now from found.old }
-    ensures { OnOk result (HasFound known.now.members sheet.now a.now from (IsPartBefore a.now from) found.old found.new) }
+    requires { IsVisit known.now.members indexed.now indexed.now a.now from found.old }
+    ensures { OnOk result (HasFound known.now.members indexed.now a.now from (IsPartBefore a.now from) found.old found.new) }
 {
     let _width = found.width();
-    let closed = sheet.rows().closure(a);
-    match visit(sheet, known, found, a, &closed, from)? {
+    let closed = indexed.rows().closure(a);
+    match visit(indexed, known, found, a, &closed, from)? {
         None => Ok(()),
         Some(intent) => {
-            let first = first_step(alloc, sheet, found, &intent, from)?;
-            spread(alloc, sheet, known, found, first)
+            let first = first_step(alloc, indexed, found, &intent, from)?;
+            visit_below(alloc, indexed, known, found, first)
         }
     }
 }
 
-/// Visits all that agree with the intent of the step before its first attribute and come behind it. The steps that are not done wait in a list, so a tree that
-/// is deep takes no more stack than one that is not.
-fn spread<const W: usize>(
+/// Visits all that agree with the intent of the step before its first attribute and come behind it. The steps that are not done wait in a list, so a deep tree
+/// takes no more stack than a shallow one.
+fn visit_below<const W: usize>(
     alloc: Global,
-    sheet: &IndexedRows<W>,
+    indexed: &IndexedRows<W>,
     known: &ImplicationList,
     found: &mut WatchedList<W>,
     first: Step<W>,
 ) -> Result<(), Memory>
-    requires { IsStep known.now.members sheet.now first found.old found.old }
-    ensures { OnOk result (HasFound known.now.members sheet.now first.entry.intent first.entry.from (IsPart first.entry.intent) found.old found.new) }
+    requires { IsStep known.now.members indexed.now first found.old found.old }
+    ensures { OnOk result (HasFound known.now.members indexed.now first.entry.intent first.entry.from (IsPart first.entry.intent) found.old found.new) }
 {
-    let _width = sheet.rows().width();
-    let mut desks = Vec::new(alloc);
+    let _width = indexed.rows().width();
+    let mut spare = Vec::new(alloc);
     let mut steps = vec![in alloc; first]?;
     while let Some(mut step) = steps.pop() {
-        let Some(i) = last_tried(&step.intent, &step.desk.forced, step.from, step.end) else {
-            desks.push(step.desk)?;
+        let Some(i) = last_to_try(&step.intent, &step.lists.forced, step.from, step.end) else {
+            spare.push(step.lists)?;
             continue;
         };
-        let below = next_below(alloc, sheet, known, found, &mut step, i, &mut desks)?;
+        let below = next_below(alloc, indexed, known, found, &mut step, i, &mut spare)?;
         steps.push(step)?;
         let Some(below) = below else {
             continue;
@@ -88,71 +88,71 @@ fn spread<const W: usize>(
     Ok(())
 }
 
-/// Tries attribute i at the step, and tells the step below that comes of it, if there may be more there.
+/// Tries attribute i at the step. Returns the step below that comes of it, if there may be more there.
 fn next_below<const W: usize>(
     alloc: Global,
-    sheet: &IndexedRows<W>,
+    indexed: &IndexedRows<W>,
     known: &ImplicationList,
     found: &mut WatchedList<W>,
     step: &mut Step<W>,
     i: u32,
-    desks: &mut Vec<Desk>,
+    spare: &mut Vec<StepLists>,
 ) -> Result<Option<Step<W>>, Memory>
-    requires trying { IsTrying known.now.members sheet.now sheet.now step.old.intent i found.old }
+    requires trying { IsTrying known.now.members indexed.now indexed.now step.old.intent i found.old }
     requires lacks { slice_index_or step.old.intent i false ≡ false }
-    requires near { IsExtent sheet.now step.old.intent step.old.desk.near }
-    requires forced { AreForced found.old.list.members step.old.intent step.old.desk.forced.items }
-    ensures { IfOk result (λ below. HasTried known.now.members sheet.now i found.old found.new step.old step.new below) }
+    requires near { IsExtent indexed.now step.old.intent step.old.lists.near }
+    requires forced { AreForced found.old.list.members step.old.intent step.old.lists.forced.items }
+    ensures { IfOk result (λ below. HasTried known.now.members indexed.now i found.old found.new step.old step.new below) }
 {
     let _width = found.width();
     step.end = i;
     let child = child_at(
-        sheet,
-        &step.desk.near,
+        indexed,
+        &step.lists.near,
         known,
         found,
         &step.intent,
         i,
-        &mut step.desk.forced,
+        &mut step.lists.forced,
     )?;
     match child {
         None => Ok(None),
-        Some(intent) => step_below(alloc, sheet, &intent, i, &step.desk, desks),
+        Some(intent) => step_below(alloc, indexed, &intent, i, &step.lists, spare),
     }
 }
 
-/// The step at the intent a, where attribute i was tried at the desk above. Where no attribute behind it is to be tried, no rows are looked for.
+/// The step at the intent a, which comes of attribute i and the lists above. If no later attribute is to be tried, there is none, and no row is looked for.
 fn step_below<const W: usize>(
     alloc: Global,
-    sheet: &IndexedRows<W>,
+    indexed: &IndexedRows<W>,
     a: &Bits<W>,
     i: u32,
-    above: &Desk,
-    desks: &mut Vec<Desk>,
+    above: &StepLists,
+    spare: &mut Vec<StepLists>,
 ) -> Result<Option<Step<W>>, Memory>
-    requires inside { i < sheet.now.width }
-    requires wide { length a.now ≡ sheet.now.width }
-    requires near { IsExtentWith sheet.now a.now i above.now.near }
+    requires inside { i < indexed.now.width }
+    requires wide { length a.now ≡ indexed.now.width }
+    requires near { IsExtentWith indexed.now a.now i above.now.near }
     ensures { IfOk result (λ step. MatchOption step
-        (NoneTried a.now above.now.forced.items (i + 1) sheet.now.width)
-        (IsBegun sheet.now a.now (i + 1) above.now.forced.items)) }
+        (NoneTried a.now above.now.forced.items (i + 1) indexed.now.width)
+        (IsBegun indexed.now a.now (i + 1) above.now.forced.items)) }
 {
-    let width = sheet.rows().width();
-    let Some(last) = last_tried(a, &above.forced, i + 1, width) else {
+    let width = indexed.rows().width();
+    let Some(last) = last_to_try(a, &above.forced, i + 1, width) else {
         return Ok(None);
     };
-    let mut desk = taken(alloc, desks);
-    fill(&mut desk, sheet, a, i, above)?;
+    let mut lists = take_spare(alloc, spare);
+    fill(&mut lists, indexed, a, i, above)?;
     Ok(Some(Step {
         intent: *a,
         from: i + 1,
         end: last + 1,
-        desk,
+        lists,
     }))
 }
 
-/// The last attribute of these that is tried below a.
-fn last_tried<const W: usize>(a: &Bits<W>, forced: &[u32], from: u32, before: u32) -> Option<u32>
+/// The last of these attributes that is to be tried below a.
+fn last_to_try<const W: usize>(a: &Bits<W>, forced: &[u32], from: u32, before: u32) -> Option<u32>
     requires order { from ≤ before }
     requires inside { before ≤ length a.now }
     ensures { MatchOption result (NoneTried a.now forced.now from before) (IsLastTried a.now forced.now from before) }
@@ -177,10 +177,10 @@ fn tries<const W: usize>(a: &Bits<W>, forced: &[u32], i: u32) -> bool
     i <= member || a.has(member)
 }
 
-/// Visits the least set of the family that contains a and attribute i, which a lacks, if the set agrees with a before it. Where more is left there, it is behind
-/// the intent that is told.
+/// Visits the least set of the family that contains a and attribute i, which a lacks, if the set agrees with a before i. If more is left there, it is behind the
+/// returned intent.
 fn child_at<const W: usize>(
-    sheet: &IndexedRows<W>,
+    indexed: &IndexedRows<W>,
     near: &BlockExtent,
     known: &ImplicationList,
     found: &mut WatchedList<W>,
@@ -188,15 +188,15 @@ fn child_at<const W: usize>(
     i: u32,
     forced: &mut Vec<u32>,
 ) -> Result<Option<Bits<W>>, Memory>
-    requires trying { IsTrying known.now.members sheet.now sheet.now a.now i found.old }
+    requires trying { IsTrying known.now.members indexed.now indexed.now a.now i found.old }
     requires lacks { slice_index_or a.now i false ≡ false }
-    requires near { IsExtent sheet.now a.now near.now }
+    requires near { IsExtent indexed.now a.now near.now }
     requires forced { AreForced found.old.list.members a.now forced.old.items }
-    ensures below { IfOk result (λ child. IfSome child (λ b. IsBelow known.now.members sheet.now sheet.now b (i + 1) found.new)) }
-    ensures near { IfOk result (λ child. IfSome child (λ b. IsExtentWith sheet.now b i near.now)) }
+    ensures below { IfOk result (λ child. IfSome child (λ b. IsBelow known.now.members indexed.now indexed.now b (i + 1) found.new)) }
+    ensures near { IfOk result (λ child. IfSome child (λ b. IsExtentWith indexed.now b i near.now)) }
     ensures done { IfOk result (λ child. MatchOption child
-        (HasFound known.now.members sheet.now a.now i (IsPart a.now) found.old found.new)
-        (λ b. (new : Watched) → HasFound known.now.members sheet.now b (i + 1) (IsPart b) found.new new → HasFound known.now.members sheet.now a.now i (IsPart a.now) found.old new)) }
+        (HasFound known.now.members indexed.now a.now i (IsPart a.now) found.old found.new)
+        (λ b. (new : Watched) → HasFound known.now.members indexed.now b (i + 1) (IsPart b) found.new new → HasFound known.now.members indexed.now a.now i (IsPart a.now) found.old new)) }
     ensures kept { OnOk result (AreForced found.old.list.members a.now forced.new.items) }
     ensures passed { IfOk result (λ child. IfSome child (λ b. AreForced found.new.list.members b forced.new.items)) }
 {
@@ -206,28 +206,28 @@ fn child_at<const W: usize>(
         note(forced, a, i, &reached);
         return Ok(None);
     }
-    let closed = near.closure_with(sheet, i, &reached);
-    visit(sheet, known, found, &reached, &closed, i + 1)
+    let closed = near.closure_with(indexed, i, &reached);
+    visit(indexed, known, found, &reached, &closed, i + 1)
 }
 
-/// Visits a alone, whose closure is given. Where more is left that agrees with a before attribute `from`, it is behind the intent that is told: that is a itself, or
-/// its closure, and a is the premise of a member.
+/// Visits a alone, whose closure is given. If more is left that agrees with a before attribute `from`, it is behind the returned intent. That is a itself, or its
+/// closure, and then a is the premise of a member.
 fn visit<const W: usize>(
-    sheet: &IndexedRows<W>,
+    indexed: &IndexedRows<W>,
     known: &ImplicationList,
     found: &mut WatchedList<W>,
     a: &Bits<W>,
     closed: &Bits<W>,
     from: u32,
 ) -> Result<Option<Bits<W>>, Memory>
-    requires visit { IsVisit known.now.members sheet.now sheet.now a.now from found.old }
-    requires closed { closed.now ≡ closure sheet.now a.now }
-    ensures below { IfOk result (λ intent. IfSome intent (λ b. IsBelow known.now.members sheet.now sheet.now b from found.new)) }
+    requires visit { IsVisit known.now.members indexed.now indexed.now a.now from found.old }
+    requires closed { closed.now ≡ closure indexed.now a.now }
+    ensures below { IfOk result (λ intent. IfSome intent (λ b. IsBelow known.now.members indexed.now indexed.now b from found.new)) }
     ensures done { IfOk result (λ intent. MatchOption intent
-        (HasFound known.now.members sheet.now a.now from (IsPartBefore a.now from) found.old found.new)
-        (λ b. (new : Watched) → HasFound known.now.members sheet.now b from (IsPart b) found.new new → HasFound known.now.members sheet.now a.now from (IsPartBefore a.now from) found.old new)) }
+        (HasFound known.now.members indexed.now a.now from (IsPartBefore a.now from) found.old found.new)
+        (λ b. (new : Watched) → HasFound known.now.members indexed.now b from (IsPart b) found.new new → HasFound known.now.members indexed.now a.now from (IsPartBefore a.now from) found.old new)) }
     ensures larger { IfOk result (λ intent. IfSome intent (λ b. within a.now b ≡ true)) }
-    ensures shared { IfOk result (λ intent. IfSome intent (λ b. within b (closure sheet.now a.now) ≡ true)) }
+    ensures shared { IfOk result (λ intent. IfSome intent (λ b. within b (closure indexed.now a.now) ≡ true)) }
     ensures more { OnOk result (IsLonger found.old.list.members found.new.list.members) }
 {
     let _width = found.width();
@@ -238,7 +238,7 @@ fn visit<const W: usize>(
         premise: *a,
         conclusion: *closed,
     };
-    found.push_before(member, from)?;
+    found.push_to_wait(member, from)?;
     if !agrees(a, closed, from) {
         return Ok(None);
     }
@@ -250,60 +250,60 @@ fn visit<const W: usize>(
 /// The step at the first intent.
 fn first_step<const W: usize>(
     alloc: Global,
-    sheet: &IndexedRows<W>,
+    indexed: &IndexedRows<W>,
     found: &WatchedList<W>,
     a: &Bits<W>,
     from: u32,
 ) -> Result<Step<W>, Memory>
     ensures intent { IfOk result (λ step. step.intent ≡ a.now) }
     ensures from { IfOk result (λ step. step.from ≡ from) }
-    ensures end { IfOk result (λ step. step.end ≡ sheet.now.width) }
-    ensures near { IfOk result (λ step. IsExtent sheet.now a.now step.desk.near) }
-    ensures forced { IfOk result (λ step. AreForced found.now.list.members a.now step.desk.forced.items) }
+    ensures end { IfOk result (λ step. step.end ≡ indexed.now.width) }
+    ensures near { IfOk result (λ step. IsExtent indexed.now a.now step.lists.near) }
+    ensures forced { IfOk result (λ step. AreForced found.now.list.members a.now step.lists.forced.items) }
 {
-    let end = sheet.rows().width();
-    let near = BlockExtent::of(alloc, sheet, a)?;
-    let forced = first_forced(alloc, found, a)?;
+    let end = indexed.rows().width();
+    let near = BlockExtent::of(alloc, indexed, a)?;
+    let forced = initial_forces(alloc, found, a)?;
     Ok(Step {
         intent: *a,
         from,
         end,
-        desk: Desk { near, forced },
+        lists: StepLists { near, forced },
     })
 }
 
-/// A desk that was used before, or a new one.
-fn taken(alloc: Global, desks: &mut Vec<Desk>) -> Desk {
-    match desks.pop() {
-        Some(desk) => desk,
-        None => Desk {
+/// Lists that were used before, or new ones.
+fn take_spare(alloc: Global, spare: &mut Vec<StepLists>) -> StepLists {
+    match spare.pop() {
+        Some(lists) => lists,
+        None => StepLists {
             near: BlockExtent::new(alloc),
             forced: Vec::new(alloc),
         },
     }
 }
 
-/// Puts on the desk the places of the rows that contain the child a, which are those above that have attribute i, and what attributes force.
+/// Fills the lists for the child a: the places of the rows that contain it, which are those above that have attribute i, and what attributes force.
 fn fill<const W: usize>(
-    desk: &mut Desk,
-    sheet: &IndexedRows<W>,
+    lists: &mut StepLists,
+    indexed: &IndexedRows<W>,
     a: &Bits<W>,
     i: u32,
-    above: &Desk,
+    above: &StepLists,
 ) -> Result<(), Memory>
-    requires inside { i < sheet.now.width }
-    requires extent { IsExtentWith sheet.now a.now i above.now.near }
-    ensures near { OnOk result (IsExtent sheet.now a.now desk.new.near) }
-    ensures forced { OnOk result (desk.new.forced.items ≡ above.now.forced.items) }
+    requires inside { i < indexed.now.width }
+    requires extent { IsExtentWith indexed.now a.now i above.now.near }
+    ensures near { OnOk result (IsExtent indexed.now a.now lists.new.near) }
+    ensures forced { OnOk result (lists.new.forced.items ≡ above.now.forced.items) }
 {
-    desk.near.set_having(&above.near, sheet, i)?;
-    desk.forced.clear();
-    desk.forced.extend_from_slice(&above.forced)?;
+    lists.near.set_having(&above.near, indexed, i)?;
+    lists.forced.clear();
+    lists.forced.extend_from_slice(&above.forced)?;
     Ok(())
 }
 
-/// Each attribute forces itself.
-fn first_forced<const W: usize>(
+/// What attributes force at first: each forces itself.
+fn initial_forces<const W: usize>(
     alloc: Global,
     found: &WatchedList<W>,
     a: &Bits<W>,
@@ -317,8 +317,8 @@ fn first_forced<const W: usize>(
     Ok(forced)
 }
 
-/// Notes that attribute i forces the last attribute before it that the set has and a lacks. In scales, where an attribute implies those before it, no other stays
-/// outside the sets below for so long.
+/// Notes that attribute i forces the last attribute before it that the set has and a lacks. In scales an attribute implies those before it, so no other stays outside
+/// the sets below for so long.
 fn note<const W: usize>(forced: &mut Vec<u32>, a: &Bits<W>, i: u32, closed: &Bits<W>)
     ensures { (J : List Rule) → IsBounded J (slice_set a.now i true) closed.now → AreForced J a.now forced.old.items → AreForced J a.now forced.new.items }
 {

@@ -31,7 +31,7 @@ impl<const W: usize> Model for WatchedList<W> {
 }
 
 impl<const W: usize> WatchedList<W> {
-    /// The same implications. Each waits for an attribute outside x, or has its conclusion within x.
+    /// The implications of the list. Each waits for an attribute outside x, or has its conclusion within x.
     pub fn of(alloc: Global, list: &ImplicationList, x: &Attrs) -> Result<WatchedList<W>, Memory>
         requires words { W ≤ 1024 }
         requires fits { list.now.width ≤ 64 * W }
@@ -45,7 +45,7 @@ impl<const W: usize> WatchedList<W> {
         WatchedList::of_narrow(alloc, &narrow, &x.resize())
     }
 
-    /// The same of a list in as many words.
+    /// The implications of a list in W words. Each waits for an attribute outside x, or has its conclusion within x.
     pub fn of_narrow(
         alloc: Global,
         list: &ImplicationListOf<W>,
@@ -66,7 +66,7 @@ impl<const W: usize> WatchedList<W> {
         Ok(watched)
     }
 
-    /// The same implications, of which none waits.
+    /// The implications of the list. None waits.
     fn new(alloc: Global, list: &ImplicationListOf<W>) -> Result<WatchedList<W>, Memory>
         ensures list { IfOk result (λ watched. watched.list ≡ list.now) }
         ensures room { IfOk result (λ watched. length watched.buckets ≡ list.now.width) }
@@ -88,7 +88,7 @@ impl<const W: usize> WatchedList<W> {
         self.list.width()
     }
 
-    /// The list, with nothing that waits.
+    /// The list alone.
     pub(crate) fn into_list(self) -> ImplicationListOf<W>
         ensures { result ≡ self.entry.list }
     {
@@ -147,7 +147,7 @@ impl<const W: usize> WatchedList<W> {
     }
 
     /// Puts the implication last; it waits for the attribute before `from`, if there is one.
-    pub fn push_before(&mut self, member: Implication<Bits<W>>, from: u32) -> Result<(), Memory>
+    pub fn push_to_wait(&mut self, member: Implication<Bits<W>>, from: u32) -> Result<(), Memory>
         requires premise { length member.premise ≡ self.old.list.width }
         requires conclusion { length member.conclusion ≡ self.old.list.width }
         requires inside { from ≤ length self.old.buckets }

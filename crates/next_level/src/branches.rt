@@ -114,7 +114,7 @@ impl<'a, const W: usize> Walk<'a, W> {
         let part = child_among(
             alloc, self.sheet, &found, self.least, i, self.among, &reached,
         )?;
-        found.push_before(
+        found.push_to_wait(
             Implication {
                 premise: *self.least,
                 conclusion: reached,

@@ -21,12 +21,15 @@ settle-requires g c =
 pub returns-then-not-branch-clause-moved : goal.returns-then-not-branch-clause-moved
 returns-then-not-branch-clause-moved g c =
     let missing : first_missing 0 c.loop-z.closed c.loop-z.seen ≡ Some c.in-Some.z = sym c.first_missing.ensures ∙ c.in-Some.is in
-    watch.closing_moved (c.settle.ensures.list ∙ c.loop-z.invariant.list) (watch.closing_filed c.loop-z.invariant.closing missing c.in_ok-settle.ensures.settling) (watch.closing_kept c.loop-z.invariant.closing missing c.in_ok-settle.ensures.settling)
+    watch.closing_moved (c.settle.ensures.list ∙ c.loop-z.invariant.list)
+    (watch.closing_filed c.loop-z.invariant.closing missing c.in_ok-settle.ensures.settling)
+    (watch.closing_kept c.loop-z.invariant.closing missing c.in_ok-settle.ensures.settling)
 
 pub returns-then-not-branch-clause-differs : goal.returns-then-not-branch-clause-differs
 returns-then-not-branch-clause-differs g c e =
     let missing : first_missing 0 c.loop-z.closed c.loop-z.seen ≡ Some c.in-Some.z = sym c.first_missing.ensures ∙ c.in-Some.is in
-    watch.closing_differs c.loop-z.invariant.closing missing c.in_ok-settle.ensures.settling (sym c.in_ok-settle.ensures.agree ∙ c.if-not-branch.true)
+    watch.closing_differs c.loop-z.invariant.closing missing c.in_ok-settle.ensures.settling
+    (sym c.in_ok-settle.ensures.agree ∙ c.if-not-branch.true)
 
 pub returns-then-not-branch-clause-bounded : goal.returns-then-not-branch-clause-bounded
 returns-then-not-branch-clause-bounded g c =
@@ -36,19 +39,27 @@ returns-then-not-branch-clause-bounded g c =
 pub insert-requires : goal.insert-requires
 insert-requires g c =
     let missing : first_missing 0 c.loop-z.closed c.loop-z.seen ≡ Some c.in-Some.z = sym c.first_missing.ensures ∙ c.in-Some.is in
-    omega (arith, member_below c.loop-z.closed c.in-Some.z (first_missing-parts c.loop-z.closed c.loop-z.seen c.in-Some.z missing).0, c.loop-z.invariant.closing.d_wide, c.loop-z.invariant.closing.p_wide)
+    omega (
+      arith,
+      member_below c.loop-z.closed c.in-Some.z (first_missing-parts c.loop-z.closed c.loop-z.seen c.in-Some.z missing).0,
+      c.loop-z.invariant.closing.d_wide,
+      c.loop-z.invariant.closing.p_wide,
+    )
 
 pub loop-z-smaller : goal.loop-z-smaller
 loop-z-smaller g c =
     let missing : first_missing 0 c.loop-z.closed c.loop-z.seen ≡ Some c.in-Some.z = sym c.first_missing.ensures ∙ c.in-Some.is in
-    watch.closing_smaller c.loop-z.invariant.closing missing c.in_ok-settle.ensures.settling (c.in_ok-settle.ensures.finished c.if-not-branch.false) (sym c.in_ok-settle.ensures.agree ∙ c.if-not-branch.false) c.insert.ensures
+    watch.closing_smaller c.loop-z.invariant.closing missing c.in_ok-settle.ensures.settling
+    (c.in_ok-settle.ensures.finished c.if-not-branch.false) (sym c.in_ok-settle.ensures.agree ∙ c.if-not-branch.false) c.insert.ensures
 
 pub loop-z-preserved : goal.loop-z-preserved
 loop-z-preserved g c =
     let missing : first_missing 0 c.loop-z.closed c.loop-z.seen ≡ Some c.in-Some.z = sym c.first_missing.ensures ∙ c.in-Some.is in
     record {
       list = c.settle.ensures.list ∙ c.loop-z.invariant.list;
-      closing = watch.closing_next c.loop-z.invariant.closing missing c.in_ok-settle.ensures.settling (c.in_ok-settle.ensures.finished c.if-not-branch.false) (sym c.in_ok-settle.ensures.agree ∙ c.if-not-branch.false) c.insert.ensures;
+      closing = watch.closing_next c.loop-z.invariant.closing missing c.in_ok-settle.ensures.settling
+          (c.in_ok-settle.ensures.finished c.if-not-branch.false)
+          (sym c.in_ok-settle.ensures.agree ∙ c.if-not-branch.false) c.insert.ensures;
     }
 
 pub returns-clause-moved : goal.returns-clause-moved

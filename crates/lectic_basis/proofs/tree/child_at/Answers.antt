@@ -7,37 +7,76 @@ use Rattle.lectic_basis.proofs.WalkLemmas.{below_can_close, below_none, below_vi
 use Rattle.lectic_basis.proofs.tree.child_at.Goals as goal
 
 pub close-requires : goal.close-requires
-close-requires g c = (omega arith, (omega (arith, c.width-width.ensures.words), below_can_close c.requires.trying c.requires.lacks c.with-reached.ensures))
+close-requires g c = (
+  omega arith,
+  (
+    omega (arith, c.width-width.ensures.words),
+    below_can_close c.requires.trying c.requires.lacks c.with-reached.ensures,
+  ),
+)
 
 pub returns-then-not-branch-clause-done : goal.returns-then-not-branch-clause-done
-returns-then-not-branch-clause-done g c = below_none c.requires.trying c.requires.lacks c.with-reached.ensures c.in_ok-close.ensures.moved (c.in_ok-close.ensures.differs c.if-not-branch.true)
+returns-then-not-branch-clause-done g c = below_none c.requires.trying c.requires.lacks c.with-reached.ensures c.in_ok-close.ensures.moved
+    (c.in_ok-close.ensures.differs c.if-not-branch.true)
 
 pub returns-then-not-branch-clause-kept : goal.returns-then-not-branch-clause-kept
-returns-then-not-branch-clause-kept g c = c.note.ensures c.args.found.now.list.members (subst (λ X. IsBounded c.args.found.now.list.members X c.close.new.closed) c.with-reached.ensures c.in_ok-close.ensures.bounded) c.requires.forced
+returns-then-not-branch-clause-kept g c = c.note.ensures c.args.found.now.list.members
+    (subst (λ X. IsBounded c.args.found.now.list.members X c.close.new.closed) c.with-reached.ensures c.in_ok-close.ensures.bounded)
+    c.requires.forced
 
 pub closure_with-closed-requires : goal.closure_with-closed-requires
 closure_with-closed-requires g c =
     let closed = c.in_ok-close.ensures.closure c.if-not-branch.false in
-    let lacks = c.requires.lacks in
-    (omega arith, (omega (arith, c.width-width.ensures.words), (c.requires.trying.inside, (below_wide c.requires.trying lacks c.with-reached.ensures c.in_ok-close.ensures.moved closed, below_extent c.requires.trying lacks c.with-reached.ensures c.in_ok-close.ensures.moved closed c.args.near.now c.requires.near))))
+    let lacks = c.requires.lacks in (
+      omega arith,
+      (
+        omega (arith, c.width-width.ensures.words),
+        (
+          c.requires.trying.inside,
+          (
+            below_wide c.requires.trying lacks c.with-reached.ensures c.in_ok-close.ensures.moved closed,
+            below_extent c.requires.trying lacks c.with-reached.ensures c.in_ok-close.ensures.moved closed c.args.near.now c.requires.near,
+          ),
+        ),
+      ),
+    )
 
 pub visit-requires : goal.visit-requires
-visit-requires g c = (omega arith, (omega arith, (omega (arith, c.width-width.ensures.words), (below_visit c.requires.trying c.requires.lacks c.with-reached.ensures c.in_ok-close.ensures.moved (c.in_ok-close.ensures.closure c.if-not-branch.false), c.closure_with-closed.ensures))))
+visit-requires g c = (
+  omega arith,
+  (
+    omega arith,
+    (
+      omega (arith, c.width-width.ensures.words),
+      (
+        below_visit c.requires.trying c.requires.lacks c.with-reached.ensures
+            c.in_ok-close.ensures.moved (c.in_ok-close.ensures.closure c.if-not-branch.false),
+        c.closure_with-closed.ensures,
+      ),
+    ),
+  ),
+)
 
 pub returns-clause-near : goal.returns-clause-near
 returns-clause-near g c =
     let closed = c.in_ok-close.ensures.closure c.if-not-branch.false in
     let lacks = c.requires.lacks in
-    told_extent c.args.sheet.now c.close.new.closed c.args.i c.args.near.now c.visit.result
-    (below_extent c.requires.trying lacks c.with-reached.ensures c.in_ok-close.ensures.moved closed c.args.near.now c.requires.near) c.visit.ensures.larger c.visit.ensures.shared
+    told_extent c.args.indexed.now c.close.new.closed c.args.i c.args.near.now c.visit.result
+    (below_extent c.requires.trying lacks c.with-reached.ensures c.in_ok-close.ensures.moved closed c.args.near.now c.requires.near)
+    c.visit.ensures.larger c.visit.ensures.shared
 
 pub returns-clause-done : goal.returns-clause-done
-returns-clause-done g c = below_told c.requires.trying c.requires.lacks c.with-reached.ensures c.in_ok-close.ensures.moved (c.in_ok-close.ensures.closure c.if-not-branch.false) _ c.visit.result c.visit.ensures.done
+returns-clause-done g c = below_told c.requires.trying c.requires.lacks c.with-reached.ensures c.in_ok-close.ensures.moved
+    (c.in_ok-close.ensures.closure c.if-not-branch.false) _ c.visit.result c.visit.ensures.done
 
 pub returns-clause-passed : goal.returns-clause-passed
 returns-clause-passed g c =
     let closed = c.in_ok-close.ensures.closure c.if-not-branch.false in
-    told_forced c.close.new.found.list.members c.visit.new.found.list.members c.args.a.now c.close.new.closed c.args.forced.now.items c.visit.result (subst (λ (M : RuleList). AreForced M.members c.args.a.now c.args.forced.now.items) (sym c.in_ok-close.ensures.moved.list) c.requires.forced) (below_up c.args.a.now c.with-reached.result c.close.new.closed c.args.i c.args.found.now.list.members c.with-reached.ensures closed.closure) c.visit.ensures.more c.visit.ensures.larger
+    told_forced c.close.new.found.list.members c.visit.new.found.list.members c.args.a.now c.close.new.closed c.args.forced.now.items
+    c.visit.result (subst (λ (M : RuleList). AreForced M.members c.args.a.now c.args.forced.now.items)
+    (sym c.in_ok-close.ensures.moved.list) c.requires.forced)
+    (below_up c.args.a.now c.with-reached.result c.close.new.closed c.args.i c.args.found.now.list.members c.with-reached.ensures
+    closed.closure) c.visit.ensures.more c.visit.ensures.larger
 
 pub returns-clause-kept : goal.returns-clause-kept
 returns-clause-kept g c = on_ok_weaker c.visit.result (λ more. c.requires.forced) c.visit.ensures.more

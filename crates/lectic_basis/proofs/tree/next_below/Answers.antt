@@ -7,6 +7,14 @@ use Rattle.lectic_basis.proofs.tree.next_below.Goals as goal
 pub returns-in-Some : goal.returns-in-Some
 returns-in-Some g c =
     let old : Step g.row.W = c.args.step.now in
-    let new : Step g.row.W = record { intent = old.intent; from = old.from; end = c.args.i; desk = record { near = old.desk.near; forced = c.child_at.new.forced } } in
-    let further : IsFurther c.args.sheet.now c.args.i c.args.found.now old new = record { intent = refl; from = refl; end = refl; near = c.requires.near; forced = c.in_ok-child.ensures.kept } in
-    tried_told {old = old} {new = new} further (rw c.in-Some.is at c.in_ok-child.ensures.below) (rw c.in-Some.is at c.in_ok-child.ensures.passed) (rw c.in-Some.is at c.in_ok-child.ensures.done) c.step_below.result c.step_below.ensures
+    let new : Step g.row.W = record {
+      intent = old.intent;
+      from = old.from;
+      end = c.args.i;
+      lists = record { near = old.lists.near; forced = c.child_at.new.forced };
+    } in
+    let further : IsFurther c.args.indexed.now c.args.i c.args.found.now old new =
+    record { intent = refl; from = refl; end = refl; near = c.requires.near; forced = c.in_ok-child.ensures.kept } in
+    tried_told {old = old} {new = new} further (rw c.in-Some.is at c.in_ok-child.ensures.below)
+    (rw c.in-Some.is at c.in_ok-child.ensures.passed)
+    (rw c.in-Some.is at c.in_ok-child.ensures.done) c.step_below.result c.step_below.ensures

@@ -15,23 +15,43 @@ returns-then-eq-clause-done g c = λ new h. part_before h
 
 -- the premise of a member
 
-pub push_before-requires : goal.push_before-requires
-push_before-requires g c = (omega arith, (omega (arith, c.width-width.ensures.words), (visit_wide c.requires.visit, (closure_wide c.requires.visit c.requires.closed, visit_inside c.requires.visit))))
+pub push_to_wait-requires : goal.push_to_wait-requires
+push_to_wait-requires g c = (
+  omega arith,
+  (
+    omega (arith, c.width-width.ensures.words),
+    (visit_wide c.requires.visit, (closure_wide c.requires.visit c.requires.closed, visit_inside c.requires.visit)),
+  ),
+)
 
 pub agrees-requires : goal.agrees-requires
 agrees-requires g c = (omega (arith, c.width-width.ensures.words), closure_up c.requires.visit c.requires.closed)
 
 pub returns-then-not-agrees-clause-done : goal.returns-then-not-agrees-clause-done
-returns-then-not-agrees-clause-done g c = visit_ends c.requires.visit c.requires.closed (sym c.eq.ensures ∙ c.if-eq.false) _ c.in_ok-push_before.ensures.list c.in_ok-push_before.ensures.put (sym c.agrees.ensures ∙ c.if-not-agrees.true)
+returns-then-not-agrees-clause-done g c = visit_ends c.requires.visit c.requires.closed
+    (sym c.eq.ensures ∙ c.if-eq.false) _ c.in_ok-push_to_wait.ensures.list c.in_ok-push_to_wait.ensures.put
+    (sym c.agrees.ensures ∙ c.if-not-agrees.true)
 
 pub close-requires : goal.close-requires
-close-requires g c = (omega arith, (omega (arith, c.width-width.ensures.words), visit_can_close c.requires.visit c.requires.closed (sym c.eq.ensures ∙ c.if-eq.false) _ c.in_ok-push_before.ensures.list c.in_ok-push_before.ensures.put (sym c.agrees.ensures ∙ c.if-not-agrees.false)))
+close-requires g c = (
+  omega arith,
+  (
+    omega (arith, c.width-width.ensures.words),
+    visit_can_close c.requires.visit c.requires.closed (sym c.eq.ensures
+        ∙ c.if-eq.false) _ c.in_ok-push_to_wait.ensures.list c.in_ok-push_to_wait.ensures.put (sym c.agrees.ensures ∙ c.if-not-agrees.false),
+  ),
+)
 
 pub returns-clause-below : goal.returns-clause-below
-returns-clause-below g c = visit_below c.requires.visit c.requires.closed (sym c.eq.ensures ∙ c.if-eq.false) _ c.in_ok-push_before.ensures.list c.in_ok-push_before.ensures.put (sym c.agrees.ensures ∙ c.if-not-agrees.false) c.in_ok-close.ensures.moved _ _ c.in_ok-close.ensures.closure c.in_ok-close.ensures.differs
+returns-clause-below g c = visit_below c.requires.visit c.requires.closed
+    (sym c.eq.ensures ∙ c.if-eq.false) _ c.in_ok-push_to_wait.ensures.list c.in_ok-push_to_wait.ensures.put
+    (sym c.agrees.ensures ∙ c.if-not-agrees.false) c.in_ok-close.ensures.moved _ _ c.in_ok-close.ensures.closure
+    c.in_ok-close.ensures.differs
 
 pub returns-clause-done : goal.returns-clause-done
-returns-clause-done g c = λ new h. visit_done c.requires.visit c.requires.closed (sym c.eq.ensures ∙ c.if-eq.false) _ c.in_ok-push_before.ensures.list c.in_ok-push_before.ensures.put (sym c.agrees.ensures ∙ c.if-not-agrees.false) c.in_ok-close.ensures.moved h
+returns-clause-done g c = λ new h. visit_done c.requires.visit c.requires.closed
+    (sym c.eq.ensures ∙ c.if-eq.false) _ c.in_ok-push_to_wait.ensures.list c.in_ok-push_to_wait.ensures.put
+    (sym c.agrees.ensures ∙ c.if-not-agrees.false) c.in_ok-close.ensures.moved h
 
 -- what is told is larger, and what was found is kept
 
@@ -42,10 +62,10 @@ pub returns-then-eq-clause-larger : goal.returns-then-eq-clause-larger
 returns-then-eq-clause-larger g c = within_refl c.args.a.now
 
 pub returns-then-not-agrees-clause-more : goal.returns-then-not-agrees-clause-more
-returns-then-not-agrees-clause-more g c = longer_push _ _ _ c.in_ok-push_before.ensures.list
+returns-then-not-agrees-clause-more g c = longer_push _ _ _ c.in_ok-push_to_wait.ensures.list
 
 pub returns-clause-more : goal.returns-clause-more
-returns-clause-more g c = longer_push _ _ _ (c.in_ok-close.ensures.moved.list ∙ c.in_ok-push_before.ensures.list)
+returns-clause-more g c = longer_push _ _ _ (c.in_ok-close.ensures.moved.list ∙ c.in_ok-push_to_wait.ensures.list)
 
 -- and lies within the closure
 
@@ -53,4 +73,4 @@ pub returns-clause-shared : goal.returns-clause-shared
 returns-clause-shared g c = subst (λ (X : Set). within c.args.closed.now X ≡ true) c.requires.closed (within_refl c.args.closed.now)
 
 pub returns-then-eq-clause-shared : goal.returns-then-eq-clause-shared
-returns-then-eq-clause-shared g c = closure_extensive c.args.sheet.now c.args.a.now c.requires.visit.at.family.wide
+returns-then-eq-clause-shared g c = closure_extensive c.args.indexed.now c.args.a.now c.requires.visit.at.family.wide

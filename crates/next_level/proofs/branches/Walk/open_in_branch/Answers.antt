@@ -77,10 +77,10 @@ enter_all-requires g c =
     let closure = subst (λ X. IsClosure c.in_ok-found.found.list.members X c.close.new.closed) c.with-reached.ensures closed.closure in
     let moved = c.in_ok-close.ensures.moved in
     let at = (left_entered (branch_trying root c.args.i c.requires.inside lacks 0) lacks c.with-reached.ensures moved closed).at in
-    let put = c.in_ok-push_before.ensures in
+    let put = c.in_ok-push_to_wait.ensures in
     let seen = c.nothing-seen.result in
-    let entered = branch_entered root c.args.i c.requires.inside lacks c.close.new.closed closure closed.agree _ refl refl at moved.list c.push_before.new.self put.list put.put seen.bound seen.members.items c.nothing-seen.ensures.members in
-    let among = branch_among root c.args.i c.requires.inside lacks c.close.new.closed closure closed.agree _ refl refl at moved.list c.push_before.new.self put.list put.put
+    let entered = branch_entered root c.args.i c.requires.inside lacks c.close.new.closed closure closed.agree _ refl refl at moved.list c.push_to_wait.new.self put.list put.put seen.bound seen.members.items c.nothing-seen.ensures.members in
+    let among = branch_among root c.args.i c.requires.inside lacks c.close.new.closed closure closed.agree _ refl refl at moved.list c.push_to_wait.new.self put.list put.put
     c.in_ok-part.part.whole c.in_ok-part.part.sets.items c.in_ok-part.ensures in
     (omega arith, (omega arith, (omega arith, (omega (arith, c.width-width.ensures.words), (omega arith, (entered, (omega (arith, c.size.ensures.size, c.if-size-self.false, c.nothing-seen.ensures.bound), among)))))))
 
@@ -93,10 +93,10 @@ returns-clause-listed g c =
     let closure = subst (λ X. IsClosure c.in_ok-found.found.list.members X c.close.new.closed) c.with-reached.ensures closed.closure in
     let moved = c.in_ok-close.ensures.moved in
     let at = (left_entered (branch_trying root c.args.i c.requires.inside lacks 0) lacks c.with-reached.ensures moved closed).at in
-    let put = c.in_ok-push_before.ensures in
+    let put = c.in_ok-push_to_wait.ensures in
     let level = c.in_ok-enter_all.ensures.level in
     concerning_listed c.args.self.now.root c.args.i (in_branch c.args.i c.args.self.now.least.now)
     (λ X up p. (branch_parts c.args.self.now.least.now c.args.i (omega (arith, root_wide c.args.self.now.root, c.requires.inside)) X p).1)
     c.in_ok-found.found.list found.list _ _
-    (branch_done root c.args.i c.requires.inside lacks c.close.new.closed closure closed.agree _ refl refl at moved.list c.push_before.new.self put.list put.put
+    (branch_done root c.args.i c.requires.inside lacks c.close.new.closed closure closed.agree _ refl refl at moved.list c.push_to_wait.new.self put.list put.put
     c.enter_all.new.level.bound c.enter_all.new.level.members.items c.enter_all.new.found.list level.list level.level)

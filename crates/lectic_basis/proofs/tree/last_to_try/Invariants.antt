@@ -1,6 +1,6 @@
 use Rattle.std.proofs.Common.{◌≤◌}
 use Rattle.lectic_basis.specs.Forced.{NoneTried}
-use Rattle.lectic_basis.proofs.tree.last_tried.Given as goal
+use Rattle.lectic_basis.proofs.tree.last_to_try.Given as goal
 
 abbrev pub invariant-loop-i : goal.invariant-loop-i
 invariant-loop-i g l = record {
