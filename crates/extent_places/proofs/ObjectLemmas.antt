@@ -1,38 +1,39 @@
 -- Sets of objects, and the closure as the meet of the rows of an extent.
-use Rattle.std.proofs.Common.{◌≡◌, ℕ, zero, suc, ◌+◌, ◌-◌, ◌<◌, ◌≤◌, Bool, true, false, not, ◌&&◌, ◌||◌, cond, List, [], ◌∷◌, ◌++◌, filter, take, length, get_or, set, replicate, refl, sym, ap, ap₂, ◌∙◌, subst, arith, inl, inr, get_or-set_same, get_or-set_other, length-set}
+use Rattle.std.proofs.Common.{◌≡◌, ℕ, ◌+◌, ◌-◌, ◌<◌, ◌≤◌, Bool, true, false, not, ◌&&◌, ◌||◌, cond, List, [], ◌∷◌, ◌++◌, filter}
+use Rattle.std.proofs.Common.{take, length, get_or, set, replicate, refl, sym, ap, ap₂, ◌∙◌, subst, arith, inl, inr, get_or-set_same}
+use Rattle.std.proofs.Common.{get_or-set_other, length-set}
 use Rattle.std.proofs.lemmas.Bool.{and_parts, and_from, cases_eq, cases_Bool, false≢true}
 use Rattle.std.proofs.lemmas.List.{length-replicate, take_more, append-nil, get_or_default}
 use Rattle.std.proofs.lemmas.List.Elements.{filter-append}
-use Rattle.std.proofs.lemmas.List.Sums.{fold-append}
-use Rattle.std.proofs.lemmas.List.Folds.{list_all_at}
+use Rattle.std.proofs.lemmas.List.Sums.{fold-append, AllPass-from_list_all}
 use Rattle.std.specs.List.{list_all, fold}
-use Rattle.fca_model.specs.Sets.{Set, within, same, meet, size, full, IsNextMember}
+use Rattle.fca_model.specs.Sets.{Set, within, meet, size, full, IsNextMember}
 use Rattle.fca_model.specs.Context.{Context, closure}
 use Rattle.fca_model.specs.Implications.{rule, respects}
-use Rattle.fca_model.proofs.SetLemmas.{within_refl, within_trans, within_full, length-full, within_antisymm, within-meet, length-meet, get_or-meet, within_at_place, within_from_places, set_within, get_or-full, size_strict, size-set, size_le, strictly_from, same-true, same_from}
-use Rattle.fca_model.proofs.ListLemmas.{bool_iff, list_all-filter}
+use Rattle.fca_model.proofs.SetLemmas.{within_refl, within_trans, within_full, length-full, within_antisymm, within-meet, length-meet}
+use Rattle.fca_model.proofs.SetLemmas.{get_or-meet, within_at_place, within_from_places, set_within, get_or-full, size_strict, size-set}
+use Rattle.fca_model.proofs.SetLemmas.{size_le, strictly_from}
+use Rattle.fca_model.proofs.ListLemmas.{bool_iff, list_all-filter, all_by_place}
 use Rattle.fca_model.proofs.ClosureLemmas.{within-closure, length-closure, closure_in_rows, closure_extensive, respects_from, respects_at}
 use Rattle.extent_places.specs.Objects.{HasObjects, AreColumns, alone}
+use Rattle.fca_model.proofs.SetLemmas.{get_or-empty}
 
 abbrev pub row : Context → ℕ → Set
 row K g = get_or K.rows g []
-
-none_at : (n j : ℕ) → get_or (replicate n false) j false ≡ false
-none_at zero j = refl
-none_at (suc n) zero = refl
-none_at (suc n) (suc j) = none_at n j
 
 -- ---- one attribute alone
 
 only_it : (K : Context) (i j : ℕ) → get_or (alone K i) j false ≡ true → j ≡ i
 only_it K i j t = elim (cases_eq j i) [
   | inl here ↦ here
-  | inr other ↦ absurd (false≢true (sym (none_at K.width j) ∙ sym (get_or-set_other (replicate K.width false) i j true false other) ∙ t))
+  | inr other ↦ absurd (false≢true (sym (get_or-empty K.width j) ∙ sym (get_or-set_other (replicate K.width false) i j true false other)
+      ∙ t))
 ]
 
 pub within-alone : (K : Context) (i : ℕ) (R : Set) → i < K.width → within (alone K i) R ≡ get_or R i false
 within-alone K i R inside = bool_iff (within (alone K i) R) (get_or R i false)
-    (λ t. within_at_place (alone K i) R t i (get_or-set_same (replicate K.width false) i true false (omega (arith, inside, length-replicate K.width false))))
+    (λ t. within_at_place (alone K i) R t i (get_or-set_same (replicate K.width false) i true false
+    (omega (arith, inside, length-replicate K.width false))))
     (λ t. within_from_places (alone K i) R (λ j l has. ap (λ k. get_or R k false) (only_it K i j has) ∙ t))
 
 -- ---- a set that is filled place by place
@@ -47,14 +48,15 @@ pub up_to_none : (n : ℕ) (b : ℕ → Bool) (M : Set) → M ≡ replicate n fa
 up_to_none n b M is = record {
   long = ap length is ∙ length-replicate n false;
   before = λ k l. absurd (omega (arith, l));
-  behind = λ k l. ap (λ (X : Set). get_or X k false) is ∙ none_at n k;
+  behind = λ k l. ap (λ (X : Set). get_or X k false) is ∙ get_or-empty n k;
 }
 
 pub up_to_with : (n : ℕ) (b : ℕ → Bool) (M : Set) (i : ℕ) → i < n → IsUpTo n b M i → b i ≡ true → IsUpTo n b (set M i true) (i + 1)
 up_to_with n b M i inside s h = record {
   long = length-set M i true ∙ s.long;
   before = λ k l. elim (cases_eq k i) [
-    | inl here ↦ ap (λ j. get_or (set M i true) j false) here ∙ get_or-set_same M i true false (omega (arith, inside, s.long)) ∙ sym (ap b here ∙ h)
+    | inl here ↦ ap (λ j. get_or (set M i true) j false) here ∙ get_or-set_same M i true false (omega (arith, inside, s.long))
+        ∙ sym (ap b here ∙ h)
     | inr other ↦ get_or-set_other M i k true false other ∙ s.before k (omega (arith, l, other))
   ];
   behind = λ k l. get_or-set_other M i k true false (λ here. absurd (omega (arith, l, here))) ∙ s.behind k (omega (arith, l));
@@ -80,16 +82,6 @@ all_objects K A S m s all = record { long = s.long; each = λ k l. s.before k (o
 
 -- ---- all objects
 
-passes : (p : Set → Bool) (Xs : List Set) (i : ℕ) → i < length Xs → list_all p Xs ≡ true → p (get_or Xs i []) ≡ true
-passes p Xs i inside all = elim (cases_Bool (p (get_or Xs i []))) [
-  | inl t ↦ t
-  | inr f ↦ absurd (false≢true (sym (list_all_at p Xs i [] inside f) ∙ all))
-]
-
-all_pass : (p : Set → Bool) (Xs : List Set) → ((i : ℕ) → i < length Xs → p (get_or Xs i []) ≡ true) → list_all p Xs ≡ true
-all_pass p [] h = refl
-all_pass p (X ∷ Xs) h = and_from (p X) (list_all p Xs) (h 0 (omega arith)) (all_pass p Xs (λ i l. h (suc i) (omega (arith, l))))
-
 pub all_kept : (p : Set → Bool) (Xs : List Set) → list_all p (filter p Xs) ≡ true
 all_kept p Xs = list_all-filter p p Xs ∙ either Xs
   where
@@ -101,24 +93,29 @@ all_kept p Xs = list_all-filter p p Xs ∙ either Xs
     either [] = refl
     either (X ∷ Xs) = and_from (not (p X) || p X) (list_all (λ X. not (p X) || p X) Xs) (one (p X)) (either Xs)
 
--- where each row contains A, all objects are those of A
+-- all objects are those of A if each row contains A
 pub has_all : (K : Context) (A S : Set) → list_all (within A) K.rows ≡ true → S ≡ full (length K.rows) → HasObjects K A S
 has_all K A S each is = record {
   long = ap length is ∙ length-full (length K.rows);
-  each = λ g l. ap (λ (X : Set). get_or X g false) is ∙ get_or-full (length K.rows) g l ∙ sym (passes (within A) K.rows g l each);
+  each = λ g l. ap (λ (X : Set). get_or X g false) is ∙ get_or-full (length K.rows) g l
+      ∙ sym (AllPass-from_list_all (within A) K.rows each g [] l);
 }
 
 -- ---- the closure by the rows
 
 -- the closure lies within each row that contains A
 pub closure_in_row : (K : Context) (A : Set) (g : ℕ) → g < length K.rows → within A (row K g) ≡ true → within (closure K A) (row K g) ≡ true
-closure_in_row K A g inside h = respects_at (row K g) (rule A (closure K A)) (passes (λ R. respects R (rule A (closure K A))) K.rows g inside (closure_in_rows K A)) h
+closure_in_row K A g inside h = respects_at (row K g) (rule A (closure K A))
+    (AllPass-from_list_all (λ R. respects R (rule A (closure K A))) K.rows (closure_in_rows K A) g [] inside) h
 
 -- what lies within each row that contains A lies within the closure
-in_closure : (K : Context) (A M : Set) → length M ≡ K.width → ((g : ℕ) → g < length K.rows → within A (row K g) ≡ true → within M (row K g) ≡ true) → within M (closure K A) ≡ true
-in_closure K A M wide h = within-closure K A M wide ∙ all_pass (λ R. respects R (rule A M)) K.rows (λ g l. respects_from (row K g) (rule A M) (h g l))
+in_closure : (K : Context) (A M : Set) → length M ≡ K.width
+    → ((g : ℕ) → g < length K.rows → within A (row K g) ≡ true → within M (row K g) ≡ true) → within M (closure K A) ≡ true
+in_closure K A M wide h = within-closure K A M wide
+    ∙ all_by_place (λ R. respects R (rule A M)) [] K.rows (λ g l. respects_from (row K g) (rule A M) (h g l))
 
-closure_is : (K : Context) (A M : Set) → length M ≡ K.width → within (closure K A) M ≡ true → within M (closure K A) ≡ true → M ≡ closure K A
+closure_is : (K : Context) (A M : Set) → length M ≡ K.width → within (closure K A) M ≡ true → within M (closure K A) ≡ true
+    → M ≡ closure K A
 closure_is K A M wide above below = within_antisymm M (closure K A) (wide ∙ sym (length-closure K A)) below above
 
 -- M is between the closure of A and each row whose object is in S and no more in T
@@ -139,17 +136,20 @@ met_none K A S M is = record {
 }
 
 -- one row more
-pub met_more : (K : Context) (A S M T : Set) (m : ℕ) (R : Set) → HasObjects K A S → IsMet K A S M T → IsNextMember T 0 m → R ≡ row K m → IsMet K A S (meet M R) (set T m false)
+pub met_more : (K : Context) (A S M T : Set) (m : ℕ) (R : Set) → HasObjects K A S → IsMet K A S M T → IsNextMember T 0 m → R ≡ row K m
+    → IsMet K A S (meet M R) (set T m false)
 met_more K A S M T m R has met next is =
     let inside : m < length K.rows = omega (arith, next.in_range, met.long, has.long) in
     let both = and_parts (within (meet M R) M) (within (meet M R) R) (sym (within-meet (meet M R) M R) ∙ within_refl (meet M R)) in
     let contains : within A (row K m) ≡ true = sym (has.each m inside) ∙ met.part m next.member in
     record {
       wide = length-meet M R ∙ met.wide;
-      above = within-meet (closure K A) M R ∙ and_from (within (closure K A) M) (within (closure K A) R) met.above (ap (within (closure K A)) is ∙ closure_in_row K A m inside contains);
+      above = within-meet (closure K A) M R ∙ and_from (within (closure K A) M) (within (closure K A) R) met.above
+          (ap (within (closure K A)) is ∙ closure_in_row K A m inside contains);
       long = length-set T m false ∙ met.long;
       part = λ g t. elim (cases_eq g m) [
-        | inl here ↦ absurd (false≢true (sym (ap (λ k. get_or (set T m false) k false) here ∙ get_or-set_same T m false false next.in_range) ∙ t))
+        | inl here ↦ absurd (false≢true (sym (ap (λ k. get_or (set T m false) k false) here ∙ get_or-set_same T m false false next.in_range)
+            ∙ t))
         | inr other ↦ met.part g (sym (get_or-set_other T m g false false other) ∙ t)
       ];
       below = λ g t f. elim (cases_eq g m) [
@@ -169,12 +169,15 @@ fewer_left T m next = size_strict (set T m false) T (length-set T m false) (stri
 
 -- once M lies within A it is the closure
 pub met_enough : (K : Context) (A S M T : Set) → length A ≡ K.width → IsMet K A S M T → within M A ≡ true → M ≡ closure K A
-met_enough K A S M T wide met small = closure_is K A M met.wide met.above (within_trans M A (closure K A) small (closure_extensive K A wide))
+met_enough K A S M T wide met small = closure_is K A M met.wide met.above
+    (within_trans M A (closure K A) small (closure_extensive K A wide))
 
--- and where no object is left
-pub met_all : (K : Context) (A S M T : Set) → HasObjects K A S → IsMet K A S M T → ((i : ℕ) → 0 ≤ i → i < length T → get_or T i false ≡ false) → M ≡ closure K A
+-- and so it is if no object is left
+pub met_all : (K : Context) (A S M T : Set) → HasObjects K A S → IsMet K A S M T
+    → ((i : ℕ) → 0 ≤ i → i < length T → get_or T i false ≡ false) → M ≡ closure K A
 met_all K A S M T has met none =
-    closure_is K A M met.wide met.above (in_closure K A M met.wide (λ g l h. met.below g (has.each g l ∙ h) (none g (omega arith) (omega (arith, l, has.long, met.long)))))
+    closure_is K A M met.wide met.above (in_closure K A M met.wide
+    (λ g l h. met.below g (has.each g l ∙ h) (none g (omega arith) (omega (arith, l, has.long, met.long)))))
 
 -- ---- the closure by the columns
 
@@ -182,14 +185,18 @@ abbrev pub in_closure_of : Context → Set → ℕ → Bool
 in_closure_of K A i = get_or (closure K A) i false
 
 -- an attribute that each row with A has is in the closure of A
-pub closure_has : (K : Context) (A : Set) (i : ℕ) → i < K.width → ((g : ℕ) → g < length K.rows → within A (row K g) ≡ true → get_or (row K g) i false ≡ true) → in_closure_of K A i ≡ true
+pub closure_has : (K : Context) (A : Set) (i : ℕ) → i < K.width
+    → ((g : ℕ) → g < length K.rows → within A (row K g) ≡ true → get_or (row K g) i false ≡ true) → in_closure_of K A i ≡ true
 closure_has K A i inside each = sym (within-alone K i (closure K A) inside)
-    ∙ in_closure K A (alone K i) (length-set (replicate K.width false) i true ∙ length-replicate K.width false) (λ g l h. within-alone K i (row K g) inside ∙ each g l h)
+    ∙ in_closure K A (alone K i) (length-set (replicate K.width false) i true ∙ length-replicate K.width false)
+    (λ g l h. within-alone K i (row K g) inside ∙ each g l h)
 
 -- an attribute is in the closure exactly where all objects of the set have it
-pub within-column : (K : Context) (A S C : Set) (i : ℕ) → i < K.width → HasObjects K A S → HasObjects K (alone K i) C → within S C ≡ in_closure_of K A i
+pub within-column : (K : Context) (A S C : Set) (i : ℕ) → i < K.width → HasObjects K A S → HasObjects K (alone K i) C
+    → within S C ≡ in_closure_of K A i
 within-column K A S C i inside s c = bool_iff (within S C) (in_closure_of K A i)
-    (λ t. closure_has K A i inside (λ g l h. sym (within-alone K i (row K g) inside) ∙ sym (c.each g l) ∙ within_at_place S C t g (s.each g l ∙ h)))
+    (λ t. closure_has K A i inside (λ g l h. sym (within-alone K i (row K g) inside) ∙ sym (c.each g l)
+    ∙ within_at_place S C t g (s.each g l ∙ h)))
     (λ t. within_from_places S C (λ g l h.
     let inside_rows : g < length K.rows = omega (arith, l, s.long) in
     let in_row : within (closure K A) (row K g) ≡ true = closure_in_row K A g inside_rows (sym (s.each g inside_rows) ∙ h) in
@@ -200,24 +207,19 @@ all_common K A M i s all = within_antisymm M (closure K A) (s.long ∙ sym (leng
     (within_from_places M (closure K A) (λ j l t. sym (s.before j (omega (arith, l, s.long, all))) ∙ t))
     (within_from_places (closure K A) M (λ j l t. s.before j (omega (arith, l, length-closure K A, all)) ∙ t))
 
--- S lies within C where their meet is S
-pub same-meet : (S C : Set) → same (meet S C) S ≡ within S C
-same-meet S C = bool_iff (same (meet S C) S) (within S C)
-    (λ t. (and_parts (within S S) (within S C) (sym (within-meet S S C) ∙ subst (λ X. within S X ≡ true) (sym (same-true (meet S C) S t)) (within_refl S))).1)
-    (λ t. same_from (meet S C) S (within_antisymm (meet S C) S (length-meet S C)
-    (and_parts (within (meet S C) S) (within (meet S C) C) (sym (within-meet (meet S C) S C) ∙ within_refl (meet S C))).0
-    (within-meet S S C ∙ and_from (within S S) (within S C) (within_refl S) t)))
-
 -- ---- one attribute more
 
-with_attribute : (K : Context) (A R : Set) (i : ℕ) → i < K.width → length A ≡ K.width → (within A R && within (alone K i) R) ≡ within (set A i true) R
+with_attribute : (K : Context) (A R : Set) (i : ℕ) → i < K.width → length A ≡ K.width
+    → (within A R && within (alone K i) R) ≡ within (set A i true) R
 with_attribute K A R i inside wide = bool_iff (within A R && within (alone K i) R) (within (set A i true) R) both each
   where
     both : within A R && within (alone K i) R ≡ true → within (set A i true) R ≡ true
     both t =
         let parts = and_parts (within A R) (within (alone K i) R) t in
         within_from_places (set A i true) R (λ j l has. elim (cases_eq j i) [
-          | inl here ↦ within_at_place (alone K i) R parts.1 j (subst (λ k. get_or (alone K i) k false ≡ true) (sym here) (get_or-set_same (replicate K.width false) i true false (omega (arith, inside, length-replicate K.width false))))
+          | inl here ↦ within_at_place (alone K i) R parts.1 j
+              (subst (λ k. get_or (alone K i) k false ≡ true) (sym here)
+              (get_or-set_same (replicate K.width false) i true false (omega (arith, inside, length-replicate K.width false))))
           | inr other ↦ within_at_place A R parts.0 j (sym (get_or-set_other A i j true false other) ∙ has)
         ])
 
@@ -227,10 +229,12 @@ with_attribute K A R i inside wide = bool_iff (within A R && within (alone K i) 
           | inl here ↦ ap (λ k. get_or (set A i true) k false) here ∙ get_or-set_same A i true false (omega (arith, inside, wide))
           | inr other ↦ get_or-set_other A i j true false other ∙ has
         ])))
-        (within_from_places (alone K i) R (λ j l has. within_at_place (set A i true) R t j (ap (λ k. get_or (set A i true) k false) (only_it K i j has) ∙ get_or-set_same A i true false (omega (arith, inside, wide)))))
+        (within_from_places (alone K i) R (λ j l has. within_at_place (set A i true) R t j
+        (ap (λ k. get_or (set A i true) k false) (only_it K i j has) ∙ get_or-set_same A i true false (omega (arith, inside, wide)))))
 
 -- the objects of A with i
-pub objects_with : (K : Context) (A S C : Set) (i : ℕ) → i < K.width → length A ≡ K.width → HasObjects K A S → HasObjects K (alone K i) C → HasObjects K (set A i true) (meet S C)
+pub objects_with : (K : Context) (A S C : Set) (i : ℕ) → i < K.width → length A ≡ K.width → HasObjects K A S → HasObjects K (alone K i) C
+    → HasObjects K (set A i true) (meet S C)
 objects_with K A S C i inside wide s c = record {
   long = length-meet S C ∙ s.long;
   each = λ g l. get_or-meet S C g ∙ ap₂ (λ x y. x && y) (s.each g l) (c.each g l) ∙ with_attribute K A (row K g) i inside wide;
@@ -242,7 +246,8 @@ pub having_above : (K : Context) (A : Set) (i g : ℕ) → i < K.width → lengt
 having_above K A i g inside wide l =
     let R = get_or (filter (within A) K.rows) g [] in
     sym (with_attribute K A R i inside wide)
-    ∙ ap₂ (λ x y. x && y) (passes (within A) (filter (within A) K.rows) g l (all_kept (within A) K.rows)) (within-alone K i R inside)
+    ∙ ap₂ (λ x y. x && y) (AllPass-from_list_all (within A) (filter (within A) K.rows) (all_kept (within A) K.rows) g [] l)
+    (within-alone K i R inside)
 
 -- ---- the closure row by row
 
@@ -259,13 +264,15 @@ filter_next p Rs k R b l is t =
 
 pub met_next : (K : Context) (A : Set) (k : ℕ) (R : Set) (b : Bool) → k < length K.rows → R ≡ get_or K.rows k R → within A R ≡ b
     → fold meet (full K.width) (filter (within A) (take (k + 1) K.rows))
-    ≡ cond b (meet (fold meet (full K.width) (filter (within A) (take k K.rows))) R) (fold meet (full K.width) (filter (within A) (take k K.rows)))
+    ≡ cond b (meet (fold meet (full K.width) (filter (within A) (take k K.rows))) R)
+    (fold meet (full K.width) (filter (within A) (take k K.rows)))
 met_next K A k R b l is t = ap (fold meet (full K.width)) (filter_next (within A) K.rows k R b l is t) ∙ last b
   where
     kept : List Set
     kept = filter (within A) (take k K.rows)
 
-    last : (b : Bool) → fold meet (full K.width) (cond b (kept ++ R ∷ []) kept) ≡ cond b (meet (fold meet (full K.width) kept) R) (fold meet (full K.width) kept)
+    last : (b : Bool) → fold meet (full K.width) (cond b (kept ++ R ∷ []) kept) ≡ cond b (meet (fold meet (full K.width) kept) R)
+        (fold meet (full K.width) kept)
     last true = fold-append meet (full K.width) kept (R ∷ [])
     last false = refl
 
@@ -276,11 +283,16 @@ pub record AreColumnsUpTo (K : Context) (Cs : List Set) (m : ℕ) : Type 0 where
   pub wide : length Cs ≡ K.width
   pub each : (i : ℕ) → i < K.width → IsUpTo (length K.rows) (contains K (alone K i)) (get_or Cs i []) m
 
-pub columns_none : (K : Context) (Cs : List Set) → length Cs ≡ K.width → ((i : ℕ) → i < K.width → get_or Cs i [] ≡ replicate (length K.rows) false) → AreColumnsUpTo K Cs 0
-columns_none K Cs wide empty = record { wide = wide; each = λ i l. up_to_none (length K.rows) (contains K (alone K i)) (get_or Cs i []) (empty i l) }
+pub columns_none : (K : Context) (Cs : List Set) → length Cs ≡ K.width
+    → ((i : ℕ) → i < K.width → get_or Cs i [] ≡ replicate (length K.rows) false) → AreColumnsUpTo K Cs 0
+columns_none K Cs wide empty = record {
+  wide = wide;
+  each = λ i l. up_to_none (length K.rows) (contains K (alone K i)) (get_or Cs i []) (empty i l);
+}
 
 -- one object more
-pub columns_next : (K : Context) (Cs Ds : List Set) (m : ℕ) (R : Set) → m < length K.rows → R ≡ row K m → AreColumnsUpTo K Cs m → length Ds ≡ length Cs
+pub columns_next : (K : Context) (Cs Ds : List Set) (m : ℕ) (R : Set) → m < length K.rows → R ≡ row K m → AreColumnsUpTo K Cs m
+    → length Ds ≡ length Cs
     → ((i : ℕ) → i < K.width → get_or R i false ≡ true → get_or Ds i [] ≡ set (get_or Cs i []) m true)
     → ((i : ℕ) → i < K.width → get_or R i false ≡ false → get_or Ds i [] ≡ get_or Cs i [])
     → AreColumnsUpTo K Ds (m + 1)
@@ -300,7 +312,8 @@ pub columns_all : (K : Context) (Cs : List Set) (m : ℕ) → AreColumnsUpTo K C
 columns_all K Cs m up all = record { wide = up.wide; each = λ i l. all_objects K (alone K i) (get_or Cs i []) m (up.each i l) all }
 
 -- each column has a place for each object
-pub columns_long : (K : Context) (Cs : List Set) (m : ℕ) → AreColumnsUpTo K Cs m → (k : ℕ) (d : Set) → k < length Cs → length (get_or Cs k d) ≡ length K.rows
+pub columns_long : (K : Context) (Cs : List Set) (m : ℕ) → AreColumnsUpTo K Cs m → (k : ℕ) (d : Set) → k < length Cs
+    → length (get_or Cs k d) ≡ length K.rows
 columns_long K Cs m up k d l = ap length (get_or_default Cs k d [] l) ∙ (up.each k (omega (arith, l, up.wide))).long
 
 -- ---- a set that grows to a larger one
@@ -311,7 +324,8 @@ pub record IsGrown (K : Context) (A G S : Set) : Type 0 where
   pub objects : HasObjects K G S
   pub part : within G A ≡ true
 
-pub grown_more : (K : Context) (A G S C : Set) (i : ℕ) → i < K.width → IsGrown K A G S → get_or A i false ≡ true → HasObjects K (alone K i) C → IsGrown K A (set G i true) (meet S C)
+pub grown_more : (K : Context) (A G S C : Set) (i : ℕ) → i < K.width → IsGrown K A G S → get_or A i false ≡ true
+    → HasObjects K (alone K i) C → IsGrown K A (set G i true) (meet S C)
 grown_more K A G S C i inside g has c = record {
   wide = length-set G i true ∙ g.wide;
   objects = objects_with K G S C i inside g.wide g.objects c;
@@ -322,5 +336,6 @@ pub grown_whole : (K : Context) (A G S : Set) → length A ≡ K.width → withi
 grown_whole K A G S wide all g = subst (λ X. HasObjects K X S) (within_antisymm G A (g.wide ∙ sym wide) g.part all) g.objects
 
 -- less is lacking
-pub less_lacking : (G : Set) (i : ℕ) → i < length G → get_or G i false ≡ false → length (set G i true) - size (set G i true) < length G - size G
+pub less_lacking : (G : Set) (i : ℕ) → i < length G → get_or G i false ≡ false
+    → length (set G i true) - size (set G i true) < length G - size G
 less_lacking G i inside lacks = omega (arith, length-set G i true, size-set G i inside lacks, size_le (set G i true))

@@ -1,5 +1,7 @@
 -- The places of an extent, the rows there, and the places that are left of them for a larger set.
-use Rattle.std.proofs.Common.{◌≡◌, ℕ, zero, suc, ◌+◌, ◌<◌, Bool, true, false, cond, Some, None, List, [], ◌∷◌, ◌++◌, All, Option, length, map, filter, drop, get_or, set, slice_get, refl, sym, ap, ap₂, ◌∙◌, subst, arith, append_assoc, inl, inr, get_or-set_same, get_or-set_other, length-set}
+use Rattle.std.proofs.Common.{◌≡◌, ℕ, zero, suc, ◌+◌, ◌<◌, Bool, true, false, cond, Some, None, List, [], ◌∷◌, ◌++◌, All, Option, length}
+use Rattle.std.proofs.Common.{map, filter, drop, get_or, set, slice_get, refl, sym, ap, ap₂, ◌∙◌, subst, arith, append_assoc, inl, inr}
+use Rattle.std.proofs.Common.{get_or-set_same, get_or-set_other, length-set}
 use Rattle.std.proofs.lemmas.Bool.{false≢true, and_parts, cases_eq}
 use Rattle.std.proofs.lemmas.Option.{get_or_from_slice_get}
 use Rattle.std.proofs.lemmas.List.{get_or_at, length_push, get_or_read, at_drop_more, drop-map, get_or-map}
@@ -25,14 +27,16 @@ inside_step i n false ps here rest = rest
 
 extent_from-inside : (i n : ℕ) (Rs : List Set) (A : Set) → i + length Rs ≡ n → All (λ p. p < n) (extent_from i Rs A)
 extent_from-inside i n [] A e = All-nil (λ p. p < n)
-extent_from-inside i n (R ∷ Rs) A e = inside_step i n (within A R) (extent_from (i + 1) Rs A) (omega (arith, e)) (extent_from-inside (i + 1) n Rs A (omega (arith, e)))
+extent_from-inside i n (R ∷ Rs) A e = inside_step i n (within A R) (extent_from (i + 1) Rs A) (omega (arith, e))
+    (extent_from-inside (i + 1) n Rs A (omega (arith, e)))
 
 pub extent_inside : (K : Context) (A : Set) → All (λ p. p < length K.rows) (extent K A)
 extent_inside K A = extent_from-inside 0 (length K.rows) K.rows A (omega arith)
 
 -- ---- the rows at the places of an extent are those that contain the set
 
-rows_step : (f : ℕ → Set) (i : ℕ) (R : Set) (b : Bool) (ps : List ℕ) (Qs : List Set) → f i ≡ R → map f ps ≡ Qs → map f (cond b (i ∷ ps) ps) ≡ cond b (R ∷ Qs) Qs
+rows_step : (f : ℕ → Set) (i : ℕ) (R : Set) (b : Bool) (ps : List ℕ) (Qs : List Set) → f i ≡ R → map f ps ≡ Qs
+    → map f (cond b (i ∷ ps) ps) ≡ cond b (R ∷ Qs) Qs
 rows_step f i R true ps Qs here rest = ap₂ (λ x xs. x ∷ xs) here rest
 rows_step f i R false ps Qs here rest = rest
 
@@ -56,7 +60,8 @@ within-with A R i inside h = bool_iff (within (set A i true) R) (get_or R i fals
     (λ t. within_at_place (set A i true) R t i (get_or-set_same A i true false inside))
     (λ t. set_within A R i h t)
 
-with_at : (Rs : List Set) (A : Set) (i : ℕ) → i < length A → (p : ℕ) → is_above A (slice_get Rs p) ≡ true → has_at Rs i p ≡ is_above (set A i true) (slice_get Rs p)
+with_at : (Rs : List Set) (A : Set) (i : ℕ) → i < length A → (p : ℕ) → is_above A (slice_get Rs p) ≡ true
+    → has_at Rs i p ≡ is_above (set A i true) (slice_get Rs p)
 with_at Rs A i inside p h = cases (slice_get Rs p) refl h
   where
     cases : (r : Option Set) → slice_get Rs p ≡ r → is_above A r ≡ true → has_at Rs i p ≡ is_above (set A i true) r
@@ -73,13 +78,16 @@ larger A i inside = within_from_places A (set A i true) (λ j l t. elim (cases_e
 pub extent_with : (K : Context) (A : Set) (i : ℕ) → i < length A → filter (has_at K.rows i) (extent K A) ≡ extent K (set A i true)
 extent_with K A i inside =
     let all : list_all (λ p. is_above A (slice_get K.rows p)) (extent K A) ≡ true =
-    subst (λ ps. list_all (λ p. is_above A (slice_get K.rows p)) ps ≡ true) (filter-extent K A A (within_refl A)) (filter_passes (λ p. is_above A (slice_get K.rows p)) (extent K A)) in
-    filter_agree_on (λ p. is_above A (slice_get K.rows p)) (has_at K.rows i) (λ p. is_above (set A i true) (slice_get K.rows p)) (λ p h. with_at K.rows A i inside p h) (extent K A) all
+    subst (λ ps. list_all (λ p. is_above A (slice_get K.rows p)) ps ≡ true) (filter-extent K A A (within_refl A))
+    (filter_passes (λ p. is_above A (slice_get K.rows p)) (extent K A)) in
+    filter_agree_on (λ p. is_above A (slice_get K.rows p)) (has_at K.rows i) (λ p. is_above (set A i true) (slice_get K.rows p))
+    (λ p h. with_at K.rows A i inside p h) (extent K A) all
     ∙ filter-extent K A (set A i true) (larger A i inside)
 
 -- ---- the closure has the same objects
 
-same_rows : (A C : Set) (i : ℕ) (Rs : List Set) → within A C ≡ true → list_all (λ R. respects R (rule A C)) Rs ≡ true → extent_from i Rs C ≡ extent_from i Rs A
+same_rows : (A C : Set) (i : ℕ) (Rs : List Set) → within A C ≡ true → list_all (λ R. respects R (rule A C)) Rs ≡ true
+    → extent_from i Rs C ≡ extent_from i Rs A
 same_rows A C i [] h all = refl
 same_rows A C i (R ∷ Rs) h all =
     let parts = and_parts (respects R (rule A C)) (list_all (λ Q. respects Q (rule A C)) Rs) all in
@@ -98,7 +106,8 @@ list_all-drop p (suc k) [] h = refl
 list_all-drop p (suc k) (R ∷ Rs) h = list_all-drop p k Rs (and_parts (p R) (list_all p Rs) h).1
 
 -- the next row
-pub met_more : (Rs : List Set) (places : List ℕ) (k : ℕ) (M N X total : Set) → k < length places → get_or places k 0 < length Rs → X ≡ get_or Rs (get_or places k 0) X → N ≡ meet M X
+pub met_more : (Rs : List Set) (places : List ℕ) (k : ℕ) (M N X total : Set) → k < length places → get_or places k 0 < length Rs
+    → X ≡ get_or Rs (get_or places k 0) X → N ≡ meet M X
     → fold meet M (rows_at Rs (drop k places)) ≡ total → fold meet N (rows_at Rs (drop (k + 1) places)) ≡ total
 met_more Rs places k M N X total more inside is met h =
     let rest : List Set = rows_at Rs (drop (k + 1) places) in
@@ -110,20 +119,28 @@ pub met_enough : (K : Context) (A : Set) (places : List ℕ) (k : ℕ) (N total 
     → fold meet N (rows_at K.rows (drop k places)) ≡ total → N ≡ total
 met_enough K A places k N total is inside h =
     let whole : rows_at K.rows places ≡ filter (within A) K.rows = ap (rows_at K.rows) is ∙ rows_at-extent K A in
-    let all : list_all (within A) (drop k (rows_at K.rows places)) ≡ true = list_all-drop (within A) k (rows_at K.rows places) (subst (λ Qs. list_all (within A) Qs ≡ true) (sym whole) (filter_passes (within A) K.rows)) in
-    sym (met_all A N inside (drop k (rows_at K.rows places))) ∙ ap (fold meet N) (filter_all (within A) (drop k (rows_at K.rows places)) all) ∙ ap (fold meet N) (drop-map (row_at K.rows) k places) ∙ h
+    let all : list_all (within A) (drop k (rows_at K.rows places)) ≡ true =
+    list_all-drop (within A) k (rows_at K.rows places)
+    (subst (λ Qs. list_all (within A) Qs ≡ true) (sym whole) (filter_passes (within A) K.rows)) in
+    sym (met_all A N inside (drop k (rows_at K.rows places)))
+    ∙ ap (fold meet N) (filter_all (within A) (drop k (rows_at K.rows places)) all)
+    ∙ ap (fold meet N) (drop-map (row_at K.rows) k places) ∙ h
 
 -- each place of an extent is that of a row
 pub all_placed : (K J : Context) (A : Set) (places : List ℕ) → J ≡ K → places ≡ extent K A → All (λ p. p < length J.rows) places
-all_placed K J A places same is = subst (λ (X : Context). All (λ p. p < length X.rows) places) (sym same) (subst (All (λ p. p < length K.rows)) (sym is) (extent_inside K A))
+all_placed K J A places same is = subst (λ (X : Context). All (λ p. p < length X.rows) places) (sym same)
+    (subst (All (λ p. p < length K.rows)) (sym is) (extent_inside K A))
 
 -- the places that were kept are those of the objects of A with i
-pub kept_with : (K J : Context) (A B : Set) (i : ℕ) (places found : List ℕ) → J ≡ K → places ≡ extent K A → i < length A → B ≡ set A i true → found ≡ filter (has_at J.rows i) places → found ≡ extent J B
+pub kept_with : (K J : Context) (A B : Set) (i : ℕ) (places found : List ℕ) → J ≡ K → places ≡ extent K A → i < length A → B ≡ set A i true
+    → found ≡ filter (has_at J.rows i) places → found ≡ extent J B
 kept_with K J A B i places found same is inside with_it kept =
-    kept ∙ ap (λ (X : Context). filter (has_at X.rows i) places) same ∙ ap (filter (has_at K.rows i)) is ∙ extent_with K A i inside ∙ ap₂ (λ (X : Context) (C : Set). extent X C) (sym same) (sym with_it)
+    kept ∙ ap (λ (X : Context). filter (has_at X.rows i) places) same ∙ ap (filter (has_at K.rows i)) is ∙ extent_with K A i inside
+    ∙ ap₂ (λ (X : Context) (C : Set). extent X C) (sym same) (sym with_it)
 
 -- and those of the closure
-pub kept_closed : (K : Context) (A D : Set) (i : ℕ) (found : List ℕ) → length A ≡ K.width → found ≡ extent K (set A i true) → D ≡ closure K (set A i true) → found ≡ extent K D
+pub kept_closed : (K : Context) (A D : Set) (i : ℕ) (found : List ℕ) → length A ≡ K.width → found ≡ extent K (set A i true)
+    → D ≡ closure K (set A i true) → found ≡ extent K D
 kept_closed K A D i found wide kept is = kept ∙ sym (extent-closure K (set A i true) (length-set A i true ∙ wide)) ∙ ap (extent K) (sym is)
 
 -- ---- columns
@@ -134,9 +151,13 @@ agree p q n h [] inside = refl
 agree p q n h (x ∷ xs) inside =
     ap₂ (λ b ys. cond b (x ∷ ys) ys) (h x (All-head (λ y. y < n) x xs inside)) (agree p q n h xs (All-tail (λ y. y < n) x xs inside))
 
-pub column-places : (Rs : List Set) (i : ℕ) (ps : List ℕ) → All (λ p. p < length Rs) ps → filter (λ p. get_or (column Rs i) p false) ps ≡ filter (has_at Rs i) ps
-column-places Rs i ps inside = agree (λ p. get_or (column Rs i) p false) (has_at Rs i) (length Rs) (λ p l. get_or-map (λ X. get_or X i false) Rs p [] false l) ps inside
+pub column-places : (Rs : List Set) (i : ℕ) (ps : List ℕ) → All (λ p. p < length Rs) ps
+    → filter (λ p. get_or (column Rs i) p false) ps ≡ filter (has_at Rs i) ps
+column-places Rs i ps inside = agree (λ p. get_or (column Rs i) p false) (has_at Rs i) (length Rs)
+    (λ p l. get_or-map (λ X. get_or X i false) Rs p [] false l) ps inside
 
-pub column_kept : (K J : Context) (A C : Set) (i : ℕ) (places found : List ℕ) → J ≡ K → places ≡ extent K A → C ≡ column K.rows i → found ≡ filter (λ p. get_or C p false) places → found ≡ filter (has_at J.rows i) places
+pub column_kept : (K J : Context) (A C : Set) (i : ℕ) (places found : List ℕ) → J ≡ K → places ≡ extent K A → C ≡ column K.rows i
+    → found ≡ filter (λ p. get_or C p false) places → found ≡ filter (has_at J.rows i) places
 column_kept K J A C i places found same is there kept =
-    kept ∙ ap (λ (X : Set). filter (λ p. get_or X p false) places) there ∙ column-places K.rows i places (all_placed K K A places refl is) ∙ ap (λ (X : Context). filter (has_at X.rows i) places) (sym same)
+    kept ∙ ap (λ (X : Set). filter (λ p. get_or X p false) places) there ∙ column-places K.rows i places (all_placed K K A places refl is)
+    ∙ ap (λ (X : Context). filter (has_at X.rows i) places) (sym same)

@@ -10,7 +10,7 @@ use fca_model::Memory;
 use std::alloc::Global;
 use std::marker::Model;
 
-/// The objects of each attribute, in the order of those. An object has a byte of its own, so that whether it is there is read in one step.
+/// The objects of each attribute, in the order of the attributes. Each object has a byte, so one read tells whether it is there.
 #[derive(Drop)]
 pub struct Columns {
     lists: Vec<Vec<bool>>,
@@ -25,7 +25,7 @@ impl Model for Columns {
 }
 
 impl Columns {
-    /// Those of the rows.
+    /// The columns of these rows.
     pub fn of<const W: usize>(alloc: Global, rows: &RowsOf<W>) -> Result<Columns, Memory>
         ensures { IfOk result (λ columns. columns ≡ map (column rows.now.rows) (range_with_len 0 rows.now.width)) }
     {
@@ -37,7 +37,7 @@ impl Columns {
         Ok(Columns { lists })
     }
 
-    /// Puts those of the places that are in column i into the front of `found`, and tells how many they are.
+    /// Puts the places that are in column i into the front of `found`, and counts them.
     pub fn keep_having(&self, i: u32, places: &[u16], found: &mut [u16]) -> usize
         requires column { i < length self.now }
         requires inside { All (λ p. p < length (slice_index_or self.now i [])) places.now }
@@ -50,7 +50,7 @@ impl Columns {
     }
 }
 
-/// For each object whether it has the attribute.
+/// Whether each object has the attribute.
 fn column_of<const W: usize>(
     alloc: Global,
     rows: &RowsOf<W>,

@@ -1,4 +1,4 @@
-//! Few objects set apart, so that those of them that have some attributes stand in one word.
+//! Few objects set apart. Below their intent, an extent is a set of these objects in one word.
 
 ghost use Rattle.std.specs.Prelude.{◌≡◌, ◌≤◌, ◌<◌, ◌*◌, [], true, IfOk, OnOk, length, slice_set};
 ghost use Rattle.fca_model.specs.Context.{closure, extent};
@@ -11,10 +11,10 @@ use derivation::RowsOf;
 use fca_model::Memory;
 use std::alloc::Global;
 
-/// From so many attributes on that are left it pays to set few objects apart.
+/// It pays to set few objects apart if no fewer attributes are left than this.
 const MANY_LEFT: u32 = 8;
 
-/// Few objects: their places in the table, their rows, and for each attribute those of them that have it.
+/// Few objects: their places in the table, their rows, and for each attribute the objects that have it.
 #[derive(Drop)]
 pub struct FewObjects<const W: usize> {
     places: Vec<u16>,
@@ -22,12 +22,12 @@ pub struct FewObjects<const W: usize> {
     columns: Vec<ObjectSet>,
 }
 
-/// An intent with its objects, which are some of few.
+/// An intent with its extent, a set of few objects.
 #[derive(Drop)]
 pub struct SmallConcept<const W: usize> {
     /// The intent.
     pub intent: Bits<W>,
-    /// Its objects.
+    /// Its extent.
     pub objects: ObjectSet,
 }
 
@@ -52,7 +52,7 @@ impl<const W: usize> FewObjects<W> {
         })
     }
 
-    /// Sets the objects of a apart, which stand at these places, instead of others, and tells the set of them all.
+    /// Sets the objects of a apart, in place of others, and gives the set of them all. They stand at these places.
     pub fn set_apart(
         &mut self,
         alloc: Global,
@@ -92,7 +92,7 @@ impl<const W: usize> FewObjects<W> {
         SmallConcept { intent, objects }
     }
 
-    /// Puts the places of the objects of a into the list, instead of what it had.
+    /// Puts the places of the objects of a into the list, in place of what it had.
     pub fn put_places(
         &self,
         rows: &RowsOf<W>,
@@ -110,7 +110,7 @@ impl<const W: usize> FewObjects<W> {
     }
 }
 
-/// Puts those of the places whose objects are in the set into the list, instead of what it had.
+/// Puts the places whose objects are in the set into the list, in place of what it had.
 fn put_chosen(objects: &ObjectSet, places: &[u16], found: &mut Vec<u16>) -> Result<(), Memory>
     requires { length objects.now ≡ length places.now }
     ensures { OnOk result (found.new.items ≡ chosen objects.now places.now) }
@@ -125,7 +125,7 @@ fn put_chosen(objects: &ObjectSet, places: &[u16], found: &mut Vec<u16>) -> Resu
     Ok(())
 }
 
-/// Puts the rows of the objects of a, which stand at these places, in the place of those that were.
+/// Keeps the rows of the objects of a, in place of the rows before. The objects stand at these places.
 fn put_rows<const W: usize>(
     alloc: Global,
     kept: &mut RowsOf<W>,
@@ -145,7 +145,7 @@ fn put_rows<const W: usize>(
     Ok(())
 }
 
-/// Takes all rows away, and keeps the room for others, of that width.
+/// Takes all rows away. The room stays for others of this width.
 fn empty<const W: usize>(alloc: Global, rows: &mut RowsOf<W>, width: u32) -> Result<(), Memory>
     requires words { W ≤ 1024 }
     requires narrow { width ≤ 64 * W }

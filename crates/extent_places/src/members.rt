@@ -1,5 +1,5 @@
-//! Members of sets. That a place stands in the words of a set is proved, but the compiler sees it only where it is asked; then it keeps a set of one word
-//! in a register.
+//! Members of sets. It is proved that a place stands in the words of a set. The tests here say it to the compiler too, which then keeps a set of one word in a
+//! register.
 
 ghost use Rattle.std.specs.Prelude.{◌≡◌, ◌<◌, ◌*◌, true, false, length, slice_index_or, slice_set};
 
@@ -14,7 +14,7 @@ pub fn has<const W: usize>(set: &Bits<W>, i: u32) -> bool
     is_in_words::<W>(i) && set.has(i)
 }
 
-/// Whether i is a place that is no member.
+/// Whether i is a place of the set and no member.
 pub fn lacks<const W: usize>(set: &Bits<W>, i: u32) -> bool
     ensures inside { result ≡ true → i < length set.now }
     ensures lacks { result ≡ true → slice_index_or set.now i false ≡ false }

@@ -1,4 +1,4 @@
-//! Sets of few objects: the extent of an intent is such a set where it is small, and so are the objects of an attribute among those.
+//! Sets of few objects, each in one word: a small extent, and the objects of each attribute among these.
 
 ghost use Rattle.std.specs.Prelude.{◌≡◌, ◌≤◌, ◌<◌, ℕ, [], true, false, All, length, replicate, slice_set, slice_index_or, IfOk, OnOk};
 ghost use Rattle.fca_model.specs.Sets.{within};
@@ -11,16 +11,16 @@ use derivation::RowsOf;
 use fca_model::Memory;
 use std::alloc::Global;
 
-/// How many objects are few: as many as one word holds.
+/// How many objects are few: so many as one word holds.
 pub const FEW_OBJECTS: usize = 64;
 
-/// How many attributes are few: with so many a closure by columns takes less time than one by rows.
+/// How many attributes are few: with no more, a closure by columns takes less time than one by rows.
 const FEW_ATTRIBUTES: u32 = 24;
 
 /// A set of few objects.
 pub type ObjectSet = Bits<1>;
 
-/// The objects of each attribute, in the order of those.
+/// The objects of each attribute, in the order of the attributes.
 pub fn columns_of<const W: usize>(alloc: Global, rows: &RowsOf<W>) -> Result<Vec<ObjectSet>, Memory>
     requires { length rows.now.rows ≤ FEW_OBJECTS }
     ensures { IfOk result (λ columns. AreColumns rows.now columns.items) }
@@ -30,7 +30,7 @@ pub fn columns_of<const W: usize>(alloc: Global, rows: &RowsOf<W>) -> Result<Vec
     Ok(columns)
 }
 
-/// Puts the objects of each attribute into the list, in the order of those and in the place of what it had.
+/// Puts the objects of each attribute into the list, in place of what it had.
 pub fn put_columns<const W: usize>(
     columns: &mut Vec<ObjectSet>,
     rows: &RowsOf<W>,
@@ -76,7 +76,7 @@ fn add_object<const W: usize>(columns: &mut [ObjectSet], object: u32, row: &Bits
     }
 }
 
-/// The objects of a, which contains the other set, whose objects are given.
+/// The objects of a. Those of a smaller set are given.
 pub fn objects_above<const W: usize>(
     rows: &RowsOf<W>,
     columns: &[ObjectSet],
@@ -101,7 +101,7 @@ pub fn objects_above<const W: usize>(
     having
 }
 
-/// The objects of a with attribute i, where those of a are given.
+/// The objects of a with attribute i. Those of a are given.
 pub fn objects_with<const W: usize>(
     rows: &RowsOf<W>,
     columns: &[ObjectSet],
@@ -119,7 +119,7 @@ pub fn objects_with<const W: usize>(
     objects.meet(&columns[i as usize])
 }
 
-/// The closure of `least`, whose objects are given: by columns where there are few of those, and else by rows.
+/// The closure of `least`, whose objects are given. It goes by columns if these are few, and else by rows.
 pub fn closure_of<const W: usize>(
     rows: &RowsOf<W>,
     columns: &[ObjectSet],

@@ -1,4 +1,4 @@
-//! The places of the objects that have an attribute, among some places, and what the rows at places share.
+//! Extents as places in the table: the places that have one attribute more, and closures by the rows at places.
 
 ghost use Rattle.std.specs.Prelude.{◌≡◌, ◌≤◌, ◌<◌, false, All, IfOk, length, take, filter, slice_index_or};
 ghost use Rattle.fca_model.specs.Context.{closure, extent};
@@ -26,8 +26,8 @@ pub fn places_having<const W: usize>(
     Ok(places)
 }
 
-/// Puts those of the places that are in the column into the front of `found`, and tells how many they are. Each place is put down, and the next one
-/// comes behind it only if it stays, so no step waits for a test.
+/// Puts the places that are in the column into the front of `found`, and counts them. Each place is written, and the next one overwrites it unless it is in the
+/// column, so no step waits for a test.
 pub fn keep_having(column: &[bool], places: &[u16], found: &mut [u16]) -> usize
     requires inside { All (λ p. p < length column.now) places.now }
     requires room { length places.now ≤ length found.old }
@@ -43,7 +43,7 @@ pub fn keep_having(column: &[bool], places: &[u16], found: &mut [u16]) -> usize
     count
 }
 
-/// The closure of `least`, whose extent the places are: the meet of their rows. Once it is `least`, the rows that are left change nothing.
+/// The closure of `least`, whose extent is given by places: the meet of their rows. Once the meet is `least`, the rows that are left change nothing.
 pub fn closure_at<const W: usize>(rows: &RowsOf<W>, places: &[u16], least: &Bits<W>) -> Bits<W>
     requires { places.now ≡ extent rows.now least.now }
     ensures { result ≡ closure rows.now least.now }

@@ -8,11 +8,11 @@ ghost use Rattle.extent_places.specs.Tries.{AreTries, LacksBetween};
 use attr_bits::Bits;
 use derivation::RowsOf;
 
-/// The rows of so few objects are joined.
+/// The rows of an extent are joined if it has no more objects than this.
 const FEW: usize = 4;
 
-/// The attributes from which a child of a may come. Where a has few objects, they are those that one of these has, and the first that a lacks: from any other
-/// no object is left, so the closure is the full set, which has an earlier attribute that a lacks.
+/// The attributes from which a child of a may come. If a has few objects, these are the attributes that one of the objects has, and the first that a lacks. With
+/// any other attribute no object is left, so the closure is the full set, and that has an earlier attribute that a lacks.
 pub fn tries_of<const W: usize>(rows: &RowsOf<W>, a: &Bits<W>, places: &[u16]) -> Bits<W>
     requires wide { length a.now ≡ rows.now.width }
     requires places { places.now ≡ extent rows.now a.now }
@@ -44,7 +44,7 @@ fn join_of_rows<const W: usize>(rows: &RowsOf<W>, a: &Bits<W>, places: &[u16]) -
     reached
 }
 
-/// The last member from that one on and before the other.
+/// The last member that lies from one place on and before another.
 pub fn last_member<const W: usize>(set: &Bits<W>, from: u32, end: u32) -> Option<u32>
     requires { end ≤ length set.now }
     ensures { MatchOption result

@@ -15,7 +15,8 @@ loop-object-preserved c =
     record {
       inside = omega (arith, c.in-Some.ensures.in_range);
       chosen = ap (λ (xs : List ℕ). xs ++ rest) c.in_ok-push.ensures.items ∙ append_assoc met (get_or ps m 0 ∷ []) rest
-          ∙ ap (λ (xs : List ℕ). met ++ xs) (sym (chosen_next S ps c.loop-object.from m c.requires c.in-Some.ensures)) ∙ c.loop-object.invariant.chosen;
+          ∙ ap (λ (xs : List ℕ). met ++ xs) (sym (chosen_next S ps c.loop-object.from m c.requires c.in-Some.ensures))
+          ∙ c.loop-object.invariant.chosen;
     }
 
 pub returns : goal.returns
@@ -23,4 +24,6 @@ returns c =
     let S : Set = c.args.objects.now in
     let ps : List ℕ = c.args.places.now in
     let met : List ℕ = c.loop-object.found.items in
-    sym (append-nil met) ∙ ap (λ (xs : List ℕ). met ++ xs) (sym (chosen_none S ps c.loop-object.from c.requires c.loop-object.invariant.inside c.in_default.ensures)) ∙ c.loop-object.invariant.chosen
+    sym (append-nil met) ∙ ap (λ (xs : List ℕ). met ++ xs)
+    (sym (chosen_none S ps c.loop-object.from c.requires c.loop-object.invariant.inside c.in_default.ensures))
+    ∙ c.loop-object.invariant.chosen

@@ -8,22 +8,26 @@ use Rattle.extent_places.proofs.few.put_rows.Goals as goal
 
 pub offset_bounds-all-place : goal.offset_bounds-all-place
 offset_bounds-all-place g c =
-    let here = all_placed c.args.rows.now c.args.rows.now c.args.a.now c.args.places.now refl c.requires c.loop-place.place-index 0 c.loop-place-test.true in
+    let here = all_placed c.args.rows.now c.args.rows.now c.args.a.now c.args.places.now refl c.requires c.loop-place.place-index 0
+    c.loop-place-test.true in
     let all = ap length c.as_slice-all.ensures.rows in
     omega (arith, here, all)
 
 pub bounds-all-place : goal.bounds-all-place
 bounds-all-place g c =
-    let here = all_placed c.args.rows.now c.args.rows.now c.args.a.now c.args.places.now refl c.requires c.loop-place.place-index 0 c.loop-place-test.true in
+    let here = all_placed c.args.rows.now c.args.rows.now c.args.a.now c.args.places.now refl c.requires c.loop-place.place-index 0
+    c.loop-place-test.true in
     let all = ap length c.as_slice-all.ensures.rows in
     omega (arith, here, all)
 
 pub push-requires : goal.push-requires
 push-requires g c =
-    let here = all_placed c.args.rows.now c.args.rows.now c.args.a.now c.args.places.now refl c.requires c.loop-place.place-index 0 c.loop-place-test.true in
+    let here = all_placed c.args.rows.now c.args.rows.now c.args.a.now c.args.places.now refl c.requires c.loop-place.place-index 0
+    c.loop-place-test.true in
     let all = ap length c.as_slice-all.ensures.rows in
     let row : length c.index-all-place.result ≡ c.args.rows.now.width =
-    ap length c.index-all-place.is ∙ c.as_slice-all.ensures.even (get_or c.args.places.now c.loop-place.place-index 0) c.index-all-place.result (omega (arith, here, all)) in
+    ap length c.index-all-place.is ∙ c.as_slice-all.ensures.even
+    (get_or c.args.places.now c.loop-place.place-index 0) c.index-all-place.result (omega (arith, here, all)) in
     (omega arith, (omega (arith, c.width.ensures.words), row ∙ sym (ap (λ (J : Context). J.width) c.loop-place.invariant)))
 
 pub loop-place-preserved : goal.loop-place-preserved
@@ -34,7 +38,8 @@ loop-place-preserved g c =
     let p : ℕ = get_or ps k 0 in
     let R : Set = c.index-all-place.result in
     let here : p < length K.rows = all_placed K K c.args.a.now ps refl c.requires k 0 c.loop-place-test.true in
-    let value : R ≡ row_at K.rows p = c.index-all-place.is ∙ ap (λ (Rs : List Set). get_or Rs p R) c.as_slice-all.ensures.rows ∙ get_or_default K.rows p R [] here in
+    let value : R ≡ row_at K.rows p = c.index-all-place.is ∙ ap (λ (Rs : List Set). get_or Rs p R) c.as_slice-all.ensures.rows
+    ∙ get_or_default K.rows p R [] here in
     c.in_ok-push.ensures.ok
     ∙ ap (λ (J : Context). record { width = J.width; rows = J.rows ++ R ∷ [] }) c.loop-place.invariant
     ∙ ap (λ (Rs : List Set). record { width = K.width; rows = Rs })

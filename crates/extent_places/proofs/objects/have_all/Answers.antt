@@ -1,6 +1,6 @@
 use Rattle.std.proofs.Common.{◌∙◌, ap}
 use Rattle.fca_model.specs.Sets.{Set, same}
-use Rattle.extent_places.proofs.ObjectLemmas.{same-meet}
+use Rattle.fca_model.proofs.SetLemmas.{same-meet}
 use Rattle.extent_places.proofs.objects.have_all.Goals as goal
 
 pub returns : goal.returns

@@ -40,10 +40,12 @@ loop-attribute-preserved g c =
     let new = first_missing-parts A G i (sym c.first_missing.ensures ∙ c.in-Some.is) in
     let inside : i < K.width = omega (arith, member_below A i new.0, c.requires.even) in
     let column : c.index-columns-attribute.result ≡ get_or c.args.columns.now i [] =
-    c.index-columns-attribute.is ∙ get_or_default c.args.columns.now i c.index-columns-attribute.result [] (omega (arith, inside, c.requires.columns.wide)) in
+    c.index-columns-attribute.is ∙ get_or_default c.args.columns.now i c.index-columns-attribute.result []
+    (omega (arith, inside, c.requires.columns.wide)) in
     subst (λ (T : Set). IsGrown K A c.insert.new.set T) (sym c.meet-having.ensures)
     (subst (λ (H : Set). IsGrown K A H (meet S c.index-columns-attribute.result)) (sym c.insert.ensures)
-    (grown_more K A G S c.index-columns-attribute.result i inside c.loop-attribute.invariant new.0 (subst (HasObjects K (alone K i)) (sym column) (c.requires.columns.each i inside))))
+    (grown_more K A G S c.index-columns-attribute.result i inside c.loop-attribute.invariant new.0
+    (subst (HasObjects K (alone K i)) (sym column) (c.requires.columns.each i inside))))
 
 pub returns : goal.returns
 returns g c =

@@ -12,6 +12,8 @@ returns g c =
     let A : Set = c.args.a.now in
     let i = c.args.i in
     let C : Set = c.index-columns-i.result in
-    let column : C ≡ get_or c.args.columns.now i [] = c.index-columns-i.is ∙ get_or_default c.args.columns.now i C [] (omega (arith, c.requires.inside, c.requires.columns.wide)) in
+    let column : C ≡ get_or c.args.columns.now i [] = c.index-columns-i.is
+    ∙ get_or_default c.args.columns.now i C [] (omega (arith, c.requires.inside, c.requires.columns.wide)) in
     subst (λ (S : Set). HasObjects K (set A i true) S) (sym c.meet.ensures)
-    (objects_with K A c.args.objects.now C i c.requires.inside c.requires.wide c.requires.objects (subst (HasObjects K (alone K i)) (sym column) (c.requires.columns.each i c.requires.inside)))
+    (objects_with K A c.args.objects.now C i c.requires.inside c.requires.wide c.requires.objects
+    (subst (HasObjects K (alone K i)) (sym column) (c.requires.columns.each i c.requires.inside)))

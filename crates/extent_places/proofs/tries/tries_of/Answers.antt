@@ -13,11 +13,13 @@ use Rattle.extent_places.proofs.tries.tries_of.Goals as goal
 
 pub returns-then-places-gt-FEW-clause-wide : goal.returns-then-places-gt-FEW-clause-wide
 returns-then-places-gt-FEW-clause-wide g c =
-    ap length c.minus.ensures ∙ length-minus c.full-full.result c.args.a.now ∙ ap length c.full-full.ensures ∙ length-full c.width.result ∙ c.width.ensures.width
+    ap length c.minus.ensures ∙ length-minus c.full-full.result c.args.a.now ∙ ap length c.full-full.ensures ∙ length-full c.width.result
+    ∙ c.width.ensures.width
 
 pub returns-then-places-gt-FEW-clause-tries : goal.returns-then-places-gt-FEW-clause-tries
 returns-then-places-gt-FEW-clause-tries g c =
-    all_tries c.args.rows.now c.args.a.now c.requires.wide c.minus.result (c.minus.ensures ∙ ap (λ (F : Set). minus F c.args.a.now) (c.full-full.ensures ∙ ap full c.width.ensures.width))
+    all_tries c.args.rows.now c.args.a.now c.requires.wide c.minus.result
+    (c.minus.ensures ∙ ap (λ (F : Set). minus F c.args.a.now) (c.full-full.ensures ∙ ap full c.width.ensures.width))
 
 -- the first missing attribute, over the full set of the table
 first : (n : ℕ) (F A : Set) → F ≡ full n → first_missing 0 F A ≡ first_missing 0 (full n) A
@@ -34,7 +36,8 @@ insert-requires g c =
 pub returns-clause-wide : goal.returns-clause-wide
 returns-clause-wide g c =
     ap length c.minus-2.ensures ∙ length-minus c.match-first_missing.reached c.args.a.now ∙ elim c.match-first_missing.branch [
-      | in-Some w ↦ ap length (w.reached-is ∙ w.insert.ensures) ∙ length-set c.join_of_rows-reached.result w.in-Some.first true ∙ c.join_of_rows-reached.ensures.wide
+      | in-Some w ↦ ap length (w.reached-is ∙ w.insert.ensures) ∙ length-set c.join_of_rows-reached.result w.in-Some.first true
+          ∙ c.join_of_rows-reached.ensures.wide
       | in_default w ↦ ap length w.reached-is ∙ c.join_of_rows-reached.ensures.wide
     ]
 
@@ -45,11 +48,16 @@ returns-clause-tries g c =
     let J : Set = c.join_of_rows-reached.result in
     let is : c.full-full.result ≡ full K.width = c.full-full.ensures ∙ ap full c.width.ensures.width in
     let told = sym (first K.width c.full-full.result A is) ∙ sym c.first_missing.ensures in
-    let parts : (i : ℕ) → i < K.width → get_or c.match-first_missing.reached i false ≡ false → (get_or J i false ≡ false) × (first_missing 0 (full K.width) A ≢ Some i) =
+    let parts : (i : ℕ) → i < K.width → get_or c.match-first_missing.reached i false ≡ false
+    → (get_or J i false ≡ false) × (first_missing 0 (full K.width) A ≢ Some i) =
     λ i inside lacks. elim c.match-first_missing.branch [
       | in-Some w ↦
-          let below = member_below (full K.width) w.in-Some.first (first_missing-parts (full K.width) A w.in-Some.first (told ∙ w.in-Some.is)).0 in
-          with_first K A J c.match-first_missing.reached w.in-Some.first (told ∙ w.in-Some.is) (omega (arith, below, length-full K.width, c.join_of_rows-reached.ensures.wide)) (w.reached-is ∙ w.insert.ensures) i lacks
+          let below = member_below (full K.width) w.in-Some.first
+          (first_missing-parts (full K.width) A w.in-Some.first (told ∙ w.in-Some.is)).0 in
+          with_first K A J c.match-first_missing.reached w.in-Some.first (told ∙ w.in-Some.is)
+          (omega (arith, below, length-full K.width, c.join_of_rows-reached.ensures.wide)) (w.reached-is ∙ w.insert.ensures) i lacks
       | in_default w ↦ (ap (λ (X : Set). get_or X i false) (sym w.reached-is) ∙ lacks, λ e. w.in_default.not-Some i (sym told ∙ e))
     ] in
-    few_tries K A c.requires.wide J c.match-first_missing.reached c.minus-2.result (λ i inside none. subst (All (λ p. has_at K.rows i p ≡ false)) c.requires.places (c.join_of_rows-reached.ensures.rest i inside none)) parts c.minus-2.ensures
+    few_tries K A c.requires.wide J c.match-first_missing.reached c.minus-2.result
+    (λ i inside none. subst (All (λ p. has_at K.rows i p ≡ false)) c.requires.places
+    (c.join_of_rows-reached.ensures.rest i inside none)) parts c.minus-2.ensures

@@ -8,6 +8,7 @@ use Rattle.extent_places.proofs.columns.Columns.of.Goals as goal
 pub loop-attribute-preserved : goal.loop-attribute-preserved
 loop-attribute-preserved g c =
     let i = c.loop-attribute.attribute in
-    ap (map (λ (v : Vec Bool Global). v.items)) c.in_ok-push.ensures.items ∙ map_push (λ (v : Vec Bool Global). v.items) c.loop-attribute.lists.items c.in_ok-column_of.field-0
+    ap (map (λ (v : Vec Bool Global). v.items)) c.in_ok-push.ensures.items
+    ∙ map_push (λ (v : Vec Bool Global). v.items) c.loop-attribute.lists.items c.in_ok-column_of.field-0
     ∙ ap₂ (λ (Cs : List Set) (C : Set). Cs ++ C ∷ []) c.loop-attribute.invariant c.in_ok-column_of.ensures
     ∙ sym (map-range_with_len_more (column c.args.rows.now.rows) 0 i i (omega arith))
