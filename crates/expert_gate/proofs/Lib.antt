@@ -1,1 +1,3 @@
 mod ReplyLemmas
+pub mod DeskLemmas
+pub mod SeatLemmas

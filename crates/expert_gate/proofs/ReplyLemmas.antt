@@ -14,11 +14,14 @@ All-last P (y ∷ xs) x all = All-last P xs x (All-tail P y (xs ++ x ∷ []) all
 
 pub answer_wide : {F : Type 0} (o : Opening) (p q : Known Opening SetEntry) (event : SetEvent) (result : Result SetReply F)
     → IfOk result (λ reply. Answers o p event reply q) → IfOk result (HasWideReply o.table.context.width)
-answer_wide o p q event (Ok reply) turn = All-last (IsWideEntry o) (p.seen ++ turn.between) (record { event = event; reply = reply }) (subst (All (IsWideEntry o)) turn.seen turn.is_legal.wide)
+answer_wide o p q event (Ok reply) turn = All-last (IsWideEntry o) (p.seen ++ turn.between) (record { event = event; reply = reply })
+    (subst (All (IsWideEntry o)) turn.seen turn.is_legal.wide)
 answer_wide o p q event (Err e) turn = tt
 
 pub step_wide : (old new : History) (event : SetEvent) (reply : SetReply) → IsStep old new event reply
-    → All (λ (entry : SetEntry). HasWideReply new.opening.table.context.width entry.reply) new.journal → HasWideReply old.opening.table.context.width reply
+    → All (λ (entry : SetEntry). HasWideReply new.opening.table.context.width entry.reply) new.journal
+    → HasWideReply old.opening.table.context.width reply
 step_wide old new event reply step wide =
     subst (λ (o : Opening). HasWideReply o.table.context.width reply) step.opening
-    (All-last (IsWideEntry new.opening) old.journal (record { event = event; reply = reply }) (subst (All (IsWideEntry new.opening)) step.journal wide))
+    (All-last (IsWideEntry new.opening) old.journal (record { event = event; reply = reply })
+    (subst (All (IsWideEntry new.opening)) step.journal wide))

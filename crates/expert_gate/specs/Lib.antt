@@ -1,3 +1,4 @@
 pub mod Histories
 pub mod Turns
 pub mod Desks
+pub mod Seats

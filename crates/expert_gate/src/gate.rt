@@ -1,12 +1,12 @@
 //! The gate: opening it over an exploration, the turns of experts, and closing it.
 
-ghost use Rattle.std.specs.Prelude.{◌≡◌, ◌≤◌, ◌^◌, ◌↔◌, true, [], IsErrOf, IfOk, IfErr, All, map, length};
+ghost use Rattle.std.specs.Prelude.{◌≡◌, ◌≤◌, ◌↔◌, true, [], IsErrOf, IfOk, IfErr, All, map, length};
 ghost use Rattle.fca_model.specs.declared.Event.TheVariants.{Draw, Confirm, Row, Leave};
 ghost use Rattle.fca_model.specs.Exploration.{expert_of, has_width};
-ghost use Rattle.fca_model.specs.Widths.{HasWideReply};
+ghost use Rattle.fca_model.specs.declared.TheConstants.{MAX_TURNS};
 ghost use Rattle.turn_lock.specs.Passes.{badge, roll, Belongs, IsFresh};
 ghost use Rattle.turn_lock.specs.declared.fault.TurnFault.TheVariants as fault;
-ghost use Rattle.expert_gate.specs.Turns.{numbers_after, Answers, Looks, HasClosed};
+ghost use Rattle.expert_gate.specs.Turns.{numbers_after, MakesTurn, Looks, HasClosed};
 
 use crate::searching::Searching;
 use crate::shared::{Seen, SharedExplore};
@@ -21,7 +21,8 @@ use turn_lock::{Pass, TurnFault, TurnLock};
 /// The pass of one expert. It has the expert's number.
 pub type ExpertPass = Pass<SharedExplore>;
 
-/// Contracts see it as its lock, whose base is the opening of the exploration and which has a pass for each expert.
+/// One exploration that experts share. Contracts see it as its lock. The lock's base is the opening of the exploration, and it has a
+/// pass for each expert.
 #[derive(Drop)]
 pub struct Gate {
     width: u32,
@@ -44,13 +45,13 @@ impl Model for Gate {
 }
 
 impl Gate {
-    /// The gate of a new exploration, and a pass for each of its experts, in their order. Each may make `turns` turns.
+    /// Opens the gate of a new exploration. Each of its experts gets a pass, in their order, and may make `turns` turns.
     pub fn open(
         alloc: Global,
         explore: Explore,
         turns: u64,
     ) -> Result<(Gate, Vec<ExpertPass>), Memory>
-        requires turns { (1 ≤ turns) × (turns ≤ 2 ^ 48) }
+        requires turns { (1 ≤ turns) × (turns ≤ MAX_TURNS) }
         requires new { explore.journal ≡ [] }
         ensures opening { IfOk result (λ r. r.0.base ≡ explore.opening) }
         ensures counts { IfOk result (λ r. (r.0.turns ≡ turns) × (r.0.passes ≡ explore.opening.experts)) }
@@ -71,16 +72,10 @@ impl Gate {
         self.width
     }
 
-    /// The pass's expert asks for a question.
+    /// The pass's expert gives back what it holds, and asks for a question.
     pub fn draw<R: Wait>(&self, rt: &R, pass: &mut ExpertPass) -> Result<Reply, TurnFault>
         requires lock { Belongs self.now pass.old }
-        ensures same { badge pass.new ≡ badge pass.old }
-        ensures entry { IfOk result (λ reply. Answers self.now.base pass.old (Draw pass.old.number) reply pass.new) }
-        ensures wide { IfOk result (HasWideReply self.now.base.table.context.width) }
-        ensures memory { IsErrOf result fault.Memory → Looks self.now.base pass.old pass.new }
-        ensures spent { IsErrOf result fault.Spent ↔ (pass.old.made ≡ pass.old.turns) }
-        ensures unchanged { IsErrOf result fault.Spent → pass.new ≡ pass.old }
-        ensures within { pass.old.made ≤ pass.old.turns }
+        ensures { MakesTurn self.now (Draw pass.old.number) pass.old result pass.new }
     {
         let expert = pass.number();
         self.turn(rt, &OneThread, pass, Event::Draw { expert })
@@ -89,18 +84,12 @@ impl Gate {
     /// The pass's expert confirms the question that it holds.
     pub fn confirm<R: Wait>(&self, rt: &R, pass: &mut ExpertPass) -> Result<Reply, TurnFault>
         requires lock { Belongs self.now pass.old }
-        ensures same { badge pass.new ≡ badge pass.old }
-        ensures entry { IfOk result (λ reply. Answers self.now.base pass.old (Confirm pass.old.number) reply pass.new) }
-        ensures wide { IfOk result (HasWideReply self.now.base.table.context.width) }
-        ensures memory { IsErrOf result fault.Memory → Looks self.now.base pass.old pass.new }
-        ensures spent { IsErrOf result fault.Spent ↔ (pass.old.made ≡ pass.old.turns) }
-        ensures unchanged { IsErrOf result fault.Spent → pass.new ≡ pass.old }
-        ensures within { pass.old.made ≤ pass.old.turns }
+        ensures { MakesTurn self.now (Confirm pass.old.number) pass.old result pass.new }
     {
         self.confirm_by(rt, &OneThread, pass)
     }
 
-    /// The same as `confirm`, where the search looks for the next level.
+    /// Confirms as `confirm` does. The search looks for the next level.
     pub fn confirm_by<R: Wait, S: LevelSearch>(
         &self,
         rt: &R,
@@ -108,13 +97,7 @@ impl Gate {
         pass: &mut ExpertPass,
     ) -> Result<Reply, TurnFault>
         requires lock { Belongs self.now pass.old }
-        ensures same { badge pass.new ≡ badge pass.old }
-        ensures entry { IfOk result (λ reply. Answers self.now.base pass.old (Confirm pass.old.number) reply pass.new) }
-        ensures wide { IfOk result (HasWideReply self.now.base.table.context.width) }
-        ensures memory { IsErrOf result fault.Memory → Looks self.now.base pass.old pass.new }
-        ensures spent { IsErrOf result fault.Spent ↔ (pass.old.made ≡ pass.old.turns) }
-        ensures unchanged { IsErrOf result fault.Spent → pass.new ≡ pass.old }
-        ensures within { pass.old.made ≤ pass.old.turns }
+        ensures { MakesTurn self.now (Confirm pass.old.number) pass.old result pass.new }
     {
         let expert = pass.number();
         self.turn(rt, search, pass, Event::Confirm { expert })
@@ -130,18 +113,12 @@ impl Gate {
     ) -> Result<Reply, TurnFault>
         requires lock { Belongs self.now pass.old }
         requires width { length row ≡ self.now.base.table.context.width }
-        ensures same { badge pass.new ≡ badge pass.old }
-        ensures entry { IfOk result (λ reply. Answers self.now.base pass.old (Row pass.old.number name row) reply pass.new) }
-        ensures wide { IfOk result (HasWideReply self.now.base.table.context.width) }
-        ensures memory { IsErrOf result fault.Memory → Looks self.now.base pass.old pass.new }
-        ensures spent { IsErrOf result fault.Spent ↔ (pass.old.made ≡ pass.old.turns) }
-        ensures unchanged { IsErrOf result fault.Spent → pass.new ≡ pass.old }
-        ensures within { pass.old.made ≤ pass.old.turns }
+        ensures { MakesTurn self.now (Row pass.old.number name row) pass.old result pass.new }
     {
         self.row_by(rt, &OneThread, pass, name, row)
     }
 
-    /// The same as `row`, where the search looks for the next level.
+    /// Answers as `row` does. The search looks for the next level.
     pub fn row_by<R: Wait, S: LevelSearch>(
         &self,
         rt: &R,
@@ -152,13 +129,7 @@ impl Gate {
     ) -> Result<Reply, TurnFault>
         requires lock { Belongs self.now pass.old }
         requires width { length row ≡ self.now.base.table.context.width }
-        ensures same { badge pass.new ≡ badge pass.old }
-        ensures entry { IfOk result (λ reply. Answers self.now.base pass.old (Row pass.old.number name row) reply pass.new) }
-        ensures wide { IfOk result (HasWideReply self.now.base.table.context.width) }
-        ensures memory { IsErrOf result fault.Memory → Looks self.now.base pass.old pass.new }
-        ensures spent { IsErrOf result fault.Spent ↔ (pass.old.made ≡ pass.old.turns) }
-        ensures unchanged { IsErrOf result fault.Spent → pass.new ≡ pass.old }
-        ensures within { pass.old.made ≤ pass.old.turns }
+        ensures { MakesTurn self.now (Row pass.old.number name row) pass.old result pass.new }
     {
         let expert = pass.number();
         self.turn(rt, search, pass, Event::Row { expert, name, row })
@@ -167,19 +138,13 @@ impl Gate {
     /// The pass's expert gives back what it holds.
     pub fn leave<R: Wait>(&self, rt: &R, pass: &mut ExpertPass) -> Result<Reply, TurnFault>
         requires lock { Belongs self.now pass.old }
-        ensures same { badge pass.new ≡ badge pass.old }
-        ensures entry { IfOk result (λ reply. Answers self.now.base pass.old (Leave pass.old.number) reply pass.new) }
-        ensures wide { IfOk result (HasWideReply self.now.base.table.context.width) }
-        ensures memory { IsErrOf result fault.Memory → Looks self.now.base pass.old pass.new }
-        ensures spent { IsErrOf result fault.Spent ↔ (pass.old.made ≡ pass.old.turns) }
-        ensures unchanged { IsErrOf result fault.Spent → pass.new ≡ pass.old }
-        ensures within { pass.old.made ≤ pass.old.turns }
+        ensures { MakesTurn self.now (Leave pass.old.number) pass.old result pass.new }
     {
         let expert = pass.number();
         self.turn(rt, &OneThread, pass, Event::Leave { expert })
     }
 
-    /// One turn with an event of the pass's expert, where the search looks for the next level.
+    /// One turn with an event of the pass's expert. The search looks for the next level.
     fn turn<R: Wait, S: LevelSearch>(
         &self,
         rt: &R,
@@ -190,19 +155,13 @@ impl Gate {
         requires lock { Belongs self.now pass.old }
         requires expert { expert_of event ≡ pass.old.number }
         requires width { has_width self.now.base.table.context.width event ≡ true }
-        ensures same { badge pass.new ≡ badge pass.old }
-        ensures entry { IfOk result (λ reply. Answers self.now.base pass.old event reply pass.new) }
-        ensures wide { IfOk result (HasWideReply self.now.base.table.context.width) }
-        ensures memory { IsErrOf result fault.Memory → Looks self.now.base pass.old pass.new }
-        ensures spent { IsErrOf result fault.Spent ↔ (pass.old.made ≡ pass.old.turns) }
-        ensures unchanged { IsErrOf result fault.Spent → pass.new ≡ pass.old }
-        ensures within { pass.old.made ≤ pass.old.turns }
+        ensures { MakesTurn self.now event pass.old result pass.new }
     {
         self.lock
             .with_turn_by(rt, &Searching { search }, pass, event)
     }
 
-    /// One turn that only looks.
+    /// One turn that only looks. The pass stays one of this gate's.
     pub fn see<R: Wait>(&self, rt: &R, pass: &mut ExpertPass) -> Result<Seen, TurnFault>
         requires lock { Belongs self.now pass.old }
         ensures same { badge pass.new ≡ badge pass.old }
@@ -215,11 +174,11 @@ impl Gate {
         self.lock.see(rt, pass)
     }
 
-    /// The exploration, once all passes are back in their order.
+    /// Takes the passes back, in their order, and gives the exploration.
     pub fn close(self, passes: Vec<ExpertPass>) -> Explore
         requires passes { map badge passes.items ≡ roll self }
         ensures opening { result.opening ≡ self.base }
-        ensures told { HasClosed self.base result.journal passes.items }
+        ensures entries { HasClosed self.base result.journal passes.items }
     {
         self.lock.close(passes).explore
     }

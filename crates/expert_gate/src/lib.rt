@@ -1,4 +1,4 @@
-//! One exploration that many experts share: each has a pass, and every call of an expert is one turn of it.
+//! One exploration that many experts share. Each has a pass, and each call of an expert is one turn of its pass.
 #![tactic(auto)]
 
 mod desk;

@@ -1,4 +1,4 @@
-//! Who applies an event to the shared exploration where the next level is looked for by a search.
+//! Events applied to the shared exploration with the help of a search for the next level.
 
 use crate::shared::SharedExplore;
 use explore_state::{Event, LevelSearch, Reply};

@@ -23,14 +23,15 @@ impl Model for Opened {
 /// What a look at an exploration shows.
 #[derive(Clone, Copy, Debug, PartialEq, Eq)]
 pub struct Seen {
-    /// How many events were replied to.
+    /// The number of events that were replied to.
     pub events: usize,
 
-    /// The rows of the table and the recorded ones together.
+    /// The number of rows: those of the table and the recorded ones together.
     pub rows: usize,
+    /// The number of accepted implications.
     pub accepted: usize,
 
-    /// The open questions.
+    /// The number of open questions.
     pub questions: usize,
 }
 
@@ -93,7 +94,7 @@ impl Logged for SharedExplore {
         }
     }
 
-    fn told(&self) {
+    fn attest_legal(&self) {
         let _journal = self.explore.journal();
     }
 }

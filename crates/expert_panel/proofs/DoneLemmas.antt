@@ -1,4 +1,5 @@
--- Done is answered to draws alone, and only where no question is open; and from then on none is. So where an expert's last reply is Done, no question is open
+-- Done is answered to draws alone, and only where no question is open; and from then on none is. So where an expert's last reply is Done,
+-- no question is open
 -- after the whole history.
 use Rattle.std.proofs.Common.{◌≡◌, ℕ, Bool, true, false, not, ◌||◌, Option, Some, None, List, [], ◌∷◌, ◌==◌, filter, length, inl, inr, refl, sym, ap, ◌∙◌, subst}
 use Rattle.std.proofs.lemmas.Bool.{cases_Bool, and_parts, or_left, or_right, false≢true}
@@ -62,7 +63,8 @@ done_open s (Leave e) h = absurd (false≢true h)
 
 -- ---- in a history
 
-done_closes : (s : State) (es : List SetEvent) → IsValid s → list_all (λ event. is_expert (expert_of event)) es ≡ true → list_all (has_width s.context.width) es ≡ true
+done_closes : (s : State) (es : List SetEvent) → IsValid s → list_all (λ event. is_expert (expert_of event)) es ≡ true
+    → list_all (has_width s.context.width) es ≡ true
     → list_any (λ entry. is_done entry.reply) (journal_of s es) ≡ true → open_in (state_after s es) ≡ []
 unfolding state_after journal_of
 done_closes s [] v i w h = absurd (false≢true h)
@@ -71,7 +73,8 @@ done_closes s (event ∷ es) v i w h = elim (cases_Bool (is_done (reply_to s eve
   | inr f ↦
       let is = and_parts (is_expert (expert_of event)) (list_all (λ event. is_expert (expert_of event)) es) i in
       let ws = and_parts (has_width s.context.width event) (list_all (has_width s.context.width) es) w in
-      done_closes (next s event) es (next_valid s v event is.0) is.1 (subst (λ n. list_all (has_width n) es ≡ true) (sym (next_width s event)) ws.1)
+      done_closes (next s event) es (next_valid s v event is.0) is.1
+      (subst (λ n. list_all (has_width n) es ≡ true) (sym (next_width s event)) ws.1)
       (subst (λ b. (b || list_any (λ entry. is_done entry.reply) (journal_of (next s event) es)) ≡ true) f h)
 ]
 
@@ -84,11 +87,14 @@ list_any-filter p q xs h = elim (cases_Bool (list_all (λ x. not (p x)) xs)) [
 ends_any : (entries : List SetEntry) → ends_done entries ≡ true → list_any (λ entry. is_done entry.reply) entries ≡ true
 ends_any [] h = h
 ends_any (entry ∷ []) h = or_left (is_done entry.reply) false h
-ends_any (entry ∷ other ∷ rest) h = or_right (is_done entry.reply) (list_any (λ entry. is_done entry.reply) (other ∷ rest)) (ends_any (other ∷ rest) h)
+ends_any (entry ∷ other ∷ rest) h = or_right (is_done entry.reply) (list_any (λ entry. is_done entry.reply) (other ∷ rest))
+    (ends_any (other ∷ rest) h)
 
 -- where the last reply to an expert is Done, no question is open after the history
-pub done_leaves_none : (s : State) (H : List SetEntry) (e : ℕ) → IsValid s → IsLegal s H → ends_done (own H e) ≡ true → open_in (state_after s (events_of H)) ≡ []
+pub done_leaves_none : (s : State) (H : List SetEntry) (e : ℕ) → IsValid s → IsLegal s H → ends_done (own H e) ≡ true
+    → open_in (state_after s (events_of H)) ≡ []
 done_leaves_none s H e v legal h =
     let events = legal_events s H legal in
     done_closes s (events_of H) v events.0 events.1
-    (subst (λ J. list_any (λ entry. is_done entry.reply) J ≡ true) (sym legal.replayed) (list_any-filter (λ entry. is_done entry.reply) (λ entry. expert_of entry.event == e) H (ends_any (own H e) h)))
+    (subst (λ J. list_any (λ entry. is_done entry.reply) J ≡ true) (sym legal.replayed)
+    (list_any-filter (λ entry. is_done entry.reply) (λ entry. expert_of entry.event == e) H (ends_any (own H e) h)))

@@ -1,6 +1,5 @@
 pub mod PassLemmas
 pub mod AttendLemmas
-pub mod SeatLemmas
 pub mod DoneLemmas
 pub mod ShareLemmas
 pub mod EndingLemmas

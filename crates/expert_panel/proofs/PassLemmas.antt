@@ -1,4 +1,5 @@
--- Turn after turn of one pass. Each turn goes on from the history that the pass has seen, and what the pass knows after a turn is right whatever it knew
+-- Turn after turn of one pass. Each turn goes on from the history that the pass has seen, and what the pass knows after a turn is right
+-- whatever it knew
 -- before, so the turns of a run add up.
 use Rattle.std.proofs.Common.{◌≡◌, ◌<◌, ◌⊎◌, List, [], ◌∷◌, ◌++◌, append_assoc, sym, ap, ◌∙◌, refl, inl, inr, arith}
 use Rattle.std.proofs.lemmas.List.{append-nil}
@@ -32,20 +33,23 @@ module _ (o : Opening) (p : Known Opening SetEntry) where
       still (inr none) = absurd (omega (arith, none))
 
   -- one entry more
-  pub HasMade-entry : (entries : List SetEntry) (q r : Known Opening SetEntry) (event : SetEvent) (reply : SetReply) → HasMade o p entries q → Answers o q event reply r → badge r ≡ badge q
+  pub HasMade-entry : (entries : List SetEntry) (q r : Known Opening SetEntry) (event : SetEvent) (reply : SetReply) → HasMade o p entries q
+      → Answers o q event reply r → badge r ≡ badge q
       → HasMade o p (entries ++ record { event = event; reply = reply } ∷ []) r
   HasMade-entry entries q r event reply made turn same =
       let entry : SetEntry = record { event = event; reply = reply } in
       record {
         same = same ∙ made.same;
         own = turn.own ∙ ap (λ xs. xs ++ entry ∷ []) made.own ∙ append_assoc p.own entries (entry ∷ []);
-        seen = starts_on p.seen q.seen r.seen made.seen (turn.between ++ entry ∷ [], turn.seen ∙ append_assoc q.seen turn.between (entry ∷ []));
+        seen = starts_on p.seen q.seen r.seen made.seen
+            (turn.between ++ entry ∷ [], turn.seen ∙ append_assoc q.seen turn.between (entry ∷ []));
         in_it = λ _. turn.in_it;
         is_legal = λ _. turn.is_legal;
       }
 
   -- a turn with no entry
-  pub HasMade-look : (entries : List SetEntry) (q r : Known Opening SetEntry) → HasMade o p entries q → Looks o q r → badge r ≡ badge q → HasMade o p entries r
+  pub HasMade-look : (entries : List SetEntry) (q r : Known Opening SetEntry) → HasMade o p entries q → Looks o q r → badge r ≡ badge q
+      → HasMade o p entries r
   HasMade-look entries q r made turn same = record {
     same = same ∙ made.same;
     own = turn.own ∙ made.own;

@@ -1,4 +1,5 @@
--- What a seat with an oracle did, in the words of the one history. Its pass was new, so the entries that it made are all that it has; and what is told at the
+-- What a seat with an oracle did, in the words of the one history. Its pass was new, so the entries that it made are all that it has; and
+-- what is told at the
 -- close says that these are the entries of its number in the history. The passes stand in the order of their numbers.
 use Rattle.std.proofs.Common.{◌≡◌, ℕ, zero, suc, ◌+◌, ◌-◌, ◌<◌, ◌≤◌, ◌⊎◌, Bool, true, false, not, ◌||◌, Option, Some, None, List, [], ◌∷◌, ◌++◌, length, map, get_or, All, inl, inr, refl, sym, ap, ◌∙◌, subst, arith}
 use Rattle.std.proofs.lemmas.Bool.{cases_Bool, cases_lt, or_left, or_right, false≢true}
@@ -17,8 +18,9 @@ use Rattle.oracle_expert.proofs.RunLemmas.{IsOracles, oracle_runs}
 use Rattle.expert_panel.specs.declared.seat.Seat.{Seat}
 use Rattle.expert_panel.specs.declared.end.SeatEnd.{SeatEnd}
 use Rattle.expert_panel.specs.declared.end.SeatEnd.TheVariants.{Done, Spent, Memory}
-use Rattle.expert_panel.specs.Seats.{HasRun, IsEnd, EachSeat}
-use Rattle.expert_panel.specs.Explorations.{IsOraclesShare, EachNumbered, is_spent, is_refused}
+use Rattle.expert_gate.specs.Seats.{EachSeat}
+use Rattle.expert_panel.specs.Seats.{HasRun, IsEnd}
+use Rattle.expert_panel.specs.Explorations.{IsOraclesShare, EachNumbered, is_spent, is_out_of_memory}
 
 -- ---- numbers
 
@@ -27,7 +29,8 @@ abbrev pub count_from : ℕ → ℕ → List ℕ
 count_from n zero = []
 count_from n (suc k) = n ∷ count_from (suc n) k
 
-badges-numbers : (id : TableId) (base : Option Opening) (turns n k : ℕ) → map (λ (b : Badge Opening). b.number) (badges id base turns n k) ≡ count_from n k
+badges-numbers : (id : TableId) (base : Option Opening) (turns n k : ℕ)
+    → map (λ (b : Badge Opening). b.number) (badges id base turns n k) ≡ count_from n k
 badges-numbers id base turns n zero = refl
 badges-numbers id base turns n (suc k) = ap (λ ns. n ∷ ns) (badges-numbers id base turns (suc n) k)
 
@@ -41,10 +44,12 @@ abbrev pub EachFrom : {X : Type 0} → (ℕ → X → Type 0) → ℕ → List X
 EachFrom P n [] = Unit {0}
 EachFrom P n (x ∷ xs) = P n x × EachFrom P (suc n) xs
 
-each_at : {X : Type 0} (P : ℕ → X → Type 0) (n : ℕ) (xs : List X) → EachFrom P n xs → (k : ℕ) (d : X) → k < length xs → P (k + n) (get_or xs k d)
+each_at : {X : Type 0} (P : ℕ → X → Type 0) (n : ℕ) (xs : List X) → EachFrom P n xs → (k : ℕ) (d : X) → k < length xs
+    → P (k + n) (get_or xs k d)
 each_at P n [] each k d h = absurd (omega arith)
 each_at P n (x ∷ xs) each zero d h = let e : n ≡ 0 + n = omega arith in subst (λ m. P m x) e each.0
-each_at P n (x ∷ xs) each (suc k) d h = let e : k + suc n ≡ suc k + n = omega arith in subst (λ m. P m (get_or xs k d)) e (each_at P (suc n) xs each.1 k d (omega arith))
+each_at P n (x ∷ xs) each (suc k) d h = let e : k + suc n ≡ suc k + n = omega arith in
+    subst (λ m. P m (get_or xs k d)) e (each_at P (suc n) xs each.1 k d (omega arith))
 
 pub each_numbered : {X : Type 0} (P : ℕ → X → Type 0) (xs : List X) → EachFrom P 1 xs → EachNumbered P xs
 each_numbered P xs each k x e = subst (P (k + 1)) (get_or_from_slice_get xs k x x e) (each_at P 1 xs each k x (slice_get_within xs k x e))
@@ -67,16 +72,18 @@ abbrev pub experts : List (Seat Recall) → List Recall
 experts seats = map (λ seat. seat.expert) seats
 
 module _ (o : Opening) (turns : ℕ) (H : List SetEntry) where
-  ending : (end : SeatEnd) (p q : Known Opening SetEntry) (entries : List SetEntry) (ended : Option SeatEnd) → ended ≡ Some end → is_refused ended ≡ false → IsEnd end p entries q → p.made ≡ 0 → q.turns ≡ turns
+  ending : (end : SeatEnd) (p q : Known Opening SetEntry) (entries : List SetEntry) (ended : Option SeatEnd) → ended ≡ Some end
+      → is_out_of_memory ended ≡ false → IsEnd end p entries q → p.made ≡ 0 → q.turns ≡ turns
       → ((ends_done entries ≡ true) ⊎ ((ends_done entries ≡ false) × (length entries ≡ turns))) × (is_spent ended ≡ not (ends_done entries))
   ending Done p q entries ended e free end fresh all = (inl end.0, ap is_spent e ∙ ap not (sym end.0))
   ending Spent p q entries ended e free end fresh all =
       let took = end.1 in
       let whole = end.2 in
       (inr (end.0, omega arith), ap is_spent e ∙ ap not (sym end.0))
-  ending Memory p q entries ended e free end fresh all = absurd (false≢true (sym free ∙ ap is_refused e))
+  ending Memory p q entries ended e free end fresh all = absurd (false≢true (sym free ∙ ap is_out_of_memory e))
 
-  module _ (n : ℕ) (old new : Seat Recall) (run : Run o old new) (fresh : IsFresh old.pass) (free : old.expert.conflicts ≡ no_conflict old.expert.table) (number : new.pass.number ≡ n) where
+  module _ (n : ℕ) (old new : Seat Recall) (run : Run o old new) (fresh : IsFresh old.pass)
+      (free : old.expert.conflicts ≡ no_conflict old.expert.table) (number : new.pass.number ≡ n) where
     abbrev D : NamedContext
     D = old.expert.table
 
@@ -92,13 +99,15 @@ module _ (o : Opening) (turns : ℕ) (H : List SetEntry) where
     same_number : old.pass.number ≡ n
     same_number = sym (ap (λ (b : Badge Opening). b.number) run.attended.pass.same) ∙ number
 
-    pub tells : new.pass.turns ≡ turns → own_of by_expert new.pass.number H ≡ new.pass.own → is_refused new.ended ≡ false → Tells turns H n new
+    pub tells : new.pass.turns ≡ turns → own_of by_expert new.pass.number H ≡ new.pass.own → is_out_of_memory new.ended ≡ false
+        → Tells turns H n new
     tells all owns unrefused =
         let own_is : own H n ≡ entries = ap (own H) (sym number) ∙ owns ∙ run.attended.pass.own ∙ ap (λ xs. xs ++ entries) fresh.1 in
         let end = ending run.end old.pass new.pass entries new.ended run.ended unrefused run.attended.end fresh.2 all in
         record {
           share = record {
-            front = subst (λ K. IsOracleFront K n (own H n)) (sym oracles.table) (subst (λ k. IsOracleFront D k (own H n)) same_number (subst (IsOracleFront D old.pass.number) (sym own_is) oracles.run));
+            front = subst (λ K. IsOracleFront K n (own H n)) (sym oracles.table)
+                (subst (λ k. IsOracleFront D k (own H n)) same_number (subst (IsOracleFront D old.pass.number) (sym own_is) oracles.run));
             conflicts = oracles.conflicts ∙ ap (conflicts_of D) (sym own_is) ∙ ap (λ K. conflicts_of K (own H n)) (sym oracles.table);
             end = subst (λ xs. (ends_done xs ≡ true) ⊎ ((ends_done xs ≡ false) × (length xs ≡ turns))) (sym own_is) end.0;
           };
@@ -107,9 +116,12 @@ module _ (o : Opening) (turns : ℕ) (H : List SetEntry) where
 
   -- ---- all seats
 
-  pub tells_all : (n : ℕ) (olds news : List (Seat Recall)) → EachSeat (Run o) olds news → All IsFresh (passes olds) → All (λ (r : Recall). r.conflicts ≡ no_conflict r.table) (experts olds)
-      → map (λ (b : Badge Opening). b.number) (map badge (passes news)) ≡ count_from n (length news) → All (λ (p : Known Opening SetEntry). p.turns ≡ turns) (passes news)
-      → All (λ (p : Known Opening SetEntry). own_of by_expert p.number H ≡ p.own) (passes news) → list_any (λ seat. is_refused seat.ended) news ≡ false
+  pub tells_all : (n : ℕ) (olds news : List (Seat Recall)) → EachSeat (Run o) olds news → All IsFresh (passes olds)
+      → All (λ (r : Recall). r.conflicts ≡ no_conflict r.table) (experts olds)
+      → map (λ (b : Badge Opening). b.number) (map badge (passes news)) ≡ count_from n (length news)
+      → All (λ (p : Known Opening SetEntry). p.turns ≡ turns) (passes news)
+      → All (λ (p : Known Opening SetEntry). own_of by_expert p.number H ≡ p.own) (passes news)
+      → list_any (λ seat. is_out_of_memory seat.ended) news ≡ false
       → EachFrom (Tells turns H) n news × (map (λ (r : Recall). r.table) (experts news) ≡ map (λ (r : Recall). r.table) (experts olds))
   tells_all n [] [] each fresh free numbers all owns unrefused = (tt, refl)
   tells_all n [] (new ∷ news) each fresh free numbers all owns unrefused = absurd each
@@ -122,11 +134,16 @@ module _ (o : Opening) (turns : ℕ) (H : List SetEntry) where
       let free_here = All-head Free old.expert (experts olds) free in
       let number : new.pass.number ≡ n = cc in
       let numbers_on : map (λ (b : Badge Opening). b.number) (map badge (passes news)) ≡ count_from (suc n) (length news) = cc in
-      let refused = or_none (is_refused new.ended) (list_any (λ seat. is_refused seat.ended) news) unrefused in
-      let here = tells n old new each.0 fresh_here free_here number (All-head Turns new.pass (passes news) all) (All-head Owns new.pass (passes news) owns) refused.0 in
-      let more = tells_all (suc n) olds news each.1 (All-tail IsFresh old.pass (passes olds) fresh) (All-tail Free old.expert (experts olds) free) numbers_on
-      (All-tail Turns new.pass (passes news) all) (All-tail Owns new.pass (passes news) owns) refused.1 in
-      ((here, more.0), ap (λ (D : NamedContext). D ∷ map (λ (r : Recall). r.table) (experts news)) (table_stays n old new each.0 fresh_here free_here number) ∙ ap (λ (Ds : List NamedContext). old.expert.table ∷ Ds) more.1)
+      let refused = or_none (is_out_of_memory new.ended) (list_any (λ seat. is_out_of_memory seat.ended) news) unrefused in
+      let here = tells n old new each.0 fresh_here free_here number (All-head Turns new.pass (passes news) all)
+      (All-head Owns new.pass (passes news) owns) refused.0 in
+      let more = tells_all (suc n) olds news each.1 (All-tail IsFresh old.pass (passes olds) fresh)
+      (All-tail Free old.expert (experts olds) free) numbers_on
+      (All-tail Turns new.pass (passes news) all) (All-tail Owns new.pass (passes news) owns) refused.1 in (
+        (here, more.0),
+        ap (λ (D : NamedContext). D ∷ map (λ (r : Recall). r.table) (experts news))
+            (table_stays n old new each.0 fresh_here free_here number) ∙ ap (λ (Ds : List NamedContext). old.expert.table ∷ Ds) more.1,
+      )
     where
       or_none : (a b : Bool) → (a || b) ≡ false → (a ≡ false) × (b ≡ false)
       or_none true b h = cc
@@ -138,7 +155,8 @@ module _ (o : Opening) (turns : ℕ) (H : List SetEntry) where
   shares n (seat ∷ seats) each = (each.0.share, shares (suc n) seats each.1)
 
   -- a seat is spent exactly where one of the numbers was not answered Done last
-  pub some_spent : (n : ℕ) (seats : List (Seat Recall)) → EachFrom (Tells turns H) n seats → list_any (λ seat. is_spent seat.ended) seats ≡ true
+  pub some_spent : (n : ℕ) (seats : List (Seat Recall)) → EachFrom (Tells turns H) n seats
+      → list_any (λ seat. is_spent seat.ended) seats ≡ true
       → (e : ℕ) × (n ≤ e) × (e < n + length seats) × (ends_done (own H e) ≡ false)
   some_spent n [] each h = absurd (false≢true h)
   some_spent n (seat ∷ seats) each h = elim (cases_Bool (is_spent seat.ended)) [
@@ -154,14 +172,17 @@ module _ (o : Opening) (turns : ℕ) (H : List SetEntry) where
       not_back true h = cc
       not_back false h = refl
 
-  pub spent_among : (n : ℕ) (seats : List (Seat Recall)) → EachFrom (Tells turns H) n seats → (e : ℕ) → n ≤ e → e < n + length seats → ends_done (own H e) ≡ false
+  pub spent_among : (n : ℕ) (seats : List (Seat Recall)) → EachFrom (Tells turns H) n seats → (e : ℕ) → n ≤ e → e < n + length seats
+      → ends_done (own H e) ≡ false
       → list_any (λ seat. is_spent seat.ended) seats ≡ true
   spent_among n [] each e from to h = absurd (omega arith)
   spent_among n (seat ∷ seats) each e from to h = elim (cases_lt n e) [
     | inr ge ↦
         let same : n ≡ e = omega arith in
-        or_left (is_spent seat.ended) (list_any (λ seat. is_spent seat.ended) seats) (each.0.spent ∙ ap not (ap (λ k. ends_done (own H k)) same ∙ h))
-    | inl lt ↦ or_right (is_spent seat.ended) (list_any (λ seat. is_spent seat.ended) seats) (spent_among (suc n) seats each.1 e (omega arith) (omega arith) h)
+        or_left (is_spent seat.ended) (list_any (λ seat. is_spent seat.ended) seats)
+        (each.0.spent ∙ ap not (ap (λ k. ends_done (own H k)) same ∙ h))
+    | inl lt ↦ or_right (is_spent seat.ended) (list_any (λ seat. is_spent seat.ended) seats)
+        (spent_among (suc n) seats each.1 e (omega arith) (omega arith) h)
   ]
 
 pub untold_free : (Ds : List NamedContext) → All (λ (r : Recall). r.conflicts ≡ no_conflict r.table) (map untold Ds)

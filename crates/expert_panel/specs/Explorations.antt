@@ -16,7 +16,8 @@ use Rattle.expert_panel.specs.declared.seat.Seat.{Seat}
 use Rattle.expert_panel.specs.declared.end.SeatEnd.{SeatEnd}
 use Rattle.expert_panel.specs.declared.end.SeatEnd.TheVariants.{Spent, Memory}
 
--- Of the history H: the entries of expert e are what is due for an oracle of its table, and the rows that it dropped are theirs. Its last reply is Done; or
+-- Of the history H: the entries of expert e are what is due for an oracle of its table, and the rows that it dropped are theirs. Its last
+-- reply is Done; or
 -- it is not, and there are as many entries as the expert has turns
 pub record IsOraclesShare (turns : ℕ) (H : List SetEntry) (e : ℕ) (oracle : Recall) : Type 0 where
   pub front : IsOracleFront oracle.table e (own H e)
@@ -32,13 +33,14 @@ abbrev pub is_spent : Option SeatEnd → Bool
 is_spent (Some Spent) = true
 is_spent _ = false
 
--- the seat ended for want of memory
-abbrev pub is_refused : Option SeatEnd → Bool
-is_refused (Some Memory) = true
-is_refused _ = false
+-- the seat ran out of memory
+abbrev pub is_out_of_memory : Option SeatEnd → Bool
+is_out_of_memory (Some Memory) = true
+is_out_of_memory _ = false
 
 -- The exploration by oracles at the gate, as it ended with these oracles, and with one spent or none
-pub record HasEnded (gate : Lock Opening) (before : List Recall) (explore : History) (oracles : List Recall) (some_spent : Bool) : Type 0 where
+pub record HasEnded (gate : Lock Opening) (before : List Recall) (explore : History) (oracles : List Recall)
+    (some_spent : Bool) : Type 0 where
   pub opening : explore.opening ≡ gate.base
   pub is_legal : IsLegal (opening_state gate.base) explore.journal
   pub tables : map (λ oracle. oracle.table) oracles ≡ map (λ oracle. oracle.table) before
@@ -77,9 +79,11 @@ most_turns_between H old new = 2 * recorded_in H + (dropped new.conflicts - drop
 abbrev pub is_part : Context → Context → Bool
 is_part K C = list_all (λ row. list_any (same row) C.rows) K.rows
 
--- What comes of oracles of one context C: none dropped a row; and if none was spent, what was accepted is the basis of C beside what is known, and so is the
+-- What comes of oracles of one context C: none dropped a row; and if none was spent, what was accepted is the basis of C beside what is
+-- known, and so is the
 -- basis of the recorded rows
 pub record HasAgreed (C : Context) (explore : History) (oracles : List Recall) (spent : Bool) : Type 0 where
   pub kept : All (λ oracle. oracle.conflicts ≡ no_conflict oracle.table) oracles
   pub accepted : spent ≡ false → SameMembers (state_of explore).accepted (basis_known explore.opening.settings.known C)
-  pub basis : spent ≡ false → basis_known explore.opening.settings.known (state_of explore).context ≡ basis_known explore.opening.settings.known C
+  pub basis : spent ≡ false → basis_known explore.opening.settings.known (state_of explore).context
+      ≡ basis_known explore.opening.settings.known C

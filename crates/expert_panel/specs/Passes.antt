@@ -6,7 +6,8 @@ use Rattle.turn_lock.specs.Histories.{StartsWith, own_of}
 use Rattle.turn_lock.specs.Passes.{Known, badge}
 use Rattle.expert_gate.specs.Histories.{by_expert, IsHistory}
 
--- From p to q, turns that made these entries. The pass has seen a history that goes on from what it had seen. It is legal and has exactly the pass's own
+-- From p to q, turns that made these entries. The pass has seen a history that goes on from what it had seen. It is legal and has exactly
+-- the pass's own
 -- entries once a turn was made, and where none was, if it was so before
 pub record HasMade (o : Opening) (p : Known Opening SetEntry) (entries : List SetEntry) (q : Known Opening SetEntry) : Type 0 where
   pub same : badge q ≡ badge p

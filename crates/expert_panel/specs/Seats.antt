@@ -1,5 +1,5 @@
 -- Seats of a panel: what each does in one call.
-use Rattle.std.specs.Prelude.{◌≡◌, ℕ, ◌<◌, ◌⊎◌, true, false, Some, List, [], ◌∷◌}
+use Rattle.std.specs.Prelude.{◌≡◌, ℕ, ◌<◌, ◌⊎◌, true, false, Some, List}
 use Rattle.fca_model.specs.Implications.{Rule}
 use Rattle.fca_model.specs.Exploration.{SetReply, SetEntry}
 use Rattle.explore_state.specs.History.{Opening}
@@ -23,7 +23,8 @@ IsEnd Done p entries q = (ends_done entries ≡ true) × TookTurns p entries q
 IsEnd Spent p entries q = (ends_done entries ≡ false) × TookTurns p entries q × (q.made ≡ q.turns)
 IsEnd Memory p entries q = (ends_done entries ≡ false) × ((TookTurns p entries q × (q.made < q.turns)) ⊎ TookOneMore p entries q)
 
-module _ {X M : Type 0} (width_of : X → ℕ) (memory_of : X → M) (Answering : M → Rule → Answer → M → Type 0) (Learning : M → SetReply → M → Type 0) (o : Opening) where
+module _ {X M : Type 0} (width_of : X → ℕ) (memory_of : X → M) (Answering : M → Rule → Answer → M → Type 0)
+    (Learning : M → SetReply → M → Type 0) (o : Opening) where
   -- from p to q, and from one expert to the other, a run of an expert at a gate that was opened so
   pub record HasAttended (p : Known Opening SetEntry) (old : X) (ending : SeatEnd) (q : Known Opening SetEntry) (new : X) : Type 0 where
     pub entries : List SetEntry
@@ -39,10 +40,3 @@ module _ {X M : Type 0} (width_of : X → ℕ) (memory_of : X → M) (Answering 
     pub end : SeatEnd
     pub ended : new.ended ≡ Some end
     pub attended : HasAttended old.pass old.expert end new.pass new.expert
-
--- P holds of each seat before and after
-abbrev pub EachSeat : {S : Type 0} → (S → S → Type 0) → List S → List S → Type 0
-EachSeat P [] [] = Unit {0}
-EachSeat P [] (new ∷ news) = ⊥
-EachSeat P (old ∷ olds) [] = ⊥
-EachSeat P (old ∷ olds) (new ∷ news) = P old new × EachSeat P olds news

@@ -11,23 +11,25 @@ use Rattle.oracle_expert.specs.declared.expert.Answer.{Answer}
 use Rattle.oracle_expert.specs.Runs.{IsTurn, Stops, IsUnanswered}
 
 module _ (o : Opening) where
-  -- the pass after a turn was refused: none was left, or it was made and came to no entry for want of memory
+  -- the pass after a turn was refused: none was left, or memory ran out in it, and it made no entry
   abbrev pub IsRefused : TurnFault → Known Opening SetEntry → Known Opening SetEntry → Type 0
   IsRefused Spent p q = (q ≡ p) × (p.made ≡ p.turns)
   IsRefused Memory p q = Looks o p q
 
 module _ {M : Type 0} (Answering : M → Rule → Answer → M → Type 0) (Learning : M → SetReply → M → Type 0) (o : Opening) where
-  -- what was due was said, and replied to: by a turn of the pass
-  pub record IsPlayed (due : Option Rule) (p : Known Opening SetEntry) (old : M) (reply : SetReply) (q : Known Opening SetEntry) (new : M) : Type 0 where
+  -- a turn of the pass did what was due, and got a reply
+  pub record IsPlayed (due : Option Rule) (p : Known Opening SetEntry) (old : M) (reply : SetReply) (q : Known Opening SetEntry)
+      (new : M) : Type 0 where
     pub event : SetEvent
     pub turn : Answers o p event reply q
     pub entry : IsTurn Answering Learning p.number due old (record { event = event; reply = reply }) new
 
-  -- no turn was made though one was left, since the expert gave no answer for want of memory
+  -- no turn was made though one was left, since the expert ran out of memory for its answer
   abbrev pub IsSilent : Option Rule → Known Opening SetEntry → M → TurnFault → Known Opening SetEntry → M → Type 0
   IsSilent due p old fault q new = (fault ≡ Memory) × (q ≡ p) × (p.made < p.turns) × IsUnanswered Answering Learning p.number due old new
 
-  -- nothing was said: the expert may have answered
-  pub record IsStopped (due : Option Rule) (p : Known Opening SetEntry) (old : M) (fault : TurnFault) (q : Known Opening SetEntry) (new : M) : Type 0 where
+  -- no event came of the turn, though the expert may have answered
+  pub record IsStopped (due : Option Rule) (p : Known Opening SetEntry) (old : M) (fault : TurnFault) (q : Known Opening SetEntry)
+      (new : M) : Type 0 where
     pub refused : IsRefused o fault p q ⊎ IsSilent due p old fault q new
     pub stops : Stops Answering Learning p.number due old new

@@ -5,7 +5,7 @@ ghost use Rattle.fca_model.specs.Widths.{IsWide, HasWideReply};
 ghost use Rattle.turn_lock.specs.Passes.{badge, Belongs};
 ghost use Rattle.expert_gate.specs.Turns.{Answers};
 ghost use Rattle.oracle_expert.specs.Answers.{HasWideAnswer, event_of};
-ghost use Rattle.oracle_expert.specs.Runs.{due_after, is_done};
+ghost use Rattle.oracle_expert.specs.Runs.{question_after, is_done};
 ghost use Rattle.expert_panel.specs.Turns.{IsPlayed, IsRefused, IsStopped};
 ghost use Rattle.expert_panel.specs.Seats.{HasAttended};
 
@@ -17,7 +17,7 @@ use std::alloc::Global;
 use std::sync::Wait;
 use turn_lock::TurnFault;
 
-/// The expert draws, answers and is told, until it is done or a turn or an answer is refused.
+/// The expert draws, answers and learns the replies, until it is done or a turn or an answer is refused.
 pub(crate) fn attend<X: Expert, R: Wait, S: LevelSearch>(
     rt: &R,
     alloc: Global,
@@ -37,7 +37,7 @@ pub(crate) fn attend<X: Expert, R: Wait, S: LevelSearch>(
                 if is_done(&reply) {
                     return SeatEnd::Done;
                 }
-                due = due_after(due, reply);
+                due = question_after(due, reply);
             }
             Err(TurnFault::Spent) => return SeatEnd::Spent,
             Err(TurnFault::Memory) => return SeatEnd::Memory,
@@ -61,9 +61,11 @@ fn take_turn<X: Expert, R: Wait, S: LevelSearch>(
     requires question { IfSome due.now (IsWide gate.now.base.table.context.width) }
     ensures same { badge pass.new ≡ badge pass.old }
     ensures width { X.width expert.new ≡ X.width expert.old }
-    ensures played { IfOk result (λ reply. IsPlayed X.answers X.learns gate.now.base due.now pass.old (X.memory expert.old) reply pass.new (X.memory expert.new)) }
+    ensures played { IfOk result (λ reply. IsPlayed X.answers X.learns gate.now.base due.now
+        pass.old (X.memory expert.old) reply pass.new (X.memory expert.new)) }
     ensures wide { IfOk result (HasWideReply gate.now.base.table.context.width) }
-    ensures stopped { IfErr result (λ fault. IsStopped X.answers X.learns gate.now.base due.now pass.old (X.memory expert.old) fault pass.new (X.memory expert.new)) }
+    ensures stopped { IfErr result (λ fault. IsStopped X.answers X.learns gate.now.base due.now
+        pass.old (X.memory expert.old) fault pass.new (X.memory expert.new)) }
 {
     match due {
         None => gate.draw(rt, pass),
@@ -71,7 +73,7 @@ fn take_turn<X: Expert, R: Wait, S: LevelSearch>(
     }
 }
 
-/// The expert answers the question, and is told the reply. Where no turn is left for the answer, it is not asked.
+/// The expert answers the question, and learns the reply. If no turn is left for the answer, it is not asked.
 fn answer<X: Expert, R: Wait, S: LevelSearch>(
     rt: &R,
     alloc: Global,
@@ -86,9 +88,11 @@ fn answer<X: Expert, R: Wait, S: LevelSearch>(
     requires question { IsWide gate.now.base.table.context.width question.now }
     ensures same { badge pass.new ≡ badge pass.old }
     ensures width { X.width expert.new ≡ X.width expert.old }
-    ensures played { IfOk result (λ reply. IsPlayed X.answers X.learns gate.now.base (Some question.now) pass.old (X.memory expert.old) reply pass.new (X.memory expert.new)) }
+    ensures played { IfOk result (λ reply. IsPlayed X.answers X.learns gate.now.base (Some question.now)
+        pass.old (X.memory expert.old) reply pass.new (X.memory expert.new)) }
     ensures wide { IfOk result (HasWideReply gate.now.base.table.context.width) }
-    ensures stopped { IfErr result (λ fault. IsStopped X.answers X.learns gate.now.base (Some question.now) pass.old (X.memory expert.old) fault pass.new (X.memory expert.new)) }
+    ensures stopped { IfErr result (λ fault. IsStopped X.answers X.learns gate.now.base (Some question.now)
+        pass.old (X.memory expert.old) fault pass.new (X.memory expert.new)) }
 {
     if pass.is_spent() {
         return Err(TurnFault::Spent);
@@ -99,7 +103,7 @@ fn answer<X: Expert, R: Wait, S: LevelSearch>(
     Ok(reply)
 }
 
-/// The answer is given at the gate.
+/// Gives the answer at the gate.
 fn give<R: Wait, S: LevelSearch>(
     rt: &R,
     search: &S,
@@ -120,9 +124,9 @@ fn give<R: Wait, S: LevelSearch>(
     }
 }
 
-/// What is due after the reply.
-fn due_after(due: Option<Question>, reply: Reply) -> Option<Question>
-    ensures { result ≡ due_after due reply }
+/// The question that is due after the reply, or `None` if a draw is due.
+fn question_after(due: Option<Question>, reply: Reply) -> Option<Question>
+    ensures { result ≡ question_after due reply }
 {
     match reply {
         Reply::Ask(question) => Some(question),
@@ -131,6 +135,7 @@ fn due_after(due: Option<Question>, reply: Reply) -> Option<Question>
     }
 }
 
+/// Whether the reply says that no question is open.
 fn is_done(reply: &Reply) -> bool
     ensures { result ≡ is_done reply.now }
 {

@@ -1,20 +1,20 @@
-//! A table explored by oracles.
+//! Explorations by oracles.
 
-ghost use Rattle.std.specs.Prelude.{◌≡◌, ◌≤◌, ◌<◌, ◌^◌, ◌⊎◌, ◌↔◌, ℕ, true, false, [], All, IfOk, map, length, vec_len, vec_capacity};
+ghost use Rattle.std.specs.Prelude.{◌≡◌, ◌≤◌, ◌<◌, ◌⊎◌, ◌↔◌, ℕ, true, false, [], All, IfOk, map, vec_len, vec_capacity};
 ghost use Rattle.std.specs.List.{list_any};
 ghost use Rattle.fca_model.specs.Context.{Context};
-ghost use Rattle.fca_model.specs.declared.TheConstants.{MAX_EXPERTS};
+ghost use Rattle.fca_model.specs.declared.TheConstants.{MAX_EXPERTS, MAX_SURVEYED, MAX_TURNS};
 ghost use Rattle.fca_model.specs.Exploration.{own, IsLegal};
 ghost use Rattle.fca_model.specs.Invariant.{rows_respect};
 ghost use Rattle.explore_state.specs.History.{opening_state, open_of};
 ghost use Rattle.turn_lock.specs.Passes.{badge, roll, IsFresh};
 ghost use Rattle.oracle_expert.specs.Oracles.{untold, no_conflict};
 ghost use Rattle.oracle_expert.specs.Runs.{ends_done};
-ghost use Rattle.expert_panel.specs.Explorations.{IsOraclesShare, EachNumbered, HasEnded, HasFewRows, IsWithinTurns, HasAgreed, is_part, is_spent, is_refused};
+ghost use Rattle.expert_panel.specs.Explorations.{IsOraclesShare, EachNumbered, HasEnded, HasFewRows, IsWithinTurns, HasAgreed, is_part, is_spent, is_out_of_memory};
 
 use crate::end::SeatEnd;
 use crate::panel::run_panel;
-use crate::seat::{Seat, seated};
+use crate::seat::{Seat, seat_experts};
 use context_table::Table;
 use expert_gate::{ExpertPass, Gate};
 use explore_state::Explore;
@@ -25,17 +25,28 @@ use std::sync::Wait;
 use std::thread::Threads;
 
 /// An exploration by oracles, as it ended.
-#[derive(Drop)]
 pub struct Explored {
+    /// The exploration, with its journal.
     pub explore: Explore,
     /// The oracles in the order of their numbers, with what they dropped.
     pub oracles: Vec<Oracle>,
-    /// Whether an oracle has made all its turns and was not answered that it is done.
+    /// Whether an oracle made all its turns before it was done.
     pub spent: bool,
 }
 
-/// Lets oracles go through an exploration in which nothing was done yet and all experts may hold one question: expert k is
-/// the oracle of the k-th of the expert tables, and each may make `turns` turns.
+/// Written by hand: to drop an exploration by oracles is then one call, and not the code of each list at every exit.
+impl Drop for Explored {
+    fn drop(self) {
+        let Self {
+            explore: _,
+            oracles: _,
+            spent: _,
+        } = self;
+    }
+}
+
+/// Lets oracles go through an exploration. Nothing was done in it yet, and all experts may hold one question. Expert k is the oracle
+/// of the k-th expert table, and each may make `turns` turns.
 pub fn explore_with_oracles<R: Threads + Wait + Sync>(
     rt: &R,
     alloc: Global,
@@ -47,7 +58,7 @@ pub fn explore_with_oracles<R: Threads + Wait + Sync>(
     requires holders { explore.opening.settings.holders ≡ MAX_EXPERTS }
     requires experts { explore.opening.experts ≡ vec_len experts }
     requires width { All (λ expert. expert.context.width ≡ explore.opening.table.context.width) experts.items }
-    requires turns { (1 ≤ turns) × (turns ≤ 2 ^ 48) }
+    requires turns { (1 ≤ turns) × (turns ≤ MAX_TURNS) }
     ensures opening { IfOk result (λ r. r.explore.opening ≡ explore.opening) }
     ensures legal { IfOk result (λ r. IsLegal (opening_state r.explore.opening) r.explore.journal) }
     ensures tables { IfOk result (λ r. map (λ oracle. oracle.table) r.oracles.items ≡ experts.items) }
@@ -58,7 +69,7 @@ pub fn explore_with_oracles<R: Threads + Wait + Sync>(
         ↔ ((e : ℕ) × (1 ≤ e) × (e ≤ vec_len experts) × (ends_done (own r.explore.journal e) ≡ false))) }
     ensures finished { IfOk result (λ r. r.spent ≡ false → open_of r.explore ≡ []) }
     ensures turns { IfOk result (λ r. EachNumbered (IsWithinTurns r.explore.journal) r.oracles.items) }
-    ensures unspent { IfOk result (λ r. turns ≡ 2 ^ 48 → explore.opening.table.context.width ≤ 46 → r.spent ≡ false) }
+    ensures unspent { IfOk result (λ r. turns ≡ MAX_TURNS → explore.opening.table.context.width ≤ MAX_SURVEYED → r.spent ≡ false) }
     ensures agreed { IfOk result (λ r. (C : Context) → All (λ expert. expert.context ≡ C) experts.items
         → is_part explore.opening.table.context C ≡ true → rows_respect explore.opening.settings.known C ≡ true
         → HasAgreed C r.explore r.oracles.items r.spent) }
@@ -85,7 +96,7 @@ fn oracles_of(alloc: Global, tables: Vec<Table>) -> Result<Vec<Oracle>, Memory>
     Ok(oracles)
 }
 
-/// All oracles work at the gate, which is closed once each has ended.
+/// Lets all oracles work at the gate, and closes it once each has ended.
 fn run_oracles<R: Threads + Wait + Sync>(
     rt: &R,
     alloc: Global,
@@ -102,13 +113,13 @@ fn run_oracles<R: Threads + Wait + Sync>(
     requires known { rows_respect gate.base.settings.known gate.base.table.context ≡ true }
     ensures { IfOk result (λ r. HasEnded gate oracles.items r.explore r.oracles.items r.spent) }
 {
-    let mut seats = seated(alloc, passes, oracles)?;
+    let mut seats = seat_experts(alloc, passes, oracles)?;
     run_panel(rt, alloc, &gate, seats.as_mut_slice());
-    if any_refused(&seats) {
+    if any_out_of_memory(&seats) {
         return Err(Memory);
     }
     let spent = any_spent(&seats);
-    let (passes, oracles) = risen(alloc, seats)?;
+    let (passes, oracles) = split_seats(alloc, seats)?;
     Ok(Explored {
         explore: gate.close(passes),
         oracles,
@@ -117,17 +128,20 @@ fn run_oracles<R: Threads + Wait + Sync>(
 }
 
 /// The passes and the oracles of the seats.
-fn risen(alloc: Global, seats: Vec<Seat<Oracle>>) -> Result<(Vec<ExpertPass>, Vec<Oracle>), Memory>
+fn split_seats(
+    alloc: Global,
+    seats: Vec<Seat<Oracle>>,
+) -> Result<(Vec<ExpertPass>, Vec<Oracle>), Memory>
     ensures passes { IfOk result (λ r. r.0.items ≡ map (λ seat. seat.pass) seats.items) }
     ensures experts { IfOk result (λ r. r.1.items ≡ map (λ seat. seat.expert) seats.items) }
 {
     let passes = Vec::with_capacity(alloc, seats.len())?;
     let oracles = Vec::with_capacity(alloc, seats.len())?;
-    Ok(parted(seats, passes, oracles))
+    Ok(split_into(seats, passes, oracles))
 }
 
-/// The same, in lists that have room for them.
-fn parted(
+/// Puts the passes and the oracles of the seats into lists that have room for them.
+fn split_into(
     seats: Vec<Seat<Oracle>>,
     mut passes: Vec<ExpertPass>,
     mut oracles: Vec<Oracle>,
@@ -149,11 +163,11 @@ fn parted(
     (passes, oracles)
 }
 
-/// Whether a seat ended for want of memory.
-fn any_refused(seats: &[Seat<Oracle>]) -> bool
-    ensures { result ≡ list_any (λ seat. is_refused seat.ended) seats.now }
+/// Whether a seat ran out of memory.
+fn any_out_of_memory(seats: &[Seat<Oracle>]) -> bool
+    ensures { result ≡ list_any (λ seat. is_out_of_memory seat.ended) seats.now }
 {
-    seats.iter().any(|seat| is_refused(&seat.ended))
+    seats.iter().any(|seat| is_out_of_memory(&seat.ended))
 }
 
 /// Whether a seat made all its turns before it was done.
@@ -163,14 +177,16 @@ fn any_spent(seats: &[Seat<Oracle>]) -> bool
     seats.iter().any(|seat| is_spent(&seat.ended))
 }
 
+/// Whether the seat made all its turns before it was done.
 fn is_spent(ended: &Option<SeatEnd>) -> bool
     ensures { result ≡ is_spent ended.now }
 {
     matches!(ended, Some(SeatEnd::Spent))
 }
 
-fn is_refused(ended: &Option<SeatEnd>) -> bool
-    ensures { result ≡ is_refused ended.now }
+/// Whether the seat ran out of memory.
+fn is_out_of_memory(ended: &Option<SeatEnd>) -> bool
+    ensures { result ≡ is_out_of_memory ended.now }
 {
     matches!(ended, Some(SeatEnd::Memory))
 }

@@ -12,9 +12,9 @@ ghost use Rattle.expert_panel.specs.declared.seat.Seat.{Seat};
 ghost use Rattle.expert_panel.specs.Seats.{HasRun};
 ghost use Rattle.expert_panel.specs.Explorations.{SeatsTurns, HasMadeAtMost, most_turns_between};
 
-/// An oracle at a seat of a panel where all experts may hold one question: how many turns it makes there, where no row was dropped before, and of any
-/// oracle by the rows that it drops there. `H` is any legal history that has just the pass's entries of its
-/// expert, as the one of the closed gate, or the one that the pass has seen.
+/// The number of turns that an oracle makes at a seat of a panel, if all experts may hold one question: `untold` if no row was dropped
+/// before, and `any` by the rows that it drops there. `H` is any legal history whose entries of the expert are those of its pass, as
+/// that of the closed gate, or the one that the pass has seen.
 pub fn turns_of_a_seat()
     ensures untold { (o : Opening) (old new : Seat Recall) → rows_respect o.settings.known o.table.context ≡ true
         → o.settings.holders ≡ MAX_EXPERTS
@@ -30,8 +30,8 @@ pub fn turns_of_a_seat()
         → HasMadeAtMost (most_turns_between H old.expert new.expert) old new }
 {}
 
-/// An oracle at a seat of such a panel: between two of its draws there an answer is recorded in `H`, its own or
-/// another's. `H` is as above; of the pass's entries those that it had before come first.
+/// Between two draws of an oracle at a seat of such a panel an answer is recorded in `H`, its own or another's. `H` is as above. The
+/// entries that the pass had before come first.
 pub fn draws_of_a_seat()
     ensures { (o : Opening) (old new : Seat Recall) → rows_respect o.settings.known o.table.context ≡ true
         → o.settings.holders ≡ MAX_EXPERTS

@@ -1,4 +1,4 @@
-//! Panels: each seat's expert draws and answers at one gate, the seats side by side on threads.
+//! Panels: experts in seats draw and answer at one gate. The seats run side by side on threads.
 #![tactic(auto)]
 
 mod attend;
@@ -11,4 +11,4 @@ mod seat;
 pub use end::SeatEnd;
 pub use explored::{Explored, explore_with_oracles};
 pub use panel::run_panel;
-pub use seat::{Seat, seated};
+pub use seat::{Seat, seat_experts};

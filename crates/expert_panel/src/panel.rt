@@ -1,8 +1,9 @@
-//! All seats of a panel, side by side.
+//! The seats of a panel, side by side.
 
 ghost use Rattle.std.specs.Prelude.{All};
 ghost use Rattle.std.specs.Thread.{IsSync};
-ghost use Rattle.expert_panel.specs.Seats.{IsSeatOf, HasRun, EachSeat};
+ghost use Rattle.expert_gate.specs.Seats.{EachSeat};
+ghost use Rattle.expert_panel.specs.Seats.{IsSeatOf, HasRun};
 
 use crate::attend::attend;
 use crate::seat::Seat;
@@ -14,7 +15,7 @@ use std::alloc::Global;
 use std::sync::Wait;
 use std::thread::{Threads, join_mut};
 
-/// Each seat's expert draws, answers and is told until it is done, or a turn or an answer is refused. The experts wait for
+/// Each seat's expert draws, answers and learns the replies, until it is done or a turn or an answer is refused. The experts wait for
 /// each other's turns, so a turn may use as many processors as there are experts.
 pub fn run_panel<X: Expert + Send, R: Threads + Wait + Sync>(
     rt: &R,
@@ -29,7 +30,8 @@ pub fn run_panel<X: Expert + Send, R: Threads + Wait + Sync>(
     run_seats(rt, &alloc, &processors, gate, seats)
 }
 
-/// The seats in halves. The allocator and the number of processors are lent, since what threads write would be lost if they held them.
+/// Runs the seats in halves. The allocator and the number of processors are lent: if the threads held them, what they write would be
+/// lost.
 fn run_seats<X: Expert + Send, R: Threads + Wait + Sync>(
     rt: &R,
     alloc: &Global,
@@ -61,7 +63,7 @@ fn run_seats<X: Expert + Send, R: Threads + Wait + Sync>(
     );
 }
 
-/// One seat is run, whose turns may use so many processors.
+/// Runs one seat. Its turns may use so many processors.
 fn run_seat<X: Expert + Send, R: Threads + Wait + Sync>(
     rt: &R,
     alloc: Global,

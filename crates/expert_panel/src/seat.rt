@@ -7,16 +7,19 @@ use expert_gate::ExpertPass;
 use fca_model::Memory;
 use std::alloc::Global;
 
+/// An expert's place in a panel.
 #[derive(Drop)]
 pub struct Seat<X> {
+    /// The pass that the expert works by.
     pub pass: ExpertPass,
+    /// The expert.
     pub expert: X,
-    /// Why the seat ended, once a panel was run.
+    /// Why the seat ended, once the panel was run.
     pub ended: Option<SeatEnd>,
 }
 
-/// A seat for each pass, with the expert in the same place.
-pub fn seated<X: Drop>(
+/// Makes a seat for each pass, with the expert at the same place of its list.
+pub fn seat_experts<X: Drop>(
     alloc: Global,
     passes: Vec<ExpertPass>,
     experts: Vec<X>,
@@ -26,11 +29,11 @@ pub fn seated<X: Drop>(
     ensures experts { IfOk result (λ seats. map (λ seat. seat.expert) seats.items ≡ experts.items) }
 {
     let seats = Vec::with_capacity(alloc, passes.len())?;
-    Ok(side_by_side(seats, passes, experts))
+    Ok(zip_seats(seats, passes, experts))
 }
 
-/// The same, in a list that has room for the seats.
-fn side_by_side<X: Drop>(
+/// Puts the seats into a list that has room for them.
+fn zip_seats<X: Drop>(
     mut seats: Vec<Seat<X>>,
     passes: Vec<ExpertPass>,
     experts: Vec<X>,

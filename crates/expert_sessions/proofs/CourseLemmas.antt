@@ -3,6 +3,7 @@
 use Rattle.std.proofs.Common.{◌≡◌, ◌≢◌, ◌≤◌, ◌<◌, ℕ, ◌+◌, List, [], ◌∷◌, ◌++◌, take, drop, length, Some, Result, refl, sym, ap, ◌∙◌, subst, append_assoc, append-nil, length-append, arith, inl, inr, ◌⊎◌}
 use Rattle.std.specs.Prelude.{All, is_err, false, true, Ok, Err, IfOk, IfErr, OnErr, IsErrOf}
 use Rattle.std.proofs.lemmas.List.Elements.{All-nil, All-append}
+use Rattle.std.proofs.lemmas.List.{length-take}
 use Rattle.fca_io.specs.Faults.{Rose}
 use Rattle.fca_io.specs.declared.outside.Put.{Put}
 use Rattle.fca_model.specs.Tables.{Text, NamedContext}
@@ -20,7 +21,7 @@ use Rattle.expert_sessions.specs.declared.said.Said.{Said}
 use Rattle.expert_sessions.specs.declared.said.Said.TheVariants.{Bye}
 use Rattle.expert_sessions.specs.declared.ended.Ended.{Ended}
 use Rattle.expert_sessions.specs.declared.ended.Ended.TheVariants.{Quit, EndOfInput, ReadFault, WriteFault, LongLine, Limit, Spent, Memory}
-use Rattle.expert_sessions.specs.Lines.{Asks, Answers, Exchange, IsExchange, IsQuit, IsNotQuit, lines_of, replies_of, entries_of, said_line, before_last}
+use Rattle.expert_sessions.specs.Lines.{Asks, Answers, BeginsWithEvent, Exchange, IsExchange, IsQuit, IsNotQuit, lines_of, replies_of, entries_of, said_line, before_last}
 use Rattle.expert_sessions.specs.Talks.{GoesOn, HasQuit, LacksLastAnswer}
 use Rattle.expert_sessions.specs.Moves.{Wire, Moves, IsQuiet, Place, Enters}
 use Rattle.expert_sessions.specs.Courses.{said_of, Writes, Reads, HasFeedAt, LacksLine, Serves, HaltsAt, Halts, Goes, Closes, HasServed}
@@ -30,8 +31,10 @@ use Rattle.expert_sessions.proofs.LineLemmas.{not_bye, bye_quits, is-exchange, l
 -- ---- one line
 
 -- what a turn is answered, what it enters, and that it is taken
-module _ (e : ℕ) (form : Result Request RequestFault) (event : SetEvent) (c d : Place) (asks : Asks e form event) (left : d.turns ≡ one_less c.turns) where
-  pub turn-answered : (turn : Result SetReply TurnFault) → IfOk turn (λ reply. d.entries ≡ c.entries ++ record { event = event; reply = reply } ∷ []) → OnErr turn (d.entries ≡ c.entries)
+module _ (e : ℕ) (form : Result Request RequestFault) (event : SetEvent) (c d : Place) (asks : Asks e form event)
+    (left : d.turns ≡ one_less c.turns) where
+  pub turn-answered : (turn : Result SetReply TurnFault)
+      → IfOk turn (λ reply. d.entries ≡ c.entries ++ record { event = event; reply = reply } ∷ []) → OnErr turn (d.entries ≡ c.entries)
       → (IsErrOf turn NoTurn → c.turns ≡ Some 0) × (c.turns ≡ Some 0 → IsErrOf turn NoTurn)
       → IfOk (said_of turn) (λ said. (made : List SetEntry) × (turns : ℕ) × Answers e form said made turns × Enters c d made turns)
   turn-answered (Ok reply) entered same spent = (
@@ -44,21 +47,27 @@ module _ (e : ℕ) (form : Result Request RequestFault) (event : SetEvent) (c d 
     [],
     1,
     (inl (event, asks, refl), refl),
-    record { added = same ∙ sym (append-nil c.entries); turns = one_less-taken c.turns d.turns left (λ none. let told = spent.1 none in cc) },
+    record {
+      added = same ∙ sym (append-nil c.entries);
+      turns = one_less-taken c.turns d.turns left (λ none. let told = spent.1 none in cc);
+    },
   )
   turn-answered (Err NoTurn) entered same spent = tt
 
 -- no turn is left for what was asked
-pub turn-refused : (c d : Place) → d.turns ≡ one_less c.turns → (turn : Result SetReply TurnFault) → OnErr turn (d.entries ≡ c.entries)
-    → (IsErrOf turn NoTurn → c.turns ≡ Some 0) × (c.turns ≡ Some 0 → IsErrOf turn NoTurn) → IfErr (said_of turn) (λ ended. (ended ≡ Spent) × (d.turns ≡ Some 0) × Enters c d [] 0)
-turn-refused c d left (Ok reply) same spent = tt
-turn-refused c d left (Err NoTurnMemory) same spent = tt
-turn-refused c d left (Err NoTurn) same spent =
+pub turn-refused : (e : ℕ) (form : Result Request RequestFault) (event : SetEvent) (c d : Place) → Asks e form event
+    → d.turns ≡ one_less c.turns → (turn : Result SetReply TurnFault)
+    → OnErr turn (d.entries ≡ c.entries) → (IsErrOf turn NoTurn → c.turns ≡ Some 0) × (c.turns ≡ Some 0 → IsErrOf turn NoTurn)
+    → IfErr (said_of turn) (λ ended. (ended ≡ Spent) × (d.turns ≡ Some 0) × Enters c d [] 0 × (asked : SetEvent) × Asks e form asked)
+turn-refused e form event c d asks left (Ok reply) same spent = tt
+turn-refused e form event c d asks left (Err NoTurnMemory) same spent = tt
+turn-refused e form event c d asks left (Err NoTurn) same spent =
     let none = one_less-none c.turns d.turns left (spent.0 refl) in
-    (refl, none.0, record { added = same ∙ sym (append-nil c.entries); turns = none.1 })
+    (refl, none.0, record { added = same ∙ sym (append-nil c.entries); turns = none.1 }, event, asks)
 
 -- no whole line was read
-pub unread : (t : NamedContext) (e : ℕ) (a b : Wire) (c : Place) (ahead ahead' : Text) (ended : Ended) → Reads a b ahead ahead' → LacksLine a b ahead' ended → Halts t e a b c c ahead ended
+pub unread : (t : NamedContext) (e : ℕ) (a b : Wire) (c : Place) (ahead ahead' : Text) (ended : Ended) → Reads a b ahead ahead'
+    → LacksLine a b ahead' ended → Halts t e a b c c ahead ended
 unread t e a b c ahead ahead' ended r h = record {
   more = [];
   rest = ahead';
@@ -73,7 +82,7 @@ unread t e a b c ahead ahead' ended r h = record {
   halts = at ended h;
 }
   where
-    at : (ended : Ended) → LacksLine a b ahead' ended → HaltsAt t.context.width a b c ended [] ahead' []
+    at : (ended : Ended) → LacksLine a b ahead' ended → HaltsAt t.context.width e a b c ended [] ahead' []
     at EndOfInput h = (refl, refl, h.0, h.1, record { reads = h.2; writes = r.writes })
     at ReadFault h = (refl, refl, h.0, h.1, r.writes)
     at LongLine h = (refl, refl, h.0, record { reads = h.1; writes = r.writes })
@@ -83,10 +92,25 @@ unread t e a b c ahead ahead' ended r h = record {
     at Spent h = absurd h
     at Memory h = absurd h
 
+begins-event : (n e : ℕ) (text : Text) (at : ℕ) (event : SetEvent) → HasFeedAt text at → at ≤ LINE_BYTES
+    → Asks e (request_form (take at text) n) event → BeginsWithEvent n e text
+begins-event n e text at event feed few asks = record {
+  line = take at text;
+  more = drop (at + 1) text;
+  event = event;
+  split = feed.split;
+  short = let cut = length-take at text in omega (arith, cut, few);
+  unbroken = feed.unbroken;
+  asks = asks;
+}
+
 -- the line was read, and no turn was left for it
-pub unturned : (t : NamedContext) (e : ℕ) (a b : Wire) (c d : Place) (ahead ahead' : Text) (ended : Ended) → Reads a b ahead ahead' → b.reads ≡ a.reads → ended ≡ Spent → d.turns ≡ Some 0 → Enters c d [] 0
+pub unturned : (t : NamedContext) (e : ℕ) (a b : Wire) (c d : Place) (ahead ahead' : Text) (at : ℕ) (ended : Ended) (event : SetEvent)
+    → Reads a b ahead ahead' → b.reads ≡ a.reads
+    → HasFeedAt ahead' at → at ≤ LINE_BYTES → Asks e (request_form (take at ahead') t.context.width) event → ended ≡ Spent
+    → d.turns ≡ Some 0 → Enters c d [] 0
     → Halts t e a b c d ahead ended
-unturned t e a b c d ahead ahead' ended r quiet s none enters = record {
+unturned t e a b c d ahead ahead' at ended event r quiet feed few asks s none enters = record {
   more = [];
   rest = ahead';
   taken = r.taken;
@@ -97,15 +121,18 @@ unturned t e a b c d ahead ahead' ended r quiet s none enters = record {
   enters = enters;
   read = sym r.joined;
   said = refl;
-  halts = subst (λ x. HaltsAt t.context.width a b d x [] ahead' []) (sym s) (refl, refl, none, record { reads = quiet; writes = r.writes });
+  halts = subst (λ x. HaltsAt t.context.width e a b d x [] ahead' []) (sym s)
+      (refl, refl, none, begins-event t.context.width e ahead' at event feed few asks, record { reads = quiet; writes = r.writes });
 }
 
 one_turn : (turns : ℕ) → turns ≡ turns + 0
 one_turn turns = omega arith
 
 -- the line was read, and answered; then what was read is the line, and what stands ahead now
-module _ (t : NamedContext) (e : ℕ) (a b b' : Wire) (c d : Place) (ahead ahead' ahead'' : Text) (at : ℕ) (said : Said) (made : List SetEntry) (turns : ℕ)
-    (r : Reads a b ahead ahead') (still : b.reads ≡ a.reads) (feed : HasFeedAt ahead' at) (few : at ≤ LINE_BYTES) (answered : Answers e (request_form (take at ahead') t.context.width) said made turns)
+module _ (t : NamedContext) (e : ℕ) (a b b' : Wire) (c d : Place) (ahead ahead' ahead'' : Text) (at : ℕ) (said : Said)
+    (made : List SetEntry) (turns : ℕ)
+    (r : Reads a b ahead ahead') (still : b.reads ≡ a.reads) (feed : HasFeedAt ahead' at) (few : at ≤ LINE_BYTES)
+    (answered : Answers e (request_form (take at ahead') t.context.width) said made turns)
     (enters : Enters c d made turns) (gone : ahead'' ≡ drop (at + 1) ahead') where
   abbrev exchange : Exchange
   exchange = record { line = take at ahead'; said = said; made = made; turns = turns }
@@ -140,10 +167,17 @@ module _ (t : NamedContext) (e : ℕ) (a b b' : Wire) (c d : Place) (ahead ahead
     enters = Enters-equal (sym (append-nil made)) (one_turn turns) enters;
     read = ap (λ z. ahead ++ z) (append-nil r.taken) ∙ line_read ∙ ap (λ z. z ++ ahead'') (sym (append-nil (take at ahead' ++ line_end)));
     said = refl;
-    halts = (exchange, refl, bye_quits e (request_form (take at ahead') t.context.width) said made turns answered bye, refl, IsQuiet-trans read_quiet quiet);
+    halts = (
+      exchange,
+      refl,
+      bye_quits e (request_form (take at ahead') t.context.width) said made turns answered bye,
+      refl,
+      IsQuiet-trans read_quiet quiet,
+    );
   }
 
-  pub line-unanswered : (result : Result (Unit {0}) Put) → Writes b b' (said_line t.attributes said) result → is_err result ≡ true → Halts t e a b' c d ahead WriteFault
+  pub line-unanswered : (result : Result (Unit {0}) Put) → Writes b b' (said_line t.attributes said) result → is_err result ≡ true
+      → Halts t e a b' c d ahead WriteFault
   line-unanswered result w failed = record {
     more = exchange ∷ [];
     rest = ahead'';
@@ -160,7 +194,8 @@ module _ (t : NamedContext) (e : ℕ) (a b b' : Wire) (c d : Place) (ahead ahead
 
 -- ---- all lines
 
-pub greeted : (t : NamedContext) (e : ℕ) (a b : Wire) (c : Place) (result : Result (Unit {0}) Put) → Writes a b (greeting t e) result → is_err result ≡ false → Goes t e a b c c [] 0
+pub greeted : (t : NamedContext) (e : ℕ) (a b : Wire) (c : Place) (result : Result (Unit {0}) Put) → Writes a b (greeting t e) result
+    → is_err result ≡ false → Goes t e a b c c [] 0
 greeted t e a b c result w ok = record {
   served = [];
   each = All-nil (IsExchange t.context.width e);
@@ -173,7 +208,8 @@ greeted t e a b c result w ok = record {
   read = refl;
 }
 
-pub ungreeted : (t : NamedContext) (e lines : ℕ) (a b : Wire) (c : Place) (result : Result (Unit {0}) Put) → Writes a b (greeting t e) result → is_err result ≡ true
+pub ungreeted : (t : NamedContext) (e lines : ℕ) (a b : Wire) (c : Place) (result : Result (Unit {0}) Put)
+    → Writes a b (greeting t e) result → is_err result ≡ true
     → HasServed t e lines a b c c WriteFault
 ungreeted t e lines a b c result w failed = record {
   taken = [];
@@ -194,13 +230,16 @@ ungreeted t e lines a b c result w failed = record {
   closes = (write_rose result w failed, tt, w.reads);
 }
 
-pub one_more_line : (t : NamedContext) (e : ℕ) (a b b' : Wire) (c d d' : Place) (ahead ahead' : Text) (k : ℕ) → Goes t e a b c d ahead k → Serves t e b b' d d' ahead ahead'
+pub one_more_line : (t : NamedContext) (e : ℕ) (a b b' : Wire) (c d d' : Place) (ahead ahead' : Text) (k : ℕ) → Goes t e a b c d ahead k
+    → Serves t e b b' d d' ahead ahead'
     → Goes t e a b' c d' ahead' (k + 1)
 one_more_line t e a b b' c d d' ahead ahead' k x y =
     let all = x.served ++ y.exchange ∷ [] in
-    let replies : (greeting t e ++ replies_of t.attributes x.served) ++ said_line t.attributes y.exchange.said ≡ greeting t e ++ replies_of t.attributes all =
+    let replies : (greeting t e ++ replies_of t.attributes x.served) ++ said_line t.attributes y.exchange.said ≡ greeting t e
+    ++ replies_of t.attributes all =
     append_assoc (greeting t e) (replies_of t.attributes x.served) (said_line t.attributes y.exchange.said)
-    ∙ ap (λ z. greeting t e ++ z) (ap (λ z. replies_of t.attributes x.served ++ z) (sym (append-nil (said_line t.attributes y.exchange.said))) ∙ sym (replies_of-append t.attributes x.served (y.exchange ∷ []))) in
+    ∙ ap (λ z. greeting t e ++ z) (ap (λ z. replies_of t.attributes x.served ++ z)
+    (sym (append-nil (said_line t.attributes y.exchange.said))) ∙ sym (replies_of-append t.attributes x.served (y.exchange ∷ []))) in
     let entries : entries_of x.served ++ y.exchange.made ≡ entries_of all =
     ap (λ z. entries_of x.served ++ z) (sym (append-nil y.exchange.made)) ∙ sym (entries_of-append x.served (y.exchange ∷ [])) in
     let lines : lines_of x.served ++ (y.exchange.line ++ line_end) ≡ lines_of all =
@@ -210,8 +249,10 @@ one_more_line t e a b b' c d d' ahead ahead' k x y =
     let before = x.count in
     record {
       served = all;
-      each = All-append (IsExchange t.context.width e) x.served (y.exchange ∷ []) x.each (All-one (IsExchange t.context.width e) y.exchange y.is);
-      asking = All-append (IsNotQuit t.context.width) x.served (y.exchange ∷ []) x.asking (All-one (IsNotQuit t.context.width) y.exchange y.asking);
+      each = All-append (IsExchange t.context.width e) x.served (y.exchange ∷ []) x.each
+          (All-one (IsExchange t.context.width e) y.exchange y.is);
+      asking = All-append (IsNotQuit t.context.width) x.served (y.exchange ∷ []) x.asking
+          (All-one (IsNotQuit t.context.width) y.exchange y.asking);
       count = omega arith;
       taken = x.taken ++ y.taken;
       moves = Moves-equal refl replies (Moves-trans x.moves y.moves);
@@ -221,7 +262,8 @@ one_more_line t e a b b' c d d' ahead ahead' k x y =
           ∙ sym (append_assoc (lines_of x.served) (y.exchange.line ++ line_end) ahead') ∙ ap (λ z. z ++ ahead') lines;
     }
 
-pub limited : (t : NamedContext) (e lines : ℕ) (a b : Wire) (c d : Place) (ahead : Text) → Goes t e a b c d ahead lines → HasServed t e lines a b c d Limit
+pub limited : (t : NamedContext) (e lines : ℕ) (a b : Wire) (c d : Place) (ahead : Text) → Goes t e a b c d ahead lines
+    → HasServed t e lines a b c d Limit
 limited t e lines a b c d ahead x = record {
   taken = x.taken;
   sent = greeting t e ++ replies_of t.attributes x.served;
@@ -251,20 +293,23 @@ record Last (t : NamedContext) (e lines : ℕ) (xs more : List Exchange) (sent :
   split : sent ≡ (greeting t e ++ replies_of t.attributes xs) ++ part
 
 -- at most one line more was served
-more-few : (n : ℕ) (a b : Wire) (d : Place) (ended : Ended) (more : List Exchange) (rest unsent : Text) → HaltsAt n a b d ended more rest unsent → (more ≡ []) ⊎ ((x : Exchange) × (more ≡ x ∷ []))
-more-few n a b d Quit more rest unsent h = inr (h.0, h.1)
-more-few n a b d WriteFault more rest unsent h = inr (h.0, h.1)
-more-few n a b d EndOfInput more rest unsent h = inl h.0
-more-few n a b d ReadFault more rest unsent h = inl h.0
-more-few n a b d LongLine more rest unsent h = inl h.0
-more-few n a b d Spent more rest unsent h = inl h.0
-more-few n a b d Limit more rest unsent h = absurd h
-more-few n a b d Memory more rest unsent h = absurd h
+more-few : (n e : ℕ) (a b : Wire) (d : Place) (ended : Ended) (more : List Exchange) (rest unsent : Text)
+    → HaltsAt n e a b d ended more rest unsent → (more ≡ []) ⊎ ((x : Exchange) × (more ≡ x ∷ []))
+more-few n e a b d Quit more rest unsent h = inr (h.0, h.1)
+more-few n e a b d WriteFault more rest unsent h = inr (h.0, h.1)
+more-few n e a b d EndOfInput more rest unsent h = inl h.0
+more-few n e a b d ReadFault more rest unsent h = inl h.0
+more-few n e a b d LongLine more rest unsent h = inl h.0
+more-few n e a b d Spent more rest unsent h = inl h.0
+more-few n e a b d Limit more rest unsent h = absurd h
+more-few n e a b d Memory more rest unsent h = absurd h
 
 -- all but the last were not `quit`
-more-order : (P : Exchange → Type 0) (xs more : List Exchange) → All P xs → (more ≡ []) ⊎ ((x : Exchange) × (more ≡ x ∷ [])) → All P (before_last (xs ++ more))
+more-order : (P : Exchange → Type 0) (xs more : List Exchange) → All P xs → (more ≡ []) ⊎ ((x : Exchange) × (more ≡ x ∷ []))
+    → All P (before_last (xs ++ more))
 more-order P xs more all h = elim h as (λ _. All P (before_last (xs ++ more))) [
-  | inl none ↦ subst (λ z. All P (before_last (xs ++ z))) (sym none) (subst (λ z. All P (before_last z)) (sym (append-nil xs)) (before_last-All P xs all))
+  | inl none ↦ subst (λ z. All P (before_last (xs ++ z))) (sym none)
+      (subst (λ z. All P (before_last z)) (sym (append-nil xs)) (before_last-All P xs all))
   | inr one ↦ subst (λ z. All P (before_last (xs ++ z))) (sym one.1) (subst (All P) (sym (before_last-snoc xs one.0)) all)
 ]
 
@@ -290,44 +335,57 @@ has_quit n xs more x one quit = record {
   quit = quit;
 }
 
-lacks_last : (t : NamedContext) (e : ℕ) (xs : List Exchange) (x : Exchange) (served : List Exchange) (sent part : Text) → served ≡ xs ++ x ∷ []
+lacks_last : (t : NamedContext) (e : ℕ) (xs : List Exchange) (x : Exchange) (served : List Exchange) (sent part : Text)
+    → served ≡ xs ++ x ∷ []
     → sent ≡ (greeting t e ++ replies_of t.attributes xs) ++ part → LacksLastAnswer t e served sent
 lacks_last t e xs x [] sent part split all = tt
 lacks_last t e xs x (y ∷ ys) sent part split all =
     let front : before_last (y ∷ ys) ≡ xs = ap before_last split ∙ before_last-snoc xs x in
     (part, all ∙ ap (λ z. (greeting t e ++ replies_of t.attributes z) ++ part) (sym front))
 
-closing : (t : NamedContext) (e lines : ℕ) (a b b' : Wire) (d : Place) (xs more : List Exchange) (rest sent unsent : Text) → Last t e lines xs more sent → IsQuiet a b
-    → (ended : Ended) → HaltsAt t.context.width b b' d ended more rest unsent → Closes t e lines a b' d ended (xs ++ more) rest sent unsent
-closing t e lines a b b' d xs more rest sent unsent l quiet Quit h = (has_quit t.context.width xs more h.0 h.1 h.2, h.3, IsQuiet-trans quiet h.4)
-closing t e lines a b b' d xs more rest sent unsent l quiet EndOfInput h = (goes_on t.context.width lines xs more l.asking l.fewer h.0, h.2, h.3, h.1, IsQuiet-trans quiet h.4)
-closing t e lines a b b' d xs more rest sent unsent l quiet ReadFault h = (goes_on t.context.width lines xs more l.asking l.fewer h.0, subst (λ n. Rose n b'.reads) quiet.reads h.2, h.3, h.1, h.4 ∙ quiet.writes)
-closing t e lines a b b' d xs more rest sent unsent l quiet LongLine h = (goes_on t.context.width lines xs more l.asking l.fewer h.0, h.2, h.1, IsQuiet-trans quiet h.3)
-closing t e lines a b b' d xs more rest sent unsent l quiet WriteFault h =
-    (subst (λ n. Rose n b'.writes) quiet.writes h.2, lacks_last t e xs h.0 (xs ++ more) sent l.part (ap (λ z. xs ++ z) h.1) l.split, h.3 ∙ quiet.reads)
-closing t e lines a b b' d xs more rest sent unsent l quiet Spent h = (h.2, goes_on t.context.width lines xs more l.asking l.fewer h.0, h.1, IsQuiet-trans quiet h.3)
+closing : (t : NamedContext) (e lines : ℕ) (a b b' : Wire) (d : Place) (xs more : List Exchange) (rest sent unsent : Text)
+    → Last t e lines xs more sent → IsQuiet a b
+    → (ended : Ended) → HaltsAt t.context.width e b b' d ended more rest unsent
+    → Closes t e lines a b' d ended (xs ++ more) rest sent unsent
+closing t e lines a b b' d xs more rest sent unsent l quiet Quit h =
+    (has_quit t.context.width xs more h.0 h.1 h.2, h.3, IsQuiet-trans quiet h.4)
+closing t e lines a b b' d xs more rest sent unsent l quiet EndOfInput h =
+    (goes_on t.context.width lines xs more l.asking l.fewer h.0, h.2, h.3, h.1, IsQuiet-trans quiet h.4)
+closing t e lines a b b' d xs more rest sent unsent l quiet ReadFault h =
+    (goes_on t.context.width lines xs more l.asking l.fewer h.0, subst (λ n. Rose n b'.reads) quiet.reads h.2, h.3, h.1, h.4 ∙ quiet.writes)
+closing t e lines a b b' d xs more rest sent unsent l quiet LongLine h =
+    (goes_on t.context.width lines xs more l.asking l.fewer h.0, h.2, h.1, IsQuiet-trans quiet h.3)
+closing t e lines a b b' d xs more rest sent unsent l quiet WriteFault h = (
+  subst (λ n. Rose n b'.writes) quiet.writes h.2,
+  lacks_last t e xs h.0 (xs ++ more) sent l.part (ap (λ z. xs ++ z) h.1) l.split,
+  h.3 ∙ quiet.reads,
+)
+closing t e lines a b b' d xs more rest sent unsent l quiet Spent h =
+    (h.2, goes_on t.context.width lines xs more l.asking l.fewer h.0, h.3, h.1, IsQuiet-trans quiet h.4)
 closing t e lines a b b' d xs more rest sent unsent l quiet Limit h = absurd h
 closing t e lines a b b' d xs more rest sent unsent l quiet Memory h = absurd h
 
 -- all that can be sent was sent, where no write failed
-whole_or_failed : (n : ℕ) (a b b' : Wire) (d : Place) (ended : Ended) (more : List Exchange) (rest unsent : Text) → a.writes ≤ b.writes → HaltsAt n b b' d ended more rest unsent
+whole_or_failed : (n e : ℕ) (a b b' : Wire) (d : Place) (ended : Ended) (more : List Exchange) (rest unsent : Text) → a.writes ≤ b.writes
+    → HaltsAt n e b b' d ended more rest unsent
     → (unsent ≡ []) ⊎ Rose a.writes b'.writes
-whole_or_failed n a b b' d Quit more rest unsent w h = inl h.3
-whole_or_failed n a b b' d WriteFault more rest unsent w h = inr (Rose-later a.writes b.writes b'.writes w h.2)
-whole_or_failed n a b b' d EndOfInput more rest unsent w h = inl h.1
-whole_or_failed n a b b' d ReadFault more rest unsent w h = inl h.1
-whole_or_failed n a b b' d LongLine more rest unsent w h = inl h.1
-whole_or_failed n a b b' d Spent more rest unsent w h = inl h.1
-whole_or_failed n a b b' d Limit more rest unsent w h = absurd h
-whole_or_failed n a b b' d Memory more rest unsent w h = absurd h
+whole_or_failed n e a b b' d Quit more rest unsent w h = inl h.3
+whole_or_failed n e a b b' d WriteFault more rest unsent w h = inr (Rose-later a.writes b.writes b'.writes w h.2)
+whole_or_failed n e a b b' d EndOfInput more rest unsent w h = inl h.1
+whole_or_failed n e a b b' d ReadFault more rest unsent w h = inl h.1
+whole_or_failed n e a b b' d LongLine more rest unsent w h = inl h.1
+whole_or_failed n e a b b' d Spent more rest unsent w h = inl h.1
+whole_or_failed n e a b b' d Limit more rest unsent w h = absurd h
+whole_or_failed n e a b b' d Memory more rest unsent w h = absurd h
 
-pub halted : (t : NamedContext) (e lines : ℕ) (a b b' : Wire) (c d d' : Place) (ahead : Text) (k : ℕ) (ended : Ended) → Goes t e a b c d ahead k → k < lines → Halts t e b b' d d' ahead ended
+pub halted : (t : NamedContext) (e lines : ℕ) (a b b' : Wire) (c d d' : Place) (ahead : Text) (k : ℕ) (ended : Ended)
+    → Goes t e a b c d ahead k → k < lines → Halts t e b b' d d' ahead ended
     → HasServed t e lines a b' c d' ended
 halted t e lines a b b' c d d' ahead k ended x below y =
     let all = x.served ++ y.more in
     let before = x.count in
     let fewer : length x.served < lines = omega arith in
-    let few = more-few t.context.width b b' d' ended y.more y.rest y.unsent y.halts in
+    let few = more-few t.context.width e b b' d' ended y.more y.rest y.unsent y.halts in
     let turns = turns_of-append x.served y.more in
     let sent = (greeting t e ++ replies_of t.attributes x.served) ++ y.sent in
     record {
@@ -341,13 +399,17 @@ halted t e lines a b b' c d d' ahead k ended x below y =
         each = All-append (IsExchange t.context.width e) x.served y.more x.each y.each;
         order = more-order (IsNotQuit t.context.width) x.served y.more x.asking few;
         few = let most = more-length x.served y.more few in omega arith;
-        lines_taken = ap (λ z. z ++ y.taken) x.read ∙ append_assoc (lines_of x.served) ahead y.taken ∙ ap (λ z. lines_of x.served ++ z) y.read
-            ∙ sym (append_assoc (lines_of x.served) (lines_of y.more) y.rest) ∙ ap (λ z. z ++ y.rest) (sym (lines_of-append x.served y.more));
-        answers_sent = ap (λ z. greeting t e ++ z) (replies_of-append t.attributes x.served y.more ∙ ap (λ z. replies_of t.attributes x.served ++ z) y.said)
+        lines_taken = ap (λ z. z ++ y.taken) x.read ∙ append_assoc (lines_of x.served) ahead y.taken
+            ∙ ap (λ z. lines_of x.served ++ z) y.read
+            ∙ sym (append_assoc (lines_of x.served) (lines_of y.more) y.rest)
+            ∙ ap (λ z. z ++ y.rest) (sym (lines_of-append x.served y.more));
+        answers_sent = ap (λ z. greeting t e ++ z) (replies_of-append t.attributes x.served y.more
+            ∙ ap (λ z. replies_of t.attributes x.served ++ z) y.said)
             ∙ sym (append_assoc (greeting t e) (replies_of t.attributes x.served) (y.sent ++ y.unsent))
             ∙ sym (append_assoc (greeting t e ++ replies_of t.attributes x.served) y.sent y.unsent);
-        whole = whole_or_failed t.context.width a b b' d' ended y.more y.rest y.unsent x.moves.writes y.halts;
+        whole = whole_or_failed t.context.width e a b b' d' ended y.more y.rest y.unsent x.moves.writes y.halts;
       };
       enters = Enters-equal (sym (entries_of-append x.served y.more)) (sym turns) (Enters-trans x.enters y.enters);
-      closes = closing t e lines a b b' d' x.served y.more y.rest sent y.unsent (record { asking = x.asking; fewer = fewer; part = y.sent; split = refl }) x.quiet ended y.halts;
+      closes = closing t e lines a b b' d' x.served y.more y.rest sent y.unsent
+          (record { asking = x.asking; fewer = fewer; part = y.sent; split = refl }) x.quiet ended y.halts;
     }

@@ -72,11 +72,14 @@ module _ (t : NamedContext) (e : ℕ) (answer : Text) where
   not_ready : (now : State) → calls now ≡ Some 1 → WasAnswered now → ⊥
   not_ready New one a = cc
   not_ready Greeted one a = cc
-  not_ready Ready one a = unanswered a.served a.rest (append_cancel_left (greeting t e) [] (replies_of t.attributes a.served) (append-nil (greeting t e) ∙ a.moves.gained)) a.unbroken a.moves.lost
+  not_ready Ready one a = unanswered a.served a.rest
+      (append_cancel_left (greeting t e) [] (replies_of t.attributes a.served) (append-nil (greeting t e) ∙ a.moves.gained)) a.unbroken
+      a.moves.lost
   not_ready Past one a = cc
   not_ready Answered one a = cc
 
-  second : (now : State) (rs : List (Reading State)) → calls now ≡ Some 1 → AreReadings left held calls faults faults WasAnswered now Answered rs → ⊥
+  second : (now : State) (rs : List (Reading State)) → calls now ≡ Some 1
+      → AreReadings left held calls faults faults WasAnswered now Answered rs → ⊥
   second now [] one x = let two : Some 2 ≡ Some 1 = x.uncounted ∙ one in cc
   second now (r ∷ rs) one x = not_ready r.before (x.0.uncounted ∙ one) x.1
 

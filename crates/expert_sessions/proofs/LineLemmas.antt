@@ -38,14 +38,16 @@ lacks-not_quit e form turns h = elim h as (λ _. form ≢ Ok QuitAsked) [
 ]
 
 -- only `quit` gets `bye`
-pub not_bye : (e : ℕ) (form : Result Request RequestFault) (said : Said) (made : List SetEntry) (turns : ℕ) → Answers e form said made turns → said ≢ Bye → form ≢ Ok QuitAsked
+pub not_bye : (e : ℕ) (form : Result Request RequestFault) (said : Said) (made : List SetEntry) (turns : ℕ) → Answers e form said made turns
+    → said ≢ Bye → form ≢ Ok QuitAsked
 not_bye e form (Replied reply) made turns h n = asks-not_quit e form h.0 h.1
 not_bye e form Bye made turns h n = absurd (n refl)
 not_bye e form BadLine made turns h n = λ q. let p = h.0 in cc
 not_bye e form BadWidth made turns h n = λ q. let p = h.0 in cc
 not_bye e form NoMemory made turns h n = lacks-not_quit e form turns h.0
 
-pub bye_quits : (e : ℕ) (form : Result Request RequestFault) (said : Said) (made : List SetEntry) (turns : ℕ) → Answers e form said made turns → said ≡ Bye → form ≡ Ok QuitAsked
+pub bye_quits : (e : ℕ) (form : Result Request RequestFault) (said : Said) (made : List SetEntry) (turns : ℕ)
+    → Answers e form said made turns → said ≡ Bye → form ≡ Ok QuitAsked
 bye_quits e form said made turns h b = let q : Answers e form Bye made turns = subst (λ s. Answers e form s made turns) b h in q.0
 
 -- a line takes one turn at most
@@ -55,7 +57,8 @@ lacks-few e form turns h = elim h as (λ _. turns ≤ 1) [
   | inr unread ↦ (let none = unread.1 in omega arith)
 ]
 
-answers-few : (e : ℕ) (form : Result Request RequestFault) (said : Said) (made : List SetEntry) (turns : ℕ) → Answers e form said made turns → turns ≤ 1
+answers-few : (e : ℕ) (form : Result Request RequestFault) (said : Said) (made : List SetEntry) (turns : ℕ) → Answers e form said made turns
+    → turns ≤ 1
 answers-few e form (Replied reply) made turns h = let one = h.3 in omega arith
 answers-few e form Bye made turns h = let none = h.2 in omega arith
 answers-few e form BadLine made turns h = let none = h.2 in omega arith
@@ -70,7 +73,8 @@ turns_of-few n e (x ∷ xs) h =
     omega arith
 
 -- the bytes before the first line feed are a line that was answered
-pub is-exchange : (n e : ℕ) (bytes : Text) (at : ℕ) (said : Said) (made : List SetEntry) (turns : ℕ) → HasFeedAt bytes at → at ≤ LINE_BYTES → Answers e (request_form (take at bytes) n) said made turns
+pub is-exchange : (n e : ℕ) (bytes : Text) (at : ℕ) (said : Said) (made : List SetEntry) (turns : ℕ) → HasFeedAt bytes at → at ≤ LINE_BYTES
+    → Answers e (request_form (take at bytes) n) said made turns
     → IsExchange n e (record { line = take at bytes; said = said; made = made; turns = turns })
 is-exchange n e bytes at said made turns feed few answered = record {
   short = let long = length-take at bytes in let low = min-le_left at (length bytes) in omega arith;
@@ -82,11 +86,14 @@ is-exchange n e bytes at said made turns feed few answered = record {
 
 pub lines_of-append : (xs ys : List Exchange) → lines_of (xs ++ ys) ≡ lines_of xs ++ lines_of ys
 lines_of-append [] ys = refl
-lines_of-append (x ∷ xs) ys = ap (λ z. (x.line ++ line_end) ++ z) (lines_of-append xs ys) ∙ sym (append_assoc (x.line ++ line_end) (lines_of xs) (lines_of ys))
+lines_of-append (x ∷ xs) ys = ap (λ z. (x.line ++ line_end) ++ z) (lines_of-append xs ys)
+    ∙ sym (append_assoc (x.line ++ line_end) (lines_of xs) (lines_of ys))
 
-pub replies_of-append : (attributes : List Text) (xs ys : List Exchange) → replies_of attributes (xs ++ ys) ≡ replies_of attributes xs ++ replies_of attributes ys
+pub replies_of-append : (attributes : List Text) (xs ys : List Exchange)
+    → replies_of attributes (xs ++ ys) ≡ replies_of attributes xs ++ replies_of attributes ys
 replies_of-append attributes [] ys = refl
-replies_of-append attributes (x ∷ xs) ys = ap (λ z. said_line attributes x.said ++ z) (replies_of-append attributes xs ys) ∙ sym (append_assoc (said_line attributes x.said) (replies_of attributes xs) (replies_of attributes ys))
+replies_of-append attributes (x ∷ xs) ys = ap (λ z. said_line attributes x.said ++ z) (replies_of-append attributes xs ys)
+    ∙ sym (append_assoc (said_line attributes x.said) (replies_of attributes xs) (replies_of attributes ys))
 
 pub entries_of-append : (xs ys : List Exchange) → entries_of (xs ++ ys) ≡ entries_of xs ++ entries_of ys
 entries_of-append [] ys = refl
@@ -104,7 +111,8 @@ before_last-snoc (y ∷ z ∷ xs) x = ap (λ l. y ∷ l) (before_last-snoc (z �
 pub before_last-All : (P : Exchange → Type 0) (xs : List Exchange) → All P xs → All P (before_last xs)
 before_last-All P [] h = All-nil P
 before_last-All P (x ∷ []) h = All-nil P
-before_last-All P (x ∷ y ∷ xs) h = All-cons P x (before_last (y ∷ xs)) (All-head P x (y ∷ xs) h) (before_last-All P (y ∷ xs) (All-tail P x (y ∷ xs) h))
+before_last-All P (x ∷ y ∷ xs) h = All-cons P x (before_last (y ∷ xs)) (All-head P x (y ∷ xs) h)
+    (before_last-All P (y ∷ xs) (All-tail P x (y ∷ xs) h))
 
 pub All-one : (P : Exchange → Type 0) (x : Exchange) → P x → All P (x ∷ [])
 All-one P x h = All-cons P x [] h (All-nil P)
@@ -113,7 +121,8 @@ All-one P x h = All-cons P x [] h (All-nil P)
 
 -- what succeeded was sent whole
 pub sent_whole : {a b : Wire} {text : Text} (r : Result (Unit {0}) Put) → Writes a b text r → is_err r ≡ false → Moves a b [] text
-sent_whole {a} {b} {text} (Ok u) w e = subst (λ z. Moves a b [] z) (sym (w.split ∙ ap (λ z. w.sent ++ z) w.whole ∙ append-nil w.sent)) w.moves
+sent_whole {a} {b} {text} (Ok u) w e = subst (λ z. Moves a b [] z)
+    (sym (w.split ∙ ap (λ z. w.sent ++ z) w.whole ∙ append-nil w.sent)) w.moves
 sent_whole (Err x) w e = cc
 
 pub sent_quiet : {a b : Wire} {text : Text} (r : Result (Unit {0}) Put) → Writes a b text r → is_err r ≡ false → IsQuiet a b
@@ -134,16 +143,25 @@ module _ (calls calls' : Option ℕ) (faults faults' : ℕ) (aside aside' : Aske
   faults-kept = ap (λ (asked : Asked). asked.faults) (sym after ∙ same ∙ before)
 
 -- a call that writes leaves alone what stands beside a sink: at an end that is what is left to read
-pub writes-from : (a b : Wire) (text : Text) (r : Result (Unit {0}) Put) (other other' : Option Text) (calls calls' : Option ℕ) (aside aside' : Asked)
-    → OnOk r (Appends a.held b.held text) → AppendsFront a.held b.held text → OnOk r (b.writes ≡ a.writes) → OnErr r (Rose a.writes b.writes) → a.writes ≤ b.writes → Keeps other other' → aside' ≡ aside
-    → other ≡ a.left → other' ≡ b.left → aside ≡ record { reads = calls; faults = a.reads } → aside' ≡ record { reads = calls'; faults = b.reads } → Writes a b text r
+pub writes-from : (a b : Wire) (text : Text) (r : Result (Unit {0}) Put) (other other' : Option Text) (calls calls' : Option ℕ)
+    (aside aside' : Asked)
+    → OnOk r (Appends a.held b.held text) → AppendsFront a.held b.held text → OnOk r (b.writes ≡ a.writes)
+    → OnErr r (Rose a.writes b.writes) → a.writes ≤ b.writes → Keeps other other' → aside' ≡ aside
+    → other ≡ a.left → other' ≡ b.left → aside ≡ record { reads = calls; faults = a.reads }
+    → aside' ≡ record { reads = calls'; faults = b.reads } → Writes a b text r
 writes-from a b text (Ok u) other other' calls calls' aside aside' whole front quiet failed later keeps same p q u' v =
     let still = faults-kept calls calls' a.reads b.reads aside aside' same u' v in
     record {
       sent = text;
       unsent = [];
       split = sym (append-nil text);
-      moves = record { lost = subst (λ z. Consumes a.left z []) q (subst (λ z. Consumes z other' []) p (Consumes-kept other other other' [] (Consumes-nil other) keeps)); gained = whole; reads = omega arith; writes = later };
+      moves = record {
+        lost = subst (λ z. Consumes a.left z []) q
+            (subst (λ z. Consumes z other' []) p (Consumes-kept other other other' [] (Consumes-nil other) keeps));
+        gained = whole;
+        reads = omega arith;
+        writes = later;
+      };
       whole = refl;
       quiet = quiet;
       failed = tt;
@@ -155,7 +173,13 @@ writes-from a b text (Err e) other other' calls calls' aside aside' whole front 
       sent = front.front;
       unsent = front.rest;
       split = front.whole;
-      moves = record { lost = subst (λ z. Consumes a.left z []) q (subst (λ z. Consumes z other' []) p (Consumes-kept other other other' [] (Consumes-nil other) keeps)); gained = front.gained; reads = omega arith; writes = later };
+      moves = record {
+        lost = subst (λ z. Consumes a.left z []) q
+            (subst (λ z. Consumes z other' []) p (Consumes-kept other other other' [] (Consumes-nil other) keeps));
+        gained = front.gained;
+        reads = omega arith;
+        writes = later;
+      };
       whole = tt;
       quiet = tt;
       failed = failed;

@@ -30,24 +30,29 @@ module _ {E : Type 0} (left held : E → Option Text) (calls : E → Option ℕ)
   written P a b text result w same = ([], record { kept = w.moves.lost; uncounted = same; quiet = w.reads })
 
   module _ (P Q : E → Type 0) (weaker : (a : E) → Q a → P a) where
-    weaken : (now last : E) (rs : List (Reading E)) → AreReadings left held calls reads writes Q now last rs → AreReadings left held calls reads writes P now last rs
+    weaken : (now last : E) (rs : List (Reading E)) → AreReadings left held calls reads writes Q now last rs
+        → AreReadings left held calls reads writes P now last rs
     weaken now last [] x = x
     weaken now last (r ∷ rs) x = (x.0, weaker r.before x.1, x.2, weaken r.after last rs x.3)
 
-    after_nothing : (now a last : E) (rs : List (Reading E)) → ReadsNothing left held calls reads writes now a → AreReadings left held calls reads writes Q a last rs
+    after_nothing : (now a last : E) (rs : List (Reading E)) → ReadsNothing left held calls reads writes now a
+        → AreReadings left held calls reads writes Q a last rs
         → AreReadings left held calls reads writes P now last rs
     after_nothing now a last [] x y = ReadsNothing-trans now a last x y
     after_nothing now a last (r ∷ rs) x y = (ReadsNothing-trans now a r.before x y.0, weaker r.before y.1, y.2, weaken r.after last rs y.3)
 
-    AreReadings-join : (now a last : E) (rs qs : List (Reading E)) → AreReadings left held calls reads writes P now a rs → AreReadings left held calls reads writes Q a last qs
+    AreReadings-join : (now a last : E) (rs qs : List (Reading E)) → AreReadings left held calls reads writes P now a rs
+        → AreReadings left held calls reads writes Q a last qs
         → AreReadings left held calls reads writes P now last (rs ++ qs)
     AreReadings-join now a last [] qs x y = after_nothing now a last qs x y
     AreReadings-join now a last (r ∷ rs) qs x y = (x.0, x.1, x.2, AreReadings-join r.after a last rs qs x.3 y)
 
-    join : (a b c : E) → ReadsOnlyWhere left held calls reads writes P a b → ReadsOnlyWhere left held calls reads writes Q b c → ReadsOnlyWhere left held calls reads writes P a c
+    join : (a b c : E) → ReadsOnlyWhere left held calls reads writes P a b → ReadsOnlyWhere left held calls reads writes Q b c
+        → ReadsOnlyWhere left held calls reads writes P a c
     join a b c x y = (x.0 ++ y.0, AreReadings-join a b c x.0 y.0 x.1 y.1)
 
-  joined : (P : E → Type 0) (a b c : E) → ReadsOnlyWhere left held calls reads writes P a b → ReadsOnlyWhere left held calls reads writes P b c
+  joined : (P : E → Type 0) (a b c : E) → ReadsOnlyWhere left held calls reads writes P a b
+      → ReadsOnlyWhere left held calls reads writes P b c
       → ReadsOnlyWhere left held calls reads writes P a c
   joined P a b c x y = join P P (λ _ p. p) a b c x y
 
@@ -58,19 +63,24 @@ module _ {E : Type 0} (left held : E → Option Text) (calls : E → Option ℕ)
 
   pub read_on : (ahead grown grown' : Text) (first a b : E) → ReadsForLine left held calls reads writes ahead first a
       → Reads (wire left held calls reads writes first) (wire left held calls reads writes a) ahead grown → HasNoFeed grown
-      → Reads (wire left held calls reads writes a) (wire left held calls reads writes b) grown grown' → calls b ≡ option_map one_more (calls a)
+      → Reads (wire left held calls reads writes a) (wire left held calls reads writes b) grown grown'
+      → calls b ≡ option_map one_more (calls a)
       → ReadsForLine left held calls reads writes ahead first b
   read_on ahead grown grown' first a b x r none next counted =
-      let awaits : AwaitsLine left held calls reads writes ahead first a = record { taken = r.taken; moves = r.moves; unbroken = subst HasNoFeed r.joined none } in
+      let awaits : AwaitsLine left held calls reads writes ahead first a =
+      record { taken = r.taken; moves = r.moves; unbroken = subst HasNoFeed r.joined none } in
       let once : ReadsOnce left held calls reads writes a b = record { kept = next.moves.gained; counted = counted; quiet = next.writes } in
-      joined (AwaitsLine left held calls reads writes ahead first) first a b x (record { before = a; after = b } ∷ [], (ReadsNothing-nil a, awaits, once, ReadsNothing-nil b))
+      joined (AwaitsLine left held calls reads writes ahead first) first a b x
+      (record { before = a; after = b } ∷ [], (ReadsNothing-nil a, awaits, once, ReadsNothing-nil b))
 
   -- the line was answered
-  pub answered : (ahead : Text) (first a b : E) → ReadsForLine left held calls reads writes ahead first a → (text : Text) (result : Result (Unit {0}) Put)
+  pub answered : (ahead : Text) (first a b : E) → ReadsForLine left held calls reads writes ahead first a
+      → (text : Text) (result : Result (Unit {0}) Put)
       → Writes (wire left held calls reads writes a) (wire left held calls reads writes b) text result → calls b ≡ calls a
       → ReadsForLine left held calls reads writes ahead first b
   answered ahead first a b x text result w same =
-      joined (AwaitsLine left held calls reads writes ahead first) first a b x (written (AwaitsLine left held calls reads writes ahead first) a b text result w same)
+      joined (AwaitsLine left held calls reads writes ahead first) first a b x
+      (written (AwaitsLine left held calls reads writes ahead first) a b text result w same)
 
   -- ---- for a session
 
@@ -83,10 +93,13 @@ module _ {E : Type 0} (left held : E → Option Text) (calls : E → Option ℕ)
   greeted-first t e a b text result w same = written (IsAnswered left held calls reads writes t e a) a b text result w same
 
   -- behind lines that were answered, the end was read for one line
-  pub line-in_turn : (t : NamedContext) (e : ℕ) (first a b : E) (c d : Place) (ahead : Text) (k : ℕ) → ReadsInTurn left held calls reads writes t e first a
-      → Goes t e (wire left held calls reads writes first) (wire left held calls reads writes a) c d ahead k → ReadsForLine left held calls reads writes ahead a b
+  pub line-in_turn : (t : NamedContext) (e : ℕ) (first a b : E) (c d : Place) (ahead : Text) (k : ℕ)
+      → ReadsInTurn left held calls reads writes t e first a
+      → Goes t e (wire left held calls reads writes first) (wire left held calls reads writes a) c d ahead k
+      → ReadsForLine left held calls reads writes ahead a b
       → ReadsInTurn left held calls reads writes t e first b
-  line-in_turn t e first a b c d ahead k x goes y = join (IsAnswered left held calls reads writes t e first) (AwaitsLine left held calls reads writes ahead a) line-awaited first a b x y
+  line-in_turn t e first a b c d ahead k x goes y =
+      join (IsAnswered left held calls reads writes t e first) (AwaitsLine left held calls reads writes ahead a) line-awaited first a b x y
     where
       line-awaited : (now : E) → AwaitsLine left held calls reads writes ahead a now → IsAnswered left held calls reads writes t e first now
       line-awaited now w = record {
@@ -94,6 +107,7 @@ module _ {E : Type 0} (left held : E → Option Text) (calls : E → Option ℕ)
         rest = ahead ++ w.taken;
         each = goes.each;
         unbroken = w.unbroken;
-        moves = Moves-equal (ap (λ z. z ++ w.taken) goes.read ∙ append_assoc (lines_of goes.served) ahead w.taken) (append-nil (greeting t e ++ replies_of t.attributes goes.served))
+        moves = Moves-equal (ap (λ z. z ++ w.taken) goes.read ∙ append_assoc (lines_of goes.served) ahead w.taken)
+            (append-nil (greeting t e ++ replies_of t.attributes goes.served))
             (Moves-trans goes.moves w.moves);
       }

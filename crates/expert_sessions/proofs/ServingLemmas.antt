@@ -1,7 +1,7 @@
 -- Many sessions. A pass that has made no turn has more of them than a session takes, so its talk is never short of them. Two halves
 -- of sessions are one list. The passes are numbered in their order, so once the gate is closed, each talk is that of the entries
 -- which the one history has of its expert.
-use Rattle.std.proofs.Common.{inl, inr, ◌≡◌, ◌≤◌, ◌<◌, ℕ, zero, suc, ◌+◌, ◌-◌, ◌⊎◌, List, [], ◌∷◌, ◌++◌, length, map, Option, Some, refl, sym, ap, ◌∙◌, subst, arith}
+use Rattle.std.proofs.Common.{inl, inr, ◌≡◌, ◌≤◌, ◌<◌, ℕ, zero, suc, ◌+◌, ◌-◌, ◌⊎◌, List, [], ◌∷◌, length, map, Option, Some, refl, sym, ap, ◌∙◌, subst, arith}
 use Rattle.std.specs.Prelude.{All}
 use Rattle.std.proofs.lemmas.List.Elements.{All-nil, All-cons, All-head, All-tail}
 use Rattle.std.proofs.lemmas.List.{length-map}
@@ -9,32 +9,44 @@ use Rattle.fca_model.specs.Tables.{Text, NamedContext}
 use Rattle.fca_model.specs.Exploration.{SetEntry, own}
 use Rattle.explore_state.specs.History.{Opening}
 use Rattle.turn_lock.specs.Passes.{Known, Badge, Lock, Belongs, IsFresh, TableId, badge, badges, roll}
+use Rattle.turn_lock.proofs.ClosingLemmas.{length-roll}
 use Rattle.expert_gate.specs.Turns.{HasClosed}
+use Rattle.expert_gate.proofs.SeatLemmas.{EachSeat-length}
 use Rattle.expert_sessions.specs.declared.ended.Ended.{Ended}
-use Rattle.expert_sessions.specs.Moves.{Wire, TakesAtMost}
+use Rattle.expert_sessions.specs.Moves.{Wire, TakesAtMost, wire_of}
 use Rattle.expert_sessions.specs.Order.{ReadsInTurn}
 use Rattle.expert_sessions.specs.Talks.{HasTalked}
-use Rattle.expert_sessions.specs.Serving.{IsReady, EachSeat, HasSat, EachTalks, entered}
+use Rattle.expert_gate.specs.Seats.{EachSeat}
+use Rattle.expert_sessions.specs.Serving.{IsReady, HasSat, EachTalks, entered}
 use Rattle.expert_sessions.specs.declared.seats.Seat.{Seat}
 use Rattle.expert_sessions.proofs.TalkLemmas.{untold}
 
 -- ---- one session
 
--- what is said of the desk's number is said of the pass's afterwards
-pub at_number : (P : ℕ → Type 0) (e : ℕ) (p q r : Known Opening SetEntry) → P e → Some (badge q) ≡ Some (badge p) → e ≡ p.number → r ≡ q → P r.number
+-- the pass has the badge that it had
+pub same_badge : (p q r : Known Opening SetEntry) → Some (badge q) ≡ Some (badge p) → r ≡ q → badge r ≡ badge p
+same_badge p q r same is = let badges : badge q ≡ badge p = cc in ap badge is ∙ badges
+
+-- what holds of the desk's number holds of the pass's afterwards
+pub at_number : (P : ℕ → Type 0) (e : ℕ) (p q r : Known Opening SetEntry) → P e → Some (badge q) ≡ Some (badge p) → e ≡ p.number → r ≡ q
+    → P r.number
 at_number P e p q r holds same number is =
     let badges : badge q ≡ badge p = cc in
     subst P (number ∙ sym (ap (λ (k : Badge Opening). k.number) badges) ∙ sym (ap (λ (k : Known Opening SetEntry). k.number) is)) holds
 
 pub at_pass : (t : NamedContext) (e lines : ℕ) (a b : Wire) (p q r : Known Opening SetEntry) (gate : Lock Opening) (ended : Ended)
-    → HasTalked t e lines a b (record { entries = p.own; turns = Some (p.turns - p.made) }) (record { entries = q.own; turns = Some (q.turns - q.made) }) ended → TakesAtMost (lines + 1) (Some (p.turns - p.made)) (Some (q.turns - q.made))
-    → Belongs gate p → IsFresh p → Some (badge q) ≡ Some (badge p) → e ≡ p.number → lines + 1 < gate.turns → r ≡ q → HasTalked t r.number lines a b (entered []) (entered r.own) ended
+    → HasTalked t e lines a b (record { entries = p.own; turns = Some (p.turns - p.made) })
+    (record { entries = q.own; turns = Some (q.turns - q.made) }) ended
+    → TakesAtMost (lines + 1) (Some (p.turns - p.made)) (Some (q.turns - q.made))
+    → Belongs gate p → IsFresh p → Some (badge q) ≡ Some (badge p) → e ≡ p.number → lines + 1 < gate.turns → r ≡ q
+    → HasTalked t r.number lines a b (entered []) (entered r.own) ended
 at_pass t e lines a b p q r gate ended x taken belongs fresh same number few is =
     let number_is : e ≡ r.number = at_number (λ n. e ≡ n) e p q r refl same number is in
     let own_is : q.own ≡ r.own = sym (ap (λ (k : Known Opening SetEntry). k.own) is) in
     let none : p.own ≡ [] = fresh.1 in
     let y : HasTalked t e lines a b (entered p.own) (entered q.own) ended =
-    untold t e lines a b (record { entries = p.own; turns = Some (p.turns - p.made) }) (record { entries = q.own; turns = Some (q.turns - q.made) }) ended x
+    untold t e lines a b (record { entries = p.own; turns = Some (p.turns - p.made) })
+    (record { entries = q.own; turns = Some (q.turns - q.made) }) ended x
     (λ spent.
     let left : taken.0 ≡ 0 = (let was = taken.1 in cc) in
     let turns = belongs.turns in
@@ -47,18 +59,13 @@ at_pass t e lines a b p q r gate ended x taken belongs fresh same number few is 
 
 -- ---- all sessions
 
-pub EachSeat-append : {S : Type 0} (P : S → S → Type 0) (olds others news more : List S) → EachSeat P olds news → EachSeat P others more → EachSeat P (olds ++ others) (news ++ more)
-EachSeat-append P [] others [] more h k = k
-EachSeat-append P [] others (new ∷ news) more h k = absurd h
-EachSeat-append P (old ∷ olds) others [] more h k = absurd h
-EachSeat-append P (old ∷ olds) others (new ∷ news) more h k = (h.0, EachSeat-append P olds others news more h.1 k)
-
 -- the passes from the number n on
 abbrev HasNumbers : ℕ → List (Known Opening SetEntry) → Type 0
 HasNumbers n [] = Unit {0}
 HasNumbers n (p ∷ ps) = (p.number ≡ n) × HasNumbers (suc n) ps
 
-badges-numbers : (id : TableId) (base : Option Opening) (turns n k : ℕ) (ps : List (Known Opening SetEntry)) → map badge ps ≡ badges id base turns n k → HasNumbers n ps
+badges-numbers : (id : TableId) (base : Option Opening) (turns n k : ℕ) (ps : List (Known Opening SetEntry))
+    → map badge ps ≡ badges id base turns n k → HasNumbers n ps
 badges-numbers id base turns n k [] e = tt
 badges-numbers id base turns n zero (p ∷ ps) e = cc
 badges-numbers id base turns n (suc k) (p ∷ ps) e =
@@ -84,86 +91,91 @@ module _ {E : Type 0} (left held : E → Option Text) (calls : E → Option ℕ)
   endings seats = map (λ seat. seat.ended) seats
 
   abbrev wire : E → Wire
-  wire end = record { left = left end; held = held end; reads = reads end; writes = writes end }
+  wire end = wire_of left held reads writes end
 
   -- no session changes a badge
-  pub badges_kept : (olds news : List (Seat E)) → EachSeat (HasSat left held calls reads writes t lines) olds news → map badge (passes news) ≡ map badge (passes olds)
+  pub badges_kept : (olds news : List (Seat E)) → EachSeat (HasSat left held calls reads writes t lines) olds news
+      → map badge (passes news) ≡ map badge (passes olds)
   badges_kept [] [] h = refl
   badges_kept [] (new ∷ news) h = absurd h
   badges_kept (old ∷ olds) [] h = absurd h
   badges_kept (old ∷ olds) (new ∷ news) h =
-      ap (λ (b : Badge Opening). b ∷ map badge (passes news)) h.0.same ∙ ap (λ (bs : List (Badge Opening)). badge old.pass ∷ bs) (badges_kept olds news h.1)
+      ap (λ (b : Badge Opening). b ∷ map badge (passes news)) h.0.same
+      ∙ ap (λ (bs : List (Badge Opening)). badge old.pass ∷ bs) (badges_kept olds news h.1)
 
-  each_talks : (H : List SetEntry) (k : ℕ) (olds news : List (Seat E)) → HasNumbers k (passes news) → All (λ p. own H p.number ≡ p.own) (passes news)
-      → EachSeat (HasSat left held calls reads writes t lines) olds news → EachTalks left held calls reads writes t lines H k (ends olds) (ends news) (endings news)
+  each_talks : (H : List SetEntry) (k : ℕ) (olds news : List (Seat E)) → HasNumbers k (passes news)
+      → All (λ p. own H p.number ≡ p.own) (passes news)
+      → EachSeat (HasSat left held calls reads writes t lines) olds news
+      → EachTalks left held calls reads writes t lines H k (ends olds) (ends news) (endings news)
   each_talks H k [] [] numbers own_is h = tt
   each_talks H k [] (new ∷ news) numbers own_is h = absurd h
   each_talks H k (old ∷ olds) [] numbers own_is h = absurd h
   each_talks H k (old ∷ olds) (new ∷ news) numbers own_is h =
-      let entries : new.pass.own ≡ own H k = sym (All-head (λ p. own H p.number ≡ p.own) new.pass (passes news) own_is) ∙ ap (own H) numbers.0 in (
-        subst (λ es. HasTalked t k lines (wire old.end) (wire new.end) (entered []) (entered es) new.ended) entries (subst (λ n. HasTalked t n lines (wire old.end) (wire new.end) (entered []) (entered new.pass.own) new.ended) numbers.0 h.0.talk),
+      let entries : new.pass.own ≡ own H k = sym (All-head (λ p. own H p.number ≡ p.own) new.pass (passes news) own_is)
+      ∙ ap (own H) numbers.0 in (
+        subst (λ es. HasTalked t k lines (wire old.end) (wire new.end) (entered []) (entered es) new.ended) entries
+            (subst (λ n. HasTalked t n lines (wire old.end) (wire new.end) (entered []) (entered new.pass.own) new.ended) numbers.0
+            h.0.talk),
         subst (λ n. ReadsInTurn left held calls reads writes t n old.end new.end) numbers.0 h.0.order,
         each_talks H (suc k) olds news numbers.1 (All-tail (λ p. own H p.number ≡ p.own) new.pass (passes news) own_is) h.1,
       )
 
   -- the gate was closed
-  pub talks : (gate : Lock Opening) (H : List SetEntry) (olds news : List (Seat E)) → map badge (passes olds) ≡ roll gate → HasClosed gate.base H (passes news)
-      → EachSeat (HasSat left held calls reads writes t lines) olds news → EachTalks left held calls reads writes t lines H 1 (ends olds) (ends news) (endings news)
+  pub talks : (gate : Lock Opening) (H : List SetEntry) (olds news : List (Seat E)) → map badge (passes olds) ≡ roll gate
+      → HasClosed gate.base H (passes news)
+      → EachSeat (HasSat left held calls reads writes t lines) olds news
+      → EachTalks left held calls reads writes t lines H 1 (ends olds) (ends news) (endings news)
   talks gate H olds news e closed h = each_talks H 1 olds news (roll-numbers gate (passes news) (badges_kept olds news h ∙ e)) closed.own h
 
   -- the seats of passes that have made no turn
-  pub seats_ready : (gate : Lock Opening) (seats : List (Seat E)) → All (Belongs gate) (passes seats) → All IsFresh (passes seats) → All (IsReady gate) seats
+  pub seats_ready : (gate : Lock Opening) (seats : List (Seat E)) → All (Belongs gate) (passes seats) → All IsFresh (passes seats)
+      → All (IsReady gate) seats
   seats_ready gate [] belong fresh = All-nil (IsReady gate)
-  seats_ready gate (seat ∷ seats) belong fresh = All-cons (IsReady gate) seat seats (All-head (Belongs gate) seat.pass (passes seats) belong, All-head IsFresh seat.pass (passes seats) fresh)
+  seats_ready gate (seat ∷ seats) belong fresh =
+      All-cons (IsReady gate) seat seats (
+        All-head (Belongs gate) seat.pass (passes seats) belong,
+        All-head IsFresh seat.pass (passes seats) fresh,
+      )
       (seats_ready gate seats (All-tail (Belongs gate) seat.pass (passes seats) belong) (All-tail IsFresh seat.pass (passes seats) fresh))
 
 -- ---- the passes of a gate
 
-length-badges : (id : TableId) (base : Option Opening) (turns n k : ℕ) → length (badges id base turns n k) ≡ k
-length-badges id base turns n zero = refl
-length-badges id base turns n (suc k) = ap suc (length-badges id base turns (suc n) k)
-
-pub length-passes : (gate : Lock Opening) (ps : List (Known Opening SetEntry)) → 1 ≤ gate.passes → map badge ps ≡ roll gate → length ps ≡ gate.passes
-length-passes gate ps some e =
-    let badges_long = length-badges gate.id (Some gate.base) gate.turns 2 (gate.passes - 1) in
-    let all : length (map badge ps) ≡ suc (length (badges gate.id (Some gate.base) gate.turns 2 (gate.passes - 1))) = ap length e in
-    let same : length (map badge ps) ≡ length ps = length-map ps badge in
-    omega arith
-
-EachSeat-length : {S : Type 0} (P : S → S → Type 0) (olds news : List S) → EachSeat P olds news → length news ≡ length olds
-EachSeat-length P [] [] h = refl
-EachSeat-length P [] (new ∷ news) h = absurd h
-EachSeat-length P (old ∷ olds) [] h = absurd h
-EachSeat-length P (old ∷ olds) (new ∷ news) h = ap suc (EachSeat-length P olds news h.1)
-
-module _ {E : Type 0} (left held : E → Option Text) (calls : E → Option ℕ) (reads writes : E → ℕ) (t t' : NamedContext) (lines lines' : ℕ) (gate : Lock Opening) (ps qs : List (Known Opening SetEntry)) (olds news : List (Seat E))
-    (some : 1 ≤ gate.passes) (roll_is : map badge ps ≡ roll gate) (seated : map (λ (seat : Seat E). seat.pass) olds ≡ ps) (risen : qs ≡ map (λ (seat : Seat E). seat.pass) news)
+module _ {E : Type 0} (left held : E → Option Text) (calls : E → Option ℕ) (reads writes : E → ℕ) (t t' : NamedContext) (lines lines' : ℕ)
+    (gate : Lock Opening) (ps qs : List (Known Opening SetEntry)) (olds news : List (Seat E))
+    (some : 1 ≤ gate.passes) (roll_is : map badge ps ≡ roll gate) (fill_seats : map (λ (seat : Seat E). seat.pass) olds ≡ ps)
+    (split_seats : qs ≡ map (λ (seat : Seat E). seat.pass) news)
     (sat : EachSeat (HasSat left held calls reads writes t' lines') olds news) where
   -- there are as many seats as passes, before and afterwards
   pub length-news : length news ≡ gate.passes
-  length-news = EachSeat-length (HasSat left held calls reads writes t' lines') olds news sat ∙ sym (length-map olds (λ (seat : Seat E). seat.pass)) ∙ ap length seated ∙ length-passes gate ps some roll_is
+  length-news = EachSeat-length (HasSat left held calls reads writes t' lines') olds news sat
+      ∙ sym (length-map olds (λ (seat : Seat E). seat.pass)) ∙ ap length fill_seats ∙ length-roll gate ps some roll_is
 
   -- the passes come back with their badges
   pub roll_kept : map badge qs ≡ roll gate
-  roll_kept = ap (map badge) risen ∙ badges_kept left held calls reads writes t' lines' olds news sat ∙ ap (map badge) seated ∙ roll_is
+  roll_kept = ap (map badge) split_seats ∙ badges_kept left held calls reads writes t' lines' olds news sat ∙ ap (map badge) fill_seats
+      ∙ roll_is
 
-  -- what is told of the closed gate
+  -- what the closed gate shows
   module _ (H : List SetEntry) (closed : HasClosed gate.base H qs) where
-    pub talks_told : (before after : List E) (endings : List Ended) → t' ≡ t → lines' ≡ lines → map (λ (seat : Seat E). seat.end) olds ≡ before → after ≡ map (λ (seat : Seat E). seat.end) news
+    pub talks_told : (before after : List E) (endings : List Ended) → t' ≡ t → lines' ≡ lines
+        → map (λ (seat : Seat E). seat.end) olds ≡ before → after ≡ map (λ (seat : Seat E). seat.end) news
         → endings ≡ map (λ (seat : Seat E). seat.ended) news → EachTalks left held calls reads writes t lines H 1 before after endings
     talks_told before after endings table few ends_before ends_after ended =
-        let all = talks left held calls reads writes t' lines' gate H olds news (ap (map badge) seated ∙ roll_is) (subst (HasClosed gate.base H) risen closed) sat in
+        let all = talks left held calls reads writes t' lines' gate H olds news (ap (map badge) fill_seats ∙ roll_is)
+        (subst (HasClosed gate.base H) split_seats closed) sat in
         subst (λ z. EachTalks left held calls reads writes z lines H 1 before after endings) table
         (subst (λ z. EachTalks left held calls reads writes t' z H 1 before after endings) few
         (subst (λ z. EachTalks left held calls reads writes t' lines' H 1 z after endings) ends_before
-        (subst (λ z. EachTalks left held calls reads writes t' lines' H 1 (map (λ (seat : Seat E). seat.end) olds) z endings) (sym ends_after)
-        (subst (λ z. EachTalks left held calls reads writes t' lines' H 1 (map (λ (seat : Seat E). seat.end) olds) (map (λ (seat : Seat E). seat.end) news) z) (sym ended) all))))
+        (subst (λ z. EachTalks left held calls reads writes t' lines' H 1 (map (λ (seat : Seat E). seat.end) olds) z endings)
+        (sym ends_after)
+        (subst (λ z. EachTalks left held calls reads writes t' lines' H 1 (map (λ (seat : Seat E). seat.end) olds)
+        (map (λ (seat : Seat E). seat.end) news) z) (sym ended) all))))
 
     pub others_told : (e : ℕ) → (e ≡ 0) ⊎ (gate.passes < e) → own H e ≡ []
     others_told e h = closed.others e (elim h as (λ _. (e ≡ 0) ⊎ (length qs < e)) [
       | inl none ↦ inl none
       | inr more ↦ inr (
           let many = length-news in
-          let same : length qs ≡ length news = ap length risen ∙ length-map news (λ (seat : Seat E). seat.pass) in
+          let same : length qs ≡ length news = ap length split_seats ∙ length-map news (λ (seat : Seat E). seat.pass) in
           omega arith)
     ])

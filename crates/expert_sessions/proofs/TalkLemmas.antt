@@ -1,4 +1,4 @@
--- A session whose lines are served leaves its desk. With the leave, or where memory or turns are wanting without it, what was taken,
+-- A session whose lines are served leaves its desk. With the leave, or without it if memory or turns run out, what was taken,
 -- made and sent is a talk.
 use Rattle.std.proofs.Common.{◌≡◌, ◌≢◌, ◌≤◌, ℕ, ◌+◌, List, [], ◌∷◌, ◌++◌, Some, None, refl, sym, ap, ◌∙◌, subst, append-nil, inl, inr, arith}
 use Rattle.fca_model.specs.Tables.{Text, NamedContext}
@@ -22,30 +22,45 @@ refused t e lines a c = record {
   sent = [];
   moves = Moves-nil a;
   enters = Enters-nil c;
-  talk = inl (record { nothing_taken = refl; nothing_made = refl; no_turn = refl; nothing_sent = refl; quiet = IsQuiet-nil a; ending = refl });
+  talk = inl (record {
+    nothing_taken = refl;
+    nothing_made = refl;
+    no_turn = refl;
+    nothing_sent = refl;
+    quiet = IsQuiet-nil a;
+    ending = refl;
+  });
 }
 
 -- no turn was left for a line
-pub spent_early : (t : NamedContext) (e lines : ℕ) (a b : Wire) (c d : Place) (ended : Ended) → HasServed t e lines a b c d ended → ended ≡ Spent → HasTalked t e lines a b c d Spent
-spent_early t e lines a b c d ended y is = let x : HasServed t e lines a b c d Spent = subst (λ z. HasServed t e lines a b c d z) is y in record {
-  taken = x.taken;
-  made = entries_of x.course.served;
-  turns = turns_of x.course.served;
-  sent = x.sent;
-  moves = x.moves;
-  enters = x.enters;
-  talk = inr (record { course = x.course; entries = (refl, refl); ending = (x.closes.0, inl (x.closes.1, x.closes.2, x.closes.3)) });
-}
+pub spent_early : (t : NamedContext) (e lines : ℕ) (a b : Wire) (c d : Place) (ended : Ended) → HasServed t e lines a b c d ended
+    → ended ≡ Spent → HasTalked t e lines a b c d Spent
+spent_early t e lines a b c d ended y is = let x : HasServed t e lines a b c d Spent = subst (λ z. HasServed t e lines a b c d z) is y in
+    record {
+      taken = x.taken;
+      made = entries_of x.course.served;
+      turns = turns_of x.course.served;
+      sent = x.sent;
+      moves = x.moves;
+      enters = x.enters;
+      talk = inr (record {
+        course = x.course;
+        entries = (refl, refl);
+        ending = (x.closes.0, inl (x.closes.1, x.closes.2, x.closes.3, x.closes.4));
+      });
+    }
 
 -- a line takes one turn at most
-pub served-few : {t : NamedContext} {e lines : ℕ} {a b : Wire} {c d : Place} {ended : Ended} (k : ℕ) → lines ≤ k → HasServed t e lines a b c d ended → TakesAtMost k c.turns d.turns
+pub served-few : {t : NamedContext} {e lines : ℕ} {a b : Wire} {c d : Place} {ended : Ended} (k : ℕ) → lines ≤ k
+    → HasServed t e lines a b c d ended → TakesAtMost k c.turns d.turns
 served-few {t} {e} {lines} {a} {b} {c} {d} k h x =
     let each = turns_of-few t.context.width e x.course.served x.course.each in
     let few = x.course.few in
     Takes-few (turns_of x.course.served) k c.turns d.turns x.enters.turns (omega arith)
 
 -- the reason lies not in the desk
-stops : (t : NamedContext) (e lines : ℕ) (a b : Wire) (d : Place) (ended : Ended) (served : List Exchange) (rest sent unsent : Text) → ended ≢ Spent
+stops : (t : NamedContext) (e lines : ℕ) (a b : Wire) (d : Place) (ended : Ended) (served : List Exchange) (rest sent unsent : Text)
+    → ended ≢ Spent
     → Closes t e lines a b d ended served rest sent unsent → Stops t e lines a b ended served rest sent unsent
 stops t e lines a b d Quit served rest sent unsent n h = h
 stops t e lines a b d EndOfInput served rest sent unsent n h = h
@@ -57,7 +72,8 @@ stops t e lines a b d Spent served rest sent unsent n h = absurd (n refl)
 stops t e lines a b d Memory served rest sent unsent n h = h
 
 module _ (t : NamedContext) (e lines : ℕ) (a b : Wire) where
-  ends : (d : Place) (ended : Ended) (served : List Exchange) (rest sent unsent : Text) → Stops t e lines a b ended served rest sent unsent → Ends t e lines a b d ended served rest sent unsent
+  ends : (d : Place) (ended : Ended) (served : List Exchange) (rest sent unsent : Text) → Stops t e lines a b ended served rest sent unsent
+      → Ends t e lines a b d ended served rest sent unsent
   ends d Quit served rest sent unsent h = h
   ends d EndOfInput served rest sent unsent h = h
   ends d ReadFault served rest sent unsent h = h
@@ -67,7 +83,8 @@ module _ (t : NamedContext) (e lines : ℕ) (a b : Wire) where
   ends d Spent served rest sent unsent h = absurd h
   ends d Memory served rest sent unsent h = absurd h
 
-  makes : (ended : Ended) (served : List Exchange) (rest sent unsent : Text) (entries made : List SetEntry) (k : ℕ) → Stops t e lines a b ended served rest sent unsent
+  makes : (ended : Ended) (served : List Exchange) (rest sent unsent : Text) (entries made : List SetEntry) (k : ℕ)
+      → Stops t e lines a b ended served rest sent unsent
       → AndLeaves e entries made → Makes e ended entries k made (k + 1)
   makes Quit served rest sent unsent entries made k h l = (l, refl)
   makes EndOfInput served rest sent unsent entries made k h l = (l, refl)
@@ -79,13 +96,16 @@ module _ (t : NamedContext) (e lines : ℕ) (a b : Wire) where
   makes Memory served rest sent unsent entries made k h l = absurd h
 
 -- the expert left
-pub left : (t : NamedContext) (e lines : ℕ) (a b : Wire) (c d d' : Place) (ended : Ended) (reply : SetReply) (n : ℕ) → n ≡ e → HasServed t e lines a b c d ended → ended ≢ Spent
-    → d'.entries ≡ d.entries ++ record { event = Leave n; reply = reply } ∷ [] → Takes 1 d.turns d'.turns → HasTalked t e lines a b c d' ended
+pub left : (t : NamedContext) (e lines : ℕ) (a b : Wire) (c d d' : Place) (ended : Ended) (reply : SetReply) (n : ℕ) → n ≡ e
+    → HasServed t e lines a b c d ended → ended ≢ Spent
+    → d'.entries ≡ d.entries ++ record { event = Leave n; reply = reply } ∷ [] → Takes 1 d.turns d'.turns
+    → HasTalked t e lines a b c d' ended
 left t e lines a b c d d' ended reply n same x unspent added' turn =
     let entries = entries_of x.course.served in
     let why = stops t e lines a b d ended x.course.served x.course.rest x.sent x.course.unsent unspent x.closes in
     let leave : SetEntry = record { event = Leave e; reply = reply } in
-    let added : d'.entries ≡ d.entries ++ leave ∷ [] = added' ∙ ap (λ (m : ℕ). d.entries ++ record { event = Leave m; reply = reply } ∷ []) same in
+    let added : d'.entries ≡ d.entries ++ leave ∷ [] = added'
+    ∙ ap (λ (m : ℕ). d.entries ++ record { event = Leave m; reply = reply } ∷ []) same in
     let leaves : Enters d d' (leave ∷ []) 1 = record { added = added; turns = turn } in
     record {
       taken = x.taken;
@@ -96,13 +116,15 @@ left t e lines a b c d d' ended reply n same x unspent added' turn =
       enters = Enters-trans x.enters leaves;
       talk = inr (record {
         course = x.course;
-        entries = makes t e lines a b ended x.course.served x.course.rest x.sent x.course.unsent entries (entries ++ leave ∷ []) (turns_of x.course.served) why (reply, refl);
+        entries = makes t e lines a b ended x.course.served x.course.rest x.sent x.course.unsent entries (entries ++ leave ∷ [])
+            (turns_of x.course.served) why (reply, refl);
         ending = ends t e lines a b d' ended x.course.served x.course.rest x.sent x.course.unsent why;
       });
     }
 
 -- no turn was left to leave
-pub spent_late : (t : NamedContext) (e lines : ℕ) (a b : Wire) (c d d' : Place) (ended : Ended) → HasServed t e lines a b c d ended → ended ≢ Spent → d'.entries ≡ d.entries
+pub spent_late : (t : NamedContext) (e lines : ℕ) (a b : Wire) (c d d' : Place) (ended : Ended) → HasServed t e lines a b c d ended
+    → ended ≢ Spent → d'.entries ≡ d.entries
     → (d'.turns ≡ Some 0) × Takes 0 d.turns d'.turns → HasTalked t e lines a b c d' Spent
 spent_late t e lines a b c d d' ended x unspent same none =
     let nothing : Enters d d' [] 0 = record { added = same ∙ sym (append-nil d.entries); turns = none.1 } in
@@ -121,7 +143,8 @@ spent_late t e lines a b c d d' ended x unspent same none =
     }
 
 -- there was no memory to leave
-pub unremembered : (t : NamedContext) (e lines : ℕ) (a b : Wire) (c d d' : Place) (ended : Ended) → HasServed t e lines a b c d ended → ended ≢ Spent → d'.entries ≡ d.entries
+pub unremembered : (t : NamedContext) (e lines : ℕ) (a b : Wire) (c d d' : Place) (ended : Ended) → HasServed t e lines a b c d ended
+    → ended ≢ Spent → d'.entries ≡ d.entries
     → Takes 1 d.turns d'.turns → HasTalked t e lines a b c d' Memory
 unremembered t e lines a b c d d' ended x unspent same turn =
     let nothing : Enters d d' [] 1 = record { added = same ∙ sym (append-nil d.entries); turns = turn } in
@@ -139,8 +162,9 @@ unremembered t e lines a b c d d' ended x unspent same turn =
       });
     }
 
--- where turns are not told, and were never wanting, no talk ends for want of them
-pub untold : (t : NamedContext) (e lines : ℕ) (a b : Wire) (c d : Place) (ended : Ended) → HasTalked t e lines a b c d ended → (d.turns ≡ Some 0 → ⊥)
+-- if turns are not shown, and never ran out, no talk ends because of them
+pub untold : (t : NamedContext) (e lines : ℕ) (a b : Wire) (c d : Place) (ended : Ended) → HasTalked t e lines a b c d ended
+    → (d.turns ≡ Some 0 → ⊥)
     → HasTalked t e lines a b (record { entries = c.entries; turns = None }) (record { entries = d.entries; turns = None }) ended
 untold t e lines a b c d ended x never = record {
   taken = x.taken;

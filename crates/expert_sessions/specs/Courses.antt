@@ -9,7 +9,7 @@ use Rattle.turn_lock.specs.declared.fault.TurnFault.{TurnFault}
 use Rattle.turn_lock.specs.declared.fault.TurnFault.TheVariants.{Spent as NoTurn, Memory as NoTurnMemory}
 use Rattle.expert_wire.specs.Texts.{line_end}
 use Rattle.expert_wire.specs.Greetings.{greeting}
-use Rattle.expert_sessions.specs.Lines.{HasNoFeed, Exchange, IsExchange, IsQuit, IsNotQuit, lines_of, replies_of, entries_of, turns_of, said_line}
+use Rattle.expert_sessions.specs.Lines.{HasNoFeed, BeginsWithEvent, Exchange, IsExchange, IsQuit, IsNotQuit, lines_of, replies_of, entries_of, turns_of, said_line}
 use Rattle.expert_sessions.specs.Talks.{Course, GoesOn, IsPartOfLine, IsTooLong, Stops}
 use Rattle.expert_sessions.specs.Moves.{Wire, Moves, IsQuiet, Place, Enters}
 use Rattle.expert_sessions.specs.declared.said.Said.{Said}
@@ -52,7 +52,7 @@ LacksLine a b ahead ended = ⊥
 
 -- ---- one line
 
--- what is said of a turn, or that no turn is left
+-- the answer that a turn comes to, or that no turn is left
 abbrev pub said_of : Result SetReply TurnFault → Result Said Ended
 said_of (Ok reply) = Ok (Replied reply)
 said_of (Err NoTurnMemory) = Ok NoMemory
@@ -70,14 +70,15 @@ pub record Serves (t : NamedContext) (e : ℕ) (a b : Wire) (c d : Place) (ahead
   pub read : ahead ++ taken ≡ (exchange.line ++ line_end) ++ ahead'
 
 -- why no line is served after these, of which there is at most one
-abbrev pub HaltsAt : ℕ → Wire → Wire → Place → Ended → List Exchange → Text → Text → Type 0
-HaltsAt n a b d Quit more rest unsent = (x : Exchange) × (more ≡ x ∷ []) × IsQuit n x × (unsent ≡ []) × IsQuiet a b
-HaltsAt n a b d WriteFault more rest unsent = (x : Exchange) × (more ≡ x ∷ []) × Rose a.writes b.writes × (b.reads ≡ a.reads)
-HaltsAt n a b d EndOfInput more rest unsent = (more ≡ []) × (unsent ≡ []) × IsAtEnd b.left × IsPartOfLine rest × IsQuiet a b
-HaltsAt n a b d ReadFault more rest unsent = (more ≡ []) × (unsent ≡ []) × Rose a.reads b.reads × IsPartOfLine rest × (b.writes ≡ a.writes)
-HaltsAt n a b d LongLine more rest unsent = (more ≡ []) × (unsent ≡ []) × IsTooLong rest × IsQuiet a b
-HaltsAt n a b d Spent more rest unsent = (more ≡ []) × (unsent ≡ []) × (d.turns ≡ Some 0) × IsQuiet a b
-HaltsAt n a b d ended more rest unsent = ⊥
+abbrev pub HaltsAt : (n e : ℕ) → Wire → Wire → Place → Ended → List Exchange → Text → Text → Type 0
+HaltsAt n e a b d Quit more rest unsent = (x : Exchange) × (more ≡ x ∷ []) × IsQuit n x × (unsent ≡ []) × IsQuiet a b
+HaltsAt n e a b d WriteFault more rest unsent = (x : Exchange) × (more ≡ x ∷ []) × Rose a.writes b.writes × (b.reads ≡ a.reads)
+HaltsAt n e a b d EndOfInput more rest unsent = (more ≡ []) × (unsent ≡ []) × IsAtEnd b.left × IsPartOfLine rest × IsQuiet a b
+HaltsAt n e a b d ReadFault more rest unsent = (more ≡ []) × (unsent ≡ []) × Rose a.reads b.reads × IsPartOfLine rest
+    × (b.writes ≡ a.writes)
+HaltsAt n e a b d LongLine more rest unsent = (more ≡ []) × (unsent ≡ []) × IsTooLong rest × IsQuiet a b
+HaltsAt n e a b d Spent more rest unsent = (more ≡ []) × (unsent ≡ []) × (d.turns ≡ Some 0) × BeginsWithEvent n e rest × IsQuiet a b
+HaltsAt n e a b d ended more rest unsent = ⊥
 
 -- no line is served after this one
 pub record Halts (t : NamedContext) (e : ℕ) (a b : Wire) (c d : Place) (ahead : Text) (ended : Ended) : Type 0 where
@@ -91,7 +92,7 @@ pub record Halts (t : NamedContext) (e : ℕ) (a b : Wire) (c d : Place) (ahead 
   pub enters : Enters c d (entries_of more) (turns_of more)
   pub read : ahead ++ taken ≡ lines_of more ++ rest
   pub said : replies_of t.attributes more ≡ sent ++ unsent
-  pub halts : HaltsAt t.context.width a b d ended more rest unsent
+  pub halts : HaltsAt t.context.width e a b d ended more rest unsent
 
 -- ---- all lines
 
@@ -109,7 +110,8 @@ pub record Goes (t : NamedContext) (e : ℕ) (a b : Wire) (c d : Place) (ahead :
 
 -- why no line is served any more: no turn is left, or a reason that lies not in the desk
 abbrev pub Closes : (t : NamedContext) (e lines : ℕ) → Wire → Wire → Place → Ended → List Exchange → Text → Text → Text → Type 0
-Closes t e lines a b d Spent served rest sent unsent = (d.turns ≡ Some 0) × GoesOn t.context.width lines served × (unsent ≡ []) × IsQuiet a b
+Closes t e lines a b d Spent served rest sent unsent = (d.turns ≡ Some 0) × GoesOn t.context.width lines served
+    × BeginsWithEvent t.context.width e rest × (unsent ≡ []) × IsQuiet a b
 Closes t e lines a b d ended served rest sent unsent = Stops t e lines a b ended served rest sent unsent
 
 -- all lines were served, before the expert leaves

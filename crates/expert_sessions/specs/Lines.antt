@@ -35,13 +35,14 @@ Asks e (Ok LeaveAsked) event = event ≡ Leave e
 Asks e (Ok Quit) event = ⊥
 Asks e (Err fault) event = ⊥
 
--- memory was wanting: for the turn that was asked for, or to read what was asked
+-- memory ran out: in the turn that was asked for, or in reading the line
 abbrev pub LacksMemory : ℕ → Result Request RequestFault → ℕ → Type 0
 LacksMemory e form turns = ((event : SetEvent) × Asks e form event × (turns ≡ 1)) ⊎ (TakesMemory form × (turns ≡ 0))
 
 -- what was read is answered so, and these entries are made, in so many turns
 abbrev pub Answers : ℕ → Result Request RequestFault → Said → List SetEntry → ℕ → Type 0
-Answers e form (Replied reply) made turns = (event : SetEvent) × Asks e form event × (made ≡ record { event = event; reply = reply } ∷ []) × (turns ≡ 1)
+Answers e form (Replied reply) made turns = (event : SetEvent) × Asks e form event × (made ≡ record { event = event; reply = reply } ∷ [])
+    × (turns ≡ 1)
 Answers e form Bye made turns = (form ≡ Ok Quit) × (made ≡ []) × (turns ≡ 0)
 Answers e form BadLine made turns = (form ≡ Err Line) × (made ≡ []) × (turns ≡ 0)
 Answers e form BadWidth made turns = (form ≡ Err Width) × (made ≡ []) × (turns ≡ 0)
@@ -67,6 +68,16 @@ pub record IsExchange (n e : ℕ) (x : Exchange) : Type 0 where
   pub short : length x.line ≤ LINE_BYTES
   pub unbroken : HasNoFeed x.line
   pub answered : Answers e (request_form x.line n) x.said x.made x.turns
+
+-- the text begins with a whole line that asks for an event of expert e
+pub record BeginsWithEvent (n e : ℕ) (text : Text) : Type 0 where
+  pub line : Text
+  pub more : Text
+  pub event : SetEvent
+  pub split : text ≡ (line ++ line_end) ++ more
+  pub short : length line ≤ LINE_BYTES
+  pub unbroken : HasNoFeed line
+  pub asks : Asks e (request_form line n) event
 
 abbrev pub IsQuit : ℕ → Exchange → Type 0
 IsQuit n x = request_form x.line n ≡ Ok Quit

@@ -3,13 +3,18 @@ use Rattle.std.specs.Prelude.{◌≡◌, ◌≤◌, ◌+◌, ℕ, Option, Some, 
 use Rattle.std.specs.Io.KnownBytes.{Appends, Consumes}
 use Rattle.fca_model.specs.Tables.{Text}
 use Rattle.fca_model.specs.Exploration.{SetEntry}
+use Rattle.expert_gate.specs.Desks.{DeskState}
 
--- an end: the bytes left and the bytes held, where it tells them, and its counts of faults
+-- an end: the bytes left and the bytes held, if they are known, and its counts of faults
 pub record Wire : Type 0 where
   pub left : Option Text
   pub held : Option Text
   pub reads : ℕ
   pub writes : ℕ
+
+-- of ends that show what is left and what is held, and their counts of faults
+abbrev pub wire_of : {E : Type 0} → (left held : E → Option Text) (reads writes : E → ℕ) → E → Wire
+wire_of left held reads writes end = record { left = left end; held = held end; reads = reads end; writes = writes end }
 
 -- these bytes were taken, and these were sent
 pub record Moves (a b : Wire) (taken sent : Text) : Type 0 where
@@ -23,17 +28,20 @@ pub record IsQuiet (a b : Wire) : Type 0 where
   pub reads : b.reads ≡ a.reads
   pub writes : b.writes ≡ a.writes
 
--- a desk: its entries, and the turns that are left, where they are counted
+-- a desk: its entries, and the turns that are left, if turns are counted
 pub record Place : Type 0 where
   pub entries : List SetEntry
   pub turns : Option ℕ
 
--- at most k turns were taken, where they are counted
+abbrev pub place_of : DeskState → Place
+place_of desk = record { entries = desk.entries; turns = desk.left }
+
+-- at most k turns were taken, if turns are counted
 abbrev pub TakesAtMost : ℕ → Option ℕ → Option ℕ → Type 0
 TakesAtMost k None new = new ≡ None
 TakesAtMost k (Some turns) new = (left : ℕ) × (new ≡ Some left) × (turns ≤ left + k)
 
--- k turns were taken, where they are counted
+-- k turns were taken, if turns are counted
 abbrev pub Takes : ℕ → Option ℕ → Option ℕ → Type 0
 Takes k None new = new ≡ None
 Takes k (Some turns) new = (left : ℕ) × (new ≡ Some left) × (turns ≡ left + k)

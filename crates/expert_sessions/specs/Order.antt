@@ -10,7 +10,7 @@ use Rattle.fca_io.specs.Faults.{one_more}
 use Rattle.fca_model.specs.Tables.{Text, NamedContext}
 use Rattle.expert_wire.specs.Greetings.{greeting}
 use Rattle.expert_sessions.specs.Lines.{HasNoFeed, Exchange, IsExchange, lines_of, replies_of}
-use Rattle.expert_sessions.specs.Moves.{Wire, Moves}
+use Rattle.expert_sessions.specs.Moves.{Wire, Moves, wire_of}
 
 -- an end before and after one read
 pub record Reading (E : Type 0) : Type 0 where
@@ -20,7 +20,7 @@ pub record Reading (E : Type 0) : Type 0 where
 -- over ends that show what is left and what is held, how often they were read, where they count that, and their counts of faults
 module _ {E : Type 0} (left held : E → Option Text) (calls : E → Option ℕ) (reads writes : E → ℕ) where
   abbrev pub wire : E → Wire
-  wire end = record { left = left end; held = held end; reads = reads end; writes = writes end }
+  wire end = wire_of left held reads writes end
 
   -- from the state a to the state b the end was not read
   pub record ReadsNothing (a b : E) : Type 0 where

@@ -1,4 +1,4 @@
--- Room that is made before the first session, so that none is wanting after the last.
+-- Room that is made before the first session, so that memory cannot run out after the last.
 use Rattle.std.specs.Prelude.{◌≡◌, ◌≤◌, ℕ, [], vec_capacity}
 use Rattle.expert_sessions.specs.declared.serving.Room.{Room}
 

@@ -11,7 +11,7 @@ use Rattle.fca_model.specs.declared.TheConstants.{LINE_BYTES}
 use Rattle.fca_model.specs.declared.Event.TheVariants.{Leave}
 use Rattle.fca_model.specs.Exploration.{SetReply, SetEntry}
 use Rattle.expert_wire.specs.Greetings.{greeting}
-use Rattle.expert_sessions.specs.Lines.{HasNoFeed, Exchange, IsExchange, IsQuit, IsNotQuit, lines_of, replies_of, entries_of, turns_of, before_last}
+use Rattle.expert_sessions.specs.Lines.{HasNoFeed, BeginsWithEvent, Exchange, IsExchange, IsQuit, IsNotQuit, lines_of, replies_of, entries_of, turns_of, before_last}
 use Rattle.expert_sessions.specs.Moves.{Wire, Moves, IsQuiet, Place, Enters}
 use Rattle.expert_sessions.specs.declared.ended.Ended.{Ended}
 use Rattle.expert_sessions.specs.declared.ended.Ended.TheVariants.{Quit, EndOfInput, ReadFault, WriteFault, LongLine, Limit, Spent, Memory}
@@ -63,22 +63,25 @@ LacksLastAnswer t e [] sent = ⊤
 LacksLastAnswer t e (x ∷ xs) sent = (part : Text) × (sent ≡ (greeting t e ++ replies_of t.attributes (before_last (x ∷ xs))) ++ part)
 
 module _ (t : NamedContext) (e lines : ℕ) (a b : Wire) where
-  -- why no further line was served, where turns and memory were not wanting: a call of the end failed only where this is the reason
+  -- why no further line was served, if neither turns nor memory ran out: a call of the end failed only if this is the reason
   abbrev pub Stops : Ended → List Exchange → Text → Text → Text → Type 0
   Stops Quit served rest sent unsent = HasQuit t.context.width served × (unsent ≡ []) × IsQuiet a b
-  Stops EndOfInput served rest sent unsent = GoesOn t.context.width lines served × IsAtEnd b.left × IsPartOfLine rest × (unsent ≡ []) × IsQuiet a b
-  Stops ReadFault served rest sent unsent = GoesOn t.context.width lines served × Rose a.reads b.reads × IsPartOfLine rest × (unsent ≡ []) × (b.writes ≡ a.writes)
+  Stops EndOfInput served rest sent unsent = GoesOn t.context.width lines served × IsAtEnd b.left × IsPartOfLine rest × (unsent ≡ [])
+      × IsQuiet a b
+  Stops ReadFault served rest sent unsent = GoesOn t.context.width lines served × Rose a.reads b.reads × IsPartOfLine rest × (unsent ≡ [])
+      × (b.writes ≡ a.writes)
   Stops LongLine served rest sent unsent = GoesOn t.context.width lines served × IsTooLong rest × (unsent ≡ []) × IsQuiet a b
   Stops Limit served rest sent unsent = All (IsNotQuit t.context.width) served × (length served ≡ lines) × (unsent ≡ []) × IsQuiet a b
   Stops WriteFault served rest sent unsent = Rose a.writes b.writes × LacksLastAnswer t e served sent × (b.reads ≡ a.reads)
   Stops Spent served rest sent unsent = ⊥
   Stops Memory served rest sent unsent = ⊥
 
-  -- why it stopped before the leave: no turn was left for a line, or another reason
+  -- why it stopped before the leave: the next line asks for an event, for which no turn was left; or another reason
   abbrev pub Pauses : List Exchange → Text → Text → Text → Type 0
-  Pauses served rest sent unsent = (GoesOn t.context.width lines served × (unsent ≡ []) × IsQuiet a b) ⊎ ((reason : Ended) × Stops reason served rest sent unsent)
+  Pauses served rest sent unsent = (GoesOn t.context.width lines served × BeginsWithEvent t.context.width e rest × (unsent ≡ [])
+      × IsQuiet a b) ⊎ ((reason : Ended) × Stops reason served rest sent unsent)
 
-  -- the ending: where memory was wanting for the leave, the session stopped for another reason
+  -- the ending: if memory ran out in the leave, the session stopped for another reason
   abbrev pub Ends : Place → Ended → List Exchange → Text → Text → Text → Type 0
   Ends d Spent served rest sent unsent = (d.turns ≡ Some 0) × Pauses served rest sent unsent
   Ends d Memory served rest sent unsent = (reason : Ended) × Stops reason served rest sent unsent
@@ -88,15 +91,16 @@ module _ (t : NamedContext) (e lines : ℕ) (a b : Wire) where
 abbrev pub AndLeaves : ℕ → List SetEntry → List SetEntry → Type 0
 AndLeaves e entries made = (reply : SetReply) × (made ≡ entries ++ record { event = Leave e; reply = reply } ∷ [])
 
--- the entries of the lines in their k turns, and a leave in one turn more: the entry is missing where turns or memory were wanting,
--- and the turn where turns were
+-- the entries of the lines in their k turns, and a leave in one turn more: the entry is missing if turns or memory ran out,
+-- and the turn if turns did
 abbrev pub Makes : ℕ → Ended → List SetEntry → ℕ → List SetEntry → ℕ → Type 0
 Makes e Spent entries k made turns = (made ≡ entries) × (turns ≡ k)
 Makes e Memory entries k made turns = (made ≡ entries) × (turns ≡ k + 1)
 Makes e ended entries k made turns = AndLeaves e entries made × (turns ≡ k + 1)
 
 -- a session that had room for a line
-pub record IsServed (t : NamedContext) (e lines : ℕ) (a b : Wire) (d : Place) (taken : Text) (made : List SetEntry) (turns : ℕ) (sent : Text) (ended : Ended) : Type 0 where
+pub record IsServed (t : NamedContext) (e lines : ℕ) (a b : Wire) (d : Place) (taken : Text) (made : List SetEntry) (turns : ℕ)
+    (sent : Text) (ended : Ended) : Type 0 where
   pub course : Course t e lines taken sent (Rose a.writes b.writes)
   pub entries : Makes e ended (entries_of course.served) (turns_of course.served) made turns
   pub ending : Ends t e lines a b d ended course.served course.rest sent course.unsent
@@ -113,7 +117,8 @@ pub record IsRefused (a b : Wire) (taken : Text) (made : List SetEntry) (turns :
 -- the talk of expert e, who may have this many lines served, over the table and between these two states of the end, which leaves
 -- the desk like d
 abbrev pub Talk : NamedContext → ℕ → ℕ → Wire → Wire → Place → Text → List SetEntry → ℕ → Text → Ended → Type 0
-Talk t e lines a b d taken made turns sent ended = IsRefused a b taken made turns sent ended ⊎ IsServed t e lines a b d taken made turns sent ended
+Talk t e lines a b d taken made turns sent ended = IsRefused a b taken made turns sent ended
+    ⊎ IsServed t e lines a b d taken made turns sent ended
 
 -- what the end lost, what was added to the entries of the desk in how many turns, and what the end gained is a talk
 pub record HasTalked (t : NamedContext) (e lines : ℕ) (a b : Wire) (c d : Place) (ended : Ended) : Type 0 where

@@ -1,4 +1,4 @@
-//! Lines as they are read: the bytes that were read and not served yet.
+//! Reading lines: the bytes that were read and not served yet.
 
 ghost use Rattle.std.specs.Prelude.{◌≡◌, ◌≤◌, ◌<◌, ◌↔◌, ◌+◌, [], IfOk, IfErr, OnOk, OnErr, IsTrue, MatchOption, length, take, drop};
 ghost use Rattle.std.specs.Io.KnownBytes.{IsAtEnd};
@@ -6,7 +6,7 @@ ghost use Rattle.std.specs.Option.{option_map};
 ghost use Rattle.fca_io.specs.Faults.{Rose, one_more};
 ghost use Rattle.fca_model.specs.declared.TheConstants.{LINE_BYTES};
 ghost use Rattle.expert_sessions.specs.Lines.{HasNoFeed};
-ghost use Rattle.expert_sessions.specs.Moves.{Wire};
+ghost use Rattle.expert_sessions.specs.Moves.{wire_of};
 ghost use Rattle.expert_sessions.specs.Courses.{Reads, HasFeedAt, LacksLine};
 ghost use Rattle.expert_sessions.specs.Order.{ReadsForLine};
 
@@ -16,7 +16,7 @@ use fca_model::{LINE_BYTES, Memory};
 use std::alloc::Global;
 use std::marker::Model;
 
-/// As many bytes as a line may have, and a line feed.
+/// The most bytes of a line, with its line feed.
 const MOST: usize = LINE_BYTES + 1;
 
 /// The bytes that were read ahead.
@@ -37,6 +37,7 @@ impl Model for Ahead {
 }
 
 impl Ahead {
+    /// Room for one line, with nothing read.
     pub(crate) fn new(alloc: Global) -> Result<Ahead, Memory>
         ensures { IfOk result (λ ahead. ahead ≡ []) }
     {
@@ -45,19 +46,19 @@ impl Ahead {
         })
     }
 
-    /// Reads until there is a whole line, and answers where its line feed stands.
+    /// Reads until there is a whole line, and gives the place of its line feed.
     pub(crate) fn read_line<E: Duplex>(&mut self, end: &mut E) -> Result<usize, Ended>
         ensures read { Reads
-            (record { left = E.Source.left end.old; held = E.Sink.held end.old; reads = E.Source.faults end.old; writes = E.Sink.faults end.old })
-            (record { left = E.Source.left end.new; held = E.Sink.held end.new; reads = E.Source.faults end.new; writes = E.Sink.faults end.new })
+            (wire_of E.Source.left E.Sink.held E.Source.faults E.Sink.faults end.old)
+            (wire_of E.Source.left E.Sink.held E.Source.faults E.Sink.faults end.new)
             self.old self.new }
         ensures order { ReadsForLine E.Source.left E.Sink.held E.Source.reads E.Source.faults E.Sink.faults self.old end.old end.new }
         ensures line { IfOk result (HasFeedAt self.new) }
         ensures quiet { OnOk result (E.Source.faults end.new ≡ E.Source.faults end.old) }
         ensures short { IfOk result (λ at. at ≤ LINE_BYTES) }
         ensures none { IfErr result (LacksLine
-            (record { left = E.Source.left end.old; held = E.Sink.held end.old; reads = E.Source.faults end.old; writes = E.Sink.faults end.old })
-            (record { left = E.Source.left end.new; held = E.Sink.held end.new; reads = E.Source.faults end.new; writes = E.Sink.faults end.new })
+            (wire_of E.Source.left E.Sink.held E.Source.faults E.Sink.faults end.old)
+            (wire_of E.Source.left E.Sink.held E.Source.faults E.Sink.faults end.new)
             self.new) }
     {
         loop {
@@ -75,7 +76,7 @@ impl Ahead {
         }
     }
 
-    /// The first bytes, up to this place.
+    /// The bytes before this place.
     pub(crate) fn line(&self, at: usize) -> &[u8]
         requires { at ≤ length self.now }
         ensures { result.now ≡ take at self.now }
@@ -83,7 +84,7 @@ impl Ahead {
         &self.bytes[..at]
     }
 
-    /// Forgets the first bytes.
+    /// Forgets so many bytes at the front.
     pub(crate) fn forget(&mut self, count: usize)
         requires { count ≤ length self.old }
         ensures { self.new ≡ drop count self.old }
@@ -93,14 +94,15 @@ impl Ahead {
         self.bytes.truncate(left);
     }
 
-    /// Where the first line feed stands.
+    /// The place of the first line feed.
     fn feed(&self) -> Option<usize>
         ensures place { MatchOption result (HasNoFeed self.now) (HasFeedAt self.now) }
         ensures few { length self.now ≤ LINE_BYTES + 1 }
     {
-        feed_in(&self.bytes)
+        first_feed(&self.bytes)
     }
 
+    /// Whether there is no room for another byte.
     fn is_full(&self) -> bool
         ensures full { IsTrue result ↔ (length self.now ≡ LINE_BYTES + 1) }
         ensures few { length self.now ≤ LINE_BYTES + 1 }
@@ -108,12 +110,12 @@ impl Ahead {
         self.bytes.len() == MOST
     }
 
-    /// Reads once, and answers how many bytes: none at the end alone.
+    /// Reads once, and gives the number of bytes that came. It is 0 only at the end of the input.
     fn read<E: Duplex>(&mut self, end: &mut E) -> Result<usize, Failed>
         requires room { length self.old ≤ LINE_BYTES }
         ensures read { Reads
-            (record { left = E.Source.left end.old; held = E.Sink.held end.old; reads = E.Source.faults end.old; writes = E.Sink.faults end.old })
-            (record { left = E.Source.left end.new; held = E.Sink.held end.new; reads = E.Source.faults end.new; writes = E.Sink.faults end.new })
+            (wire_of E.Source.left E.Sink.held E.Source.faults E.Sink.faults end.old)
+            (wire_of E.Source.left E.Sink.held E.Source.faults E.Sink.faults end.new)
             self.old self.new }
         ensures counted { E.Source.reads end.new ≡ option_map one_more (E.Source.reads end.old) }
         ensures count { IfOk result (λ count. length self.new ≡ length self.old + count) }
@@ -131,8 +133,8 @@ impl Ahead {
     }
 }
 
-/// Where the first line feed stands.
-fn feed_in(bytes: &[u8]) -> Option<usize>
+/// The place of the first line feed.
+fn first_feed(bytes: &[u8]) -> Option<usize>
     ensures { MatchOption result (HasNoFeed bytes.now) (HasFeedAt bytes.now) }
 {
     for (at, byte) in bytes.iter().enumerate() {

@@ -1,11 +1,11 @@
 //! The answer to one line.
 
-ghost use Rattle.std.specs.Prelude.{◌≡◌, ◌≤◌, ℕ, Some, [], List, IfOk, IfErr};
-ghost use Rattle.fca_model.specs.declared.TheConstants.{MAX_ATTRIBUTES};
-ghost use Rattle.fca_model.specs.Exploration.{SetEntry};
+ghost use Rattle.std.specs.Prelude.{◌≡◌, ℕ, Some, [], List, IfOk, IfErr};
+ghost use Rattle.fca_model.specs.Exploration.{SetEvent, SetEntry};
 ghost use Rattle.expert_wire.specs.Requests.{request_form};
-ghost use Rattle.expert_sessions.specs.Lines.{Answers};
-ghost use Rattle.expert_sessions.specs.Moves.{Place, Enters};
+ghost use Rattle.expert_gate.specs.Desks.{Works};
+ghost use Rattle.expert_sessions.specs.Lines.{Asks, Answers};
+ghost use Rattle.expert_sessions.specs.Moves.{Enters, place_of};
 ghost use Rattle.expert_sessions.specs.Courses.{said_of};
 
 use crate::ended::Ended;
@@ -25,17 +25,20 @@ pub(crate) fn answer<D: Desk>(
     line: &[u8],
 ) -> Result<Said, Ended>
     requires { D.attributes desk.old ≡ table.now.context.width }
-    ensures same { (D.number desk.new ≡ D.number desk.old) × (D.lock desk.new ≡ D.lock desk.old) × (D.place desk.new ≡ D.place desk.old) × (D.attributes desk.new ≡ D.attributes desk.old) }
-    ensures answered { IfOk result (λ said. (made : List SetEntry) × (turns : ℕ) × Answers (D.number desk.old) (request_form line.now table.now.context.width) said made turns × Enters
-        (record { entries = D.entries desk.old; turns = D.left desk.old }) (record { entries = D.entries desk.new; turns = D.left desk.new }) made turns) }
-    ensures spent { IfErr result (λ ended. (ended ≡ Ended.Spent) × (D.left desk.new ≡ Some 0) × Enters
-        (record { entries = D.entries desk.old; turns = D.left desk.old }) (record { entries = D.entries desk.new; turns = D.left desk.new }) [] 0) }
+    ensures desk { Works (D.state desk.old) (D.state desk.new) }
+    ensures width { D.attributes desk.new ≡ D.attributes desk.old }
+    ensures answered { IfOk result (λ said. (made : List SetEntry) × (turns : ℕ)
+        × Answers (D.state desk.old).number (request_form line.now table.now.context.width) said made turns
+        × Enters (place_of (D.state desk.old)) (place_of (D.state desk.new)) made turns) }
+    ensures spent { IfErr result (λ ended. (ended ≡ Ended.Spent) × ((D.state desk.new).left ≡ Some 0)
+        × Enters (place_of (D.state desk.old)) (place_of (D.state desk.new)) [] 0
+        × (event : SetEvent) × Asks (D.state desk.old).number (request_form line.now table.now.context.width) event) }
 {
     match read_request(alloc, line, table.rows().width()) {
-        Ok(Request::Draw) => said(desk.draw()),
-        Ok(Request::Confirm) => said(desk.confirm()),
-        Ok(Request::Row { name, row }) => said(desk.row(name, row)),
-        Ok(Request::Leave) => said(desk.leave()),
+        Ok(Request::Draw) => outcome(desk.draw()),
+        Ok(Request::Confirm) => outcome(desk.confirm()),
+        Ok(Request::Row { name, row }) => outcome(desk.row(name, row)),
+        Ok(Request::Leave) => outcome(desk.leave()),
         Ok(Request::Quit) => Ok(Said::Bye),
         Err(RequestFault::Line) => Ok(Said::BadLine),
         Err(RequestFault::Width) => Ok(Said::BadWidth),
@@ -43,8 +46,8 @@ pub(crate) fn answer<D: Desk>(
     }
 }
 
-/// What is said of a turn.
-fn said(turn: Result<Reply, TurnFault>) -> Result<Said, Ended>
+/// The answer that a turn comes to, or that no turn was left.
+fn outcome(turn: Result<Reply, TurnFault>) -> Result<Said, Ended>
     ensures { result ≡ said_of turn }
 {
     match turn {

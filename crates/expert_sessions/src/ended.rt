@@ -5,16 +5,18 @@
 pub enum Ended {
     /// The line `quit` was read and answered.
     Quit,
-    /// No byte was left, and no whole line was read that was not served.
+    /// The input ended, and each whole line was served.
     EndOfInput,
+    /// A read failed.
     ReadFault,
+    /// A write failed.
     WriteFault,
-    /// More bytes came than a line may have, without a line feed among them.
+    /// More bytes came without a line feed than a line may have.
     LongLine,
-    /// As many lines were served as may be.
+    /// The last line that the session may have was served.
     Limit,
-    /// The expert has no turn left.
+    /// A line asked for an event, or the session for its last leave, and the expert had no turn left.
     Spent,
-    /// There was no memory for the buffer of lines or for the last leave.
+    /// Memory ran out for the buffer of lines or for the last leave.
     Memory,
 }

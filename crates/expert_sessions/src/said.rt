@@ -1,11 +1,11 @@
-//! What a line is answered.
+//! The answers to lines.
 
 ghost use Rattle.std.specs.Prelude.{◌≡◌, ◌≤◌, OnOk, OnErr};
 ghost use Rattle.std.specs.Io.KnownBytes.{Appends, Keeps};
 ghost use Rattle.fca_io.specs.Faults.{Rose};
 ghost use Rattle.fca_io.specs.Transfers.{AppendsFront};
 ghost use Rattle.expert_sessions.specs.Lines.{said_line};
-ghost use Rattle.expert_sessions.specs.Moves.{Wire};
+ghost use Rattle.expert_sessions.specs.Moves.{wire_of};
 ghost use Rattle.expert_sessions.specs.Courses.{Writes};
 ghost use Rattle.expert_wire.specs.Greetings.{greeting};
 ghost use Rattle.expert_wire.specs.Replies.{reply_line};
@@ -32,17 +32,19 @@ pub enum Said {
     Replied(Reply),
     /// The line was `quit`.
     Bye,
+    /// The line is no request.
     BadLine,
+    /// The row of the line is too long or too short.
     BadWidth,
-    /// There was no memory for the request or for its turn.
+    /// Memory ran out for the request or for its turn.
     NoMemory,
 }
 
 /// Greets the expert.
 pub(crate) fn greet<E: Duplex>(end: &mut E, table: &Table, expert: u8) -> Result<(), Put>
     ensures written { Writes
-        (record { left = E.Source.left end.old; held = E.Sink.held end.old; reads = E.Source.faults end.old; writes = E.Sink.faults end.old })
-        (record { left = E.Source.left end.new; held = E.Sink.held end.new; reads = E.Source.faults end.new; writes = E.Sink.faults end.new })
+        (wire_of E.Source.left E.Sink.held E.Source.faults E.Sink.faults end.old)
+        (wire_of E.Source.left E.Sink.held E.Source.faults E.Sink.faults end.new)
         (greeting table.now expert) result }
     ensures unread { E.Source.reads end.new ≡ E.Source.reads end.old }
 {
@@ -57,8 +59,8 @@ pub(crate) fn write_said<E: Duplex>(
     said: &Said,
 ) -> Result<(), Put>
     ensures written { Writes
-        (record { left = E.Source.left end.old; held = E.Sink.held end.old; reads = E.Source.faults end.old; writes = E.Sink.faults end.old })
-        (record { left = E.Source.left end.new; held = E.Sink.held end.new; reads = E.Source.faults end.new; writes = E.Sink.faults end.new })
+        (wire_of E.Source.left E.Sink.held E.Source.faults E.Sink.faults end.old)
+        (wire_of E.Source.left E.Sink.held E.Source.faults E.Sink.faults end.new)
         (said_line table.now.attributes said.now) result }
     ensures unread { E.Source.reads end.new ≡ E.Source.reads end.old }
 {
@@ -74,15 +76,16 @@ pub(crate) fn write_said<E: Duplex>(
 /// Writes the whole line.
 fn write_line<E: Duplex>(end: &mut E, line: &str) -> Result<(), Put>
     ensures written { Writes
-        (record { left = E.Source.left end.old; held = E.Sink.held end.old; reads = E.Source.faults end.old; writes = E.Sink.faults end.old })
-        (record { left = E.Source.left end.new; held = E.Sink.held end.new; reads = E.Source.faults end.new; writes = E.Sink.faults end.new })
+        (wire_of E.Source.left E.Sink.held E.Source.faults E.Sink.faults end.old)
+        (wire_of E.Source.left E.Sink.held E.Source.faults E.Sink.faults end.new)
         line.now result }
     ensures unread { E.Source.reads end.new ≡ E.Source.reads end.old }
 {
     write_text(end, line.as_bytes())
 }
 
-/// Writes the line of the reply: whole where there is memory for it, so that an end sends it in one piece, and else part by part.
+/// Writes the line of the reply. If there is memory for the line it is written whole, so that an end sends it in one piece, and else
+/// part by part.
 fn write_at_once<K: Sink>(
     alloc: Global,
     sink: &mut K,

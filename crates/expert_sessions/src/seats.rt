@@ -2,11 +2,13 @@
 
 ghost use Rattle.std.specs.Prelude.{◌≡◌, ◌≤◌, ◌<◌, ◌+◌, [], All, map, vec_len, vec_capacity};
 ghost use Rattle.std.specs.Thread.{IsSync};
+ghost use Rattle.fca_model.specs.declared.TheConstants.{MAX_LINES};
 ghost use Rattle.turn_lock.specs.Passes.{Belongs, IsFresh, badge};
-ghost use Rattle.expert_sessions.specs.Moves.{Wire, Place};
+ghost use Rattle.expert_sessions.specs.Moves.{wire_of};
 ghost use Rattle.expert_sessions.specs.Order.{ReadsInTurn};
 ghost use Rattle.expert_sessions.specs.Talks.{HasTalked};
-ghost use Rattle.expert_sessions.specs.Serving.{IsReady, EachSeat, HasSat, entered};
+ghost use Rattle.expert_gate.specs.Seats.{EachSeat};
+ghost use Rattle.expert_sessions.specs.Serving.{IsReady, Suits, HasSat, entered};
 
 use crate::ended::Ended;
 use crate::talk::session;
@@ -26,18 +28,18 @@ pub struct Seat<E> {
     pub(crate) ended: Ended,
 }
 
-/// What all sessions are held to: the table that they speak of, how many lines each may have, and how many processors a
-/// turn may use, since all others wait for it.
+/// The terms of all sessions: the table, the most lines of each session, and the most processors of a turn, which all other sessions
+/// wait for.
 #[derive(Drop)]
 pub(crate) struct Terms {
     pub(crate) table: Table,
     pub(crate) lines: u32,
     pub(crate) processors: u32,
     pub(crate) ghost some: { 1 ≤ lines },
-    pub(crate) ghost few: { lines ≤ 1000000 },
+    pub(crate) ghost few: { lines ≤ MAX_LINES },
 }
 
-/// Every seat's session.
+/// Runs the session of each seat.
 pub(crate) fn run_seats<R: Threads + Wait + Sync, E: Duplex + Send>(
     rt: &R,
     alloc: Global,
@@ -46,14 +48,14 @@ pub(crate) fn run_seats<R: Threads + Wait + Sync, E: Duplex + Send>(
     seats: &mut Vec<Seat<E>>,
 )
     requires ready { All (IsReady gate.now) seats.old.items }
-    requires width { gate.now.base.table.context.width ≡ terms.now.table.context.width }
-    requires turns { terms.now.lines + 1 < gate.now.turns }
-    ensures { EachSeat (HasSat E.Source.left E.Sink.held E.Source.reads E.Source.faults E.Sink.faults terms.now.table terms.now.lines) seats.old.items seats.new.items }
+    requires terms { Suits gate.now terms.now.table terms.now.lines }
+    ensures { EachSeat (HasSat E.Source.left E.Sink.held E.Source.reads E.Source.faults E.Sink.faults terms.now.table terms.now.lines)
+        seats.old.items seats.new.items }
 {
     run_halves(rt, &alloc, gate, terms, seats.as_mut_slice())
 }
 
-/// The seats in halves. The allocator is lent, since what threads write would be lost if they held it.
+/// Runs the seats in halves. The allocator is lent: if the threads held it, what they write would be lost.
 fn run_halves<R: Threads + Wait + Sync, E: Duplex + Send>(
     rt: &R,
     alloc: &Global,
@@ -62,9 +64,9 @@ fn run_halves<R: Threads + Wait + Sync, E: Duplex + Send>(
     seats: &mut [Seat<E>],
 )
     requires ready { All (IsReady gate.now) seats.old }
-    requires width { gate.now.base.table.context.width ≡ terms.now.table.context.width }
-    requires turns { terms.now.lines + 1 < gate.now.turns }
-    ensures { EachSeat (HasSat E.Source.left E.Sink.held E.Source.reads E.Source.faults E.Sink.faults terms.now.table terms.now.lines) seats.old seats.new }
+    requires terms { Suits gate.now terms.now.table terms.now.lines }
+    ensures { EachSeat (HasSat E.Source.left E.Sink.held E.Source.reads E.Source.faults E.Sink.faults terms.now.table terms.now.lines)
+        seats.old seats.new }
 {
     if seats.len() == 0 {
         return;
@@ -77,17 +79,19 @@ fn run_halves<R: Threads + Wait + Sync, E: Duplex + Send>(
     join_mut(
         rt,
         &mut ||
-            requires { IsSync R.row × All (IsReady gate.now) front.now × (gate.now.base.table.context.width ≡ terms.now.table.context.width) × (terms.now.lines + 1 < gate.now.turns) }
-            ensures { EachSeat (HasSat E.Source.left E.Sink.held E.Source.reads E.Source.faults E.Sink.faults terms.entry.now.table terms.entry.now.lines) front.entry.now front.exit.now }
+            requires { IsSync R.row × All (IsReady gate.now) front.now × Suits gate.now terms.now.table terms.now.lines }
+            ensures { EachSeat (HasSat E.Source.left E.Sink.held E.Source.reads E.Source.faults E.Sink.faults terms.entry.now.table terms.entry.now.lines)
+                front.entry.now front.exit.now }
         { run_halves(rt, alloc, gate, terms, front) },
         &mut ||
-            requires { IsSync R.row × All (IsReady gate.now) back.now × (gate.now.base.table.context.width ≡ terms.now.table.context.width) × (terms.now.lines + 1 < gate.now.turns) }
-            ensures { EachSeat (HasSat E.Source.left E.Sink.held E.Source.reads E.Source.faults E.Sink.faults terms.entry.now.table terms.entry.now.lines) back.entry.now back.exit.now }
+            requires { IsSync R.row × All (IsReady gate.now) back.now × Suits gate.now terms.now.table terms.now.lines }
+            ensures { EachSeat (HasSat E.Source.left E.Sink.held E.Source.reads E.Source.faults E.Sink.faults terms.entry.now.table terms.entry.now.lines)
+                back.entry.now back.exit.now }
         { run_halves(rt, alloc, gate, terms, back) },
     );
 }
 
-/// One seat's session.
+/// Runs the session of one seat.
 fn run_seat<R: Threads + Wait + Sync, E: Duplex>(
     rt: &R,
     alloc: Global,
@@ -96,9 +100,9 @@ fn run_seat<R: Threads + Wait + Sync, E: Duplex>(
     seat: &mut Seat<E>,
 )
     requires ready { IsReady gate.now seat.old }
-    requires width { gate.now.base.table.context.width ≡ terms.now.table.context.width }
-    requires turns { terms.now.lines + 1 < gate.now.turns }
-    ensures { HasSat E.Source.left E.Sink.held E.Source.reads E.Source.faults E.Sink.faults terms.now.table terms.now.lines seat.old seat.new }
+    requires terms { Suits gate.now terms.now.table terms.now.lines }
+    ensures { HasSat E.Source.left E.Sink.held E.Source.reads E.Source.faults E.Sink.faults terms.now.table terms.now.lines
+        seat.old seat.new }
 {
     seat.ended = serve_one(rt, alloc, gate, terms, &mut seat.pass, &mut seat.end);
 }
@@ -114,14 +118,14 @@ fn serve_one<R: Threads + Wait + Sync, E: Duplex>(
 ) -> Ended
     requires lock { Belongs gate.now pass.old }
     requires fresh { IsFresh pass.old }
-    requires width { gate.now.base.table.context.width ≡ terms.now.table.context.width }
-    requires turns { terms.now.lines + 1 < gate.now.turns }
+    requires terms { Suits gate.now terms.now.table terms.now.lines }
     ensures same { badge pass.new ≡ badge pass.old }
     ensures talk { HasTalked terms.now.table pass.new.number terms.now.lines
-        (record { left = E.Source.left end.old; held = E.Sink.held end.old; reads = E.Source.faults end.old; writes = E.Sink.faults end.old })
-        (record { left = E.Source.left end.new; held = E.Sink.held end.new; reads = E.Source.faults end.new; writes = E.Sink.faults end.new })
+        (wire_of E.Source.left E.Sink.held E.Source.faults E.Sink.faults end.old)
+        (wire_of E.Source.left E.Sink.held E.Source.faults E.Sink.faults end.new)
         (entered []) (entered pass.new.own) result }
-    ensures order { ReadsInTurn E.Source.left E.Sink.held E.Source.reads E.Source.faults E.Sink.faults terms.now.table pass.new.number end.old end.new }
+    ensures order { ReadsInTurn E.Source.left E.Sink.held E.Source.reads E.Source.faults E.Sink.faults
+        terms.now.table pass.new.number end.old end.new }
 {
     let expert = pass.number();
     let search = SideBySide {
@@ -137,8 +141,8 @@ fn serve_one<R: Threads + Wait + Sync, E: Duplex>(
     session(alloc, &mut desk, &terms.table, expert, end, terms.lines)
 }
 
-/// A seat for each pass, with the end in the same place, in a list that has room for them.
-pub(crate) fn seated<E: Drop>(
+/// Makes a seat for each pass, with the end at the same place of its list. The list of seats has room for them.
+pub(crate) fn fill_seats<E: Drop>(
     mut seats: Vec<Seat<E>>,
     passes: Vec<ExpertPass>,
     ends: Vec<E>,
@@ -163,15 +167,16 @@ pub(crate) fn seated<E: Drop>(
     seats
 }
 
-/// What the seats hold, in lists that have room for it.
-pub(crate) fn risen<E: Drop>(
+/// Puts what the seats hold into lists that have room for it.
+pub(crate) fn split_seats<E: Drop>(
     seats: Vec<Seat<E>>,
     mut passes: Vec<ExpertPass>,
     mut ends: Vec<E>,
     mut endings: Vec<Ended>,
 ) -> (Vec<ExpertPass>, Vec<E>, Vec<Ended>)
     requires empty { (passes.items ≡ []) × (ends.items ≡ []) × (endings.items ≡ []) }
-    requires room { (vec_len seats ≤ vec_capacity passes) × (vec_len seats ≤ vec_capacity ends) × (vec_len seats ≤ vec_capacity endings) }
+    requires room { (vec_len seats ≤ vec_capacity passes)
+        × (vec_len seats ≤ vec_capacity ends) × (vec_len seats ≤ vec_capacity endings) }
     ensures passes { result.0.items ≡ map (λ seat. seat.pass) seats.items }
     ensures ends { result.1.items ≡ map (λ seat. seat.end) seats.items }
     ensures endings { result.2.items ≡ map (λ seat. seat.ended) seats.items }

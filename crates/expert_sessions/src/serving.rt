@@ -1,6 +1,7 @@
 //! Many sessions at once: one expert for each end, all at one gate.
 
-ghost use Rattle.std.specs.Prelude.{◌≡◌, ◌≤◌, ◌<◌, ◌+◌, ◌^◌, ◌⊎◌, ℕ, [], All, IfOk, IfErr, map, length, vec_len, vec_capacity};
+ghost use Rattle.std.specs.Prelude.{◌≡◌, ◌≤◌, ◌<◌, ◌+◌, ◌⊎◌, ℕ, [], All, IfOk, IfErr, map, vec_len};
+ghost use Rattle.fca_model.specs.declared.TheConstants.{MAX_LINES, MAX_TURNS};
 ghost use Rattle.fca_model.specs.Exploration.{own};
 ghost use Rattle.turn_lock.specs.Passes.{badge, roll, IsFresh};
 ghost use Rattle.expert_gate.specs.Histories.{IsHistory};
@@ -8,7 +9,7 @@ ghost use Rattle.expert_sessions.specs.Serving.{EachTalks};
 ghost use Rattle.expert_sessions.specs.Rooms.{IsEmpty, HasRoom};
 
 use crate::ended::Ended;
-use crate::seats::{Seat, Terms, risen, run_seats, seated};
+use crate::seats::{Seat, Terms, fill_seats, run_seats, split_seats};
 use expert_gate::{ExpertPass, Gate};
 use explore_state::Explore;
 use fca_io::Duplex;
@@ -20,6 +21,7 @@ use std::thread::Threads;
 /// An exploration by sessions, once all have ended.
 #[derive(Drop)]
 pub struct Served<E> {
+    /// The exploration, with its journal.
     pub explore: Explore,
     /// The ends, in the order of their experts.
     pub ends: Vec<E>,
@@ -27,15 +29,15 @@ pub struct Served<E> {
     pub endings: Vec<Ended>,
 }
 
-/// There was no memory to begin, and no session took place.
+/// Memory ran out before the first session.
 #[derive(Drop)]
 pub struct Unserved<E> {
     /// The ends as they were.
     pub ends: Vec<E>,
 }
 
-/// Lets experts go through an exploration in which nothing was done yet: expert k works over the k-th end, at most `lines` lines
-/// are answered there, and each expert may make `turns` turns.
+/// Lets experts go through an exploration in which nothing was done yet. Expert k works over the k-th end. At most `lines` lines are
+/// answered there, and each expert may make `turns` turns.
 pub fn serve_ends<R: Threads + Wait + Sync, E: Duplex + Send + Drop>(
     rt: &R,
     alloc: Global,
@@ -46,8 +48,8 @@ pub fn serve_ends<R: Threads + Wait + Sync, E: Duplex + Send + Drop>(
 ) -> Result<Served<E>, Unserved<E>>
     requires new { explore.journal ≡ [] }
     requires ends { explore.opening.experts ≡ vec_len ends }
-    requires lines { (1 ≤ lines) × (lines ≤ 1000000) }
-    requires turns { (lines + 1 < turns) × (turns ≤ 2 ^ 48) }
+    requires lines { (1 ≤ lines) × (lines ≤ MAX_LINES) }
+    requires turns { (lines + 1 < turns) × (turns ≤ MAX_TURNS) }
     ensures opening { IfOk result (λ r. r.explore.opening ≡ explore.opening) }
     ensures history { IfOk result (λ r. IsHistory r.explore.opening r.explore.journal) }
     ensures talks { IfOk result (λ r. EachTalks E.Source.left E.Sink.held E.Source.reads E.Source.faults E.Sink.faults explore.opening.table lines
@@ -64,9 +66,9 @@ pub fn serve_ends<R: Threads + Wait + Sync, E: Duplex + Send + Drop>(
         passes,
         room,
     } = hall;
-    let mut seats = seated(room.seats, passes, ends);
+    let mut seats = fill_seats(room.seats, passes, ends);
     run_seats(rt, alloc, &gate, &terms, &mut seats);
-    let (passes, ends, endings) = risen(seats, room.passes, room.ends, room.endings);
+    let (passes, ends, endings) = split_seats(seats, room.passes, room.ends, room.endings);
     Ok(Served {
         explore: gate.close(passes),
         ends,
@@ -74,7 +76,7 @@ pub fn serve_ends<R: Threads + Wait + Sync, E: Duplex + Send + Drop>(
     })
 }
 
-/// Room for what so many seats hold.
+/// Room for the seats and for what they hold.
 #[derive(Drop)]
 struct Room<E> {
     seats: Vec<Seat<E>>,
@@ -99,8 +101,8 @@ fn open_hall<E: Drop>(
     turns: u64,
 ) -> Result<Hall<E>, Memory>
     requires new { explore.journal ≡ [] }
-    requires lines { (1 ≤ lines) × (lines ≤ 1000000) }
-    requires turns { (1 ≤ turns) × (turns ≤ 2 ^ 48) }
+    requires lines { (1 ≤ lines) × (lines ≤ MAX_LINES) }
+    requires turns { (1 ≤ turns) × (turns ≤ MAX_TURNS) }
     ensures terms { IfOk result (λ h. (h.terms.table ≡ explore.opening.table) × (h.terms.lines ≡ lines)) }
     ensures base { IfOk result (λ h. h.gate.base ≡ explore.opening) }
     ensures counts { IfOk result (λ h. (h.gate.turns ≡ turns) × (h.gate.passes ≡ explore.opening.experts)) }
@@ -110,7 +112,7 @@ fn open_hall<E: Drop>(
     ensures empty { IfOk result (λ h. IsEmpty h.room) }
     ensures room { IfOk result (λ h. HasRoom explore.opening.experts h.room) }
 {
-    let Ok((terms, room)) = prepared(alloc, &explore, lines) else {
+    let Ok((terms, room)) = prepare(alloc, &explore, lines) else {
         drop(explore);
         return Err(Memory);
     };
@@ -123,13 +125,13 @@ fn open_hall<E: Drop>(
     })
 }
 
-/// What the sessions over the exploration are held to, and room for its experts.
-fn prepared<E: Drop>(
+/// The terms of the sessions over the exploration, and room for its experts.
+fn prepare<E: Drop>(
     alloc: Global,
     explore: &Explore,
     lines: u32,
 ) -> Result<(Terms, Room<E>), Memory>
-    requires lines { (1 ≤ lines) × (lines ≤ 1000000) }
+    requires lines { (1 ≤ lines) × (lines ≤ MAX_LINES) }
     ensures terms { IfOk result (λ r. (r.0.table ≡ explore.now.opening.table) × (r.0.lines ≡ lines)) }
     ensures empty { IfOk result (λ r. IsEmpty r.1) }
     ensures room { IfOk result (λ r. HasRoom explore.now.opening.experts r.1) }
@@ -145,6 +147,7 @@ fn prepared<E: Drop>(
     Ok((terms, room))
 }
 
+/// Room for so many seats.
 fn make_room<E: Drop>(alloc: Global, count: usize) -> Result<Room<E>, Memory>
     ensures empty { IfOk result IsEmpty }
     ensures room { IfOk result (HasRoom count) }

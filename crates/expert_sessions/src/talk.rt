@@ -1,8 +1,9 @@
 //! The session of one expert.
 
-ghost use Rattle.std.specs.Prelude.{◌≡◌, ◌≤◌, ◌+◌, [], Some, OnOk, IfErr};
-ghost use Rattle.fca_model.specs.declared.TheConstants.{MAX_ATTRIBUTES};
-ghost use Rattle.expert_sessions.specs.Moves.{Wire, Place, TakesAtMost};
+ghost use Rattle.std.specs.Prelude.{◌≡◌, ◌≤◌, ◌+◌, [], OnOk, IfErr};
+ghost use Rattle.fca_model.specs.declared.TheConstants.{MAX_LINES};
+ghost use Rattle.expert_gate.specs.Desks.{Works};
+ghost use Rattle.expert_sessions.specs.Moves.{TakesAtMost, wire_of, place_of};
 ghost use Rattle.expert_sessions.specs.Talks.{HasTalked};
 ghost use Rattle.expert_sessions.specs.Courses.{Serves, Halts, HasServed};
 ghost use Rattle.expert_sessions.specs.Order.{ReadsForLine, ReadsInTurn};
@@ -26,16 +27,17 @@ pub fn session<D: Desk, E: Duplex>(
     end: &mut E,
     lines: u32,
 ) -> Ended
-    requires expert { expert ≡ D.number desk.old }
+    requires expert { expert ≡ (D.state desk.old).number }
     requires width { D.attributes desk.old ≡ table.now.context.width }
-    requires lines { (1 ≤ lines) × (lines ≤ 1000000) }
+    requires lines { (1 ≤ lines) × (lines ≤ MAX_LINES) }
     ensures talk { HasTalked table.now expert lines
-        (record { left = E.Source.left end.old; held = E.Sink.held end.old; reads = E.Source.faults end.old; writes = E.Sink.faults end.old })
-        (record { left = E.Source.left end.new; held = E.Sink.held end.new; reads = E.Source.faults end.new; writes = E.Sink.faults end.new })
-        (record { entries = D.entries desk.old; turns = D.left desk.old }) (record { entries = D.entries desk.new; turns = D.left desk.new }) result }
+        (wire_of E.Source.left E.Sink.held E.Source.faults E.Sink.faults end.old)
+        (wire_of E.Source.left E.Sink.held E.Source.faults E.Sink.faults end.new)
+        (place_of (D.state desk.old)) (place_of (D.state desk.new)) result }
     ensures order { ReadsInTurn E.Source.left E.Sink.held E.Source.reads E.Source.faults E.Sink.faults table.now expert end.old end.new }
-    ensures turns { TakesAtMost (lines + 1) (D.left desk.old) (D.left desk.new) }
-    ensures same { (D.number desk.new ≡ D.number desk.old) × (D.lock desk.new ≡ D.lock desk.old) × (D.place desk.new ≡ D.place desk.old) × (D.attributes desk.new ≡ D.attributes desk.old) }
+    ensures turns { TakesAtMost (lines + 1) (D.state desk.old).left (D.state desk.new).left }
+    ensures desk { Works (D.state desk.old) (D.state desk.new) }
+    ensures width { D.attributes desk.new ≡ D.attributes desk.old }
 {
     let Ok(mut ahead) = Ahead::new(alloc) else {
         return Ended::Memory;
@@ -61,14 +63,15 @@ fn serve_lines<D: Desk, E: Duplex>(
     lines: u32,
 ) -> Ended
     requires none { ahead.old ≡ [] }
-    requires expert { expert ≡ D.number desk.old }
+    requires expert { expert ≡ (D.state desk.old).number }
     requires width { D.attributes desk.old ≡ table.now.context.width }
     ensures served { HasServed table.now expert lines
-        (record { left = E.Source.left end.old; held = E.Sink.held end.old; reads = E.Source.faults end.old; writes = E.Sink.faults end.old })
-        (record { left = E.Source.left end.new; held = E.Sink.held end.new; reads = E.Source.faults end.new; writes = E.Sink.faults end.new })
-        (record { entries = D.entries desk.old; turns = D.left desk.old }) (record { entries = D.entries desk.new; turns = D.left desk.new }) result }
+        (wire_of E.Source.left E.Sink.held E.Source.faults E.Sink.faults end.old)
+        (wire_of E.Source.left E.Sink.held E.Source.faults E.Sink.faults end.new)
+        (place_of (D.state desk.old)) (place_of (D.state desk.new)) result }
     ensures order { ReadsInTurn E.Source.left E.Sink.held E.Source.reads E.Source.faults E.Sink.faults table.now expert end.old end.new }
-    ensures same { (D.number desk.new ≡ D.number desk.old) × (D.lock desk.new ≡ D.lock desk.old) × (D.place desk.new ≡ D.place desk.old) × (D.attributes desk.new ≡ D.attributes desk.old) }
+    ensures desk { Works (D.state desk.old) (D.state desk.new) }
+    ensures width { D.attributes desk.new ≡ D.attributes desk.old }
 {
     if greet(end, table, expert).is_err() {
         return Ended::WriteFault;
@@ -90,18 +93,19 @@ fn serve_line<D: Desk, E: Duplex>(
     ahead: &mut Ahead,
 ) -> Result<(), Ended>
     requires width { D.attributes desk.old ≡ table.now.context.width }
-    ensures served { OnOk result (Serves table.now (D.number desk.old)
-        (record { left = E.Source.left end.old; held = E.Sink.held end.old; reads = E.Source.faults end.old; writes = E.Sink.faults end.old })
-        (record { left = E.Source.left end.new; held = E.Sink.held end.new; reads = E.Source.faults end.new; writes = E.Sink.faults end.new })
-        (record { entries = D.entries desk.old; turns = D.left desk.old }) (record { entries = D.entries desk.new; turns = D.left desk.new })
+    ensures served { OnOk result (Serves table.now (D.state desk.old).number
+        (wire_of E.Source.left E.Sink.held E.Source.faults E.Sink.faults end.old)
+        (wire_of E.Source.left E.Sink.held E.Source.faults E.Sink.faults end.new)
+        (place_of (D.state desk.old)) (place_of (D.state desk.new))
         ahead.old ahead.new) }
-    ensures halted { IfErr result (Halts table.now (D.number desk.old)
-        (record { left = E.Source.left end.old; held = E.Sink.held end.old; reads = E.Source.faults end.old; writes = E.Sink.faults end.old })
-        (record { left = E.Source.left end.new; held = E.Sink.held end.new; reads = E.Source.faults end.new; writes = E.Sink.faults end.new })
-        (record { entries = D.entries desk.old; turns = D.left desk.old }) (record { entries = D.entries desk.new; turns = D.left desk.new })
+    ensures halted { IfErr result (Halts table.now (D.state desk.old).number
+        (wire_of E.Source.left E.Sink.held E.Source.faults E.Sink.faults end.old)
+        (wire_of E.Source.left E.Sink.held E.Source.faults E.Sink.faults end.new)
+        (place_of (D.state desk.old)) (place_of (D.state desk.new))
         ahead.old) }
     ensures order { ReadsForLine E.Source.left E.Sink.held E.Source.reads E.Source.faults E.Sink.faults ahead.old end.old end.new }
-    ensures same { (D.number desk.new ≡ D.number desk.old) × (D.lock desk.new ≡ D.lock desk.old) × (D.place desk.new ≡ D.place desk.old) × (D.attributes desk.new ≡ D.attributes desk.old) }
+    ensures desk { Works (D.state desk.old) (D.state desk.new) }
+    ensures width { D.attributes desk.new ≡ D.attributes desk.old }
 {
     let at = ahead.read_line(end)?;
     let said = answer(alloc, desk, table, ahead.line(at))?;

@@ -4,7 +4,7 @@ ghost use Rattle.std.specs.Prelude.{◌≡◌, [], IfOk};
 
 use crate::tables::opened;
 use expert_gate::Gate;
-use expert_panel::{SeatEnd, run_panel, seated};
+use expert_panel::{SeatEnd, run_panel, seat_experts};
 use explore_state::{Question, Reply};
 use fca_model::Memory;
 use oracle_expert::{Answer, Expert};
@@ -70,7 +70,7 @@ fn meet<R: Threads + Wait + Sync>(rt: &R, alloc: Global) -> Result<bool, Memory>
     if passes.len() != experts.len() {
         return Err(Memory);
     }
-    let mut seats = seated(alloc, passes, experts)?;
+    let mut seats = seat_experts(alloc, passes, experts)?;
     run_panel(rt, alloc, &gate, seats.as_mut_slice());
     Ok(seats.iter().all(|seat| seat.expert.met && seat.ended == Some(SeatEnd::Done)))
 }

@@ -1,4 +1,5 @@
--- The row that answers a question: it is the first that passes a test among the rows beside their conflicts. So it lies in the table, refutes the question,
+-- The row that answers a question: it is the first that passes a test among the rows beside their conflicts. So it lies in the table,
+-- refutes the question,
 -- and was not dropped.
 use Rattle.std.proofs.Common.{◌≡◌, ℕ, ◌<◌, true, ◌&&◌, Option, Some, None, IfSome, [], length, get_or, min, sym, subst, arith}
 use Rattle.std.proofs.lemmas.Bool.{and_parts}
@@ -21,7 +22,9 @@ pub record IsCounterexample (D : NamedContext) (conflicts : Conflicts) (q : Rule
 module _ (D : NamedContext) (conflicts : Conflicts) (q : Rule) where
   pub counterexample_is : (i : ℕ) → counterexample D conflicts q ≡ Some i → IsCounterexample D conflicts q i
   counterexample_is i e =
-      let inside : i < min (length D.context.rows) (length conflicts) = subst (λ n. i < n) (length-zip D.context.rows conflicts) (position-Some (is_counterexample q) (zip D.context.rows conflicts) i ([], None) e).0 in
+      let inside : i < min (length D.context.rows) (length conflicts) =
+      subst (λ n. i < n) (length-zip D.context.rows conflicts)
+      (position-Some (is_counterexample q) (zip D.context.rows conflicts) i ([], None) e).0 in
       let in_table : i < length D.context.rows = omega arith in
       let in_conflicts : i < length conflicts = omega arith in
       let passes : (d : Set × Option ℕ) → (refutes (get_or D.context.rows i d.0) q && is_none (get_or conflicts i d.1)) ≡ true = λ d.

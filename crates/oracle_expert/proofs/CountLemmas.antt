@@ -1,6 +1,9 @@
--- How many turns an oracle takes. Two turns, a draw and an answer, go with each question; and in the time from one draw to the next an answer was recorded, by
--- the oracle or, where its question was stale when it answered, by another. So twice what was recorded, and one turn more for each row that was dropped,
--- is an upper bound of the turns that were taken when a draw is due. While a question is due the bound has one turn less, and two more where the question is
+-- How many turns an oracle takes. Two turns, a draw and an answer, go with each question; and in the time from one draw to the next an
+-- answer was recorded, by
+-- the oracle or, where its question was stale when it answered, by another. So twice what was recorded, and one turn more for each row that
+-- was dropped,
+-- is an upper bound of the turns that were taken when a draw is due. While a question is due the bound has one turn less, and two more
+-- where the question is
 -- still fresh, for then what is recorded for it is yet to come. The last draw, which is answered Done, is one turn more.
 use Rattle.std.proofs.Common.{◌≡◌, append-nil, append_assoc, ℕ, suc, ◌+◌, ◌*◌, ◌-◌, ◌^◌, ◌<◌, ◌≤◌, ◌⊎◌, Bool, true, false, not, ◌&&◌, ◌||◌, cond, eqb, eq-eqb, option_map, find, get_or, zero, Option, Some, None, List, [], ◌∷◌, ◌++◌, length, map, filter, slice_get, slice_set, refl, inl, inr, sym, ap, ◌∙◌, subst, arith, length-append}
 use Rattle.std.proofs.Math.Pow.{pow_mono}
@@ -11,7 +14,7 @@ use Rattle.std.specs.List.{list_all, list_any}
 use Rattle.std.specs.Option.{is_none}
 use Rattle.fca_model.specs.declared.Event.TheVariants.{Draw, Confirm, Row, Leave}
 use Rattle.fca_model.specs.declared.Reply.TheVariants.{Done, Accepted, Taken, Breaks}
-use Rattle.fca_model.specs.declared.TheConstants.{MAX_EXPERTS, MAX_OBJECTS}
+use Rattle.fca_model.specs.declared.TheConstants.{MAX_EXPERTS, MAX_OBJECTS, MAX_SURVEYED, MAX_TURNS}
 use Rattle.fca_model.specs.Sets.{Set, within, same, size}
 use Rattle.fca_model.specs.Tables.{NamedContext}
 use Rattle.fca_model.specs.Context.{Context}
@@ -41,20 +44,25 @@ use Rattle.oracle_expert.proofs.RunLemmas.{oracle_runs}
 -- ---- holds
 
 pub held_new : (e : ℕ) (q : Rule) (hs : List SetHold) → held_by e (given_back e hs ++ record { expert = e; question = q } ∷ []) ≡ Some q
-held_new e q [] = ap (λ b. option_map (λ (h : SetHold). h.question) (cond b (Some record { expert = e; question = q }) None)) (eq-eqb e e refl)
+held_new e q [] = ap (λ b. option_map (λ (h : SetHold). h.question) (cond b (Some record { expert = e; question = q }) None))
+    (eq-eqb e e refl)
 held_new e q (h ∷ hs) = go (eqb h.expert e) refl (held_new e q hs)
   where
-    go : (b : Bool) → eqb h.expert e ≡ b → held_by e (given_back e hs ++ record { expert = e; question = q } ∷ []) ≡ Some q → held_by e (cond (not b) (h ∷ given_back e hs) (given_back e hs) ++ record { expert = e; question = q } ∷ []) ≡ Some q
+    go : (b : Bool) → eqb h.expert e ≡ b → held_by e (given_back e hs ++ record { expert = e; question = q } ∷ []) ≡ Some q
+        → held_by e (cond (not b) (h ∷ given_back e hs) (given_back e hs) ++ record { expert = e; question = q } ∷ []) ≡ Some q
     go true t more = more
     go false f more =
-        ap (λ b. option_map (λ (h : SetHold). h.question) (cond b (Some h) (find (λ h. eqb h.expert e) (given_back e hs ++ record { expert = e; question = q } ∷ [])))) f ∙ more
+        ap (λ b. option_map (λ (h : SetHold). h.question)
+        (cond b (Some h) (find (λ h. eqb h.expert e) (given_back e hs ++ record { expert = e; question = q } ∷ [])))) f ∙ more
 
 module _ (e f : ℕ) (other : eqb e f ≡ false) where
   held_past : (q : Rule) (hs : List SetHold) → held_by f (hs ++ record { expert = e; question = q } ∷ []) ≡ held_by f hs
   held_past q [] = ap (λ b. option_map (λ (h : SetHold). h.question) (cond b (Some record { expert = e; question = q }) None)) other
   held_past q (h ∷ hs) = go (eqb h.expert f) (held_past q hs)
     where
-      go : (b : Bool) → held_by f (hs ++ record { expert = e; question = q } ∷ []) ≡ held_by f hs → option_map (λ (h : SetHold). h.question) (cond b (Some h) (find (λ h. eqb h.expert f) (hs ++ record { expert = e; question = q } ∷ [])))
+      go : (b : Bool) → held_by f (hs ++ record { expert = e; question = q } ∷ []) ≡ held_by f hs
+          → option_map (λ (h : SetHold). h.question) (cond b (Some h)
+          (find (λ h. eqb h.expert f) (hs ++ record { expert = e; question = q } ∷ [])))
           ≡ option_map (λ (h : SetHold). h.question) (cond b (Some h) (find (λ h. eqb h.expert f) hs))
       go true more = refl
       go false more = more
@@ -63,13 +71,15 @@ module _ (e f : ℕ) (other : eqb e f ≡ false) where
   held_still [] = refl
   held_still (h ∷ hs) = go (eqb h.expert e) refl (held_still hs)
     where
-      go : (b : Bool) → eqb h.expert e ≡ b → held_by f (given_back e hs) ≡ held_by f hs → held_by f (cond (not b) (h ∷ given_back e hs) (given_back e hs)) ≡ held_by f (h ∷ hs)
+      go : (b : Bool) → eqb h.expert e ≡ b → held_by f (given_back e hs) ≡ held_by f hs
+          → held_by f (cond (not b) (h ∷ given_back e hs) (given_back e hs)) ≡ held_by f (h ∷ hs)
       go true t more =
           let not_f : eqb h.expert f ≡ false = ap (λ k. eqb k f) (eqb-true h.expert e t) ∙ other in
           more ∙ sym (ap (λ b. option_map (λ (h : SetHold). h.question) (cond b (Some h) (find (λ h. eqb h.expert f) hs))) not_f)
       go false n more = both (eqb h.expert f) more
         where
-          both : (b : Bool) → held_by f (given_back e hs) ≡ held_by f hs → option_map (λ (h : SetHold). h.question) (cond b (Some h) (find (λ h. eqb h.expert f) (given_back e hs)))
+          both : (b : Bool) → held_by f (given_back e hs) ≡ held_by f hs
+              → option_map (λ (h : SetHold). h.question) (cond b (Some h) (find (λ h. eqb h.expert f) (given_back e hs)))
               ≡ option_map (λ (h : SetHold). h.question) (cond b (Some h) (find (λ h. eqb h.expert f) hs))
           both true more = refl
           both false more = more
@@ -78,7 +88,8 @@ module _ (e f : ℕ) (other : eqb e f ≡ false) where
 pub held_by_other : (s : State) (x : SetEvent) (f : ℕ) → eqb (expert_of x) f ≡ false → held_by f (next s x).holds ≡ held_by f s.holds
 held_by_other s x f other =
     let still = held_still (expert_of x) f other s.holds in
-    by_change s x (λ t. held_by f t.holds ≡ held_by f s.holds) refl still (λ q _. held_past (expert_of x) f other q (given_back (expert_of x) s.holds) ∙ still) (λ _ _ _ _. still) (λ _ _ _ _ _ _ _ _. still)
+    by_change s x (λ t. held_by f t.holds ≡ held_by f s.holds) refl still
+    (λ q _. held_past (expert_of x) f other q (given_back (expert_of x) s.holds) ∙ still) (λ _ _ _ _. still) (λ _ _ _ _ _ _ _ _. still)
 
 -- ---- a question that is open is not stale
 
@@ -86,14 +97,16 @@ unrefuted : (rows : List Set) (q : Rule) → list_all (λ r. respects r q) rows 
 unrefuted [] q h = refl
 unrefuted (r ∷ rows) q h =
     let parts = and_parts (respects r q) (list_all (λ r. respects r q) rows) h in
-    or_from (refutes r q) (list_any (λ r. refutes r q) rows) (turn (within q.premise r) (within q.conclusion r) parts.0) (unrefuted rows q parts.1)
+    or_from (refutes r q) (list_any (λ r. refutes r q) rows) (turn (within q.premise r) (within q.conclusion r) parts.0)
+    (unrefuted rows q parts.1)
   where
     turn : (a b : Bool) → (not a || b) ≡ true → (a && not b) ≡ false
     turn true true h = refl
     turn true false h = absurd (false≢true h)
     turn false b h = refl
 
-open_all : (S : List Rule) (K : Context) (acc : List Rule) (p : Rule → Bool) → list_all p (waiting S K acc) ≡ true → list_all p (open_questions S K acc) ≡ true
+open_all : (S : List Rule) (K : Context) (acc : List Rule) (p : Rule → Bool) → list_all p (waiting S K acc) ≡ true
+    → list_all p (open_questions S K acc) ≡ true
 unfolding open_questions
 open_all S K acc p h = list_all-filter_kept p (λ i. eqb (size i.premise) (least_size (waiting S K acc))) (waiting S K acc) h
 
@@ -102,21 +115,28 @@ unfolding waiting
 open_fresh s q among =
     let S = s.settings.known in
     let new : Rule → Bool = λ i. not (has_premise s.accepted i.premise) in
-    let unheard : not (has_premise s.accepted q.premise) ≡ true = among new (open_all S s.context s.accepted new (filter_passes new (basis_known S s.context))) in
-    let true_here : holds s.context q ≡ true = among (holds s.context) (open_all S s.context s.accepted (holds s.context) (list_all-filter_kept (holds s.context) new (basis_known S s.context) (basis_holds S s.context))) in
+    let unheard : not (has_premise s.accepted q.premise) ≡ true =
+    among new (open_all S s.context s.accepted new (filter_passes new (basis_known S s.context))) in
+    let true_here : holds s.context q ≡ true = among (holds s.context)
+    (open_all S s.context s.accepted (holds s.context)
+    (list_all-filter_kept (holds s.context) new (basis_known S s.context) (basis_holds S s.context))) in
     let wide = (draw_gives_held S s.context s.accepted q among).conclusion_wide in
-    or_from (list_any (λ r. refutes r q) s.context.rows) (has_premise s.accepted q.premise) (unrefuted s.context.rows q (sym (holds_by_rows s.context q wide) ∙ true_here)) (not-true (has_premise s.accepted q.premise) unheard)
+    or_from (list_any (λ r. refutes r q) s.context.rows) (has_premise s.accepted q.premise)
+    (unrefuted s.context.rows q (sym (holds_by_rows s.context q wide) ∙ true_here))
+    (not-true (has_premise s.accepted q.premise) unheard)
 
 -- ---- rows that are dropped
 
-dropped-set : (cs : Conflicts) (i k : ℕ) (d : Option ℕ) → i < length cs → get_or cs i d ≡ None → dropped (slice_set cs i (Some k)) ≡ suc (dropped cs)
+dropped-set : (cs : Conflicts) (i k : ℕ) (d : Option ℕ) → i < length cs → get_or cs i d ≡ None
+    → dropped (slice_set cs i (Some k)) ≡ suc (dropped cs)
 dropped-set [] i k d lt e = absurd (omega arith)
 dropped-set (None ∷ cs) zero k d lt e = refl
 dropped-set (Some j ∷ cs) zero k d lt e = absurd (cc)
 dropped-set (None ∷ cs) (suc i) k d lt e = dropped-set cs i k d (omega arith) e
 dropped-set (Some j ∷ cs) (suc i) k d lt e = ap suc (dropped-set cs i k d (omega arith) e)
 
-one_dropped : (D : NamedContext) (cs : Conflicts) (q : Rule) (i k : ℕ) → counterexample D cs q ≡ Some i → dropped (drop_given cs (counterexample D cs q) k) ≡ suc (dropped cs)
+one_dropped : (D : NamedContext) (cs : Conflicts) (q : Rule) (i k : ℕ) → counterexample D cs q ≡ Some i
+    → dropped (drop_given cs (counterexample D cs q) k) ≡ suc (dropped cs)
 one_dropped D cs q i k e =
     let c = counterexample_is D cs q i e in
     let free : get_or cs i None ≡ None = is_None (get_or cs i None) (c.undropped None) in
@@ -151,7 +171,8 @@ at_most_two false = omega arith
 
 pub grows : (s : State) (x : SetEvent) → rows_and_rules s ≤ rows_and_rules (next s x)
 grows s x = by_change s x (λ t. rows_and_rules s ≤ rows_and_rules t) (omega arith) (omega arith) (λ _ _. omega arith)
-    (λ q _ _ _. omega (arith, length-append s.accepted (q ∷ []))) (λ name r q _ _ _ _ _. omega (arith, length-append s.context.rows (r ∷ [])))
+    (λ q _ _ _. omega (arith, length-append s.accepted (q ∷ [])))
+    (λ name r q _ _ _ _ _. omega (arith, length-append s.context.rows (r ∷ [])))
 
 grows_on : (s : State) (es : List SetEvent) → rows_and_rules s ≤ rows_and_rules (state_after s es)
 unfolding state_after
@@ -162,7 +183,8 @@ grows_on s (x ∷ es) =
     omega arith
 
 -- an event of another keeps the bound
-others_keep : (c n : ℕ) (s : State) (cs : Conflicts) (due : Option Rule) (x : SetEvent) → Bounded c n s cs due → Bounded c n (next s x) cs due
+others_keep : (c n : ℕ) (s : State) (cs : Conflicts) (due : Option Rule) (x : SetEvent) → Bounded c n s cs due
+    → Bounded c n (next s x) cs due
 others_keep c n s cs None x b =
     let more = grows s x in
     omega arith
@@ -174,12 +196,14 @@ others_keep c n s cs (Some q) x b =
 
 module _ (D : NamedContext) (e : ℕ) (i : is_expert e ≡ true) (c : ℕ) where
   abbrev Step : ℕ → State → Moment → SetReply → Type 0
-  Step n t m reply = ((is_done reply ≡ true) × (n + 1 + 2 * c ≤ 2 * rows_and_rules t + dropped m.conflicts + 1)) ⊎ (Bounded c (n + 1) t m.conflicts m.due × Holding e t m.due)
+  Step n t m reply = ((is_done reply ≡ true) × (n + 1 + 2 * c ≤ 2 * rows_and_rules t + dropped m.conflicts + 1))
+      ⊎ (Bounded c (n + 1) t m.conflicts m.due × Holding e t m.due)
 
   abbrev Turned : ℕ → State → Conflicts → Option Rule → SetEvent → Type 0
   Turned n s cs due x = Step n (next s x) (moment_after D (moment due cs) (reply_to s x)) (reply_to s x)
 
-  own_turn : (n : ℕ) (s : State) (cs : Conflicts) (due : Option Rule) → IsValid s → s.settings.holders ≡ MAX_EXPERTS → Bounded c n s cs due → Holding e s due → Turned n s cs due (event_due D e cs due)
+  own_turn : (n : ℕ) (s : State) (cs : Conflicts) (due : Option Rule) → IsValid s → s.settings.holders ≡ MAX_EXPERTS → Bounded c n s cs due
+      → Holding e s due → Turned n s cs due (event_due D e cs due)
   own_turn n s cs None v holders b held =
       draws s D e cs (Step n) v holders i
       (λ q among. inr (asked q among, held_new e q s.holds))
@@ -226,10 +250,12 @@ module _ (D : NamedContext) (e : ℕ) (i : is_expert e ≡ true) (c : ℕ) where
 
   -- what is known of the rest of a run
   abbrev On : State → SetEvent → List SetEvent → Type 0
-  On s x es = (n : ℕ) (cs : Conflicts) (due : Option Rule) → Bounded c n (next s x) cs due → Holding e (next s x) due → OracleRunsFrom D e (moment due cs) (rest s x es)
+  On s x es = (n : ℕ) (cs : Conflicts) (due : Option Rule) → Bounded c n (next s x) cs due → Holding e (next s x) due
+      → OracleRunsFrom D e (moment due cs) (rest s x es)
       → Bound (rest s x es) n due cs (state_after (next s x) es)
 
-  run_bound : (es : List SetEvent) (n : ℕ) (s : State) (cs : Conflicts) (due : Option Rule) → IsValid s → s.settings.holders ≡ MAX_EXPERTS → list_all (λ event. is_expert (expert_of event)) es ≡ true
+  run_bound : (es : List SetEvent) (n : ℕ) (s : State) (cs : Conflicts) (due : Option Rule) → IsValid s → s.settings.holders ≡ MAX_EXPERTS
+      → list_all (λ event. is_expert (expert_of event)) es ≡ true
       → Bounded c n s cs due → Holding e s due → OracleRunsFrom D e (moment due cs) (own (journal_of s es) e)
       → Bound (own (journal_of s es) e) n due cs (state_after s es)
   unfolding state_after journal_of
@@ -246,7 +272,9 @@ module _ (D : NamedContext) (e : ℕ) (i : is_expert e ≡ true) (c : ℕ) where
       held_on None f h = tt
       held_on (Some q) f h = held_by_other s x e f ∙ h
 
-      turn : On s x es → x ≡ event_due D e cs due → StopsAtDone (reply_to s x) (rest s x es) → OracleRunsFrom D e (moment_after D (moment due cs) (reply_to s x)) (rest s x es) → Bound (entry s x ∷ rest s x es) n due cs (state_after (next s x) es)
+      turn : On s x es → x ≡ event_due D e cs due → StopsAtDone (reply_to s x) (rest s x es)
+          → OracleRunsFrom D e (moment_after D (moment due cs) (reply_to s x)) (rest s x es)
+          → Bound (entry s x ∷ rest s x es) n due cs (state_after (next s x) es)
       turn ih is_due last more = elim (subst (Turned n s cs due) (sym is_due) (own_turn n s cs due v holders b held)) [
         | inl done ↦
             let none : (rest s x es) ≡ [] = stops (reply_to s x) (rest s x es) done.0 last in
@@ -259,7 +287,9 @@ module _ (D : NamedContext) (e : ℕ) (i : is_expert e ≡ true) (c : ℕ) where
             omega arith
       ]
 
-      go : On s x es → (b' : Bool) → eqb (expert_of x) e ≡ b' → OracleRunsFrom D e (moment due cs) (cond b' (entry s x ∷ rest s x es) (rest s x es)) → Bound (cond b' (entry s x ∷ rest s x es) (rest s x es)) n due cs (state_after (next s x) es)
+      go : On s x es → (b' : Bool) → eqb (expert_of x) e ≡ b'
+          → OracleRunsFrom D e (moment due cs) (cond b' (entry s x ∷ rest s x es) (rest s x es))
+          → Bound (cond b' (entry s x ∷ rest s x es) (rest s x es)) n due cs (state_after (next s x) es)
       go ih true t h = turn ih h.0 h.1 h.2
       go ih false f h = ih n cs due (others_keep c n s cs due x b) (held_on due f held) h
 
@@ -282,7 +312,8 @@ length-told cs given _ = refl
 
 length-conflicts : (D : NamedContext) (m : Moment) (entries : List SetEntry) → length (moment_at D m entries).conflicts ≡ length m.conflicts
 length-conflicts D m [] = refl
-length-conflicts D m (entry ∷ entries) = length-conflicts D (moment_after D m entry.reply) entries ∙ length-told m.conflicts (row_due D m) entry.reply
+length-conflicts D m (entry ∷ entries) = length-conflicts D (moment_after D m entry.reply) entries
+    ∙ length-told m.conflicts (row_due D m) entry.reply
 
 dropped_within : (cs : Conflicts) → dropped cs ≤ length cs
 dropped_within [] = omega arith
@@ -295,7 +326,8 @@ dropped_within (Some k ∷ cs) =
 
 pub few_dropped : (D : NamedContext) (entries : List SetEntry) → dropped (conflicts_of D entries) ≤ length D.context.rows
 few_dropped D entries =
-    let all : length (conflicts_of D entries) ≡ length D.context.rows = length-conflicts D (moment None (no_conflict D)) entries ∙ length-map D.context.rows (λ (row : Set). None) in
+    let all : length (conflicts_of D entries) ≡ length D.context.rows = length-conflicts D (moment None (no_conflict D)) entries
+    ∙ length-map D.context.rows (λ (row : Set). None) in
     let within = dropped_within (conflicts_of D entries) in
     omega arith
 
@@ -322,11 +354,14 @@ module _ (s : State) where
   unfolding after reply_to
   confirm_adds e = go (held_by e s.holds) refl
     where
-      unheard : (q : Rule) → held_by e s.holds ≡ Some q → (o : Option (ℕ × Rule)) → Adds (after_confirm e s (confirm_unheard s o)) (confirm_unheard s o)
+      unheard : (q : Rule) → held_by e s.holds ≡ Some q → (o : Option (ℕ × Rule))
+          → Adds (after_confirm e s (confirm_unheard s o)) (confirm_unheard s o)
       unheard q held (Some found) = omega arith
-      unheard q held None = subst (λ o. rows_and_rules (release e (accept o s)) ≡ rows_and_rules s + 1) (sym held) (omega (arith, length-append s.accepted (q ∷ [])))
+      unheard q held None = subst (λ o. rows_and_rules (release e (accept o s)) ≡ rows_and_rules s + 1) (sym held)
+          (omega (arith, length-append s.accepted (q ∷ [])))
 
-      unrefuted : (q : Rule) → held_by e s.holds ≡ Some q → (o : Option (ℕ × Set)) → Adds (after_confirm e s (confirm_unrefuted s q o)) (confirm_unrefuted s q o)
+      unrefuted : (q : Rule) → held_by e s.holds ≡ Some q → (o : Option (ℕ × Set))
+          → Adds (after_confirm e s (confirm_unrefuted s q o)) (confirm_unrefuted s q o)
       unrefuted q held (Some found) = omega arith
       unrefuted q held None = unheard q held (first_with (λ i. same i.premise q.premise) (length s.settings.known) s.accepted)
 
@@ -380,7 +415,8 @@ run_adds s (x ∷ es) =
     let here = next_adds s x in
     let more = run_adds (next s x) es in
     let entry : SetEntry = record { event = x; reply = reply_to s x } in
-    let counted = length-one_more (is_recorded (reply_to s x)) entry (filter (λ (h : SetEntry). is_recorded h.reply) (journal_of (next s x) es)) in
+    let counted = length-one_more (is_recorded (reply_to s x)) entry
+    (filter (λ (h : SetEntry). is_recorded h.reply) (journal_of (next s x) es)) in
     omega arith
 
 recorded_rows : (s : State) (es : List SetEvent) → (rows : List Set) × ((state_after s es).context.rows ≡ s.context.rows ++ rows)
@@ -388,23 +424,28 @@ unfolding state_after
 recorded_rows s [] = ([], sym (append-nil s.context.rows))
 recorded_rows s (x ∷ es) =
     let same : (rows : List Set) × (s.context.rows ≡ s.context.rows ++ rows) = ([], sym (append-nil s.context.rows)) in
-    let one = by_change s x (λ t. (rows : List Set) × (t.context.rows ≡ s.context.rows ++ rows)) same same (λ _ _. same) (λ _ _ _ _. same) (λ name r q _ _ _ _ _. (r ∷ [], refl)) in
+    let one = by_change s x (λ t. (rows : List Set) × (t.context.rows ≡ s.context.rows ++ rows)) same same (λ _ _. same) (λ _ _ _ _. same)
+    (λ name r q _ _ _ _ _. (r ∷ [], refl)) in
     let more = recorded_rows (next s x) es in
     (one.0 ++ more.0, more.1 ∙ ap (λ rows. rows ++ more.0) one.1 ∙ append_assoc s.context.rows one.0 more.0)
 
 -- ---- the entries behind some that an expert has already
 
-module _ (D : NamedContext) (e : ℕ) (i : is_expert e ≡ true) (cs : Conflicts) (entries : List SetEntry) (runs : OracleRunsFrom D e (moment None cs) entries) where
+module _ (D : NamedContext) (e : ℕ) (i : is_expert e ≡ true) (cs : Conflicts) (entries : List SetEntry)
+    (runs : OracleRunsFrom D e (moment None cs) entries) where
   -- the bound of what was recorded from the state on, where these rows were dropped before
   abbrev Later : State → List SetEvent → Type 0
-  Later s es = length entries + dropped cs + 2 * rows_and_rules s ≤ 2 * rows_and_rules (state_after s es) + dropped (moment_at D (moment None cs) entries).conflicts + 1
+  Later s es = length entries + dropped cs + 2 * rows_and_rules s ≤ 2 * rows_and_rules (state_after s es) + dropped
+      (moment_at D (moment None cs) entries).conflicts + 1
 
-  later_bound : (es : List SetEvent) (s : State) (before : List SetEntry) → IsValid s → s.settings.holders ≡ MAX_EXPERTS → list_all (λ event. is_expert (expert_of event)) es ≡ true
+  later_bound : (es : List SetEvent) (s : State) (before : List SetEntry) → IsValid s → s.settings.holders ≡ MAX_EXPERTS
+      → list_all (λ event. is_expert (expert_of event)) es ≡ true
       → own (journal_of s es) e ≡ before ++ entries → Later s es
   unfolding state_after journal_of
   later_bound es s [] v holders is own_is =
       let bound : Bound D e i (rows_and_rules s) entries (dropped cs) None cs (state_after s es) =
-      subst (λ xs. OracleRunsFrom D e (moment None cs) xs → Bound D e i (rows_and_rules s) xs (dropped cs) None cs (state_after s es)) own_is
+      subst (λ xs. OracleRunsFrom D e (moment None cs) xs
+      → Bound D e i (rows_and_rules s) xs (dropped cs) None cs (state_after s es)) own_is
       (run_bound D e i (rows_and_rules s) es (dropped cs) s cs None v holders is (omega arith) tt) runs in
       omega arith
   later_bound [] s (b ∷ before) v holders is own_is = cc
@@ -417,11 +458,13 @@ module _ (D : NamedContext) (e : ℕ) (i : is_expert e ≡ true) (cs : Conflicts
       omega arith
     where
       go : (mine : Bool) → ((before : List SetEntry) → own (journal_of (next s x) es) e ≡ before ++ entries → Later (next s x) es)
-          → cond mine (record { event = x; reply = reply_to s x } ∷ own (journal_of (next s x) es) e) (own (journal_of (next s x) es) e) ≡ b ∷ before ++ entries → Later (next s x) es
+          → cond mine (record { event = x; reply = reply_to s x } ∷ own (journal_of (next s x) es) e) (own (journal_of (next s x) es) e)
+          ≡ b ∷ before ++ entries → Later (next s x) es
       go true on h = on before (cc)
       go false on h = on (b ∷ before) h
 
-module _ (K : Context) (names : List RowName) (settings : Settings) (H : List SetEntry) (respecting : rows_respect settings.known K ≡ true) (most : settings.holders ≡ MAX_EXPERTS) (legal : IsLegal (opening K names settings) H) where
+module _ (K : Context) (names : List RowName) (settings : Settings) (H : List SetEntry) (respecting : rows_respect settings.known K ≡ true)
+    (most : settings.holders ≡ MAX_EXPERTS) (legal : IsLegal (opening K names settings) H) where
   abbrev first : State
   first = opening K names settings
 
@@ -432,27 +475,32 @@ module _ (K : Context) (names : List RowName) (settings : Settings) (H : List Se
   counted = run_adds first (events_of H) ∙ ap (λ J. rows_and_rules first + recorded_in J) legal.replayed
 
   -- of an oracle that has dropped these rows before
-  any_turns : (D : NamedContext) (e : ℕ) → is_expert e ≡ true → (cs : Conflicts) (before entries : List SetEntry) → own H e ≡ before ++ entries → OracleRunsFrom D e (moment None cs) entries
+  any_turns : (D : NamedContext) (e : ℕ) → is_expert e ≡ true → (cs : Conflicts) (before entries : List SetEntry)
+      → own H e ≡ before ++ entries → OracleRunsFrom D e (moment None cs) entries
       → length entries + dropped cs ≤ 2 * recorded_in H + dropped (moment_at D (moment None cs) entries).conflicts + 1
   any_turns D e i cs before entries own_is runs =
       let events = legal_events first H legal in
-      let bound = later_bound D e i cs entries runs (events_of H) first before valid most events.0 (ap (λ J. own J e) legal.replayed ∙ own_is) in
+      let bound = later_bound D e i cs entries runs (events_of H) first before valid most events.0
+      (ap (λ J. own J e) legal.replayed ∙ own_is) in
       let all = counted in
       omega arith
 
-  pub oracle_turns : (D : NamedContext) (e : ℕ) → is_expert e ≡ true → (before entries : List SetEntry) → own H e ≡ before ++ entries → IsOracleFront D e entries
+  pub oracle_turns : (D : NamedContext) (e : ℕ) → is_expert e ≡ true → (before entries : List SetEntry) → own H e ≡ before ++ entries
+      → IsOracleFront D e entries
       → length entries ≤ 2 * recorded_in H + dropped (conflicts_of D entries) + 1
   oracle_turns D e i before entries own_is front =
       let none : dropped (no_conflict D) ≡ 0 = none_dropped D.context.rows in
       let turns = any_turns D e i (no_conflict D) before entries own_is front in
       omega arith
 
-  pub call_turns : (e : ℕ) → is_expert e ≡ true → (old new : Recall) (before entries : List SetEntry) → own H e ≡ before ++ entries → SeatRun Answers Learns e old entries new
+  pub call_turns : (e : ℕ) → is_expert e ≡ true → (old new : Recall) (before entries : List SetEntry) → own H e ≡ before ++ entries
+      → SeatRun Answers Learns e old entries new
       → length entries ≤ 2 * recorded_in H + (dropped new.conflicts - dropped old.conflicts) + 1
   call_turns e i old new before entries own_is run =
       let its = oracle_runs old.table e None old.conflicts old entries new refl refl run in
       let turns = any_turns old.table e i old.conflicts before entries own_is its.run in
-      let after : dropped new.conflicts ≡ dropped (moment_at old.table (moment None old.conflicts) entries).conflicts = ap dropped its.conflicts in
+      let after : dropped new.conflicts ≡ dropped (moment_at old.table (moment None old.conflicts) entries).conflicts =
+      ap dropped its.conflicts in
       omega arith
 
   pub recorded_few : recorded_in H ≤ 2 ^ K.width
@@ -460,12 +508,14 @@ module _ (K : Context) (names : List RowName) (settings : Settings) (H : List Se
       let events = legal_events first H legal in
       let rows = recorded_rows first (events_of H) in
       let count = exploration_count first valid (events_of H) events.0 rows.0 rows.1 in
-      let longer : length (state_after first (events_of H)).context.rows ≡ length K.rows + length rows.0 = ap length rows.1 ∙ length-append K.rows rows.0 in
+      let longer : length (state_after first (events_of H)).context.rows ≡ length K.rows + length rows.0 = ap length rows.1
+      ∙ length-append K.rows rows.0 in
       let all = counted in
       omega arith
 
-  pub oracle_few : (D : NamedContext) (e : ℕ) → is_expert e ≡ true → (before entries : List SetEntry) → own H e ≡ before ++ entries → IsOracleFront D e entries
-      → K.width ≤ 46 → length D.context.rows ≤ MAX_OBJECTS → length entries < 2 ^ 48
+  pub oracle_few : (D : NamedContext) (e : ℕ) → is_expert e ≡ true → (before entries : List SetEntry) → own H e ≡ before ++ entries
+      → IsOracleFront D e entries
+      → K.width ≤ MAX_SURVEYED → length D.context.rows ≤ MAX_OBJECTS → length entries < MAX_TURNS
   oracle_few D e i before entries own_is front narrow small =
       let turns = oracle_turns D e i before entries own_is front in
       let drops = few_dropped D entries in

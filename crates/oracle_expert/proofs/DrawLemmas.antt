@@ -1,5 +1,7 @@
--- Between two draws of an oracle an answer is recorded. The question by which the first draw is answered is open, so it is not stale. While it is not stale, the
--- oracle's answer to it is recorded, or breaks a rule and leaves the question due; and it becomes stale only where an answer of another is recorded. So a draw,
+-- Between two draws of an oracle an answer is recorded. The question by which the first draw is answered is open, so it is not stale. While
+-- it is not stale, the
+-- oracle's answer to it is recorded, or breaks a rule and leaves the question due; and it becomes stale only where an answer of another is
+-- recorded. So a draw,
 -- which is due where no question is, comes after a recorded answer.
 use Rattle.std.proofs.Common.{◌≡◌, ℕ, ◌≤◌, ◌⊎◌, Bool, true, false, not, cond, eqb, eq-eqb, get_or, Option, Some, None, List, [], ◌∷◌, ◌++◌, length, filter, refl, inl, inr, sym, ap, ◌∙◌, subst, arith, length-append}
 use Rattle.std.proofs.lemmas.Bool.{cases_Bool, and_parts, false≢true, not-true}
@@ -15,7 +17,7 @@ use Rattle.fca_model.specs.Exploration.{State, Settings, RowName, SetEvent, SetR
 use Rattle.fca_model.proofs.StepLemmas.{by_change}
 use Rattle.fca_model.proofs.ValidLemmas.{next_valid}
 use Rattle.fca_model.proofs.CourseLemmas.{next_settings}
-use Rattle.fca_model.proofs.RunLemmas.{legal_events}
+use Rattle.fca_model.proofs.RunLemmas.{legal_events, own-append}
 use Rattle.exploration_terms.specs.Recorded.{is_recorded}
 use Rattle.oracle_expert.specs.declared.expert.Answer.{Answer}
 use Rattle.oracle_expert.specs.declared.expert.Answer.TheVariants.{Confirm, Row}
@@ -52,7 +54,8 @@ draw_is_own e y h = ap (λ x. eqb (expert_of x) e) h ∙ eq-eqb e e refl
 
 module _ (D : NamedContext) (e : ℕ) where
   -- a draw of the expert comes next
-  draws_next : (m : Moment) (y : SetEntry) (after : List SetEntry) → y.event ≡ Draw e → OracleRunsFrom D e m (own (y ∷ after) e) → OracleRunsFrom D e m (y ∷ own after e)
+  draws_next : (m : Moment) (y : SetEntry) (after : List SetEntry) → y.event ≡ Draw e → OracleRunsFrom D e m (own (y ∷ after) e)
+      → OracleRunsFrom D e m (y ∷ own after e)
   draws_next m y after h = subst (λ b. OracleRunsFrom D e m (cond b (y ∷ own after e) (own after e))) (draw_is_own e y h)
 
   -- the answer is recorded, or the question is still due in the same state
@@ -62,7 +65,8 @@ module _ (D : NamedContext) (e : ℕ) where
   abbrev AnsweredBy : State → Rule → Conflicts → SetEvent → Type 0
   AnsweredBy s q cs x = Answered s q (next s x) (moment_after D (moment (Some q) cs) (reply_to s x)) (reply_to s x)
 
-  fresh_answer : (s : State) (q : Rule) (cs : Conflicts) → held_by e s.holds ≡ Some q → is_stale s q ≡ false → AnsweredBy s q cs (event_due D e cs (Some q))
+  fresh_answer : (s : State) (q : Rule) (cs : Conflicts) → held_by e s.holds ≡ Some q → is_stale s q ≡ false
+      → AnsweredBy s q cs (event_due D e cs (Some q))
   fresh_answer s q cs held fresh = go (counterexample D cs q) refl
     where
       stale : {X : Type 0} → is_stale s q ≡ true → X
@@ -73,25 +77,32 @@ module _ (D : NamedContext) (e : ℕ) where
       go (Some j) found =
           let r = get_or D.context.rows j [] in
           let parts = and_parts (within q.premise r) (not (within q.conclusion r)) ((counterexample_is D cs q j found).refutes []) in
-          gives s D e cs (Answered s q) q held (get_or D.objects j []) r parts.0 (not-true (within q.conclusion r) parts.1) (λ _ _ k. inl refl) (λ old reply. stale old) (λ _ k other. inr (refl, refl))
+          gives s D e cs (Answered s q) q held (get_or D.objects j []) r parts.0 (not-true (within q.conclusion r) parts.1)
+          (λ _ _ k. inl refl) (λ old reply. stale old) (λ _ k other. inr (refl, refl))
 
   -- ---- from a question on
 
   -- what is known from a state on, where the question is held and not stale
   abbrev On : State → Rule → List SetEntry → List SetEntry → Type 0
-  On s q between rest = (cs : Conflicts) → held_by e s.holds ≡ Some q → is_stale s q ≡ false → OracleRunsFrom D e (moment (Some q) cs) (own rest e) → 1 ≤ recorded_in between
+  On s q between rest = (cs : Conflicts) → held_by e s.holds ≡ Some q → is_stale s q ≡ false
+      → OracleRunsFrom D e (moment (Some q) cs) (own rest e) → 1 ≤ recorded_in between
 
   -- until a draw of the expert comes, something is recorded
-  until_recorded : (es : List SetEvent) (s : State) (cs : Conflicts) (q : Rule) → held_by e s.holds ≡ Some q → is_stale s q ≡ false → (between after : List SetEntry) (second : SetEntry)
-      → journal_of s es ≡ between ++ second ∷ after → second.event ≡ Draw e → OracleRunsFrom D e (moment (Some q) cs) (own (between ++ second ∷ after) e) → 1 ≤ recorded_in between
+  until_recorded : (es : List SetEvent) (s : State) (cs : Conflicts) (q : Rule) → held_by e s.holds ≡ Some q → is_stale s q ≡ false
+      → (between after : List SetEntry) (second : SetEntry)
+      → journal_of s es ≡ between ++ second ∷ after → second.event ≡ Draw e
+      → OracleRunsFrom D e (moment (Some q) cs) (own (between ++ second ∷ after) e) → 1 ≤ recorded_in between
   unfolding journal_of
   until_recorded [] s cs q held fresh [] after second all draw run = cc
   until_recorded [] s cs q held fresh (b ∷ between) after second all draw run = cc
-  until_recorded (x ∷ es) s cs q held fresh [] after second all draw run = absurd (no_draw e (answer_of D cs q) (sym (draws_next (moment (Some q) cs) second after draw run).0 ∙ draw))
+  until_recorded (x ∷ es) s cs q held fresh [] after second all draw run =
+      absurd (no_draw e (answer_of D cs q) (sym (draws_next (moment (Some q) cs) second after draw run).0 ∙ draw))
   until_recorded (x ∷ es) s cs q held fresh (b ∷ between) after second all draw run = elim (cases_Bool (is_recorded b.reply)) [
-    | inl t ↦ subst (λ c. 1 ≤ length (cond c (b ∷ filter (λ (h : SetEntry). is_recorded h.reply) between) (filter (λ (h : SetEntry). is_recorded h.reply) between))) (sym t) (omega arith)
+    | inl t ↦ subst (λ c. 1 ≤ length (cond c (b ∷ filter (λ (h : SetEntry). is_recorded h.reply) between)
+        (filter (λ (h : SetEntry). is_recorded h.reply) between))) (sym t) (omega arith)
     | inr f ↦
-        subst (λ c. 1 ≤ length (cond c (b ∷ filter (λ (h : SetEntry). is_recorded h.reply) between) (filter (λ (h : SetEntry). is_recorded h.reply) between))) (sym f)
+        subst (λ c. 1 ≤ length (cond c (b ∷ filter (λ (h : SetEntry). is_recorded h.reply) between)
+        (filter (λ (h : SetEntry). is_recorded h.reply) between))) (sym f)
         (go (λ cs h f run. until_recorded es (next s x) cs q h f between after second rest draw run) f (eqb (expert_of b.event) e) refl run)
   ]
     where
@@ -110,7 +121,8 @@ module _ (D : NamedContext) (e : ℕ) where
       fresh_on : is_recorded b.reply ≡ false → is_stale (next s x) q ≡ false
       fresh_on f = quiet_stays s x q (ap is_recorded (sym reply) ∙ f) ∙ fresh
 
-      mine : On (next s x) q between (between ++ second ∷ after) → is_recorded b.reply ≡ false → AnsweredBy s q cs x → OracleRunsFrom D e (moment_after D (moment (Some q) cs) b.reply) (own (between ++ second ∷ after) e) → 1 ≤ recorded_in between
+      mine : On (next s x) q between (between ++ second ∷ after) → is_recorded b.reply ≡ false → AnsweredBy s q cs x
+          → OracleRunsFrom D e (moment_after D (moment (Some q) cs) b.reply) (own (between ++ second ∷ after) e) → 1 ≤ recorded_in between
       mine on f (inl recorded) run = absurd (false≢true (sym f ∙ ap is_recorded reply ∙ recorded))
       mine on f (inr same) run =
           let m = moment_after D (moment (Some q) cs) b.reply in
@@ -119,7 +131,8 @@ module _ (D : NamedContext) (e : ℕ) where
           (subst (λ d. OracleRunsFrom D e (moment d m.conflicts) (own (between ++ second ∷ after) e)) due run)
 
       go : On (next s x) q between (between ++ second ∷ after) → is_recorded b.reply ≡ false → (c : Bool) → eqb (expert_of b.event) e ≡ c
-          → OracleRunsFrom D e (moment (Some q) cs) (cond c (b ∷ own (between ++ second ∷ after) e) (own (between ++ second ∷ after) e)) → 1 ≤ recorded_in between
+          → OracleRunsFrom D e (moment (Some q) cs) (cond c (b ∷ own (between ++ second ∷ after) e) (own (between ++ second ∷ after) e))
+          → 1 ≤ recorded_in between
       go on f true own_event run =
           let is_due : x ≡ event_due D e cs (Some q) = sym event ∙ run.0 in
           mine on f (subst (AnsweredBy s q cs) (sym is_due) (fresh_answer s q cs held fresh)) run.2
@@ -141,14 +154,18 @@ module _ (D : NamedContext) (e : ℕ) where
       cons h = cc
   own_is_some (b ∷ between) after y draw none = go (own_is_some between after y draw) (eqb (expert_of b.event) e) none
     where
-      go : (own (between ++ y ∷ after) e ≡ [] → ⊥) → (c : Bool) → cond c (b ∷ own (between ++ y ∷ after) e) (own (between ++ y ∷ after) e) ≡ [] → ⊥
+      go : (own (between ++ y ∷ after) e ≡ [] → ⊥) → (c : Bool)
+          → cond c (b ∷ own (between ++ y ∷ after) e) (own (between ++ y ∷ after) e) ≡ [] → ⊥
       go on true h = cc
       go on false h = on h
 
   module _ (i : is_expert e ≡ true) where
-    pub recorded_between : (es : List SetEvent) (s : State) → IsValid s → s.settings.holders ≡ MAX_EXPERTS → list_all (λ event. is_expert (expert_of event)) es ≡ true
-        → (m : Moment) (before between after : List SetEntry) (first second : SetEntry) → journal_of s es ≡ before ++ (first ∷ between ++ second ∷ after)
-        → first.event ≡ Draw e → second.event ≡ Draw e → OracleRunsFrom D e m (own (first ∷ between ++ second ∷ after) e) → 1 ≤ recorded_in between
+    pub recorded_between : (es : List SetEvent) (s : State) → IsValid s → s.settings.holders ≡ MAX_EXPERTS
+        → list_all (λ event. is_expert (expert_of event)) es ≡ true
+        → (m : Moment) (before between after : List SetEntry) (first second : SetEntry)
+        → journal_of s es ≡ before ++ (first ∷ between ++ second ∷ after)
+        → first.event ≡ Draw e → second.event ≡ Draw e → OracleRunsFrom D e m (own (first ∷ between ++ second ∷ after) e)
+        → 1 ≤ recorded_in between
     unfolding journal_of
     recorded_between [] s v holders is m [] between after first second all draw again run = cc
     recorded_between [] s v holders is m (b ∷ before) between after first second all draw again run = cc
@@ -156,7 +173,8 @@ module _ (D : NamedContext) (e : ℕ) where
         let parts = and_parts (is_expert (expert_of x)) (list_all (λ event. is_expert (expert_of event)) es) is in
         let still = ap (λ (t : Settings). t.holders) (next_settings s x) ∙ holders in
         recorded_between es (next s x) (next_valid s v x parts.0) still parts.1 m before between after first second (cc) draw again run
-    recorded_between (x ∷ es) s v holders is m [] between after first second all draw again run = due m.due (draws_next m first (between ++ second ∷ after) draw run)
+    recorded_between (x ∷ es) s v holders is m [] between after first second all draw again run =
+        due m.due (draws_next m first (between ++ second ∷ after) draw run)
       where
         here : first ≡ record { event = x; reply = reply_to s x }
         here = cc
@@ -171,12 +189,15 @@ module _ (D : NamedContext) (e : ℕ) where
         reply = ap (λ (y : SetEntry). y.reply) here
 
         drawn : DrawnFrom s m.conflicts x
-        drawn = subst (DrawnFrom s m.conflicts) (sym is_draw) (draws s D e m.conflicts Drawn v holders i (λ q among. inr (q, held_new e q s.holds, open_fresh s q among, refl)) (inl refl))
+        drawn = subst (DrawnFrom s m.conflicts) (sym is_draw)
+            (draws s D e m.conflicts Drawn v holders i (λ q among. inr (q, held_new e q s.holds, open_fresh s q among, refl)) (inl refl))
 
-        due : (d : Option Rule) → OracleRunsFrom D e (moment d m.conflicts) (first ∷ own (between ++ second ∷ after) e) → 1 ≤ recorded_in between
+        due : (d : Option Rule) → OracleRunsFrom D e (moment d m.conflicts) (first ∷ own (between ++ second ∷ after) e)
+            → 1 ≤ recorded_in between
         due (Some q) run = absurd (no_draw e (answer_of D m.conflicts q) (sym run.0 ∙ draw))
         due None run = elim drawn [
-          | inl done ↦ absurd (own_is_some between after second again (stops D e i 0 first.reply (own (between ++ second ∷ after) e) (ap is_done reply ∙ done) run.1))
+          | inl done ↦ absurd (own_is_some between after second again
+              (stops D e i 0 first.reply (own (between ++ second ∷ after) e) (ap is_done reply ∙ done) run.1))
           | inr asked ↦
               let later = moment_after D (moment None m.conflicts) first.reply in
               let is : later.due ≡ Some asked.0 = ap (λ r. (moment_after D (moment None m.conflicts) r).due) reply ∙ asked.3 in
@@ -187,17 +208,10 @@ module _ (D : NamedContext) (e : ℕ) where
 -- ---- in a history
 
 -- of a run the entries behind some of them are a run
-runs_on : (D : NamedContext) (e : ℕ) (m : Moment) (xs ys : List SetEntry) → OracleRunsFrom D e m (xs ++ ys) → OracleRunsFrom D e (moment_at D m xs) ys
+runs_on : (D : NamedContext) (e : ℕ) (m : Moment) (xs ys : List SetEntry) → OracleRunsFrom D e m (xs ++ ys)
+    → OracleRunsFrom D e (moment_at D m xs) ys
 runs_on D e m [] ys run = run
 runs_on D e m (x ∷ xs) ys run = runs_on D e (moment_after D m x.reply) xs ys run.2
-
-own-append : (xs ys : List SetEntry) (e : ℕ) → own (xs ++ ys) e ≡ own xs e ++ own ys e
-own-append [] ys e = refl
-own-append (x ∷ xs) ys e = go (eqb (expert_of x.event) e) (own-append xs ys e)
-  where
-    go : (b : Bool) → own (xs ++ ys) e ≡ own xs e ++ own ys e → cond b (x ∷ own (xs ++ ys) e) (own (xs ++ ys) e) ≡ cond b (x ∷ own xs e) (own xs e) ++ own ys e
-    go true h = ap (λ zs. x ∷ zs) h
-    go false h = h
 
 -- of two ways to cut a list, the one that cuts later goes on from the other
 cut_later : (xs ys zs ws : List SetEntry) → xs ++ ys ≡ zs ++ ws → length xs ≤ length zs → (begun : List SetEntry) × (ys ≡ begun ++ ws)
@@ -205,9 +219,12 @@ cut_later [] ys zs ws h le = (zs, h)
 cut_later (x ∷ xs) ys [] ws h le = absurd (omega arith)
 cut_later (x ∷ xs) ys (z ∷ zs) ws h le = cut_later xs ys zs ws (cc) (omega arith)
 
-module _ (K : Context) (names : List RowName) (settings : Settings) (H : List SetEntry) (respecting : rows_respect settings.known K ≡ true) (most : settings.holders ≡ MAX_EXPERTS) (legal : IsLegal (opening K names settings) H) where
-  pub draws_apart : (e : ℕ) → is_expert e ≡ true → (old new : Recall) (earlier entries : List SetEntry) → own H e ≡ earlier ++ entries → SeatRun Answers Learns e old entries new
-      → (before between after : List SetEntry) (first second : SetEntry) → H ≡ before ++ (first ∷ between ++ second ∷ after) → length earlier ≤ length (own before e)
+module _ (K : Context) (names : List RowName) (settings : Settings) (H : List SetEntry) (respecting : rows_respect settings.known K ≡ true)
+    (most : settings.holders ≡ MAX_EXPERTS) (legal : IsLegal (opening K names settings) H) where
+  pub draws_apart : (e : ℕ) → is_expert e ≡ true → (old new : Recall) (earlier entries : List SetEntry) → own H e ≡ earlier ++ entries
+      → SeatRun Answers Learns e old entries new
+      → (before between after : List SetEntry) (first second : SetEntry) → H ≡ before ++ (first ∷ between ++ second ∷ after)
+      → length earlier ≤ length (own before e)
       → first.event ≡ Draw e → second.event ≡ Draw e → 1 ≤ recorded_in between
   draws_apart e i old new earlier entries own_is run before between after first second cut late draw again =
       let D = old.table in
@@ -215,7 +232,9 @@ module _ (K : Context) (names : List RowName) (settings : Settings) (H : List Se
       let same : earlier ++ entries ≡ own before e ++ own from e = sym own_is ∙ ap (λ J. own J e) cut ∙ own-append before from e in
       let begun = cut_later earlier entries (own before e) (own from e) same late in
       let its = (oracle_runs D e None old.conflicts old entries new refl refl run).run in
-      let on = runs_on D e (moment None old.conflicts) begun.0 (own from e) (subst (OracleRunsFrom D e (moment None old.conflicts)) begun.1 its) in
+      let on = runs_on D e (moment None old.conflicts) begun.0 (own from e)
+      (subst (OracleRunsFrom D e (moment None old.conflicts)) begun.1 its) in
       let events = legal_events (opening K names settings) H legal in
-      recorded_between D e i (events_of H) (opening K names settings) (valid K names settings H respecting most legal) most events.0 (moment_at D (moment None old.conflicts) begun.0) before between after first second
+      recorded_between D e i (events_of H) (opening K names settings) (valid K names settings H respecting most legal) most events.0
+      (moment_at D (moment None old.conflicts) begun.0) before between after first second
       (legal.replayed ∙ cut) draw again on

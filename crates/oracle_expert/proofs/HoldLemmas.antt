@@ -15,12 +15,14 @@ use Rattle.extent_blocks.specs.Blocks.{Part, IsExtent, IsExtentWith}
 use Rattle.extent_blocks.proofs.ExtentLemmas.{extent_larger}
 use Rattle.oracle_expert.specs.Oracles.{is_counterexample}
 
-respecting_none : (i : Rule) (rows : List Set) (cs : List (Option ℕ)) → list_all (λ row. respects row i) rows ≡ true → (k : ℕ) → position_from (is_counterexample i) k (zip rows cs) ≡ None
+respecting_none : (i : Rule) (rows : List Set) (cs : List (Option ℕ)) → list_all (λ row. respects row i) rows ≡ true → (k : ℕ)
+    → position_from (is_counterexample i) k (zip rows cs) ≡ None
 respecting_none i [] cs h k = refl
 respecting_none i (row ∷ rows) [] h k = refl
 respecting_none i (row ∷ rows) (c ∷ cs) h k =
     let both = and_parts (respects row i) (list_all (λ row. respects row i) rows) h in
-    ap (λ b. cond b (Some k) (position_from (is_counterexample i) (k + 1) (zip rows cs))) (no (within i.premise row) (within i.conclusion row) (is_none c) both.0)
+    ap (λ b. cond b (Some k) (position_from (is_counterexample i) (k + 1) (zip rows cs)))
+    (no (within i.premise row) (within i.conclusion row) (is_none c) both.0)
     ∙ respecting_none i rows cs both.1 (k + 1)
   where
     no : (p q n : Bool) → (not p || q) ≡ true → ((p && not q) && n) ≡ false
@@ -28,11 +30,14 @@ respecting_none i (row ∷ rows) (c ∷ cs) h k =
     no true false n e = absurd (cc)
     no false q n e = refl
 
-pub no_counterexample : (K : Context) (i : Rule) (cs : List (Option ℕ)) → length i.conclusion ≡ K.width → holds K i ≡ true → position (is_counterexample i) (zip K.rows cs) ≡ None
-no_counterexample K i cs wide h = position_from-zero (is_counterexample i) (zip K.rows cs) ∙ respecting_none i K.rows cs (sym (within-closure K i.premise i.conclusion wide) ∙ h) 0
+pub no_counterexample : (K : Context) (i : Rule) (cs : List (Option ℕ)) → length i.conclusion ≡ K.width → holds K i ≡ true
+    → position (is_counterexample i) (zip K.rows cs) ≡ None
+no_counterexample K i cs wide h = position_from-zero (is_counterexample i) (zip K.rows cs)
+    ∙ respecting_none i K.rows cs (sym (within-closure K i.premise i.conclusion wide) ∙ h) 0
 
 -- of the rows that contain a set each has each of its attributes
-pub extent_with_own : (K : Context) (P : Set) (i : ℕ) (Ps : List Part) → length P ≡ K.width → get_or P i false ≡ true → IsExtent K P Ps → IsExtentWith K P i Ps
+pub extent_with_own : (K : Context) (P : Set) (i : ℕ) (Ps : List Part) → length P ≡ K.width → get_or P i false ≡ true → IsExtent K P Ps
+    → IsExtentWith K P i Ps
 extent_with_own K P i Ps wide has extent =
     let up : within P (set P i true) ≡ true = within_set P i in
     extent_larger K P P i Ps extent (member_below P i has) up (set_within P P i (within_refl P) has)

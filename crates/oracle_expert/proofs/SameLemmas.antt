@@ -1,5 +1,7 @@
--- Oracles of one table. None of them ever drops a row. For as long as that is so, a row that is given is a row of the table, and a question that is confirmed
--- holds there; so all that is accepted holds in the table, and its rows respect it, and none breaks it. Once no question is open the accepted implications are
+-- Oracles of one table. None of them ever drops a row. For as long as that is so, a row that is given is a row of the table, and a question
+-- that is confirmed
+-- holds there; so all that is accepted holds in the table, and its rows respect it, and none breaks it. Once no question is open the
+-- accepted implications are
 -- the basis of the recorded rows. They hold in the table and the recorded rows are rows of it, so both have one basis.
 use Rattle.std.proofs.Common.{◌≡◌, ℕ, zero, suc, ◌+◌, ◌<◌, Bool, true, false, not, ◌&&◌, ◌||◌, cond, eqb, eq-eqb, Option, Some, None, List, [], ◌∷◌, ◌++◌, length, map, get_or, refl, sym, ap, ◌∙◌, subst, arith}
 use Rattle.std.proofs.lemmas.Bool.{and_parts, and_from, or_left, or_right, false≢true, not-true, eqb-true}
@@ -45,28 +47,34 @@ none_from : {X : Type 0} (p : X → Bool) (k : ℕ) (xs : List X) → position_f
 none_from p k [] h = refl
 none_from p k (x ∷ xs) h = go (p x) h (none_from p (k + 1) xs)
   where
-    go : (b : Bool) → cond b (Some k) (position_from p (k + 1) xs) ≡ None → (position_from p (k + 1) xs ≡ None → list_any p xs ≡ false) → (b || list_any p xs) ≡ false
+    go : (b : Bool) → cond b (Some k) (position_from p (k + 1) xs) ≡ None → (position_from p (k + 1) xs ≡ None → list_any p xs ≡ false)
+        → (b || list_any p xs) ≡ false
     go true h more = absurd (cc)
     go false h more = more h
 
 -- ---- a table of which no row was dropped
 
-free_rows : (q : Rule) (rows : List Set) → list_any (is_counterexample q) (zip rows (map (λ _. None) rows)) ≡ list_any (λ r. refutes r q) rows
+free_rows : (q : Rule) (rows : List Set) → list_any (is_counterexample q) (zip rows (map (λ _. None) rows)) ≡ list_any
+    (λ r. refutes r q) rows
 free_rows q [] = refl
-free_rows q (r ∷ rows) = ap (λ b. b || list_any (is_counterexample q) (zip rows (map (λ _. None) rows))) (and_true (refutes r q)) ∙ ap (λ b. refutes r q || b) (free_rows q rows)
+free_rows q (r ∷ rows) = ap (λ b. b || list_any (is_counterexample q) (zip rows (map (λ _. None) rows))) (and_true (refutes r q))
+    ∙ ap (λ b. refutes r q || b) (free_rows q rows)
 
 -- what is confirmed holds
-confirmed : (T : NamedContext) (q : Rule) → length q.conclusion ≡ T.context.width → counterexample T (no_conflict T) q ≡ None → holds T.context q ≡ true
+confirmed : (T : NamedContext) (q : Rule) → length q.conclusion ≡ T.context.width → counterexample T (no_conflict T) q ≡ None
+    → holds T.context q ≡ true
 confirmed T q wide none =
     unrefuted_holds T.context q wide
-    (sym (free_rows q T.context.rows) ∙ none_from (is_counterexample q) 0 (zip T.context.rows (no_conflict T)) (sym (position_from-zero (is_counterexample q) (zip T.context.rows (no_conflict T))) ∙ none))
+    (sym (free_rows q T.context.rows) ∙ none_from (is_counterexample q) 0 (zip T.context.rows (no_conflict T))
+    (sym (position_from-zero (is_counterexample q) (zip T.context.rows (no_conflict T))) ∙ none))
 
 -- a row of a context respects what holds there
 row_respects : (D : Context) (i : ℕ) (d : Set) (j : Rule) → i < length D.rows → holds D j ≡ true → respects (get_or D.rows i d) j ≡ true
 row_respects D i d j lt h =
     let r = get_or D.rows i d in
     let closed = all_at (λ row. respects row (rule j.premise (closure D j.premise))) D.rows i d lt (closure_in_rows D j.premise) in
-    respects_from r j (λ inside. within_trans j.conclusion (closure D j.premise) r h (respects_at r (rule j.premise (closure D j.premise)) closed inside))
+    respects_from r j (λ inside. within_trans j.conclusion (closure D j.premise) r h
+    (respects_at r (rule j.premise (closure D j.premise)) closed inside))
 
 -- ---- a state of which all is in the table
 
@@ -87,21 +95,27 @@ module _ (T : NamedContext) (e : ℕ) (i : is_expert e ≡ true) where
   Turned s cs due x = Step (next s x) (moment_after T (moment due cs) (reply_to s x)) (reply_to s x)
 
   -- a turn of one of the oracles
-  within_turn : (s : State) (due : Option Rule) → IsValid s → IsOpenTo T.context s → T.context.width ≡ s.context.width → IsWithin T.context s → Holding e s due
+  within_turn : (s : State) (due : Option Rule) → IsValid s → IsOpenTo T.context s → T.context.width ≡ s.context.width
+      → IsWithin T.context s → Holding e s due
       → Turned s (no_conflict T) due (event_due T e (no_conflict T) due)
   within_turn s None v open_to wide inside held =
-      draws s T e (no_conflict T) Step v open_to.all i (λ q _. (record { rows = inside.rows; rules = inside.rules }, refl, held_new e q s.holds))
+      draws s T e (no_conflict T) Step v open_to.all i
+      (λ q _. (record { rows = inside.rows; rules = inside.rules }, refl, held_new e q s.holds))
       (record { rows = inside.rows; rules = inside.rules }, refl, tt)
   within_turn s (Some q) v open_to wide inside held = go (counterexample T (no_conflict T) q) refl
     where
-      in_rows : (r : Set) → list_any (same r) T.context.rows ≡ true → list_all (λ row. list_any (same row) T.context.rows) (s.context.rows ++ r ∷ []) ≡ true
+      in_rows : (r : Set) → list_any (same r) T.context.rows ≡ true
+          → list_all (λ row. list_any (same row) T.context.rows) (s.context.rows ++ r ∷ []) ≡ true
       in_rows r h =
           list_all-append (λ row. list_any (same row) T.context.rows) s.context.rows (r ∷ [])
-          ∙ and_from (list_all (λ row. list_any (same row) T.context.rows) s.context.rows) (list_any (same r) T.context.rows && true) inside.rows (and_from (list_any (same r) T.context.rows) true h refl)
+          ∙ and_from (list_all (λ row. list_any (same row) T.context.rows) s.context.rows)
+          (list_any (same r) T.context.rows && true) inside.rows (and_from (list_any (same r) T.context.rows) true h refl)
 
       in_rules : holds T.context q ≡ true → list_all (holds T.context) (s.accepted ++ q ∷ []) ≡ true
       in_rules h =
-          list_all-append (holds T.context) s.accepted (q ∷ []) ∙ and_from (list_all (holds T.context) s.accepted) (holds T.context q && true) inside.rules (and_from (holds T.context q) true h refl)
+          list_all-append (holds T.context) s.accepted (q ∷ [])
+          ∙ and_from (list_all (holds T.context) s.accepted) (holds T.context q && true) inside.rules
+          (and_from (holds T.context q) true h refl)
 
       go : (m : Option ℕ) → counterexample T (no_conflict T) q ≡ m → Turned s (no_conflict T) (Some q) (event_of e (answer_with T m))
       go None none =
@@ -114,9 +128,13 @@ module _ (T : NamedContext) (e : ℕ) (i : is_expert e ≡ true) where
           let r = get_or T.context.rows j [] in
           let parts = and_parts (within q.premise r) (not (within q.conclusion r)) (c.refutes []) in
           let there : list_any (same r) T.context.rows ≡ true = any_at (same r) T.context.rows j [] c.in_table (same_refl r) in
-          let kept : respects_all s.accepted r ≡ true = list_all-mono (holds T.context) (respects r) (λ k h. row_respects T.context j [] k c.in_table h) s.accepted inside.rules in
-          let known : respects_all s.settings.known r ≡ true = list_all-mono (holds T.context) (respects r) (λ k h. row_respects T.context j [] k c.in_table h) s.settings.known open_to.known in
-          let kept_all : respects_all (rules_of s) r ≡ true = list_all-append (respects r) s.settings.known s.accepted ∙ and_from (respects_all s.settings.known r) (respects_all s.accepted r) known kept in
+          let kept : respects_all s.accepted r ≡ true =
+          list_all-mono (holds T.context) (respects r) (λ k h. row_respects T.context j [] k c.in_table h) s.accepted inside.rules in
+          let known : respects_all s.settings.known r ≡ true =
+          list_all-mono (holds T.context) (respects r)
+          (λ k h. row_respects T.context j [] k c.in_table h) s.settings.known open_to.known in
+          let kept_all : respects_all (rules_of s) r ≡ true = list_all-append (respects r) s.settings.known s.accepted
+          ∙ and_from (respects_all s.settings.known r) (respects_all s.accepted r) known kept in
           gives s T e (no_conflict T) Step q held (get_or T.objects j []) r parts.0 (not-true (within q.conclusion r) parts.1)
           (λ _ _ k. (record { rows = in_rows r there; rules = inside.rules }, refl, tt))
           (λ _ reply. (record { rows = inside.rows; rules = inside.rules }, refl, tt))
@@ -135,7 +153,8 @@ module _ (D : Context) (tables : ℕ → NamedContext) (same_context : (e : ℕ)
   abbrev moved : State → (ℕ → Moment) → SetEvent → ℕ → Moment
   moved s at x e = cond (eqb (expert_of x) e) (moment_after (tables e) (at e) (reply_to s x)) (at e)
 
-  module _ (s : State) (at : ℕ → Moment) (x : SetEvent) (es : List SetEvent) (v : IsValid s) (open_to : IsOpenTo D s) (wide : D.width ≡ s.context.width) (inside : IsWithin D s) (i : is_expert (expert_of x) ≡ true)
+  module _ (s : State) (at : ℕ → Moment) (x : SetEvent) (es : List SetEvent) (v : IsValid s) (open_to : IsOpenTo D s)
+      (wide : D.width ≡ s.context.width) (inside : IsWithin D s) (i : is_expert (expert_of x) ≡ true)
       (stand : AllStand s at (x ∷ es)) where
     abbrev entry : SetEntry
     entry = record { event = x; reply = reply_to s x }
@@ -148,21 +167,26 @@ module _ (D : Context) (tables : ℕ → NamedContext) (same_context : (e : ℕ)
     runs_here e b h = subst (λ b. OracleRunsFrom (tables e) e (at e) (cond b (entry ∷ rest e) (rest e))) h (stand.runs e)
 
     its_turn : (e : ℕ) → eqb (expert_of x) e ≡ true
-        → IsWithin D (next s x) × ((moment_after (tables e) (at e) (reply_to s x)).conflicts ≡ no_conflict (tables e)) × Holding e (next s x) (moment_after (tables e) (at e) (reply_to s x)).due
+        → IsWithin D (next s x) × ((moment_after (tables e) (at e) (reply_to s x)).conflicts ≡ no_conflict (tables e))
+        × Holding e (next s x) (moment_after (tables e) (at e) (reply_to s x)).due
     its_turn e t =
         let T = tables e in
         let due = (at e).due in
-        let is_due : x ≡ event_due T e (no_conflict T) due = (runs_here e true t).0 ∙ ap (λ (cs : Conflicts). event_due T e cs due) (stand.free e) in
+        let is_due : x ≡ event_due T e (no_conflict T) due = (runs_here e true t).0
+        ∙ ap (λ (cs : Conflicts). event_due T e cs due) (stand.free e) in
         let expert : is_expert e ≡ true = subst (λ (k : ℕ). is_expert k ≡ true) (eqb-true (expert_of x) e t) i in
         let turned : Turned T e expert s (no_conflict T) due x = subst (Turned T e expert s (no_conflict T) due) (sym is_due)
-        (within_turn T e expert s due v (subst (λ (C : Context). IsOpenTo C s) (sym (same_context e)) open_to) (ap (λ (C : Context). C.width) (same_context e) ∙ wide) (subst (λ (C : Context). IsWithin C s) (sym (same_context e)) inside) (stand.held e)) in
+        (within_turn T e expert s due v (subst (λ (C : Context). IsOpenTo C s) (sym (same_context e)) open_to)
+        (ap (λ (C : Context). C.width) (same_context e) ∙ wide) (subst (λ (C : Context). IsWithin C s) (sym (same_context e)) inside)
+        (stand.held e)) in
         let back = ap (λ (cs : Conflicts). (moment_after T (moment due cs) (reply_to s x)).conflicts) (stand.free e) in
         (subst (λ (C : Context). IsWithin C (next s x)) (same_context e) turned.0, back ∙ turned.1, turned.2)
 
     pub stays_within : IsWithin D (next s x)
     stays_within = (its_turn (expert_of x) (eq-eqb (expert_of x) (expert_of x) refl)).0
 
-    free_on : (e : ℕ) (b : Bool) → eqb (expert_of x) e ≡ b → (cond b (moment_after (tables e) (at e) (reply_to s x)) (at e)).conflicts ≡ no_conflict (tables e)
+    free_on : (e : ℕ) (b : Bool) → eqb (expert_of x) e ≡ b
+        → (cond b (moment_after (tables e) (at e) (reply_to s x)) (at e)).conflicts ≡ no_conflict (tables e)
     free_on e true t = (its_turn e t).1
     free_on e false f = stand.free e
 
@@ -170,19 +194,26 @@ module _ (D : Context) (tables : ℕ → NamedContext) (same_context : (e : ℕ)
     held_same e None f h = tt
     held_same e (Some q) f h = held_by_other s x e f ∙ h
 
-    held_on : (e : ℕ) (b : Bool) → eqb (expert_of x) e ≡ b → Holding e (next s x) (cond b (moment_after (tables e) (at e) (reply_to s x)) (at e)).due
+    held_on : (e : ℕ) (b : Bool) → eqb (expert_of x) e ≡ b
+        → Holding e (next s x) (cond b (moment_after (tables e) (at e) (reply_to s x)) (at e)).due
     held_on e true t = (its_turn e t).2
     held_on e false f = held_same e (at e).due f (stand.held e)
 
-    runs_on : (e : ℕ) (b : Bool) → eqb (expert_of x) e ≡ b → OracleRunsFrom (tables e) e (cond b (moment_after (tables e) (at e) (reply_to s x)) (at e)) (rest e)
+    runs_on : (e : ℕ) (b : Bool) → eqb (expert_of x) e ≡ b
+        → OracleRunsFrom (tables e) e (cond b (moment_after (tables e) (at e) (reply_to s x)) (at e)) (rest e)
     runs_on e true t = (runs_here e true t).2
     runs_on e false f = runs_here e false f
 
     pub stand_on : AllStand (next s x) (moved s at x) es
-    stand_on = record { free = λ e. free_on e (eqb (expert_of x) e) refl; held = λ e. held_on e (eqb (expert_of x) e) refl; runs = λ e. runs_on e (eqb (expert_of x) e) refl }
+    stand_on = record {
+      free = λ e. free_on e (eqb (expert_of x) e) refl;
+      held = λ e. held_on e (eqb (expert_of x) e) refl;
+      runs = λ e. runs_on e (eqb (expert_of x) e) refl;
+    }
 
     -- where an expert stands at the end
-    pub ends_alike : (e : ℕ) (b : Bool) → (moment_at (tables e) (cond b (moment_after (tables e) (at e) (reply_to s x)) (at e)) (rest e)).conflicts ≡ (moment_at (tables e) (at e) (cond b (entry ∷ rest e) (rest e))).conflicts
+    pub ends_alike : (e : ℕ) (b : Bool) → (moment_at (tables e) (cond b (moment_after (tables e) (at e) (reply_to s x)) (at e))
+        (rest e)).conflicts ≡ (moment_at (tables e) (at e) (cond b (entry ∷ rest e) (rest e))).conflicts
     ends_alike e true = refl
     ends_alike e false = refl
 
@@ -192,8 +223,10 @@ module _ (D : Context) (tables : ℕ → NamedContext) (same_context : (e : ℕ)
     all = ap (λ (t : Settings). t.holders) (next_settings s x) ∙ open_to.all;
   }
 
-  course : (es : List SetEvent) (s : State) (at : ℕ → Moment) → IsValid s → IsOpenTo D s → D.width ≡ s.context.width → list_all (λ event. is_expert (expert_of event)) es ≡ true → IsWithin D s → AllStand s at es
-      → IsWithin D (state_after s es) × ((e : ℕ) → (moment_at (tables e) (at e) (own (journal_of s es) e)).conflicts ≡ no_conflict (tables e))
+  course : (es : List SetEvent) (s : State) (at : ℕ → Moment) → IsValid s → IsOpenTo D s → D.width ≡ s.context.width
+      → list_all (λ event. is_expert (expert_of event)) es ≡ true → IsWithin D s → AllStand s at es
+      → IsWithin D (state_after s es) × ((e : ℕ) → (moment_at (tables e) (at e) (own (journal_of s es) e)).conflicts ≡ no_conflict
+      (tables e))
   unfolding state_after journal_of
   course [] s at v open_to wide is inside stand = (inside, stand.free)
   course (x ∷ es) s at v open_to wide is inside stand =
@@ -202,8 +235,10 @@ module _ (D : Context) (tables : ℕ → NamedContext) (same_context : (e : ℕ)
       (stays_within s at x es v open_to wide inside parts.0 stand) (stand_on s at x es v open_to wide inside parts.0 stand) in
       (more.0, λ e. sym (ends_alike s at x es v open_to wide inside parts.0 stand e (eqb (expert_of x) e)) ∙ more.1 e)
 
-  module _ (K : Context) (names : List RowName) (settings : Settings) (H : List SetEntry) (respecting : rows_respect settings.known K ≡ true) (most : settings.holders ≡ MAX_EXPERTS)
-      (known : list_all (holds D) settings.known ≡ true) (legal : IsLegal (opening K names settings) H) (wide : D.width ≡ K.width) (part : list_all (λ row. list_any (same row) D.rows) K.rows ≡ true)
+  module _ (K : Context) (names : List RowName) (settings : Settings) (H : List SetEntry)
+      (respecting : rows_respect settings.known K ≡ true) (most : settings.holders ≡ MAX_EXPERTS)
+      (known : list_all (holds D) settings.known ≡ true) (legal : IsLegal (opening K names settings) H) (wide : D.width ≡ K.width)
+      (part : list_all (λ row. list_any (same row) D.rows) K.rows ≡ true)
       (runs : (e : ℕ) → IsOracleFront (tables e) e (own H e)) where
     abbrev first : State
     first = opening K names settings
@@ -217,9 +252,19 @@ module _ (D : Context) (tables : ℕ → NamedContext) (same_context : (e : ℕ)
     whole : IsWithin D final × ((e : ℕ) → conflicts_of (tables e) (own H e) ≡ no_conflict (tables e))
     whole =
         let events = legal_events first H legal in
-        let all = course (events_of H) first (λ e. moment None (no_conflict (tables e))) valid (record { known = known; all = most }) wide events.0 (record { rows = part; rules = refl })
-        (record { free = λ e. refl; held = λ e. tt; runs = λ e. subst (λ J. OracleRunsFrom (tables e) e (moment None (no_conflict (tables e))) (own J e)) (sym legal.replayed) (runs e) }) in
-        (all.0, λ e. subst (λ J. (moment_at (tables e) (moment None (no_conflict (tables e))) (own J e)).conflicts ≡ no_conflict (tables e)) legal.replayed (all.1 e))
+        let all = course (events_of H) first (λ e. moment None (no_conflict (tables e))) valid
+        (record { known = known; all = most }) wide events.0 (record { rows = part; rules = refl })
+        (record {
+          free = λ e. refl;
+          held = λ e. tt;
+          runs =
+              λ e. subst (λ J. OracleRunsFrom (tables e) e (moment None (no_conflict (tables e))) (own J e)) (sym legal.replayed) (runs e);
+        })
+        in (
+          all.0,
+          λ e. subst (λ J. (moment_at (tables e) (moment None (no_conflict (tables e))) (own J e)).conflicts ≡ no_conflict
+              (tables e)) legal.replayed (all.1 e),
+        )
 
     -- nothing is dropped
     pub nothing_dropped : (e : ℕ) → conflicts_of (tables e) (own H e) ≡ no_conflict (tables e)
@@ -233,10 +278,12 @@ module _ (D : Context) (tables : ℕ → NamedContext) (same_context : (e : ℕ)
       accepted_all : SameMembers final.accepted (basis_known settings.known final.context)
       accepted_all =
           let v = run_valid first (events_of H) (legal_events first H legal).0 valid in
-          subst (λ (S : Settings). SameMembers final.accepted (basis_known S.known final.context)) settled (accepted_members final.settings.known final.context final.accepted v.accepted done)
+          subst (λ (S : Settings). SameMembers final.accepted (basis_known S.known final.context)) settled
+          (accepted_members final.settings.known final.context final.accepted v.accepted done)
 
       pub one_basis : basis_known settings.known final.context ≡ basis_known settings.known D
-      one_basis = agreeing_basis settings.known final.context D (wide ∙ sym (run_width first (events_of H))) whole.0.rows known (sym (accepted_all (holds D)) ∙ whole.0.rules)
+      one_basis = agreeing_basis settings.known final.context D (wide ∙ sym (run_width first (events_of H))) whole.0.rows known
+          (sym (accepted_all (holds D)) ∙ whole.0.rules)
 
       pub one_accepted : SameMembers final.accepted (basis_known settings.known D)
       one_accepted = λ p. accepted_all p ∙ ap (list_all p) one_basis

@@ -1,9 +1,11 @@
 -- Oracles: experts who answer from a table.
 --
--- An oracle answers a question by the first row of its table that refutes it, and confirms where none does. A row that broke an accepted implication is
+-- An oracle answers a question by the first row of its table that refutes it, and confirms where none does. A row that broke an accepted
+-- implication is
 -- dropped: it is not given again, and the implication is kept as its conflict.
 --
--- Of the rows {a} and {b} over a, b both refute {} -> {a, b}. The first is given; once it was dropped the second is; and then the question is confirmed.
+-- Of the rows {a} and {b} over a, b both refute {} -> {a, b}. The first is given; once it was dropped the second is; and then the question
+-- is confirmed.
 use Rattle.std.specs.Prelude.{◌≡◌, ℕ, ◌&&◌, Bool, Option, Some, None, List, [], map, position, slice_index_or, slice_get, slice_set}
 use Rattle.std.specs.List.{zip}
 use Rattle.std.specs.Option.{is_none}
@@ -31,7 +33,7 @@ is_counterexample q row = refutes row.0 q && is_none row.1
 abbrev pub counterexample : NamedContext → Conflicts → Rule → Option ℕ
 counterexample D conflicts q = position (is_counterexample q) (zip D.context.rows conflicts)
 
--- the answer that gives the row at this place under its object's name, and that confirms where there is none
+-- the answer that gives the row at this place under its object's name, or confirms if there is no place
 abbrev pub answer_with : NamedContext → Option ℕ → Answer
 answer_with D None = Confirm
 answer_with D (Some i) = Row (slice_index_or D.objects i []) (slice_index_or D.context.rows i [])
@@ -70,6 +72,6 @@ pub record Answers (old : Recall) (q : Rule) (answer : Answer) (new : Recall) : 
   pub answer_is : answer ≡ answer_of old.table old.conflicts q
   pub new_is : new ≡ record old { given = counterexample old.table old.conflicts q }
 
--- the oracle is told the reply to its answer
+-- the oracle learns the reply to its answer
 abbrev pub Learns : Recall → SetReply → Recall → Type 0
 Learns old reply new = new ≡ record old { conflicts = conflicts_told old.conflicts old.given reply }

@@ -1,6 +1,7 @@
 -- Runs of experts: what the entries of one expert in a history have to be.
 --
--- An expert draws, answers the question that it was asked, and draws again, until a draw is answered Done. Where its answer breaks a rule it still holds the
+-- An expert draws, answers the question that it was asked, and draws again, until a draw is answered Done. Where its answer breaks a rule
+-- it still holds the
 -- question, and answers it once more.
 use Rattle.std.specs.Prelude.{◌≡◌, ℕ, Bool, true, false, ◌⊎◌, Option, Some, None, option_and_then, List, [], ◌∷◌}
 use Rattle.fca_model.specs.declared.Event.TheVariants.{Draw}
@@ -13,10 +14,10 @@ use Rattle.oracle_expert.specs.Answers.{event_of}
 use Rattle.oracle_expert.specs.Oracles.{Conflicts, no_conflict, counterexample, answer_of, conflicts_told}
 
 -- the question that is due after a reply, where this one was due before; where none is, a draw is due
-abbrev pub due_after : Option Rule → SetReply → Option Rule
-due_after due (Ask q) = Some q
-due_after due (Breaks k i) = due
-due_after due _ = None
+abbrev pub question_after : Option Rule → SetReply → Option Rule
+question_after due (Ask q) = Some q
+question_after due (Breaks k i) = due
+question_after due _ = None
 
 -- after Done nothing comes
 abbrev pub StopsAtDone : SetReply → List SetEntry → Type 0
@@ -36,7 +37,7 @@ ends_done (entry ∷ next ∷ rest) = ends_done (next ∷ rest)
 -- ---- any expert, who remembers an M: the two relations say how it answers, and what it learns from the reply
 
 module _ {M : Type 0} (Answering : M → Rule → Answer → M → Type 0) (Learning : M → SetReply → M → Type 0) (e : ℕ) where
-  -- the expert's answer to q, of whose reply it is told
+  -- the expert answers q, and learns the reply
   pub record IsAnswered (q : Rule) (old : M) (entry : SetEntry) (new : M) : Type 0 where
     pub answer : Answer
     pub between : M
@@ -62,7 +63,8 @@ module _ {M : Type 0} (Answering : M → Rule → Answer → M → Type 0) (Lear
   -- the run from a moment at which this question is due, which stops in this way
   abbrev pub RunsTo : (Option Rule → M → M → Type 0) → Option Rule → M → List SetEntry → M → Type 0
   RunsTo Stopping due old [] new = Stopping due old new
-  RunsTo Stopping due old (entry ∷ rest) new = (next : M) × IsTurn due old entry next × StopsAtDone entry.reply rest × RunsTo Stopping (due_after due entry.reply) next rest new
+  RunsTo Stopping due old (entry ∷ rest) new = (next : M) × IsTurn due old entry next × StopsAtDone entry.reply rest
+      × RunsTo Stopping (question_after due entry.reply) next rest new
 
   abbrev pub RunsFrom : Option Rule → M → List SetEntry → M → Type 0
   RunsFrom due old entries new = RunsTo Stops due old entries new
@@ -97,7 +99,7 @@ row_due D m = option_and_then (counterexample D m.conflicts) m.due
 
 -- after the reply to what was due
 abbrev pub moment_after : NamedContext → Moment → SetReply → Moment
-moment_after D m reply = record { due = due_after m.due reply; conflicts = conflicts_told m.conflicts (row_due D m) reply }
+moment_after D m reply = record { due = question_after m.due reply; conflicts = conflicts_told m.conflicts (row_due D m) reply }
 
 -- after all replies
 abbrev pub moment_at : NamedContext → Moment → List SetEntry → Moment
@@ -107,7 +109,8 @@ moment_at D m (entry ∷ rest) = moment_at D (moment_after D m entry.reply) rest
 -- each event is what is due for an oracle of D with number e, from this moment on, and nothing comes after Done
 abbrev pub OracleRunsFrom : NamedContext → ℕ → Moment → List SetEntry → Type 0
 OracleRunsFrom D e m [] = Unit {0}
-OracleRunsFrom D e m (entry ∷ rest) = (entry.event ≡ event_due D e m.conflicts m.due) × StopsAtDone entry.reply rest × OracleRunsFrom D e (moment_after D m entry.reply) rest
+OracleRunsFrom D e m (entry ∷ rest) = (entry.event ≡ event_due D e m.conflicts m.due) × StopsAtDone entry.reply rest
+    × OracleRunsFrom D e (moment_after D m entry.reply) rest
 
 -- the entries are those of an oracle of D with number e, from its first draw on; they may stop at any moment
 abbrev pub IsOracleFront : NamedContext → ℕ → List SetEntry → Type 0

@@ -1,4 +1,4 @@
-//! Whoever answers the questions of an exploration.
+//! Experts, who answer the questions of an exploration.
 
 ghost use Rattle.std.specs.Prelude.{◌≡◌, ℕ, IfOk, OnErr};
 
@@ -17,6 +17,7 @@ pub enum Answer {
     Row { name: Name, row: Attrs },
 }
 
+/// One who answers questions and learns the replies to its answers.
 pub trait Expert {
     ghost use Rattle.fca_model.specs.Implications.{Rule};
     ghost use Rattle.fca_model.specs.Exploration.{SetReply};
@@ -27,6 +28,7 @@ pub trait Expert {
     /// What the expert remembers from one call to the next.
     type Memory;
 
+    /// The memory of an expert.
     ghost memory: { Self → Self.Memory };
 
     /// The width of its questions.
@@ -35,10 +37,10 @@ pub trait Expert {
     /// The memory before, the question, its answer and the memory after it.
     ghost answers: { Self.Memory → Rule → Answer → Self.Memory → Type 0 };
 
-    /// The memory before, the reply to its last answer, and the memory after it was told of it.
+    /// The memory before, the reply to its last answer, and the memory after it.
     ghost learns: { Self.Memory → SetReply → Self.Memory → Type 0 };
 
-    /// The answer to the question.
+    /// Answers the question.
     fn answer(&mut self, alloc: Global, question: &Question) -> Result<Answer, Memory>
         requires { IsWide (width self.old) question.now }
         ensures answers { IfOk result (λ answer. answers (memory self.old) question.now answer (memory self.new)) }
@@ -46,7 +48,7 @@ pub trait Expert {
         ensures err { OnErr result (memory self.new ≡ memory self.old) }
         ensures width { width self.new ≡ width self.old };
 
-    /// Told once after each answer that was given to a desk.
+    /// Learns the reply to the last answer. It is called once after each answer that a desk was given.
     fn told(&mut self, reply: &Reply)
         ensures learns { learns (memory self.old) reply.now (memory self.new) }
         ensures width { width self.new ≡ width self.old };

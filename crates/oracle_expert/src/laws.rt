@@ -3,7 +3,7 @@
 ghost use Rattle.std.specs.Prelude.{◌≡◌, ◌++◌, ◌∷◌, ◌+◌, ◌-◌, ◌*◌, ◌^◌, ◌≤◌, ◌<◌, ℕ, true, [], List, length};
 ghost use Rattle.std.specs.List.{list_all, list_any};
 ghost use Rattle.fca_model.specs.declared.Event.TheVariants.{Draw};
-ghost use Rattle.fca_model.specs.declared.TheConstants.{MAX_EXPERTS, MAX_OBJECTS};
+ghost use Rattle.fca_model.specs.declared.TheConstants.{MAX_EXPERTS, MAX_OBJECTS, MAX_SURVEYED, MAX_TURNS};
 ghost use Rattle.fca_model.specs.Sets.{Set, same};
 ghost use Rattle.fca_model.specs.Context.{Context};
 ghost use Rattle.fca_model.specs.Implications.{holds};
@@ -15,8 +15,8 @@ ghost use Rattle.oracle_expert.specs.Counts.{recorded_in, dropped};
 ghost use Rattle.oracle_expert.specs.Oracles.{Recall, Answers, Learns, no_conflict};
 ghost use Rattle.oracle_expert.specs.Runs.{SeatRun, IsOracleFront, IsOracleRun, ends_done, conflicts_of};
 
-/// What an oracle does at a seat is what is due for an oracle of its table, if no row was dropped before;
-/// where it ends with Done it is a whole run. It leaves the oracle with the conflicts of its entries.
+/// What an oracle does at a seat is due for an oracle of its table, if no row was dropped before. If it ends with Done, it is a
+/// whole run. It leaves the oracle with the conflicts of its entries.
 pub fn oracle_at_a_seat()
     ensures front { (e : ℕ) (old new : Recall) (entries : List SetEntry)
         → old.conflicts ≡ no_conflict old.table → SeatRun Answers Learns e old entries new
@@ -33,10 +33,10 @@ pub fn oracle_at_a_seat()
 {}
 
 /// Of a history `H` over a context whose rows respect what is known, where all experts may hold one question:
-/// an oracle makes at most two turns for each answer that was recorded in `H`, its own or another's, one for each row that it drops, and one more. So it
-/// makes fewer than 2 ^ 48 where there are at most 46 attributes and its table has no more rows than a table
-/// may have. The oracle's entries are the last of its expert's; others may stand before them. Of an oracle that
-/// dropped rows before, the rows that it drops in these entries count.
+/// an oracle makes at most two turns for each answer that was recorded in `H`, its own or another's, one for each row that it drops,
+/// and one more. So it makes fewer than `MAX_TURNS` if there are at most `MAX_SURVEYED` attributes and its table has at most
+/// `MAX_OBJECTS` rows. The oracle's entries are the last of its expert's; others may stand before them. If the oracle dropped rows
+/// before, only the rows that it drops in these entries count.
 pub fn turns_of_an_oracle()
     ensures bound { (K : Context) (names : List RowName) (settings : Settings) (H : List SetEntry)
         → rows_respect settings.known K ≡ true → settings.holders ≡ MAX_EXPERTS → IsLegal (opening K names settings) H
@@ -49,7 +49,7 @@ pub fn turns_of_an_oracle()
         → rows_respect settings.known K ≡ true → settings.holders ≡ MAX_EXPERTS → IsLegal (opening K names settings) H
         → (D : NamedContext) (e : ℕ) → is_expert e ≡ true → (before entries : List SetEntry)
         → own H e ≡ before ++ entries → IsOracleFront D e entries
-        → K.width ≤ 46 → length D.context.rows ≤ MAX_OBJECTS → length entries < 2 ^ 48 }
+        → K.width ≤ MAX_SURVEYED → length D.context.rows ≤ MAX_OBJECTS → length entries < MAX_TURNS }
     ensures any { (K : Context) (names : List RowName) (settings : Settings) (H : List SetEntry)
         → rows_respect settings.known K ≡ true → settings.holders ≡ MAX_EXPERTS → IsLegal (opening K names settings) H
         → (e : ℕ) → is_expert e ≡ true → (old new : Recall) (before entries : List SetEntry)
@@ -58,8 +58,8 @@ pub fn turns_of_an_oracle()
 {}
 
 /// Of a history `H` over a context whose rows respect what is known, where all experts may hold one question:
-/// between two draws of an oracle an answer is recorded, its own or another's. Both draws are among its entries, which are the last of its expert's: those
-/// behind the `earlier` ones.
+/// between two draws of an oracle an answer is recorded, its own or another's. Both draws are among its entries, which come last of
+/// its expert's entries, after the `earlier` ones.
 pub fn draws_of_an_oracle()
     ensures { (K : Context) (names : List RowName) (settings : Settings) (H : List SetEntry)
         → rows_respect settings.known K ≡ true → settings.holders ≡ MAX_EXPERTS → IsLegal (opening K names settings) H
@@ -70,9 +70,9 @@ pub fn draws_of_an_oracle()
         → first.event ≡ Draw e → second.event ≡ Draw e → 1 ≤ recorded_in between }
 {}
 
-/// Where all experts are oracles of tables with one context `C` in which all holds that is known, the rows of
-/// the opening are rows of it, and all may hold one question, no row is ever dropped; and once no question is
-/// open the basis of the recorded rows beside what is known is that of `C`, whose members are what was accepted.
+/// All experts are oracles of tables with one context `C`. All that is known holds in it, the rows of the opening are rows of it, and
+/// all experts may hold one question. Then no row is ever dropped. Once no question is open, the basis of the recorded rows beside
+/// what is known is that of `C`, and its members are the accepted implications.
 pub fn same_table_same_basis()
     ensures dropped { (C K : Context) (names : List RowName) (settings : Settings) (H : List SetEntry) (tables : ℕ → NamedContext)
         → rows_respect settings.known K ≡ true → settings.holders ≡ MAX_EXPERTS → list_all (holds C) settings.known ≡ true

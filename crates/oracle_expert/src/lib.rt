@@ -1,4 +1,4 @@
-//! Experts who answer questions, and oracles: experts who answer from a table.
+//! Experts, who answer questions, and oracles: experts who answer from a table.
 #![tactic(auto)]
 
 mod expert;

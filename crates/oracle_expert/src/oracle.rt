@@ -20,7 +20,8 @@ use implication_closure::Question;
 use std::alloc::{AllocError, Global};
 use std::marker::Model;
 
-/// An expert who answers from a table: by the first row that refutes the question and was not dropped, and else it confirms.
+/// An expert who answers from a table. Its answer is the first row that refutes the question and was not dropped. If there is no
+/// such row, it confirms.
 #[derive(Drop)]
 pub struct Oracle {
     table: Table,
@@ -42,12 +43,12 @@ impl Model for Oracle {
 }
 
 impl Oracle {
-    /// The oracle of the table. It has room for one conflict of each row.
+    /// Makes the oracle of the table, with room for one conflict of each row.
     pub fn new(alloc: Global, table: Table) -> Result<Oracle, Memory>
         ensures { IfOk result (λ oracle. oracle ≡ untold table) }
     {
         let narrow = narrow_rows(alloc, table.rows())?;
-        let conflicts = undropped(alloc, table.rows().as_slice())?;
+        let conflicts = no_conflicts(alloc, table.rows().as_slice())?;
         Ok(Oracle {
             table,
             narrow,
@@ -65,7 +66,7 @@ impl Oracle {
         &self.table
     }
 
-    /// The place of the accepted implication against which the row was dropped, and none where it was not dropped.
+    /// The place of the accepted implication against which the row was dropped, or `None` if it was not dropped.
     pub fn conflict(&self, row: usize) -> Option<usize>
         requires { row < length self.now.table.context.rows }
         ensures { slice_get self.now.conflicts row ≡ Some result }
@@ -101,8 +102,8 @@ impl Expert for Oracle {
     }
 }
 
-/// A place for the conflict of each row.
-fn undropped(alloc: Global, rows: &[Attrs]) -> Result<Vec<Option<usize>>, AllocError>
+/// A place for the conflict of each row. No row has one yet.
+fn no_conflicts(alloc: Global, rows: &[Attrs]) -> Result<Vec<Option<usize>>, AllocError>
     ensures { IfOk result (λ conflicts. conflicts.items ≡ map (λ _. None) rows.now) }
 {
     rows.iter().map(|_row| None).collect(alloc)
@@ -122,12 +123,13 @@ fn counterexample(
 {
     match narrow {
         NarrowRows::One(sheet) => counterexample_on(alloc, sheet, conflicts, question),
+        NarrowRows::Two(sheet) => counterexample_on(alloc, sheet, conflicts, question),
         NarrowRows::Four(sheet) => counterexample_on(alloc, sheet, conflicts, question),
         NarrowRows::Wide => counterexample_among(table.rows(), conflicts, question),
     }
 }
 
-/// The same, on a sheet of W words: where the columns tell that no row refutes the question, the rows are not gone through.
+/// Looks for the counterexample on a sheet of W words. If the columns show that no row refutes the question, no row is looked at.
 fn counterexample_on<const W: usize>(
     alloc: Global,
     sheet: &IndexedRows<W>,
@@ -146,7 +148,8 @@ fn counterexample_on<const W: usize>(
     first_refuting(sheet.rows().as_slice(), conflicts, &premise, &conclusion)
 }
 
-/// Whether the columns tell that the implication holds. It may hold where they do not: where the premise is empty, or there is no memory to look.
+/// Whether the columns show that the implication holds. It may hold though they do not: if the premise is empty, or memory runs
+/// out.
 fn is_seen_to_hold<const W: usize>(
     alloc: Global,
     sheet: &IndexedRows<W>,
@@ -167,7 +170,7 @@ fn is_seen_to_hold<const W: usize>(
     }
 }
 
-/// The same, among rows of W words.
+/// Looks for the counterexample among rows of W words.
 fn counterexample_among<const W: usize>(
     rows: &RowsOf<W>,
     conflicts: &[Option<usize>],
@@ -198,7 +201,7 @@ fn first_refuting<const W: usize>(
     )
 }
 
-/// The answer that gives the row at this place, or confirms where there is none.
+/// The answer that gives the row at this place, or confirms if there is no place.
 fn answer_with(table: &Table, place: Option<usize>) -> Result<Answer, Memory>
     requires { IfSome place (λ i. i < length table.now.context.rows) }
     ensures answer { IfOk result (λ answer. answer ≡ answer_with table.now place) }
@@ -212,7 +215,7 @@ fn answer_with(table: &Table, place: Option<usize>) -> Result<Answer, Memory>
     Ok(Answer::Row { name, row })
 }
 
-/// Drops the row that was given, if one was and it was not dropped before, against the implication at this place.
+/// Drops the row that was given against the implication at this place, if a row was given and it was not dropped before.
 fn drop_given(conflicts: &mut [Option<usize>], given: Option<usize>, place: usize)
     ensures { conflicts.new ≡ drop_given conflicts.old given place }
 {

@@ -12,7 +12,7 @@ use Rattle.atomic_table.specs.declared.shared.Seat.{Seat}
 use Rattle.turn_lock.specs.declared.view.View.{View}
 use Rattle.turn_lock.specs.Histories.{StartsWith, Among, own_of}
 use Rattle.turn_lock.specs.Turns.{Turned}
-use Rattle.turn_lock.specs.Passes.{Lock, Known, badge, badges, roll, Belongs, Told}
+use Rattle.turn_lock.specs.Passes.{Lock, Known, badge, badges, roll, Belongs, ClosesWith}
 use Rattle.turn_lock.specs.Seats.{known, all_gathered}
 use Rattle.turn_lock.proofs.StepLemmas.{closes}
 use Rattle.turn_lock.proofs.HistoryLemmas.{All-among}
@@ -50,7 +50,8 @@ module _ {B E : Type 0} where
       let most = h.4 in
       (h.0, h.1, h.2, omega arith, omega arith)
 
-  one_lock : (id : TableId) (b : Option B) (turns n k : ℕ) (ps : List (Known B E)) → map badge ps ≡ badges id b turns n k → All (λ p. p.lock ≡ id) ps
+  one_lock : (id : TableId) (b : Option B) (turns n k : ℕ) (ps : List (Known B E)) → map badge ps ≡ badges id b turns n k
+      → All (λ p. p.lock ≡ id) ps
   one_lock id b turns n k ps e i d l = (on_list id b turns n k ps e i d l).0
 
   -- each pass on the roll belongs to the lock
@@ -61,10 +62,19 @@ module _ {B E : Type 0} where
       let number : p.number ≡ 1 = ap (λ x. x.number) h in
       record { lock = ap (λ x. x.lock) h; base = ap (λ x. x.base) h; turns = ap (λ x. x.turns) h; number = (omega arith, omega arith) }
   roll-belongs l (p ∷ ps) some_passes e (suc i) d near =
-      let h = on_list l.id (Some l.base) l.turns 2 (l.passes - 1) ps (tails (badge p) _ (map badge ps) (badges l.id (Some l.base) l.turns 2 (l.passes - 1)) e) i d (omega arith) in
+      let h = on_list l.id (Some l.base) l.turns 2 (l.passes - 1) ps
+      (tails (badge p) _ (map badge ps) (badges l.id (Some l.base) l.turns 2 (l.passes - 1)) e) i d (omega arith) in
       let least = h.3 in
       let most = h.4 in
       record { lock = h.0; base = h.1; turns = h.2; number = (omega arith, omega arith) }
+
+  -- there are as many passes on the roll as the lock was made with
+  pub length-roll : (l : Lock B) (ps : List (Known B E)) → 1 ≤ l.passes → map badge ps ≡ roll l → length ps ≡ l.passes
+  length-roll l ps some_passes e =
+      let long = length-badges l.id (Some l.base) l.turns 2 (l.passes - 1) in
+      let all : length (map badge ps) ≡ suc (length (badges l.id (Some l.base) l.turns 2 (l.passes - 1))) = ap length e in
+      let same : length (map badge ps) ≡ length ps = length-map ps badge in
+      omega arith
 
   has_first : (l : Lock B) (ps : List (Known B E)) → map badge ps ≡ roll l → 0 < length ps
   has_first l [] e = let h = ap length e in absurd (omega arith)
@@ -72,34 +82,43 @@ module _ {B E : Type 0} where
 
 module _ {V B E : Type 0} where
   -- pass 1, as it was taken off the list, and the rest are all
-  pub whole : (l : Lock B) (all rest : List (Known B E)) (p : Known B E) (t : Seat V (View B E)) → map badge all ≡ roll l → p ≡ get_or all 0 p → rest ≡ take 0 all ++ drop 1 all → known t ≡ p → known t ∷ rest ≡ all
-  whole l all rest p t passes first left is = ap (λ (p : Known B E). p ∷ rest) is ∙ (ap (λ ps. p ∷ ps) left ∙ front all p (has_first l all passes) first)
+  pub whole : (l : Lock B) (all rest : List (Known B E)) (p : Known B E) (t : Seat V (View B E)) → map badge all ≡ roll l
+      → p ≡ get_or all 0 p → rest ≡ take 0 all ++ drop 1 all → known t ≡ p → known t ∷ rest ≡ all
+  whole l all rest p t passes first left is = ap (λ (p : Known B E). p ∷ rest) is
+      ∙ (ap (λ ps. p ∷ ps) left ∙ front all p (has_first l all passes) first)
 
   -- the rest are of its lock
-  pub rest_of_lock : (l : Lock B) (t : Seat V (View B E)) (rest all : List (Known B E)) → known t ∷ rest ≡ all → map badge all ≡ roll l → All (λ p. p.lock ≡ t.table_id) rest
+  pub rest_of_lock : (l : Lock B) (t : Seat V (View B E)) (rest all : List (Known B E)) → known t ∷ rest ≡ all → map badge all ≡ roll l
+      → All (λ p. p.lock ≡ t.table_id) rest
   rest_of_lock l t rest all these passes =
       let are = ap (map badge) these ∙ passes in
       let others = badges l.id (Some l.base) l.turns 2 (l.passes - 1) in
       let first = heads (badge (known t)) _ (map badge rest) others are in
-      subst (λ id. All (λ p. p.lock ≡ id) rest) (sym (ap (λ x. x.lock) first)) (one_lock l.id (Some l.base) l.turns 2 (l.passes - 1) rest (tails (badge (known t)) _ (map badge rest) others are))
+      subst (λ id. All (λ p. p.lock ≡ id) rest) (sym (ap (λ x. x.lock) first))
+      (one_lock l.id (Some l.base) l.turns 2 (l.passes - 1) rest (tails (badge (known t)) _ (map badge rest) others are))
 
 module _ {V B E : Type 0} (base_of : V → B) (history_of : V → List E) (legal : B → List E → Type 0) (by : E → ℕ) where
-  closing : (b : B) (turns id : ℕ) (l : Lock B) (t : Seat V (View B E)) (ps : List (Known B E)) (s : State V (View B E)) → Turned base_of history_of legal by b turns s
-      → get_elem? s.views id ≡ some (all_gathered t.me.0 ps) → t.me.0.mine ≡ false → t.me.0.stands ≡ 1 → map badge (known t ∷ ps) ≡ roll l → 0 < l.passes
-      → (value : V) × (s.homes ≡ some value ∷ []) × (base_of value ≡ b) × Told legal by b (history_of value) (known t ∷ ps)
+  closing : (b : B) (turns id : ℕ) (l : Lock B) (t : Seat V (View B E)) (ps : List (Known B E)) (s : State V (View B E))
+      → Turned base_of history_of legal by b turns s
+      → get_elem? s.views id ≡ some (all_gathered t.me.0 ps) → t.me.0.mine ≡ false → t.me.0.stands ≡ 1 → map badge (known t ∷ ps) ≡ roll l
+      → 0 < l.passes
+      → (value : V) × (s.homes ≡ some value ∷ []) × (base_of value ≡ b) × ClosesWith legal by b (history_of value) (known t ∷ ps)
   closing b turns id l t ps s r at idle one are some_passes =
       let v : View B E = all_gathered t.me.0 ps in
       let stays = stays_one t.me.0 ps in
       let head = heads (badge (known t)) _ (map badge ps) (badges l.id (Some l.base) l.turns 2 (l.passes - 1)) are in
       let is_one : t.me.0.number ≡ 1 = ap (λ x. x.number) head in
       let passes : t.me.0.passes ≡ l.passes = ap (λ x. x.passes) head in
-      let long : length (map badge ps) ≡ length (badges l.id (Some l.base) l.turns 2 (l.passes - 1)) = ap length (tails (badge (known t)) _ (map badge ps) (badges l.id (Some l.base) l.turns 2 (l.passes - 1)) are) in
-      let long' : length ps ≡ l.passes - 1 = sym (length-map ps badge) ∙ (long ∙ length-badges l.id (Some l.base) l.turns 2 (l.passes - 1)) in
+      let long : length (map badge ps) ≡ length (badges l.id (Some l.base) l.turns 2 (l.passes - 1)) =
+      ap length (tails (badge (known t)) _ (map badge ps) (badges l.id (Some l.base) l.turns 2 (l.passes - 1)) are) in
+      let long' : length ps ≡ l.passes - 1 = sym (length-map ps badge)
+      ∙ (long ∙ length-badges l.id (Some l.base) l.turns 2 (l.passes - 1)) in
       let stands = stays.4 in
       let made = stays.2 in
       let q = closes base_of history_of legal by b turns id v s r at (stays.0 ∙ is_one) (omega arith) (stays.1 ∙ idle) in
       let log : List E = history_of q.0 in
-      let sees : (h : List E) → ((v.seen ≡ h) ⊎ Among v.shown h) → StartsWith log h = λ h has. ⊎_elim (λ e. subst (StartsWith log) e q.4) (λ m. q.5 h m) has in (
+      let sees : (h : List E) → ((v.seen ≡ h) ⊎ Among v.shown h)
+      → StartsWith log h = λ h has. ⊎_elim (λ e. subst (StartsWith log) e q.4) (λ m. q.5 h m) has in (
         q.0,
         q.1,
         q.2,
@@ -109,20 +128,24 @@ module _ {V B E : Type 0} (base_of : V → B) (history_of : V → List E) (legal
               (λ e. sees p.seen (keeps_seen t.me.0 ps p.seen (inl (ap (λ (p : Known B E). p.seen) e))))
               (λ m. sees p.seen (has_seen t.me.0 ps p m)) am);
           own = All-among (λ p. own_of by p.number log ≡ p.own) (known t ∷ ps) (λ p am. ⊎_elim
-              (λ e. ap (λ (n : ℕ). own_of by n log) (sym (ap (λ (p : Known B E). p.number) e) ∙ is_one) ∙ (sym q.6 ∙ (stays.3 ∙ ap (λ (p : Known B E). p.own) e)))
+              (λ e. ap (λ (n : ℕ). own_of by n log) (sym (ap (λ (p : Known B E). p.number) e) ∙ is_one)
+              ∙ (sym q.6 ∙ (stays.3 ∙ ap (λ (p : Known B E). p.own) e)))
               (λ m. sym (q.7 (record { number = p.number; own = p.own }) (has_joined t.me.0 ps p m))) am);
           others = λ n h. q.8 n (⊎_elim (λ z. inl z) (λ z. inr (omega arith)) h);
         },
       )
 
   -- the same of the value that is taken from the closed table, and of all passes
-  pub settled : (b : B) (turns id : ℕ) (l : Lock B) (t : Seat V (View B E)) (ps all : List (Known B E)) (m : Me V (View B E)) (ws : List ℕ) (xs : List V) (taken : V)
-      → Final (Seen (Turned base_of history_of legal by b turns) id m.0) ws xs → m ≡ (all_gathered t.me.0 ps, []) → get_elem? xs 0 ≡ some taken
+  pub settled : (b : B) (turns id : ℕ) (l : Lock B) (t : Seat V (View B E)) (ps all : List (Known B E)) (m : Me V (View B E)) (ws : List ℕ)
+      (xs : List V) (taken : V)
+      → Final (Seen (Turned base_of history_of legal by b turns) id m.0) ws xs → m ≡ (all_gathered t.me.0 ps, [])
+      → get_elem? xs 0 ≡ some taken
       → t.me.0.mine ≡ false → t.me.0.stands ≡ 1 → known t ∷ ps ≡ all → map badge all ≡ roll l → 0 < l.passes → b ≡ l.base
-      → (base_of taken ≡ l.base) × Told legal by l.base (history_of taken) all
+      → (base_of taken ≡ l.base) × ClosesWith legal by l.base (history_of taken) all
   settled b turns id l t ps all m ws xs taken final is there idle one these are some_passes based =
-      let q = closing b turns id l t ps final.0 final.1.0 (final.1.1 ∙ ap (λ (z : Me V (View B E)). some z.0) is) idle one (ap (map badge) these ∙ are) some_passes in
+      let q = closing b turns id l t ps final.0 final.1.0 (final.1.1 ∙ ap (λ (z : Me V (View B E)). some z.0) is) idle one
+      (ap (map badge) these ∙ are) some_passes in
       let at = final.4 0 q.0 (ap (λ h. get_elem? h 0) q.1) in
       let same : q.0 ≡ taken = some-injective q.0 taken (sym at ∙ there) in
-      subst (λ (v : V). (base_of v ≡ l.base) × Told legal by l.base (history_of v) all) same
-      (q.2 ∙ based, subst (λ (z : B × List (Known B E)). Told legal by z.0 (history_of q.0) z.1) (λ i. (based i, these i)) q.3)
+      subst (λ (v : V). (base_of v ≡ l.base) × ClosesWith legal by l.base (history_of v) all) same
+      (q.2 ∙ based, subst (λ (z : B × List (Known B E)). ClosesWith legal by z.0 (history_of q.0) z.1) (λ i. (based i, these i)) q.3)

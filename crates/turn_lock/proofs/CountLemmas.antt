@@ -4,6 +4,7 @@
 use Rattle.std.proofs.Common.{◌≡◌, ◌≢◌, ℕ, ◌+◌, ◌*◌, ◌^◌, ◌<◌, ◌≤◌, List, [], ◌∷◌, ◌++◌, set, arith, mul-add, mul-le-mul_left}
 use mathlib.Core.Option.{some}
 use lib.ListN.{get_elem?}
+use Rattle.fca_model.specs.declared.TheConstants.{MAX_TURNS}
 use Rattle.turn_lock.specs.declared.view.View.{View}
 use Rattle.turn_lock.specs.Histories.{total}
 use Rattle.turn_lock.specs.Turns.{Counts}
@@ -21,7 +22,8 @@ module _ {B E : Type 0} where
       omega arith
 
   -- a view draws k tickets
-  pub Counts-set : (turns made drawn drawn' k : ℕ) (vs : List (View B E)) (id : ℕ) (v w : View B E) → get_elem? vs id ≡ some v → drawn' ≡ drawn + k → w.drawn ≡ v.drawn + k → w.stands ≡ v.stands → v.drawn + k ≤ turns * v.stands
+  pub Counts-set : (turns made drawn drawn' k : ℕ) (vs : List (View B E)) (id : ℕ) (v w : View B E) → get_elem? vs id ≡ some v
+      → drawn' ≡ drawn + k → w.drawn ≡ v.drawn + k → w.stands ≡ v.stands → v.drawn + k ≤ turns * v.stands
       → Counts turns made drawn vs → Counts turns made drawn' (set vs id w)
   Counts-set turns made drawn drawn' k vs id v w at more new same room r =
       let drew = total-set (λ (v : View B E). v.drawn) vs id v w at in
@@ -35,7 +37,8 @@ module _ {B E : Type 0} where
       }
 
   -- one more pass is made
-  pub Counts-longer : (turns made drawn : ℕ) (vs : List (View B E)) (w : View B E) → w.drawn ≡ 0 → w.stands ≡ 1 → made < 64 → Counts turns made drawn vs → Counts turns (made + 1) drawn (vs ++ w ∷ [])
+  pub Counts-longer : (turns made drawn : ℕ) (vs : List (View B E)) (w : View B E) → w.drawn ≡ 0 → w.stands ≡ 1 → made < 64
+      → Counts turns made drawn vs → Counts turns (made + 1) drawn (vs ++ w ∷ [])
   Counts-longer turns made drawn vs w none one few r =
       let drew = total-push (λ (v : View B E). v.drawn) vs w in
       let stood = total-push (λ (v : View B E). v.stands) vs w in
@@ -48,7 +51,8 @@ module _ {B E : Type 0} where
       }
 
   -- one view takes in what another has drawn and stands for
-  pub Counts-joined : (turns made drawn : ℕ) (vs : List (View B E)) (id : ℕ) (v v' : View B E) (other : ℕ) (w x : View B E) → other ≢ id → get_elem? vs id ≡ some v → get_elem? vs other ≡ some w → get_elem? (set vs id v') other ≡ some w
+  pub Counts-joined : (turns made drawn : ℕ) (vs : List (View B E)) (id : ℕ) (v v' : View B E) (other : ℕ) (w x : View B E) → other ≢ id
+      → get_elem? vs id ≡ some v → get_elem? vs other ≡ some w → get_elem? (set vs id v') other ≡ some w
       → v'.drawn ≡ v.drawn + w.drawn → v'.stands ≡ v.stands + w.stands → x.drawn ≡ 0 → x.stands ≡ 0
       → Counts turns made drawn vs → Counts turns made drawn (set (set vs id v') other x)
   Counts-joined turns made drawn vs id v v' other w x ne at at_w there_w drawn_v stands_v drawn_x stands_x r =
@@ -62,12 +66,13 @@ module _ {B E : Type 0} where
       let most_w = r.most other w at_w in record {
         sum = omega arith;
         most = after (λ i (u : View B E). u.drawn ≤ turns * u.stands) (set vs id v') other x (rw drawn_x (omega arith))
-            (λ j u o there. after (λ j (u : View B E). u.drawn ≤ turns * u.stands) vs id v' (rw (drawn_v, stands_v) (omega (arith, mul-add turns v.stands w.stands))) (λ j u o2 there. r.most j u there) j u there);
+            (λ j u o there. after (λ j (u : View B E). u.drawn ≤ turns * u.stands) vs id v'
+            (rw (drawn_v, stands_v) (omega (arith, mul-add turns v.stands w.stands))) (λ j u o2 there. r.most j u there) j u there);
         stand = omega arith;
         few = r.few;
       }
 
-  pub Counts-first : (turns : ℕ) (w : View B E) → w.drawn ≡ 0 → w.stands ≡ 1 → turns ≤ 2 ^ 48 → Counts turns 1 0 (w ∷ [])
+  pub Counts-first : (turns : ℕ) (w : View B E) → w.drawn ≡ 0 → w.stands ≡ 1 → turns ≤ MAX_TURNS → Counts turns 1 0 (w ∷ [])
   Counts-first turns w none one few = record {
     sum = omega arith;
     most = only (λ i (u : View B E). u.drawn ≤ turns * u.stands) w (rw none (omega arith));

@@ -1,5 +1,5 @@
 mod ViewLemmas
-mod HistoryLemmas
+pub mod HistoryLemmas
 mod TicketLemmas
 mod CountLemmas
 mod NumberLemmas

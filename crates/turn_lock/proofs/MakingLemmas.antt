@@ -14,9 +14,12 @@ use Rattle.turn_lock.specs.Seats.{known, Making, gathered, all_gathered}
 use Rattle.turn_lock.proofs.HistoryLemmas.{among_left, among_right}
 
 module _ {B : Type 0} where
-  pub badges-push : (id : TableId) (b : Option B) (turns n k m : ℕ) → m ≡ n + k → badges id b turns n (suc k) ≡ badges id b turns n k ++ record { lock = id; number = m; base = b; turns = turns; passes = 0 } ∷ []
-  badges-push id b turns n zero m e = let is : n ≡ m = omega arith in λ i. record { lock = id; number = is i; base = b; turns = turns; passes = 0 } ∷ []
-  badges-push id b turns n (suc k) m e = ap (λ l. record { lock = id; number = n; base = b; turns = turns; passes = 0 } ∷ l) (badges-push id b turns (suc n) k m (omega arith))
+  pub badges-push : (id : TableId) (b : Option B) (turns n k m : ℕ) → m ≡ n + k
+      → badges id b turns n (suc k) ≡ badges id b turns n k ++ record { lock = id; number = m; base = b; turns = turns; passes = 0 } ∷ []
+  badges-push id b turns n zero m e = let is : n ≡ m = omega arith in
+      λ i. record { lock = id; number = is i; base = b; turns = turns; passes = 0 } ∷ []
+  badges-push id b turns n (suc k) m e = ap (λ l. record { lock = id; number = n; base = b; turns = turns; passes = 0 } ∷ l)
+      (badges-push id b turns (suc n) k m (omega arith))
 
   pub length-badges : (id : TableId) (b : Option B) (turns n k : ℕ) → length (badges id b turns n k) ≡ k
   length-badges id b turns n zero = refl
@@ -38,7 +41,8 @@ module _ {V B E : Type 0} where
   }
 
   -- the pass that is cut off is fresh, and has the next number
-  pub is_new : (turns k : ℕ) (id : TableId) (b : Option B) (t u : Seat V (View B E)) → Making turns k t → t.me.0.base ≡ b → u.table_id ≡ id → u.me ≡ (newcomer t.me.0, [])
+  pub is_new : (turns k : ℕ) (id : TableId) (b : Option B) (t u : Seat V (View B E)) → Making turns k t → t.me.0.base ≡ b → u.table_id ≡ id
+      → u.me ≡ (newcomer t.me.0, [])
       → (badge (known u) ≡ record { lock = id; number = k + 1; base = b; turns = turns; passes = 0 }) × IsFresh (known u)
   is_new turns k id b t u m based there e =
       let v = ap (λ z. z.0) e in
@@ -50,24 +54,30 @@ module _ {V B E : Type 0} where
         (ap (λ w. w.seen) v ∙ m.seen, ap (λ w. w.own) v, ap (λ w. w.drawn) v),
       )
 
-  pub one_joins : (v : View B E) (t : Seat V (View B E)) (ps : List (Known B E)) → t.me.0.stands ≡ 1 → all_gathered (joined_with v t.me.0) ps ≡ all_gathered v (known t ∷ ps)
+  pub one_joins : (v : View B E) (t : Seat V (View B E)) (ps : List (Known B E)) → t.me.0.stands ≡ 1
+      → all_gathered (joined_with v t.me.0) ps ≡ all_gathered v (known t ∷ ps)
   one_joins v t ps one = ap (λ (n : ℕ). all_gathered (record (joined_with v t.me.0) { stands = v.stands + n }) ps) one
 
 module _ {B E : Type 0} where
   -- what stays of the view of pass 1
-  pub stays_one : (v : View B E) (ps : List (Known B E)) → ((all_gathered v ps).number ≡ v.number) × ((all_gathered v ps).mine ≡ v.mine) × ((all_gathered v ps).passes ≡ v.passes) × ((all_gathered v ps).own ≡ v.own) × ((all_gathered v ps).stands ≡ v.stands + length ps)
+  pub stays_one : (v : View B E) (ps : List (Known B E))
+      → ((all_gathered v ps).number ≡ v.number) × ((all_gathered v ps).mine ≡ v.mine) × ((all_gathered v ps).passes ≡ v.passes)
+      × ((all_gathered v ps).own ≡ v.own) × ((all_gathered v ps).stands ≡ v.stands + length ps)
   stays_one v [] = (refl, refl, refl, refl, omega arith)
   stays_one v (p ∷ ps) = let h = stays_one (gathered v p) ps in let s = h.4 in (h.0, h.1, h.2, h.3, omega arith)
 
   pub keeps_joined : (v : View B E) (ps : List (Known B E)) (left : Left E) → Among v.joined left → Among (all_gathered v ps).joined left
   keeps_joined v [] left a = a
-  keeps_joined v (p ∷ ps) left a = keeps_joined (gathered v p) ps left (among_left v.joined (record { number = p.number; own = p.own } ∷ []) left a)
+  keeps_joined v (p ∷ ps) left a = keeps_joined (gathered v p) ps left
+      (among_left v.joined (record { number = p.number; own = p.own } ∷ []) left a)
 
   -- each pass's entries are kept
-  pub has_joined : (v : View B E) (ps : List (Known B E)) (p : Known B E) → Among ps p → Among (all_gathered v ps).joined (record { number = p.number; own = p.own })
+  pub has_joined : (v : View B E) (ps : List (Known B E)) (p : Known B E) → Among ps p
+      → Among (all_gathered v ps).joined (record { number = p.number; own = p.own })
   has_joined v [] p a = absurd a
   has_joined v (q ∷ ps) p a = ⊎_elim
-      (λ e. keeps_joined (gathered v q) ps (record { number = p.number; own = p.own }) (among_right v.joined (record { number = q.number; own = q.own } ∷ []) (record { number = p.number; own = p.own })
+      (λ e. keeps_joined (gathered v q) ps (record { number = p.number; own = p.own })
+      (among_right v.joined (record { number = q.number; own = q.own } ∷ []) (record { number = p.number; own = p.own })
       (inl (ap (λ (q : Known B E). record { number = q.number; own = q.own }) e))))
       (λ m. has_joined (gathered v q) ps p m) a
 
@@ -77,10 +87,12 @@ module _ {B E : Type 0} where
 
   pub keeps_seen : (v : View B E) (ps : List (Known B E)) (h : List E) → Has v h → Has (all_gathered v ps) h
   keeps_seen v [] h a = a
-  keeps_seen v (p ∷ ps) h a = keeps_seen (gathered v p) ps h (inr (⊎_elim (λ e. among_right v.shown (v.seen ∷ p.seen ∷ []) h (inl e)) (λ m. among_left v.shown (v.seen ∷ p.seen ∷ []) h m) a))
+  keeps_seen v (p ∷ ps) h a = keeps_seen (gathered v p) ps h
+      (inr (⊎_elim (λ e. among_right v.shown (v.seen ∷ p.seen ∷ []) h (inl e)) (λ m. among_left v.shown (v.seen ∷ p.seen ∷ []) h m) a))
 
   pub has_seen : (v : View B E) (ps : List (Known B E)) (p : Known B E) → Among ps p → Has (all_gathered v ps) p.seen
   has_seen v [] p a = absurd a
   has_seen v (q ∷ ps) p a = ⊎_elim
-      (λ e. keeps_seen (gathered v q) ps p.seen (inr (among_right v.shown (v.seen ∷ q.seen ∷ []) p.seen (inr (inl (ap (λ (q : Known B E). q.seen) e))))))
+      (λ e. keeps_seen (gathered v q) ps p.seen (inr
+      (among_right v.shown (v.seen ∷ q.seen ∷ []) p.seen (inr (inl (ap (λ (q : Known B E). q.seen) e))))))
       (λ m. has_seen (gathered v q) ps p m) a

@@ -47,7 +47,8 @@ module _ {X : Type 0} where
   total-push f [] y = omega arith
   total-push f (x ∷ xs) y = let e = total-push f xs y in omega arith
 
-  pub total_below : (f g : X → ℕ) (k : ℕ) (xs : List X) → ((i : ℕ) (v : X) → get_elem? xs i ≡ some v → f v ≤ k * g v) → total f xs ≤ k * total g xs
+  pub total_below : (f g : X → ℕ) (k : ℕ) (xs : List X) → ((i : ℕ) (v : X) → get_elem? xs i ≡ some v → f v ≤ k * g v)
+      → total f xs ≤ k * total g xs
   total_below f g k [] h = omega arith
   total_below f g k (x ∷ xs) h =
       let here = h 0 x refl in
@@ -59,7 +60,8 @@ module _ {X : Type 0} where
   total_one f (x ∷ xs) zero v at = let e = ap f (some-injective x v at) in omega arith
   total_one f (x ∷ xs) (suc i) v at = let e = total_one f xs i v at in omega arith
 
-  pub total_two : (f : X → ℕ) (xs : List X) (i j : ℕ) (v w : X) → i ≢ j → get_elem? xs i ≡ some v → get_elem? xs j ≡ some w → f v + f w ≤ total f xs
+  pub total_two : (f : X → ℕ) (xs : List X) (i j : ℕ) (v w : X) → i ≢ j → get_elem? xs i ≡ some v → get_elem? xs j ≡ some w
+      → f v + f w ≤ total f xs
   total_two f [] i j v w ne a b = absurd (some-ne-none v (sym a))
   total_two f (x ∷ xs) zero zero v w ne a b = absurd (ne refl)
   total_two f (x ∷ xs) zero (suc j) v w ne a b = let e = ap f (some-injective x v a) in let h = total_one f xs j w b in omega arith

@@ -9,7 +9,7 @@ StartsWith {E} history earlier = (later : List E) × (history ≡ earlier ++ lat
 abbrev pub own_of : {E : Type 0} → (E → ℕ) → ℕ → List E → List E
 own_of by n history = filter (λ entry. by entry == n) history
 
--- the longer of two histories, the first where they have one length
+-- the longer of two histories, or the first if they are of one length
 abbrev pub longer : {E : Type 0} → List E → List E → List E
 longer h k = if nat_lt (length h) (length k) then k else h
 

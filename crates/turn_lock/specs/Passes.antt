@@ -1,7 +1,9 @@
 -- What contracts see of a lock and of its passes.
 use Rattle.std.specs.Prelude.{◌≡◌, ℕ, zero, suc, ◌+◌, ◌-◌, ◌<◌, ◌≤◌, ◌⊎◌, List, [], ◌∷◌, ◌++◌, length, All}
-use Rattle.std.specs.Prelude.{Option, Some}
+use Rattle.std.specs.Prelude.{◌↔◌, Option, Some, Result, IfOk, IsErrOf}
 pub use Rattle.atomic_table.specs.Seated.{TableId}
+use Rattle.turn_lock.specs.declared.fault.TurnFault.{TurnFault}
+use Rattle.turn_lock.specs.declared.fault.TurnFault.TheVariants.{Spent, Memory}
 use Rattle.turn_lock.specs.Histories.{StartsWith, own_of}
 
 -- a lock: which it is, the base of the value that it was made with, how many turns a pass may make, and how many passes there are
@@ -58,7 +60,8 @@ module _ {B : Type 0} where
 
   -- the badges of all passes that the lock was made with, in their order
   abbrev pub roll : Lock B → List (Badge B)
-  roll l = record { lock = l.id; number = 1; base = Some l.base; turns = l.turns; passes = l.passes } ∷ badges l.id (Some l.base) l.turns 2 (l.passes - 1)
+  roll l = record { lock = l.id; number = 1; base = Some l.base; turns = l.turns; passes = l.passes } ∷ badges l.id (Some l.base) l.turns 2
+      (l.passes - 1)
 
 module _ {B E : Type 0} (legal : B → List E → Type 0) (by : E → ℕ) (b : B) where
   -- From p to q, one turn that ends in this entry. The pass has seen a legal history, which goes on from what it had seen,
@@ -79,9 +82,19 @@ module _ {B E : Type 0} (legal : B → List E → Type 0) (by : E → ℕ) (b : 
     pub is_legal : legal b q.seen
     pub made : q.made ≡ p.made + 1
 
+  -- From p to q, one turn with an event. A reply makes the entry. If memory runs out, the turn makes no entry. If the pass has made
+  -- all its turns, it makes no other, and nothing changes
+  pub record TakesTurn {R : Type 0} (entry_of : R → E) (p : Known B E) (result : Result R TurnFault) (q : Known B E) : Type 0 where
+    pub same : badge q ≡ badge p
+    pub entry : IfOk result (λ reply. Entered p (entry_of reply) q)
+    pub memory : IsErrOf result Memory → Looked p q
+    pub spent : IsErrOf result Spent ↔ (p.made ≡ p.turns)
+    pub unchanged : IsErrOf result Spent → q ≡ p
+    pub within : p.made ≤ p.turns
+
   -- the history that a closed lock leaves: it is legal and goes on from what each pass has seen, its entries by each pass are
   -- that pass's own, and it has no other entry
-  pub record Told (history : List E) (passes : List (Known B E)) : Type 0 where
+  pub record ClosesWith (history : List E) (passes : List (Known B E)) : Type 0 where
     pub is_legal : legal b history
     pub seen : All (λ p. StartsWith history p.seen) passes
     pub own : All (λ p. own_of by p.number history ≡ p.own) passes

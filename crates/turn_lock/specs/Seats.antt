@@ -10,7 +10,16 @@ use Rattle.turn_lock.specs.Passes.{Known}
 module _ {V B E : Type 0} where
   -- what contracts see of it
   abbrev pub known : Seat V (View B E) → Known B E
-  known t = record { lock = t.table_id; number = t.me.0.number; base = t.me.0.base; turns = t.me.0.turns; passes = t.me.0.passes; seen = t.me.0.seen; own = t.me.0.own; made = t.me.0.drawn }
+  known t = record {
+    lock = t.table_id;
+    number = t.me.0.number;
+    base = t.me.0.base;
+    turns = t.me.0.turns;
+    passes = t.me.0.passes;
+    seen = t.me.0.seen;
+    own = t.me.0.own;
+    made = t.me.0.drawn;
+  }
 
   -- between two turns
   pub record IsIdle (by : E → ℕ) (t : Seat V (View B E)) : Type 0 where

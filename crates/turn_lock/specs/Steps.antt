@@ -1,4 +1,4 @@
--- What each kind of step does to the views, and tells its pass.
+-- What each kind of step does to the views, and shows its pass.
 -- The kinds are six: making the table, making one more pass, drawing a ticket, looking whether the turn has come, ending the
 -- turn, and joining a pass to pass 1. From the look that finds its turn to the end of it a pass alone reads and changes the
 -- value, which is no step.
@@ -13,7 +13,20 @@ use Rattle.turn_lock.specs.Histories.{StartsWith, own_of, longer}
 module _ {B E : Type 0} where
   -- pass 1, as the table is made
   abbrev pub first_view : B → ℕ → View B E
-  first_view b turns = record { number = 1; base = Some b; turns = turns; seen = []; own = []; drawn = 0; ticket = None; mine = false; stands = 1; passes = 1; joined = []; shown = [] }
+  first_view b turns = record {
+    number = 1;
+    base = Some b;
+    turns = turns;
+    seen = [];
+    own = [];
+    drawn = 0;
+    ticket = None;
+    mine = false;
+    stands = 1;
+    passes = 1;
+    joined = [];
+    shown = [];
+  }
 
   -- pass 1, as one more pass is made
   abbrev pub one_more : View B E → View B E
@@ -21,7 +34,20 @@ module _ {B E : Type 0} where
 
   -- the new pass
   abbrev pub newcomer : View B E → View B E
-  newcomer v = record { number = v.passes + 1; base = v.base; turns = v.turns; seen = v.seen; own = []; drawn = 0; ticket = None; mine = false; stands = 1; passes = 0; joined = []; shown = [] }
+  newcomer v = record {
+    number = v.passes + 1;
+    base = v.base;
+    turns = v.turns;
+    seen = v.seen;
+    own = [];
+    drawn = 0;
+    ticket = None;
+    mine = false;
+    stands = 1;
+    passes = 0;
+    joined = [];
+    shown = [];
+  }
 
   -- a pass after its turn, with this history
   abbrev pub ended_view : (E → ℕ) → List E → View B E → View B E
@@ -39,13 +65,26 @@ module _ {B E : Type 0} where
 
   -- what is left of the other
   abbrev pub spent_view : View B E
-  spent_view = record { number = 0; base = None; turns = 0; seen = []; own = []; drawn = 0; ticket = None; mine = false; stands = 0; passes = 0; joined = []; shown = [] }
+  spent_view = record {
+    number = 0;
+    base = None;
+    turns = 0;
+    seen = [];
+    own = [];
+    drawn = 0;
+    ticket = None;
+    mine = false;
+    stands = 0;
+    passes = 0;
+    joined = [];
+    shown = [];
+  }
 
 -- the history goes on from an earlier one by entries of the pass n alone, or not at all
 abbrev pub Grew : {E : Type 0} → (E → ℕ) → ℕ → List E → List E → Type 0
 Grew {E} by n before log = (es : List E) × (log ≡ before ++ es) × ((k : ℕ) → k ≢ n → own_of by k es ≡ [])
 
--- ---- what a step tells, of the seat before it, the number that it found, and the seat after it
+-- ---- what a step shows, of the seat before it, the number that it found, and the seat after it
 
 module _ {V B E : Type 0} where
   -- the number found is the ticket

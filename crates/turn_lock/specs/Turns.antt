@@ -1,10 +1,11 @@
 -- The rule of the lock, which holds between any two steps.
 -- Word 0 is the number of tickets drawn, word 1 the number of ended turns, and the one slot holds the value or nothing.
-use Rattle.std.specs.Prelude.{◌≡◌, ◌≢◌, ℕ, ◌*◌, ◌^◌, ◌<◌, ◌≤◌, ◌⊎◌, true, false, List, [], ◌∷◌, length, slice_index}
+use Rattle.std.specs.Prelude.{◌≡◌, ◌≢◌, ℕ, ◌*◌, ◌<◌, ◌≤◌, ◌⊎◌, true, false, List, [], ◌∷◌, length, slice_index}
 use Rattle.std.specs.Prelude.{Some}
 use mathlib.Core.Option.{Option as Home, some, none}
 use lib.ListN.{get_elem?}
 use Rattle.atomic_table.specs.Table.{State}
+use Rattle.fca_model.specs.declared.TheConstants.{MAX_TURNS}
 use Rattle.turn_lock.specs.declared.view.View.{View}
 use Rattle.turn_lock.specs.declared.view.Left.{Left}
 use Rattle.turn_lock.specs.Histories.{StartsWith, own_of, Among, total}
@@ -32,11 +33,12 @@ module _ {B E : Type 0} where
     pub most : (i : ℕ) (v : View B E) → Sits views i v → v.drawn ≤ turns * v.stands
     -- together the views stand for the passes made
     pub stand : total (λ v. v.stands) views ≡ made
-    pub few : (made ≤ 64) × (turns ≤ 2 ^ 48)
+    pub few : (made ≤ 64) × (turns ≤ MAX_TURNS)
 
   -- the view of pass 1 has the number of passes made, the passes joined to it, and what these had seen
   abbrev pub First : ℕ → List (Left E) → List (List E) → List (View B E) → Type 0
-  First made gone told views = (v : View B E) × Sits views 0 v × (v.number ≡ 1) × (v.passes ≡ made) × (v.joined ≡ gone) × (v.shown ≡ told)
+  First made gone histories views = (v : View B E) × Sits views 0 v × (v.number ≡ 1) × (v.passes ≡ made) × (v.joined ≡ gone)
+      × (v.shown ≡ histories)
 
   -- a view whose turn is its own has the ticket that word 1 shows
   abbrev pub HasTicket : ℕ → View B E → Type 0
@@ -77,8 +79,8 @@ module _ {V B E : Type 0} (base_of : V → B) (history_of : V → List E) (legal
     pub log : List E
     pub made : ℕ
     pub gone : List (Left E)
-    pub told : List (List E)
-    pub first : First made gone told s.views
+    pub histories : List (List E)
+    pub first : First made gone histories s.views
     pub words : length s.words ≡ 2
     pub tickets : Tickets (slice_index s.words 1) (slice_index s.words 0) s.views
     pub counts : Counts turns made (slice_index s.words 0) s.views
@@ -87,5 +89,5 @@ module _ {V B E : Type 0} (base_of : V → B) (history_of : V → List E) (legal
     pub is_legal : legal b log
     -- what each view has seen is the start of the history
     pub seen : (i : ℕ) (v : View B E) → Sits s.views i v → StartsWith log v.seen
-    pub shown : (h : List E) → Among told h → StartsWith log h
+    pub shown : (h : List E) → Among histories h → StartsWith log h
     pub numbers : Numbers by b turns made log gone s.views

@@ -5,9 +5,9 @@ ghost use Rattle.std.specs.Prelude.{◌≡◌, ◌++◌, ◌∷◌, [], IfOk, On
 use crate::logged::Logged;
 use fca_model::Memory;
 
-/// Who applies an event to a value: the value itself, or one that helps it.
+/// One that applies an event to a value: the value itself, or a helper.
 pub trait Applies<V: Logged> {
-    /// The value changes as by its own `apply`.
+    /// Applies the event. The value changes as by its own `apply`.
     fn apply(&self, value: &mut V, event: V::Event) -> Result<V::Reply, Memory>
         requires { V.admits (V.base value.old) event }
         ensures base { V.base value.new ≡ V.base value.old }
@@ -16,7 +16,7 @@ pub trait Applies<V: Logged> {
         ensures legal { V.legal (V.base value.new) (V.history value.new) };
 }
 
-/// The value applies it alone.
+/// The value applies each event by itself.
 #[derive(Clone, Copy, Debug)]
 pub struct Alone;
 

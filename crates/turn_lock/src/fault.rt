@@ -5,6 +5,7 @@ ghost use Rattle.std.specs.Prelude.{◌≡◌};
 use fca_model::{Memory, NO_MEMORY};
 use thiserror::Error;
 
+/// Why a turn came to no reply.
 #[derive(Clone, Copy, Debug, Error)]
 pub enum TurnFault {
     /// The pass has made all its turns. No turn was made.

@@ -1,7 +1,8 @@
 //! The lock: making it with its passes, turns, and closing it.
 
-ghost use Rattle.std.specs.Prelude.{◌≡◌, ◌+◌, ◌-◌, ◌<◌, ◌≤◌, ◌^◌, ◌↔◌, ◌∷◌, false, [], IfOk, IfErr, IsErrOf, All, map};
-ghost use Rattle.turn_lock.specs.Passes.{badge, badges, roll, Belongs, IsFresh, Entered, Looked, Told};
+ghost use Rattle.std.specs.Prelude.{◌≡◌, ◌+◌, ◌-◌, ◌<◌, ◌≤◌, ◌↔◌, ◌∷◌, false, [], IfOk, IfErr, IsErrOf, All, map};
+ghost use Rattle.turn_lock.specs.Passes.{badge, badges, roll, Belongs, IsFresh, Looked, TakesTurn, ClosesWith};
+ghost use Rattle.fca_model.specs.declared.TheConstants.{MAX_TURNS};
 ghost use Rattle.turn_lock.specs.Seats.{Fits, Stays, Making, all_gathered};
 ghost use Rattle.turn_lock.specs.Steps.{first_view};
 
@@ -20,7 +21,7 @@ use std::marker::Model;
 use std::snapshot::Snapshot;
 use std::sync::Wait;
 
-/// Contracts see it as `Lock` of `specs/Passes.antt`.
+/// A lock over a value. Contracts see it as `Lock` of `specs/Passes.antt`.
 #[derive(Drop)]
 pub struct TurnLock<V: Logged> {
     passes: u8,
@@ -42,7 +43,7 @@ impl<V: Logged> Model for TurnLock<V> {
 impl<V: Logged> TurnLock<V> {
     ghost use Rattle.turn_lock.specs.declared.fault.TurnFault.TheVariants as fault;
 
-    /// The lock, and its passes, numbered from 1 in their order. Each pass may make `turns` turns.
+    /// Makes the lock and its passes, which are numbered from 1 in their order. Each pass may make `turns` turns.
     pub fn new(
         alloc: Global,
         value: V,
@@ -50,7 +51,7 @@ impl<V: Logged> TurnLock<V> {
         turns: u64,
     ) -> Result<(TurnLock<V>, Vec<Pass<V>>), Memory>
         requires count { (1 ≤ passes) × (passes ≤ 64) }
-        requires turns { (1 ≤ turns) × (turns ≤ 2 ^ 48) }
+        requires turns { (1 ≤ turns) × (turns ≤ MAX_TURNS) }
         requires new { V.history value ≡ [] }
         ensures lock { IfOk result (λ r. (r.0.base ≡ V.base value) × (r.0.turns ≡ turns) × (r.0.passes ≡ passes)) }
         ensures passes { IfOk result (λ r. map badge r.1.items ≡ roll r.0) }
@@ -67,7 +68,7 @@ impl<V: Logged> TurnLock<V> {
         turns: u64,
     ) -> Result<(TurnLock<V>, Vec<Pass<V>>), Memory>
         requires count { (1 ≤ passes) × (passes ≤ 64) }
-        requires turns { (1 ≤ turns) × (turns ≤ 2 ^ 48) }
+        requires turns { (1 ≤ turns) × (turns ≤ MAX_TURNS) }
         requires new { V.history value ≡ [] }
         ensures lock { IfOk result (λ r. (r.0.base ≡ V.base value) × (r.0.turns ≡ turns) × (r.0.passes ≡ passes)) }
         ensures passes { IfOk result (λ r. map badge r.1.items ≡ roll r.0) }
@@ -96,17 +97,12 @@ impl<V: Logged> TurnLock<V> {
         requires lock { Belongs self.now pass.old }
         requires admits { V.admits self.now.base event }
         requires number { V.number event ≡ pass.old.number }
-        ensures same { badge pass.new ≡ badge pass.old }
-        ensures entry { IfOk result (λ reply. Entered V.legal V.by self.now.base pass.old (V.entry event reply) pass.new) }
-        ensures memory { IsErrOf result fault.Memory → Looked V.legal V.by self.now.base pass.old pass.new }
-        ensures spent { IsErrOf result fault.Spent ↔ (pass.old.made ≡ pass.old.turns) }
-        ensures unchanged { IsErrOf result fault.Spent → pass.new ≡ pass.old }
-        ensures within { pass.old.made ≤ pass.old.turns }
+        ensures { TakesTurn V.legal V.by self.now.base (V.entry event) pass.old result pass.new }
     {
         self.with_turn_by(rt, &Alone, pass, event)
     }
 
-    /// One turn that applies the event by another.
+    /// One turn in which `by` applies the event.
     pub fn with_turn_by<A: Applies<V>, R: Wait>(
         &self,
         rt: &R,
@@ -117,12 +113,7 @@ impl<V: Logged> TurnLock<V> {
         requires lock { Belongs self.now pass.old }
         requires admits { V.admits self.now.base event }
         requires number { V.number event ≡ pass.old.number }
-        ensures same { badge pass.new ≡ badge pass.old }
-        ensures entry { IfOk result (λ reply. Entered V.legal V.by self.now.base pass.old (V.entry event reply) pass.new) }
-        ensures memory { IsErrOf result fault.Memory → Looked V.legal V.by self.now.base pass.old pass.new }
-        ensures spent { IsErrOf result fault.Spent ↔ (pass.old.made ≡ pass.old.turns) }
-        ensures unchanged { IsErrOf result fault.Spent → pass.new ≡ pass.old }
-        ensures within { pass.old.made ≤ pass.old.turns }
+        ensures { TakesTurn V.legal V.by self.now.base (V.entry event) pass.old result pass.new }
     {
         if pass.made == pass.turns {
             return Err(TurnFault::Spent);
@@ -154,11 +145,11 @@ impl<V: Logged> TurnLock<V> {
         Ok(seen)
     }
 
-    /// The value, once all passes are back in their order.
+    /// Takes the passes back, in their order, and gives the value.
     pub fn close(self, mut passes: Vec<Pass<V>>) -> V
         requires passes { map badge passes.items ≡ roll self }
         ensures base { V.base result ≡ self.base }
-        ensures told { Told V.legal V.by self.base (V.history result) passes.items }
+        ensures entries { ClosesWith V.legal V.by self.base (V.history result) passes.items }
     {
         let TurnLock {
             passes: _,
@@ -192,13 +183,13 @@ fn table_of<V: Logged>(
     ),
     Memory,
 >
-    requires turns { turns ≤ 2 ^ 48 }
+    requires turns { turns ≤ MAX_TURNS }
     requires new { V.history value ≡ [] }
     ensures lock { IfOk result (λ r. Fits r.0.shared.table_id r.1) }
     ensures key { IfOk result (λ r. (V.base r.0.shared.key.value.value ≡ V.base value) × (r.0.shared.key.turns ≡ turns)) }
     ensures first { IfOk result (λ r. r.1.me ≡ (first_view (V.base value) turns, [])) }
 {
-    value.told();
+    value.attest_legal();
     let key = Key {
         value: Snapshot::of(&value),
         turns,
@@ -211,7 +202,7 @@ fn table_of<V: Logged>(
     }
 }
 
-/// All passes in their order, where pass 1 has the seat.
+/// All passes in their order. Pass 1 has the seat.
 fn all_passes<V: Logged>(
     alloc: Global,
     shared: &Shared<V, View<V::Base, V::Entry>, Key<V>, TurnRule<V>>,
@@ -237,7 +228,7 @@ fn all_passes<V: Logged>(
     Ok(all)
 }
 
-/// The passes from 2 on, cut off from pass 1.
+/// Splits the passes from 2 on off pass 1.
 fn make_more<V: Logged>(
     alloc: Global,
     shared: &Shared<V, View<V::Base, V::Entry>, Key<V>, TurnRule<V>>,
@@ -267,7 +258,7 @@ fn make_more<V: Logged>(
     Ok(others)
 }
 
-/// All passes are joined to pass 1.
+/// Joins all passes to pass 1.
 fn gather<V: Logged>(
     shared: &Shared<V, View<V::Base, V::Entry>, Key<V>, TurnRule<V>>,
     seat: &mut Seat<V, View<V::Base, V::Entry>>,

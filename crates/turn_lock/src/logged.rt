@@ -4,9 +4,12 @@ ghost use Rattle.std.specs.Prelude.{◌≡◌, ◌++◌, ◌∷◌, ℕ, List, [
 
 use fca_model::Memory;
 
+/// A value that changes by events alone. Its history is the list of the events so far, each with its reply.
 pub trait Logged: Drop + Send {
+    /// What changes the value.
     type Event: Drop;
 
+    /// What an event is answered.
     type Reply: Drop;
 
     /// An event with its reply.
@@ -15,9 +18,10 @@ pub trait Logged: Drop + Send {
     /// What a look at the value shows.
     type Seen;
 
+    /// What no event changes.
     type Base;
 
-    /// What the value was opened with, which no call changes.
+    /// What the value was opened with. No call changes it.
     ghost base: { Self → Self.Base };
 
     /// The entries of all events so far.
@@ -32,6 +36,7 @@ pub trait Logged: Drop + Send {
     /// The events that a base admits.
     ghost admits: { Self.Base → Self.Event → Type 0 };
 
+    /// The entry of an event and its reply.
     ghost entry: { Self.Event → Self.Reply → Self.Entry };
 
     /// The number of the pass that an event is of.
@@ -46,6 +51,7 @@ pub trait Logged: Drop + Send {
     /// Each history that a legal one goes on from is legal.
     ghost prefix: { (b : Self.Base) (h k : List Self.Entry) → legal b (h ++ k) → legal b h };
 
+    /// Applies the event, and puts one entry on the history. Out of memory, it puts none.
     fn apply(&mut self, event: Self::Event) -> Result<Self::Reply, Memory>
         requires { admits (base self.old) event }
         ensures base { base self.new ≡ base self.old }
@@ -53,10 +59,11 @@ pub trait Logged: Drop + Send {
         ensures memory { OnErr result (history self.new ≡ history self.old) }
         ensures legal { legal (base self.new) (history self.new) };
 
+    /// Looks at the value.
     fn seen(&self) -> Self::Seen
         ensures { shows (base self.now) (history self.now) result };
 
-    /// Its history is legal. The body has nothing to do.
-    fn told(&self)
+    /// Shows that the history is legal. The body has nothing to do.
+    fn attest_legal(&self)
         ensures { legal (base self.now) (history self.now) };
 }

@@ -7,7 +7,7 @@ use crate::view::View;
 use atomic_table::Seat;
 use std::marker::Model;
 
-/// Contracts see it as `Known` of `specs/Passes.antt`: the history that it has seen, and its own entries in it.
+/// The right of one holder to take turns. Contracts see it as `Known` of `specs/Passes.antt`: the history that it has seen, and its own entries in it.
 #[derive(Drop)]
 pub struct Pass<V: Logged> {
     pub(crate) number: u8,
@@ -29,6 +29,7 @@ impl<V: Logged> Model for Pass<V> {
 }
 
 impl<V: Logged> Pass<V> {
+    /// The number of the pass.
     pub fn number(&self) -> u8
         ensures { result ≡ self.now.number }
     {
@@ -43,7 +44,7 @@ impl<V: Logged> Pass<V> {
         self.made
     }
 
-    /// Whether all its turns are made.
+    /// Whether the pass has made all its turns.
     pub fn is_spent(&self) -> bool
         ensures spent { (result ≡ true) ↔ (self.now.made ≡ self.now.turns) }
         ensures left { result ≡ false → self.now.made < self.now.turns }

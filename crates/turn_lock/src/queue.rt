@@ -9,19 +9,19 @@ use std::array;
 use std::thread::Parker;
 use std::time::Duration;
 
-/// As many as a lock may have passes, so that of two tickets with one place the later is drawn after the turn of the earlier.
+/// One place for each pass that a lock may have. So if two tickets have one place, the later is drawn after the turn of the earlier.
 const PLACES: usize = 64;
 
-/// How often a pass with a ticket looks, one time after the other, before it sleeps.
+/// How often a pass with a ticket looks before it sleeps.
 pub const LOOKS: u32 = 2048;
 
-/// How often a pass without a ticket looks before it naps: less than a turn takes, so that who has a turn may have the next ones too.
+/// How often a pass without a ticket looks before it naps. This takes less time than a turn, so the holder may have the next turns too.
 pub const QUIET_LOOKS: u32 = 64;
 
-/// How often a pass naps at most before it draws a ticket behind others.
+/// The most naps of a pass before it draws a ticket behind others.
 pub const NAPS: u32 = 16;
 
-/// How often a nap is twice as long as the one before.
+/// The most times that a nap is twice as long as the one before.
 const GROWTHS: u32 = 5;
 
 /// The microseconds of the first nap.
@@ -35,6 +35,7 @@ pub struct Queue {
 }
 
 impl Queue {
+    /// The queue of a lock with so many passes.
     pub fn new(passes: u8) -> Queue
         ensures { result.passes ≡ passes }
     {
@@ -62,7 +63,7 @@ impl Queue {
     }
 }
 
-/// How long a pass naps that has napped so often.
+/// The length of the next nap of a pass that has napped so often.
 pub fn nap(naps: u32) -> Duration
     ensures { as_nanos result ≡ FIRST_NAP * 2 ^ min naps GROWTHS * 1_000 }
 {

@@ -1,4 +1,4 @@
-//! The rule of the table, and what each of its steps tells.
+//! The rule of the table, and what each of its steps does.
 
 use crate::logged::Logged;
 use crate::view::View;
@@ -6,13 +6,14 @@ use atomic_table::{Join, Play, Split, TableRule};
 use std::marker::PhantomData;
 use std::snapshot::Snapshot;
 
-/// What the table is told once: the value at its opening, and how many turns a pass may make.
+/// What the table knows from its opening on: the value as it was then, and how many turns a pass may make.
 #[derive(Drop)]
 pub struct Key<V> {
     pub value: Snapshot<V>,
     pub turns: u64,
 }
 
+/// The rule of the lock.
 pub struct TurnRule<V> {
     of: PhantomData<V>,
 }

@@ -20,7 +20,7 @@ use std::sync::Wait;
 use std::thread::Parker;
 use std::time::Duration;
 
-/// Looks for a while whether each ticket that was drawn has had its turn.
+/// Whether each ticket that was drawn has had its turn. It looks for a while.
 fn is_quiet<V: Logged>(shared: &Shared<V, View<V::Base, V::Entry>, Key<V>, TurnRule<V>>) -> bool
     requires { shared.now.table_id.words ≡ 2 }
 {
@@ -48,7 +48,7 @@ fn wait_for_quiet<V: Logged, R: Wait>(
     }
 }
 
-/// Draws a ticket, where there are others, once they leave the lock for a while or for long do not.
+/// Draws a ticket. If there are other passes, it first waits until the lock is quiet, though not for ever.
 fn draw<V: Logged, R: Wait>(
     shared: &Shared<V, View<V::Base, V::Entry>, Key<V>, TurnRule<V>>,
     queue: &Queue,
@@ -67,6 +67,7 @@ fn draw<V: Logged, R: Wait>(
     shared.fetch_add::<Drawing<V>>(seat, 0, 1)
 }
 
+/// Looks once whether the turn of the pass has come, and gives the number of ended turns.
 fn come<V: Logged>(
     shared: &Shared<V, View<V::Base, V::Entry>, Key<V>, TurnRule<V>>,
     seat: &mut Seat<V, View<V::Base, V::Entry>>,
@@ -79,6 +80,7 @@ fn come<V: Logged>(
     shared.load::<Coming<V>>(seat, 1)
 }
 
+/// Whether the ticket's turn has come.
 fn has_come<V: Logged>(
     shared: &Shared<V, View<V::Base, V::Entry>, Key<V>, TurnRule<V>>,
     seat: &mut Seat<V, View<V::Base, V::Entry>>,

@@ -12,6 +12,7 @@ pub struct Left<E> {
 pub struct View<B, E> {
     /// 0 for a pass that was joined to pass 1.
     pub number: u64,
+    /// The base of the lock.
     pub base: Option<B>,
 
     /// How many turns a pass may make.
@@ -25,9 +26,10 @@ pub struct View<B, E> {
 
     /// The number of tickets drawn.
     pub drawn: u64,
+    /// The ticket that is out, if any.
     pub ticket: Option<u64>,
 
-    /// The turn is the pass's, and the value is out with it.
+    /// Whether the turn is the pass's. Then the pass has the value.
     pub mine: bool,
 
     /// For how many passes the view stands.

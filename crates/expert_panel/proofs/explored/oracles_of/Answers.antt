@@ -19,5 +19,6 @@ loop-table-preserved c =
     let small : HasFewRows oracle = few_rows oracle.table (subst IsTable c.table.ensures.table c.rows-rows.ensures.table) in
     record {
       untold = grind (arith, common_steps);
-      few = subst (All HasFewRows) (sym c.in_ok-push.ensures.items) (All-push HasFewRows c.loop-table.oracles.items oracle c.loop-table.invariant.few small);
+      few = subst (All HasFewRows) (sym c.in_ok-push.ensures.items)
+          (All-push HasFewRows c.loop-table.oracles.items oracle c.loop-table.invariant.few small);
     }

@@ -1,31 +1,37 @@
 use Rattle.std.proofs.Common.{◌≡◌, ◌≤◌, ◌<◌, ◌⊎◌, map, inl, inr, refl, sym, subst, arith}
 use Rattle.std.specs.Prelude.{All}
 use Rattle.turn_lock.specs.Passes.{Belongs, IsFresh}
-use Rattle.turn_lock.proofs.ClosingLemmas.{roll-belongs}
-use Rattle.expert_sessions.proofs.ServingLemmas.{length-passes, length-news, roll_kept, seats_ready, talks_told, others_told}
+use Rattle.turn_lock.proofs.ClosingLemmas.{roll-belongs, length-roll}
+use Rattle.expert_sessions.proofs.ServingLemmas.{length-news, roll_kept, seats_ready, talks_told, others_told}
 use Rattle.expert_sessions.proofs.serving.serve_ends.Goals as goal
 
-pub seated-seats-requires-clause-many : goal.seated-seats-requires-clause-many
-seated-seats-requires-clause-many g c =
+pub fill_seats-seats-requires-clause-many : goal.fill_seats-seats-requires-clause-many
+fill_seats-seats-requires-clause-many g c =
     let counts = c.in-Ok.ensures.counts in
     let some : 1 ≤ c.in-Ok.hall.gate.passes = c.in-Ok.ensures.some in
-    let many = length-passes c.in-Ok.hall.gate c.in-Ok.hall.passes.items some c.in-Ok.ensures.passes in
+    let many = length-roll c.in-Ok.hall.gate c.in-Ok.hall.passes.items some c.in-Ok.ensures.passes in
     omega arith
 
 pub run_seats-requires-clause-ready : goal.run_seats-requires-clause-ready
 run_seats-requires-clause-ready g c κs within =
     let counts = c.in-Ok.ensures.counts in
     let some : 1 ≤ c.in-Ok.hall.gate.passes = c.in-Ok.ensures.some in
-    let belong : All (Belongs c.in-Ok.hall.gate) c.in-Ok.hall.passes.items = roll-belongs c.in-Ok.hall.gate c.in-Ok.hall.passes.items (omega arith) c.in-Ok.ensures.passes in
-    seats_ready g.E.Source.left g.E.Sink.held g.E.Source.reads g.E.Source.faults g.E.Sink.faults c.in-Ok.hall.terms.table c.in-Ok.hall.terms.lines c.in-Ok.hall.gate c.seated-seats.result.items
-    (subst (All (Belongs c.in-Ok.hall.gate)) (sym c.seated-seats.ensures.passes) belong) (subst (All IsFresh) (sym c.seated-seats.ensures.passes) c.in-Ok.ensures.fresh)
+    let belong : All (Belongs c.in-Ok.hall.gate) c.in-Ok.hall.passes.items =
+    roll-belongs c.in-Ok.hall.gate c.in-Ok.hall.passes.items (omega arith) c.in-Ok.ensures.passes in
+    seats_ready g.E.Source.left g.E.Sink.held g.E.Source.reads g.E.Source.faults g.E.Sink.faults c.in-Ok.hall.terms.table
+    c.in-Ok.hall.terms.lines c.in-Ok.hall.gate c.fill_seats-seats.result.items
+    (subst (All (Belongs c.in-Ok.hall.gate)) (sym c.fill_seats-seats.ensures.passes) belong)
+    (subst (All IsFresh) (sym c.fill_seats-seats.ensures.passes) c.in-Ok.ensures.fresh)
 
-pub risen-passes-requires-clause-room : goal.risen-passes-requires-clause-room
-risen-passes-requires-clause-room g c =
+pub split_seats-passes-requires-clause-room : goal.split_seats-passes-requires-clause-room
+split_seats-passes-requires-clause-room g c =
     let counts = c.in-Ok.ensures.counts in
     let some : 1 ≤ c.in-Ok.hall.gate.passes = c.in-Ok.ensures.some in
-    let many = length-news g.E.Source.left g.E.Sink.held g.E.Source.reads g.E.Source.faults g.E.Sink.faults c.args.explore.opening.table c.in-Ok.hall.terms.table c.args.lines c.in-Ok.hall.terms.lines c.in-Ok.hall.gate c.in-Ok.hall.passes.items (map (λ seat. seat.pass) c.run_seats.new.seats.items)
-    c.seated-seats.result.items c.run_seats.new.seats.items some c.in-Ok.ensures.passes c.seated-seats.ensures.passes refl c.run_seats.ensures in
+    let many = length-news g.E.Source.left g.E.Sink.held g.E.Source.reads g.E.Source.faults g.E.Sink.faults c.args.explore.opening.table
+    c.in-Ok.hall.terms.table c.args.lines c.in-Ok.hall.terms.lines c.in-Ok.hall.gate c.in-Ok.hall.passes.items
+    (map (λ seat. seat.pass) c.run_seats.new.seats.items)
+    c.fill_seats-seats.result.items c.run_seats.new.seats.items some c.in-Ok.ensures.passes c.fill_seats-seats.ensures.passes refl
+    c.run_seats.ensures in
     let room = c.in-Ok.ensures.room in
     let passes = room.passes in
     let ends = room.ends in
@@ -37,24 +43,40 @@ close-requires g c =
     let counts = c.in-Ok.ensures.counts in
     let some : 1 ≤ c.in-Ok.hall.gate.passes = c.in-Ok.ensures.some in
     record {
-      passes = roll_kept g.E.Source.left g.E.Sink.held g.E.Source.reads g.E.Source.faults g.E.Sink.faults c.args.explore.opening.table c.in-Ok.hall.terms.table c.args.lines c.in-Ok.hall.terms.lines c.in-Ok.hall.gate c.in-Ok.hall.passes.items c.risen-passes.result.0.items
-          c.seated-seats.result.items c.run_seats.new.seats.items some c.in-Ok.ensures.passes c.seated-seats.ensures.passes c.risen-passes.ensures.passes c.run_seats.ensures;
+      passes = roll_kept g.E.Source.left g.E.Sink.held g.E.Source.reads g.E.Source.faults g.E.Sink.faults c.args.explore.opening.table
+          c.in-Ok.hall.terms.table c.args.lines c.in-Ok.hall.terms.lines c.in-Ok.hall.gate c.in-Ok.hall.passes.items
+          c.split_seats-passes.result.0.items
+          c.fill_seats-seats.result.items c.run_seats.new.seats.items some c.in-Ok.ensures.passes c.fill_seats-seats.ensures.passes
+          c.split_seats-passes.ensures.passes c.run_seats.ensures;
     }
 
 pub returns-clause-talks : goal.returns-clause-talks
 returns-clause-talks g c =
     let counts = c.in-Ok.ensures.counts in
     let some : 1 ≤ c.in-Ok.hall.gate.passes = c.in-Ok.ensures.some in
-    talks_told g.E.Source.left g.E.Sink.held g.E.Source.reads g.E.Source.faults g.E.Sink.faults c.args.explore.opening.table c.in-Ok.hall.terms.table c.args.lines c.in-Ok.hall.terms.lines c.in-Ok.hall.gate c.in-Ok.hall.passes.items c.risen-passes.result.0.items
-    c.seated-seats.result.items c.run_seats.new.seats.items some c.in-Ok.ensures.passes c.seated-seats.ensures.passes c.risen-passes.ensures.passes c.run_seats.ensures
-    c.close.result.journal c.close.ensures.told c.args.ends.items c.risen-passes.result.1.items c.risen-passes.result.2.items
-    c.in-Ok.ensures.terms.0 c.in-Ok.ensures.terms.1 c.seated-seats.ensures.ends c.risen-passes.ensures.ends c.risen-passes.ensures.endings
+    talks_told g.E.Source.left g.E.Sink.held g.E.Source.reads g.E.Source.faults g.E.Sink.faults c.args.explore.opening.table
+    c.in-Ok.hall.terms.table c.args.lines c.in-Ok.hall.terms.lines c.in-Ok.hall.gate c.in-Ok.hall.passes.items
+    c.split_seats-passes.result.0.items
+    c.fill_seats-seats.result.items c.run_seats.new.seats.items some c.in-Ok.ensures.passes c.fill_seats-seats.ensures.passes
+    c.split_seats-passes.ensures.passes c.run_seats.ensures
+    c.close.result.journal c.close.ensures.entries c.args.ends.items c.split_seats-passes.result.1.items c.split_seats-passes.result.2.items
+    c.in-Ok.ensures.terms.0 c.in-Ok.ensures.terms.1 c.fill_seats-seats.ensures.ends c.split_seats-passes.ensures.ends
+    c.split_seats-passes.ensures.endings
 
 pub returns-clause-others : goal.returns-clause-others
 returns-clause-others g c = λ e h.
     let counts = c.in-Ok.ensures.counts in
     let some : 1 ≤ c.in-Ok.hall.gate.passes = c.in-Ok.ensures.some in
-    others_told g.E.Source.left g.E.Sink.held g.E.Source.reads g.E.Source.faults g.E.Sink.faults c.args.explore.opening.table c.in-Ok.hall.terms.table c.args.lines c.in-Ok.hall.terms.lines c.in-Ok.hall.gate c.in-Ok.hall.passes.items c.risen-passes.result.0.items
-    c.seated-seats.result.items c.run_seats.new.seats.items some c.in-Ok.ensures.passes c.seated-seats.ensures.passes c.risen-passes.ensures.passes c.run_seats.ensures
-    c.close.result.journal c.close.ensures.told e
+    others_told g.E.Source.left g.E.Sink.held g.E.Source.reads g.E.Source.faults g.E.Sink.faults c.args.explore.opening.table
+    c.in-Ok.hall.terms.table c.args.lines c.in-Ok.hall.terms.lines c.in-Ok.hall.gate c.in-Ok.hall.passes.items
+    c.split_seats-passes.result.0.items
+    c.fill_seats-seats.result.items c.run_seats.new.seats.items some c.in-Ok.ensures.passes c.fill_seats-seats.ensures.passes
+    c.split_seats-passes.ensures.passes c.run_seats.ensures
+    c.close.result.journal c.close.ensures.entries e
     (elim h as (λ _. (e ≡ 0) ⊎ (c.in-Ok.hall.gate.passes < e)) [ inl none ↦ inl none | inr more ↦ inr (omega arith) ])
+
+pub run_seats-requires-clause-terms : goal.run_seats-requires-clause-terms
+run_seats-requires-clause-terms g c κs within = record {
+  width = let table = c.in-Ok.ensures.terms.0 in let base = c.in-Ok.ensures.base in cc;
+  turns = let lines = c.in-Ok.ensures.terms.1 in let counts = c.in-Ok.ensures.counts.0 in let most = c.requires.turns.0 in omega arith;
+}

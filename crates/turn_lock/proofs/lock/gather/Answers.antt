@@ -18,7 +18,9 @@ join_seat-requires g c =
       ap (λ k. k.lock) c.pass.view_is ∙ (lock ∙ fits.0),
       idle.holds,
       rw fits.1 (omega arith),
-      joins g.V.Logged.base g.V.Logged.history g.V.Logged.legal g.V.Logged.by (g.V.Logged.base key.value.value) key.turns c.loop-pass.seat.id c.loop-pass.seat.me.0 c.pass.inside.seat.id c.pass.inside.seat.me.0
+      joins g.V.Logged.base g.V.Logged.history g.V.Logged.legal g.V.Logged.by
+          (g.V.Logged.base key.value.value) key.turns c.loop-pass.seat.id c.loop-pass.seat.me.0 c.pass.inside.seat.id
+          c.pass.inside.seat.me.0
           i.3 i.4 idle.positive idle.ticket idle.mine,
     )
 
@@ -34,7 +36,9 @@ loop-pass-preserved g c =
       ap (λ z. z.1) e.2 ∙ i.2,
       ap (λ w. w.number) v ∙ i.3,
       ap (λ w. w.mine) v ∙ i.4,
-      All-tail (λ (p : Known _ _). p.lock ≡ c.args.seat.now.table_id) c.in-Some.pass rest (subst (All (λ (p : Known _ _). p.lock ≡ c.args.seat.now.table_id)) c.in-Some.ensures.steps.0 i.5),
+      All-tail (λ (p : Known _ _). p.lock ≡ c.args.seat.now.table_id) c.in-Some.pass rest
+          (subst (All (λ (p : Known _ _). p.lock ≡ c.args.seat.now.table_id)) c.in-Some.ensures.steps.0 i.5),
       ap (λ w. all_gathered w rest) v ∙ (one_joins c.loop-pass.seat.me.0 c.pass.inside.seat rest idle.stands
-          ∙ (ap (λ p. all_gathered c.loop-pass.seat.me.0 (p ∷ rest)) c.pass.view_is ∙ (ap (all_gathered c.loop-pass.seat.me.0) (sym c.in-Some.ensures.steps.0) ∙ i.6))),
+          ∙ (ap (λ p. all_gathered c.loop-pass.seat.me.0 (p ∷ rest)) c.pass.view_is
+          ∙ (ap (all_gathered c.loop-pass.seat.me.0) (sym c.in-Some.ensures.steps.0) ∙ i.6))),
     )

@@ -11,7 +11,8 @@ use Rattle.turn_lock.proofs.turn.play.Goals.{After-slot_mut}
 
 -- what the pass is shown in the slot as its turn has come
 there : (g : Over) (c : After-slot_mut g) → (c.wait.new.seat.me.1 ≡ (0, c.slot_mut.result.now) ∷ [])
-    × IsShown g.V.Logged.base g.V.Logged.history g.V.Logged.legal g.V.Logged.by c.draw-ticket.new.seat.me.0 c.slot_mut.result.now c.wait.new.seat.me.0
+    × IsShown g.V.Logged.base g.V.Logged.history g.V.Logged.legal g.V.Logged.by c.draw-ticket.new.seat.me.0 c.slot_mut.result.now
+    c.wait.new.seat.me.0
 there g c =
     let V = g.V.Logged in
     shown_now V.base V.history V.legal V.by c.draw-ticket.new.seat.me c.wait.new.seat.me c.slot_mut.result.now
@@ -31,7 +32,8 @@ end-requires-clause-turn g c κs within =
       ap (λ v. v.mine) shown.4,
       ap (λ v. v.base) shown.4 ∙ (shown.0 ∙ ap Some (sym did.base)),
       did.legal,
-      grows V.legal V.by (V.entry c.args.event) c.apply-reply.result (V.history c.slot_mut.result.now) (V.history c.apply-reply.new.value) c.wait.new.seat.me.0.number c.wait.new.seat.me.0.seen
+      grows V.legal V.by (V.entry c.args.event) c.apply-reply.result (V.history c.slot_mut.result.now)
+          (V.history c.apply-reply.new.value) c.wait.new.seat.me.0.number c.wait.new.seat.me.0.seen
           (ap (λ v. v.seen) shown.4) (λ reply. V.by_entry c.args.event reply ∙ (c.requires.number ∙ sym number)) did.entry did.memory,
     )
 

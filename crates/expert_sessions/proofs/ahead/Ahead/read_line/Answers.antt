@@ -1,4 +1,5 @@
 use Rattle.std.proofs.Common.{rules, refl}
+use Rattle.expert_sessions.specs.Moves.{wire_of}
 use Rattle.expert_sessions.specs.Lines.{HasNoFeed}
 use Rattle.expert_sessions.proofs.MoveLemmas.{Reads-nil, Reads-trans}
 use Rattle.expert_sessions.proofs.OrderLemmas.{unread, read_on}
@@ -6,7 +7,7 @@ use Rattle.expert_sessions.proofs.ahead.Ahead.read_line.Goals as goal
 
 pub loop-at-init : goal.loop-at-init
 loop-at-init g c = record {
-  read = Reads-nil (record { left = g.E.Source.left c.args.end.now; held = g.E.Sink.held c.args.end.now; reads = g.E.Source.faults c.args.end.now; writes = g.E.Sink.faults c.args.end.now }) c.args.self.now;
+  read = Reads-nil (wire_of g.E.Source.left g.E.Sink.held g.E.Source.faults g.E.Sink.faults c.args.end.now) c.args.self.now;
   order = unread g.E.Source.left g.E.Sink.held g.E.Source.reads g.E.Source.faults g.E.Sink.faults c.args.self.now c.args.end.now;
   quiet = refl;
 }
@@ -16,8 +17,10 @@ loop-at-preserved g c =
     let none : HasNoFeed c.loop-at.self = search rules in
     record {
       read = Reads-trans c.loop-at.invariant.read c.read.ensures.read;
-      order = read_on g.E.Source.left g.E.Sink.held g.E.Source.reads g.E.Source.faults g.E.Sink.faults c.args.self.now c.loop-at.self c.read.new.self
-          c.args.end.now c.loop-at.end c.read.new.end c.loop-at.invariant.order c.loop-at.invariant.read none c.read.ensures.read c.read.ensures.counted;
+      order = read_on g.E.Source.left g.E.Sink.held g.E.Source.reads g.E.Source.faults g.E.Sink.faults c.args.self.now c.loop-at.self
+          c.read.new.self
+          c.args.end.now c.loop-at.end c.read.new.end c.loop-at.invariant.order c.loop-at.invariant.read none c.read.ensures.read
+          c.read.ensures.counted;
       quiet = search rules;
     }
 
@@ -28,7 +31,8 @@ pub returns-in-Ok-eq0-clause-order : goal.returns-in-Ok-eq0-clause-order
 returns-in-Ok-eq0-clause-order g c =
     let none : HasNoFeed c.loop-at.self = search rules in
     read_on g.E.Source.left g.E.Sink.held g.E.Source.reads g.E.Source.faults g.E.Sink.faults c.args.self.now c.loop-at.self c.read.new.self
-    c.args.end.now c.loop-at.end c.read.new.end c.loop-at.invariant.order c.loop-at.invariant.read none c.read.ensures.read c.read.ensures.counted
+    c.args.end.now c.loop-at.end c.read.new.end c.loop-at.invariant.order c.loop-at.invariant.read none c.read.ensures.read
+    c.read.ensures.counted
 
 pub returns-in-Err-clause-read : goal.returns-in-Err-clause-read
 returns-in-Err-clause-read g c = Reads-trans c.loop-at.invariant.read c.read.ensures.read
@@ -37,4 +41,5 @@ pub returns-in-Err-clause-order : goal.returns-in-Err-clause-order
 returns-in-Err-clause-order g c =
     let none : HasNoFeed c.loop-at.self = search rules in
     read_on g.E.Source.left g.E.Sink.held g.E.Source.reads g.E.Source.faults g.E.Sink.faults c.args.self.now c.loop-at.self c.read.new.self
-    c.args.end.now c.loop-at.end c.read.new.end c.loop-at.invariant.order c.loop-at.invariant.read none c.read.ensures.read c.read.ensures.counted
+    c.args.end.now c.loop-at.end c.read.new.end c.loop-at.invariant.order c.loop-at.invariant.read none c.read.ensures.read
+    c.read.ensures.counted

@@ -1,6 +1,8 @@
--- What was read so far stands behind what was read ahead before, and no read failed. The end was read only where the line was not whole. Each read that isn't the last one lengthens it.
+-- What was read so far stands behind what was read ahead before, and no read failed. The end was read only where the line was not whole.
+-- Each read that isn't the last one lengthens it.
 use Rattle.std.proofs.Common.{◌≡◌, ◌+◌, ◌-◌, length}
 use Rattle.fca_model.specs.declared.TheConstants.{LINE_BYTES}
+use Rattle.expert_sessions.specs.Moves.{wire_of}
 use Rattle.expert_sessions.specs.Courses.{Reads}
 use Rattle.expert_sessions.specs.Order.{ReadsForLine}
 use Rattle.expert_sessions.proofs.ahead.Ahead.read_line.Given as goal
@@ -8,8 +10,8 @@ use Rattle.expert_sessions.proofs.ahead.Ahead.read_line.Given as goal
 abbrev pub invariant-loop-at : goal.invariant-loop-at
 invariant-loop-at g l = record {
   read : Reads
-      (record { left = g.E.Source.left l.initial.end; held = g.E.Sink.held l.initial.end; reads = g.E.Source.faults l.initial.end; writes = g.E.Sink.faults l.initial.end })
-      (record { left = g.E.Source.left l.end; held = g.E.Sink.held l.end; reads = g.E.Source.faults l.end; writes = g.E.Sink.faults l.end })
+      (wire_of g.E.Source.left g.E.Sink.held g.E.Source.faults g.E.Sink.faults l.initial.end)
+      (wire_of g.E.Source.left g.E.Sink.held g.E.Source.faults g.E.Sink.faults l.end)
       l.initial.self l.self;
   order : ReadsForLine g.E.Source.left g.E.Sink.held g.E.Source.reads g.E.Source.faults g.E.Sink.faults l.initial.self l.initial.end l.end;
   quiet : g.E.Source.faults l.end ≡ g.E.Source.faults l.initial.end;

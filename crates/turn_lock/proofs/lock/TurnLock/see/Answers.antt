@@ -5,8 +5,13 @@ pub invariant_of-pass : goal.invariant_of-pass
 invariant_of-pass g c =
     let i = c.pass.invariant in
     let p = c.look-seen.ensures in
-    let least = i.4 in
-    (p.idle, i.1 ∙ sym (ap (λ b. b.number) p.same), ap (λ (n : ℕ). n + 1) i.2 ∙ sym p.made, i.3 ∙ sym (ap (λ b. b.turns) p.same), omega (arith, c.if-pass.false))
+    let least = i.4 in (
+      p.idle,
+      i.1 ∙ sym (ap (λ b. b.number) p.same),
+      ap (λ (n : ℕ). n + 1) i.2 ∙ sym p.made,
+      i.3 ∙ sym (ap (λ b. b.turns) p.same),
+      omega (arith, c.if-pass.false),
+    )
 
 pub returns-clause-looked : goal.returns-clause-looked
 returns-clause-looked g c =

@@ -1,0 +1,8 @@
+use Rattle.fca_model.specs.declared.Event.TheVariants.{Draw}
+use Rattle.expert_gate.proofs.DeskLemmas.{gate_plays}
+use Rattle.expert_gate.proofs.seated.SeatedDesk.draw.Goals as goal
+
+pub returns-clause-turn : goal.returns-clause-turn
+returns-clause-turn g c =
+    gate_plays c.args.self.now.gate.now (Draw c.args.self.now.pass.now.number) c.args.self.now.pass.now c.draw.new.pass
+    c.args.self.now.pass.ghost_name c.draw.result c.draw.ensures
