@@ -1,7 +1,6 @@
 -- What the laws of oracles say of an exploration at a gate. Each oracle's share in the history is its own entries, so they are few; and
--- with few attributes they
--- are fewer than its turns. Where all tables have one context, a number of no expert has no entry, and stands for an expert of any such
--- table.
+-- with few attributes they are fewer than its turns. Where all tables have one context, a number of no expert has no entry, and stands
+-- for an expert of any such table.
 use Rattle.std.proofs.Common.{◌≡◌, ℕ, zero, suc, ◌+◌, ◌-◌, ◌*◌, ◌<◌, ◌≤◌, ◌⊎◌, ◌↔◌, Bool, true, false, Option, Some, None, List, [], ◌∷◌, ◌++◌, length, get_or, slice_get, All, inl, inr, refl, sym, ap, ◌∙◌, subst, arith, le-leb, leb}
 use Rattle.std.proofs.lemmas.Bool.{cases_Bool, cases_lt, and_from, and_parts, leb-true, false≢true}
 use Rattle.std.proofs.lemmas.List.{get_or_past}

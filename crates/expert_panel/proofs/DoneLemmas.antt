@@ -1,6 +1,5 @@
 -- Done is answered to draws alone, and only where no question is open; and from then on none is. So where an expert's last reply is Done,
--- no question is open
--- after the whole history.
+-- no question is open after the whole history.
 use Rattle.std.proofs.Common.{◌≡◌, ℕ, Bool, true, false, not, ◌||◌, Option, Some, None, List, [], ◌∷◌, ◌==◌, filter, length, inl, inr, refl, sym, ap, ◌∙◌, subst}
 use Rattle.std.proofs.lemmas.Bool.{cases_Bool, and_parts, or_left, or_right, false≢true}
 use Rattle.std.specs.List.{list_any, list_all}

@@ -1,7 +1,6 @@
 -- What is left of an exploration by oracles once its gate is closed. The badges of the passes stay, so the seats stand in the order of
--- their numbers, and what
--- each seat shows of itself becomes a share in the one history. Where none is spent the first was done, and from then on no question was
--- open.
+-- their numbers, and what each seat shows of itself becomes a share in the one history. Where none is spent the first was done, and from
+-- then on no question was open.
 use Rattle.std.proofs.Common.{◌≡◌, ℕ, zero, suc, ◌<◌, ◌≤◌, ◌⊎◌, Bool, true, false, List, [], ◌∷◌, ◌++◌, length, map, take, All, Result, Ok, Err, IfOk, inl, inr, refl, sym, ap, ◌∙◌, subst, arith}
 use Rattle.std.proofs.lemmas.Bool.{cases_Bool, false≢true}
 use Rattle.std.proofs.Math.Seq.{take-append_seam}

@@ -1,6 +1,5 @@
 -- Turn after turn of one pass. Each turn goes on from the history that the pass has seen, and what the pass knows after a turn is right
--- whatever it knew
--- before, so the turns of a run add up.
+-- whatever it knew before, so the turns of a run add up.
 use Rattle.std.proofs.Common.{◌≡◌, ◌<◌, ◌⊎◌, List, [], ◌∷◌, ◌++◌, append_assoc, sym, ap, ◌∙◌, refl, inl, inr, arith}
 use Rattle.std.proofs.lemmas.List.{append-nil}
 use Rattle.fca_model.specs.Exploration.{SetEvent, SetReply, SetEntry}

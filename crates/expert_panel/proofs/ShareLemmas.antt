@@ -1,6 +1,5 @@
 -- What a seat with an oracle did, in the words of the one history. Its pass was new, so the entries that it made are all that it has; and
--- what is told at the
--- close says that these are the entries of its number in the history. The passes stand in the order of their numbers.
+-- the clauses of `close` say that these are the entries of its number in the history. The passes stand in the order of their numbers.
 use Rattle.std.proofs.Common.{◌≡◌, ℕ, zero, suc, ◌+◌, ◌-◌, ◌<◌, ◌≤◌, ◌⊎◌, Bool, true, false, not, ◌||◌, Option, Some, None, List, [], ◌∷◌, ◌++◌, length, map, get_or, All, inl, inr, refl, sym, ap, ◌∙◌, subst, arith}
 use Rattle.std.proofs.lemmas.Bool.{cases_Bool, cases_lt, or_left, or_right, false≢true}
 use Rattle.std.proofs.lemmas.List.Elements.{All-nil, All-cons, All-head, All-tail}

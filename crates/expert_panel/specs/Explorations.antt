@@ -17,8 +17,7 @@ use Rattle.expert_panel.specs.declared.end.SeatEnd.{SeatEnd}
 use Rattle.expert_panel.specs.declared.end.SeatEnd.TheVariants.{Spent, Memory}
 
 -- Of the history H: the entries of expert e are what is due for an oracle of its table, and the rows that it dropped are theirs. Its last
--- reply is Done; or
--- it is not, and there are as many entries as the expert has turns
+-- reply is Done; or it is not, and there are as many entries as the expert has turns
 pub record IsOraclesShare (turns : ℕ) (H : List SetEntry) (e : ℕ) (oracle : Recall) : Type 0 where
   pub front : IsOracleFront oracle.table e (own H e)
   pub conflicts : oracle.conflicts ≡ conflicts_of oracle.table (own H e)
@@ -61,7 +60,7 @@ most_turns H oracle = 2 * recorded_in H + dropped oracle.conflicts + 1
 abbrev pub IsWithinTurns : List SetEntry → ℕ → Recall → Type 0
 IsWithinTurns H e oracle = length (own H e) ≤ most_turns H oracle
 
--- the seat made at most so many turns; and where its last turn was refused for memory, one more
+-- the seat made at most so many turns; and one more if memory ran out in its last turn
 abbrev pub HasMadeAtMost : ℕ → Seat Recall → Seat Recall → Type 0
 HasMadeAtMost most old new =
     (new.pass.made ≤ old.pass.made + most)
@@ -80,8 +79,7 @@ abbrev pub is_part : Context → Context → Bool
 is_part K C = list_all (λ row. list_any (same row) C.rows) K.rows
 
 -- What comes of oracles of one context C: none dropped a row; and if none was spent, what was accepted is the basis of C beside what is
--- known, and so is the
--- basis of the recorded rows
+-- known, and so is the basis of the recorded rows
 pub record HasAgreed (C : Context) (explore : History) (oracles : List Recall) (spent : Bool) : Type 0 where
   pub kept : All (λ oracle. oracle.conflicts ≡ no_conflict oracle.table) oracles
   pub accepted : spent ≡ false → SameMembers (state_of explore).accepted (basis_known explore.opening.settings.known C)

@@ -7,8 +7,7 @@ use Rattle.turn_lock.specs.Passes.{Known, badge}
 use Rattle.expert_gate.specs.Histories.{by_expert, IsHistory}
 
 -- From p to q, turns that made these entries. The pass has seen a history that goes on from what it had seen. It is legal and has exactly
--- the pass's own
--- entries once a turn was made, and where none was, if it was so before
+-- the pass's own entries once a turn was made. If none was made, it is so if it was so before
 pub record HasMade (o : Opening) (p : Known Opening SetEntry) (entries : List SetEntry) (q : Known Opening SetEntry) : Type 0 where
   pub same : badge q ≡ badge p
   pub own : q.own ≡ p.own ++ entries

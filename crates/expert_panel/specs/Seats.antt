@@ -16,7 +16,7 @@ pub record IsSeatOf {X : Type 0} (width : X → ℕ) (gate : Lock Opening) (seat
   pub pass : Belongs gate seat.pass
   pub expert : width seat.expert ≡ gate.base.table.context.width
 
--- why a seat ended: Done exactly where its last reply is Done; Spent where no turn was left; Memory where a turn was refused for memory,
+-- why a seat ended: Done exactly if its last reply is Done; Spent if no turn was left; Memory if memory ran out in a turn,
 -- or an answer, with a turn left
 abbrev pub IsEnd : SeatEnd → Known Opening SetEntry → List SetEntry → Known Opening SetEntry → Type 0
 IsEnd Done p entries q = (ends_done entries ≡ true) × TookTurns p entries q
@@ -31,7 +31,7 @@ module _ {X M : Type 0} (width_of : X → ℕ) (memory_of : X → M) (Answering 
     pub run : SeatRun Answering Learning p.number (memory_of old) entries (memory_of new)
     pub pass : HasMade o p entries q
     pub end : IsEnd ending p entries q
-    -- where the end is Memory and no turn was refused, a question is due to which the expert gave no answer
+    -- if the end is Memory and no turn was refused, a question is due to which the expert gave no answer
     pub silent : ending ≡ Memory → TookTurns p entries q → UnansweredRun Answering Learning p.number (memory_of old) entries (memory_of new)
     pub width : width_of new ≡ width_of old
 

@@ -19,7 +19,7 @@ use Rattle.expert_sessions.specs.declared.ended.Ended.TheVariants.{Quit, EndOfIn
 
 -- ---- one call
 
--- a front of the text was sent, and all of it where the call succeeded
+-- a front of the text was sent, and all of it if the call succeeded
 pub record Writes (a b : Wire) (text : Text) (result : Result (Unit {0}) Put) : Type 0 where
   pub sent : Text
   pub unsent : Text

@@ -48,7 +48,7 @@ Answers e form BadLine made turns = (form ≡ Err Line) × (made ≡ []) × (tur
 Answers e form BadWidth made turns = (form ≡ Err Width) × (made ≡ []) × (turns ≡ 0)
 Answers e form NoMemory made turns = LacksMemory e form turns × (made ≡ [])
 
--- the line of an answer, where the attributes have these names
+-- the line of an answer, if the attributes have these names
 abbrev pub said_line : List Text → Said → Text
 said_line attributes (Replied reply) = reply_line attributes reply
 said_line attributes Bye = BYE.now
@@ -63,7 +63,7 @@ pub record Exchange : Type 0 where
   pub made : List SetEntry
   pub turns : ℕ
 
--- expert e was served, where rows have width n
+-- expert e was served, if rows have width n
 pub record IsExchange (n e : ℕ) (x : Exchange) : Type 0 where
   pub short : length x.line ≤ LINE_BYTES
   pub unbroken : HasNoFeed x.line

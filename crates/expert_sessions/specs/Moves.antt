@@ -1,4 +1,4 @@
--- What changes at the two sides of a session: at the end that it reads and writes, and at the desk where its expert works.
+-- What changes at the two sides of a session: at the end that it reads and writes, and at its expert's desk.
 use Rattle.std.specs.Prelude.{◌≡◌, ◌≤◌, ◌+◌, ℕ, Option, Some, None, List, ◌++◌}
 use Rattle.std.specs.Io.KnownBytes.{Appends, Consumes}
 use Rattle.fca_model.specs.Tables.{Text}

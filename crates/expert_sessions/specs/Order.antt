@@ -17,7 +17,7 @@ pub record Reading (E : Type 0) : Type 0 where
   pub before : E
   pub after : E
 
--- over ends that show what is left and what is held, how often they were read, where they count that, and their counts of faults
+-- over ends that show what is left and what is held, how often they were read, if they count that, and their counts of faults
 module _ {E : Type 0} (left held : E → Option Text) (calls : E → Option ℕ) (reads writes : E → ℕ) where
   abbrev pub wire : E → Wire
   wire end = wire_of left held reads writes end
@@ -28,7 +28,7 @@ module _ {E : Type 0} (left held : E → Option Text) (calls : E → Option ℕ)
     pub uncounted : calls b ≡ calls a
     pub quiet : reads b ≡ reads a
 
-  -- it was read once, where it counts that, and nothing was sent
+  -- it was read once, if it counts that, and nothing was sent
   pub record ReadsOnce (a b : E) : Type 0 where
     pub kept : Appends (held a) (held b) []
     pub counted : calls b ≡ option_map one_more (calls a)

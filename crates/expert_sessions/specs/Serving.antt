@@ -24,7 +24,7 @@ pub record Suits (gate : Lock Opening) (t : NamedContext) (lines : ℕ) : Type 0
 abbrev pub entered : List SetEntry → Place
 entered entries = record { entries = entries; turns = None }
 
--- over ends that show what is left and what is held, how often they were read, where they count that, and their counts of faults
+-- over ends that show what is left and what is held, how often they were read, if they count that, and their counts of faults
 module _ {E : Type 0} (left held : E → Option Text) (calls : E → Option ℕ) (reads writes : E → ℕ) (t : NamedContext) (lines : ℕ) where
   -- the expert of the seat's pass has talked over the seat's end, and never ran out of turns, which are not shown; the pass has the
   -- entries of the talk; and the end was read only where each whole line was answered

@@ -17,7 +17,7 @@ use Rattle.expert_sessions.specs.declared.ended.Ended.{Ended}
 use Rattle.expert_sessions.specs.declared.ended.Ended.TheVariants.{Quit, EndOfInput, ReadFault, WriteFault, LongLine, Limit, Spent, Memory}
 
 -- Whole lines at the front of what was taken were served, one answer each, and `quit` only as the last of them. What was sent
--- is a front of the greeting and all answers, and all of it where no write failed
+-- is a front of the greeting and all answers, and all of it if no write failed
 pub record Course (t : NamedContext) (e lines : ℕ) (taken sent : Text) (write_failed : Type 0) : Type 0 where
   pub served : List Exchange
   pub rest : Text
@@ -57,7 +57,7 @@ pub record HasQuit (n : ℕ) (served : List Exchange) : Type 0 where
   pub split : served ≡ before_last served ++ last ∷ []
   pub quit : IsQuit n last
 
--- all but the last answer was sent, where a line was served
+-- all but the last answer was sent, if a line was served
 abbrev pub LacksLastAnswer : NamedContext → ℕ → List Exchange → Text → Type 0
 LacksLastAnswer t e [] sent = ⊤
 LacksLastAnswer t e (x ∷ xs) sent = (part : Text) × (sent ≡ (greeting t e ++ replies_of t.attributes (before_last (x ∷ xs))) ++ part)

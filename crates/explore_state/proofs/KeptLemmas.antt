@@ -1,6 +1,5 @@
--- What the parts of an exploration show of its state, and how one event keeps it. The journal is legal, so the state after it is valid; the
--- reply is read
--- off the settings, the rows, the accepted implications and the holds.
+-- What the parts of an exploration show of its state, and how one event keeps it. The journal is legal, so the state after it is valid;
+-- the reply is read off the settings, the rows, the accepted implications and the holds.
 use Rattle.std.proofs.Common.{◌≡◌, ℕ, true, Some, None, List, [], ◌∷◌, ◌++◌, leb, le-leb, leb-true, refl, sym, ap, ap₂, ◌∙◌, subst, arith}
 use Rattle.std.proofs.lemmas.Bool.{and_parts, and_from}
 use Rattle.fca_model.specs.declared.Event.TheVariants.{Draw, Confirm, Row, Leave}
@@ -84,7 +83,7 @@ module _ (o : Opening) (J : List SetEntry) (K : Context) (acc : List Rule) (hs :
         known = kept.known;
       }
 
--- the journal with one more entry, which was put on one that is the same, with a reply that is the same
+-- one entry was put on a journal: one that equals this journal, with a reply that equals this reply
 pub entry_put : (J roomy J' : List SetEntry) (event : SetEvent) (reply copy : SetReply)
     → J' ≡ roomy ++ record { event = event; reply = copy } ∷ [] → roomy ≡ J → copy ≡ reply
     → J' ≡ J ++ record { event = event; reply = reply } ∷ []

@@ -11,17 +11,17 @@ use Rattle.explore_state.specs.declared.fault.OpenFault.TheVariants.{BadExperts,
 abbrev pub broken_by : List Rule → Set → Option ℕ
 broken_by S row = position (λ i. not (respects row i)) S
 
--- the row at place k with the rule that it breaks, and what comes later where it breaks none
+-- the row at place k with the rule that it breaks, or what comes later if it breaks none
 abbrev pub break_at : ℕ → Option ℕ → Option (ℕ × ℕ) → Option (ℕ × ℕ)
 break_at k None later = later
 break_at k (Some i) later = Some (k, i)
 
--- the place of the first row that breaks a rule, with the place of the first rule that it breaks, where the first row has place k
+-- the place of the first row that breaks a rule, with the place of the first rule that it breaks, if the first row has place k
 abbrev pub first_break : List Rule → ℕ → List Set → Option (ℕ × ℕ)
 first_break S k [] = None
 first_break S k (row ∷ rows) = break_at k (broken_by S row) (first_break S (k + 1) rows)
 
--- where this row breaks this rule
+-- the fault of settings, if this row breaks this rule
 abbrev pub settings_fault : Settings → Option (ℕ × ℕ) → Option OpenFault
 settings_fault s (Some found) = Some (RowBreaks found.0 found.1)
 settings_fault s None = cond (is_expert s.holders) None (Some (BadHolders s.holders))

@@ -1,6 +1,5 @@
 -- The row that answers a question: it is the first that passes a test among the rows beside their conflicts. So it lies in the table,
--- refutes the question,
--- and was not dropped.
+-- refutes the question, and was not dropped.
 use Rattle.std.proofs.Common.{◌≡◌, ℕ, ◌<◌, true, ◌&&◌, Option, Some, None, IfSome, [], length, get_or, min, sym, subst, arith}
 use Rattle.std.proofs.lemmas.Bool.{and_parts}
 use Rattle.std.proofs.lemmas.List.Quantifiers.{position-Some}

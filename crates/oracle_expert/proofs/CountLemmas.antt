@@ -1,10 +1,8 @@
 -- How many turns an oracle takes. Two turns, a draw and an answer, go with each question; and in the time from one draw to the next an
--- answer was recorded, by
--- the oracle or, where its question was stale when it answered, by another. So twice what was recorded, and one turn more for each row that
--- was dropped,
--- is an upper bound of the turns that were taken when a draw is due. While a question is due the bound has one turn less, and two more
--- where the question is
--- still fresh, for then what is recorded for it is yet to come. The last draw, which is answered Done, is one turn more.
+-- answer was recorded, by the oracle or, where its question was stale when it answered, by another. So twice what was recorded, and one
+-- turn more for each row that was dropped, is an upper bound of the turns that were taken when a draw is due. While a question is due the
+-- bound has one turn less, and two more where the question is still fresh, for then what is recorded for it is yet to come. The last
+-- draw, which is answered Done, is one turn more.
 use Rattle.std.proofs.Common.{◌≡◌, append-nil, append_assoc, ℕ, suc, ◌+◌, ◌*◌, ◌-◌, ◌^◌, ◌<◌, ◌≤◌, ◌⊎◌, Bool, true, false, not, ◌&&◌, ◌||◌, cond, eqb, eq-eqb, option_map, find, get_or, zero, Option, Some, None, List, [], ◌∷◌, ◌++◌, length, map, filter, slice_get, slice_set, refl, inl, inr, sym, ap, ◌∙◌, subst, arith, length-append}
 use Rattle.std.proofs.Math.Pow.{pow_mono}
 use Rattle.std.proofs.lemmas.List.{length-map, length-set}

@@ -1,8 +1,6 @@
--- Between two draws of an oracle an answer is recorded. The question by which the first draw is answered is open, so it is not stale. While
--- it is not stale, the
--- oracle's answer to it is recorded, or breaks a rule and leaves the question due; and it becomes stale only where an answer of another is
--- recorded. So a draw,
--- which is due where no question is, comes after a recorded answer.
+-- Between two draws of an oracle an answer is recorded. The question by which the first draw is answered is open, so it is not stale.
+-- While it is not stale, the oracle's answer to it is recorded, or breaks a rule and leaves the question due; and it becomes stale only
+-- where an answer of another is recorded. So a draw, which is due where no question is, comes after a recorded answer.
 use Rattle.std.proofs.Common.{◌≡◌, ℕ, ◌≤◌, ◌⊎◌, Bool, true, false, not, cond, eqb, eq-eqb, get_or, Option, Some, None, List, [], ◌∷◌, ◌++◌, length, filter, refl, inl, inr, sym, ap, ◌∙◌, subst, arith, length-append}
 use Rattle.std.proofs.lemmas.Bool.{cases_Bool, and_parts, false≢true, not-true}
 use Rattle.std.specs.List.{list_all}

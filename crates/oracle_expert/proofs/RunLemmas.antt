@@ -1,6 +1,5 @@
 -- The runs of oracles. What an oracle answers and keeps depends on its table and on the rows that were dropped alone, so a run of a seat
--- with an oracle is,
--- entry by entry, what is due for an oracle of the table. The reply to a draw drops nothing, since no row was given.
+-- with an oracle is, entry by entry, what is due for an oracle of the table. The reply to a draw drops nothing, since no row was given.
 use Rattle.std.proofs.Common.{◌≡◌, ℕ, Option, Some, None, List, [], ◌∷◌, inl, inr, refl, sym, ap, ◌∙◌}
 use Rattle.fca_model.specs.declared.Reply.TheVariants.{Breaks}
 use Rattle.fca_model.specs.Tables.{NamedContext}

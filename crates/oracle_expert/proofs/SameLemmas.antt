@@ -1,8 +1,7 @@
--- Oracles of one table. None of them ever drops a row. For as long as that is so, a row that is given is a row of the table, and a question
--- that is confirmed
--- holds there; so all that is accepted holds in the table, and its rows respect it, and none breaks it. Once no question is open the
--- accepted implications are
--- the basis of the recorded rows. They hold in the table and the recorded rows are rows of it, so both have one basis.
+-- Oracles of one table. None of them ever drops a row. For as long as that is so, a row that is given is a row of the table, and a
+-- question that is confirmed holds there; so all that is accepted holds in the table, and its rows respect it, and none breaks it. Once
+-- no question is open the accepted implications are the basis of the recorded rows. They hold in the table and the recorded rows are rows
+-- of it, so both have one basis.
 use Rattle.std.proofs.Common.{◌≡◌, ℕ, zero, suc, ◌+◌, ◌<◌, Bool, true, false, not, ◌&&◌, ◌||◌, cond, eqb, eq-eqb, Option, Some, None, List, [], ◌∷◌, ◌++◌, length, map, get_or, refl, sym, ap, ◌∙◌, subst, arith}
 use Rattle.std.proofs.lemmas.Bool.{and_parts, and_from, or_left, or_right, false≢true, not-true, eqb-true}
 use Rattle.std.proofs.lemmas.List.Folds.{list_all-append}

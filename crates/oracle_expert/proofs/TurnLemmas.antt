@@ -1,9 +1,7 @@
--- One turn of an oracle, by cases. It draws and is asked an open question, or told that none is open. Or it holds the question that is due.
--- Then it confirms
--- where no row of its table is left to refute it: the question is accepted, or it is stale. Or it gives a row that refutes it: the row is
--- recorded, or the
--- question is stale, or the row breaks a rule and is dropped. A question is stale where a recorded row refutes it or its premise was
--- accepted.
+-- One turn of an oracle, by cases. It draws and is asked an open question, or learns that none is open. Or it holds the question that is
+-- due. Then it confirms where no row of its table is left to refute it: the question is accepted, or it is stale. Or it gives a row that
+-- refutes it: the row is recorded, or the question is stale, or the row breaks a rule and is dropped. A question is stale where a
+-- recorded row refutes it or its premise was accepted.
 use Rattle.std.proofs.Common.{◌≡◌, ℕ, ◌+◌, Bool, true, false, not, ◌&&◌, ◌||◌, cond, Option, Some, None, List, [], ◌∷◌, ◌++◌, length, refl, sym, ap, ◌∙◌, subst}
 use Rattle.std.proofs.lemmas.Bool.{or_left, or_right, false≢true}
 use Rattle.std.specs.List.{list_all, list_any}

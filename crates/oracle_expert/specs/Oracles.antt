@@ -1,8 +1,7 @@
 -- Oracles: experts who answer from a table.
 --
--- An oracle answers a question by the first row of its table that refutes it, and confirms where none does. A row that broke an accepted
--- implication is
--- dropped: it is not given again, and the implication is kept as its conflict.
+-- An oracle answers a question by the first row of its table that refutes it, and confirms if none does. A row that broke an accepted
+-- implication is dropped: it is not given again, and the implication is kept as its conflict.
 --
 -- Of the rows {a} and {b} over a, b both refute {} -> {a, b}. The first is given; once it was dropped the second is; and then the question
 -- is confirmed.
@@ -17,7 +16,7 @@ use Rattle.fca_model.specs.Exploration.{SetReply}
 use Rattle.oracle_expert.specs.declared.expert.Answer.{Answer}
 use Rattle.oracle_expert.specs.declared.expert.Answer.TheVariants.{Confirm, Row}
 
--- for each row of a table the place of the rule against which it was dropped, or nothing where it was not dropped
+-- for each row of a table the place of the rule against which it was dropped, or nothing if it was not dropped
 abbrev pub Conflicts : Type 0
 Conflicts = List (Option ℕ)
 
@@ -42,7 +41,7 @@ answer_with D (Some i) = Row (slice_index_or D.objects i []) (slice_index_or D.c
 abbrev pub answer_of : NamedContext → Conflicts → Rule → Answer
 answer_of D conflicts q = answer_with D (counterexample D conflicts q)
 
--- row i is dropped against the rule at place k, where it was not dropped before
+-- row i is dropped against the rule at place k, if it was not dropped before
 abbrev pub drop_at : Conflicts → ℕ → ℕ → Option (Option ℕ) → Conflicts
 drop_at conflicts i k (Some None) = slice_set conflicts i (Some k)
 drop_at conflicts i k _ = conflicts

@@ -1,8 +1,7 @@
 -- Runs of experts: what the entries of one expert in a history have to be.
 --
 -- An expert draws, answers the question that it was asked, and draws again, until a draw is answered Done. Where its answer breaks a rule
--- it still holds the
--- question, and answers it once more.
+-- it still holds the question, and answers it once more.
 use Rattle.std.specs.Prelude.{◌≡◌, ℕ, Bool, true, false, ◌⊎◌, Option, Some, None, option_and_then, List, [], ◌∷◌}
 use Rattle.fca_model.specs.declared.Event.TheVariants.{Draw}
 use Rattle.fca_model.specs.declared.Reply.TheVariants.{Ask, Done, Breaks}
@@ -13,7 +12,7 @@ use Rattle.oracle_expert.specs.declared.expert.Answer.{Answer}
 use Rattle.oracle_expert.specs.Answers.{event_of}
 use Rattle.oracle_expert.specs.Oracles.{Conflicts, no_conflict, counterexample, answer_of, conflicts_told}
 
--- the question that is due after a reply, where this one was due before; where none is, a draw is due
+-- the question that is due after a reply, if this one was due before. If none is, a draw is due
 abbrev pub question_after : Option Rule → SetReply → Option Rule
 question_after due (Ask q) = Some q
 question_after due (Breaks k i) = due
@@ -50,7 +49,7 @@ module _ {M : Type 0} (Answering : M → Rule → Answer → M → Type 0) (Lear
   IsTurn None old entry new = (entry.event ≡ Draw e) × (new ≡ old)
   IsTurn (Some q) old entry new = IsAnswered q old entry new
 
-  -- no entry more: where a question is due the expert may have answered it, and the answer came to no entry
+  -- no entry more: if a question is due, the expert may have answered it, and the answer came to no entry
   abbrev pub Stops : Option Rule → M → M → Type 0
   Stops None old new = new ≡ old
   Stops (Some q) old new = (new ≡ old) ⊎ ((answer : Answer) × Answering old q answer new)
@@ -73,13 +72,13 @@ module _ {M : Type 0} (Answering : M → Rule → Answer → M → Type 0) (Lear
   abbrev pub SeatRun : M → List SetEntry → M → Type 0
   SeatRun old entries new = RunsFrom None old entries new
 
-  -- the same, where it stops at a question to which the expert gave no answer
+  -- a run that stops at a question to which the expert gave no answer
   abbrev pub UnansweredRun : M → List SetEntry → M → Type 0
   UnansweredRun old entries new = RunsTo IsUnanswered None old entries new
 
 -- ---- an oracle
 
--- where the run of an oracle stands: the question that is due, if one is, and the rows that were dropped
+-- how far the run of an oracle has come: the question that is due, if one is, and the rows that were dropped
 pub record Moment : Type 0 where
   pub due : Option Rule
   pub conflicts : Conflicts
@@ -88,7 +87,7 @@ pub record Moment : Type 0 where
 abbrev pub start : NamedContext → Moment
 start D = record { due = None; conflicts = no_conflict D }
 
--- the event of expert e, where this question is due, or a draw
+-- the event of expert e, if this question is due, or a draw
 abbrev pub event_due : NamedContext → ℕ → Conflicts → Option Rule → SetEvent
 event_due D e conflicts None = Draw e
 event_due D e conflicts (Some q) = event_of e (answer_of D conflicts q)

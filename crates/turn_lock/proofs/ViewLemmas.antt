@@ -34,7 +34,7 @@ module _ {X : Type 0} where
   after_end Q xs w mine others j v at = ⊎_elim (λ (t : get_elem? xs j ≡ some v). others j v t)
       (λ (t : (j ≡ length xs) × (w ≡ v)). subst (λ (z : ℕ × X). Q z.0 z.1) (λ i. (sym t.0 i, t.1 i)) mine) (at_end xs w v j at)
 
-  -- where there is one view
+  -- a fact of the only view
   pub only : (Q : ℕ → X → Type 0) (w : X) → Q 0 w → (j : ℕ) (v : X) → get_elem? (w ∷ []) j ≡ some v → Q j v
   only Q w mine = after_end Q [] w mine (λ j v there. absurd (some-ne-none v (sym there)))
 

@@ -102,7 +102,7 @@ module _ {V B E : Type 0} (base_of : V → B) (history_of : V → List E) (legal
   abbrev pub HasTurn : Me V (View B E) → Me V (View B E) → Type 0
   HasTurn m m' = (value : V) × (m'.1 ≡ (0, value) ∷ m.1) × IsShown m.0 value m'.0
 
-  -- the turn has come where the number found is the ticket
+  -- the turn has come if the number found is the ticket
   abbrev pub Came : Step V → Me V (View B E) → ℕ → Me V (View B E) → Type 0
   Came st m found m' =
       ((m.0.ticket ≡ Some found) × HasTurn m m')

@@ -64,7 +64,7 @@ module _ {B E : Type 0} (by : E → ℕ) where
     pub strange : (n : ℕ) → (n ≡ 0) ⊎ (made < n) → own_of by n log ≡ []
 
 module _ {V B E : Type 0} (base_of : V → B) (history_of : V → List E) where
-  -- At home, the slot has a value of the base with the history. It is out exactly where a view's turn is its own, and what
+  -- At home, the slot has a value of the base with the history. It is out exactly if a view's turn is its own, and what
   -- that view has seen is the history
   abbrev pub Slot : B → List E → List (Home V) → List (View B E) → Type 0
   Slot b log homes views =
@@ -73,7 +73,7 @@ module _ {V B E : Type 0} (base_of : V → B) (history_of : V → List E) where
       ⊎ ((homes ≡ none ∷ []) × (i : ℕ) × (v : View B E) × Sits views i v × (v.mine ≡ true) × (v.seen ≡ log))
 
 module _ {V B E : Type 0} (base_of : V → B) (history_of : V → List E) (legal : B → List E → Type 0) (by : E → ℕ) where
-  -- the rule, where b is the base of the value that the lock was made with, and a pass may make this many turns
+  -- the rule, if b is the base of the value that the lock was made with, and a pass may make this many turns
   pub record Turned (b : B) (turns : ℕ) (s : State V (View B E)) : Type 0 where
     -- the history, the number of passes made, and what the view of pass 1 keeps of those joined to it
     pub log : List E
