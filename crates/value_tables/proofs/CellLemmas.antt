@@ -1,6 +1,8 @@
 -- Cutting a text by lengths: more pieces at its end (`cut_append`), and one piece of it (`cut_at`). Then the rows of a table: one more
 -- (`objects_push`), and what stands in one (`objects_name`, `objects_value`).
-use Rattle.std.proofs.Common.{◌≡◌, ◌∙◌, ◌<◌, ◌≤◌, ◌+◌, ◌*◌, ◌-◌, ◌++◌, ◌∷◌, [], ℕ, zero, suc, List, length, take, drop, get_or, sum, Ok, inl, inr, refl, sym, ap, ap₂, subst, arith, get_or-take, get_or-drop, drop-drop, take_all, take-add, length-drop}
+use Rattle.std.proofs.Common.{◌≡◌, ◌∙◌, ◌<◌, ◌≤◌, ◌+◌, ◌*◌, ◌-◌, ◌++◌, ◌∷◌, [], ℕ, zero, suc, List, length, take, drop, get_or, sum, Ok}
+use Rattle.std.proofs.Common.{inl, inr, refl, sym, ap, ap₂, subst, arith, get_or-take, get_or-drop, drop-drop, take_all, take-add}
+use Rattle.std.proofs.Common.{length-drop}
 use Rattle.std.proofs.lemmas.Bool.{cases_lt}
 use Rattle.std.proofs.Math.Seq.{get_or-append_seam}
 use Rattle.std.proofs.lemmas.List.{get_or_append_left, length-take-le, length_push, nil_from_length, take-append-le, drop-append-le}
@@ -20,7 +22,8 @@ cut_length (n ∷ lengths) text = ap suc (cut_length lengths (drop n text))
 sum_cons : (n : ℕ) (ns : List ℕ) → sum (n ∷ ns) ≡ n + sum ns
 sum_cons n ns = sum_by-cons (λ x. x) n ns
 
-pub cut_append : (lengths more : List ℕ) (text behind : Text) → sum lengths ≡ length text → cut (lengths ++ more) (text ++ behind) ≡ cut lengths text ++ cut more behind
+pub cut_append : (lengths more : List ℕ) (text behind : Text) → sum lengths ≡ length text
+    → cut (lengths ++ more) (text ++ behind) ≡ cut lengths text ++ cut more behind
 cut_append [] more text behind whole =
     let none : text ≡ [] = nil_from_length text (sym whole) in
     rw none refl
@@ -28,22 +31,27 @@ cut_append (n ∷ lengths) more text behind whole =
     let all : n + sum lengths ≡ length text = sym (sum_cons n lengths) ∙ whole in
     let within : n ≤ length text = omega arith in
     let rest : sum lengths ≡ length (drop n text) = omega (arith, length-drop n text) in
-    rw (take-append-le n text behind within, drop-append-le n text behind within) (ap (λ (ts : List Text). take n text ∷ ts) (cut_append lengths more (drop n text) behind rest))
+    rw (take-append-le n text behind within, drop-append-le n text behind within)
+    (ap (λ (ts : List Text). take n text ∷ ts) (cut_append lengths more (drop n text) behind rest))
 
 pub cut_push : (lengths : List ℕ) (text value : Text) → sum lengths ≡ length text
     → cut (lengths ++ length value ∷ []) (text ++ value) ≡ cut lengths text ++ value ∷ []
 cut_push lengths text value whole =
-    cut_append lengths (length value ∷ []) text value whole ∙ ap (λ (v : Text). cut lengths text ++ v ∷ []) (take_all (length value) value (omega arith))
+    cut_append lengths (length value ∷ []) text value whole
+    ∙ ap (λ (v : Text). cut lengths text ++ v ∷ []) (take_all (length value) value (omega arith))
 
-pub cut_at : (lengths : List ℕ) (text : Text) (k : ℕ) → k < length lengths → get_or (cut lengths text) k [] ≡ take (get_or lengths k 0) (drop (sum (take k lengths)) text)
+pub cut_at : (lengths : List ℕ) (text : Text) (k : ℕ) → k < length lengths
+    → get_or (cut lengths text) k [] ≡ take (get_or lengths k 0) (drop (sum (take k lengths)) text)
 cut_at [] text k below = absurd (omega arith)
 cut_at (n ∷ lengths) text zero below = refl
 cut_at (n ∷ lengths) text (suc k) below =
     let less : k < length lengths = omega arith in
-    rw (sum_cons n (take k lengths)) (cut_at lengths (drop n text) k less ∙ ap (take (get_or lengths k 0)) (drop-drop (sum (take k lengths)) n text))
+    rw (sum_cons n (take k lengths)) (cut_at lengths (drop n text) k less
+    ∙ ap (take (get_or lengths k 0)) (drop-drop (sum (take k lengths)) n text))
 
 -- the first piece is as long as it is to be
-pub cut_first : (lengths : List ℕ) (text : Text) → 0 < length lengths → sum lengths ≡ length text → length (get_or (cut lengths text) 0 []) ≡ get_or lengths 0 0
+pub cut_first : (lengths : List ℕ) (text : Text) → 0 < length lengths → sum lengths ≡ length text
+    → length (get_or (cut lengths text) 0 []) ≡ get_or lengths 0 0
 cut_first [] text some whole = absurd (omega arith)
 cut_first (n ∷ lengths) text some whole =
     let all : n + sum lengths ≡ length text = sym (sum_cons n lengths) ∙ whole in
@@ -66,12 +74,15 @@ sum_from lengths j k before =
 
 -- ---- starts
 
--- the same where more pieces came behind
-pub StartsRight-more : (starts lengths more : List ℕ) → 16 * length starts < length lengths + 16 → StartsRight starts lengths → StartsRight starts (lengths ++ more)
-StartsRight-more starts lengths more needed right b below = right b below ∙ ap sum (sym (take-append-le (16 * b) lengths more (omega arith)))
+-- the starts stay right if more pieces follow
+pub StartsRight-more : (starts lengths more : List ℕ) → 16 * length starts < length lengths + 16 → StartsRight starts lengths
+    → StartsRight starts (lengths ++ more)
+StartsRight-more starts lengths more needed right b below = right b below
+    ∙ ap sum (sym (take-append-le (16 * b) lengths more (omega arith)))
 
 -- one start more
-pub StartsRight-push : (starts lengths : List ℕ) (start : ℕ) → start ≡ sum (take (16 * length starts) lengths) → StartsRight starts lengths → StartsRight (starts ++ start ∷ []) lengths
+pub StartsRight-push : (starts lengths : List ℕ) (start : ℕ) → start ≡ sum (take (16 * length starts) lengths) → StartsRight starts lengths
+    → StartsRight (starts ++ start ∷ []) lengths
 StartsRight-push starts lengths start is right b below = elim (cases_lt b (length starts)) [
   | inl less ↦ get_or_append_left starts (start ∷ []) 0 b less ∙ right b less
   | inr last ↦
@@ -82,10 +93,12 @@ StartsRight-push starts lengths start is right b below = elim (cases_lt b (lengt
 
 -- the start behind the last block
 pub start_next : (starts lengths : List ℕ) → 0 < length starts → StartsRight starts lengths
-    → get_or starts (length starts - 1) 0 + sum (take (16 * length starts - 16 * (length starts - 1)) (drop (16 * (length starts - 1)) lengths)) ≡ sum (take (16 * length starts) lengths)
+    → get_or starts (length starts - 1) 0 + sum (take (16 * length starts - 16 * (length starts - 1))
+    (drop (16 * (length starts - 1)) lengths)) ≡ sum (take (16 * length starts) lengths)
 start_next starts lengths some right =
     let n = length starts in
-    ap (λ (s : ℕ). s + sum (take (16 * n - 16 * (n - 1)) (drop (16 * (n - 1)) lengths))) (right (n - 1) (omega arith)) ∙ sum_from lengths (16 * (n - 1)) (16 * n) (omega arith)
+    ap (λ (s : ℕ). s + sum (take (16 * n - 16 * (n - 1)) (drop (16 * (n - 1)) lengths))) (right (n - 1) (omega arith))
+    ∙ sum_from lengths (16 * (n - 1)) (16 * n) (omega arith)
 
 -- ---- rows of a table
 
@@ -103,12 +116,15 @@ objects_push width (first ∷ names) values row name even wide =
     let within : width ≤ length values = omega arith in
     let rest : length (drop width values) ≡ length names * width = omega (arith, length-drop width values) in
     rw (take-append-le width values row within, drop-append-le width values row within)
-    (ap (λ (os : List ObjectValues). record { name = first; values = take width values } ∷ os) (objects_push width names (drop width values) row name rest wide))
+    (ap (λ (os : List ObjectValues). record { name = first; values = take width values } ∷ os)
+    (objects_push width names (drop width values) row name rest wide))
 
-pub objects_name : (width : ℕ) (names values : List Text) (g : ℕ) → g < length names → (get_or (objects_of width names values) g no_object).name ≡ get_or names g []
+pub objects_name : (width : ℕ) (names values : List Text) (g : ℕ) → g < length names
+    → (get_or (objects_of width names values) g no_object).name ≡ get_or names g []
 objects_name width [] values g below = absurd (omega arith)
 objects_name width (name ∷ names) values zero below = refl
-objects_name width (name ∷ names) values (suc g) below = let less : g < length names = omega arith in objects_name width names (drop width values) g less
+objects_name width (name ∷ names) values (suc g) below = let less : g < length names = omega arith in
+    objects_name width names (drop width values) g less
 
 pub objects_value : (width : ℕ) (names values : List Text) (g m : ℕ) → g < length names → m < width
     → get_or (get_or (objects_of width names values) g no_object).values m [] ≡ get_or values (g * width + m) []
@@ -119,22 +135,25 @@ objects_value width (name ∷ names) values zero m below within =
 objects_value width (name ∷ names) values (suc g) m below within =
     let less : g < length names = omega arith in
     let same : width + (g * width + m) ≡ suc g * width + m = omega arith in
-    objects_value width names (drop width values) g m less within ∙ get_or-drop width values (g * width + m) [] ∙ ap (λ (k : ℕ). get_or values k []) same
+    objects_value width names (drop width values) g m less within ∙ get_or-drop width values (g * width + m) []
+    ∙ ap (λ (k : ℕ). get_or values k []) same
 
 pub objects_more : (width : ℕ) (names values : List Text) (fields : Record) (records : List Record) (name : Text)
-    → object_form width (length names + 2) fields ≡ Ok (object_of fields) → name ≡ get_or fields 0 [] → length fields ≡ width + 1 → length values ≡ length names * width
+    → object_form width (length names + 2) fields ≡ Ok (object_of fields) → name ≡ get_or fields 0 [] → length fields ≡ width + 1
+    → length values ≡ length names * width
     → objects_form width (length names + 2) (objects_of width names values) (fields ∷ records)
     ≡ objects_form width (length (names ++ name ∷ []) + 2) (objects_of width (names ++ name ∷ []) (values ++ drop 1 fields)) records
 objects_more width names values fields records name form is whole even =
     let wide : length (drop 1 fields) ≡ width = omega (arith, length-drop 1 fields) in
     let next : length names + 2 + 1 ≡ length (names ++ name ∷ []) + 2 = omega (arith, length_push names name) in
     let with_name : Text → List ObjectValues = λ n. objects_of width names values ++ record { name = n; values = drop 1 fields } ∷ [] in
-    rw form (ap₂ (λ (i : ℕ) (os : List ObjectValues). objects_form width i os records) next (ap with_name (sym is) ∙ sym (objects_push width names values (drop 1 fields) name even wide)))
+    rw form (ap₂ (λ (i : ℕ) (os : List ObjectValues). objects_form width i os records) next
+    (ap with_name (sym is) ∙ sym (objects_push width names values (drop 1 fields) name even wide)))
 
 pub even_more : (n m w a b : ℕ) → m ≡ n + 1 → a ≡ n * w → b ≡ w → a + b ≡ m * w
 even_more n m w a b next a_is b_is = rw (next, a_is, b_is) (omega arith)
 
--- where the value of an object stands among all
+-- the place of an object's value among all
 place_sum : (g d m w : ℕ) → m < w → g * w + m < (g + 1 + d) * w
 place_sum g d m w below = omega arith
 

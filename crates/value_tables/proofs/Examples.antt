@@ -21,7 +21,10 @@ no_point = refl
 abbrev people : ValueTable
 people = record {
   attributes = codes "age" ∷ codes "size" ∷ [];
-  objects = record { name = codes "tim"; values = codes "21" ∷ codes "s" ∷ [] } ∷ record { name = codes "ann"; values = codes "35" ∷ codes "l" ∷ [] } ∷ [];
+  objects = record { name = codes "tim"; values = codes "21" ∷ codes "s" ∷ [] } ∷ record {
+    name = codes "ann";
+    values = codes "35" ∷ codes "l" ∷ [];
+  } ∷ [];
 }
 
 pub ages : column people 0 ≡ codes "21" ∷ codes "35" ∷ []

@@ -1,5 +1,7 @@
 -- One field more.
-use Rattle.std.proofs.Common.{◌≡◌, ◌∙◌, ◌<◌, ◌≤◌, ◌+◌, ◌-◌, ◌||◌, ◌∷◌, le-ltb, [], ℕ, zero, suc, true, false, not, List, Option, Some, None, take, drop, length, get_or, length-drop, slice_get, inl, inr, refl, sym, ap, arith, ltb, eqb, ltb-false, eqb-true, is_none}
+use Rattle.std.proofs.Common.{◌≡◌, ◌∙◌, ◌<◌, ◌≤◌, ◌+◌, ◌-◌, ◌||◌, ◌∷◌, le-ltb, [], ℕ, zero, suc, true, false, not, List, Option, Some, None}
+use Rattle.std.proofs.Common.{take, drop, length, get_or, length-drop, slice_get, inl, inr, refl, sym, ap, arith, ltb, eqb, ltb-false}
+use Rattle.std.proofs.Common.{eqb-true, is_none}
 use Rattle.std.proofs.lemmas.Bool.{cases_Bool, ne_eqb, or_cases, or_parts}
 use Rattle.std.proofs.lemmas.List.{length-take}
 use Rattle.csv.specs.Records.{cut_from}
@@ -17,15 +19,18 @@ use Rattle.value_tables.specs.Form.{bad_field, first_bad, is_field, is_name}
 use Rattle.value_tables.specs.declared.fields.FieldKind.{FieldKind}
 use Rattle.value_tables.specs.declared.fields.FieldKind.TheVariants as kind
 
-pub first_bad_more : (kind : FieldKind) (fields : Record) (place : ℕ) (field : Text) → Some field ≡ slice_get fields place → is_field kind field ≡ true
+pub first_bad_more : (kind : FieldKind) (fields : Record) (place : ℕ) (field : Text) → Some field ≡ slice_get fields place
+    → is_field kind field ≡ true
     → first_bad kind (place + 1) (drop place fields) ≡ first_bad kind (place + 1 + 1) (drop (place + 1) fields)
 first_bad_more kind fields place field at good = rw (drop-item fields place field (sym at), good) refl
 
-pub first_bad_here : (kind : FieldKind) (fields : Record) (place : ℕ) (field : Text) → Some field ≡ slice_get fields place → is_field kind field ≡ false
+pub first_bad_here : (kind : FieldKind) (fields : Record) (place : ℕ) (field : Text) → Some field ≡ slice_get fields place
+    → is_field kind field ≡ false
     → first_bad kind (place + 1) (drop place fields) ≡ Some (place + 1)
 first_bad_here kind fields place field at bad = rw (drop-item fields place field (sym at), bad) refl
 
-pub first_bad_none : (kind : FieldKind) (fields : Record) (place : ℕ) (field : Text) → Some field ≡ slice_get fields place → first_bad kind (place + 1) (drop place fields) ≡ None
+pub first_bad_none : (kind : FieldKind) (fields : Record) (place : ℕ) (field : Text) → Some field ≡ slice_get fields place
+    → first_bad kind (place + 1) (drop place fields) ≡ None
     → is_field kind field ≡ true
 first_bad_none kind fields place field at none = elim (cases_Bool (is_field kind field)) [
   | inl is ↦ is
@@ -33,7 +38,8 @@ first_bad_none kind fields place field at none = elim (cases_Bool (is_field kind
 ]
 
 -- no field from a place on is bad
-pub first_bad_within : (kind : FieldKind) (fields : Record) (from d : ℕ) (field : Text) → Some field ≡ slice_get fields (from + d) → first_bad kind (from + 1) (drop from fields) ≡ None
+pub first_bad_within : (kind : FieldKind) (fields : Record) (from d : ℕ) (field : Text) → Some field ≡ slice_get fields (from + d)
+    → first_bad kind (from + 1) (drop from fields) ≡ None
     → is_field kind field ≡ true
 first_bad_within kind fields from zero field at none =
     let same : from + zero ≡ from = omega arith in
@@ -45,7 +51,8 @@ first_bad_within kind fields from (suc d) field at none =
     let first = get_or fields from [] in
     let here = sym (slice_get-get_or fields from [] below) in
     let good = first_bad_none kind fields from first here none in
-    first_bad_within kind fields (from + 1) d field (at ∙ ap (slice_get fields) same) (sym (first_bad_more kind fields from first here good) ∙ none)
+    first_bad_within kind fields (from + 1) d field (at ∙ ap (slice_get fields) same)
+    (sym (first_bad_more kind fields from first here good) ∙ none)
 
 -- ---- names
 
@@ -57,7 +64,8 @@ pub is_name_long : (field : Text) → eqb (length field) 0 ≡ false → ltb MAX
 unfolding name_fault
 is_name_long field some long = rw (some, long) refl
 
-pub is_name_short : (field : Text) → eqb (length field) 0 ≡ false → ltb MAX_NAME_BYTES (length field) ≡ false → not (list_any is_line_break field) ≡ is_name field
+pub is_name_short : (field : Text) → eqb (length field) 0 ≡ false → ltb MAX_NAME_BYTES (length field) ≡ false
+    → not (list_any is_line_break field) ≡ is_name field
 unfolding name_fault
 is_name_short field some short = elim (cases_Bool (list_any is_line_break field)) [
   | inl line ↦ rw (some, short, line) refl
@@ -88,7 +96,8 @@ value_short field is = elim (or_cases _ _ is) [
 ]
 
 -- a record without a bad field begins with a name, and goes on with values
-pub bad_field_none : (fields : Record) → bad_field fields ≡ None → (is_name (get_or fields 0 []) ≡ true) × (first_bad kind.Value 2 (drop 1 fields) ≡ None)
+pub bad_field_none : (fields : Record) → bad_field fields ≡ None
+    → (is_name (get_or fields 0 []) ≡ true) × (first_bad kind.Value 2 (drop 1 fields) ≡ None)
 bad_field_none fields none = elim (cases_Bool (is_name (get_or fields 0 []))) [
   | inl is ↦ (is, rw is at none)
   | inr isnt ↦ let some = rw isnt at none in cc
@@ -96,8 +105,9 @@ bad_field_none fields none = elim (cases_Bool (is_name (get_or fields 0 []))) [
 
 -- ---- a record as one text
 
--- bytes without a line break are a name where they are some, and a value
-unbroken_name : (piece : Text) → length piece ≤ 255 → list_any is_line_break piece ≡ false → eqb (length piece) 0 ≡ false → is_name piece ≡ true
+-- bytes without a line break are a value, and a name if they are not empty
+unbroken_name : (piece : Text) → length piece ≤ 255 → list_any is_line_break piece ≡ false → eqb (length piece) 0 ≡ false
+    → is_name piece ≡ true
 unbroken_name piece few unbroken some = sym (is_name_short piece some (le-ltb MAX_NAME_BYTES (length piece) few)) ∙ ap not unbroken
 
 unbroken_value : (piece : Text) → length piece ≤ 255 → list_any is_line_break piece ≡ false → is_field kind.Value piece ≡ true
@@ -116,12 +126,15 @@ module _ (bytes : Text) (few : length bytes ≤ 255) (unbroken : list_any is_lin
   pieces_good : (start j : ℕ) (ends : List ℕ) → first_bad kind.Value j (cut_from start ends bytes) ≡ None
   unfolding cut_from
   pieces_good start j [] = refl
-  pieces_good start j (end ∷ ends) = rw (unbroken_value (take (end - start) (drop start bytes)) (piece_few start (end - start)) (piece_unbroken start (end - start))) (pieces_good end (j + 1) ends)
+  pieces_good start j (end ∷ ends) = rw (unbroken_value (take (end - start) (drop start bytes)) (piece_few start (end - start))
+      (piece_unbroken start (end - start))) (pieces_good end (j + 1) ends)
 
-  pub bad_field-none_from : (ends : List ℕ) → eqb (length (get_or (cut_from 0 ends bytes) 0 [])) 0 ≡ false → bad_field (cut_from 0 ends bytes) ≡ None
+  pub bad_field-none_from : (ends : List ℕ) → eqb (length (get_or (cut_from 0 ends bytes) 0 [])) 0 ≡ false
+      → bad_field (cut_from 0 ends bytes) ≡ None
   unfolding cut_from
   bad_field-none_from [] some = absurd (cc)
-  bad_field-none_from (end ∷ ends) some = rw (unbroken_name (take (end - 0) (drop 0 bytes)) (piece_few 0 (end - 0)) (piece_unbroken 0 (end - 0)) some) (pieces_good end 2 ends)
+  bad_field-none_from (end ∷ ends) some = rw (unbroken_name (take (end - 0) (drop 0 bytes)) (piece_few 0 (end - 0))
+      (piece_unbroken 0 (end - 0)) some) (pieces_good end 2 ends)
 
 -- ---- a line
 
@@ -136,7 +149,8 @@ AreParts-more n m (piece ∷ pieces) le parts = (omega (arith, parts.0), parts.1
 
 AreParts-joined : (n b : ℕ) (pieces : Record) → is_line_break b ≡ false → AreParts n pieces → AreParts (suc n) (add_byte b pieces)
 AreParts-joined n b [] plain parts = (omega arith, rw plain refl, tt)
-AreParts-joined n b (piece ∷ pieces) plain parts = (omega (arith, parts.0), rw plain parts.1, AreParts-more n (suc n) pieces (omega arith) parts.2)
+AreParts-joined n b (piece ∷ pieces) plain parts =
+    (omega (arith, parts.0), rw plain parts.1, AreParts-more n (suc n) pieces (omega arith) parts.2)
 
 AreParts-fields : (line : Text) → list_any is_line_break line ≡ false → AreParts (length line) (fields_in line)
 AreParts-fields [] unbroken = (omega arith, refl, tt)
@@ -152,9 +166,11 @@ parts_good : (pieces : Record) (j : ℕ) → AreParts 255 pieces → first_bad k
 parts_good [] j parts = refl
 parts_good (piece ∷ pieces) j parts = rw (unbroken_value piece parts.0 parts.1) (parts_good pieces (j + 1) parts.2)
 
--- the fields of a short line are a name and values where the first has a byte
-pub bad_field-none_in : (line : Text) → length line ≤ 255 → list_any is_line_break line ≡ false → 0 < length (get_or (fields_in line) 0 []) → bad_field (fields_in line) ≡ None
-bad_field-none_in line few unbroken some = by (fields_in line) (AreParts-more (length line) 255 (fields_in line) few (AreParts-fields line unbroken)) some
+-- the fields of a short line are a name and values if the first has a byte
+pub bad_field-none_in : (line : Text) → length line ≤ 255 → list_any is_line_break line ≡ false → 0 < length (get_or (fields_in line) 0 [])
+    → bad_field (fields_in line) ≡ None
+bad_field-none_in line few unbroken some = by (fields_in line)
+    (AreParts-more (length line) 255 (fields_in line) few (AreParts-fields line unbroken)) some
   where
     by : (pieces : Record) → AreParts 255 pieces → 0 < length (get_or pieces 0 []) → bad_field pieces ≡ None
     by [] parts some = absurd (omega arith)

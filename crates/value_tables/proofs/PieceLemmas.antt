@@ -1,7 +1,9 @@
 -- One byte more of a line: a comma begins a new piece, and any other byte comes behind the last piece.
-use Rattle.std.proofs.Common.{◌≡◌, ◌∙◌, ◌<◌, ◌≤◌, ◌+◌, ◌-◌, ◌∷◌, ◌++◌, [], ℕ, true, false, List, length, take, drop, set, sum, inl, inr, refl, sym, ap, length-append, length-drop, arith}
+use Rattle.std.proofs.Common.{◌≡◌, ◌∙◌, ◌<◌, ◌≤◌, ◌+◌, ◌-◌, ◌∷◌, ◌++◌, [], ℕ, true, false, List, length, take, drop, set, sum, inl, inr}
+use Rattle.std.proofs.Common.{refl, sym, ap, length-append, length-drop, arith}
 use Rattle.std.proofs.lemmas.Bool.{cases_Bool}
-use Rattle.std.proofs.lemmas.List.{drop-append-le, drop_all, length-take-le, take-append-drop, take-set, take-set-le, take-take, take_all, take_more_set}
+use Rattle.std.proofs.lemmas.List.{drop-append-le, drop_all, length-take-le, take-append-drop, take-set, take-set-le, take-take, take_all}
+use Rattle.std.proofs.lemmas.List.{take_more_set}
 use Rattle.std.proofs.lemmas.List.Sums.{sum_by-append, sum_by-cons}
 use Rattle.fca_model.specs.Tables.{Text}
 use Rattle.csv_context.specs.Lines.{fields_in, add_byte, is_comma}
@@ -56,7 +58,8 @@ fields_in-comma (b ∷ line) c comma = elim (cases_Bool (is_comma b)) [
 fields_in-other : (line : Text) (c : ℕ) → is_comma c ≡ false → fields_in (line ++ c ∷ []) ≡ extended c (fields_in line)
 fields_in-other [] c other = rw other refl
 fields_in-other (b ∷ line) c other = elim (cases_Bool (is_comma b)) [
-  | inl is ↦ rw is (ap (λ (ps : Record). [] ∷ ps) (fields_in-other line c other) ∙ sym (extended-cons c [] (fields_in line) (fields_in-some line)))
+  | inl is ↦ rw is (ap (λ (ps : Record). [] ∷ ps) (fields_in-other line c other)
+      ∙ sym (extended-cons c [] (fields_in line) (fields_in-some line)))
   | inr isnt ↦ rw isnt (ap (add_byte b) (fields_in-other line c other) ∙ sym (extended-joined c b (fields_in line)))
 ]
 
@@ -70,7 +73,8 @@ pub record SoFar (line text lengths : List ℕ) (count start end : ℕ) : Type 0
   pub within : end ≤ length line
   pub few : count ≤ length line
 
-module _ (line text lengths : List ℕ) (count start end : ℕ) (so_far : SoFar line text lengths count start end) (short : length line < 256) (room : length text ≡ 256) (places : length lengths ≡ 256) where
+module _ (line text lengths : List ℕ) (count start end : ℕ) (so_far : SoFar line text lengths count start end) (short : length line < 256)
+    (room : length text ≡ 256) (places : length lengths ≡ 256) where
   text_size : length (take end text) ≡ end
   text_size = length-take-le end text (omega (arith, so_far.within))
 
@@ -89,7 +93,8 @@ module _ (line text lengths : List ℕ) (count start end : ℕ) (so_far : SoFar 
       let few : length (drop start (take end text)) ≤ end - start = omega (arith, hand_size) in
       ap (λ (xs : List ℕ). cut (take count lengths ++ (end - start) ∷ []) xs) (sym front)
       ∙ cut_append (take count lengths) ((end - start) ∷ []) (take start text) (drop start (take end text)) (so_far.whole ∙ sym size)
-      ∙ ap (λ (piece : Text). cut (take count lengths) (take start text) ++ piece ∷ []) (take_all (end - start) (drop start (take end text)) few)
+      ∙ ap (λ (piece : Text). cut (take count lengths) (take start text) ++ piece ∷ [])
+      (take_all (end - start) (drop start (take end text)) few)
       ∙ sym so_far.fields
 
   ended-sum : sum (take count lengths ++ (end - start) ∷ []) ≡ end
@@ -106,7 +111,8 @@ module _ (line text lengths : List ℕ) (count start end : ℕ) (so_far : SoFar 
   pub pieces-sum : sum (take (count + 1) (set lengths count (end - start))) ≡ length (take end text)
   pieces-sum = rw kept (ended-sum ∙ sym text_size)
 
-  pub SoFar-comma : (b : ℕ) → is_comma b ≡ true → SoFar (line ++ b ∷ []) (set text end b) (set lengths count (end - start)) (count + 1) end end
+  pub SoFar-comma : (b : ℕ) → is_comma b ≡ true → SoFar (line ++ b ∷ []) (set text end b) (set lengths count (end - start))
+      (count + 1) end end
   SoFar-comma b comma =
       let longer : length (line ++ b ∷ []) ≡ length line + 1 = length-append line (b ∷ []) in
       let none : drop end (take end text) ≡ [] = drop_all end (take end text) (omega (arith, text_size)) in
@@ -118,13 +124,16 @@ module _ (line text lengths : List ℕ) (count start end : ℕ) (so_far : SoFar 
         few = omega (arith, longer, so_far.few);
       }
 
-  pub SoFar-other : (b : ℕ) → is_comma b ≡ false → SoFar (line ++ b ∷ []) (set text end b) (set lengths count (end - start)) count start (end + 1)
+  pub SoFar-other : (b : ℕ) → is_comma b ≡ false
+      → SoFar (line ++ b ∷ []) (set text end b) (set lengths count (end - start)) count start (end + 1)
   SoFar-other b other =
       let longer : length (line ++ b ∷ []) ≡ length line + 1 = length-append line (b ∷ []) in
       let more : take (end + 1) (set text end b) ≡ take end text ++ b ∷ [] = take_more_set text end b (omega (arith, so_far.within)) in
-      let hand : drop start (take end text ++ b ∷ []) ≡ drop start (take end text) ++ b ∷ [] = drop-append-le start (take end text) (b ∷ []) (omega (arith, text_size, so_far.ordered)) in
+      let hand : drop start (take end text ++ b ∷ []) ≡ drop start (take end text) ++ b ∷ [] =
+      drop-append-le start (take end text) (b ∷ []) (omega (arith, text_size, so_far.ordered)) in
       let fields : fields_in (line ++ b ∷ []) ≡ cut (take count lengths) (take start text) ++ (drop start (take end text) ++ b ∷ []) ∷ [] =
-      fields_in-other line b other ∙ ap (extended b) so_far.fields ∙ extended-append b (cut (take count lengths) (take start text)) (drop start (take end text)) in
+      fields_in-other line b other ∙ ap (extended b) so_far.fields
+      ∙ extended-append b (cut (take count lengths) (take start text)) (drop start (take end text)) in
       record {
         fields = rw (take-set lengths count (end - start), take-set-le start text end b so_far.ordered, more, hand) fields;
         whole = rw (take-set lengths count (end - start)) so_far.whole;

@@ -1,5 +1,5 @@
--- How a table of values is kept: all values in one text, row by row, and how long each of them is. At every 16th value its start is kept too, so that a value is
--- found without going through those before it.
+-- How a table of values is kept: all values in one text, row by row, and the length of each. The start of every 16th value is kept too,
+-- so a value is found without going through those before it.
 use Rattle.std.specs.Prelude.{◌≡◌, ◌<◌, ◌≤◌, ◌+◌, ◌*◌, ℕ, List, [], ◌∷◌, ◌++◌, None, length, sum, take, drop, slice_index_or}
 use Rattle.fca_model.specs.Tables.{Text}
 use Rattle.fca_model.specs.declared.TheConstants.{MAX_ATTRIBUTES, MAX_OBJECTS}
@@ -17,7 +17,7 @@ cut (n ∷ lengths) text = take n text ∷ cut lengths (drop n text)
 abbrev pub texts : Cells → List Text
 texts cells = cut cells.lengths.items cells.text.items
 
--- the starts that there are tell where their pieces begin
+-- each start is the place at which its piece begins
 abbrev pub StartsRight : List ℕ → List ℕ → Type 0
 StartsRight starts lengths = (b : ℕ) → b < length starts → slice_index_or starts b 0 ≡ sum (take (16 * b) lengths)
 
@@ -26,7 +26,8 @@ pub record AreCells (cells : Cells) : Type 0 where
   pub whole : sum cells.lengths.items ≡ length cells.text.items
   pub enough : length cells.lengths.items ≤ 16 * length cells.starts.items
   pub needed : 16 * length cells.starts.items < length cells.lengths.items + 16
-  pub right : (b : ℕ) → 16 * b < length cells.lengths.items → slice_index_or cells.starts.items b 0 ≡ sum (take (16 * b) cells.lengths.items)
+  pub right : (b : ℕ) → 16 * b < length cells.lengths.items
+      → slice_index_or cells.starts.items b 0 ≡ sum (take (16 * b) cells.lengths.items)
 
 -- the objects of these names, each with the next values of this number
 abbrev pub objects_of : ℕ → List Text → List Text → List ObjectValues
@@ -44,7 +45,7 @@ pub record AreTable (attributes names : List Text) (cells : Cells) : Type 0 wher
   pub few_attributes : length attributes ≤ MAX_ATTRIBUTES
   pub few_objects : length names ≤ MAX_OBJECTS
 
--- the values of an object were put last; it is record i of the file, and has a field for each attribute and its name
+-- the values of the object in record i of the file were appended; the record has its name and a field for each attribute
 pub record PutsObject (width i : ℕ) (fields : Record) (old new : Cells) : Type 0 where
   pub within : i ≤ MAX_OBJECTS + 1
   pub whole : length fields ≡ width + 1

@@ -1,5 +1,6 @@
 -- The form of a table of values: what its records say, or the first fault. Records and fields are numbered from 1.
-use Rattle.std.specs.Prelude.{ℕ, ◌+◌, ◌==◌, ◌||◌, nat_lt, Bool, cond, List, [], ◌∷◌, ◌++◌, Option, Some, None, is_some, is_none, Result, Ok, Err, length, drop, slice_index_or}
+use Rattle.std.specs.Prelude.{ℕ, ◌+◌, ◌==◌, ◌||◌, nat_lt, Bool, cond, List, [], ◌∷◌, ◌++◌, Option, Some, None, is_some, is_none, Result, Ok}
+use Rattle.std.specs.Prelude.{Err, length, drop, slice_index_or}
 use Rattle.std.specs.Str.Lossy.{utf8_valid_len}
 use Rattle.fca_model.specs.Tables.{Text}
 use Rattle.fca_model.specs.Names.{name_fault}
@@ -51,7 +52,7 @@ header_form fields =
 abbrev pub object_of : Record → ObjectValues
 object_of fields = record { name = slice_index_or fields 0 []; values = drop 1 fields }
 
--- the first field of an object that is no name in field 1, or no value behind it
+-- the first field of an object that is no name, in field 1, or no value, behind it
 abbrev pub bad_field : Record → Option ℕ
 bad_field fields = cond (is_name (slice_index_or fields 0 [])) (first_bad kind.Value 2 (drop 1 fields)) (Some 1)
 
@@ -62,10 +63,11 @@ object_form width i fields =
     (cond (length fields == width + 1) (unless (bad_field fields) (fault.BadField i) (Ok (object_of fields)))
     (Err (fault.RaggedRecord i)))
 
--- the objects so far, and those of the records from record i on
+-- the objects so far, followed by those of the records from record i on
 abbrev pub objects_form : ℕ → ℕ → List ObjectValues → List Record → Result (List ObjectValues) ValuesFault
 objects_form width i objects [] = Ok objects
-objects_form width i objects (fields ∷ records) = then (object_form width i fields) (λ object. objects_form width (i + 1) (objects ++ object ∷ []) records)
+objects_form width i objects (fields ∷ records) =
+    then (object_form width i fields) (λ object. objects_form width (i + 1) (objects ++ object ∷ []) records)
 
 -- ---- the table
 
@@ -79,4 +81,5 @@ table_form (fields ∷ records) =
 
 -- the table that the bytes of a file write, or the first fault: bytes that are not UTF-8, then the first record at fault
 unfoldable pub values_form : List ℕ → Result ValueTable ValuesFault
-values_form bytes = cond (utf8_valid_len bytes == length bytes) (table_form (csv_records bytes)) (Err (fault.NotUtf8 (utf8_valid_len bytes)))
+values_form bytes = cond (utf8_valid_len bytes == length bytes) (table_form (csv_records bytes))
+    (Err (fault.NotUtf8 (utf8_valid_len bytes)))

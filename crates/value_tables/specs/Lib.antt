@@ -4,3 +4,4 @@ pub mod Values
 pub mod Cells
 pub mod Pieces
 pub mod Form
+pub mod Written

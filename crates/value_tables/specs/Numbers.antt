@@ -1,6 +1,7 @@
 -- Numbers in texts.
 --
--- A number is 1 to 19 decimal digits, with or without a - before them, from -2^63 to 2^63 - 1. So -0 and 0 are one number, and so are 7 and 007.
+-- A number is 1 to 19 decimal digits, with or without a - before them, from -2^63 to 2^63 - 1. So -0 and 0 are one number, and so are 7 and
+-- 007.
 --
 -- "-12" is the number -12; "+12", "1.5" and "12 " are none.
 use Rattle.std.specs.Prelude.{ℕ, ◌==◌, ◌&&◌, Bool, nat_le, nat_lt, true, false, cond, [], ◌∷◌, Option, Some, None, ℤ, pos, neg_ℤ, length}
@@ -19,10 +20,10 @@ in_range minus value =
     (cond (nat_lt value 9223372036854775808) (Some (pos value)) None)
 
 -- the number that digits write, with the sign that stands before them
-abbrev pub signed : Bool → Text → Option ℤ
-signed minus digits = cond (are_digits digits) (in_range minus (value_of digits)) None
+abbrev pub signed_number : Bool → Text → Option ℤ
+signed_number minus digits = cond (are_digits digits) (in_range minus (value_of digits)) None
 
--- the number that the text is, if it is one; 45 is -
+-- the number that the text is, if it is one; 45 is the minus sign
 abbrev pub number_of : Text → Option ℤ
 number_of [] = None
-number_of (byte ∷ text) = cond (byte == 45) (signed true text) (signed false (byte ∷ text))
+number_of (byte ∷ text) = cond (byte == 45) (signed_number true text) (signed_number false (byte ∷ text))

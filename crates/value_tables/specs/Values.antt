@@ -1,7 +1,7 @@
 -- Tables of values: which object has which value of which attribute.
 --
--- An attribute here has not only crosses but values, as size has the values s, m and l. The value of an object is a text, and the empty text says that the
--- object has no value of that attribute. (Ganter and Wille, "Formal Concept Analysis", many-valued contexts.)
+-- Here an attribute has values instead of crosses, as size has the values s, m and l. The value of an object is a text. The empty text
+-- says that the object has no value of that attribute. (Ganter and Wille, "Formal Concept Analysis", many-valued contexts.)
 --
 -- With the attributes age and size, tim has the values 21 and s, and ann has 35 and l. So the column of age is 21, 35.
 use Rattle.std.specs.Prelude.{ℕ, List, [], map, slice_index_or}
@@ -25,7 +25,7 @@ value_of m object = slice_index_or object.values m []
 abbrev pub column : ValueTable → ℕ → List Text
 column t m = map (value_of m) t.objects
 
--- an object with no name and no values, where there is none
+-- an object with no name and no values, in place of one that is missing
 abbrev pub no_object : ObjectValues
 no_object = record { name = []; values = [] }
 

@@ -6,10 +6,10 @@ ghost use Rattle.value_tables.specs.Cells.{AreCells, StartsRight, cut, texts};
 use fca_model::Memory;
 use std::alloc::Global;
 
-/// How many values lie between two whose start is kept.
+/// The start of each value at a multiple of this place is kept.
 const BLOCK: usize = 16;
 
-/// Values, one after the other.
+/// Values, one after the other in one text.
 #[derive(Drop)]
 pub struct Cells {
     text: Vec<u8>,
@@ -18,7 +18,7 @@ pub struct Cells {
 }
 
 impl Cells {
-    /// No value; it takes no memory yet.
+    /// No values. It takes no memory.
     pub fn new(alloc: Global) -> Cells
         ensures cells { AreCells result }
         ensures texts { texts result ≡ [] }
@@ -30,7 +30,7 @@ impl Cells {
         }
     }
 
-    /// Puts the value last. Where memory is refused, nothing is known of the cells.
+    /// Appends the value. After an `Err` nothing is known of the cells.
     pub fn push(&mut self, value: &[u8]) -> Result<(), Memory>
         requires cells { AreCells self.old }
         requires short { length value.now ≤ 255 }
@@ -45,7 +45,7 @@ impl Cells {
         Ok(())
     }
 
-    /// Puts the values of these lengths, which make up the text, last. Where memory is refused, nothing is known of the cells.
+    /// Appends the values of these lengths, which make up the text. After an `Err` nothing is known of the cells.
     pub fn push_all(&mut self, text: &[u8], lengths: &[u8]) -> Result<(), Memory>
         requires cells { AreCells self.old }
         requires whole { sum lengths.now ≡ length text.now }
@@ -69,7 +69,7 @@ impl Cells {
         &self.text[start..end]
     }
 
-    /// Where value k begins.
+    /// The place in the text at which value k begins.
     fn start_of(&self, k: usize) -> usize
         requires cells { AreCells self.now }
         requires place { k < vec_len self.now.lengths }
@@ -80,7 +80,7 @@ impl Cells {
     }
 }
 
-/// Adds the starts that are wanting.
+/// Adds the missing starts.
 fn add_starts(starts: &mut Vec<usize>, lengths: &[u8]) -> Result<(), Memory>
     requires right { StartsRight starts.old.items lengths.now }
     requires needed { 16 * length starts.old.items < length lengths.now + 16 }
@@ -95,7 +95,7 @@ fn add_starts(starts: &mut Vec<usize>, lengths: &[u8]) -> Result<(), Memory>
     Ok(())
 }
 
-/// The start behind those that there are.
+/// The next start.
 fn next_start(starts: &[usize], lengths: &[u8]) -> usize
     requires right { StartsRight starts.now lengths.now }
     requires place { 16 * length starts.now ≤ length lengths.now }
@@ -111,7 +111,7 @@ fn next_start(starts: &[usize], lengths: &[u8]) -> usize
     }
 }
 
-/// Puts the value behind the text. Most values have one byte or none.
+/// Appends the value to the text. Most values have one byte or none.
 fn append(text: &mut Vec<u8>, value: &[u8]) -> Result<(), Memory>
     ensures { OnOk result (text.new.items ≡ text.old.items ++ value.now) }
 {

@@ -1,4 +1,4 @@
-//! What the fields of one record say.
+//! The fields of one record.
 
 ghost use Rattle.std.specs.Prelude.{◌≡◌, ◌<◌, ◌≤◌, ◌+◌, [], None, IfOk, length, drop, slice_index_or};
 ghost use Rattle.fca_model.specs.Names.{is_line_break, name_fault};
@@ -12,7 +12,7 @@ use csv_context::{field_at, text_of};
 use fca_model::{MAX_NAME_BYTES, Memory, Name, NameFault};
 use std::alloc::Global;
 
-/// What may stand in a field.
+/// The kinds of fields.
 #[derive(Clone, Copy, Debug, PartialEq, Eq)]
 pub enum FieldKind {
     /// A name.
@@ -54,8 +54,8 @@ pub(crate) fn has_line_break(field: &[u8]) -> bool
     field.iter().any(|byte| *byte == b'\n' || *byte == b'\r')
 }
 
-/// The number of the first field that is not of this kind, of those at and behind this place. Places
-/// are counted from 0, and fields are numbered from 1.
+/// The number of the first field from this place on that is not of this kind. Places are counted from 0,
+/// and fields are numbered from 1.
 pub fn first_bad(kind: FieldKind, fields: &ByteRecord, from: usize) -> Option<usize>
     requires { from ≤ length (fields_of fields.now) }
     ensures { result ≡ first_bad kind (from + 1) (drop from (fields_of fields.now)) }
@@ -75,11 +75,11 @@ pub fn name_at(alloc: Global, fields: &ByteRecord, place: usize) -> Result<Name,
     requires faultless { name_fault (slice_index_or (fields_of fields.now) place []) ≡ None }
     ensures { IfOk result (λ name. name ≡ slice_index_or (fields_of fields.now) place []) }
 {
-    named(alloc, text_of(field_at(fields, place)))
+    name_of(alloc, text_of(field_at(fields, place)))
 }
 
 /// The name with this text, which has no fault.
-pub(crate) fn named(alloc: Global, text: &str) -> Result<Name, Memory>
+pub(crate) fn name_of(alloc: Global, text: &str) -> Result<Name, Memory>
     requires { name_fault text.now ≡ None }
     ensures { IfOk result (λ name. name ≡ text.now) }
 {

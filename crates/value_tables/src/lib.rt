@@ -1,11 +1,12 @@
-//! Tables of values: the reader of `.csv` files whose cells are values and not crosses, and what its
-//! fields say.
+//! Tables of values: the reader of `.csv` files whose cells are values and not crosses, and the tests of
+//! their fields.
 #![tactic(auto)]
 
 ghost use Rattle.std.specs.Prelude.{◌≡◌};
 
 mod cells;
 mod fields;
+pub mod laws;
 mod numbers;
 mod pieces;
 mod read;

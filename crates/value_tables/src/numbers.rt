@@ -17,8 +17,8 @@ pub fn number_of(text: &[u8]) -> Option<i64>
     ensures { result ≡ number_of text.now }
 {
     match text {
-        [b'-', digits @ ..] => negative(digits_value(digits)?),
-        _ => positive(digits_value(text)?),
+        [b'-', digits @ ..] => negative_number(digits_value(digits)?),
+        _ => positive_number(digits_value(text)?),
     }
 }
 
@@ -33,7 +33,7 @@ fn digits_value(digits: &[u8]) -> Option<u64>
     }
 }
 
-fn positive(value: u64) -> Option<i64>
+fn positive_number(value: u64) -> Option<i64>
     ensures { result ≡ in_range false value }
 {
     if value < LEAST {
@@ -43,7 +43,7 @@ fn positive(value: u64) -> Option<i64>
     }
 }
 
-fn negative(value: u64) -> Option<i64>
+fn negative_number(value: u64) -> Option<i64>
     ensures { result ≡ in_range true value }
 {
     if value < LEAST {

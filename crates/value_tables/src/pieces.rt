@@ -3,7 +3,7 @@
 ghost use Rattle.std.specs.Prelude.{◌≡◌, ◌<◌, ◌≤◌, length, take};
 ghost use Rattle.value_tables.specs.Pieces.{ArePieces};
 
-/// Pieces of a line, one behind the other, and how long each is.
+/// The pieces of a line, one after the other, and their lengths.
 #[derive(Drop)]
 pub struct Pieces {
     text: [u8; 256],
@@ -30,7 +30,8 @@ impl Pieces {
     }
 }
 
-/// The pieces of the line. Each byte is put where the next one of a piece would stand, and the length so far where that of the piece stands.
+/// Cuts the line at its commas. Each byte goes to the end of the text and each length so far to the place of its piece; only a byte
+/// that is no comma moves the end on.
 pub fn pieces_of(line: &[u8]) -> Pieces
     requires { length line.now ≤ 255 }
     ensures { ArePieces line.now result }

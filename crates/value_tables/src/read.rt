@@ -1,6 +1,7 @@
 //! The reader.
 
-ghost use Rattle.std.specs.Prelude.{◌≡◌, ◌<◌, ◌≤◌, ◌+◌, ◌*◌, ◌++◌, [], true, false, IfOk, IsUtf8, OnOk, None, MatchResult, Ok, Err, drop, length, slice_index_or, sum, vec_len};
+ghost use Rattle.std.specs.Prelude.{◌≡◌, ◌<◌, ◌≤◌, ◌+◌, ◌*◌, ◌++◌, [], true, false, IfOk, IsUtf8, OnOk, None, MatchResult, Ok, Err, drop};
+ghost use Rattle.std.specs.Prelude.{length, slice_index_or, sum, vec_len};
 ghost use Rattle.context_table.specs.Table.{first_repeat};
 ghost use Rattle.csv.specs.Records.{AllText, fields_of};
 ghost use Rattle.csv_context.specs.Records.{IsOpen, csv_records, records_left};
@@ -13,7 +14,7 @@ ghost use Rattle.value_tables.specs.Telling.{Tells, TellsBy};
 
 use crate::ValuesFault;
 use crate::cells::Cells;
-use crate::fields::{FieldKind, first_bad, has_line_break, name_at, named};
+use crate::fields::{FieldKind, first_bad, has_line_break, name_at, name_of};
 use crate::pieces::pieces_of;
 use crate::values::Values;
 use csv::{ByteRecord, Reader};
@@ -127,7 +128,7 @@ fn read_objects(
     reader: &mut Reader<&[u8]>,
 ) -> Result<Objects, ValuesFault>
     requires open { IsOpen reader.old }
-    requires narrow { width ≤ MAX_ATTRIBUTES }
+    requires few { width ≤ MAX_ATTRIBUTES }
     ensures form { TellsBy ValuesFault.Memory (λ objects. objects_of width objects.names.items (texts objects.cells)) result (form.objects_form width 2 [] (records_left reader.old)) }
     ensures few { IfOk result (λ objects. length objects.names.items ≤ MAX_OBJECTS) }
     ensures cells { IfOk result (λ objects. AreCells objects.cells) }
@@ -146,7 +147,7 @@ fn read_objects(
 /// The objects whose records are lines.
 fn read_object_lines(alloc: Global, width: usize, bytes: &[u8]) -> Result<Objects, ValuesFault>
     requires unquoted { IsUnquoted bytes.now }
-    requires narrow { width ≤ MAX_ATTRIBUTES }
+    requires few { width ≤ MAX_ATTRIBUTES }
     ensures form { TellsBy ValuesFault.Memory (λ objects. objects_of width objects.names.items (texts objects.cells)) result (form.objects_form width 2 [] (records_in bytes.now)) }
     ensures few { IfOk result (λ objects. length objects.names.items ≤ MAX_OBJECTS) }
     ensures cells { IfOk result (λ objects. AreCells objects.cells) }
@@ -164,7 +165,7 @@ fn read_object_lines(alloc: Global, width: usize, bytes: &[u8]) -> Result<Object
     Ok(Objects { names, cells })
 }
 
-/// The name of the object on the line of record `i`, whose values are put last.
+/// Appends the values of the object on the line of record `i`, and returns its name.
 fn read_line(
     alloc: Global,
     width: usize,
@@ -173,7 +174,7 @@ fn read_line(
     cells: &mut Cells,
     fields: &mut ByteRecord,
 ) -> Result<Name, ValuesFault>
-    requires narrow { width ≤ MAX_ATTRIBUTES }
+    requires few { width ≤ MAX_ATTRIBUTES }
     requires cells { AreCells cells.old }
     requires text { AllText (fields_in line.now) }
     requires unbroken { list_any is_line_break line.now ≡ false }
@@ -191,7 +192,7 @@ fn read_line(
     Ok(put_pieces(alloc, pieces.text(), pieces.lengths(), cells)?)
 }
 
-/// Whether pieces of a short line are an object, in record `i`: its name and a value for each attribute.
+/// Whether the pieces of a short line may be the object in record `i`: a name, and a value for each attribute.
 fn may_be_object(width: usize, i: usize, lengths: &[u8]) -> bool
     requires { width ≤ MAX_ATTRIBUTES }
     ensures within { result ≡ true → i ≤ MAX_OBJECTS + 1 }
@@ -207,7 +208,7 @@ fn may_be_object(width: usize, i: usize, lengths: &[u8]) -> bool
     lengths[0] > 0
 }
 
-/// The name that is the first of the pieces of these lengths, which make up the text; the others are put last as values.
+/// Appends the pieces behind the first as values, and returns the first as a name. The pieces have these lengths and make up the text.
 fn put_pieces(alloc: Global, text: &[u8], lengths: &[u8], cells: &mut Cells) -> Result<Name, Memory>
     requires cells { AreCells cells.old }
     requires whole { sum lengths.now ≡ length text.now }
@@ -219,12 +220,12 @@ fn put_pieces(alloc: Global, text: &[u8], lengths: &[u8], cells: &mut Cells) -> 
     ensures texts { OnOk result (texts cells.new ≡ texts cells.old ++ drop 1 (cut lengths.now text.now)) }
 {
     let end = lengths[0] as usize;
-    let name = named(alloc, text_of(&text[..end]))?;
+    let name = name_of(alloc, text_of(&text[..end]))?;
     cells.push_all(&text[end..], &lengths[1..])?;
     Ok(name)
 }
 
-/// The name of the object on the line of record `i`, read field by field; its values are put last.
+/// Reads the line of record `i` field by field, appends the values of the object, and returns its name.
 fn read_long(
     alloc: Global,
     width: usize,
@@ -233,7 +234,7 @@ fn read_long(
     cells: &mut Cells,
     fields: &mut ByteRecord,
 ) -> Result<Name, ValuesFault>
-    requires narrow { width ≤ MAX_ATTRIBUTES }
+    requires few { width ≤ MAX_ATTRIBUTES }
     requires cells { AreCells cells.old }
     requires text { AllText (fields_in line.now) }
     ensures form { TellsBy ValuesFault.Memory (λ _. form.object_of (fields_in line.now)) result (form.object_form width i (fields_in line.now)) }
@@ -244,7 +245,7 @@ fn read_long(
     read_object(alloc, width, i, fields, cells)
 }
 
-/// The name of the object in record `i`, whose values are put last.
+/// Appends the values of the object in record `i`, and returns its name.
 fn read_object(
     alloc: Global,
     width: usize,
@@ -252,7 +253,7 @@ fn read_object(
     fields: &ByteRecord,
     cells: &mut Cells,
 ) -> Result<Name, ValuesFault>
-    requires narrow { width ≤ MAX_ATTRIBUTES }
+    requires few { width ≤ MAX_ATTRIBUTES }
     requires cells { AreCells cells.old }
     requires text { AllText (fields_of fields.now) }
     ensures form { TellsBy ValuesFault.Memory (λ _. form.object_of (fields_of fields.now)) result (form.object_form width i (fields_of fields.now)) }
@@ -300,7 +301,7 @@ fn bad_field(fields: &ByteRecord) -> Option<usize>
     }
 }
 
-/// Whether it is seen of the record as one text that its first field is a name and the others are values; of a long record it is not.
+/// Whether the record as one text shows that its first field is a name and the others are values. A long record never does.
 fn are_all_good(fields: &ByteRecord) -> bool
     requires { 0 < length (fields_of fields.now) }
     ensures { result ≡ true → form.bad_field (fields_of fields.now) ≡ None }
@@ -315,7 +316,7 @@ fn are_all_good(fields: &ByteRecord) -> bool
     !has_line_break(text)
 }
 
-/// Puts the values of an object last.
+/// Appends the values of an object.
 fn push_values(cells: &mut Cells, fields: &ByteRecord) -> Result<(), Memory>
     requires cells { AreCells cells.old }
     requires some { 0 < length (fields_of fields.now) }

@@ -82,7 +82,7 @@ impl Values {
         self.attributes.get_index_of(name)
     }
 
-    /// The value that object g has of attribute m, which is empty where it has none.
+    /// The value of attribute m that object g has. It is empty if there is none.
     pub fn value(&self, g: usize, m: usize) -> &[u8]
         requires object { g < length self.now.objects }
         requires attribute { m < length self.now.attributes }

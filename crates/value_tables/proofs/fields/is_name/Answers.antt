@@ -6,8 +6,10 @@ pub returns-then-is_empty : goal.returns-then-is_empty
 returns-then-is_empty c = is_name_empty c.args.field.now (sym c.is_empty.ensures ∙ c.if-is_empty.true)
 
 pub returns-then-field-gt-MAX_NAME_BYTES : goal.returns-then-field-gt-MAX_NAME_BYTES
-returns-then-field-gt-MAX_NAME_BYTES c = is_name_long c.args.field.now (sym c.is_empty.ensures ∙ c.if-is_empty.false) (lt-ltb _ _ c.if-field-gt-MAX_NAME_BYTES.true)
+returns-then-field-gt-MAX_NAME_BYTES c = is_name_long c.args.field.now (sym c.is_empty.ensures ∙ c.if-is_empty.false)
+    (lt-ltb _ _ c.if-field-gt-MAX_NAME_BYTES.true)
 
 pub returns : goal.returns
 returns c =
-    ap not c.has_line_break.ensures ∙ is_name_short c.args.field.now (sym c.is_empty.ensures ∙ c.if-is_empty.false) (le-ltb _ _ c.if-field-gt-MAX_NAME_BYTES.false)
+    ap not c.has_line_break.ensures ∙ is_name_short c.args.field.now (sym c.is_empty.ensures ∙ c.if-is_empty.false)
+    (le-ltb _ _ c.if-field-gt-MAX_NAME_BYTES.false)

@@ -22,10 +22,12 @@ loop-byte-preserved c =
       so_far = elim c.if-byte-eq44.branch [
         | then-byte-eq44 w ↦
             rw (w.count-is, w.start-is, w.end-is, more)
-            (SoFar-comma (take i line) loop.text loop.lengths loop.count loop.start loop.end loop.invariant.so_far short loop.invariant.room loop.invariant.places b (eq-eqb _ _ w.if-byte-eq44.true))
+            (SoFar-comma (take i line) loop.text loop.lengths loop.count loop.start loop.end loop.invariant.so_far short loop.invariant.room
+            loop.invariant.places b (eq-eqb _ _ w.if-byte-eq44.true))
         | else-byte-eq44 w ↦
             rw (w.count-is, w.start-is, w.end-is, more)
-            (SoFar-other (take i line) loop.text loop.lengths loop.count loop.start loop.end loop.invariant.so_far short loop.invariant.room loop.invariant.places b (ne_eqb b 44 w.if-byte-eq44.false))
+            (SoFar-other (take i line) loop.text loop.lengths loop.count loop.start loop.end loop.invariant.so_far short loop.invariant.room
+            loop.invariant.places b (ne_eqb b 44 w.if-byte-eq44.false))
       ];
       room = length-set loop.text loop.end b ∙ loop.invariant.room;
       places = length-set loop.lengths loop.count (loop.end - loop.start) ∙ loop.invariant.places;
@@ -39,7 +41,8 @@ returns c =
     let whole = subst P (take_all loop.byte-index line (omega (arith, c.loop-byte-test.false))) loop.invariant.so_far in
     let short : length line < 256 = omega (arith, c.requires) in
     record {
-      fields = pieces-ended line loop.text loop.lengths loop.count loop.start loop.end whole short loop.invariant.room loop.invariant.places;
+      fields = pieces-ended line loop.text loop.lengths loop.count loop.start loop.end whole short loop.invariant.room
+          loop.invariant.places;
       whole = pieces-sum line loop.text loop.lengths loop.count loop.start loop.end whole short loop.invariant.room loop.invariant.places;
       within = omega (arith, whole.within, short);
       some = omega arith;

@@ -8,11 +8,16 @@ use Rattle.value_tables.proofs.FieldLemmas.{bad_field_none, first_bad_more, firs
 use Rattle.value_tables.proofs.read.push_values.Goals as goal
 
 pub loop-place-init : goal.loop-place-init
-loop-place-init c = record { cells = c.requires.cells; good = (bad_field_none (fields_of c.args.fields.now) c.requires.good).1; texts = refl }
+loop-place-init c = record {
+  cells = c.requires.cells;
+  good = (bad_field_none (fields_of c.args.fields.now) c.requires.good).1;
+  texts = refl;
+}
 
 pub push-requires-clause-short : goal.push-requires-clause-short
 push-requires-clause-short c =
-    value_short c.field_at.result.now (first_bad_none kind.Value (fields_of c.args.fields.now) c.loop-place.place c.field_at.result.now c.field_at.ensures c.loop-place.invariant.good)
+    value_short c.field_at.result.now (first_bad_none kind.Value
+    (fields_of c.args.fields.now) c.loop-place.place c.field_at.result.now c.field_at.ensures c.loop-place.invariant.good)
 
 pub loop-place-preserved : goal.loop-place-preserved
 loop-place-preserved c =

@@ -1,4 +1,5 @@
-use Rattle.std.proofs.Common.{◌≡◌, ◌∙◌, ◌<◌, ◌+◌, ◌-◌, ◌++◌, ◌∷◌, ℕ, List, [], Some, None, Result, Err, true, false, drop, get_or, length, slice_get, inr, sym, ap, append_assoc, arith}
+use Rattle.std.proofs.Common.{◌≡◌, ◌∙◌, ◌<◌, ◌+◌, ◌-◌, ◌++◌, ◌∷◌, ℕ, List, [], Some, None, Result, Err, true, false, drop, get_or, length}
+use Rattle.std.proofs.Common.{slice_get, inr, sym, ap, append_assoc, arith}
 use Rattle.std.proofs.lemmas.Bool.{not-false, not-true}
 use Rattle.std.proofs.lemmas.List.{append-nil, drop_all, length_push}
 use Rattle.std.proofs.lemmas.Option.{slice_get-get_or}
@@ -20,7 +21,8 @@ name_at-requires-clause-faultless c =
     let place = c.loop-place.place in
     let below : place < length fields = omega (arith, c.loop-place-test.true, c.len-place-end.ensures) in
     let all : place ≡ 1 + (place - 1) = omega (arith, c.loop-place.auto.place) in
-    let here : Some (get_or fields place []) ≡ slice_get fields (1 + (place - 1)) = sym (slice_get-get_or fields place [] below) ∙ ap (slice_get fields) all in
+    let here : Some (get_or fields place []) ≡ slice_get fields (1 + (place - 1)) = sym (slice_get-get_or fields place [] below)
+    ∙ ap (slice_get fields) all in
     name_faultless (get_or fields place []) (first_bad_within kind.Name fields 1 (place - 1) (get_or fields place []) here c.requires.names)
 
 -- the name is new, so it is the next of the keys
@@ -34,8 +36,10 @@ loop-place-preserved c =
     let later = drop (place + 1) fields in
     let below : place < length fields = omega (arith, c.loop-place-test.true, c.len-place-end.ensures) in
     let front : drop place fields ≡ name ∷ later =
-    drop-item fields place (get_or fields place []) (slice_get-get_or fields place [] below) ∙ ap (λ (field : Text). field ∷ later) (sym c.in_ok-name_at.ensures) in
-    let new : list_any (bytes_eq name) seen ≡ false = not-true (list_any (bytes_eq name) seen) (sym c.in_ok-added.ensures.added ∙ c.if-not-added.false) in
+    drop-item fields place (get_or fields place []) (slice_get-get_or fields place [] below)
+    ∙ ap (λ (field : Text). field ∷ later) (sym c.in_ok-name_at.ensures) in
+    let new : list_any (bytes_eq name) seen ≡ false =
+    not-true (list_any (bytes_eq name) seen) (sym c.in_ok-added.ensures.added ∙ c.if-not-added.false) in
     let keys : c.insert_full.new.self.keys ≡ seen ++ name ∷ [] = rw new at c.in_ok-added.ensures.keys in
     let repeats = rw (front, new) at loop.invariant.repeats in
     record {
@@ -54,8 +58,10 @@ returns-then-not-added-clause-form c =
     let name = c.in_ok-name_at.field-0 in
     let below : place < length fields = omega (arith, c.loop-place-test.true, c.len-place-end.ensures) in
     let front : drop place fields ≡ name ∷ drop (place + 1) fields =
-    drop-item fields place (get_or fields place []) (slice_get-get_or fields place [] below) ∙ ap (λ (field : Text). field ∷ drop (place + 1) fields) (sym c.in_ok-name_at.ensures) in
-    let found : list_any (bytes_eq name) seen ≡ true = not-false (list_any (bytes_eq name) seen) (sym c.in_ok-added.ensures.added ∙ c.if-not-added.true) in
+    drop-item fields place (get_or fields place []) (slice_get-get_or fields place [] below)
+    ∙ ap (λ (field : Text). field ∷ drop (place + 1) fields) (sym c.in_ok-name_at.ensures) in
+    let found : list_any (bytes_eq name) seen ≡ true =
+    not-false (list_any (bytes_eq name) seen) (sym c.in_ok-added.ensures.added ∙ c.if-not-added.true) in
     let repeat : Some (length seen) ≡ first_repeat (drop 1 fields) = rw (front, found) at loop.invariant.repeats in
     let told : ℕ → Result (List Text) ValuesFault = λ n. Err (fault.DuplicateAttribute n) in
     let at : length seen + 2 ≡ place + 1 = omega (arith, loop.invariant.counted) in

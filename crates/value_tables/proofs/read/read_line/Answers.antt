@@ -15,8 +15,10 @@ put_pieces-requires-clause-text c =
     let pieces = c.pieces_of-pieces in
     let found = c.may_be_object.ensures in
     let is = c.if-not-may_be_object.false in
-    let object = pieces_object line c.lengths.result.now pieces.result c.args.width c.if-line-gt-MAX_NAME_BYTES.false c.requires.unbroken pieces.ensures c.lengths.ensures (found.whole is) (found.named is) in
-    let same : cut c.lengths-2.result.now c.text.result.now ≡ fields_in line = ap₂ cut c.lengths-2.ensures c.text.ensures ∙ pieces.ensures.fields in
+    let object = pieces_object line c.lengths.result.now pieces.result c.args.width c.if-line-gt-MAX_NAME_BYTES.false c.requires.unbroken
+    pieces.ensures c.lengths.ensures (found.whole is) (found.named is) in
+    let same : cut c.lengths-2.result.now c.text.result.now ≡ fields_in line = ap₂ cut c.lengths-2.ensures c.text.ensures
+    ∙ pieces.ensures.fields in
     let P : List Text → Type 0 = λ fields. IsUtf8 (get_or fields 0 []) in
     subst P (sym same) (text-at (fields_in line) 0 (omega (arith, object.0)) c.requires.text)
 
@@ -26,8 +28,10 @@ put_pieces-requires-clause-faultless c =
     let pieces = c.pieces_of-pieces in
     let found = c.may_be_object.ensures in
     let is = c.if-not-may_be_object.false in
-    let object = pieces_object line c.lengths.result.now pieces.result c.args.width c.if-line-gt-MAX_NAME_BYTES.false c.requires.unbroken pieces.ensures c.lengths.ensures (found.whole is) (found.named is) in
-    let same : cut c.lengths-2.result.now c.text.result.now ≡ fields_in line = ap₂ cut c.lengths-2.ensures c.text.ensures ∙ pieces.ensures.fields in
+    let object = pieces_object line c.lengths.result.now pieces.result c.args.width c.if-line-gt-MAX_NAME_BYTES.false c.requires.unbroken
+    pieces.ensures c.lengths.ensures (found.whole is) (found.named is) in
+    let same : cut c.lengths-2.result.now c.text.result.now ≡ fields_in line = ap₂ cut c.lengths-2.ensures c.text.ensures
+    ∙ pieces.ensures.fields in
     let P : List Text → Type 0 = λ fields. name_fault (get_or fields 0 []) ≡ None in
     subst P (sym same) (name_faultless (get_or (fields_in line) 0 []) (bad_field_none (fields_in line) object.1).0)
 
@@ -37,7 +41,8 @@ returns-clause-form c =
     let pieces = c.pieces_of-pieces in
     let found = c.may_be_object.ensures in
     let is = c.if-not-may_be_object.false in
-    let object = pieces_object line c.lengths.result.now pieces.result c.args.width c.if-line-gt-MAX_NAME_BYTES.false c.requires.unbroken pieces.ensures c.lengths.ensures (found.whole is) (found.named is) in
+    let object = pieces_object line c.lengths.result.now pieces.result c.args.width c.if-line-gt-MAX_NAME_BYTES.false c.requires.unbroken
+    pieces.ensures c.lengths.ensures (found.whole is) (found.named is) in
     object_form-Ok c.args.width c.args.i (fields_in line) (found.within is) object.0 object.1
 
 pub returns-clause-puts : goal.returns-clause-puts
@@ -46,8 +51,10 @@ returns-clause-puts c =
     let pieces = c.pieces_of-pieces in
     let found = c.may_be_object.ensures in
     let is = c.if-not-may_be_object.false in
-    let object = pieces_object line c.lengths.result.now pieces.result c.args.width c.if-line-gt-MAX_NAME_BYTES.false c.requires.unbroken pieces.ensures c.lengths.ensures (found.whole is) (found.named is) in
-    let same : cut c.lengths-2.result.now c.text.result.now ≡ fields_in line = ap₂ cut c.lengths-2.ensures c.text.ensures ∙ pieces.ensures.fields in
+    let object = pieces_object line c.lengths.result.now pieces.result c.args.width c.if-line-gt-MAX_NAME_BYTES.false c.requires.unbroken
+    pieces.ensures c.lengths.ensures (found.whole is) (found.named is) in
+    let same : cut c.lengths-2.result.now c.text.result.now ≡ fields_in line = ap₂ cut c.lengths-2.ensures c.text.ensures
+    ∙ pieces.ensures.fields in
     record {
       within = found.within is;
       whole = object.0;

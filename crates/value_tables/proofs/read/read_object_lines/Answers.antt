@@ -19,8 +19,10 @@ loop-line-preserved c =
     let count : c.len-i.result ≡ length loop.names.items = c.len-i.ensures ∙ loop.names.ok.0 in
     let Q : ℕ → Type 0 = λ n. (object_form width (n + 2) fields ≡ Ok (object_of fields)) × PutsObject width (n + 2) fields loop.cells new in
     let put = subst Q count (c.in_ok-read_line.ensures.form, c.in_ok-read_line.ensures.puts) in
-    let before : ReadSoFar width loop.names.items loop.cells (records_in loop.left.now) all = record { few = loop.invariant.few; cells = loop.invariant.cells; even = loop.invariant.even; says = loop.invariant.says } in
-    let more = ReadSoFar-more width loop.names.items loop.cells new (records_in loop.left.now) rest all fields name took.first put.0 c.in_ok-read_line.ensures.name put.1 before in
+    let before : ReadSoFar width loop.names.items loop.cells (records_in loop.left.now) all =
+    record { few = loop.invariant.few; cells = loop.invariant.cells; even = loop.invariant.even; says = loop.invariant.says } in
+    let more = ReadSoFar-more width loop.names.items loop.cells new
+    (records_in loop.left.now) rest all fields name took.first put.0 c.in_ok-read_line.ensures.name put.1 before in
     let R : List Text → Type 0 = λ names. ReadSoFar width names new rest all in
     let after = subst R (sym c.in_ok-push.ensures.items) more in
     record { unquoted = took.unquoted; few = after.few; cells = after.cells; even = after.even; says = after.says }

@@ -11,7 +11,8 @@ invariant-loop-line l = record {
   few : length l.names.items ≤ MAX_OBJECTS;
   cells : AreCells l.cells;
   even : length (texts l.cells) ≡ length l.names.items * l.width;
-  says : objects_form l.width (length l.names.items + 2) (objects_of l.width l.names.items (texts l.cells)) (records_in l.left) ≡ objects_form l.width 2 [] (records_in l.fn.bytes);
+  says : objects_form l.width (length l.names.items + 2) (objects_of l.width l.names.items (texts l.cells)) (records_in l.left)
+      ≡ objects_form l.width 2 [] (records_in l.fn.bytes);
 }
 
 abbrev pub decreases-loop-line : goal.decreases-loop-line

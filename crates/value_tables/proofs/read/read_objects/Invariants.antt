@@ -11,7 +11,8 @@ invariant-loop-record l = record {
   few : length l.names.items ≤ MAX_OBJECTS;
   cells : AreCells l.cells;
   even : length (texts l.cells) ≡ length l.names.items * l.width;
-  says : objects_form l.width (length l.names.items + 2) (objects_of l.width l.names.items (texts l.cells)) (records_left l.reader) ≡ objects_form l.width 2 [] (records_left l.fn.reader);
+  says : objects_form l.width (length l.names.items + 2) (objects_of l.width l.names.items (texts l.cells)) (records_left l.reader)
+      ≡ objects_form l.width 2 [] (records_left l.fn.reader);
 }
 
 abbrev pub decreases-loop-record : goal.decreases-loop-record

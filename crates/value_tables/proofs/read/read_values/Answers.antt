@@ -14,7 +14,8 @@ pub returns-in-Ok : goal.returns-in-Ok
 unfolding values_form
 returns-in-Ok c =
     let text = c.in-Ok.ensures.cases in
-    let whole : utf8_valid_len c.args.bytes.now == length c.args.bytes.now ≡ true = eq-eqb _ _ (utf8_valid_len-IsUtf8 c.args.bytes.now text.1) in
+    let whole : utf8_valid_len c.args.bytes.now == length c.args.bytes.now ≡ true =
+    eq-eqb _ _ (utf8_valid_len-IsUtf8 c.args.bytes.now text.1) in
     let P : List ℕ → Type 0 = λ bytes. Tells fault.Memory c.read_text.result (table_form (csv_records bytes)) in
     rw whole (subst P text.0 c.read_text.ensures)
 
@@ -22,7 +23,8 @@ pub returns-in-Err : goal.returns-in-Err
 unfolding values_form
 returns-in-Err c =
     let at = c.in-Err.ensures.valid_len in
-    let short : utf8_valid_len c.args.bytes.now < length c.args.bytes.now = let P : ℕ → Type 0 = λ n. n < length c.args.bytes.now in subst P at c.in-Err.ensures.cases.1.short in
+    let short : utf8_valid_len c.args.bytes.now < length c.args.bytes.now = let P : ℕ → Type 0 = λ n. n < length c.args.bytes.now in
+    subst P at c.in-Err.ensures.cases.1.short in
     let broken : utf8_valid_len c.args.bytes.now == length c.args.bytes.now ≡ false = ne_eqb _ _ (omega arith) in
     let told : ℕ → Result ValueTable ValuesFault = λ n. Err (fault.NotUtf8 n) in
     inr (rw broken (ap told (sym at ∙ sym c.valid_up_to.ensures)))

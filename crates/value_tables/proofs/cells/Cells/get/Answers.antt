@@ -9,7 +9,16 @@ overflow_add-end c =
     let lengths = cells.lengths.items in
     let below : c.args.k < length lengths = omega (arith, cells.lengths.ok.0, c.requires.place) in
     let size = get_or_read lengths c.args.k c.index.result.now below c.index.ensures 0 in
-    omega (arith, size, c.start_of-start.ensures, piece_within lengths c.args.k below, c.requires.cells.whole, cells.text.ok.0, cells.text.ok.1, cells.text.small)
+    omega (
+      arith,
+      size,
+      c.start_of-start.ensures,
+      piece_within lengths c.args.k below,
+      c.requires.cells.whole,
+      cells.text.ok.0,
+      cells.text.ok.1,
+      cells.text.small,
+    )
 
 pub returns : goal.returns
 returns c =

@@ -8,13 +8,15 @@ use Rattle.value_tables.proofs.values.Values.object.Goals as goal
 pub index-requires : goal.index-requires
 index-requires c =
     let v = c.self.inside in
-    let same = v.objects.ok.0 ∙ sym (objects_length (length v.attributes.keys) v.objects.items (texts v.cells)) ∙ ap (λ (t : ValueTable). length t.objects) c.self.view_is in
+    let same = v.objects.ok.0 ∙ sym (objects_length (length v.attributes.keys) v.objects.items (texts v.cells))
+    ∙ ap (λ (t : ValueTable). length t.objects) c.self.view_is in
     omega (arith, same, c.requires)
 
 pub returns : goal.returns
 returns c =
     let v = c.self.inside in
-    let same = sym (objects_length (length v.attributes.keys) v.objects.items (texts v.cells)) ∙ ap (λ (t : ValueTable). length t.objects) c.self.view_is in
+    let same = sym (objects_length (length v.attributes.keys) v.objects.items (texts v.cells))
+    ∙ ap (λ (t : ValueTable). length t.objects) c.self.view_is in
     let below : c.args.g < length v.objects.items = omega (arith, same, c.requires) in
     get_or_read v.objects.items c.args.g c.index.result.now below c.index.ensures []
     ∙ sym (objects_name (length v.attributes.keys) v.objects.items (texts v.cells) c.args.g below)

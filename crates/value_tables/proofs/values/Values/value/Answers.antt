@@ -11,7 +11,8 @@ width_is c = search rules
 object_below : (c : goal.After-len) → c.args.g < length c.self.inside.objects.items
 object_below c =
     let v = c.self.inside in
-    let same = sym (objects_length (length v.attributes.keys) v.objects.items (texts v.cells)) ∙ ap (λ (t : ValueTable). length t.objects) c.self.view_is in
+    let same = sym (objects_length (length v.attributes.keys) v.objects.items (texts v.cells))
+    ∙ ap (λ (t : ValueTable). length t.objects) c.self.view_is in
     omega (arith, same, c.requires.object)
 
 attribute_below : (c : goal.After-len) → c.args.m < length c.self.inside.attributes.keys
@@ -47,5 +48,6 @@ returns c =
     let before = (goal.at.returns c).After-len in
     c.get.ensures
     ∙ ap (λ (w : ℕ). get_or (texts v.cells) (c.args.g * w + c.args.m) []) (width_is before)
-    ∙ sym (objects_value (length v.attributes.keys) v.objects.items (texts v.cells) c.args.g c.args.m (object_below before) (attribute_below before))
+    ∙ sym (objects_value (length v.attributes.keys) v.objects.items (texts v.cells) c.args.g c.args.m (object_below before)
+    (attribute_below before))
     ∙ ap (λ (t : ValueTable). value_of c.args.m (object_at t c.args.g)) c.self.view_is
