@@ -1,8 +1,10 @@
--- How the upper neighbours of A are found. An intent B above A has a least attribute k that A lacks, and the closure of A with k lies within B. The attributes
--- are tried from the last on, and L has the members of A and those tried in vain. The closure D of A with i has no new attributes but i and some of L, or it
--- has another attribute j. If j is still to be tried, no intent above A has i as its least new attribute; and else what j led to lies within D. So in both
--- cases nothing is missed without D; and in the first no other that was found lies within D, and D lies within none.
-use Rattle.std.proofs.Common.{◌≡◌, ◌≢◌, ℕ, suc, ◌<◌, ◌≤◌, Bool, true, false, List, [], ◌∷◌, ◌++◌, length, get_or, set, refl, sym, ap, ◌∙◌, subst, arith, inl, inr, get_or-set_same, get_or-set_other, length-set}
+-- How the upper neighbours of A are found. An intent B above A has a least attribute k that A lacks, and the closure of A with k lies within B.
+-- The attributes are tried, the last first, and L has the members of A and the attributes that gave nothing. If the closure D of A with i has
+-- no new attributes but i and some of L, it is put into the list: no other set of the list lies within D, and D lies within none. Otherwise D
+-- has another new attribute j. If j is still to be tried, no intent above A has i as its least new attribute. If j gave a set, that set lies
+-- within D. So nothing is missed without D.
+use Rattle.std.proofs.Common.{◌≡◌, ◌≢◌, ℕ, suc, ◌<◌, ◌≤◌, Bool, true, false, List, [], ◌∷◌, ◌++◌, length, get_or, set, refl, sym, ap, ◌∙◌}
+use Rattle.std.proofs.Common.{subst, arith, inl, inr, get_or-set_same, get_or-set_other, length-set}
 use Rattle.std.proofs.lemmas.Bool.{cases_eq, cases_lt, false≢true}
 use Rattle.std.specs.List.{list_any}
 use Rattle.std.specs.Ordering.{is_lt}
@@ -15,7 +17,8 @@ use Rattle.lectic_concepts.proofs.AboveLemmas.{IsAbove, above_from_strictly}
 use Rattle.lectic_concepts.proofs.IntentLemmas.{IsIntent, In, in_intents, of_intents, intent_with, has_with, within_with, with_least}
 use Rattle.lattice_covers.proofs.MemberLemmas.{of_push, any_old, any_new, increasing-push}
 
--- intents that contain A strictly, in lectic order, of which each intent that contains A strictly contains one, and none of which lies strictly within another
+-- intents that contain A strictly, in lectic order, of which each intent that contains A strictly contains one, and none of which lies
+-- strictly within another
 pub record LeadUp (K : Context) (A : Set) (Cs : List Set) : Type 0 where
   pub ordered : increasing Cs ≡ true
   pub sound : (X : Set) → In X Cs → In X (intents K) × (strictly_within A X ≡ true)
@@ -30,7 +33,7 @@ pub record IsUpper (K : Context) (A : Set) (i : ℕ) (X : Set) : Type 0 where
   pub from : i ≤ new
   pub above : IsAbove A X new
 
--- where its least new attribute is no member of L
+-- and this attribute is no member of L
 pub record IsFound (K : Context) (A : Set) (i : ℕ) (L X : Set) : Type 0 where
   pub upper : IsUpper K A i X
   pub free : get_or L upper.new false ≡ false
@@ -39,7 +42,7 @@ pub record IsFound (K : Context) (A : Set) (i : ℕ) (L X : Set) : Type 0 where
 abbrev pub Leads : List Set → Set → Type 0
 Leads Cs B = list_any (λ C. within C B) Cs ≡ true
 
--- what is found, and settled, from place i on
+-- the sets Cs were found and L is settled, for the attributes from place i on
 pub record IsReached (K : Context) (A : Set) (i : ℕ) (L : Set) (Cs : List Set) : Type 0 where
   pub wide : length L ≡ K.width
   pub larger : (j : ℕ) → get_or A j false ≡ true → get_or L j false ≡ true
@@ -47,7 +50,8 @@ pub record IsReached (K : Context) (A : Set) (i : ℕ) (L : Set) (Cs : List Set)
   pub ordered : increasing Cs ≡ true
   pub sound : (X : Set) → In X Cs → IsFound K A i L X
   pub alone : (X Y : Set) → In X Cs → In Y Cs → strictly_within X Y ≡ true → ⊥
-  pub free : (j : ℕ) → i ≤ j → get_or L j false ≡ false → (B : Set) → IsIntent K B → within A B ≡ true → get_or B j false ≡ true → Leads Cs B
+  pub free : (j : ℕ) → i ≤ j → get_or L j false ≡ false → (B : Set) → IsIntent K B → within A B ≡ true → get_or B j false ≡ true
+      → Leads Cs B
   pub complete : (B : Set) → IsUpper K A i B → Leads Cs B
 
 pub reached_start : (K : Context) (A : Set) → length A ≡ K.width → IsReached K A K.width A []
@@ -62,7 +66,8 @@ reached_start K A wide = record {
   complete = λ B u. absurd (omega (arith, member_below B u.new u.above.has, u.intent.wide, u.from));
 }
 
-module _ (K : Context) (A : Set) (i k : ℕ) (e : k ≡ suc i) (wide : length A ≡ K.width) (inside : k ≤ K.width) (L : Set) (Cs : List Set) (r : IsReached K A k L Cs) where
+module _ (K : Context) (A : Set) (i k : ℕ) (e : k ≡ suc i) (wide : length A ≡ K.width) (inside : k ≤ K.width) (L : Set) (Cs : List Set)
+    (r : IsReached K A k L Cs) where
   abbrev earlier : (X : Set) → IsUpper K A k X → IsUpper K A i X
   earlier X u = record { intent = u.intent; larger = u.larger; new = u.new; from = omega (arith, u.from); above = u.above }
 
@@ -84,7 +89,7 @@ module _ (K : Context) (A : Set) (i k : ℕ) (e : k ≡ suc i) (wide : length A 
       at_other : (j : ℕ) → i ≤ j → get_or L j false ≡ false → j ≢ i
       at_other j l f here = false≢true (sym f ∙ r.larger j (ap (λ n. get_or A n false) here ∙ h))
 
-  -- D is the closure that is tried at place i
+  -- D is the closure of A with i
   module _ (lacks : get_or A i false ≡ false) (D : Set) (is : D ≡ closure K (set A i true)) where
     has : get_or D i false ≡ true
     has = has_with K A i wide (omega arith) D is
@@ -117,11 +122,21 @@ module _ (K : Context) (A : Set) (i k : ℕ) (e : k ≡ suc i) (wide : length A 
       kept = λ j l. r.kept j (omega arith);
       ordered = increasing-push Cs D r.ordered (λ X m.
           let u = (r.sound X m).upper in
-          ap is_lt (lectic_first X D i (λ j l. sym (u.above.before j (omega (arith, u.from))) ∙ (above t).before j l) (sym (u.above.before i (omega (arith, u.from))) ∙ lacks) has));
+          ap is_lt (lectic_first X D i (λ j l. sym (u.above.before j (omega (arith, u.from))) ∙ (above t).before j l)
+          (sym (u.above.before i (omega (arith, u.from))) ∙ lacks) has));
       sound = λ X m. elim (of_push X D Cs m) [
         | inl old ↦ let f = r.sound X old in record { upper = earlier X f.upper; free = f.free }
         | inr same_set ↦ subst (λ X. IsFound K A i L X) (sym same_set)
-            (record { upper = record { intent = intent_with K A i wide (omega arith) D is; larger = larger; new = i; from = omega arith; above = above t }; free = free_here })
+            (record {
+              upper = record {
+                intent = intent_with K A i wide (omega arith) D is;
+                larger = larger;
+                new = i;
+                from = omega arith;
+                above = above t;
+              };
+              free = free_here;
+            })
       ];
       alone = λ X Y m n s. elim (of_push X D Cs m) [
         | inl x ↦ elim (of_push Y D Cs n) [
@@ -146,7 +161,8 @@ module _ (K : Context) (A : Set) (i k : ℕ) (e : k ≡ suc i) (wide : length A 
         old_within : (X : Set) → In X Cs → within X D ≡ true → ⊥
         old_within X m w =
             let f = r.sound X m in
-            false≢true (sym f.free ∙ settled t f.upper.new (within_at_place X D w f.upper.new f.upper.above.has) (omega (arith, f.upper.from)))
+            false≢true (sym f.free ∙ settled t f.upper.new (within_at_place X D w f.upper.new f.upper.above.has)
+            (omega (arith, f.upper.from)))
 
         within_old : (Y : Set) → In Y Cs → within D Y ≡ true → ⊥
         within_old Y m w =
@@ -174,16 +190,19 @@ module _ (K : Context) (A : Set) (i k : ℕ) (e : k ≡ suc i) (wide : length A 
     }
       where
         not_here : (j : ℕ) → get_or (set L i true) j false ≡ false → j ≢ i
-        not_here j f here = false≢true (sym f ∙ ap (λ n. get_or (set L i true) n false) here ∙ get_or-set_same L i true false (omega (arith, r.wide)))
+        not_here j f here = false≢true (sym f ∙ ap (λ n. get_or (set L i true) n false) here
+            ∙ get_or-set_same L i true false (omega (arith, r.wide)))
 
         led : (B : Set) (u : IsUpper K A i B) → u.new ≡ i → Leads Cs B
         led B u here =
             let m = missing (set L i true) D (length-set L i true ∙ r.wide ∙ sym (intent_with K A i wide (omega arith) D is).wide) t in
             let other : m.0 ≢ i = not_here m.0 m.2 in
             let free : get_or L m.0 false ≡ false = sym (get_or-set_other L i m.0 true false other) ∙ m.2 in
-            let in_B : get_or B m.0 false ≡ true = within_at_place D B (least B u.intent u.larger (ap (λ n. get_or B n false) (sym here) ∙ u.above.has)) m.0 m.3 in
+            let in_B : get_or B m.0 false ≡ true = within_at_place D B
+            (least B u.intent u.larger (ap (λ n. get_or B n false) (sym here) ∙ u.above.has)) m.0 m.3 in
             elim (cases_lt m.0 i) [
-              | inl before ↦ absurd (false≢true (sym free ∙ r.kept m.0 (omega arith) ∙ u.above.before m.0 (omega (arith, before, here)) ∙ in_B))
+              | inl before ↦ absurd (false≢true (sym free ∙ r.kept m.0 (omega arith) ∙ u.above.before m.0 (omega (arith, before, here))
+                  ∙ in_B))
               | inr behind ↦ r.free m.0 (omega (arith, behind, other)) free B u.intent u.larger in_B
             ]
 
@@ -193,8 +212,11 @@ pub lead_up : (K : Context) (A L : Set) (Cs : List Set) → length A ≡ K.width
 lead_up K A L Cs wide r = record {
   ordered = r.ordered;
   sound = λ X h.
-      let u = (r.sound X h).upper in
-      (in_intents K X u.intent, strictly_from A X u.larger (λ same_set. false≢true (sym u.above.lacks ∙ ap (λ Y. get_or Y u.new false) same_set ∙ u.above.has)));
+      let u = (r.sound X h).upper in (
+        in_intents K X u.intent,
+        strictly_from A X u.larger (λ same_set. false≢true
+            (sym u.above.lacks ∙ ap (λ Y. get_or Y u.new false) same_set ∙ u.above.has)),
+      );
   complete = λ B h s.
       let b = of_intents K B h in
       let w = above_from_strictly A B (wide ∙ sym b.wide) s in

@@ -43,13 +43,15 @@ any_old p C Cs h = list_any-append p Cs (C ∷ []) ∙ or_left (list_any p Cs) (
 pub any_new : (p : Set → Bool) (C : Set) (Cs : List Set) → p C ≡ true → list_any p (Cs ++ C ∷ []) ≡ true
 any_new p C Cs h = list_any-append p Cs (C ∷ []) ∙ or_right (list_any p Cs) (list_any p (C ∷ [])) (or_left (p C) false h)
 
-pub increasing-push : (Cs : List Set) (C : Set) → increasing Cs ≡ true → ((X : Set) → In X Cs → is_lt (lectic_cmp X C) ≡ true) → increasing (Cs ++ C ∷ []) ≡ true
+pub increasing-push : (Cs : List Set) (C : Set) → increasing Cs ≡ true → ((X : Set) → In X Cs → is_lt (lectic_cmp X C) ≡ true)
+    → increasing (Cs ++ C ∷ []) ≡ true
 increasing-push [] C h before = refl
 increasing-push (X ∷ Xs) C h before =
     let parts = and_parts (list_all (λ B. is_lt (lectic_cmp X B)) Xs) (increasing Xs) h in
     let test : Set → Bool = λ B. is_lt (lectic_cmp X B) in
     and_from (list_all test (Xs ++ C ∷ [])) (increasing (Xs ++ C ∷ []))
-    (list_all-append test Xs (C ∷ []) ∙ and_from (list_all test Xs) (list_all test (C ∷ [])) parts.0 (and_from (test C) true (before X (or_left (same X X) (list_any (same X) Xs) (same_refl X))) refl))
+    (list_all-append test Xs (C ∷ []) ∙ and_from (list_all test Xs) (list_all test (C ∷ [])) parts.0
+    (and_from (test C) true (before X (or_left (same X X) (list_any (same X) Xs) (same_refl X))) refl))
     (increasing-push Xs C parts.1 (λ Y k. before Y (or_right (same Y X) (list_any (same Y) Xs) k)))
 
 -- ---- places

@@ -5,9 +5,9 @@ use Rattle.std.specs.Ordering.{is_lt}
 use Rattle.fca_model.specs.Sets.{Set, within, lectic_cmp}
 use Rattle.fca_model.specs.Context.{Context, closure}
 use Rattle.extent_places.specs.Objects.{HasObjects, AreColumns, rows_above}
-use Rattle.lattice_covers.specs.declared.chain.Sheet.{Sheet}
-use Rattle.lattice_covers.specs.declared.chain.Above.{Above}
-use Rattle.lattice_covers.specs.declared.chain.Above.TheVariants.{Many, Few}
+use Rattle.lattice_covers.specs.declared.chain.FewRows.{FewRows}
+use Rattle.lattice_covers.specs.declared.chain.RowsAbove.{RowsAbove}
+use Rattle.lattice_covers.specs.declared.chain.RowsAbove.TheVariants.{Many, Few}
 use Rattle.lattice_covers.specs.declared.chain.Link.{Link}
 
 -- for each attribute a member of the closure of A with it
@@ -15,24 +15,24 @@ pub record AreImplied (K : Context) (A : Set) (ws : List ℕ) : Type 0 where
   pub wide : length ws ≡ K.width
   pub member : (i : ℕ) → i < K.width → slice_index_or (closure K (slice_set A i true)) (slice_index_or ws i 0) false ≡ true
 
--- few rows contain a part of A, the sheet has these, and S those of them that contain A
-pub record IsOnSheet (K : Context) (A : Set) {W : ℕ} (sheet : Sheet W) (S : Set) : Type 0 where
+-- the rows that contain a part of A are few and are kept, and S has those of them that contain A
+pub record AreKept (K : Context) (A : Set) {W : ℕ} (kept : FewRows W) (S : Set) : Type 0 where
   pub least : Set
   pub part : within least A ≡ true
-  pub rows : sheet.rows ≡ rows_above K least
-  pub few : length sheet.rows.rows ≤ 64
-  pub columns : AreColumns sheet.rows sheet.columns.items
-  pub objects : HasObjects sheet.rows A S
+  pub rows : kept.rows ≡ rows_above K least
+  pub few : length kept.rows.rows ≤ 64
+  pub columns : AreColumns kept.rows kept.columns.items
+  pub objects : HasObjects kept.rows A S
 
--- the rows that contain A, or where they are few these on a sheet
-abbrev pub IsAbove : Context → Set → {W : ℕ} → Above W → Type 0
-IsAbove K A (Many above) = above ≡ rows_above K A
-IsAbove K A (Few sheet objects) = IsOnSheet K A sheet.value objects
+-- the rows that contain A, or few rows and those of them that contain A
+abbrev pub AreRowsAbove : Context → Set → {W : ℕ} → RowsAbove W → Type 0
+AreRowsAbove K A (Many above) = above ≡ rows_above K A
+AreRowsAbove K A (Few kept objects) = AreKept K A kept.value objects
 
--- the link has the rows that contain its intent, and members of closures above it
+-- the link has the rows that contain its intent, and members of the closures of the intent with one attribute more
 pub record IsLink (K : Context) {W : ℕ} (link : Link W) : Type 0 where
   pub wide : length link.intent ≡ K.width
-  pub above : IsAbove K link.intent link.above
+  pub above : AreRowsAbove K link.intent link.above
   pub implied : AreImplied K link.intent link.implied.items
 
 abbrev pub AreLinks : Context → {W : ℕ} → List (Link W) → Type 0

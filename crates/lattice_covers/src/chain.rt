@@ -1,10 +1,10 @@
-//! The intents below an intent, each with the rows that contain it and with what was seen of the closures above it.
+//! The chain of intents of which each contains the one before. An intent has a link with the rows that contain it and with members of the closures above it.
 
 ghost use Rattle.std.specs.Prelude.{◌≡◌, ◌<◌, ◌≤◌, ℕ, [], true, false, not, ◌||◌, length, slice_set, slice_index_or, MatchOption, IfOk};
 ghost use Rattle.fca_model.specs.Sets.{within};
 ghost use Rattle.fca_model.specs.Context.{closure};
 ghost use Rattle.extent_places.specs.Objects.{rows_above};
-ghost use Rattle.lattice_covers.specs.Neighbours.{IsAbove, IsLink, AreLinks};
+ghost use Rattle.lattice_covers.specs.Neighbours.{AreRowsAbove, IsLink, AreLinks};
 
 use attr_bits::Bits;
 use derivation::RowsOf;
@@ -18,29 +18,35 @@ use std::rc::Rc;
 
 /// Few rows, with the objects of each attribute.
 #[derive(Drop)]
-pub(crate) struct Sheet<const W: usize> {
+pub(crate) struct FewRows<const W: usize> {
     pub(crate) rows: RowsOf<W>,
     pub(crate) columns: Vec<ObjectSet>,
 }
 
-/// The rows that contain an intent, set apart. Where they are few, they stand on a sheet, and larger intents share that and have a set of its objects.
+/// The rows that contain an intent, set apart. Few rows are kept with their columns, larger intents share them, and each has a set of their objects.
 #[derive(Drop)]
-pub(crate) enum Above<const W: usize> {
+pub(crate) enum RowsAbove<const W: usize> {
+    /// More rows than one word holds.
     Many(RowsOf<W>),
-    Few(Rc<Sheet<W>>, ObjectSet),
+    /// Few rows that contain the intent or a smaller one, and those of them that contain the intent.
+    Few(Rc<FewRows<W>>, ObjectSet),
 }
 
-/// An intent, the rows that contain it, for each attribute a member of the closure of the intent with it, and one of the last of these that failed.
+/// What is known of an intent while its upper neighbours and those of larger intents are looked for.
 #[derive(Drop)]
 pub(crate) struct Link<const W: usize> {
+    /// The intent.
     pub(crate) intent: Bits<W>,
-    pub(crate) above: Above<W>,
+    /// The rows that contain it.
+    pub(crate) above: RowsAbove<W>,
+    /// For each attribute a member of the closure of the intent with it.
     pub(crate) implied: Vec<u32>,
+    /// An attribute that was not allowed in the closure that failed last.
     pub(crate) further: u32,
 }
 
-/// The link of a. Links whose intents a does not contain are dropped from the end; the rows of the last one that is left are looked through, and what
-/// its closures have, those of a have too.
+/// The link of a. Links whose intents a does not contain are dropped from the end of the chain. The rows that contain a are found among those of the last link
+/// that is left, and the members of its closures are members of those of a.
 pub(crate) fn link_of<const W: usize>(
     alloc: Global,
     rows: &RowsOf<W>,
@@ -61,7 +67,7 @@ pub(crate) fn link_of<const W: usize>(
     first_link(alloc, rows, a)
 }
 
-/// The link of a, whose part the intent of the given one is.
+/// The link of a, which contains the intent of the given link.
 fn next_link<const W: usize>(
     alloc: Global,
     rows: &RowsOf<W>,
@@ -75,13 +81,13 @@ fn next_link<const W: usize>(
 {
     Ok(Link {
         intent: *a,
-        above: narrowed(alloc, rows, link, a)?,
+        above: rows_among(alloc, rows, link, a)?,
         implied: Vec::from_slice(alloc, &link.implied)?,
         further: rows.width(),
     })
 }
 
-/// The link of a, of which nothing was seen yet.
+/// The link of a, made from all rows.
 fn first_link<const W: usize>(
     alloc: Global,
     rows: &RowsOf<W>,
@@ -96,36 +102,41 @@ fn first_link<const W: usize>(
     }
     Ok(Link {
         intent: *a,
-        above: above_in_all(alloc, rows, a)?,
+        above: rows_among_all(alloc, rows, a)?,
         implied,
         further: rows.width(),
     })
 }
 
-/// The rows that contain a, which are among those that contain the intent of the link.
-fn narrowed<const W: usize>(
+/// The rows that contain a, found among those that contain the intent of the link.
+fn rows_among<const W: usize>(
     alloc: Global,
     rows: &RowsOf<W>,
     link: &Link<W>,
     a: &Bits<W>,
-) -> Result<Above<W>, Memory>
+) -> Result<RowsAbove<W>, Memory>
     requires wide { length a.now ≡ rows.now.width }
     requires link { IsLink rows.now link.now }
     requires larger { within link.now.intent a.now ≡ true }
-    ensures { IfOk result (λ above. IsAbove rows.now a.now above) }
+    ensures { IfOk result (λ above. AreRowsAbove rows.now a.now above) }
 {
     let _width = rows.width();
     match &link.above {
-        Above::Many(above) => above_of(alloc, rows, containing(alloc, above, &link.intent, a)?, a),
-        Above::Few(sheet, objects) => {
-            let fewer = objects_above(&sheet.rows, &sheet.columns, &link.intent, objects, a);
-            Ok(Above::Few(sheet.clone()?, fewer))
+        RowsAbove::Many(above) => keep_rows(
+            alloc,
+            rows,
+            larger_rows(alloc, above, &link.intent, a)?,
+            a,
+        ),
+        RowsAbove::Few(kept, objects) => {
+            let fewer = objects_above(&kept.rows, &kept.columns, &link.intent, objects, a);
+            Ok(RowsAbove::Few(kept.clone()?, fewer))
         }
     }
 }
 
-/// The rows that contain a. They are asked first for an attribute that the smaller set lacks.
-fn containing<const W: usize>(
+/// The rows that contain a. Each is asked first for an attribute that the smaller set lacks.
+fn larger_rows<const W: usize>(
     alloc: Global,
     rows: &RowsOf<W>,
     smaller: &Bits<W>,
@@ -137,12 +148,12 @@ fn containing<const W: usize>(
     let _width = rows.width();
     match a.first_missing(smaller) {
         None => rows.supersets(alloc, a),
-        Some(new) => containing_with(alloc, rows, new, a),
+        Some(new) => larger_rows_with(alloc, rows, new, a),
     }
 }
 
-/// The rows that contain a, of which i is a member.
-fn containing_with<const W: usize>(
+/// The rows that contain a. Each is asked first for attribute i, a member of a.
+fn larger_rows_with<const W: usize>(
     alloc: Global,
     rows: &RowsOf<W>,
     i: u32,
@@ -161,7 +172,7 @@ fn containing_with<const W: usize>(
     Ok(above)
 }
 
-/// Whether the row contains a, of which i is a member.
+/// Whether the row contains a. It is asked first for attribute i, a member of a.
 fn contains<const W: usize>(row: &Bits<W>, i: u32, a: &Bits<W>) -> bool
     requires inside { i < length row.now }
     requires member { slice_index_or a.now i false ≡ true }
@@ -170,43 +181,43 @@ fn contains<const W: usize>(row: &Bits<W>, i: u32, a: &Bits<W>) -> bool
     has(row, i) && a.within(row)
 }
 
-/// The rows that contain a, among all.
-fn above_in_all<const W: usize>(
+/// The rows that contain a, found among all rows.
+fn rows_among_all<const W: usize>(
     alloc: Global,
     rows: &RowsOf<W>,
     a: &Bits<W>,
-) -> Result<Above<W>, Memory>
-    ensures { IfOk result (λ above. IsAbove rows.now a.now above) }
+) -> Result<RowsAbove<W>, Memory>
+    ensures { IfOk result (λ above. AreRowsAbove rows.now a.now above) }
 {
     let _width = rows.width();
-    above_of(alloc, rows, rows.supersets(alloc, a)?, a)
+    keep_rows(alloc, rows, rows.supersets(alloc, a)?, a)
 }
 
-/// The rows that contain a, on a sheet where they are few.
-fn above_of<const W: usize>(
+/// Keeps the rows that contain a, with their columns if they are few.
+fn keep_rows<const W: usize>(
     alloc: Global,
     rows: &RowsOf<W>,
     above: RowsOf<W>,
     a: &Bits<W>,
-) -> Result<Above<W>, Memory>
+) -> Result<RowsAbove<W>, Memory>
     requires { above ≡ rows_above rows.now a.now }
-    ensures { IfOk result (λ above. IsAbove rows.now a.now above) }
+    ensures { IfOk result (λ above. AreRowsAbove rows.now a.now above) }
 {
     let _width = rows.width();
     let count = above.len();
     if FEW_OBJECTS < count {
-        return Ok(Above::Many(above));
+        return Ok(RowsAbove::Many(above));
     }
     let objects = Bits::full(count as u32);
     let columns = columns_of(alloc, &above)?;
-    let sheet = Rc::new(
+    let kept = Rc::new(
         alloc,
-        Sheet {
+        FewRows {
             rows: above,
             columns,
         },
     )?;
-    Ok(Above::Few(sheet, objects))
+    Ok(RowsAbove::Few(kept, objects))
 }
 
 /// The closure of the intent of the link with attribute i.
@@ -219,16 +230,16 @@ fn closure_with<const W: usize>(rows: &RowsOf<W>, link: &Link<W>, i: u32) -> Bit
     let _width = rows.width();
     let larger = with(&link.intent, i);
     match &link.above {
-        Above::Many(above) => closure_in(above, i, &larger),
-        Above::Few(shared, objects) => {
-            let sheet = shared.as_ref();
-            let having = objects_with(&sheet.rows, &sheet.columns, &link.intent, objects, i);
-            closure_of(&sheet.rows, &sheet.columns, &having, &larger)
+        RowsAbove::Many(above) => closure_in(above, i, &larger),
+        RowsAbove::Few(shared, objects) => {
+            let kept = shared.as_ref();
+            let having = objects_with(&kept.rows, &kept.columns, &link.intent, objects, i);
+            closure_of(&kept.rows, &kept.columns, &having, &larger)
         }
     }
 }
 
-/// The closure of a, where the rows that have attribute i are those that contain a. In sets of one word that is as soon asked of the whole set.
+/// The closure of a. A row contains a exactly if it has attribute i; in sets of one word it is as fast to ask for all of a.
 fn closure_in<const W: usize>(rows: &RowsOf<W>, i: u32, a: &Bits<W>) -> Bits<W>
     requires inside { i < rows.now.width }
     requires having { (g : ℕ) → g < length rows.now.rows
@@ -241,7 +252,7 @@ fn closure_in<const W: usize>(rows: &RowsOf<W>, i: u32, a: &Bits<W>) -> Bits<W>
     meet_having(rows, i, a)
 }
 
-/// The same, for sets of any number of words.
+/// The closure of a, as the meet of the rows that have attribute i. They are the rows that contain a.
 fn meet_having<const W: usize>(rows: &RowsOf<W>, i: u32, a: &Bits<W>) -> Bits<W>
     requires inside { i < rows.now.width }
     requires having { (g : ℕ) → g < length rows.now.rows
@@ -268,11 +279,11 @@ fn implies<const W: usize>(rows: &RowsOf<W>, link: &Link<W>, i: u32, j: u32) -> 
 {
     let _width = rows.width();
     match &link.above {
-        Above::Many(above) => all_imply(above, i, j),
-        Above::Few(shared, objects) => {
-            let sheet = shared.as_ref();
-            let having = objects_with(&sheet.rows, &sheet.columns, &link.intent, objects, i);
-            have_all(&having, &sheet.columns[j as usize])
+        RowsAbove::Many(above) => all_imply(above, i, j),
+        RowsAbove::Few(shared, objects) => {
+            let kept = shared.as_ref();
+            let having = objects_with(&kept.rows, &kept.columns, &link.intent, objects, i);
+            have_all(&having, &kept.columns[j as usize])
         }
     }
 }
@@ -302,9 +313,9 @@ fn has_if<const W: usize>(row: &Bits<W>, i: u32, j: u32) -> bool
     !has(row, i) || has(row, j)
 }
 
-/// The closure of the intent with attribute i, if all its members are allowed. It is not computed where that was seen to fail for a smaller intent, or where
-/// what made the last closure fail is a member of this one as well.
-pub(crate) fn closure_if_allowed<const W: usize>(
+/// The closure of the intent with attribute i, if all its members are allowed. It is not computed if a known member is not allowed, or if the attribute that was
+/// not allowed in the last closure is a member of this one too.
+pub(crate) fn allowed_closure<const W: usize>(
     rows: &RowsOf<W>,
     link: &mut Link<W>,
     i: u32,
@@ -339,8 +350,8 @@ pub(crate) fn closure_if_allowed<const W: usize>(
     }
 }
 
-/// A member of the closure, of which one is known: the last before attribute i that is not allowed, if there is one. In scales, where an attribute implies those
-/// before it, no other stays outside the intents above for so long.
+/// The last member of the closure before attribute i that is not allowed, or the known member if there is none. In scales, where an attribute implies those
+/// before it, no other member stays outside the intents above for so long.
 fn last_missing<const W: usize>(closed: &Bits<W>, allowed: &Bits<W>, known: u32, i: u32) -> u32
     requires { slice_index_or closed.now known false ≡ true }
     ensures { slice_index_or closed.now result false ≡ true }
@@ -351,8 +362,8 @@ fn last_missing<const W: usize>(closed: &Bits<W>, allowed: &Bits<W>, known: u32,
     }
 }
 
-/// A member of the closure that is not allowed, where one is known: in wide sets about half the way from that to attribute i, if there is one. In scales where
-/// the closures have all attributes before i, the intents above reach it late.
+/// A member of the closure that is not allowed: in wide sets one that stands about half the way from the known member to attribute i, or the known member if
+/// there is none. In scales where the closures have all attributes before i, the intents above reach such a member late.
 fn later_missing<const W: usize>(closed: &Bits<W>, allowed: &Bits<W>, known: u32, i: u32) -> u32
     requires member { slice_index_or closed.now known false ≡ true }
     requires lacks { slice_index_or allowed.now known false ≡ false }

@@ -4,13 +4,13 @@
 mod chain;
 mod places;
 
-ghost use Rattle.std.specs.Prelude.{◌≡◌, ◌++◌, ◌≤◌, true, filter, length, IfOk, OnOk};
+ghost use Rattle.std.specs.Prelude.{◌≡◌, ◌++◌, ◌≤◌, ◌*◌, true, filter, length, IfOk, OnOk};
 ghost use Rattle.fca_model.specs.Sets.{increasing};
 ghost use Rattle.fca_model.specs.Pseudo.{intents as closed_sets, covers, is_cover};
 ghost use Rattle.lattice_covers.specs.Neighbours.{IsLink, pairs_with};
 
-use attr_bits::{Attrs, Bits, FOUR_WORDS, ONE_WORD, WORDS};
-use chain::{Link, closure_if_allowed, link_of};
+use attr_bits::{Attrs, Bits, WORDS, WordCount};
+use chain::{Link, allowed_closure, link_of};
 use derivation::{Rows, RowsOf};
 use extent_places::{has, insert};
 use fca_model::Memory;
@@ -24,19 +24,31 @@ pub fn covers(alloc: Global, rows: &Rows, intents: &[Attrs]) -> Result<Vec<(usiz
     requires { intents.now ≡ closed_sets rows.now }
     ensures { IfOk result (λ pairs. pairs.items ≡ covers rows.now) }
 {
-    let width = rows.width();
-    if width <= ONE_WORD {
-        let narrow = resize_sets::<WORDS, 1>(alloc, width, intents)?;
-        return covers_of(alloc, &rows.resize::<1>(alloc)?, &narrow);
+    match WordCount::of(rows.width()) {
+        WordCount::One => narrow_covers::<1>(alloc, rows, intents),
+        WordCount::Two => narrow_covers::<2>(alloc, rows, intents),
+        WordCount::Four => narrow_covers::<4>(alloc, rows, intents),
+        WordCount::All => covers_of(alloc, rows, intents),
     }
-    if width <= FOUR_WORDS {
-        let narrow = resize_sets::<WORDS, 4>(alloc, width, intents)?;
-        return covers_of(alloc, &rows.resize::<4>(alloc)?, &narrow);
-    }
-    covers_of(alloc, rows, intents)
 }
 
-/// The covers, of sets of the words that the rows have.
+/// The covers, found in sets of W words.
+fn narrow_covers<const W: usize>(
+    alloc: Global,
+    rows: &Rows,
+    intents: &[Attrs],
+) -> Result<Vec<(usize, usize)>, Memory>
+    requires words { W ≤ 1024 }
+    requires fits { rows.now.width ≤ 64 * W }
+    requires intents { intents.now ≡ closed_sets rows.now }
+    ensures { IfOk result (λ pairs. pairs.items ≡ covers rows.now) }
+{
+    let narrow = rows.resize::<W>(alloc)?;
+    let sets = resize_sets::<WORDS, W>(alloc, rows.width(), intents)?;
+    covers_of(alloc, &narrow, &sets)
+}
+
+/// The covers, of sets of as many words as the rows have.
 pub fn covers_of<const W: usize>(
     alloc: Global,
     rows: &RowsOf<W>,
@@ -58,9 +70,8 @@ pub fn covers_of<const W: usize>(
     Ok(pairs)
 }
 
-/// Puts the upper neighbours of the intent into the list, in the place of what it had.
-/// The closure of the intent with one attribute more is one of them, unless it has a further new attribute that is still to be tried, or that has led to
-/// one (Lindig, "Fast concept analysis", 2000).
+/// Puts the upper neighbours of the intent into the list, in the place of what it had. The closure of the intent with one attribute more is such a neighbour,
+/// unless it has another new attribute that is still to be tried or that gave one already (Lindig, "Fast concept analysis", 2000).
 fn find_neighbours<const W: usize>(
     neighbours: &mut Vec<Bits<W>>,
     rows: &RowsOf<W>,
@@ -79,7 +90,7 @@ fn find_neighbours<const W: usize>(
     for i in (0..rows.width()).rev() {
         if !has(&link.intent, i) {
             insert(&mut allowed, i);
-            if let Some(closed) = closure_if_allowed(rows, link, i, &allowed) {
+            if let Some(closed) = allowed_closure(rows, link, i, &allowed) {
                 neighbours.push(closed)?;
                 allowed = settled;
             } else {
@@ -90,7 +101,7 @@ fn find_neighbours<const W: usize>(
     Ok(())
 }
 
-/// Puts the pairs of i with the places of the sets, which are larger than a, last.
+/// Puts the pairs of i and the place of each of the sets last. The sets are larger than a.
 fn add_pairs<const W: usize>(
     pairs: &mut Vec<(usize, usize)>,
     intents: &[Bits<W>],

@@ -10,8 +10,8 @@ use attr_bits::Bits;
 /// How many places behind the one of the set before are looked at.
 const WINDOW: usize = 64;
 
-/// How many of the sets, which are in lectic order, come before x. `latest` says for each attribute where the last set stood whose least new attribute
-/// it was: upper neighbours of intents that follow each other mostly follow each other too. A place that is found so is looked at before it is told.
+/// How many of the sets, which are in lectic order, come before x. `latest` has for each attribute the place of the last set whose least new attribute it was:
+/// upper neighbours of intents that follow each other mostly follow each other too. The set at that place is compared with x before the place is given back.
 pub(crate) fn place_in<const W: usize>(
     sets: &[Bits<W>],
     latest: &mut [usize],
@@ -28,11 +28,12 @@ pub(crate) fn place_in<const W: usize>(
     place
 }
 
+/// The place of the last set whose least new attribute this one was, or 0.
 fn latest_of(latest: &[usize], attribute: u32) -> usize {
     latest.get(attribute as usize).copied().unwrap_or(0)
 }
 
-/// The place, which is looked for behind the place given first.
+/// How many of the sets come before x, looked for behind the given place first.
 fn place_from<const W: usize>(sets: &[Bits<W>], before: usize, x: &Bits<W>) -> usize
     requires { increasing sets.now ≡ true }
     ensures { result ≡ place_in sets.now x.now }
@@ -44,7 +45,7 @@ fn place_from<const W: usize>(sets: &[Bits<W>], before: usize, x: &Bits<W>) -> u
     count_before(sets, x)
 }
 
-/// A place from the given one on where the set may stand.
+/// A place from the given one on where x may stand.
 fn place_near<const W: usize>(sets: &[Bits<W>], from: usize, x: &Bits<W>) -> usize {
     let end = sets.len().min(from.saturating_add(WINDOW));
     if end <= from || sets[from] == *x {
@@ -53,7 +54,7 @@ fn place_near<const W: usize>(sets: &[Bits<W>], from: usize, x: &Bits<W>) -> usi
     from.saturating_add(count_before(&sets[from..end], x))
 }
 
-/// How many of the sets come before x, by halves of the list.
+/// How many of the sets come before x, by bisection.
 fn count_before<const W: usize>(sets: &[Bits<W>], x: &Bits<W>) -> usize
     ensures { increasing sets.now ≡ true → result ≡ place_in sets.now x.now }
 {

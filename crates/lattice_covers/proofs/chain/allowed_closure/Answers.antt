@@ -9,29 +9,39 @@ use Rattle.attr_bits.proofs.DifferenceLemmas.{first_missing-parts}
 use Rattle.std.proofs.lemmas.List.{get_or_default}
 use Rattle.lattice_covers.specs.Neighbours.{AreImplied}
 use Rattle.lattice_covers.proofs.ChainLemmas.{implied_set}
-use Rattle.lattice_covers.proofs.chain.closure_if_allowed.Goals as goal
+use Rattle.lattice_covers.proofs.chain.allowed_closure.Goals as goal
 
--- what was seen is a member of the closure
-seen : (K : Context) (A : Set) (ws : List ℕ) (i w : ℕ) → AreImplied K A ws → i < K.width → w ≡ get_or ws i w → get_or (closure K (set A i true)) w false ≡ true
-seen K A ws i w m inside is = subst (λ v. get_or (closure K (set A i true)) v false ≡ true) (sym (is ∙ get_or_default ws i w 0 (omega (arith, m.wide)))) (m.member i inside)
+-- a known member of the closure
+seen : (K : Context) (A : Set) (ws : List ℕ) (i w : ℕ) → AreImplied K A ws → i < K.width → w ≡ get_or ws i w
+    → get_or (closure K (set A i true)) w false ≡ true
+seen K A ws i w m inside is = subst (λ v. get_or (closure K (set A i true)) v false ≡ true)
+    (sym (is ∙ get_or_default ws i w 0 (omega (arith, m.wide)))) (m.member i inside)
 
 pub has-requires : goal.has-requires
 has-requires g c =
     let K : Context = c.args.rows.now in
     let A : Set = c.args.link.now.intent in
-    let member = seen K A c.args.link.now.implied.items c.args.i c.index.result.now c.requires.link.implied c.requires.inside c.index.ensures in
-    omega (arith, member_below (closure K (set A c.args.i true)) c.index.result.now member, length-closure K (set A c.args.i true), c.requires.allowed)
+    let member = seen K A c.args.link.now.implied.items c.args.i c.index.result.now c.requires.link.implied c.requires.inside
+    c.index.ensures in
+    omega (
+      arith,
+      member_below (closure K (set A c.args.i true)) c.index.result.now member,
+      length-closure K (set A c.args.i true),
+      c.requires.allowed,
+    )
 
 pub returns-then-not-has-clause-closed : goal.returns-then-not-has-clause-closed
 returns-then-not-has-clause-closed g c =
     let K : Context = c.args.rows.now in
     let A : Set = c.args.link.now.intent in
     not_within_at (closure K (set A c.args.i true)) c.args.allowed.now c.index.result.now
-    (seen K A c.args.link.now.implied.items c.args.i c.index.result.now c.requires.link.implied c.requires.inside c.index.ensures) (sym c.has.ensures ∙ c.if-not-has.true)
+    (seen K A c.args.link.now.implied.items c.args.i c.index.result.now c.requires.link.implied c.requires.inside c.index.ensures)
+    (sym c.has.ensures ∙ c.if-not-has.true)
 
 pub returns-then-implies-clause-closed : goal.returns-then-implies-clause-closed
 returns-then-implies-clause-closed g c =
-    not_within_at (closure c.args.rows.now (set c.args.link.now.intent c.args.i true)) c.args.allowed.now c.args.link.now.further (c.implies.ensures c.if-implies.true) (c.lacks.ensures.lacks c.if-lacks.true)
+    not_within_at (closure c.args.rows.now (set c.args.link.now.intent c.args.i true)) c.args.allowed.now c.args.link.now.further
+    (c.implies.ensures c.if-implies.true) (c.lacks.ensures.lacks c.if-lacks.true)
 
 pub returns-in-None-clause-closed : goal.returns-in-None-clause-closed
 returns-in-None-clause-closed g c =
@@ -41,8 +51,11 @@ returns-in-None-clause-closed g c =
     (closed, first_missing_none 0 c.closure_with-closed.result c.args.allowed.now (sym c.first_missing.ensures ∙ c.in-None.is))
 
 pub last_missing-last-requires : goal.last_missing-last-requires
-last_missing-last-requires g c =
-    (search rules, (first_missing-parts c.closure_with-closed.result c.args.allowed.now c.in-Some.known (sym c.first_missing.ensures ∙ c.in-Some.is)).0)
+last_missing-last-requires g c = (
+  search rules,
+  (first_missing-parts c.closure_with-closed.result c.args.allowed.now c.in-Some.known
+      (sym c.first_missing.ensures ∙ c.in-Some.is)).0,
+)
 
 pub later_missing-link-requires : goal.later_missing-link-requires
 later_missing-link-requires g c =
@@ -50,7 +63,8 @@ later_missing-link-requires g c =
     let A : Set = c.args.link.now.intent in
     let closed : c.closure_with-closed.result ≡ closure K (set A c.args.i true) = c.closure_with-closed.ensures in
     let wide : length c.closure_with-closed.result ≡ K.width = ap length closed ∙ length-closure K (set A c.args.i true) in
-    let further = first_missing-parts c.closure_with-closed.result c.args.allowed.now c.in-Some.known (sym c.first_missing.ensures ∙ c.in-Some.is) in
+    let further = first_missing-parts c.closure_with-closed.result c.args.allowed.now c.in-Some.known
+    (sym c.first_missing.ensures ∙ c.in-Some.is) in
     (search rules, (further.0, (further.1, omega (arith, wide, c.requires.inside))))
 
 pub returns-in-Some-clause-closed : goal.returns-in-Some-clause-closed
@@ -59,7 +73,8 @@ returns-in-Some-clause-closed g c =
     let A : Set = c.args.link.now.intent in
     let closed : c.closure_with-closed.result ≡ closure K (set A c.args.i true) = c.closure_with-closed.ensures in
     let later = c.later_missing-link.result in
-    not_within_at (closure K (set A c.args.i true)) c.args.allowed.now later (subst (λ (D : Set). get_or D later false ≡ true) closed c.later_missing-link.ensures.member) c.later_missing-link.ensures.lacks
+    not_within_at (closure K (set A c.args.i true)) c.args.allowed.now later
+    (subst (λ (D : Set). get_or D later false ≡ true) closed c.later_missing-link.ensures.member) c.later_missing-link.ensures.lacks
 
 pub returns-in-Some-clause-link : goal.returns-in-Some-clause-link
 returns-in-Some-clause-link g c =
@@ -70,5 +85,6 @@ returns-in-Some-clause-link g c =
     record {
       wide = c.requires.link.wide;
       above = c.requires.link.above;
-      implied = implied_set K A c.args.link.now.implied.items c.args.i last c.requires.inside c.requires.link.implied (subst (λ (D : Set). get_or D last false ≡ true) closed c.last_missing-last.ensures);
+      implied = implied_set K A c.args.link.now.implied.items c.args.i last c.requires.inside c.requires.link.implied
+          (subst (λ (D : Set). get_or D last false ≡ true) closed c.last_missing-last.ensures);
     }

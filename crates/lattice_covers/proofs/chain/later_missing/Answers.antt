@@ -11,8 +11,10 @@ next_member-requires g c =
 
 pub returns-in-Some-clause-member : goal.returns-in-Some-clause-member
 returns-in-Some-clause-member g c =
-    (lacked c.args.closed.now c.args.allowed.now c.in-Some.later (subst (λ (X : Set). get_or X c.in-Some.later false ≡ true) c.minus.ensures c.in-Some.ensures.member)).0
+    (lacked c.args.closed.now c.args.allowed.now c.in-Some.later
+    (subst (λ (X : Set). get_or X c.in-Some.later false ≡ true) c.minus.ensures c.in-Some.ensures.member)).0
 
 pub returns-in-Some-clause-lacks : goal.returns-in-Some-clause-lacks
 returns-in-Some-clause-lacks g c =
-    (lacked c.args.closed.now c.args.allowed.now c.in-Some.later (subst (λ (X : Set). get_or X c.in-Some.later false ≡ true) c.minus.ensures c.in-Some.ensures.member)).1
+    (lacked c.args.closed.now c.args.allowed.now c.in-Some.later
+    (subst (λ (X : Set). get_or X c.in-Some.later false ≡ true) c.minus.ensures c.in-Some.ensures.member)).1

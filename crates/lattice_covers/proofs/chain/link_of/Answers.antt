@@ -13,7 +13,8 @@ loop-link-smaller-else-within g c =
 
 pub loop-link-preserved-else-within : goal.loop-link-preserved-else-within
 loop-link-preserved-else-within g c =
-    subst (AreLinks c.args.rows.now {W = g.row.W}) (sym c.pop.ensures.rest) (All-take (IsLink c.args.rows.now {W = g.row.W}) (vec_len c.loop-link.chain - 1) c.loop-link.chain.items c.loop-link.invariant)
+    subst (AreLinks c.args.rows.now {W = g.row.W}) (sym c.pop.ensures.rest)
+    (All-take (IsLink c.args.rows.now {W = g.row.W}) (vec_len c.loop-link.chain - 1) c.loop-link.chain.items c.loop-link.invariant)
 
 pub loop-link-smaller : goal.loop-link-smaller
 loop-link-smaller g c =
@@ -24,4 +25,5 @@ loop-link-smaller g c =
 
 pub loop-link-preserved : goal.loop-link-preserved
 loop-link-preserved g c =
-    subst (AreLinks c.args.rows.now {W = g.row.W}) (sym c.pop.ensures.rest) (All-take (IsLink c.args.rows.now {W = g.row.W}) (vec_len c.loop-link.chain - 1) c.loop-link.chain.items c.loop-link.invariant)
+    subst (AreLinks c.args.rows.now {W = g.row.W}) (sym c.pop.ensures.rest)
+    (All-take (IsLink c.args.rows.now {W = g.row.W}) (vec_len c.loop-link.chain - 1) c.loop-link.chain.items c.loop-link.invariant)

@@ -19,8 +19,10 @@ loop-row-preserved g c =
     let first : R ≡ get_or K.rows k [] = there ∙ get_or_default K.rows k R [] inside in
     let having : within A R ≡ get_or R c.args.i false =
     subst (λ (X : Set). within A X ≡ get_or X c.args.i false) (sym first) (c.requires.having k inside) in
-    let next : (b : Bool) → c.has.result ≡ b → fold meet (full K.width) (filter (within A) (take (k + 1) K.rows)) ≡ cond b (meet c.loop-row.met R) c.loop-row.met =
-    λ b t. met_next K A k R b inside there (having ∙ sym c.has.ensures ∙ t) ∙ ap (λ M. cond b (meet M R) M) (sym c.loop-row.invariant.met) in
+    let next : (b : Bool) → c.has.result ≡ b → fold meet (full K.width) (filter (within A) (take (k + 1) K.rows)) ≡ cond b
+    (meet c.loop-row.met R) c.loop-row.met =
+    λ b t. met_next K A k R b inside there (having ∙ sym c.has.ensures ∙ t)
+    ∙ ap (λ M. cond b (meet M R) M) (sym c.loop-row.invariant.met) in
     record {
       met = elim c.if-has.branch [
         | then-has w ↦ w.met-is ∙ w.meet-met.ensures ∙ sym (next true w.if-has.true)

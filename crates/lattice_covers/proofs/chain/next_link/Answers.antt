@@ -13,7 +13,8 @@ returns g c =
       refl,
       record {
         wide = c.requires.wide;
-        above = c.in_ok-narrowed.ensures;
-        implied = implied_larger K L A c.in_ok-from_slice.field-0.items c.requires.wide c.requires.larger (subst (AreImplied K L) (sym (c.in_ok-from_slice.ensures.items ∙ c.deref.ensures.value)) c.requires.link.implied);
+        above = c.in_ok-rows_among.ensures;
+        implied = implied_larger K L A c.in_ok-from_slice.field-0.items c.requires.wide c.requires.larger
+            (subst (AreImplied K L) (sym (c.in_ok-from_slice.ensures.items ∙ c.deref.ensures.value)) c.requires.link.implied);
       },
     )

@@ -10,4 +10,5 @@ returns g c ordered =
     let Xs = c.args.sets.now in
     let X = c.args.x.now in
     place_from_point Xs X c.partition_point.result c.partition_point.ensures.bound
-    (IsPartitionPoint-from_clause (λ Y. is_lt (lectic_cmp Y X)) Xs c.partition_point.result c.partition_point.ensures.partitioned (partitioned Xs X ordered) (λ a r f called. search rules))
+    (IsPartitionPoint-from_clause (λ Y. is_lt (lectic_cmp Y X)) Xs c.partition_point.result c.partition_point.ensures.partitioned
+    (partitioned Xs X ordered) (λ a r f called. search rules))
