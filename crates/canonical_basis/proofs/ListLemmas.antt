@@ -26,8 +26,10 @@ module _ (L : RuleList) (even : HaveWidth L.width L.members) where
       let n = L.width in
       each (holds K) L.members (λ i among.
       let widths = and_parts (eqb (length i.premise) n) (eqb (length i.conclusion) n) (among (has_width n) even) in
-      holds_by_rows K i (eqb-true (length i.conclusion) n widths.1) ∙ list_all-filter (λ row. respects row i) (respects_all L.members) (all_sets n)
-      ∙ list_all_from (λ T. not (respects_all L.members T) || respects T i) (λ T. implies_from (respects_all L.members T) (respects T i) (λ r. among (respects T) r)) (all_sets n))
+      holds_by_rows K i (eqb-true (length i.conclusion) n widths.1)
+      ∙ list_all-filter (λ row. respects row i) (respects_all L.members) (all_sets n)
+      ∙ list_all_from (λ T. not (respects_all L.members T) || respects T i)
+      (λ T. implies_from (respects_all L.members T) (respects T i) (λ r. among (respects T) r)) (all_sets n))
 
   -- a set that respects the list is closed, and the other way round
   pub respecting_is_closed : (T : Set) → length T ≡ L.width → respects_all L.members T ≡ true → is_closed (context_of L) T ≡ true
@@ -35,11 +37,14 @@ module _ (L : RuleList) (even : HaveWidth L.width L.members) where
       let K = context_of L in
       let D = closure K T in
       let rows = sym (list_all-filter (λ row. respects row (rule T D)) (respects_all L.members) (all_sets L.width)) ∙ closure_in_rows K T in
-      let mine = implies_at (respects_all L.members T) (respects T (rule T D)) (all_sets_at (λ row. not (respects_all L.members row) || respects row (rule T D)) L.width T e rows) r in
-      same_from T D (within_antisymm T D (e ∙ sym (length-closure K T)) (closure_extensive K T e) (respects_at T (rule T D) mine (within_refl T)))
+      let mine = implies_at (respects_all L.members T) (respects T (rule T D))
+      (all_sets_at (λ row. not (respects_all L.members row) || respects row (rule T D)) L.width T e rows) r in
+      same_from T D (within_antisymm T D (e ∙ sym (length-closure K T)) (closure_extensive K T e)
+      (respects_at T (rule T D) mine (within_refl T)))
 
   pub closed_is_respecting : (T : Set) → length T ≡ L.width → is_closed (context_of L) T ≡ true → respects_all L.members T ≡ true
-  closed_is_respecting T e c = list_all-mono (holds (context_of L)) (respects T) (λ i h. holds_respected (context_of L) T i c h) L.members members_hold
+  closed_is_respecting T e c = list_all-mono (holds (context_of L)) (respects T)
+      (λ i h. holds_respected (context_of L) T i c h) L.members members_hold
 
   -- the closure is the least superset that respects the list
   pub closure_is : (X C : Set) → length X ≡ L.width → IsClosure L.members X C → C ≡ closure (context_of L) X
@@ -71,4 +76,6 @@ module _ (L : RuleList) (even : HaveWidth L.width L.members) where
 
 -- the premises have the width
 pub premises_wide : (n : ℕ) (J : List Rule) → HaveWidth n J → AreWide n (premises J)
-premises_wide n J h = list_all-map (λ X. eqb (length X) n) (λ (i : Rule). i.premise) J ∙ list_all-mono (has_width n) (λ i. eqb (length i.premise) n) (λ i t. (and_parts (eqb (length i.premise) n) (eqb (length i.conclusion) n) t).0) J h
+premises_wide n J h = list_all-map (λ X. eqb (length X) n) (λ (i : Rule). i.premise) J
+    ∙ list_all-mono (has_width n) (λ i. eqb (length i.premise) n)
+    (λ i t. (and_parts (eqb (length i.premise) n) (eqb (length i.conclusion) n) t).0) J h

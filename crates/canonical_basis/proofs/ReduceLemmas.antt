@@ -39,9 +39,11 @@ module _ (K : Context) (J : List Rule) (r : IsReduced K J []) where
   facts_all = list_all-and (is_full K) (λ i. not (is_closed K i.premise)) J r.full_done r.proper
 
   -- each premise up to a size is a pseudo-intent, and each pseudo-intent up to it a premise
-  both : (m : ℕ) → (list_all (known_to m) J ≡ true) × ((P : Set) → length P ≡ K.width → size P < m → pseudo_known [] K P ≡ true → has_premise J P ≡ true)
+  both : (m : ℕ) → (list_all (known_to m) J ≡ true)
+      × ((P : Set) → length P ≡ K.width → size P < m → pseudo_known [] K P ≡ true → has_premise J P ≡ true)
   both zero = (
-    list_all-mono facts (known_to 0) (λ i _. implies_from (ltb (size i.premise) 0) (pseudo_known [] K i.premise) (λ lt. absurd (omega (arith, ltb-true (size i.premise) 0 lt)))) J facts_all,
+    list_all-mono facts (known_to 0) (λ i _. implies_from (ltb (size i.premise) 0) (pseudo_known [] K i.premise)
+        (λ lt. absurd (omega (arith, ltb-true (size i.premise) 0 lt)))) J facts_all,
     λ P e lt p. absurd (omega arith),
   )
   both (suc m) =
@@ -56,13 +58,15 @@ module _ (K : Context) (J : List Rule) (r : IsReduced K J []) where
               absorbing = λ Q w q s.
                   let smaller : size Q < size i.premise = size_strict Q i.premise (w ∙ sym shape.0) s in
                   let there = before.1 Q w (omega (arith, smaller, ltb-true (size i.premise) (suc m) lt)) q in
-                  let j = list_any_at (λ j. same j.premise Q) (λ j. is_full K j && is_apart i j) J there (list_all-and (is_full K) (is_apart i) J r.full_done apart) in
+                  let j = list_any_at (λ j. same j.premise Q) (λ j. is_full K j && is_apart i j) J there
+                  (list_all-and (is_full K) (is_apart i) J r.full_done apart) in
                   let tests = and_parts (is_full K j.0) (is_apart i j.0) j.2 in
                   let eq : j.0.premise ≡ Q = same-true j.0.premise Q j.1 in
                   let parts = strictly-parts Q i.premise s in
                   elim (or_cases (same j.0.premise i.premise) (respects i.premise j.0) tests.1) [
                     | inl same_one ↦ absurd (parts.1 (sym eq ∙ same-true j.0.premise i.premise same_one))
-                    | inr respected ↦ subst (λ C. within C i.premise ≡ true) ((full_parts K j.0 tests.0).1 ∙ ap (closure K) eq) (respects_at i.premise j.0 respected (subst (λ X. within X i.premise ≡ true) (sym eq) parts.0))
+                    | inr respected ↦ subst (λ C. within C i.premise ≡ true) ((full_parts K j.0 tests.0).1 ∙ ap (closure K) eq)
+                        (respects_at i.premise j.0 respected (subst (λ X. within X i.premise ≡ true) (sym eq) parts.0))
                   ];
             }))),
         λ P e lt p.
@@ -71,9 +75,11 @@ module _ (K : Context) (J : List Rule) (r : IsReduced K J []) where
               | inl t ↦ absurd (false≢true (sym parts.not_closed ∙ r.complete P e t refl))
               | inr f ↦ f
             ] in
-            let broken : list_any (λ j. not (respects P j)) J ≡ true = list_any-not (λ j. not (respects P j)) J ∙ ap not (twice P J ∙ open_) in
+            let broken : list_any (λ j. not (respects P j)) J ≡ true = list_any-not (λ j. not (respects P j)) J
+            ∙ ap not (twice P J ∙ open_) in
             let j = list_any_at (λ j. not (respects P j)) (λ j. is_full K j && (known_to m j && has_premise J j.premise)) J broken
-            (list_all-and (is_full K) (λ j. known_to m j && has_premise J j.premise) J r.full_done (list_all-and (known_to m) (λ j. has_premise J j.premise) J before.0 (each_there J))) in
+            (list_all-and (is_full K) (λ j. known_to m j && has_premise J j.premise) J r.full_done
+            (list_all-and (known_to m) (λ j. has_premise J j.premise) J before.0 (each_there J))) in
             let tests = and_parts (is_full K j.0) (known_to m j.0 && has_premise J j.0.premise) j.2 in
             let more = and_parts (known_to m j.0) (has_premise J j.0.premise) tests.1 in
             let shape = full_parts K j.0 tests.0 in
@@ -83,7 +89,8 @@ module _ (K : Context) (J : List Rule) (r : IsReduced K J []) where
               | inr other ↦
                   let strict = strictly_from j.0.premise P inside.0 (λ z. false≢true (sym other ∙ same_from j.0.premise P z)) in
                   let smaller : size j.0.premise < size P = size_strict j.0.premise P (shape.0 ∙ sym e) strict in
-                  let q = implies_at (ltb (size j.0.premise) m) (pseudo_known [] K j.0.premise) more.0 (lt-ltb (size j.0.premise) m (omega arith)) in
+                  let q = implies_at (ltb (size j.0.premise) m) (pseudo_known [] K j.0.premise) more.0
+                  (lt-ltb (size j.0.premise) m (omega arith)) in
                   absurd (false≢true (sym inside.1 ∙ ap (λ C. within C P) shape.1 ∙ parts.absorbing j.0.premise shape.0 q strict))
             ],
       )
@@ -98,8 +105,10 @@ module _ (K : Context) (J : List Rule) (r : IsReduced K J []) where
 
       each_there : (is : List Rule) → list_all (λ j. has_premise is j.premise) is ≡ true
       each_there [] = refl
-      each_there (i ∷ is) = and_from (has_premise (i ∷ is) i.premise) (list_all (λ j. has_premise (i ∷ is) j.premise) is) (or_left (same i.premise i.premise) (has_premise is i.premise) (same_refl i.premise))
-          (list_all-mono (λ j. has_premise is j.premise) (λ j. has_premise (i ∷ is) j.premise) (λ j h. or_right (same i.premise j.premise) (has_premise is j.premise) h) is (each_there is))
+      each_there (i ∷ is) = and_from (has_premise (i ∷ is) i.premise) (list_all (λ j. has_premise (i ∷ is) j.premise) is)
+          (or_left (same i.premise i.premise) (has_premise is i.premise) (same_refl i.premise))
+          (list_all-mono (λ j. has_premise is j.premise) (λ j. has_premise (i ∷ is) j.premise)
+          (λ j h. or_right (same i.premise j.premise) (has_premise is j.premise) h) is (each_there is))
 
       broken_parts : (a b : Bool) → not (not a || b) ≡ true → (a ≡ true) × (b ≡ false)
       broken_parts true true h = absurd (false≢true h)
@@ -118,23 +127,29 @@ module _ (K : Context) (J : List Rule) (r : IsReduced K J []) where
       (λ b. each p J (λ i among.
       let fact = and_parts (is_full K i) (not (is_closed K i.premise)) (among facts facts_all) in
       let shape = full_parts K i fact.0 in
-      let q = implies_at (ltb (size i.premise) (suc K.width)) (pseudo_known [] K i.premise) (among (known_to (suc K.width)) (both (suc K.width)).0)
+      let q = implies_at (ltb (size i.premise) (suc K.width)) (pseudo_known [] K i.premise)
+      (among (known_to (suc K.width)) (both (suc K.width)).0)
       (lt-ltb (size i.premise) (suc K.width) (omega (arith, size_le i.premise, shape.0))) in
       subst (λ j. p j ≡ true) (ap (λ C. rule i.premise C) (sym shape.1)) (basis_at [] K p i.premise shape.0 q b)))
 
 -- ---- one step
 
-module _ (K : Context) (done rest : List Rule) (i : Rule) (A : Set) (r : IsReduced K done (i ∷ rest)) (c : IsClosure (done ++ rest) i.premise A) where
+module _ (K : Context) (done rest : List Rule) (i : Rule) (A : Set) (r : IsReduced K done (i ∷ rest))
+    (c : IsClosure (done ++ rest) i.premise A) where
   rest_full : (is_full K i ≡ true) × (list_all (is_full K) rest ≡ true)
   rest_full = let parts = and_parts (is_full K i) (list_all (is_full K) rest) r.full_rest in (parts.0, parts.1)
 
   rest_apart : list_all (λ j. list_all (is_apart j) rest) done ≡ true
-  rest_apart = list_all-mono (λ j. list_all (is_apart j) (i ∷ rest)) (λ j. list_all (is_apart j) rest) (λ j h. (and_parts (is_apart j i) (list_all (is_apart j) rest) h).1) done r.apart_rest
+  rest_apart = list_all-mono (λ j. list_all (is_apart j) (i ∷ rest)) (λ j. list_all (is_apart j) rest)
+      (λ j h. (and_parts (is_apart j i) (list_all (is_apart j) rest) h).1) done r.apart_rest
 
   -- a set that respects the others, and the premise grown to the conclusion, respects all
-  complete_by : (T : Set) → length T ≡ K.width → respects_all done T ≡ true → respects_all rest T ≡ true → (within A T ≡ true → within i.conclusion T ≡ true) → is_closed K T ≡ true
+  complete_by : (T : Set) → length T ≡ K.width → respects_all done T ≡ true → respects_all rest T ≡ true
+      → (within A T ≡ true → within i.conclusion T ≡ true) → is_closed K T ≡ true
   complete_by T e d s step =
-      let mine : respects T i ≡ true = respects_from T i (λ inside. step (c.least T inside (list_all-append (respects T) done rest ∙ and_from (respects_all done T) (respects_all rest T) d s))) in
+      let mine : respects T i ≡ true = respects_from T i
+      (λ inside. step (c.least T inside (list_all-append (respects T) done rest
+      ∙ and_from (respects_all done T) (respects_all rest T) d s))) in
       r.complete T e d (and_from (respects T i) (respects_all rest T) mine s)
 
   -- the member follows from the others
@@ -154,16 +169,19 @@ module _ (K : Context) (done rest : List Rule) (i : Rule) (A : Set) (r : IsReduc
   -- a closed set respects each full implication
   closed_respects_full : (T : Set) → is_closed K T ≡ true → (J : List Rule) → list_all (is_full K) J ≡ true → respects_all J T ≡ true
   closed_respects_full T t J h = list_all-mono (is_full K) (respects T) (λ j f. respects_from T j (λ inside.
-      subst (λ X. within j.conclusion X ≡ true) (sym (same-true T (closure K T) t)) (subst (λ C. within C (closure K T) ≡ true) (sym (full_parts K j f).1) (closure_monotone K j.premise T inside)))) J h
+      subst (λ X. within j.conclusion X ≡ true) (sym (same-true T (closure K T) t))
+      (subst (λ C. within C (closure K T) ≡ true) (sym (full_parts K j f).1) (closure_monotone K j.premise T inside)))) J h
 
   conclusion_closed : is_closed K i.conclusion ≡ true
-  conclusion_closed = same_from i.conclusion (closure K i.conclusion) (shape.1 ∙ sym (closure_idempotent K i.premise shape.0) ∙ ap (closure K) (sym shape.1))
+  conclusion_closed = same_from i.conclusion (closure K i.conclusion)
+      (shape.1 ∙ sym (closure_idempotent K i.premise shape.0) ∙ ap (closure K) (sym shape.1))
 
   -- the premise grows within the conclusion
   grown_inside : within A i.conclusion ≡ true
   grown_inside = c.least i.conclusion (subst (λ C. within i.premise C ≡ true) (sym shape.1) (closure_extensive K i.premise shape.0))
       (list_all-append (respects i.conclusion) done rest ∙ and_from (respects_all done i.conclusion) (respects_all rest i.conclusion)
-      (closed_respects_full i.conclusion conclusion_closed done r.full_done) (closed_respects_full i.conclusion conclusion_closed rest rest_full.1))
+      (closed_respects_full i.conclusion conclusion_closed done r.full_done)
+      (closed_respects_full i.conclusion conclusion_closed rest rest_full.1))
 
   grown_wide : length A ≡ K.width
   grown_wide = c.wide ∙ shape.0
@@ -178,17 +196,22 @@ module _ (K : Context) (done rest : List Rule) (i : Rule) (A : Set) (r : IsReduc
       (subst (λ X. within D X ≡ true) (sym (same-true C (closure K C) conclusion_closed)) (closure_monotone K A C grown_inside))
 
   others_respected : (respects_all done A ≡ true) × (respects_all rest A ≡ true)
-  others_respected = let parts = and_parts (respects_all done A) (respects_all rest A) (sym (list_all-append (respects A) done rest) ∙ c.respecting) in (parts.0, parts.1)
+  others_respected = let parts = and_parts (respects_all done A) (respects_all rest A)
+      (sym (list_all-append (respects A) done rest) ∙ c.respecting) in (parts.0, parts.1)
 
   -- a premise that was apart from the member is apart from the member grown
   still_apart : (j : Rule) → is_apart j i ≡ true → is_apart j (rule A i.conclusion) ≡ true
   still_apart j h = elim (cases_Bool (within A j.premise)) [
-    | inr outside ↦ or_right (same A j.premise) (respects j.premise (rule A i.conclusion)) (respects_from j.premise (rule A i.conclusion) (λ t. absurd (false≢true (sym outside ∙ t))))
+    | inr outside ↦ or_right (same A j.premise) (respects j.premise (rule A i.conclusion))
+        (respects_from j.premise (rule A i.conclusion) (λ t. absurd (false≢true (sym outside ∙ t))))
     | inl inside ↦ elim (or_cases (same i.premise j.premise) (respects j.premise i) h) [
       | inl same_one ↦
           let e = same-true i.premise j.premise same_one in
-          or_left (same A j.premise) (respects j.premise (rule A i.conclusion)) (same_from A j.premise (within_antisymm A j.premise (c.wide ∙ ap length e) inside (subst (λ X. within X A ≡ true) e c.above)))
-      | inr respected ↦ or_right (same A j.premise) (respects j.premise (rule A i.conclusion)) (respects_from j.premise (rule A i.conclusion) (λ t. respects_at j.premise i respected (within_trans i.premise A j.premise c.above t)))
+          or_left (same A j.premise) (respects j.premise (rule A i.conclusion))
+          (same_from A j.premise (within_antisymm A j.premise (c.wide ∙ ap length e) inside (subst (λ X. within X A ≡ true) e c.above)))
+      | inr respected ↦ or_right (same A j.premise) (respects j.premise (rule A i.conclusion))
+          (respects_from j.premise (rule A i.conclusion)
+          (λ t. respects_at j.premise i respected (within_trans i.premise A j.premise c.above t)))
     ]
   ]
 
@@ -196,53 +219,71 @@ module _ (K : Context) (done rest : List Rule) (i : Rule) (A : Set) (r : IsReduc
   pub reduced_push : within i.conclusion A ≡ false → IsReduced K (done ++ rule A i.conclusion ∷ []) rest
   reduced_push out =
       let new = rule A i.conclusion in
-      let apart_new : list_all (λ j. is_apart j new) done ≡ true = list_all-mono (λ j. list_all (is_apart j) (i ∷ rest)) (λ j. is_apart j new) (λ j h. still_apart j (and_parts (is_apart j i) (list_all (is_apart j) rest) h).0) done r.apart_rest in
-      let respected : (J : List Rule) → respects_all J A ≡ true → list_all (is_apart new) J ≡ true = λ J h. list_all-mono (respects A) (is_apart new) (λ j t. or_right (same j.premise A) (respects A j) t) J h in
+      let apart_new : list_all (λ j. is_apart j new) done ≡ true =
+      list_all-mono (λ j. list_all (is_apart j) (i ∷ rest)) (λ j. is_apart j new)
+      (λ j h. still_apart j (and_parts (is_apart j i) (list_all (is_apart j) rest) h).0) done r.apart_rest in
+      let respected : (J : List Rule) → respects_all J A ≡ true
+      → list_all (is_apart new) J ≡ true = λ J h. list_all-mono (respects A) (is_apart new)
+      (λ j t. or_right (same j.premise A) (respects A j) t) J h in
       let own : is_apart new new ≡ true = or_left (same A A) (respects A new) (same_refl A) in
       record {
         full_done = list_all-append (is_full K) done (new ∷ []) ∙ and_from (list_all (is_full K) done) (is_full K new && true) r.full_done
-            (and_from (is_full K new) true (and_from (eqb (length A) K.width) (same i.conclusion (closure K A)) (eq-eqb (length A) K.width grown_wide) (same_from i.conclusion (closure K A) grown_closure)) refl);
+            (and_from (is_full K new) true (and_from (eqb (length A) K.width) (same i.conclusion (closure K A))
+            (eq-eqb (length A) K.width grown_wide) (same_from i.conclusion (closure K A) grown_closure)) refl);
         full_rest = rest_full.1;
-        proper = list_all-append (λ j. not (is_closed K j.premise)) done (new ∷ []) ∙ and_from (list_all (λ j. not (is_closed K j.premise)) done) (not (is_closed K A) && true) r.proper
+        proper = list_all-append (λ j. not (is_closed K j.premise)) done (new ∷ [])
+            ∙ and_from (list_all (λ j. not (is_closed K j.premise)) done) (not (is_closed K A) && true) r.proper
             (and_from (not (is_closed K A)) true (ap not open_) refl);
         apart_done = list_all-append (λ j. list_all (is_apart j) (done ++ new ∷ [])) done (new ∷ [])
             ∙ and_from (list_all (λ j. list_all (is_apart j) (done ++ new ∷ [])) done) (list_all (is_apart new) (done ++ new ∷ []) && true)
-            (list_all-mono₂ (λ j. list_all (is_apart j) done) (λ j. is_apart j new) (λ j. list_all (is_apart j) (done ++ new ∷ [])) (λ j a b. both_parts j a b) done r.apart_done apart_new)
+            (list_all-mono₂ (λ j. list_all (is_apart j) done) (λ j. is_apart j new) (λ j. list_all (is_apart j) (done ++ new ∷ []))
+            (λ j a b. both_parts j a b) done r.apart_done apart_new)
             (and_from (list_all (is_apart new) (done ++ new ∷ [])) true (both_parts new (respected done others_respected.0) own) refl);
         apart_rest = list_all-append (λ j. list_all (is_apart j) rest) done (new ∷ [])
-            ∙ and_from (list_all (λ j. list_all (is_apart j) rest) done) (list_all (is_apart new) rest && true) rest_apart (and_from (list_all (is_apart new) rest) true (respected rest others_respected.1) refl);
+            ∙ and_from (list_all (λ j. list_all (is_apart j) rest) done) (list_all (is_apart new) rest && true) rest_apart
+            (and_from (list_all (is_apart new) rest) true (respected rest others_respected.1) refl);
         complete = λ T e d s.
             let parts = and_parts (respects_all done T) (respects T new && true) (sym (list_all-append (respects T) done (new ∷ [])) ∙ d) in
             complete_by T e parts.0 s (λ up. respects_at T new (and_parts (respects T new) true parts.1).0 up);
       }
     where
-      both_parts : (j : Rule) → list_all (is_apart j) done ≡ true → is_apart j (rule A i.conclusion) ≡ true → list_all (is_apart j) (done ++ rule A i.conclusion ∷ []) ≡ true
-      both_parts j a b = list_all-append (is_apart j) done (rule A i.conclusion ∷ []) ∙ and_from (list_all (is_apart j) done) (is_apart j (rule A i.conclusion) && true) a (and_from (is_apart j (rule A i.conclusion)) true b refl)
+      both_parts : (j : Rule) → list_all (is_apart j) done ≡ true → is_apart j (rule A i.conclusion) ≡ true
+          → list_all (is_apart j) (done ++ rule A i.conclusion ∷ []) ≡ true
+      both_parts j a b = list_all-append (is_apart j) done (rule A i.conclusion ∷ [])
+          ∙ and_from (list_all (is_apart j) done) (is_apart j (rule A i.conclusion) && true) a
+          (and_from (is_apart j (rule A i.conclusion)) true b refl)
 
       open_ : is_closed K A ≡ false
       open_ = elim (cases_Bool (is_closed K A)) [
-        | inl t ↦ absurd (false≢true (sym out ∙ subst (λ X. within i.conclusion X ≡ true) (sym (same-true A (closure K A) t)) (subst (λ X. within i.conclusion X ≡ true) grown_closure (within_refl i.conclusion))))
+        | inl t ↦ absurd (false≢true (sym out ∙ subst (λ X. within i.conclusion X ≡ true) (sym (same-true A (closure K A) t))
+            (subst (λ X. within i.conclusion X ≡ true) grown_closure (within_refl i.conclusion))))
         | inr f ↦ f
       ]
 
 -- ---- the start, and the rest of a list
 
 -- with the closures in place of its conclusions a list says what holds in its context
-pub reduce_start : (L : RuleList) → HaveWidth L.width L.members → IsReduced (context_of L) [] (map (λ P. rule P (closure (context_of L) P)) (premises L.members))
+pub reduce_start : (L : RuleList) → HaveWidth L.width L.members
+    → IsReduced (context_of L) [] (map (λ P. rule P (closure (context_of L) P)) (premises L.members))
 reduce_start L even =
     let K = context_of L in
     let f : Set → Rule = λ P. rule P (closure K P) in
     record {
       full_done = refl;
       full_rest = list_all-map (is_full K) f (premises L.members) ∙ list_all-map (λ P. is_full K (f P)) (λ (i : Rule). i.premise) L.members
-          ∙ list_all-mono (has_width L.width) (λ i. is_full K (f i.premise)) (λ i h. and_from (eqb (length i.premise) L.width) (same (closure K i.premise) (closure K i.premise))
-          (and_parts (eqb (length i.premise) L.width) (eqb (length i.conclusion) L.width) h).0 (same_refl (closure K i.premise))) L.members even;
+          ∙ list_all-mono (has_width L.width) (λ i. is_full K (f i.premise))
+          (λ i h. and_from (eqb (length i.premise) L.width) (same (closure K i.premise) (closure K i.premise))
+          (and_parts (eqb (length i.premise) L.width) (eqb (length i.conclusion) L.width) h).0 (same_refl (closure K i.premise))) L.members
+          even;
       proper = refl;
       apart_done = refl;
       apart_rest = refl;
       complete = λ T e _ r. respecting_is_closed L even T e
-          (list_all-mono₂ (λ i. respects T (f i.premise)) (holds K) (respects T) (λ i a b. respects_from T i (λ inside. within_trans i.conclusion (closure K i.premise) T b (respects_at T (f i.premise) a inside))) L.members
-          (sym (list_all-map (respects T) f (premises L.members) ∙ list_all-map (λ P. respects T (f P)) (λ (i : Rule). i.premise) L.members) ∙ r) (members_hold L even));
+          (list_all-mono₂ (λ i. respects T (f i.premise)) (holds K) (respects T)
+          (λ i a b. respects_from T i (λ inside. within_trans i.conclusion (closure K i.premise) T b
+          (respects_at T (f i.premise) a inside))) L.members
+          (sym (list_all-map (respects T) f (premises L.members) ∙ list_all-map (λ P. respects T (f P)) (λ (i : Rule). i.premise) L.members)
+          ∙ r) (members_hold L even));
     }
 
 pub rest_is : (xs : List Rule) (k : ℕ) → take (length xs - k) (drop k xs) ≡ drop k xs

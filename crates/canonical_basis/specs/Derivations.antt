@@ -28,7 +28,8 @@ and_then (Some i) rest = option_map (λ steps. i ∷ steps) (rest i)
 -- from X until C is reached, in at most this many steps, each by the first member that adds something
 unfoldable pub derivation_within : ℕ → List Rule → Set → Set → Option (List ℕ)
 derivation_within zero J X C = cond (within C X) (Some []) None
-derivation_within (suc k) J X C = cond (within C X) (Some []) (and_then (position (λ i. not (respects X i)) J) (λ i. derivation_within k J (join X (conclusion_at J i)) C))
+derivation_within (suc k) J X C = cond (within C X) (Some [])
+    (and_then (position (λ i. not (respects X i)) J) (λ i. derivation_within k J (join X (conclusion_at J i)) C))
 
 -- the derivation of P to C, if there is one: each step adds an attribute, so there are no more steps than attributes
 abbrev pub derivation : RuleList → Set → Set → Option (List ℕ)

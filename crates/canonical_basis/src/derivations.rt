@@ -42,15 +42,14 @@ impl Derivation {
     }
 }
 
-/// The same places.
+/// A copy of the places.
 fn copy(alloc: Global, steps: &[usize]) -> Result<Vec<usize>, Memory>
     ensures { IfOk result (λ copy. copy.items ≡ steps.now) }
 {
     Ok(steps.iter().copied().collect(alloc)?)
 }
 
-/// The derivation of the implication from p to c by the first member each time that adds something,
-/// and none exactly where the implication does not follow.
+/// The derivation of the implication from p to c by the first member each time that adds something. There is none exactly if the implication does not follow.
 pub fn derive(
     alloc: Global,
     list: &ImplicationList,

@@ -1,5 +1,4 @@
-//! The Duquenne-Guigues basis of a context or of a list of implications, and derivations from a
-//! list.
+//! The Duquenne-Guigues basis of a context or of a list of implications, and derivations from a list.
 #![tactic(auto)]
 
 mod derivations;
@@ -35,7 +34,7 @@ pub fn basis<R: Threads + Sync>(
     known_with_basis(alloc, rows, &nothing)
 }
 
-/// The same, in sets of the words that the rows have.
+/// The Duquenne-Guigues basis of the context with these rows, in sets of W words.
 pub fn basis_in_words<const W: usize>(
     alloc: Global,
     rows: RowsOf<W>,
@@ -48,8 +47,7 @@ pub fn basis_in_words<const W: usize>(
     lectic_basis::basis_in_words(alloc, rows, &nothing)
 }
 
-/// The Duquenne-Guigues basis of the context whose rows are all sets that respect the list, in
-/// lectic order of the premises. No set is listed.
+/// The Duquenne-Guigues basis of the context whose rows are all sets that respect the list, in lectic order of the premises. Nothing lists these sets.
 pub fn basis_of_list<R: Threads + Sync>(
     _rt: &R,
     alloc: Global,

@@ -1,6 +1,5 @@
-//! A list of implications reduced to the members of its basis: each premise is closed under the
-//! other implications, and an implication that follows from them is dropped (Day, 1992, "The
-//! lattice theory of functional dependencies and normal decompositions").
+//! A list of implications reduced to the members of its basis. Each premise is closed under the other implications, and an implication that follows from them is
+//! dropped. (Day, "The lattice theory of functional dependencies and normal decompositions", 1992.)
 
 ghost use Rattle.std.specs.Prelude.{◌≡◌, ◌++◌, ◌∷◌, [], OnOk, IfOk, true, length};
 ghost use Rattle.fca_model.specs.Context.{Context};
@@ -56,7 +55,7 @@ fn reduce(
     ensures reduced { (K : Context) → K.width ≡ reduced.old.width → IsReduced K reduced.old.members (member.now ∷ rest.now)
         → OnOk result (IsReduced K reduced.new.members rest.now) }
 {
-    let others = joined(alloc, reduced, rest)?;
+    let others = list_of_both(alloc, reduced, rest)?;
     let premise = others.naive_closure(&member.premise);
     if !member.conclusion.within(&premise) {
         reduced.push(Implication {
@@ -67,8 +66,8 @@ fn reduce(
     Ok(())
 }
 
-/// The implications of both.
-fn joined(
+/// The implications of both lists, those of the first in front.
+fn list_of_both(
     alloc: Global,
     first: &ImplicationList,
     second: &[Implication],

@@ -17,6 +17,8 @@ loop-set-preserved c =
     record {
       fits = subst (λ s. Fits s L) (sym c.closure.ensures.scratch) c.loop-set.invariant.fits;
       width = ap (λ (l : RuleList). l.width) c.in_ok-push.ensures.ok ∙ c.loop-set.invariant.width;
-      members = closed_more (λ P. rule P (closure (context_of L) P)) c.args.sets.now k X c.loop-set.closed.members c.push.new.self.members (rule X C) c.loop-set-test.true c.set-item.is
-          c.loop-set.invariant.members (ap (rule X) (closure_is L c.width.ensures.even X C wide c.closure.ensures.closure)) (ap (λ (l : RuleList). l.members) c.in_ok-push.ensures.ok);
+      members = closed_more (λ P. rule P (closure (context_of L) P)) c.args.sets.now k X c.loop-set.closed.members c.push.new.self.members
+          (rule X C) c.loop-set-test.true c.set-item.is
+          c.loop-set.invariant.members (ap (rule X) (closure_is L c.width.ensures.even X C wide c.closure.ensures.closure))
+          (ap (λ (l : RuleList). l.members) c.in_ok-push.ensures.ok);
     }

@@ -11,9 +11,11 @@ returns-clause-reduced c = λ K e r.
     let rest = c.args.rest.now in
     let i = c.args.member.now in
     let A = c.naive_closure-premise.result in
-    let grown = subst (λ js. IsClosure js i.premise A) (ap (λ (l : RuleList). l.members) c.in_ok-others.ensures) c.naive_closure-premise.ensures in
+    let grown = subst (λ js. IsClosure js i.premise A)
+    (ap (λ (l : RuleList). l.members) c.in_ok-others.ensures) c.naive_closure-premise.ensures in
     elim c.if-not-within.branch [
-      | then-not-within+in_ok-push w ↦ subst (λ js. IsReduced K js rest) (sym (ap (λ (l : RuleList). l.members) (w.reduced-is ∙ w.in_ok-push.ensures.ok)))
+      | then-not-within+in_ok-push w ↦ subst (λ js. IsReduced K js rest)
+          (sym (ap (λ (l : RuleList). l.members) (w.reduced-is ∙ w.in_ok-push.ensures.ok)))
           (reduced_push K done rest i A r grown (sym c.within.ensures ∙ w.if-not-within.true))
       | else-not-within w ↦ subst (λ js. IsReduced K js rest) (sym (ap (λ (l : RuleList). l.members) w.reduced-is))
           (reduced_drop K done rest i A r grown (sym c.within.ensures ∙ w.if-not-within.false))

@@ -13,8 +13,10 @@ returns-clause-members c =
     let full = c.as_slice.ensures.members ∙ ap (λ (l : RuleList). l.members) c.in_ok-full.ensures in
     let none = ap (λ (l : RuleList). l.members) c.in_ok-reduced.ensures in
     let wide = c.width.ensures.width in
-    let start = subst (λ js. IsReduced K js c.as_slice.result.now) (sym none) (subst (λ js. IsReduced K [] js) (sym full) (reduce_start L c.width.ensures.even)) in
-    reduced_members K c.reduce_all.new.reduced.members (c.in_ok-reduce_all.ensures K (sym (ap (λ (l : RuleList). l.width) c.in_ok-reduced.ensures ∙ wide)) start)
+    let start = subst (λ js. IsReduced K js c.as_slice.result.now) (sym none)
+    (subst (λ js. IsReduced K [] js) (sym full) (reduce_start L c.width.ensures.even)) in
+    reduced_members K c.reduce_all.new.reduced.members
+    (c.in_ok-reduce_all.ensures K (sym (ap (λ (l : RuleList). l.width) c.in_ok-reduced.ensures ∙ wide)) start)
 
 pub returns-clause-equivalent : goal.returns-clause-equivalent
 returns-clause-equivalent c =
