@@ -1,6 +1,8 @@
--- The row of an object gives its value back (`gives_back`): of a scale of numbers the narrowest bounds that hold (`high_bound`, `low_bound`), of a nominal scale the
--- scale value that it is.
-use Rattle.std.proofs.Common.{◌≡◌, ◌∙◌, ◌<◌, ◌+◌, ◌++◌, ◌∷◌, [], ℕ, suc, Bool, true, false, cond, List, Option, Some, None, IfSome, ℤ, ◌<ℤ◌, ◌≤ℤ◌, int_le, filter, fold, length, take, drop, map, slice_get, refl, sym, ap, ap₂, subst, arith, append_assoc, get_or, get_or-drop, length-append, length-drop, take_at, drop_at}
+-- The row of an object gives its value back (`gives_back`): of a scale of numbers the narrowest bounds that hold (`high_bound`,
+-- `low_bound`), of a nominal scale the scale value that it is.
+use Rattle.std.proofs.Common.{◌≡◌, ◌∙◌, ◌<◌, ◌+◌, ◌++◌, ◌∷◌, [], ℕ, suc, Bool, true, false, cond, List, Option, Some, None, IfSome, ℤ, ◌<ℤ◌}
+use Rattle.std.proofs.Common.{◌≤ℤ◌, int_le, filter, fold, length, take, drop, map, slice_get, refl, sym, ap, ap₂, subst, arith}
+use Rattle.std.proofs.Common.{append_assoc, get_or, get_or-drop, length-append, length-drop, take_at, drop_at}
 use Rattle.std.proofs.lemmas.Int.{ints}
 use Rattle.std.proofs.lemmas.List.{length-map, get_or-map, get_or_append_left}
 use Rattle.std.proofs.lemmas.Option.{slice_get_within, get_or_from_slice_get}
@@ -9,7 +11,8 @@ use Rattle.fca_model.specs.Sets.{Set}
 use Rattle.fca_model.specs.Tables.{Text}
 use Rattle.value_tables.specs.Numbers.{number_of}
 use Rattle.context_scaling.specs.Scaling.{Scaling, each_relation, made_names, mark_name, names_of, stands}
-use Rattle.context_scaling.specs.Back.{AreBounds, GivesBack, NoneBetween, begin_of, scaling_at, TellsBounds, alone, back_by, between, marked, narrower, narrowest, picked, places_from}
+use Rattle.context_scaling.specs.Back.{AreBounds, GivesBack, NoneBetween, begin_of, scaling_at, TellsBounds, single_place, back_by}
+use Rattle.context_scaling.specs.Back.{back_between, marked_values, is_narrower, narrowest_bound, narrower_bound_of, places_from}
 use Rattle.context_scaling.specs.declared.back.Back.{Back}
 use Rattle.context_scaling.specs.declared.back.Back.TheVariants as back
 use Rattle.context_scaling.specs.declared.scales.Kind.{Kind}
@@ -18,7 +21,8 @@ use Rattle.context_scaling.specs.declared.scales.Relation.{Relation}
 use Rattle.context_scaling.specs.declared.scales.Relation.TheVariants as relation
 use Rattle.context_scaling.specs.declared.scales.ScaleValue.{ScaleValue}
 use Rattle.context_scaling.specs.declared.scales.ScaleValue.TheVariants as value
-use Rattle.context_scaling.proofs.BackLemmas.{at_least_ordered, at_most_ordered, marked_filter, names_from, narrowest_holds, narrowest_least}
+use Rattle.context_scaling.proofs.BackLemmas.{at_least_ordered, at_most_ordered, marked_filter, names_from, narrowest_holds}
+use Rattle.context_scaling.proofs.BackLemmas.{narrowest_least}
 use Rattle.context_scaling.proofs.NominalLemmas.{nominal_back, nominal_nothing, value_once}
 
 -- ---- bounds around a number
@@ -30,7 +34,8 @@ module _ (text : Text) (n : ℤ) (is : number_of text ≡ Some n) (values : List
   at_least_is : (v : ℤ) → stands text relation.AtLeast (value.Number v) ≡ int_le v n
   at_least_is v = rw is refl
 
-  high_bound : (high : Option ℤ) → fold (picked relation.AtMost) None (filter (stands text relation.AtMost) values) ≡ high → IfSome high (λ v. (n ≤ℤ v) × NoneBetween values n v)
+  high_bound : (high : Option ℤ) → fold (narrower_bound_of relation.AtMost) None (filter (stands text relation.AtMost) values) ≡ high
+      → IfSome high (λ v. (n ≤ℤ v) × NoneBetween values n v)
   high_bound None found = tt
   high_bound (Some v) found =
       let P : Option ℤ → Type 0 = λ o. IfSome o (λ w. stands text relation.AtMost (value.Number w) ≡ true) in
@@ -43,7 +48,8 @@ module _ (text : Text) (n : ℤ) (is : number_of text ≡ Some n) (values : List
             grind (arith, ints),
       )
 
-  low_bound : (low : Option ℤ) → fold (picked relation.AtLeast) None (filter (stands text relation.AtLeast) values) ≡ low → IfSome low (λ v. (v ≤ℤ n) × NoneBetween values v n)
+  low_bound : (low : Option ℤ) → fold (narrower_bound_of relation.AtLeast) None (filter (stands text relation.AtLeast) values) ≡ low
+      → IfSome low (λ v. (v ≤ℤ n) × NoneBetween values v n)
   low_bound None found = tt
   low_bound (Some v) found =
       let P : Option ℤ → Type 0 = λ o. IfSome o (λ w. stands text relation.AtLeast (value.Number w) ≡ true) in
@@ -56,7 +62,8 @@ module _ (text : Text) (n : ℤ) (is : number_of text ≡ Some n) (values : List
             grind (arith, ints),
       )
 
-  tells : (low high : Option ℤ) → IfSome low (λ v. (v ≤ℤ n) × NoneBetween values v n) → IfSome high (λ v. (n ≤ℤ v) × NoneBetween values n v) → TellsBounds values n (between low high)
+  tells : (low high : Option ℤ) → IfSome low (λ v. (v ≤ℤ n) × NoneBetween values v n) → IfSome high (λ v. (n ≤ℤ v) × NoneBetween values n v)
+      → TellsBounds values n (back_between low high)
   tells None None above below = tt
   tells None (Some high) above below = record { above_low = tt; below_high = below }
   tells (Some low) high above below = record { above_low = above; below_high = below }
@@ -77,20 +84,28 @@ nothing_filter r (v ∷ values) = rw (nothing_stands r v) (nothing_filter r valu
 
 -- ---- the marks of a record
 
-nominal_marks : (text : Text) (values : List ScaleValue) (rest : Set) → take (length values) (map (stands text relation.Equal) values ++ rest) ≡ map (stands text relation.Equal) values
-nominal_marks text values rest = take_at (map (stands text relation.Equal) values) rest (length values) (length-map values (stands text relation.Equal))
+nominal_marks : (text : Text) (values : List ScaleValue) (rest : Set)
+    → take (length values) (map (stands text relation.Equal) values ++ rest) ≡ map (stands text relation.Equal) values
+nominal_marks text values rest = take_at (map (stands text relation.Equal) values) rest (length values)
+    (length-map values (stands text relation.Equal))
 
 module _ (text : Text) (values : List ScaleValue) (rest : Set) where
-  at_most_marks : marked (map (stands text relation.AtMost) values ++ map (stands text relation.AtLeast) values ++ rest) values ≡ filter (stands text relation.AtMost) values
+  at_most_marks : marked_values (map (stands text relation.AtMost) values ++ map (stands text relation.AtLeast) values ++ rest) values
+      ≡ filter (stands text relation.AtMost) values
   at_most_marks =
-      ap (λ (marks : Set). marked marks values) (append_assoc (map (stands text relation.AtMost) values) (map (stands text relation.AtLeast) values) rest)
+      ap (λ (marks : Set). marked_values marks values)
+      (append_assoc (map (stands text relation.AtMost) values) (map (stands text relation.AtLeast) values) rest)
       ∙ marked_filter text relation.AtMost values (map (stands text relation.AtLeast) values ++ rest)
 
-  at_least_marks : marked (drop (length values) (map (stands text relation.AtMost) values ++ map (stands text relation.AtLeast) values ++ rest)) values ≡ filter (stands text relation.AtLeast) values
+  at_least_marks : marked_values (drop (length values)
+      (map (stands text relation.AtMost) values ++ map (stands text relation.AtLeast) values ++ rest)) values ≡ filter
+      (stands text relation.AtLeast) values
   at_least_marks =
-      ap (λ (marks : Set). marked (drop (length values) marks) values) (append_assoc (map (stands text relation.AtMost) values) (map (stands text relation.AtLeast) values) rest)
-      ∙ ap (λ (marks : Set). marked marks values)
-      (drop_at (map (stands text relation.AtMost) values) (map (stands text relation.AtLeast) values ++ rest) (length values) (length-map values (stands text relation.AtMost)))
+      ap (λ (marks : Set). marked_values (drop (length values) marks) values)
+      (append_assoc (map (stands text relation.AtMost) values) (map (stands text relation.AtLeast) values) rest)
+      ∙ ap (λ (marks : Set). marked_values marks values)
+      (drop_at (map (stands text relation.AtMost) values) (map (stands text relation.AtLeast) values ++ rest) (length values)
+      (length-map values (stands text relation.AtMost)))
       ∙ marked_filter text relation.AtLeast values rest
 
 -- the scale values that are this text stand at one place
@@ -99,21 +114,28 @@ StandsOnce values text = (p q : ℕ) → slice_get values p ≡ Some (value.Text
 
 pub gives_back : (k : Kind) (values : List ScaleValue) (text : Text) (rest : Set) → (k ≡ kind.Nominal → StandsOnce values text)
     → GivesBack k values text (back_by k values (each_relation k (λ r. map (stands text r) values) ++ rest))
-gives_back kind.Nominal values [] rest once = ap (λ (marks : Set). alone (places_from 0 marks)) (nominal_marks [] values rest) ∙ nominal_nothing values
+gives_back kind.Nominal values [] rest once = ap (λ (marks : Set). single_place (places_from 0 marks)) (nominal_marks [] values rest)
+    ∙ nominal_nothing values
 gives_back kind.Nominal values (byte ∷ text) rest once =
-    let P : Set → Type 0 = λ marks. GivesBack kind.Nominal values (byte ∷ text) (alone (places_from 0 marks)) in
+    let P : Set → Type 0 = λ marks. GivesBack kind.Nominal values (byte ∷ text) (single_place (places_from 0 marks)) in
     subst P (sym (nominal_marks (byte ∷ text) values rest)) (nominal_back byte text values (once refl))
-gives_back kind.Ordinal values [] rest once = ap (λ (vs : List ScaleValue). between None (fold (picked relation.AtMost) None vs)) (marked_filter [] relation.AtMost values rest ∙ nothing_filter relation.AtMost values)
+gives_back kind.Ordinal values [] rest once = ap
+    (λ (vs : List ScaleValue). back_between None (fold (narrower_bound_of relation.AtMost) None vs))
+    (marked_filter [] relation.AtMost values rest ∙ nothing_filter relation.AtMost values)
 gives_back kind.Ordinal values (byte ∷ text) rest once = λ n is.
-    tells (byte ∷ text) n is values None _ tt (high_bound (byte ∷ text) n is values _ (ap (fold (picked relation.AtMost) None) (sym (marked_filter (byte ∷ text) relation.AtMost values rest))))
+    tells (byte ∷ text) n is values None _ tt (high_bound (byte ∷ text) n is values _
+    (ap (fold (narrower_bound_of relation.AtMost) None) (sym (marked_filter (byte ∷ text) relation.AtMost values rest))))
 gives_back kind.Interordinal values [] rest once =
-    ap₂ (λ (low : List ScaleValue) (high : List ScaleValue). between (fold (picked relation.AtLeast) None low) (fold (picked relation.AtMost) None high))
+    ap₂ (λ (low : List ScaleValue) (high : List ScaleValue). back_between (fold (narrower_bound_of relation.AtLeast) None low)
+    (fold (narrower_bound_of relation.AtMost) None high))
     (at_least_marks [] values rest ∙ nothing_filter relation.AtLeast values)
     (at_most_marks [] values rest ∙ nothing_filter relation.AtMost values)
 gives_back kind.Interordinal values (byte ∷ text) rest once = λ n is.
     tells (byte ∷ text) n is values _ _
-    (low_bound (byte ∷ text) n is values _ (ap (fold (picked relation.AtLeast) None) (sym (at_least_marks (byte ∷ text) values rest))))
-    (high_bound (byte ∷ text) n is values _ (ap (fold (picked relation.AtMost) None) (sym (at_most_marks (byte ∷ text) values rest))))
+    (low_bound (byte ∷ text) n is values _ (ap (fold (narrower_bound_of relation.AtLeast) None)
+    (sym (at_least_marks (byte ∷ text) values rest))))
+    (high_bound (byte ∷ text) n is values _ (ap (fold (narrower_bound_of relation.AtMost) None)
+    (sym (at_most_marks (byte ∷ text) values rest))))
 
 -- ---- names that differ
 
@@ -123,7 +145,8 @@ module _ (plan : List Scaling) (k : ℕ) (below : k < length plan) (nominal : (s
 
   -- the name that the scale value makes stands in its place
   name_at : (p : ℕ) → slice_get (scaling_at plan k).values p ≡ Some (value.Text text)
-      → (begin_of plan k + p < length (made_names plan)) × (get_or (made_names plan) (begin_of plan k + p) [] ≡ mark_name (scaling_at plan k).attribute relation.Equal (value.Text text))
+      → (begin_of plan k + p < length (made_names plan))
+      × (get_or (made_names plan) (begin_of plan k + p) [] ≡ mark_name (scaling_at plan k).attribute relation.Equal (value.Text text))
   name_at p at =
       let s = scaling_at plan k in
       let begin = begin_of plan k in

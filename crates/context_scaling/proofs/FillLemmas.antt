@@ -1,5 +1,6 @@
 -- One place more of a row is filled.
-use Rattle.std.proofs.Common.{◌≡◌, ◌∙◌, ◌<◌, ◌+◌, ◌-◌, ◌++◌, ◌∷◌, [], ℕ, suc, Bool, true, false, length, take, set, get_or, replicate, refl, sym, ap, arith, append_assoc, length-set}
+use Rattle.std.proofs.Common.{◌≡◌, ◌∙◌, ◌<◌, ◌+◌, ◌-◌, ◌++◌, ◌∷◌, [], ℕ, suc, Bool, true, false, length, take, set, get_or, replicate, refl}
+use Rattle.std.proofs.Common.{sym, ap, arith, append_assoc, length-set}
 use Rattle.std.proofs.lemmas.List.{length-take-le, take_more, take_more_set, get_or_at}
 use Rattle.fca_model.specs.Sets.{Set}
 use Rattle.csv_context.proofs.FormLemmas.{set-front}
@@ -25,7 +26,8 @@ module _ (row : Set) (at : ℕ) (filled : IsFilled row at) (below : at < length 
       ∙ rw (take_cross, length-set row at true) refl
 
   is_none : get_or row at false ≡ false
-  is_none = ap (λ (r : Set). get_or r at false) row_is ∙ get_or_at (take at row) false (replicate (length row - (at + 1)) false) false at front_length
+  is_none = ap (λ (r : Set). get_or r at false) row_is
+      ∙ get_or_at (take at row) false (replicate (length row - (at + 1)) false) false at front_length
 
   pub take_none : take (at + 1) row ≡ take at row ++ false ∷ []
   take_none = take_more row at false below ∙ ap (λ (mark : Bool). take at row ++ mark ∷ []) is_none

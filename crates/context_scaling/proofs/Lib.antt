@@ -5,3 +5,4 @@ pub mod BackLemmas
 pub mod NominalLemmas
 pub mod BackLaw
 pub mod Examples
+pub mod RefusalLemmas

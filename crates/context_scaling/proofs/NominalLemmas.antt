@@ -1,6 +1,8 @@
--- Nominal scales: a value is marked where it is the scale value (`stands_is`), at one place alone since names differ (`value_once`), and so the marks tell that place
--- (`nominal_back`).
-use Rattle.std.proofs.Common.{◌≡◌, ◌∙◌, ◌<◌, ◌≤◌, ◌+◌, ◌++◌, ◌∷◌, [], ℕ, zero, suc, Bool, true, false, not, ◌&&◌, ◌==◌, List, Option, Some, None, is_some, length, take, drop, get_or, map, slice_get, bytes_eq, refl, sym, ap, subst, inl, inr, arith, get_or-drop, get_or-take, length-drop, ne_eqb}
+-- Nominal scales: a value is marked where it is the scale value (`stands_is`), at one place alone since names differ (`value_once`), and so
+-- the marks tell that place (`nominal_back`).
+use Rattle.std.proofs.Common.{◌≡◌, ◌∙◌, ◌<◌, ◌≤◌, ◌+◌, ◌++◌, ◌∷◌, [], ℕ, zero, suc, Bool, true, false, not, ◌&&◌, ◌==◌, List, Option, Some}
+use Rattle.std.proofs.Common.{None, is_some, length, take, drop, get_or, map, slice_get, bytes_eq, refl, sym, ap, subst, inl, inr, arith}
+use Rattle.std.proofs.Common.{get_or-drop, get_or-take, length-drop, ne_eqb}
 use Rattle.std.specs.Prelude.{◌⊎◌, ◌↔◌}
 use Rattle.std.specs.List.{list_any}
 use Rattle.std.proofs.lemmas.Bool.{cases_Bool, cases_order, and_parts, and_from}
@@ -11,7 +13,7 @@ use Rattle.fca_model.specs.Sets.{Set}
 use Rattle.fca_model.specs.Tables.{Text}
 use Rattle.context_table.specs.Table.{first_repeat, repeat_from}
 use Rattle.context_scaling.specs.Scaling.{mark_name, stands}
-use Rattle.context_scaling.specs.Back.{alone, places_from}
+use Rattle.context_scaling.specs.Back.{single_place, places_from}
 use Rattle.context_scaling.specs.declared.back.Back.{Back}
 use Rattle.context_scaling.specs.declared.back.Back.TheVariants as back
 use Rattle.context_scaling.specs.declared.scales.Relation.TheVariants as relation
@@ -32,7 +34,8 @@ seen_any name (x ∷ seen) (suc a) below at =
     ]
 
 -- no name that stands in `seen` or before is repeated
-once_from : (seen names : List Text) (i a b : ℕ) → repeat_from seen i names ≡ None → a < length seen + b → b < length names → get_or (seen ++ names) a [] ≡ get_or names b [] → ⊥
+once_from : (seen names : List Text) (i a b : ℕ) → repeat_from seen i names ≡ None → a < length seen + b → b < length names
+    → get_or (seen ++ names) a [] ≡ get_or names b [] → ⊥
 once_from seen [] i a b none before below same = absurd (omega arith)
 once_from seen (x ∷ names) i a zero none before below same =
     let early : a < length seen = omega arith in
@@ -45,10 +48,12 @@ once_from seen (x ∷ names) i a (suc b) none before below same = elim (cases_Bo
       let longer = length_push seen x in
       let early : a < length (seen ++ x ∷ []) + b = omega arith in
       let less : b < length names = omega arith in
-      once_from (seen ++ x ∷ []) names (i + 1) a b (rw new at none) early less (ap (λ (ns : List Text). get_or ns a []) (append_assoc seen (x ∷ []) names) ∙ same)
+      once_from (seen ++ x ∷ []) names (i + 1) a b (rw new at none) early less
+      (ap (λ (ns : List Text). get_or ns a []) (append_assoc seen (x ∷ []) names) ∙ same)
 ]
 
-pub value_once : (names : List Text) (a b : ℕ) → first_repeat names ≡ None → a < length names → b < length names → get_or names a [] ≡ get_or names b [] → a ≡ b
+pub value_once : (names : List Text) (a b : ℕ) → first_repeat names ≡ None → a < length names → b < length names
+    → get_or names a [] ≡ get_or names b [] → a ≡ b
 value_once names a b none first second same = elim (cases_order a b) [
   | inl is ↦ is
   | inr apart ↦ elim apart [
@@ -64,7 +69,8 @@ places_none i [] none = refl
 places_none i (true ∷ marks) none = absurd (none zero refl)
 places_none i (false ∷ marks) none = places_none (i + 1) marks (λ q. none (suc q))
 
-places_one : (i p : ℕ) (marks : Set) → get_or marks p false ≡ true → ((q : ℕ) → get_or marks q false ≡ true → q ≡ p) → places_from i marks ≡ (i + p) ∷ []
+places_one : (i p : ℕ) (marks : Set) → get_or marks p false ≡ true → ((q : ℕ) → get_or marks q false ≡ true → q ≡ p)
+    → places_from i marks ≡ (i + p) ∷ []
 places_one i p [] at only = cc
 places_one i zero (true ∷ marks) at only =
     let here : i + zero ≡ i = omega arith in
@@ -81,19 +87,21 @@ place_member i p [] ps is = cc
 place_member i p (true ∷ marks) ps is = let same : i ≡ p = cc in (0, omega (arith, same), refl)
 place_member i p (false ∷ marks) ps is = let later = place_member (i + 1) p marks ps is in (suc later.0, omega (arith, later.1), later.2)
 
-alone_one : (places : List ℕ) (p : ℕ) → alone places ≡ back.Value p → places ≡ p ∷ []
+alone_one : (places : List ℕ) (p : ℕ) → single_place places ≡ back.Value p → places ≡ p ∷ []
 alone_one [] p is = cc
 alone_one (q ∷ []) p is = let same : q ≡ p = cc in rw same refl
 alone_one (q ∷ r ∷ places) p is = cc
 
 -- ---- values
 
-map_true : {X : Type 0} (f : X → Bool) (xs : List X) (q : ℕ) → get_or (map f xs) q false ≡ true → (x : X) × (slice_get xs q ≡ Some x) × (f x ≡ true)
+map_true : {X : Type 0} (f : X → Bool) (xs : List X) (q : ℕ) → get_or (map f xs) q false ≡ true
+    → (x : X) × (slice_get xs q ≡ Some x) × (f x ≡ true)
 map_true f [] q at = cc
 map_true f (x ∷ xs) zero at = (x, refl, at)
 map_true f (x ∷ xs) (suc q) at = map_true f xs q at
 
-true_map : {X : Type 0} (f : X → Bool) (xs : List X) (q : ℕ) (x : X) → slice_get xs q ≡ Some x → f x ≡ true → get_or (map f xs) q false ≡ true
+true_map : {X : Type 0} (f : X → Bool) (xs : List X) (q : ℕ) (x : X) → slice_get xs q ≡ Some x → f x ≡ true
+    → get_or (map f xs) q false ≡ true
 true_map f [] q x at is = cc
 true_map f (y ∷ xs) zero x at is = let same : y ≡ x = cc in rw same is
 true_map f (y ∷ xs) (suc q) x at is = true_map f xs q x at is
@@ -107,10 +115,11 @@ is_stands byte text =
     let some : length (byte ∷ text) == 0 ≡ false = ne_eqb (length (byte ∷ text)) 0 (λ e. omega (arith, e)) in
     and_from _ _ (ap not some) ((bytes_eq-Decides (byte ∷ text) (byte ∷ text)).1 refl)
 
--- the marks tell where the text is a scale value, which stands there once
+-- the marks show where the text is a scale value, which stands there once
 pub nominal_back : (byte : ℕ) (text : Text) (values : List ScaleValue)
     → ((p q : ℕ) → slice_get values p ≡ Some (value.Text (byte ∷ text)) → slice_get values q ≡ Some (value.Text (byte ∷ text)) → p ≡ q)
-    → (p : ℕ) → (alone (places_from 0 (map (stands (byte ∷ text) relation.Equal) values)) ≡ back.Value p) ↔ (slice_get values p ≡ Some (value.Text (byte ∷ text)))
+    → (p : ℕ) → (single_place (places_from 0 (map (stands (byte ∷ text) relation.Equal) values)) ≡ back.Value p)
+    ↔ (slice_get values p ≡ Some (value.Text (byte ∷ text)))
 nominal_back byte text values once p = (
   λ told.
       let member = place_member 0 p (map test values) [] (alone_one _ p told) in
@@ -122,14 +131,15 @@ nominal_back byte text values once p = (
       let one = places_one 0 p (map test values) (true_map test values p (value.Text (byte ∷ text)) at (is_stands byte text))
       (λ q is. let there = map_true test values q is in once q p (there.1 ∙ ap Some (stands_is (byte ∷ text) there.0 there.2)) at) in
       let here : 0 + p ≡ p = omega arith in
-      ap alone one ∙ ap back.Value here,
+      ap single_place one ∙ ap back.Value here,
 )
   where
     test : ScaleValue → Bool
     test = stands (byte ∷ text) relation.Equal
 
-pub nominal_nothing : (values : List ScaleValue) → alone (places_from 0 (map (stands [] relation.Equal) values)) ≡ back.Nothing
-nominal_nothing values = ap alone (places_none 0 (map (stands [] relation.Equal) values) (λ q is. none (map_true (stands [] relation.Equal) values q is).0 (map_true (stands [] relation.Equal) values q is).2))
+pub nominal_nothing : (values : List ScaleValue) → single_place (places_from 0 (map (stands [] relation.Equal) values)) ≡ back.Nothing
+nominal_nothing values = ap single_place (places_none 0 (map (stands [] relation.Equal) values)
+    (λ q is. none (map_true (stands [] relation.Equal) values q is).0 (map_true (stands [] relation.Equal) values q is).2))
   where
     none : (v : ScaleValue) → stands [] relation.Equal v ≡ true → ⊥
     none (value.Text word) is = cc
@@ -139,8 +149,8 @@ nominal_nothing values = ap alone (places_none 0 (map (stands [] relation.Equal)
 
 -- what the places say behind one that may have been found
 abbrev pub found_then : Option ℕ → List ℕ → Back
-found_then None places = alone places
-found_then (Some q) places = alone (q ∷ places)
+found_then None places = single_place places
+found_then (Some q) places = single_place (q ∷ places)
 
 module _ (row : Set) (first count p : ℕ) (below : p < count) (within : first + count ≤ length row) where
   abbrev marks : Set
@@ -167,6 +177,7 @@ pub found_again : (found : Option ℕ) (p : ℕ) (places : List ℕ) → is_some
 found_again None p places is = cc
 found_again (Some q) p places is = refl
 
-pub found_first : (found : Option ℕ) (p : ℕ) (places : List ℕ) → is_some found ≡ false → found_then (Some p) places ≡ found_then found (p ∷ places)
+pub found_first : (found : Option ℕ) (p : ℕ) (places : List ℕ) → is_some found ≡ false
+    → found_then (Some p) places ≡ found_then found (p ∷ places)
 found_first None p places isnt = refl
 found_first (Some q) p places isnt = cc

@@ -1,5 +1,7 @@
 -- What one field, one value and one record more add to what was read.
-use Rattle.std.proofs.Common.{◌≡◌, ◌∙◌, ◌<◌, ◌≤◌, ◌+◌, ◌++◌, ◌∷◌, [], ℕ, Bool, true, false, not, All, List, Option, Some, None, drop, flat_map, get_or, length, map, slice_get, position, bytes_eq, ltb, inl, inr, refl, sym, ap, subst, arith, append-nil, append_assoc}
+use Rattle.std.proofs.Common.{◌≡◌, ◌∙◌, ◌<◌, ◌≤◌, ◌+◌, ◌++◌, ◌∷◌, [], ℕ, Bool, true, false, not, All, List, Option, Some, None, drop}
+use Rattle.std.proofs.Common.{flat_map, get_or, length, map, slice_get, position, bytes_eq, ltb, inl, inr, refl, sym, ap, subst, arith}
+use Rattle.std.proofs.Common.{append-nil, append_assoc}
 use Rattle.std.specs.Prelude.{◌⊎◌, Ok, ℤ, pos, unwrap_or}
 use Rattle.std.specs.List.{position_from, position_or_len}
 use Rattle.std.proofs.lemmas.Bool.{cases_Bool, ltb-true}
@@ -38,30 +40,41 @@ module _ (k : Kind) (objects : List ObjectValues) (m g : ℕ) (below : g < lengt
       → position_from test g (drop g (map (value_of m) objects)) ≡ position_from test (g + 1) (drop (g + 1) (map (value_of m) objects))
   position_more good = rw (column_at, good) refl
 
-  pub position_here : is_scalable k (value_of m (get_or objects g no_object)) ≡ false → position_from test g (drop g (map (value_of m) objects)) ≡ Some g
+  pub position_here : is_scalable k (value_of m (get_or objects g no_object)) ≡ false
+      → position_from test g (drop g (map (value_of m) objects)) ≡ Some g
   position_here bad = rw (column_at, bad) refl
 
 -- ---- plans that fit
 
 pub names_push : (plan : List Scaling) (s : Scaling) → made_names (plan ++ s ∷ []) ≡ made_names plan ++ names_of s
 names_push [] s = append-nil (names_of s)
-names_push (x ∷ plan) s = ap (λ (ns : List Text). names_of x ++ ns) (names_push plan s) ∙ sym (append_assoc (names_of x) (made_names plan) (names_of s))
+names_push (x ∷ plan) s = ap (λ (ns : List Text). names_of x ++ ns) (names_push plan s)
+    ∙ sym (append_assoc (names_of x) (made_names plan) (names_of s))
 
 pub fits_none : (t : ValueTable) → Fits [] t
-fits_none t = record { places = All-nil (λ x. slice_get t.attributes x.place ≡ Some x.attribute); numbers = All-nil (λ x. All (λ text. is_scalable x.kind text ≡ true) (column t x.place)); named = All-nil (λ x. name_fault x ≡ None); differing = refl; few = omega arith }
+fits_none t = record {
+  places = All-nil (λ x. slice_get t.attributes x.place ≡ Some x.attribute);
+  numbers = All-nil (λ x. All (λ text. is_scalable x.kind text ≡ true) (column t x.place));
+  named = All-nil (λ x. name_fault x ≡ None);
+  differing = refl;
+  few = omega arith;
+}
 
-pub fits_push : (plan : List Scaling) (s : Scaling) (t : ValueTable) → Fits plan t → FitsBehind (made_names plan) t s → Fits (plan ++ s ∷ []) t
+pub fits_push : (plan : List Scaling) (s : Scaling) (t : ValueTable) → Fits plan t → FitsBehind (made_names plan) t s
+    → Fits (plan ++ s ∷ []) t
 fits_push plan s t fits one =
     let all = names_push plan s in
     record {
       places = All-push (λ x. slice_get t.attributes x.place ≡ Some x.attribute) plan s fits.places one.places;
       numbers = All-push (λ x. All (λ text. is_scalable x.kind text ≡ true) (column t x.place)) plan s fits.numbers one.numbers;
-      named = subst (λ (ns : List Text). All (λ name. name_fault name ≡ None) ns) (sym all) (All-append (λ x. name_fault x ≡ None) (made_names plan) (names_of s) fits.named one.named);
+      named = subst (λ (ns : List Text). All (λ name. name_fault name ≡ None) ns) (sym all)
+          (All-append (λ x. name_fault x ≡ None) (made_names plan) (names_of s) fits.named one.named);
       differing = ap first_repeat all ∙ one.differing fits.differing;
       few = let P : List Text → Type 0 = λ ns. length ns ≤ 1024 in subst P (sym all) one.few;
     }
 
-pub all_scalable : (k : Kind) (i : ℕ) (texts : List Text) → position_from (λ text. not (is_scalable k text)) i texts ≡ None → All (λ text. is_scalable k text ≡ true) texts
+pub all_scalable : (k : Kind) (i : ℕ) (texts : List Text) → position_from (λ text. not (is_scalable k text)) i texts ≡ None
+    → All (λ text. is_scalable k text ≡ true) texts
 all_scalable k i [] none = All-nil (λ text. is_scalable k text ≡ true)
 all_scalable k i (text ∷ texts) none = elim (cases_Bool (is_scalable k text)) [
   | inl good ↦ All-cons (λ x. is_scalable k x ≡ true) text texts good (all_scalable k (i + 1) texts (rw good at none))
@@ -83,18 +96,22 @@ position_at name xs place is = elim (cases_Bool (ltb (position_or_len (bytes_eq 
   | inr past ↦ let none : None ≡ Some place = rw past at is in cc
 ]
 
-pub number_value : (k : Kind) (text : Text) (n : ℤ) → (k ≡ kind.Ordinal) ⊎ (k ≡ kind.Interordinal) → n ≡ unwrap_or (number_of text) (pos 0) → value.Number n ≡ scale_value k text
+pub number_value : (k : Kind) (text : Text) (n : ℤ) → (k ≡ kind.Ordinal) ⊎ (k ≡ kind.Interordinal) → n ≡ unwrap_or (number_of text) (pos 0)
+    → value.Number n ≡ scale_value k text
 number_value k text n is same = elim is [
   | inl ordinal ↦ rw ordinal (ap value.Number same)
   | inr interordinal ↦ rw interordinal (ap value.Number same)
 ]
 
-pub names_more : (i : ℕ) (attribute : Text) (r : Relation) (j : ℕ) (seen : List Text) (v : ScaleValue) (values : List ScaleValue) (name : Text)
-    → new_name i j seen (mark_name attribute r v) ≡ Ok name → add_names i attribute r j seen (v ∷ values) ≡ add_names i attribute r (j + 1) (seen ++ name ∷ []) values
+pub names_more : (i : ℕ) (attribute : Text) (r : Relation) (j : ℕ) (seen : List Text) (v : ScaleValue) (values : List ScaleValue)
+    (name : Text)
+    → new_name i j seen (mark_name attribute r v) ≡ Ok name
+    → add_names i attribute r j seen (v ∷ values) ≡ add_names i attribute r (j + 1) (seen ++ name ∷ []) values
 names_more i attribute r j seen v values name is = rw is refl
 
 pub records_more : (t : ValueTable) (i : ℕ) (plan : List Scaling) (fields : Record) (records : List Record) (s : Scaling)
-    → record_form t i (made_names plan) fields ≡ Ok s → records_form t i plan (fields ∷ records) ≡ records_form t (i + 1) (plan ++ s ∷ []) records
+    → record_form t i (made_names plan) fields ≡ Ok s
+    → records_form t i plan (fields ∷ records) ≡ records_form t (i + 1) (plan ++ s ∷ []) records
 records_more t i plan fields records s is = rw is refl
 
 pub never_some : (o : Option ℕ) → ((r : ℕ) → o ≡ Some r → ⊥) → o ≡ None

@@ -1,19 +1,21 @@
 -- A row has as many places as the plan makes names, and what one record more adds to both.
-use Rattle.std.proofs.Common.{◌≡◌, ◌∙◌, ◌<◌, ◌≤◌, ◌+◌, ◌++◌, ◌∷◌, [], ℕ, zero, suc, List, All, Some, None, length, take, drop, get_or, map, flat_map, slice_get, refl, sym, ap, ap₂, subst, arith, length-append}
+use Rattle.std.proofs.Common.{◌≡◌, ◌∙◌, ◌<◌, ◌≤◌, ◌+◌, ◌++◌, ◌∷◌, [], ℕ, zero, suc, List, All, Some, None, length, take, drop, get_or, map}
+use Rattle.std.proofs.Common.{flat_map, slice_get, refl, sym, ap, ap₂, subst, arith, length-append}
 use Rattle.std.proofs.lemmas.List.{length-map, take_more, flat_map_more}
 use Rattle.std.proofs.lemmas.List.Folds.{length-flat_map-take}
 use Rattle.context_scaling.specs.declared.scales.Relation.TheVariants as relation
 use Rattle.fca_model.specs.Sets.{Set}
 use Rattle.fca_model.specs.Tables.{Text}
 use Rattle.value_tables.specs.Values.{ObjectValues, value_of}
-use Rattle.context_scaling.specs.Scaling.{Scaling, each_relation, made_names, mark_name, names_of, scale_row, scaled_row, stands}
+use Rattle.context_scaling.specs.Scaling.{Scaling, each_relation, made_names, mark_name, names_of, scale_row, object_row, stands}
 use Rattle.context_scaling.specs.declared.scales.Kind.{Kind}
 use Rattle.context_scaling.specs.declared.scales.Kind.TheVariants as kind
 use Rattle.context_scaling.specs.declared.scales.Relation.{Relation}
 use Rattle.context_scaling.specs.declared.scales.ScaleValue.{ScaleValue}
 
--- two lists by relations are as long where they are so for each relation
-each_relation_length : {X Y : Type 0} (k : Kind) (f : Relation → List X) (g : Relation → List Y) → ((r : Relation) → length (f r) ≡ length (g r))
+-- two lists by relations have one length if they have for each relation
+each_relation_length : {X Y : Type 0} (k : Kind) (f : Relation → List X) (g : Relation → List Y)
+    → ((r : Relation) → length (f r) ≡ length (g r))
     → length (each_relation k f) ≡ length (each_relation k g)
 each_relation_length kind.Nominal f g same = same _
 each_relation_length kind.Ordinal f g same = same _
@@ -24,24 +26,29 @@ scale_length s text =
     each_relation_length s.kind (λ r. map (stands text r) s.values) (λ r. map (mark_name s.attribute r) s.values)
     (λ r. length-map s.values (stands text r) ∙ sym (length-map s.values (mark_name s.attribute r)))
 
-pub row_length : (plan : List Scaling) (object : ObjectValues) → length (scaled_row plan object) ≡ length (made_names plan)
+pub row_length : (plan : List Scaling) (object : ObjectValues) → length (object_row plan object) ≡ length (made_names plan)
 row_length [] object = refl
-row_length (s ∷ plan) object = length-append _ _ ∙ ap₂ ◌+◌ (scale_length s (value_of s.place object)) (row_length plan object) ∙ sym (length-append _ _)
+row_length (s ∷ plan) object = length-append _ _ ∙ ap₂ ◌+◌ (scale_length s (value_of s.place object)) (row_length plan object)
+    ∙ sym (length-append _ _)
 
-pub flat_map_next : {X Y : Type 0} (f : X → List Y) (xs : List X) (i : ℕ) (d : X) → i < length xs → flat_map f (take (i + 1) xs) ≡ flat_map f (take i xs) ++ f (get_or xs i d)
+pub flat_map_next : {X Y : Type 0} (f : X → List Y) (xs : List X) (i : ℕ) (d : X) → i < length xs
+    → flat_map f (take (i + 1) xs) ≡ flat_map f (take i xs) ++ f (get_or xs i d)
 flat_map_next f xs i d below = ap (flat_map f) (take_more xs i d below) ∙ sym (flat_map_more f [] (take i xs) (get_or xs i d))
 
 -- no more scale values than names
 values_few : (k : Kind) (f : Relation → List Text) (n : ℕ) → ((r : Relation) → length (f r) ≡ n) → n ≤ length (each_relation k f)
 values_few kind.Nominal f n same = let e = same relation.Equal in omega (arith, e)
 values_few kind.Ordinal f n same = let e = same relation.AtMost in omega (arith, e)
-values_few kind.Interordinal f n same = let e = same relation.AtMost in omega (arith, e, length-append (f relation.AtMost) (f relation.AtLeast))
+values_few kind.Interordinal f n same = let e = same relation.AtMost in
+    omega (arith, e, length-append (f relation.AtMost) (f relation.AtLeast))
 
 pub values_names : (s : Scaling) → length s.values ≤ length (names_of s)
-values_names s = values_few s.kind (λ r. map (mark_name s.attribute r) s.values) (length s.values) (λ r. length-map s.values (mark_name s.attribute r))
+values_names s = values_few s.kind (λ r. map (mark_name s.attribute r) s.values) (length s.values)
+    (λ r. length-map s.values (mark_name s.attribute r))
 
 -- the names of a record stand within all
-pub names_within : (plan : List Scaling) (i : ℕ) (s : Scaling) → i < length plan → s ≡ get_or plan i s → length (made_names (take i plan)) + length (names_of s) ≤ length (made_names plan)
+pub names_within : (plan : List Scaling) (i : ℕ) (s : Scaling) → i < length plan → s ≡ get_or plan i s
+    → length (made_names (take i plan)) + length (names_of s) ≤ length (made_names plan)
 names_within plan i s below is =
     let P : Scaling → Type 0 = λ x. length (made_names (take i plan)) + length (names_of x) ≤ length (made_names plan) in
     subst P (sym is) (length-flat_map-take names_of plan i s below)

@@ -1,7 +1,9 @@
 -- What the row of an object says of its value.
 --
--- Of the interordinal scale of 21 and 30 the marks XXX. of 21 say that the number is at least 21 and at most 21, and ..XX that it is at least 30.
-use Rattle.std.specs.Prelude.{◌≡◌, ◌↔◌, ℕ, ◌+◌, Bool, false, cond, List, [], ◌∷◌, Option, Some, None, IfSome, ℤ, ◌<ℤ◌, ◌≤ℤ◌, int_le, fold, length, take, drop, slice_get, slice_index_or, ⊤}
+-- With the interordinal scale of 21 and 30, the marks XXX. of 21 say that the number is at least 21 and at most 21. The marks ..XX say
+-- that it is at least 30.
+use Rattle.std.specs.Prelude.{◌≡◌, ◌↔◌, ℕ, ◌+◌, Bool, false, cond, List, [], ◌∷◌, Option, Some, None, IfSome, ℤ, ◌<ℤ◌, ◌≤ℤ◌, int_le, fold}
+use Rattle.std.specs.Prelude.{length, take, drop, slice_get, slice_index_or, ⊤}
 use Rattle.fca_model.specs.Sets.{Set}
 use Rattle.fca_model.specs.Tables.{Text}
 use Rattle.value_tables.specs.Numbers.{number_of}
@@ -17,58 +19,59 @@ use Rattle.context_scaling.specs.declared.back.Back.TheVariants as back
 
 -- ---- nominal scales
 
--- the places of the members, from place i on
+-- the places of the members, counted from i on
 abbrev pub places_from : ℕ → Set → List ℕ
 places_from i [] = []
 places_from i (mark ∷ marks) = cond mark (i ∷ places_from (i + 1) marks) (places_from (i + 1) marks)
 
--- no place, one alone, or several
-abbrev pub alone : List ℕ → Back
-alone [] = back.Nothing
-alone (p ∷ []) = back.Value p
-alone (p ∷ q ∷ places) = back.Several
+-- what no place, one place, or several places say
+abbrev pub single_place : List ℕ → Back
+single_place [] = back.Nothing
+single_place (p ∷ []) = back.Value p
+single_place (p ∷ q ∷ places) = back.Several
 
 -- ---- scales of numbers
 
--- a bound by this relation is better the narrower it is: of two that a number is at most, the lesser
-abbrev pub narrower : Relation → ℤ → ℤ → Bool
-narrower relation.Equal a b = false
-narrower relation.AtMost a b = int_le a b
-narrower relation.AtLeast a b = int_le b a
+-- of two bounds that a number is at most, the lesser is the narrower; of two that it is at least, the greater
+abbrev pub is_narrower : Relation → ℤ → ℤ → Bool
+is_narrower relation.Equal a b = false
+is_narrower relation.AtMost a b = int_le a b
+is_narrower relation.AtLeast a b = int_le b a
 
-abbrev pub pick : Relation → Option ℤ → ℤ → Option ℤ
-pick r None v = Some v
-pick r (Some n) v = Some (cond (narrower r n v) n v)
+abbrev pub narrower_bound : Relation → Option ℤ → ℤ → Option ℤ
+narrower_bound r None v = Some v
+narrower_bound r (Some n) v = Some (cond (is_narrower r n v) n v)
 
--- a scale value that is a number is one more bound
-abbrev pub picked : Relation → Option ℤ → ScaleValue → Option ℤ
-picked r best (value.Text v) = best
-picked r best (value.Number v) = pick r best v
+-- a scale value that is a number is one more bound; a text is none
+abbrev pub narrower_bound_of : Relation → Option ℤ → ScaleValue → Option ℤ
+narrower_bound_of r best (value.Text v) = best
+narrower_bound_of r best (value.Number v) = narrower_bound r best v
 
 -- the scale values whose place is a member
-abbrev pub marked : Set → List ScaleValue → List ScaleValue
-marked marks [] = []
-marked [] (v ∷ values) = []
-marked (mark ∷ marks) (v ∷ values) = cond mark (v ∷ marked marks values) (marked marks values)
+abbrev pub marked_values : Set → List ScaleValue → List ScaleValue
+marked_values marks [] = []
+marked_values [] (v ∷ values) = []
+marked_values (mark ∷ marks) (v ∷ values) = cond mark (v ∷ marked_values marks values) (marked_values marks values)
 
 -- the narrowest of the bounds that are marked
-abbrev pub narrowest : Relation → Set → List ScaleValue → Option ℤ
-narrowest r marks values = fold (picked r) None (marked marks values)
+abbrev pub narrowest_bound : Relation → Set → List ScaleValue → Option ℤ
+narrowest_bound r marks values = fold (narrower_bound_of r) None (marked_values marks values)
 
-abbrev pub between : Option ℤ → Option ℤ → Back
-between None None = back.Nothing
-between None (Some high) = back.Between None (Some high)
-between (Some low) high = back.Between (Some low) high
+abbrev pub back_between : Option ℤ → Option ℤ → Back
+back_between None None = back.Nothing
+back_between None (Some high) = back.Between None (Some high)
+back_between (Some low) high = back.Between (Some low) high
 
 -- ---- records of a plan
 
 -- what the marks of a scale say, which stand first in the marks
 abbrev pub back_by : Kind → List ScaleValue → Set → Back
-back_by kind.Nominal values marks = alone (places_from 0 (take (length values) marks))
-back_by kind.Ordinal values marks = between None (narrowest relation.AtMost marks values)
-back_by kind.Interordinal values marks = between (narrowest relation.AtLeast (drop (length values) marks) values) (narrowest relation.AtMost marks values)
+back_by kind.Nominal values marks = single_place (places_from 0 (take (length values) marks))
+back_by kind.Ordinal values marks = back_between None (narrowest_bound relation.AtMost marks values)
+back_by kind.Interordinal values marks = back_between (narrowest_bound relation.AtLeast (drop (length values) marks) values)
+    (narrowest_bound relation.AtMost marks values)
 
--- a record of a plan that makes nothing, where there is none
+-- a record of a plan that makes nothing, in place of one that is missing
 abbrev pub no_scaling : Scaling
 no_scaling = record { kind = kind.Nominal; attribute = []; place = 0; values = [] }
 
@@ -76,7 +79,7 @@ no_scaling = record { kind = kind.Nominal; attribute = []; place = 0; values = [
 abbrev pub scaling_at : List Scaling → ℕ → Scaling
 scaling_at plan k = slice_index_or plan k no_scaling
 
--- where the attributes of record k begin
+-- the place at which the attributes of record k begin
 abbrev pub begin_of : List Scaling → ℕ → ℕ
 begin_of plan k = length (made_names (take k plan))
 
@@ -90,19 +93,20 @@ back_at plan k row = back_by (scaling_at plan k).kind (scaling_at plan k).values
 abbrev pub NoneBetween : List ScaleValue → ℤ → ℤ → Type 0
 NoneBetween values a b = (i : ℕ) (v : ℤ) → slice_get values i ≡ Some (value.Number v) → a <ℤ v → v <ℤ b → ⊥
 
--- the bounds that are there hold of the number, and none of the scale is narrower
+-- the bounds hold of the number, and the scale has no narrower ones
 pub record AreBounds (values : List ScaleValue) (n : ℤ) (low high : Option ℤ) : Type 0 where
   pub above_low : IfSome low (λ v. (v ≤ℤ n) × NoneBetween values v n)
   pub below_high : IfSome high (λ v. (n ≤ℤ v) × NoneBetween values n v)
 
--- the bounds where a number lies between bounds, and nothing where it is not told
+-- if the row gives bounds, they are those of the number
 abbrev pub TellsBounds : List ScaleValue → ℤ → Back → Type 0
 TellsBounds values n back.Nothing = ⊤
 TellsBounds values n back.Several = ⊥
 TellsBounds values n (back.Value p) = ⊥
 TellsBounds values n (back.Between low high) = AreBounds values n low high
 
--- what was told of a value: of a nominal scale the scale value that it is, of the others the narrowest bounds around it; and nothing where there is no value
+-- what a row gives back of its value: with a nominal scale the scale value that it is, with the others the narrowest bounds around it,
+-- and nothing if there is no value
 abbrev pub GivesBack : Kind → List ScaleValue → Text → Back → Type 0
 GivesBack kind values [] told = told ≡ back.Nothing
 GivesBack kind.Nominal values (byte ∷ text) told = (p : ℕ) → (told ≡ back.Value p) ↔ (slice_get values p ≡ Some (value.Text (byte ∷ text)))

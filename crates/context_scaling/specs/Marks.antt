@@ -7,6 +7,6 @@ pub record Filling : Type 0 where
   pub width : ℕ
   pub marks : Set
 
--- behind the first places the row is empty
+-- the row is empty behind its first places
 abbrev pub IsFilled : Set → ℕ → Type 0
 IsFilled row at = row ≡ take at row ++ replicate (length row - at) false

@@ -1,5 +1,7 @@
--- The form of a plan: what its records say of a table of values, or the first fault. Records and fields are numbered from 1, objects from 0.
-use Rattle.std.specs.Prelude.{ℕ, ◌+◌, ◌==◌, ◌&&◌, nat_lt, Bool, not, cond, List, [], ◌∷◌, ◌++◌, Option, Some, None, Result, Ok, Err, codes, length, drop, map, position, pos, slice_index_or, unwrap_or, bytes_eq}
+-- The form of a plan: what its records say of a table of values, or the first fault. Records and fields are numbered from 1, objects from
+-- 0.
+use Rattle.std.specs.Prelude.{ℕ, ◌+◌, ◌==◌, ◌&&◌, nat_lt, Bool, not, cond, List, [], ◌∷◌, ◌++◌, Option, Some, None, Result, Ok, Err, codes}
+use Rattle.std.specs.Prelude.{length, drop, map, position, pos, slice_index_or, unwrap_or, bytes_eq}
 use Rattle.std.specs.List.{list_any, position_from}
 use Rattle.std.specs.Str.Lossy.{utf8_valid_len}
 use Rattle.fca_model.specs.Tables.{Text}
@@ -30,16 +32,17 @@ kind_of word =
     (cond (bytes_eq word (codes "ordinal")) (Some kind.Ordinal)
     (cond (bytes_eq word (codes "interordinal")) (Some kind.Interordinal) None))
 
--- what is there, or the fault
+-- the value, or the fault if there is none
 abbrev pub or_fault : {X : Type 0} → PlanFault → Option X → Result X PlanFault
 or_fault e None = Err e
 or_fault e (Some x) = Ok x
 
 -- a kind, with at least two fields behind it
 abbrev pub kind_form : ℕ → Record → Result Kind PlanFault
-kind_form i fields = cond (nat_lt (length fields) 3) (Err (fault.BadKind i)) (or_fault (fault.BadKind i) (kind_of (slice_index_or fields 0 [])))
+kind_form i fields = cond (nat_lt (length fields) 3) (Err (fault.BadKind i))
+    (or_fault (fault.BadKind i) (kind_of (slice_index_or fields 0 [])))
 
--- the place of the attribute with this name; what is no name is no attribute's
+-- the place of the attribute with this name; a text that is no name has none
 abbrev pub place_of : ValueTable → Text → Option ℕ
 place_of t name = cond (is_name name) (position (bytes_eq name) t.attributes) None
 
@@ -57,7 +60,12 @@ scale_value kind.Ordinal text = value.Number (unwrap_or (number_of text) (pos 0)
 scale_value kind.Interordinal text = value.Number (unwrap_or (number_of text) (pos 0))
 
 abbrev pub scaling_of : Kind → ℕ → Record → Scaling
-scaling_of kind place fields = record { kind = kind; attribute = slice_index_or fields 1 []; place = place; values = map (scale_value kind) (drop 2 fields) }
+scaling_of kind place fields = record {
+  kind = kind;
+  attribute = slice_index_or fields 1 [];
+  place = place;
+  values = map (scale_value kind) (drop 2 fields);
+}
 
 -- ---- the attributes that are made
 
@@ -83,14 +91,14 @@ names_form i kind.Interordinal attribute seen values =
 abbrev pub few_names : ℕ → List Text → Scaling → Result Scaling PlanFault
 few_names i names s = cond (nat_lt MAX_ATTRIBUTES (length names)) (Err (fault.TooMany i)) (Ok s)
 
--- record i with this kind and this attribute, where the attributes made so far have these names
+-- record i with this kind and this attribute, after attributes with these names
 abbrev pub scaling_form : ValueTable → ℕ → List Text → Record → Scaling → Result Scaling PlanFault
 scaling_form t i seen fields s =
     unless (first_bad (value_kind s.kind) 3 (drop 2 fields)) (fault.BadScale i)
     (unless (position_from (λ text. not (is_scalable s.kind text)) 0 (column t s.place)) (fault.BadValue i)
     (then (names_form i s.kind s.attribute seen s.values) (λ names. few_names i names s)))
 
--- record i, where the attributes made so far have these names
+-- record i, after attributes with these names
 abbrev pub record_form : ValueTable → ℕ → List Text → Record → Result Scaling PlanFault
 record_form t i seen fields =
     then (kind_form i fields) (λ kind.
@@ -100,8 +108,10 @@ record_form t i seen fields =
 -- the plan so far, and the records from record i on
 abbrev pub records_form : ValueTable → ℕ → List Scaling → List Record → Result (List Scaling) PlanFault
 records_form t i plan [] = Ok plan
-records_form t i plan (fields ∷ records) = then (record_form t i (made_names plan) fields) (λ s. records_form t (i + 1) (plan ++ s ∷ []) records)
+records_form t i plan (fields ∷ records) = then (record_form t i (made_names plan) fields)
+    (λ s. records_form t (i + 1) (plan ++ s ∷ []) records)
 
 -- the plan that the bytes of a file write for the table, or the first fault: bytes that are not UTF-8, then the first record at fault
 unfoldable pub plan_form : ValueTable → List ℕ → Result (List Scaling) PlanFault
-plan_form t bytes = cond (utf8_valid_len bytes == length bytes) (records_form t 1 [] (csv_records bytes)) (Err (fault.NotUtf8 (utf8_valid_len bytes)))
+plan_form t bytes = cond (utf8_valid_len bytes == length bytes) (records_form t 1 [] (csv_records bytes))
+    (Err (fault.NotUtf8 (utf8_valid_len bytes)))

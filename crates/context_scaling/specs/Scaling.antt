@@ -1,14 +1,15 @@
 -- Conceptual scaling: from a table of values to a context.
 --
--- A scale for an attribute is a context whose objects are the attribute's values. In the nominal scale of the values v1, v2 and so on a value has the attribute
--- "= v" where it is v; in the ordinal scale of the numbers v1, v2 and so on a number has "<= v" where it is at most v; the interordinal scale has ">= v" too,
--- which a number has where it is at least v. In plain scaling the scaled context has the attribute (m, n) for each attribute n of the scale of m, and an object
--- has it where the scale gives n to the object's value of m. An object that has no value of m has none of them. (Ganter and Wille, "Formal Concept Analysis",
--- many-valued contexts, conceptual scaling, elementary scales.)
+-- A scale for an attribute is a context whose objects are the attribute's values. In the nominal scale of the values v1, v2 and so on, a
+-- value has the attribute "= v" if it is v. In the ordinal scale of the numbers v1, v2 and so on, a number has "<= v" if it is at most v.
+-- The interordinal scale also has ">= v", which a number has if it is at least v. In plain scaling the scaled context has the attribute
+-- (m, n) for each attribute n of the scale of m. An object has it if the scale gives n to the object's value of m. An object without a
+-- value of m has none of them. (Ganter and Wille, "Formal Concept Analysis", many-valued contexts, conceptual scaling, elementary scales.)
 --
--- With the age 21 for tim and 35 for ann, the interordinal scale of 21 and 30 makes the attributes age <= 21, age <= 30, age >= 21 and age >= 30, and the rows
--- XXX. of tim and ..XX of ann.
-use Rattle.std.specs.Prelude.{◌≡◌, ◌≤◌, ℕ, ◌==◌, ◌||◌, ◌&&◌, not, Bool, true, false, List, [], ◌∷◌, ◌++◌, Option, Some, None, ℤ, int_le, All, codes, map, flat_map, length, slice_get, is_some, bytes_eq}
+-- With the age 21 for tim and 35 for ann, the interordinal scale of 21 and 30 makes the attributes age <= 21, age <= 30, age >= 21 and
+-- age >= 30, and the rows XXX. of tim and ..XX of ann.
+use Rattle.std.specs.Prelude.{◌≡◌, ◌≤◌, ℕ, ◌==◌, ◌||◌, ◌&&◌, not, Bool, true, false, List, [], ◌∷◌, ◌++◌, Option, Some, None, ℤ, int_le}
+use Rattle.std.specs.Prelude.{All, codes, map, flat_map, length, slice_get, is_some, bytes_eq}
 use Rattle.std.specs.Fmt.{signed_decimal}
 use Rattle.fca_model.specs.Sets.{Set}
 use Rattle.fca_model.specs.Tables.{Text, NamedContext}
@@ -46,7 +47,7 @@ stands text relation.AtMost (value.Number v) = holds (λ n. int_le n v) (number_
 stands text relation.AtLeast (value.Text v) = false
 stands text relation.AtLeast (value.Number v) = holds (λ n. int_le v n) (number_of text)
 
--- what each relation of a scale of this kind gives, in their order
+-- what each relation of this kind of scale gives, one after the other
 abbrev pub each_relation : {X : Type 0} → Kind → (Relation → List X) → List X
 each_relation kind.Nominal give = give relation.Equal
 each_relation kind.Ordinal give = give relation.AtMost
@@ -75,23 +76,23 @@ mark_name attribute relation v = attribute ++ sign relation ++ value_text v
 abbrev pub names_of : Scaling → List Text
 names_of s = each_relation s.kind (λ r. map (mark_name s.attribute r) s.values)
 
--- those of a plan, in its order
+-- the names of the attributes that a plan makes, in its order
 abbrev pub made_names : List Scaling → List Text
 made_names plan = flat_map names_of plan
 
 -- ---- the scaled table
 
--- what an object has of the attributes that the plan makes
-abbrev pub scaled_row : List Scaling → ObjectValues → Set
-scaled_row plan object = flat_map (λ s. scale_row s (value_of s.place object)) plan
+-- which attributes that the plan makes the object has
+abbrev pub object_row : List Scaling → ObjectValues → Set
+object_row plan object = flat_map (λ s. scale_row s (value_of s.place object)) plan
 
--- the table without a title whose attributes the plan makes
+-- the scaled table: it has no title, and the attributes that the plan makes
 abbrev pub scaled : ValueTable → List Scaling → NamedContext
 scaled t plan = record {
   title = None;
   objects = map (λ object. object.name) t.objects;
   attributes = made_names plan;
-  context = record { width = length (made_names plan); rows = map (scaled_row plan) t.objects };
+  context = record { width = length (made_names plan); rows = map (object_row plan) t.objects };
 }
 
 -- ---- plans that fit a table
@@ -102,7 +103,7 @@ is_scalable kind.Nominal text = true
 is_scalable kind.Ordinal text = (length text == 0) || is_some (number_of text)
 is_scalable kind.Interordinal text = (length text == 0) || is_some (number_of text)
 
--- what a scaling adds to a plan that fits and makes the names seen
+-- a scaling fits behind a plan that makes the names seen
 pub record FitsBehind (seen : List Text) (t : ValueTable) (s : Scaling) : Type 0 where
   pub places : slice_get t.attributes s.place ≡ Some s.attribute
   pub numbers : All (λ text. is_scalable s.kind text ≡ true) (column t s.place)
@@ -110,8 +111,8 @@ pub record FitsBehind (seen : List Text) (t : ValueTable) (s : Scaling) : Type 0
   pub differing : first_repeat seen ≡ None → first_repeat (seen ++ names_of s) ≡ None
   pub few : length (seen ++ names_of s) ≤ MAX_ATTRIBUTES
 
--- each attribute of the plan has its name at its place in the table, and only numbers there where its scale compares numbers; the attributes that are made have
--- names, which differ, and are not too many
+-- each attribute of the plan has its name at its place in the table, and only numbers there if its scale compares numbers; the names of
+-- the attributes that are made are names, differ, and are not too many
 pub record Fits (plan : List Scaling) (t : ValueTable) : Type 0 where
   pub places : All (λ s. slice_get t.attributes s.place ≡ Some s.attribute) plan
   pub numbers : All (λ s. All (λ text. is_scalable s.kind text ≡ true) (column t s.place)) plan

@@ -1,9 +1,10 @@
-//! What a row says of the value that it was made from.
+//! Reading back: what a row says of the value that it was made from.
 
 ghost use Rattle.std.specs.Prelude.{◌≡◌, ◌<◌, ◌≤◌, ◌+◌, ℕ, Some, drop, length, take};
 ghost use Rattle.value_tables.specs.Values.{ValueTable, object_at, value_of};
-ghost use Rattle.context_scaling.specs.Scaling.{Fits, made_names, names_of, scaled_row};
-ghost use Rattle.context_scaling.specs.Back.{GivesBack, alone, back_at, begin_of, between, narrower, narrowest, pick, picked, places_from, scaling_at};
+ghost use Rattle.context_scaling.specs.Scaling.{Fits, made_names, names_of, object_row};
+ghost use Rattle.context_scaling.specs.Back.{GivesBack, single_place, back_at, begin_of, back_between, is_narrower, narrowest_bound};
+ghost use Rattle.context_scaling.specs.Back.{narrower_bound, narrower_bound_of, places_from, scaling_at};
 
 use crate::plan::{Plan, PlanRecord};
 use crate::scales::{Kind, Relation, ScaleValue};
@@ -14,7 +15,7 @@ use attr_bits::Attrs;
 pub enum Back {
     /// It has no attribute of the scale.
     Nothing,
-    /// It has several attributes of a nominal scale, and so is the row of no value.
+    /// It has several attributes of a nominal scale, so no value has this row.
     Several,
     /// The value is this scale value.
     Value(usize),
@@ -27,13 +28,13 @@ pub fn read_back(plan: &Plan, k: usize, row: &Attrs) -> Back
     requires record { k < length plan.now }
     requires width { length row.now ≡ length (made_names plan.now) }
     ensures back { result ≡ back_at plan.now k row.now }
-    ensures value { (t : ValueTable) (g : ℕ) → Fits plan.now t → row.now ≡ scaled_row plan.now (object_at t g)
+    ensures value { (t : ValueTable) (g : ℕ) → Fits plan.now t → row.now ≡ object_row plan.now (object_at t g)
         → GivesBack (scaling_at plan.now k).kind (scaling_at plan.now k).values (value_of (scaling_at plan.now k).place (object_at t g)) result }
 {
     back_at(plan, k, row)
 }
 
-/// The same, by the kind of the scale.
+/// What the row says by record k of the plan, by the kind of its scale.
 fn back_at(plan: &Plan, k: usize, row: &Attrs) -> Back
     requires record { k < length plan.now }
     requires width { length row.now ≡ length (made_names plan.now) }
@@ -42,21 +43,21 @@ fn back_at(plan: &Plan, k: usize, row: &Attrs) -> Back
     let planned = plan.record(k);
     let first = begin_of(plan, k, row.width());
     match planned.kind {
-        Kind::Nominal => alone(row, first, planned.values.len()),
-        Kind::Ordinal => between(
+        Kind::Nominal => single_place(row, first, planned.values.len()),
+        Kind::Ordinal => back_between(
             None,
-            narrowest(Relation::AtMost, row, first, &planned.values),
+            narrowest_bound(Relation::AtMost, row, first, &planned.values),
         ),
         Kind::Interordinal => {
             let second = first + planned.values.len() as u32;
-            let low = narrowest(Relation::AtLeast, row, second, &planned.values);
-            let high = narrowest(Relation::AtMost, row, first, &planned.values);
-            between(low, high)
+            let low = narrowest_bound(Relation::AtLeast, row, second, &planned.values);
+            let high = narrowest_bound(Relation::AtMost, row, first, &planned.values);
+            back_between(low, high)
         }
     }
 }
 
-/// Where the attributes of record k begin.
+/// The place at which the attributes of record k begin.
 fn begin_of(plan: &Plan, k: usize, width: u32) -> u32
     requires record { k < length plan.now }
     requires width { length (made_names plan.now) ≡ width }
@@ -70,7 +71,7 @@ fn begin_of(plan: &Plan, k: usize, width: u32) -> u32
     begin as u32
 }
 
-/// How many attributes the record makes.
+/// The number of attributes that the record makes.
 fn width_of(planned: &PlanRecord) -> usize
     requires { length planned.now.values < 4294967296 }
     ensures { result ≡ length (names_of planned.now) }
@@ -81,10 +82,10 @@ fn width_of(planned: &PlanRecord) -> usize
     }
 }
 
-/// The one place of these many that is in the row.
-fn alone(row: &Attrs, first: u32, count: usize) -> Back
+/// The one of these places that is in the row.
+fn single_place(row: &Attrs, first: u32, count: usize) -> Back
     requires { first + count ≤ length row.now }
-    ensures { result ≡ alone (places_from 0 (take count (drop first row.now))) }
+    ensures { result ≡ single_place (places_from 0 (take count (drop first row.now))) }
 {
     let _width = row.width();
     let mut found = None;
@@ -103,32 +104,38 @@ fn alone(row: &Attrs, first: u32, count: usize) -> Back
 }
 
 /// The narrowest of the bounds whose place is in the row.
-fn narrowest(relation: Relation, row: &Attrs, first: u32, values: &[ScaleValue]) -> Option<i64>
+fn narrowest_bound(
+    relation: Relation,
+    row: &Attrs,
+    first: u32,
+    values: &[ScaleValue],
+) -> Option<i64>
     requires { first + length values.now ≤ length row.now }
-    ensures { result ≡ narrowest relation (drop first row.now) values.now }
+    ensures { result ≡ narrowest_bound relation (drop first row.now) values.now }
 {
     let _width = row.width();
     let mut best = None;
     for (p, value) in values.iter().enumerate() {
         if row.has(first + p as u32) {
-            best = picked(relation, best, value);
+            best = narrower_bound_of(relation, best, value);
         }
     }
     best
 }
 
-/// The narrower of the best bound so far and this one.
-fn picked(relation: Relation, best: Option<i64>, value: &ScaleValue) -> Option<i64>
-    ensures { result ≡ picked relation best value.now }
+/// The narrower of the best bound so far and this scale value, if that is a number.
+fn narrower_bound_of(relation: Relation, best: Option<i64>, value: &ScaleValue) -> Option<i64>
+    ensures { result ≡ narrower_bound_of relation best value.now }
 {
     match value {
         ScaleValue::Text(_) => best,
-        ScaleValue::Number(bound) => pick(relation, best, *bound),
+        ScaleValue::Number(bound) => narrower_bound(relation, best, *bound),
     }
 }
 
-fn pick(relation: Relation, best: Option<i64>, bound: i64) -> Option<i64>
-    ensures { result ≡ pick relation best bound }
+/// The narrower of the best bound so far and this one.
+fn narrower_bound(relation: Relation, best: Option<i64>, bound: i64) -> Option<i64>
+    ensures { result ≡ narrower_bound relation best bound }
 {
     match best {
         Some(other) if is_narrower(relation, other, bound) => best,
@@ -136,9 +143,9 @@ fn pick(relation: Relation, best: Option<i64>, bound: i64) -> Option<i64>
     }
 }
 
-/// Whether the first bound is as narrow as the second.
+/// Whether the first bound is at least as narrow as the second.
 fn is_narrower(relation: Relation, first: i64, second: i64) -> bool
-    ensures { result ≡ narrower relation first second }
+    ensures { result ≡ is_narrower relation first second }
 {
     match relation {
         Relation::Equal => false,
@@ -147,8 +154,9 @@ fn is_narrower(relation: Relation, first: i64, second: i64) -> bool
     }
 }
 
-fn between(low: Option<i64>, high: Option<i64>) -> Back
-    ensures { result ≡ between low high }
+/// The bounds, or nothing if there are none.
+fn back_between(low: Option<i64>, high: Option<i64>) -> Back
+    ensures { result ≡ back_between low high }
 {
     if low.is_none() && high.is_none() {
         Back::Nothing

@@ -6,7 +6,7 @@ use attr_bits::Attrs;
 use fca_model::MAX_ATTRIBUTES;
 use std::marker::Model;
 
-/// A row, of which the first places are filled.
+/// A row whose first places are filled.
 #[derive(Drop)]
 pub struct Filling {
     row: Attrs,
@@ -25,7 +25,7 @@ impl Model for Filling {
 }
 
 impl Filling {
-    /// No place is filled of these many.
+    /// A row of this width with no place filled.
     pub fn new(width: u32) -> Filling
         requires { width ≤ MAX_ATTRIBUTES }
         ensures { result ≡ record { width = width; marks = [] } }
@@ -47,7 +47,7 @@ impl Filling {
         self.at += 1;
     }
 
-    /// The row, whose places are all filled.
+    /// The row. All its places are filled.
     pub fn finish(self) -> Attrs
         requires { length self.marks ≡ self.width }
         ensures { result ≡ self.marks }

@@ -1,11 +1,12 @@
-//! Conceptual scaling: a table of values and a plan become a context (Ganter and Wille, "Formal
-//! Concept Analysis", 1999).
+//! Conceptual scaling: a table of values and a plan become a context (Ganter and Wille, "Formal Concept
+//! Analysis", 1999). The reader of tables of values, which stands in `value_tables`, is given out with it.
 #![tactic(auto)]
 
 ghost use Rattle.std.specs.Prelude.{◌≡◌};
 
 mod back;
 mod filling;
+pub mod laws;
 mod plan;
 mod read;
 mod scales;
@@ -21,6 +22,7 @@ use std::alloc::{AllocError, AllocFailed};
 use std::fmt;
 use text_pieces::faults::{BAD_NAME, NOT_UTF8, TOO_MANY_ATTRIBUTES, UNKNOWN_ATTRIBUTE};
 use thiserror::Error;
+pub use value_tables::{Values, ValuesFault, read_values};
 
 /// Why bytes are no plan for a table of values. Records and fields are numbered from 1, objects from 0.
 #[derive(Drop, Error)]

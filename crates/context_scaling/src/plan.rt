@@ -25,7 +25,7 @@ impl Model for PlanRecord {
     ghost view = { λ r. record { kind = r.kind; attribute = r.attribute; place = r.place; values = r.values.items } };
 }
 
-/// Attributes with their scales: contracts see the list of them.
+/// Attributes with their scales. Contracts see the list of them.
 #[derive(Drop)]
 pub struct Plan {
     records: Vec<PlanRecord>,

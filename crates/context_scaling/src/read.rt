@@ -1,6 +1,7 @@
 //! The reader of plans.
 
-ghost use Rattle.std.specs.Prelude.{◌≡◌, ◌<◌, ◌≤◌, ◌+◌, ◌++◌, [], All, IfOk, OnOk, None, Some, bytes_eq, drop, false, length, map, not, slice_get, slice_index_or, string_bytes, true};
+ghost use Rattle.std.specs.Prelude.{◌≡◌, ◌<◌, ◌≤◌, ◌+◌, ◌++◌, [], All, IfOk, OnOk, None, Some, bytes_eq, drop, false, length, map, not};
+ghost use Rattle.std.specs.Prelude.{slice_get, slice_index_or, string_bytes, true};
 ghost use Rattle.std.specs.List.{list_any, position_from};
 ghost use Rattle.context_table.specs.Table.{first_repeat};
 ghost use Rattle.fca_model.specs.Names.{name_fault};
@@ -23,7 +24,7 @@ use itoa::Buffer;
 use std::alloc::Global;
 use value_tables::{FieldKind, Values, first_bad, name_at, number_of};
 
-/// An attribute of the values.
+/// An attribute of a table of values: its name and its place.
 #[derive(Drop)]
 pub struct Found {
     name: Name,
@@ -65,7 +66,7 @@ fn read_left(alloc: Global, reader: &mut Reader<&[u8]>, values: &Values) -> Resu
     Ok(Plan::of(records, names))
 }
 
-/// The scaling in record `i`, whose names come behind those seen.
+/// Reads the scaling in record `i`, and adds the names that it makes.
 fn read_record(
     alloc: Global,
     values: &Values,
@@ -151,7 +152,7 @@ fn attribute_at(
     }
 }
 
-/// What a scale of this kind has as values.
+/// The kind of field that the scale values of this kind are.
 fn value_kind(kind: Kind) -> FieldKind
     ensures { result ≡ form.value_kind kind }
 {
@@ -161,7 +162,7 @@ fn value_kind(kind: Kind) -> FieldKind
     }
 }
 
-/// The first object whose value of attribute m is neither a value of such a scale nor none.
+/// The first object that has a value of attribute m that is no value of such a scale.
 fn first_unscalable(values: &Values, kind: Kind, m: usize) -> Option<usize>
     requires { m < length values.now.attributes }
     ensures { result ≡ position_from (λ text. not (is_scalable kind text)) 0 (column values.now m) }
@@ -218,7 +219,7 @@ fn scale_value(
     }
 }
 
-/// Puts the names that record `i` makes last.
+/// Adds the names that record `i` makes.
 fn put_names(
     alloc: Global,
     names: &mut IndexSet<Name>,
@@ -242,7 +243,7 @@ fn put_names(
     }
 }
 
-/// Puts the names that one relation makes last.
+/// Adds the names that one relation makes.
 fn add_names(
     alloc: Global,
     names: &mut IndexSet<Name>,
@@ -264,7 +265,7 @@ fn add_names(
     Ok(())
 }
 
-/// The name that field `j` of record `i` makes, which none of those seen is.
+/// The name that field `j` of record `i` makes. It refuses one that was seen.
 fn new_name(
     alloc: Global,
     seen: &IndexSet<Name>,
@@ -287,7 +288,7 @@ fn new_name(
     Ok(name)
 }
 
-/// The name of the attribute that says that a value stands in this relation to the scale value.
+/// The name of the attribute for this relation to the scale value, as `age <= 30`.
 fn mark_name(
     alloc: Global,
     attribute: &Name,

@@ -1,4 +1,4 @@
-//! Scales, and how a value stands to what is in them.
+//! Scales, and the relations of a value to their scale values.
 
 ghost use Rattle.std.specs.Prelude.{◌≡◌, int_le};
 ghost use Rattle.value_tables.specs.Numbers.{number_of};

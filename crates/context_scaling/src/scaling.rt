@@ -3,7 +3,7 @@
 ghost use Rattle.std.specs.Prelude.{◌≡◌, ◌<◌, ◌≤◌, ◌+◌, ◌++◌, IfOk, length, map, vec_len};
 ghost use Rattle.value_tables.specs.Numbers.{number_of};
 ghost use Rattle.value_tables.specs.Values.{object_at, value_of};
-ghost use Rattle.context_scaling.specs.Scaling.{Fits, made_names, names_of, scale_row, scaled, scaled_row, stands};
+ghost use Rattle.context_scaling.specs.Scaling.{Fits, made_names, names_of, scale_row, scaled, object_row, stands};
 
 use crate::filling::Filling;
 use crate::plan::{Plan, PlanRecord};
@@ -21,8 +21,8 @@ pub fn scale(alloc: Global, values: &Values, plan: &Plan) -> Result<Table, Memor
     ensures { IfOk result (λ table. table ≡ scaled values.now plan.now) }
 {
     let objects = object_names(alloc, values)?;
-    let attributes = copies(alloc, plan.names())?;
-    let rows = scaled_rows(alloc, values, plan)?;
+    let attributes = copy_names(alloc, plan.names())?;
+    let rows = object_rows(alloc, values, plan)?;
     match Table::new(alloc, None, objects, attributes, rows) {
         Ok(table) => Ok(table),
         Err(TableFault::Memory) => Err(Memory),
@@ -31,7 +31,7 @@ pub fn scale(alloc: Global, values: &Values, plan: &Plan) -> Result<Table, Memor
     }
 }
 
-/// The names of the objects.
+/// Copies the names of the objects.
 fn object_names(alloc: Global, values: &Values) -> Result<Vec<Name>, Memory>
     ensures names { IfOk result (λ names. names.items ≡ map (λ object. object.name) values.now.objects) }
     ensures few { IfOk result (λ names. vec_len names ≤ MAX_OBJECTS) }
@@ -43,8 +43,8 @@ fn object_names(alloc: Global, values: &Values) -> Result<Vec<Name>, Memory>
     Ok(names)
 }
 
-/// Copies of the names.
-fn copies(alloc: Global, names: &[Name]) -> Result<Vec<Name>, Memory>
+/// Copies the names.
+fn copy_names(alloc: Global, names: &[Name]) -> Result<Vec<Name>, Memory>
     ensures { IfOk result (λ v. v.items ≡ names.now) }
 {
     let mut list = Vec::with_capacity(alloc, names.len())?;
@@ -55,24 +55,24 @@ fn copies(alloc: Global, names: &[Name]) -> Result<Vec<Name>, Memory>
 }
 
 /// The rows of the objects.
-fn scaled_rows(alloc: Global, values: &Values, plan: &Plan) -> Result<Rows, Memory>
+fn object_rows(alloc: Global, values: &Values, plan: &Plan) -> Result<Rows, Memory>
     requires { Fits plan.now values.now }
-    ensures { IfOk result (λ rows. rows ≡ record { width = length (made_names plan.now); rows = map (scaled_row plan.now) values.now.objects }) }
+    ensures { IfOk result (λ rows. rows ≡ record { width = length (made_names plan.now); rows = map (object_row plan.now) values.now.objects }) }
 {
     let width = plan.names().len() as u32;
     let mut rows = Rows::new(alloc, width)?;
     for g in 0..values.len() {
-        rows.push(scaled_row(values, plan, g, width))?;
+        rows.push(object_row(values, plan, g, width))?;
     }
     Ok(rows)
 }
 
 /// The row of object g.
-fn scaled_row(values: &Values, plan: &Plan, g: usize, width: u32) -> Attrs
+fn object_row(values: &Values, plan: &Plan, g: usize, width: u32) -> Attrs
     requires fits { Fits plan.now values.now }
     requires object { g < length values.now.objects }
     requires width { width ≡ length (made_names plan.now) }
-    ensures { result ≡ scaled_row plan.now (object_at values.now g) }
+    ensures { result ≡ object_row plan.now (object_at values.now g) }
 {
     let mut row = Filling::new(width);
     for planned in plan.records() {
@@ -81,7 +81,7 @@ fn scaled_row(values: &Values, plan: &Plan, g: usize, width: u32) -> Attrs
     row.finish()
 }
 
-/// Fills in what the text has of the attributes of a record.
+/// Fills in which attributes of a record the text has.
 fn put_record(row: &mut Filling, planned: &PlanRecord, text: &[u8])
     requires { length row.old.marks + length (names_of planned.now) ≤ row.old.width }
     ensures { row.new ≡ record row.old { marks = row.old.marks ++ scale_row planned.now text.now } }

@@ -15,7 +15,8 @@ room c =
     let size = ap (λ (xs : List Scaling). length (take c.args.k xs)) c.records.ensures ∙ length-take c.args.k plan in
     let before : i < c.args.k = omega (arith, c.loop-planned-test.true, size) in
     let below : i < length plan = omega (arith, c.loop-planned-test.true, size) in
-    let is : s ≡ get_or plan i s = c.planned-item.is ∙ ap (λ (xs : List Scaling). get_or (take c.args.k xs) i s) c.records.ensures ∙ get_or-take c.args.k plan i s before in
+    let is : s ≡ get_or plan i s = c.planned-item.is ∙ ap (λ (xs : List Scaling). get_or (take c.args.k xs) i s) c.records.ensures
+    ∙ get_or-take c.args.k plan i s before in
     omega (arith, names_within plan i s below is, c.loop-planned.invariant, c.requires.width)
 
 pub width_of-begin-requires : goal.width_of-begin-requires

@@ -1,10 +1,10 @@
 use Rattle.std.proofs.Common.{◌≡◌, ◌∙◌, ◌+◌, ℕ, List, Option, Some, None, true, false, is_some, drop, take, sym, ap, subst}
-use Rattle.context_scaling.specs.Back.{alone, places_from}
+use Rattle.context_scaling.specs.Back.{single_place, places_from}
 use Rattle.context_scaling.specs.declared.back.Back.{Back}
 use Rattle.context_scaling.specs.declared.back.Back.TheVariants as back
 use Rattle.context_scaling.proofs.NominalLemmas.{found_then, found_again, found_first, places_in, places_out}
-use Rattle.context_scaling.proofs.back.alone.Goals as goal
-use Rattle.context_scaling.proofs.back.alone.Goals.{then-has+else-is_some, else-has}
+use Rattle.context_scaling.proofs.back.single_place.Goals as goal
+use Rattle.context_scaling.proofs.back.single_place.Goals.{then-has+else-is_some, else-has}
 
 pub returns-then-is_some : goal.returns-then-is_some
 returns-then-is_some c =
@@ -25,7 +25,8 @@ loop-p-preserved c =
     elim c.if-has.branch [
       | then-has+else-is_some w ↦
           let here = places_in row c.args.first c.args.count p c.loop-p-test.true c.requires (sym c.has.ensures ∙ w.if-has.true) in
-          rw w.found-is (found_first found p later (sym w.is_some.ensures ∙ w.if-is_some.false) ∙ ap (found_then found) (sym here) ∙ c.loop-p.invariant)
+          rw w.found-is (found_first found p later (sym w.is_some.ensures ∙ w.if-is_some.false) ∙ ap (found_then found) (sym here)
+          ∙ c.loop-p.invariant)
       | else-has w ↦
           let there = places_out row c.args.first c.args.count p c.loop-p-test.true c.requires (sym c.has.ensures ∙ w.if-has.false) in
           rw w.found-is (ap (found_then found) (sym there) ∙ c.loop-p.invariant)

@@ -1,4 +1,5 @@
-use Rattle.std.proofs.Common.{◌≡◌, ◌∙◌, ◌+◌, ◌++◌, ◌∷◌, [], ℕ, All, List, None, Ok, drop, get_or, length, map, take, sym, ap, ap₂, subst, arith, append_assoc}
+use Rattle.std.proofs.Common.{◌≡◌, ◌∙◌, ◌+◌, ◌++◌, ◌∷◌, [], ℕ, All, List, None, Ok, drop, get_or, length, map, take, sym, ap, ap₂, subst}
+use Rattle.std.proofs.Common.{arith, append_assoc}
 use Rattle.std.proofs.lemmas.List.{drop_more, map_more}
 use Rattle.std.proofs.lemmas.List.Elements.{All-push}
 use Rattle.fca_model.specs.Tables.{Text}
@@ -28,10 +29,12 @@ loop-p-preserved c =
     let keys : c.insert.new.self.keys ≡ loop.names.keys ++ name ∷ [] = rw new at c.in_ok-insert.ensures.keys in
     let P : Text → Type 0 = λ made. new_name i (p + 3) loop.names.keys made ≡ Ok name in
     let form = subst P text c.in_ok-name.ensures.form in
-    let rest : drop p values ≡ v ∷ drop (p + 1) values = drop_more values p v c.loop-p-test.true ∙ ap (λ (w : ScaleValue). w ∷ drop (p + 1) values) (sym c.index-values-p.is) in
+    let rest : drop p values ≡ v ∷ drop (p + 1) values = drop_more values p v c.loop-p-test.true
+    ∙ ap (λ (w : ScaleValue). w ∷ drop (p + 1) values) (sym c.index-values-p.is) in
     let next : p + 1 + 3 ≡ p + 3 + 1 = omega arith in
     let more : map (mark_name m r) (take (p + 1) values) ≡ map (mark_name m r) (take p values) ++ made ∷ [] =
-    map_more (mark_name m r) values p v c.loop-p-test.true ∙ ap (λ (w : ScaleValue). map (mark_name m r) (take p values) ++ mark_name m r w ∷ []) (sym c.index-values-p.is) in
+    map_more (mark_name m r) values p v c.loop-p-test.true
+    ∙ ap (λ (w : ScaleValue). map (mark_name m r) (take p values) ++ mark_name m r w ∷ []) (sym c.index-values-p.is) in
     let Named : List Text → Type 0 = λ names. All (λ (n : Text). name_fault n ≡ None) names in
     record {
       says =
@@ -44,6 +47,7 @@ loop-p-preserved c =
           ∙ ap₂ (λ (seen : List Text) (n : Text). seen ++ n ∷ []) loop.invariant.names is
           ∙ append_assoc c.args.names.now.keys (map (mark_name m r) (take p values)) (made ∷ [])
           ∙ ap (λ (ns : List Text). c.args.names.now.keys ++ ns) (sym more);
-      named = subst Named (sym more) (All-push (λ n. name_fault n ≡ None) (map (mark_name m r) (take p values)) made loop.invariant.named (ap name_fault (sym text) ∙ c.in_ok-name.ensures.named.1));
+      named = subst Named (sym more) (All-push (λ n. name_fault n ≡ None) (map (mark_name m r) (take p values)) made loop.invariant.named
+          (ap name_fault (sym text) ∙ c.in_ok-name.ensures.named.1));
       differing = λ none. ap first_repeat keys ∙ first_repeat-append loop.names.keys name (loop.invariant.differing none) new;
     }

@@ -9,7 +9,8 @@ returns-then-not-is_scalable c =
     let t = c.args.values.now in
     let g = c.loop-g.g in
     let below : g < length t.objects = omega (arith, c.loop-g-test.true, c.len-g-end.ensures.len) in
-    let bad : is_scalable c.args.kind (value_of c.args.m (object_at t g)) ≡ false = ap (is_scalable c.args.kind) (sym c.value.ensures) ∙ sym c.is_scalable.ensures ∙ c.if-not-is_scalable.true in
+    let bad : is_scalable c.args.kind (value_of c.args.m (object_at t g)) ≡ false = ap (is_scalable c.args.kind) (sym c.value.ensures)
+    ∙ sym c.is_scalable.ensures ∙ c.if-not-is_scalable.true in
     sym (position_here c.args.kind t.objects c.args.m g below bad) ∙ c.loop-g.invariant
 
 pub loop-g-preserved : goal.loop-g-preserved
@@ -17,5 +18,6 @@ loop-g-preserved c =
     let t = c.args.values.now in
     let g = c.loop-g.g in
     let below : g < length t.objects = omega (arith, c.loop-g-test.true, c.len-g-end.ensures.len) in
-    let good : is_scalable c.args.kind (value_of c.args.m (object_at t g)) ≡ true = ap (is_scalable c.args.kind) (sym c.value.ensures) ∙ sym c.is_scalable.ensures ∙ c.if-not-is_scalable.false in
+    let good : is_scalable c.args.kind (value_of c.args.m (object_at t g)) ≡ true = ap (is_scalable c.args.kind) (sym c.value.ensures)
+    ∙ sym c.is_scalable.ensures ∙ c.if-not-is_scalable.false in
     sym (position_more c.args.kind t.objects c.args.m g below good) ∙ c.loop-g.invariant

@@ -7,4 +7,5 @@ use Rattle.context_scaling.proofs.read.first_unscalable.Given as goal
 
 abbrev pub invariant-loop-g : goal.invariant-loop-g
 invariant-loop-g l =
-    position_from (λ (text : Text). not (is_scalable l.kind text)) l.g (drop l.g (column l.values l.m)) ≡ position_from (λ (text : Text). not (is_scalable l.kind text)) 0 (column l.values l.m)
+    position_from (λ (text : Text). not (is_scalable l.kind text)) l.g (drop l.g (column l.values l.m)) ≡ position_from
+    (λ (text : Text). not (is_scalable l.kind text)) 0 (column l.values l.m)

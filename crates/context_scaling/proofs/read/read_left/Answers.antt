@@ -28,7 +28,8 @@ loop-names-preserved c =
     let H : List Scaling → Type 0 = λ xs. Fits xs t in
     record {
       opened = read.0;
-      names = c.in_ok-planned.ensures.names ∙ ap (λ (ns : List Text). ns ++ names_of s) loop.invariant.names ∙ sym (names_push plan s) ∙ ap made_names (sym records);
+      names = c.in_ok-planned.ensures.names ∙ ap (λ (ns : List Text). ns ++ names_of s) loop.invariant.names ∙ sym (names_push plan s)
+          ∙ ap made_names (sym records);
       fits = subst H (sym records) (fits_push plan s t loop.invariant.fits (subst B loop.invariant.names c.in_ok-planned.ensures.fits));
       says =
           ap₂ (λ (n : ℕ) (xs : List Scaling). records_form t (n + 1) xs left) (ap length records ∙ length_push plan s) records

@@ -9,7 +9,8 @@ invariant-loop-names l = record {
   opened : IsOpen l.reader;
   names : l.names.keys ≡ made_names l.records.items;
   fits : Fits l.records.items l.values;
-  says : records_form l.values (length l.records.items + 1) l.records.items (records_left l.reader) ≡ records_form l.values 1 [] (records_left l.fn.reader);
+  says : records_form l.values (length l.records.items + 1) l.records.items (records_left l.reader) ≡ records_form l.values 1 []
+      (records_left l.fn.reader);
 }
 
 abbrev pub decreases-loop-names : goal.decreases-loop-names

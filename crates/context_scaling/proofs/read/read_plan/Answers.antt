@@ -14,7 +14,8 @@ pub returns-in-Ok-clause-form : goal.returns-in-Ok-clause-form
 unfolding plan_form
 returns-in-Ok-clause-form c =
     let text = c.in-Ok.ensures.cases in
-    let whole : utf8_valid_len c.args.bytes.now == length c.args.bytes.now ≡ true = eq-eqb _ _ (utf8_valid_len-IsUtf8 c.args.bytes.now text.1) in
+    let whole : utf8_valid_len c.args.bytes.now == length c.args.bytes.now ≡ true =
+    eq-eqb _ _ (utf8_valid_len-IsUtf8 c.args.bytes.now text.1) in
     let P : List ℕ → Type 0 = λ bytes. Tells fault.Memory c.read_text.result (records_form c.args.values.now 1 [] (csv_records bytes)) in
     rw whole (subst P text.0 c.read_text.ensures.form)
 
@@ -22,7 +23,8 @@ pub returns-in-Err-clause-form : goal.returns-in-Err-clause-form
 unfolding plan_form
 returns-in-Err-clause-form c =
     let at = c.in-Err.ensures.valid_len in
-    let short : utf8_valid_len c.args.bytes.now < length c.args.bytes.now = let P : ℕ → Type 0 = λ n. n < length c.args.bytes.now in subst P at c.in-Err.ensures.cases.1.short in
+    let short : utf8_valid_len c.args.bytes.now < length c.args.bytes.now = let P : ℕ → Type 0 = λ n. n < length c.args.bytes.now in
+    subst P at c.in-Err.ensures.cases.1.short in
     let broken : utf8_valid_len c.args.bytes.now == length c.args.bytes.now ≡ false = ne_eqb _ _ (omega arith) in
     let told : ℕ → Result (List Scaling) PlanFault = λ n. Err (fault.NotUtf8 n) in
     inr (rw broken (ap told (sym at ∙ sym c.valid_up_to.ensures)))

@@ -13,5 +13,6 @@ returns-in-Ordinal c =
     let text = get_or (fields_of c.args.fields.now) c.args.place [] in
     let fits : SFits w64 n = search rules in
     let field = sym (get_or_from_slice_get (fields_of c.args.fields.now) c.args.place c.field_at.result.now [] (sym c.field_at.ensures)) in
-    let is : n ≡ unwrap_or (number_of text) (pos 0) = c.unwrap_or.ensures ∙ ap (λ (o : Option ℤ). unwrap_or o (pos 0)) (c.number_of.ensures ∙ ap number_of field) in
+    let is : n ≡ unwrap_or (number_of text) (pos 0) = c.unwrap_or.ensures
+    ∙ ap (λ (o : Option ℤ). unwrap_or o (pos 0)) (c.number_of.ensures ∙ ap number_of field) in
     ap value.Number (to_z-of_z fits) ∙ number_value c.args.kind text n c.in-Ordinal.is is

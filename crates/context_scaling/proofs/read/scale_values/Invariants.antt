@@ -6,6 +6,7 @@ use Rattle.context_scaling.proofs.read.scale_values.Given as goal
 
 abbrev pub invariant-loop-place : goal.invariant-loop-place
 invariant-loop-place l = record {
-  values : l.values.items ++ map (form.scale_value l.kind) (drop l.place (fields_of l.fields)) ≡ map (form.scale_value l.kind) (drop 2 (fields_of l.fields));
+  values : l.values.items ++ map (form.scale_value l.kind) (drop l.place (fields_of l.fields)) ≡ map (form.scale_value l.kind)
+      (drop 2 (fields_of l.fields));
   good : first_bad (form.value_kind l.kind) (l.place + 1) (drop l.place (fields_of l.fields)) ≡ None;
 }

@@ -2,7 +2,7 @@ use Rattle.std.proofs.Common.{◌≡◌, ◌∙◌, ◌<◌, ◌≤◌, ◌+◌,
 use Rattle.value_tables.specs.Values.{object_at}
 use Rattle.context_scaling.specs.Scaling.{Scaling, made_names, names_of}
 use Rattle.context_scaling.proofs.ScaleLemmas.{names_within, row_length}
-use Rattle.context_scaling.proofs.scaling.scaled_row.Goals as goal
+use Rattle.context_scaling.proofs.scaling.object_row.Goals as goal
 
 pub put_record-requires : goal.put_record-requires
 put_record-requires c =

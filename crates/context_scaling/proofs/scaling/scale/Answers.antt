@@ -6,7 +6,8 @@ use Rattle.context_scaling.proofs.scaling.scale.Goals as goal
 pub returns-in-Ok : goal.returns-in-Ok
 returns-in-Ok c =
     let rows = c.in_ok-rows.rows in
-    let make : List Text → List Text → Context → NamedContext = λ objects attributes context. record { title = None; objects = objects; attributes = attributes; context = context } in
+    let make : List Text → List Text → Context → NamedContext =
+    λ objects attributes context. record { title = None; objects = objects; attributes = attributes; context = context } in
     let attributes = c.in_ok-attributes.ensures ∙ c.names.ensures in
     c.in-Ok.ensures.table
     ∙ ap₂ (λ (os : List Text) (ns : List Text). make os ns rows) c.in_ok-objects.ensures.names attributes

@@ -34,7 +34,8 @@ returns c =
     let push : Set → Bool → Set = λ marks mark. marks ++ mark ∷ [] in
     elim c.if-cross.branch [
       | then-cross w ↦ rw (w.self-inside-is, w.insert.ensures)
-          (ap₂ make (length-set row at true ∙ width_is c) (take_cross row at c.self.invariant (below c) ∙ ap₂ push (marks_are c) (sym w.if-cross.true)))
+          (ap₂ make (length-set row at true ∙ width_is c)
+          (take_cross row at c.self.invariant (below c) ∙ ap₂ push (marks_are c) (sym w.if-cross.true)))
       | else-cross w ↦ rw w.self-inside-is
           (ap₂ make (width_is c) (take_none row at c.self.invariant (below c) ∙ ap₂ push (marks_are c) (sym w.if-cross.false)))
     ]
