@@ -10,7 +10,7 @@ use Rattle.text_pieces.specs.Numerals.{is_numeral, value_of}
 abbrev pub is_port : Text → Bool
 is_port digits = is_numeral digits && nat_le (length digits) 5 && not (get_or digits 0 0 == 48) && nat_le (value_of digits) 65535
 
--- what stands before a colon at this place is not empty, and what stands behind it is a port
+-- the text before the colon at this place is not empty, and the text after it is a port
 unfoldable pub parts_at : Text → Option ℕ → Bool
 parts_at text None = false
 parts_at text (Some place) = nat_lt 0 place && is_port (drop (place + 1) text)

@@ -1,7 +1,7 @@
 -- What contracts see of a listening socket.
 use Rattle.std.specs.Prelude.{ℕ, Bool}
 
--- whether it listens, and the faults of its calls, which are counted together
+-- whether it listens, and the one count of the faults of its calls
 pub record Listening : Type 0 where
   pub listens : Bool
   pub faults : ℕ

@@ -12,7 +12,7 @@ const LAST_PORT: u64 = 65_535;
 /// The most digits that a port has.
 const PORT_DIGITS: usize = 5;
 
-/// Whether the text is a host, a colon and a port from 1 on, of which the first digit is no zero.
+/// Whether the text is a host, a colon and a port from 1 to 65535 without leading zeros.
 pub fn is_address(text: &[u8]) -> bool
     ensures { result ≡ address.is_address text.now }
 {
@@ -36,7 +36,7 @@ fn last_colon(text: &[u8]) -> Option<usize>
     last
 }
 
-/// Whether the digits are a port, of which the first is no zero.
+/// Whether the digits are a port without leading zeros.
 fn is_port(digits: &[u8]) -> bool
     ensures { result ≡ address.is_port digits.now }
 {

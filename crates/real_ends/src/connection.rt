@@ -1,4 +1,4 @@
-//! A socket that was accepted, from its first bytes until it is let go.
+//! An accepted socket, from its first bytes until it is closed.
 
 ghost use Rattle.std.specs.Io.{ReadsAtMost, WritesAtMost};
 
@@ -7,17 +7,17 @@ use std::net::{Shutdown, TcpListener, TcpStream};
 use std::os::fd::OwnedFd;
 use std::time::Duration;
 
-/// How often a socket that is let go is read.
+/// How often a socket is read before it is closed.
 const LOOKS: usize = 64;
 
-/// How many bytes are read at most at a time.
+/// The most bytes of such a read.
 const LOOK_BYTES: usize = 16_384;
 
 /// How many milliseconds such a read waits for a byte.
 const PATIENCE: u64 = 50;
 
-/// A socket that was accepted. The first one has the door, the socket that listens, which it closes once it is read or written: by then
-/// nobody else is to come.
+/// An accepted socket. The first one owns the door, the socket that listens. It closes the door at its first read or write, when all ends
+/// have been accepted.
 pub(crate) struct Connection {
     stream: TcpStream,
     door: Option<TcpListener>,
@@ -43,7 +43,7 @@ impl Connection {
         self.stream.write(from)
     }
 
-    /// Whoever has connected past the last end that was accepted is turned away.
+    /// Turns away whoever has connected after the last accepted end.
     fn close_door(&mut self) {
         if let Some(door) = self.door.take() {
             let _ = TcpStream::from(OwnedFd::from(door)).shutdown(Shutdown::Both);
@@ -51,8 +51,8 @@ impl Connection {
     }
 }
 
-/// Ends the writing side first, and reads what is left, since a socket that is closed with bytes unread throws away what the peer has not
-/// read yet. It reads until the peer has ended too, nothing has come for a while, or so many looks were taken.
+/// Ends the writing side first and then reads the rest, since a socket that is closed with unread bytes discards what the peer has not read
+/// yet. It stops reading at the end of the peer, after a while without a byte, or after `LOOKS` reads.
 impl Drop for Connection {
     fn drop(self) {
         let Connection {
@@ -69,7 +69,7 @@ impl Drop for Connection {
     }
 }
 
-/// Reads what is left, at so many looks at most.
+/// Reads the rest, with at most `LOOKS` reads.
 fn read_rest(stream: &mut TcpStream) {
     let mut bytes = [0; LOOK_BYTES];
     for _ in 0..LOOKS {

@@ -10,14 +10,14 @@ use std::io::{Read, Write};
 use std::marker::Model;
 use std::rt::Files;
 
-/// What is read of the system. Contracts see its count of faults.
+/// A reader of the system with a count of its faults, which contracts see.
 #[derive(Drop)]
-pub struct StdInput<T> {
+pub struct CountedInput<T> {
     inner: T,
     faults: u64,
 }
 
-impl<T> Model for StdInput<T> {
+impl<T> Model for CountedInput<T> {
     ghost use Rattle.std.specs.Prelude.{ℕ};
 
     ghost Value = { ℕ };
@@ -25,15 +25,19 @@ impl<T> Model for StdInput<T> {
     ghost view = { λ s. s.faults };
 }
 
-impl<T> StdInput<T> {
-    pub fn new(inner: T) -> StdInput<T>
+/// The standard input.
+pub type StdInput<T> = CountedInput<T>;
+
+impl<T> CountedInput<T> {
+    /// Wraps the reader. No fault is counted yet.
+    pub fn new(inner: T) -> CountedInput<T>
         ensures { result ≡ 0 }
     {
-        StdInput { inner, faults: 0 }
+        CountedInput { inner, faults: 0 }
     }
 }
 
-impl<T: Read> Source for StdInput<T> {
+impl<T: Read> Source for CountedInput<T> {
     ghost use Rattle.std.specs.Prelude.{None};
 
     ghost left = { λ _. None };
@@ -57,14 +61,14 @@ impl<T: Read> Source for StdInput<T> {
     }
 }
 
-/// What is written to the system. A write that takes nothing is a fault. Contracts see its count of faults.
+/// A writer of the system with a count of its faults, which contracts see. A write that takes nothing is a fault.
 #[derive(Drop)]
-pub struct StdOutput<T> {
+pub struct CountedOutput<T> {
     inner: T,
     faults: u64,
 }
 
-impl<T> Model for StdOutput<T> {
+impl<T> Model for CountedOutput<T> {
     ghost use Rattle.std.specs.Prelude.{ℕ};
 
     ghost Value = { ℕ };
@@ -72,18 +76,22 @@ impl<T> Model for StdOutput<T> {
     ghost view = { λ s. s.faults };
 }
 
-/// What is written to the error stream of the system.
-pub type StdFault<T> = StdOutput<T>;
+/// The standard output.
+pub type StdOutput<T> = CountedOutput<T>;
 
-impl<T> StdOutput<T> {
-    pub fn new(inner: T) -> StdOutput<T>
+/// The error stream.
+pub type StdFault<T> = CountedOutput<T>;
+
+impl<T> CountedOutput<T> {
+    /// Wraps the writer. No fault is counted yet.
+    pub fn new(inner: T) -> CountedOutput<T>
         ensures { result ≡ 0 }
     {
-        StdOutput { inner, faults: 0 }
+        CountedOutput { inner, faults: 0 }
     }
 }
 
-impl<T: Write> Sink for StdOutput<T> {
+impl<T: Write> Sink for CountedOutput<T> {
     ghost use Rattle.std.specs.Prelude.{None};
 
     ghost held = { λ _. None };
@@ -107,7 +115,7 @@ impl<T: Write> Sink for StdOutput<T> {
     }
 }
 
-/// The files of the system. Contracts see the count of faults, which is one for all names.
+/// The files of the system. Contracts see its count of faults, which is one for all names.
 #[derive(Drop)]
 pub struct FileShelf<'a, R: Files> {
     rt: &'a R,
@@ -123,6 +131,7 @@ impl<'a, R: Files> Model for FileShelf<'a, R> {
 }
 
 impl<'a, R: Files> FileShelf<'a, R> {
+    /// The files of the system. No fault is counted yet.
     pub fn new(rt: &'a R) -> FileShelf<'a, R>
         ensures { result ≡ 0 }
     {
@@ -155,7 +164,7 @@ impl<'a, R: Files> Shelf for FileShelf<'a, R> {
         let Ok(file) = fs::open(self.rt, path) else {
             return Err(self.count_fault());
         };
-        match read_all(alloc, &mut StdInput::new(file), limit) {
+        match read_all(alloc, &mut CountedInput::new(file), limit) {
             Err(Taken::Failed) => Err(self.count_fault()),
             taken => taken,
         }

@@ -1,4 +1,4 @@
-//! The real ends: words, files, standard streams and sockets of the system. The streams count their faults, and tell nothing of what
+//! The real ends: words, files, standard streams and sockets of the system. They count their faults. Contracts know nothing of what
 //! they hold.
 #![tactic(auto)]
 
@@ -9,6 +9,6 @@ mod link;
 mod words;
 
 pub use address::is_address;
-pub use ends::{FileShelf, StdFault, StdInput, StdOutput};
+pub use ends::{CountedInput, CountedOutput, FileShelf, StdFault, StdInput, StdOutput};
 pub use link::{TcpEnd, TcpLink};
 pub use words::words_of;

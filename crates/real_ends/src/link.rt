@@ -9,7 +9,7 @@ use fca_io::{Duplex, Failed, Listener, Sink, Source};
 use std::marker::Model;
 use std::net::{Net, OpenListener, TcpListener, TcpStream};
 
-/// A socket that was accepted. It counts its reads, and a write that takes nothing is a fault.
+/// An accepted socket. It counts its reads. A write that takes nothing is a fault.
 #[derive(Drop)]
 pub struct TcpEnd {
     connection: Connection,
@@ -98,6 +98,7 @@ impl<'a, R: Net<Listener = TcpListener, Stream = TcpStream>> Model for TcpLink<'
 }
 
 impl<'a, R: Net<Listener = TcpListener, Stream = TcpStream>> TcpLink<'a, R> {
+    /// A link that does not listen yet.
     pub fn new(rt: &'a R) -> TcpLink<'a, R>
         ensures closed { result.listens ≡ false }
         ensures faultless { result.faults ≡ 0 }

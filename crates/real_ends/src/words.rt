@@ -7,7 +7,7 @@ use fca_model::{Memory, Word};
 use std::alloc::Global;
 use std::env::Args;
 
-/// The words behind the program's name.
+/// The words after the program's name.
 pub fn words_of(alloc: Global, mut arguments: Args) -> Result<Vec<Word>, Memory>
     ensures { IfOk result (λ words. words.items ≡ map string_bytes (drop 1 (into_iter_items arguments))) }
 {

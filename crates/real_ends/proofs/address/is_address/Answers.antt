@@ -10,7 +10,8 @@ returns-then-place-gt0 c =
     let place = c.in-Some.place in
     let some : nat_lt 0 place ≡ true = search rules in
     let all = take_all (length text - (place + 1)) (drop (place + 1) text) (omega (arith, length-drop (place + 1) text)) in
-    c.is_port.ensures ∙ ap is_port all ∙ ap (λ b. b && is_port (drop (place + 1) text)) (sym some) ∙ ap (parts_at text) c.in-Some.ensures.last
+    c.is_port.ensures ∙ ap is_port all ∙ ap (λ b. b && is_port (drop (place + 1) text)) (sym some)
+    ∙ ap (parts_at text) c.in-Some.ensures.last
 
 pub returns-else-place-gt0 : goal.returns-else-place-gt0
 unfolding parts_at
