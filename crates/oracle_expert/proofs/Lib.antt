@@ -3,5 +3,7 @@ pub mod HoldLemmas
 pub mod RunLemmas
 pub mod TurnLemmas
 pub mod CountLemmas
+pub mod IntentLemmas
+pub mod LikeLemmas
 pub mod SameLemmas
 pub mod DrawLemmas

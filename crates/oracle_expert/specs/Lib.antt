@@ -2,4 +2,5 @@ pub mod Answers
 pub mod Oracles
 pub mod Runs
 pub mod Counts
+pub mod Intents
 pub mod Narrow

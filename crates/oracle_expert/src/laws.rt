@@ -1,18 +1,19 @@
 //! Laws of the runs, each the contract of a function that does nothing.
 
-ghost use Rattle.std.specs.Prelude.{◌≡◌, ◌++◌, ◌∷◌, ◌+◌, ◌-◌, ◌*◌, ◌^◌, ◌≤◌, ◌<◌, ℕ, true, [], List, length};
+ghost use Rattle.std.specs.Prelude.{◌≡◌, ◌++◌, ◌∷◌, ◌+◌, ◌-◌, ◌*◌, ◌^◌, ◌≤◌, ◌<◌, ℕ, true, [], List, All, length};
 ghost use Rattle.std.specs.List.{list_all, list_any};
 ghost use Rattle.fca_model.specs.declared.Event.TheVariants.{Draw};
 ghost use Rattle.fca_model.specs.declared.TheConstants.{MAX_EXPERTS, MAX_OBJECTS, MAX_SURVEYED, MAX_TURNS};
 ghost use Rattle.fca_model.specs.Sets.{Set, same};
 ghost use Rattle.fca_model.specs.Context.{Context};
-ghost use Rattle.fca_model.specs.Implications.{holds};
+ghost use Rattle.fca_model.specs.Implications.{Rule, holds};
 ghost use Rattle.fca_model.specs.Pseudo.{basis_known};
 ghost use Rattle.fca_model.specs.Invariant.{SameMembers, rows_respect};
 ghost use Rattle.fca_model.specs.Tables.{NamedContext};
 ghost use Rattle.fca_model.specs.Exploration.{RowName, SetEntry, Settings, opening, open_in, state_after, events_of, is_expert, own, IsLegal};
 ghost use Rattle.oracle_expert.specs.Counts.{recorded_in, dropped};
 ghost use Rattle.oracle_expert.specs.Oracles.{Recall, Answers, Learns, no_conflict};
+ghost use Rattle.oracle_expert.specs.Intents.{HasIntentsOf, are_intents};
 ghost use Rattle.oracle_expert.specs.Runs.{SeatRun, IsOracleFront, IsOracleRun, ends_done, conflicts_of};
 
 /// What an oracle does at a seat is due for an oracle of its table, if no row was dropped before. If it ends with Done, it is a
@@ -95,4 +96,41 @@ pub fn same_table_same_basis()
         → ((e : ℕ) → (tables e).context ≡ C) → ((e : ℕ) → IsOracleFront (tables e) e (own H e))
         → open_in (state_after (opening K names settings) (events_of H)) ≡ []
         → SameMembers (state_after (opening K names settings) (events_of H)).accepted (basis_known settings.known C) }
+{}
+
+/// Experts may be oracles of tables with the intents of one context `C`, in which all holds that is known. If the rows of the opening are such intents
+/// too, and all experts may hold one question, no row is ever dropped. Once no question is open, the basis of the recorded rows beside what is known is
+/// that of `C`, and its members are what was accepted.
+pub fn same_intents_same_basis()
+    ensures dropped { (C K : Context) (names : List RowName) (settings : Settings) (H : List SetEntry) (tables : ℕ → NamedContext)
+        → rows_respect settings.known K ≡ true → settings.holders ≡ MAX_EXPERTS → list_all (holds C) settings.known ≡ true
+        → IsLegal (opening K names settings) H → C.width ≡ K.width
+        → are_intents C K.rows ≡ true → ((e : ℕ) → HasIntentsOf C (tables e).context)
+        → ((e : ℕ) → All (λ row. length row ≡ (tables e).context.width) (tables e).context.rows) → ((e : ℕ) → IsOracleFront (tables e) e (own H e))
+        → (e : ℕ) → conflicts_of (tables e) (own H e) ≡ no_conflict (tables e) }
+    ensures basis { (C K : Context) (names : List RowName) (settings : Settings) (H : List SetEntry) (tables : ℕ → NamedContext)
+        → rows_respect settings.known K ≡ true → settings.holders ≡ MAX_EXPERTS → list_all (holds C) settings.known ≡ true
+        → IsLegal (opening K names settings) H → C.width ≡ K.width
+        → are_intents C K.rows ≡ true → ((e : ℕ) → HasIntentsOf C (tables e).context)
+        → ((e : ℕ) → All (λ row. length row ≡ (tables e).context.width) (tables e).context.rows) → ((e : ℕ) → IsOracleFront (tables e) e (own H e))
+        → open_in (state_after (opening K names settings) (events_of H)) ≡ []
+        → basis_known settings.known (state_after (opening K names settings) (events_of H)).context
+        ≡ basis_known settings.known C }
+    ensures accepted { (C K : Context) (names : List RowName) (settings : Settings) (H : List SetEntry) (tables : ℕ → NamedContext)
+        → rows_respect settings.known K ≡ true → settings.holders ≡ MAX_EXPERTS → list_all (holds C) settings.known ≡ true
+        → IsLegal (opening K names settings) H → C.width ≡ K.width
+        → are_intents C K.rows ≡ true → ((e : ℕ) → HasIntentsOf C (tables e).context)
+        → ((e : ℕ) → All (λ row. length row ≡ (tables e).context.width) (tables e).context.rows) → ((e : ℕ) → IsOracleFront (tables e) e (own H e))
+        → open_in (state_after (opening K names settings) (events_of H)) ≡ []
+        → SameMembers (state_after (opening K names settings) (events_of H)).accepted (basis_known settings.known C) }
+{}
+
+/// Contexts whose rows are intents of one another have the same intents, and so the same basis, whatever the order of the rows is, and whether rows stand
+/// twice or are left out as meets of others. A context has its own intents, and its rows are some of them.
+pub fn rows_decide_intents()
+    ensures one_another { (C D : Context) → D.width ≡ C.width → are_intents C D.rows ≡ true → are_intents D C.rows ≡ true → HasIntentsOf C D }
+    ensures basis { (S : List Rule) (C D : Context) → HasIntentsOf C D → basis_known S D ≡ basis_known S C }
+    ensures itself { (C D : Context) → D ≡ C → HasIntentsOf C D }
+    ensures part { (C : Context) (rows : List Set) → All (λ row. length row ≡ C.width) C.rows
+        → list_all (λ row. list_any (same row) C.rows) rows ≡ true → are_intents C rows ≡ true }
 {}
