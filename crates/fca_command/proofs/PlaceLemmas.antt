@@ -14,5 +14,6 @@ position-here p xs i d inside here none =
 pub position-none : {X : Type 0} (p : X → Bool) (xs : List X) (i : ℕ) (d : X) → length xs ≤ i
     → ((k : ℕ) → k < i → p (get_or xs k d) ≡ false) → position p xs ≡ None
 position-none p xs i d past none =
-    let at : position_or_len p xs ≡ length xs = position_or_len_is p xs (length xs) d (omega arith) (λ k h. none k (omega arith)) (λ h. absurd (omega arith)) in
+    let at : position_or_len p xs ≡ length xs = position_or_len_is p xs (length xs) d (omega arith) (λ k h. none k (omega arith))
+    (λ h. absurd (omega arith)) in
     rw (at, le-ltb (length xs) (length xs) (omega arith)) refl

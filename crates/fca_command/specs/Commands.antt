@@ -1,30 +1,32 @@
 -- The commands, word by word: exactly these lists of words are commands.
-use Rattle.std.specs.Prelude.{◌≡◌, ℕ, ⊤, length, Bool, true, false, cond, Option, Some, None, List, [], ◌∷◌, ◌++◌, option_map, option_and_then, option_to_list, bytes_eq, codes}
+use Rattle.std.specs.Prelude.{◌≡◌, ℕ, ⊤, length, Bool, true, false, cond, Option, Some, None, List, [], ◌∷◌, ◌++◌, option_map}
+use Rattle.std.specs.Prelude.{option_and_then, option_to_list, bytes_eq, codes}
 use Rattle.std.specs.List.{list_all}
 use Rattle.std.specs.Str.{is_utf8}
 use Rattle.fca_model.specs.Tables.{Text}
 use Rattle.fca_model.specs.Exploration.{is_expert}
 use Rattle.fca_model.specs.declared.TheConstants.{MAX_ATTRIBUTES, MAX_SURVEYED}
 use Rattle.context_table.specs.Recipes.{KeepsLimits}
-use Rattle.fca_command.specs.Experts.{experts_said, count_said}
-use Rattle.fca_command.specs.Flags.{known_said, behind_known, names_said, behind_names, serving_said}
-use Rattle.fca_command.specs.Recipes.{recipe_said}
+use Rattle.fca_command.specs.Experts.{experts_of, expert_count}
+use Rattle.fca_command.specs.Flags.{known_file, behind_known, wants_names, behind_names, serving_of}
+use Rattle.fca_command.specs.Recipes.{recipe_of}
 use Rattle.fca_command.specs.declared.command.Form.{Form}
 use Rattle.fca_command.specs.declared.command.Form.TheVariants.{Cxt, Csv}
 use Rattle.fca_command.specs.declared.command.Command.{Command}
-use Rattle.fca_command.specs.declared.command.Command.TheVariants.{Concepts, Lattice, Basis, Direct, Follows, Convert, Reduce, Arrows, Scale, Replay, Explore, Serve, Make, Survey}
+use Rattle.fca_command.specs.declared.command.Command.TheVariants.{Concepts, Lattice, Basis, Direct, Follows, Convert, Reduce, Arrows}
+use Rattle.fca_command.specs.declared.command.Command.TheVariants.{Scale, Replay, Explore, Serve, Make, Survey}
 
--- ---- the words behind a command's file
+-- ---- the words after a command's file
 
 -- no word, or `--json`
-abbrev pub json_said : List Text → Option Bool
-json_said [] = Some false
-json_said (word ∷ []) = cond (bytes_eq word (codes "--json")) (Some true) None
-json_said _ = None
+abbrev pub wants_json : List Text → Option Bool
+wants_json [] = Some false
+wants_json (word ∷ []) = cond (bytes_eq word (codes "--json")) (Some true) None
+wants_json _ = None
 
 -- `concepts F`, `concepts F --json`
 abbrev pub concepts_command : Text → List Text → Option Command
-concepts_command file later = option_map (λ json. Concepts file json) (json_said later)
+concepts_command file later = option_map (λ json. Concepts file json) (wants_json later)
 
 -- `lattice F`
 abbrev pub lattice_command : Text → List Text → Option Command
@@ -33,7 +35,7 @@ lattice_command file _ = None
 
 -- `basis F`, `basis F --json`
 abbrev pub basis_command : Text → List Text → Option Command
-basis_command file later = option_map (λ json. Basis file json) (json_said later)
+basis_command file later = option_map (λ json. Basis file json) (wants_json later)
 
 -- `direct F`
 abbrev pub direct_command : Text → List Text → Option Command
@@ -46,12 +48,12 @@ follows_command file (premise ∷ conclusion ∷ []) = Some (Follows file premis
 follows_command file _ = None
 
 -- the form of a table that a word names
-abbrev pub form_named : Text → Option Form
-form_named word = cond (bytes_eq word (codes "cxt")) (Some Cxt) (cond (bytes_eq word (codes "csv")) (Some Csv) None)
+abbrev pub form_of : Text → Option Form
+form_of word = cond (bytes_eq word (codes "cxt")) (Some Cxt) (cond (bytes_eq word (codes "csv")) (Some Csv) None)
 
 -- `convert F cxt`, `convert F csv`
 abbrev pub convert_command : Text → List Text → Option Command
-convert_command file (word ∷ []) = option_map (λ to. Convert file to) (form_named word)
+convert_command file (word ∷ []) = option_map (λ to. Convert file to) (form_of word)
 convert_command file _ = None
 
 -- `reduce F`
@@ -69,25 +71,25 @@ abbrev pub scale_command : Text → List Text → Option Command
 scale_command values (plan ∷ []) = cond (bytes_eq plan []) None (Some (Scale values plan))
 scale_command values _ = None
 
--- `F`, where this is known and no word is left
+-- the command with this known file, if no word is left
 abbrev pub replay_by : Text → Option Text → List Text → Option Command
 replay_by file known [] = Some (Replay file known)
 replay_by file known _ = None
 
 -- `replay F`, `replay F --known S`
 abbrev pub replay_command : Text → List Text → Option Command
-replay_command file later = replay_by file (known_said later) (behind_known later)
+replay_command file later = replay_by file (known_file later) (behind_known later)
 
 -- `explore F --expert G ..`, with `--known S`, `--names` or both before the experts
 abbrev pub explore_command : Text → List Text → Option Command
 explore_command file later =
-    option_map (λ experts. Explore file (known_said later) (names_said (behind_known later)) experts)
-    (experts_said (behind_names (behind_known later)))
+    option_map (λ experts. Explore file (known_file later) (wants_names (behind_known later)) experts)
+    (experts_of (behind_names (behind_known later)))
 
--- `serve F --experts N --listen A`, with `--known S` before the experts, `--holders H` behind them, or both
+-- `serve F --experts N --listen A`, with `--known S` before the experts, `--holders H` after them, or both
 abbrev pub serve_command : Text → List Text → Option Command
 serve_command file later =
-    option_map (λ s. Serve file (known_said later) s.0 s.1 s.2) (serving_said (behind_known later))
+    option_map (λ s. Serve file (known_file later) s.0 s.1 s.2) (serving_of (behind_known later))
 
 -- ---- all commands
 
@@ -124,17 +126,17 @@ over_file name (file ∷ later) = file_command name file later
 -- `make S O M D`
 abbrev pub make_command : List Text → Option Command
 make_command (seed ∷ objects ∷ attributes ∷ density ∷ []) =
-    option_map (λ r. Make r.seed r.objects r.attributes r.density) (recipe_said MAX_ATTRIBUTES seed objects attributes density)
+    option_map (λ r. Make r.seed r.objects r.attributes r.density) (recipe_of MAX_ATTRIBUTES seed objects attributes density)
 make_command _ = None
 
 -- `survey S O M D E`
 abbrev pub survey_command : List Text → Option Command
 survey_command (seed ∷ objects ∷ attributes ∷ density ∷ experts ∷ []) =
-    option_and_then (λ r. option_map (λ count. Survey r.seed r.objects r.attributes r.density count) (count_said experts))
-    (recipe_said MAX_SURVEYED seed objects attributes density)
+    option_and_then (λ r. option_map (λ count. Survey r.seed r.objects r.attributes r.density count) (expert_count experts))
+    (recipe_of MAX_SURVEYED seed objects attributes density)
 survey_command _ = None
 
--- the command of this name by the words behind it
+-- the command of this name, by the words after it
 abbrev pub named_command : Text → List Text → Option Command
 named_command name later =
     cond (bytes_eq name (codes "make")) (make_command later)
@@ -150,19 +152,19 @@ command_form words = cond (list_all is_utf8 words) (text_command words) None
 
 -- ---- what a command reads
 
--- the file of the table that the command reports on, where it writes a text about one table and does nothing else
-abbrev pub reported : Command → Option Text
-reported (Concepts file json) = Some file
-reported (Lattice file) = Some file
-reported (Basis file json) = Some file
-reported (Direct file) = Some file
-reported (Follows file premise conclusion) = Some file
-reported (Convert file to) = Some file
-reported (Reduce file) = Some file
-reported (Arrows file) = Some file
-reported _ = None
+-- the file of the table that the command reports on, if it writes a text about one table and does nothing else
+abbrev pub report_file : Command → Option Text
+report_file (Concepts file json) = Some file
+report_file (Lattice file) = Some file
+report_file (Basis file json) = Some file
+report_file (Direct file) = Some file
+report_file (Follows file premise conclusion) = Some file
+report_file (Convert file to) = Some file
+report_file (Reduce file) = Some file
+report_file (Arrows file) = Some file
+report_file _ = None
 
--- the files that a command reads, in their order, where it reports on this one or on none
+-- the files that a command reads, in their order, by the file that it reports on, if there is one
 abbrev pub files_by : Option Text → Command → List Text
 files_by (Some file) command = file ∷ []
 files_by None (Scale values plan) = values ∷ plan ∷ []
@@ -173,25 +175,25 @@ files_by None _ = []
 
 -- the files that the command reads, in their order
 abbrev pub files_of : Command → List Text
-files_of command = files_by (reported command) command
+files_of command = files_by (report_file command) command
 
--- the name of the first of these files, or none
-abbrev pub first_of : List Text → Text
-first_of [] = []
-first_of (file ∷ later) = file
+-- the name of the first of the files, or an empty name
+abbrev pub first_file_of : List Text → Text
+first_file_of [] = []
+first_file_of (file ∷ later) = file
 
--- the file of what is known, if the command reads one
-abbrev pub known_of : Command → Option Text
-known_of (Replay file known) = known
-known_of (Explore file known names experts) = known
-known_of (Serve file known experts holders listen) = known
-known_of _ = None
+-- the known file, if the command reads one
+abbrev pub known_file_of : Command → Option Text
+known_file_of (Replay file known) = known
+known_file_of (Explore file known names experts) = known
+known_file_of (Serve file known experts holders listen) = known
+known_file_of _ = None
 
--- the files that it reads besides these, in their order
-abbrev pub later_of : Command → List Text
-later_of (Scale values plan) = plan ∷ []
-later_of (Explore file known names experts) = experts
-later_of _ = []
+-- the files that the command reads after its first and its known file, in their order
+abbrev pub later_files_of : Command → List Text
+later_files_of (Scale values plan) = plan ∷ []
+later_files_of (Explore file known names experts) = experts
+later_files_of _ = []
 
 -- whether the command reads the input
 abbrev pub reads_input : Command → Bool
@@ -216,7 +218,7 @@ is_plain (Serve file known experts holders listen) = false
 is_plain (Survey seed objects attributes density experts) = false
 is_plain _ = true
 
--- the limits of what the words of a command say: 1 to 64 experts and holders, and those of a table that is made
+-- the limits of a command's values: 1 to 64 experts and holders, and those of a recipe
 abbrev pub IsWithinLimits : Command → Type 0
 IsWithinLimits (Explore file known names experts) = is_expert (length experts) ≡ true
 IsWithinLimits (Serve file known experts holders listen) = (is_expert experts ≡ true) × (is_expert holders ≡ true)

@@ -2,16 +2,16 @@
 
 ghost use Rattle.std.specs.Prelude.{◌≡◌, ◌∷◌, length, position, bytes_eq, option_copied, IfSome};
 ghost use Rattle.std.specs.List.{slice_split};
-ghost use Rattle.fca_command.specs.Attributes.{is_comma, attributes_said, later_parts};
+ghost use Rattle.fca_command.specs.Attributes.{is_comma, attribute_set, later_parts};
 
 use attr_bits::Attrs;
 use context_table::Table;
 use text_pieces::{is_blank_line, trim};
 
-/// The attributes of the table that the word names, parted by commas: a blank word names none, and a name that no attribute has
-/// makes the whole word one that names nothing.
-pub fn attributes_said(table: &Table, word: &[u8]) -> Option<Attrs>
-    ensures said { result ≡ attributes_said table.now.attributes word.now }
+/// The set of attributes that the word names, separated by commas. A blank word names the empty set. The result is `None` if some name is
+/// no attribute's.
+pub fn attribute_set(table: &Table, word: &[u8]) -> Option<Attrs>
+    ensures said { result ≡ attribute_set table.now.attributes word.now }
     ensures wide { IfSome result (λ set. length set ≡ table.now.context.width) }
 {
     let mut said = Attrs::empty(table.rows().width());
@@ -29,7 +29,7 @@ pub fn attributes_said(table: &Table, word: &[u8]) -> Option<Attrs>
     Some(said)
 }
 
-/// What stands before the first comma, and what stands behind it if there is one.
+/// The text before the first comma, and the text after it if there is one.
 fn split_item(text: &[u8]) -> (&[u8], Option<&[u8]>)
     ensures { slice_split is_comma text.now ≡ result.0.now ∷ later_parts (option_copied result.1) }
 {
@@ -45,7 +45,7 @@ fn first_comma(text: &[u8]) -> Option<usize>
     text.iter().position(|byte| *byte == b',')
 }
 
-/// The place of the attribute of this name.
+/// The place of the attribute with this name.
 fn place_of(table: &Table, name: &[u8]) -> Option<u32>
     ensures { result ≡ position (bytes_eq name.now) table.now.attributes }
 {

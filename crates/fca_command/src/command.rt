@@ -1,16 +1,19 @@
-//! What the words of the command line ask for.
+//! The command that the words of the command line are.
 
 ghost use Rattle.std.specs.Prelude.{◌≡◌, IfOk, IfSome, option_copied};
 ghost use Rattle.std.specs.List.{list_all};
 ghost use Rattle.std.specs.Str.{is_utf8};
-ghost use Rattle.fca_command.specs.Commands.{command_form, text_command, named_command, over_file, file_command, table_command, course_command};
-ghost use Rattle.fca_command.specs.Commands.{concepts_command, lattice_command, basis_command, direct_command, follows_command, json_said};
-ghost use Rattle.fca_command.specs.Commands.{convert_command, form_named, reduce_command, arrows_command, scale_command, make_command, survey_command};
-ghost use Rattle.fca_command.specs.Commands.{replay_command, explore_command, serve_command, reported, files_of, first_of, IsWithinLimits};
+ghost use Rattle.fca_command.specs.Commands.{command_form, text_command, named_command, over_file, file_command, table_command};
+ghost use Rattle.fca_command.specs.Commands.{course_command};
+ghost use Rattle.fca_command.specs.Commands.{concepts_command, lattice_command, basis_command, direct_command, follows_command, wants_json};
+ghost use Rattle.fca_command.specs.Commands.{convert_command, form_of, reduce_command, arrows_command, scale_command, make_command};
+ghost use Rattle.fca_command.specs.Commands.{survey_command};
+ghost use Rattle.fca_command.specs.Commands.{replay_command, explore_command, serve_command, report_file, files_of, first_file_of};
+ghost use Rattle.fca_command.specs.Commands.{is_plain, IsWithinLimits};
 
-use crate::experts::{count_said, experts_said};
-use crate::flags::{copied, serving_said, split_known, split_names};
-use crate::recipe::recipe_said;
+use crate::experts::{expert_count, experts_of};
+use crate::flags::{copy_word, serving_of, split_known, split_names};
+use crate::recipe::recipe_of;
 use crate::words::Words;
 use fca_model::{MAX_ATTRIBUTES, MAX_SURVEYED, Memory, Word};
 use std::alloc::Global;
@@ -22,7 +25,7 @@ pub enum Form {
     Csv,
 }
 
-/// A command, with what its words name.
+/// A command, with the values that its words give.
 #[derive(Drop)]
 pub enum Command {
     Concepts {
@@ -91,9 +94,9 @@ pub enum Command {
 }
 
 impl Command {
-    /// The file of the table that the command reports on, where it writes a text about one table and does nothing else.
-    pub fn reported(&self) -> Option<&Word>
-        ensures { option_copied result ≡ reported self.now }
+    /// The file of the table that the command reports on, if it writes a text about one table and does nothing else.
+    pub fn report_file(&self) -> Option<&Word>
+        ensures { option_copied result ≡ report_file self.now }
     {
         match self {
             Command::Concepts { file, .. }
@@ -108,9 +111,19 @@ impl Command {
         }
     }
 
-    /// The name of the file that is read first, or no byte where none is.
+    /// Whether the command waits for nobody.
+    pub fn is_plain(&self) -> bool
+        ensures { result ≡ is_plain self.now }
+    {
+        match self {
+            Command::Explore { .. } | Command::Serve { .. } | Command::Survey { .. } => false,
+            _ => true,
+        }
+    }
+
+    /// The name of the file that the command reads first, or an empty name if it reads none.
     pub fn first_file(&self) -> &[u8]
-        ensures { result.now ≡ first_of (files_of self.now) }
+        ensures { result.now ≡ first_file_of (files_of self.now) }
     {
         match self {
             Command::Concepts { file, .. }
@@ -153,7 +166,7 @@ fn is_text(word: &Word) -> bool
     str::from_utf8(word.bytes()).is_ok()
 }
 
-/// The command that words of text are, if they are one.
+/// The command that the words are, if they are one. Each word is text.
 fn text_command(alloc: Global, words: &[Word]) -> Result<Option<Command>, Memory>
     ensures command { IfOk result (λ command. command ≡ text_command words.now) }
     ensures limits { IfOk result (λ command. IfSome command IsWithinLimits) }
@@ -164,7 +177,7 @@ fn text_command(alloc: Global, words: &[Word]) -> Result<Option<Command>, Memory
     }
 }
 
-/// The command of this name, by the words behind it.
+/// The command of this name, by the words after it.
 fn named_command(alloc: Global, name: &[u8], later: &[Word]) -> Result<Option<Command>, Memory>
     ensures command { IfOk result (λ command. command ≡ named_command name.now later.now) }
     ensures limits { IfOk result (λ command. IfSome command IsWithinLimits) }
@@ -185,7 +198,7 @@ fn make_command(later: &[Word]) -> Option<Command>
     let [seed, objects, attributes, density] = later else {
         return None;
     };
-    let recipe = recipe_said(MAX_ATTRIBUTES, seed, objects, attributes, density)?;
+    let recipe = recipe_of(MAX_ATTRIBUTES, seed, objects, attributes, density)?;
     Some(Command::Make {
         seed: recipe.seed,
         objects: recipe.objects,
@@ -201,8 +214,8 @@ fn survey_command(later: &[Word]) -> Option<Command>
     let [seed, objects, attributes, density, experts] = later else {
         return None;
     };
-    let recipe = recipe_said(MAX_SURVEYED, seed, objects, attributes, density)?;
-    let experts = count_said(experts.bytes())?;
+    let recipe = recipe_of(MAX_SURVEYED, seed, objects, attributes, density)?;
+    let experts = expert_count(experts.bytes())?;
     Some(Command::Survey {
         seed: recipe.seed,
         objects: recipe.objects,
@@ -223,7 +236,7 @@ fn over_file(alloc: Global, name: &[u8], words: &[Word]) -> Result<Option<Comman
     }
 }
 
-/// The command of this name over the file, by the words behind it.
+/// The command of this name over the file, by the words after it.
 fn file_command(
     alloc: Global,
     name: &[u8],
@@ -300,7 +313,7 @@ fn concepts_command(file: Word, later: &[Word]) -> Option<Command>
     ensures command { result ≡ concepts_command file later.now }
     ensures limits { IfSome result IsWithinLimits }
 {
-    let json = json_said(later)?;
+    let json = wants_json(later)?;
     Some(Command::Concepts { file, json })
 }
 
@@ -318,13 +331,13 @@ fn basis_command(file: Word, later: &[Word]) -> Option<Command>
     ensures command { result ≡ basis_command file later.now }
     ensures limits { IfSome result IsWithinLimits }
 {
-    let json = json_said(later)?;
+    let json = wants_json(later)?;
     Some(Command::Basis { file, json })
 }
 
-/// Whether the words ask for JSON: one word does, and no word does not.
-fn json_said(words: &[Word]) -> Option<bool>
-    ensures { result ≡ json_said words.now }
+/// Whether the words ask for JSON. No word says no, `--json` says yes, and other words are refused.
+fn wants_json(words: &[Word]) -> Option<bool>
+    ensures { result ≡ wants_json words.now }
 {
     match words {
         [] => Some(false),
@@ -366,13 +379,13 @@ fn convert_command(file: Word, later: &[Word]) -> Option<Command>
     let [word] = later else {
         return None;
     };
-    let to = form_named(word.bytes())?;
+    let to = form_of(word.bytes())?;
     Some(Command::Convert { file, to })
 }
 
 /// The form that the word names.
-fn form_named(word: &[u8]) -> Option<Form>
-    ensures { result ≡ form_named word.now }
+fn form_of(word: &[u8]) -> Option<Form>
+    ensures { result ≡ form_of word.now }
 {
     if word == b"cxt".as_slice() {
         Some(Form::Cxt)
@@ -425,7 +438,7 @@ fn replay_command(alloc: Global, file: Word, later: &[Word]) -> Result<Option<Co
     if !rest.is_empty() {
         return Ok(None);
     }
-    let known = copied(alloc, known)?;
+    let known = copy_word(alloc, known)?;
     Ok(Some(Command::Replay { file, known }))
 }
 
@@ -435,10 +448,10 @@ fn explore_command(alloc: Global, file: Word, later: &[Word]) -> Result<Option<C
 {
     let (known, rest) = split_known(later);
     let (names, rest) = split_names(rest);
-    let Some(experts) = experts_said(alloc, rest)? else {
+    let Some(experts) = experts_of(alloc, rest)? else {
         return Ok(None);
     };
-    let known = copied(alloc, known)?;
+    let known = copy_word(alloc, known)?;
     Ok(Some(Command::Explore {
         file,
         known,
@@ -452,10 +465,10 @@ fn serve_command(alloc: Global, file: Word, later: &[Word]) -> Result<Option<Com
     ensures limits { IfOk result (λ command. IfSome command IsWithinLimits) }
 {
     let (known, rest) = split_known(later);
-    let Some((experts, holders, address)) = serving_said(rest) else {
+    let Some((experts, holders, address)) = serving_of(rest) else {
         return Ok(None);
     };
-    let known = copied(alloc, known)?;
+    let known = copy_word(alloc, known)?;
     let listen = Word::new(alloc, address.bytes())?;
     Ok(Some(Command::Serve {
         file,

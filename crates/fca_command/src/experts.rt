@@ -1,17 +1,17 @@
-//! The experts that words name: their files, or how many there are.
+//! The experts that words name: by their files, or by their number.
 
 ghost use Rattle.std.specs.Prelude.{◌≡◌, true, length, IfOk, IfSome, option_map};
 ghost use Rattle.fca_model.specs.Exploration.{is_expert};
-ghost use Rattle.fca_command.specs.Experts.{names_expert, expert_files, experts_said, count_said};
+ghost use Rattle.fca_command.specs.Experts.{has_expert_file, expert_files, experts_of, expert_count};
 
-use crate::numbers::number_said;
+use crate::numbers::number_of;
 use crate::words::Words;
 use fca_model::{MAX_EXPERTS, Memory, Word};
 use std::alloc::Global;
 
-/// The files of one expert or more, each behind its flag.
-pub fn experts_said(alloc: Global, words: &[Word]) -> Result<Option<Words>, Memory>
-    ensures experts { IfOk result (λ experts. experts ≡ experts_said words.now) }
+/// The files of 1 to 64 experts, each after its flag.
+pub fn experts_of(alloc: Global, words: &[Word]) -> Result<Option<Words>, Memory>
+    ensures experts { IfOk result (λ experts. experts ≡ experts_of words.now) }
     ensures count { IfOk result (λ experts. IfSome experts (λ files. is_expert (length files) ≡ true)) }
 {
     match expert_files(alloc, words)? {
@@ -22,14 +22,14 @@ pub fn experts_said(alloc: Global, words: &[Word]) -> Result<Option<Words>, Memo
     }
 }
 
-/// The files that stand each behind its flag.
+/// The files, each after its flag.
 fn expert_files(alloc: Global, words: &[Word]) -> Result<Option<Vec<Word>>, Memory>
     ensures { IfOk result (λ files. option_map (λ f. f.items) files ≡ expert_files words.now) }
 {
     let mut files = Vec::new(alloc);
     let mut rest = words;
     while let [flag, file, later @ ..] = rest {
-        if !names_expert(flag, file) {
+        if !has_expert_file(flag, file) {
             return Ok(None);
         }
         files.push(Word::new(alloc, file.bytes())?)?;
@@ -38,19 +38,19 @@ fn expert_files(alloc: Global, words: &[Word]) -> Result<Option<Vec<Word>>, Memo
     Ok(rest.is_empty().then_some(files))
 }
 
-/// Whether the first word is the flag of an expert and the second the name of a file.
-fn names_expert(flag: &Word, file: &Word) -> bool
-    ensures { result ≡ names_expert flag.now file.now }
+/// Whether the words are the flag of an expert and the name of a file.
+fn has_expert_file(flag: &Word, file: &Word) -> bool
+    ensures { result ≡ has_expert_file flag.now file.now }
 {
     flag.bytes() == b"--expert".as_slice() && !file.bytes().is_empty()
 }
 
-/// The number of experts that the word says.
-pub fn count_said(word: &[u8]) -> Option<u8>
-    ensures count { result ≡ count_said word.now }
+/// The number of experts that the word says, from 1 to 64.
+pub fn expert_count(word: &[u8]) -> Option<u8>
+    ensures count { result ≡ expert_count word.now }
     ensures expert { IfSome result (λ count. is_expert count ≡ true) }
 {
-    match number_said(u64::from(MAX_EXPERTS), word) {
+    match number_of(u64::from(MAX_EXPERTS), word) {
         Some(count) if count >= 1 => Some(count as u8),
         _ => None,
     }

@@ -1,33 +1,34 @@
-//! The flags of explorations: a file of what is known, names of experts, how many may hold one question, and where to listen.
+//! The flags of explorations: a known file, names of experts, how many may hold one question, and where to listen.
 
 ghost use Rattle.std.specs.Prelude.{◌≡◌, true, IfOk, IfSome, option_copied, option_map, option_and_then, bytes_eq, codes};
 ghost use Rattle.fca_model.specs.Exploration.{is_expert};
-ghost use Rattle.fca_command.specs.Flags.{names_known, known_said, behind_known, names_said, behind_names, holders_said, behind_holders, address_said, serving_counted, serving_said};
+ghost use Rattle.fca_command.specs.Flags.{has_known_file, known_file, behind_known, wants_names, behind_names, holder_count};
+ghost use Rattle.fca_command.specs.Flags.{behind_holders, address_of, serving_for, serving_of};
 
-use crate::experts::count_said;
+use crate::experts::expert_count;
 use fca_model::{MAX_EXPERTS, Memory, Word};
 use std::alloc::Global;
 
-/// The file of what is known, where the words begin with one, and the words behind it.
+/// The known file, if the words begin with its flag, and the words after it.
 pub(crate) fn split_known(words: &[Word]) -> (Option<&Word>, &[Word])
-    ensures known { option_copied result.0 ≡ known_said words.now }
+    ensures known { option_copied result.0 ≡ known_file words.now }
     ensures behind { result.1.now ≡ behind_known words.now }
 {
     match words {
-        [flag, file, later @ ..] if names_known(flag, file) => (Some(file), later),
+        [flag, file, later @ ..] if has_known_file(flag, file) => (Some(file), later),
         _ => (None, words),
     }
 }
 
-/// Whether the first word is the flag of a file of what is known and the second the name of a file.
-fn names_known(flag: &Word, file: &Word) -> bool
-    ensures { result ≡ names_known flag.now file.now }
+/// Whether the words are the flag of a known file and the name of a file.
+fn has_known_file(flag: &Word, file: &Word) -> bool
+    ensures { result ≡ has_known_file flag.now file.now }
 {
     flag.bytes() == b"--known".as_slice() && !file.bytes().is_empty()
 }
 
-/// The word of its own, where there is one.
-pub(crate) fn copied(alloc: Global, word: Option<&Word>) -> Result<Option<Word>, Memory>
+/// A copy of the word, if there is one.
+pub(crate) fn copy_word(alloc: Global, word: Option<&Word>) -> Result<Option<Word>, Memory>
     ensures { IfOk result (λ copy. copy ≡ option_copied word.entry) }
 {
     match word {
@@ -36,9 +37,9 @@ pub(crate) fn copied(alloc: Global, word: Option<&Word>) -> Result<Option<Word>,
     }
 }
 
-/// Whether the words begin with the flag of names, and the words behind it.
+/// Whether the words begin with the flag of names, and the words after it.
 pub(crate) fn split_names(words: &[Word]) -> (bool, &[Word])
-    ensures names { result.0 ≡ names_said words.now }
+    ensures names { result.0 ≡ wants_names words.now }
     ensures behind { result.1.now ≡ behind_names words.now }
 {
     match words {
@@ -53,14 +54,14 @@ fn is_names(flag: &Word) -> bool
     flag.bytes() == b"--names".as_slice()
 }
 
-/// How many experts may hold one question, where the words begin with the flag of it or not, and the words behind.
+/// How many experts may hold one question, and the words after that flag. Without the flag all experts may.
 fn split_holders(words: &[Word]) -> (Option<u8>, &[Word])
-    ensures holders { result.0 ≡ holders_said words.now }
+    ensures holders { result.0 ≡ holder_count words.now }
     ensures limits { IfSome result.0 (λ holders. is_expert holders ≡ true) }
     ensures behind { result.1.now ≡ behind_holders words.now }
 {
     match words {
-        [flag, count, later @ ..] if is_holders(flag) => (count_said(count.bytes()), later),
+        [flag, count, later @ ..] if is_holders(flag) => (expert_count(count.bytes()), later),
         _ => (Some(MAX_EXPERTS), words),
     }
 }
@@ -71,9 +72,9 @@ fn is_holders(flag: &Word) -> bool
     flag.bytes() == b"--holders".as_slice()
 }
 
-/// The address at which to listen, behind its flag and with nothing behind it.
-fn address_said(words: &[Word]) -> Option<&Word>
-    ensures { option_copied result ≡ address_said words.now }
+/// The address at which to listen, if the words are its flag and the address.
+fn address_of(words: &[Word]) -> Option<&Word>
+    ensures { option_copied result ≡ address_of words.now }
 {
     match words {
         [flag, address] if flag.bytes() == b"--listen".as_slice() && !address.bytes().is_empty() =>
@@ -82,15 +83,15 @@ fn address_said(words: &[Word]) -> Option<&Word>
     }
 }
 
-/// How many experts there are, how many of them may hold one question, and where to listen, where the words say just this.
-pub(crate) fn serving_said(words: &[Word]) -> Option<(u8, u8, &Word)>
-    ensures serving { option_map (λ s. (s.0, s.1, s.2.now)) result ≡ serving_said words.now }
+/// The number of experts, how many of them may hold one question, and where to listen, if the words say exactly this.
+pub(crate) fn serving_of(words: &[Word]) -> Option<(u8, u8, &Word)>
+    ensures serving { option_map (λ s. (s.0, s.1, s.2.now)) result ≡ serving_of words.now }
     ensures experts { IfSome result (λ s. is_expert s.0 ≡ true) }
     ensures holders { IfSome result (λ s. is_expert s.1 ≡ true) }
 {
     match words {
         [flag, experts, later @ ..] if is_experts(flag) => {
-            serving_counted(later, count_said(experts.bytes()))
+            serving_for(later, expert_count(experts.bytes()))
         }
         _ => None,
     }
@@ -102,13 +103,13 @@ fn is_experts(flag: &Word) -> bool
     flag.bytes() == b"--experts".as_slice()
 }
 
-/// The same by the words behind the number of experts, where there is one.
-fn serving_counted(later: &[Word], experts: Option<u8>) -> Option<(u8, u8, &Word)>
+/// The same three values, if there is a number of experts, by the words after it.
+fn serving_for(later: &[Word], experts: Option<u8>) -> Option<(u8, u8, &Word)>
     requires { IfSome experts (λ count. is_expert count ≡ true) }
-    ensures serving { option_map (λ s. (s.0, s.1, s.2.now)) result ≡ option_and_then (serving_counted later.now) experts }
+    ensures serving { option_map (λ s. (s.0, s.1, s.2.now)) result ≡ option_and_then (serving_for later.now) experts }
     ensures experts { IfSome result (λ s. is_expert s.0 ≡ true) }
     ensures holders { IfSome result (λ s. is_expert s.1 ≡ true) }
 {
     let (holders, rest) = split_holders(later);
-    Some((experts?, holders?, address_said(rest)?))
+    Some((experts?, holders?, address_of(rest)?))
 }

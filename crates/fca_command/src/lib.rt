@@ -1,4 +1,4 @@
-//! The words of the command line: the command that they are, and the attributes that a word names.
+//! The words of the command line: which command they are, and which attributes a word names.
 #![tactic(auto)]
 
 mod attributes;
@@ -9,7 +9,7 @@ mod numbers;
 mod recipe;
 mod words;
 
-pub use attributes::attributes_said;
+pub use attributes::attribute_set;
 pub use command::{Command, Form, command_of};
 pub use context_table::Recipe;
 pub use words::Words;

@@ -20,7 +20,7 @@ impl Model for Words {
 }
 
 impl Words {
-    /// The list of these words.
+    /// Makes the list of these words.
     pub fn new(words: Vec<Word>) -> Words
         ensures { result ≡ words.items }
     {
@@ -34,7 +34,7 @@ impl Words {
         &self.words
     }
 
-    /// The words, given back.
+    /// Gives the words back.
     pub fn into_vec(self) -> Vec<Word>
         ensures { result.items ≡ self }
     {

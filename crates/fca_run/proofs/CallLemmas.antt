@@ -8,7 +8,7 @@ use Rattle.fca_model.specs.Implications.{Rule}
 use Rattle.fca_io.specs.Faults.{Rose}
 use Rattle.fca_io.specs.Links.{Ends, MayListenAt}
 use Rattle.fca_io.specs.Shelves.{Told}
-use Rattle.fca_command.specs.Commands.{reported, files_of, first_of, reads_input, may_end_open, is_plain}
+use Rattle.fca_command.specs.Commands.{report_file, files_of, first_file_of, reads_input, may_end_open, is_plain}
 use Rattle.fca_command.specs.declared.command.Command.{Command}
 use Rattle.fca_command.specs.declared.command.Command.TheVariants.{Concepts, Lattice, Basis, Direct, Follows, Convert, Reduce, Arrows, Scale, Replay, Explore, Serve, Make, Survey}
 use Rattle.context_table.specs.declared.recipe.Recipe.{Recipe}
@@ -382,15 +382,15 @@ module _ {K F : Type 0} (out out' : Moment K) (err err' : Moment F) (result : �
 
 -- ---- commands that report on the table in a file do not explore, and do not read the input
 
-pub course-reported : (command : Command) (files : Text → Told) (input : Option Text) (file text : Text) → reported command ≡ Some file → HasCourse command files input text
-course-reported (Replay f known) files input file text e = cc
-course-reported (Explore f known names experts) files input file text e = cc
-course-reported (Serve f known experts holders listen) files input file text e = cc
-course-reported _ files input file text e = tt
+pub course-report_file : (command : Command) (files : Text → Told) (input : Option Text) (file text : Text) → report_file command ≡ Some file → HasCourse command files input text
+course-report_file (Replay f known) files input file text e = cc
+course-report_file (Explore f known names experts) files input file text e = cc
+course-report_file (Serve f known experts holders listen) files input file text e = cc
+course-report_file _ files input file text e = tt
 
-pub reads_input-reported : (command : Command) (file : Text) → reported command ≡ Some file → reads_input command ≡ false
-reads_input-reported (Replay f known) file e = cc
-reads_input-reported _ file e = refl
+pub reads_input-report_file : (command : Command) (file : Text) → report_file command ≡ Some file → reads_input command ≡ false
+reads_input-report_file (Replay f known) file e = cc
+reads_input-report_file _ file e = refl
 
 -- ---- the file at fault
 
@@ -409,7 +409,7 @@ reads_more (Serve file known experts holders listen) = true
 reads_more _ = false
 
 -- where it reads no other, the file at fault is its first
-pub fault_file-one : (command : Command) → reads_more command ≡ false → (stop : Stop) → fault_file (Some command) stop ≡ first_of (files_of command)
+pub fault_file-one : (command : Command) → reads_more command ≡ false → (stop : Stop) → fault_file (Some command) stop ≡ first_file_of (files_of command)
 fault_file-one (Scale values plan) one stop = cc
 fault_file-one (Replay file known) one stop = cc
 fault_file-one (Explore file known names experts) one stop = cc

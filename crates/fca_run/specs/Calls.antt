@@ -6,7 +6,7 @@ use Rattle.fca_model.specs.Tables.{Text}
 use Rattle.fca_io.specs.Faults.{Rose}
 use Rattle.fca_io.specs.Links.{Ends, MayListenAt}
 use Rattle.fca_io.specs.Shelves.{Told}
-use Rattle.fca_command.specs.Commands.{reported, files_of, reads_input, uses_link, may_end_open}
+use Rattle.fca_command.specs.Commands.{report_file, files_of, reads_input, uses_link, may_end_open}
 use Rattle.fca_command.specs.declared.command.Command.{Command}
 use Rattle.fca_command.specs.declared.command.Command.TheVariants.{Scale, Replay, Explore, Serve}
 use Rattle.command_io.specs.Readings.{Reading, then, MayRead, MayRefuse, Rises, SomeRose}
@@ -158,7 +158,7 @@ module _ {H S L E : Type 0} where
 
   -- the stop of the command, in the order of causes: what is read later is at fault only where all before it was read
   abbrev pub IsCommandStop : Command → Outside H S L E → Outside H S L E → Stop → Type 0
-  IsCommandStop command old new stop = IsStopBy (reported command) command old new stop
+  IsCommandStop command old new stop = IsStopBy (report_file command) command old new stop
 
   -- an answer of the command, by what the shelf, the input and the ends of the link tell
   abbrev pub MayAnswer : Sides E → Command → Outside H S L E → Outside H S L E → Output → Type 0

@@ -3,7 +3,7 @@ use Rattle.std.specs.Prelude.{◌≡◌, ◌⊎◌, ℕ, Option, None, Some, []}
 use Rattle.fca_model.specs.Tables.{Text, NamedContext}
 use Rattle.fca_io.specs.Shelves.{Told}
 use Rattle.value_tables.specs.Values.{ValueTable}
-use Rattle.fca_command.specs.Commands.{files_of, first_of, known_of, later_of}
+use Rattle.fca_command.specs.Commands.{files_of, first_file_of, known_file_of, later_files_of}
 use Rattle.fca_command.specs.declared.command.Command.{Command}
 use Rattle.command_io.specs.Readings.{MayRead}
 use Rattle.command_io.specs.Readings.Reading.{Refused}
@@ -29,4 +29,4 @@ IsReportStop command file told rose stop = IsFileStop file told rose File stop
 -- the name of the file at fault where the command stops, or none where there is no command
 abbrev pub fault_file : Option Command → Stop → Text
 fault_file None stop = []
-fault_file (Some command) stop = file_at_fault (first_of (files_of command)) (known_of command) (later_of command) stop
+fault_file (Some command) stop = file_at_fault (first_file_of (files_of command)) (known_file_of command) (later_files_of command) stop

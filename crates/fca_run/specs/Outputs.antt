@@ -3,7 +3,7 @@ use Rattle.std.specs.Prelude.{Option, Some, None}
 use Rattle.fca_model.specs.Tables.{Text}
 use Rattle.fca_io.specs.Shelves.{Told}
 use Rattle.context_scaling.specs.Scaling.{scaled}
-use Rattle.fca_command.specs.Commands.{reported}
+use Rattle.fca_command.specs.Commands.{report_file}
 use Rattle.context_table.specs.Recipes.{recipe_table}
 use Rattle.context_table.specs.declared.recipe.Recipe.{Recipe}
 use Rattle.fca_command.specs.declared.command.Command.{Command}
@@ -54,4 +54,4 @@ output_by None command files input = other_output command files input
 
 -- what the command writes, where the files and the input hold this
 abbrev pub output : Command → (Text → Told) → Option Text → Reading Output
-output command files input = output_by (reported command) command files input
+output command files input = output_by (report_file command) command files input

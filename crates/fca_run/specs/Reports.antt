@@ -14,7 +14,7 @@ use Rattle.csv_context.specs.Written.{csv_text}
 use Rattle.json_reports.specs.Json.{concepts_json, basis_json}
 use Rattle.report_texts.specs.Reports.{concepts_text, lattice_text, basis_text, direct_text}
 use Rattle.basis_report.specs.Verdicts.{follows_text}
-use Rattle.fca_command.specs.Attributes.{attributes_said}
+use Rattle.fca_command.specs.Attributes.{attribute_set}
 use Rattle.fca_command.specs.declared.command.Command.{Command}
 use Rattle.fca_command.specs.declared.command.Command.TheVariants.{Concepts, Lattice, Basis, Direct, Follows, Convert, Reduce, Arrows}
 use Rattle.fca_command.specs.declared.command.Form.{Form}
@@ -45,7 +45,7 @@ table_verdict P C table = follows_text table (basis table.context) P C
 
 -- the attributes of the table that a word names
 abbrev pub attributes_read : NamedContext → Text → Reading Set
-attributes_read table word = known (attributes_said table.attributes word)
+attributes_read table word = known (attribute_set table.attributes word)
 
 -- whether the implication between the attributes that two words name holds
 abbrev pub verdict_read : Text → Text → NamedContext → Reading Text

@@ -2,7 +2,7 @@
 
 ghost use Rattle.std.specs.Prelude.{◌≡◌, true, false, None, Some, IfOk, IfErr, OnOk};
 ghost use Rattle.std.specs.Io.KnownBytes.{IsAtEnd};
-ghost use Rattle.fca_command.specs.Commands.{command_form, reported, reads_input, is_plain, IsWithinLimits};
+ghost use Rattle.fca_command.specs.Commands.{command_form, report_file, reads_input, is_plain, IsWithinLimits};
 ghost use Rattle.command_io.specs.Readings.{MayRead, MayRefuse};
 ghost use Rattle.command_io.specs.Endings.{IsRefusal, IsOfFile};
 ghost use Rattle.command_io.specs.Streams.{moment, HasConcluded};
@@ -210,7 +210,7 @@ fn plain_answer<R: Threads + Sync, H: Shelf, S: Source>(
     ensures input_kept { reads_input command.now ≡ false → input.new ≡ input.old }
     ensures unread { IfErr result (λ stop. IsOfFile stop → input.new ≡ input.old) }
 {
-    match command.reported() {
+    match command.report_file() {
         Some(file) => report_answer(rt, alloc, command, shelf, file),
         None => other_answer(alloc, command, shelf, input),
     }
@@ -225,7 +225,7 @@ fn other_answer<H: Shelf, S: Source>(
 ) -> Result<Answer, Stop>
     requires plain { is_plain command.now ≡ true }
     requires limits { IsWithinLimits command.now }
-    requires other { reported command.now ≡ None }
+    requires other { report_file command.now ≡ None }
     ensures output { IfOk result (λ answer. MayRead (other_output command.now (H.tells shelf.old) (S.left input.old)) answer) }
     ensures ending { IfOk result (λ answer. MayEnd command.now answer.ending) }
     ensures course { IfOk result (λ answer. HasCourse command.now (H.tells shelf.old) (S.left input.old) answer.text) }

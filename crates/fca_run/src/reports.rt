@@ -2,7 +2,7 @@
 //! table itself, whole or reduced.
 
 ghost use Rattle.std.specs.Prelude.{◌≡◌, ◌⊎◌, true, false, Some, IfOk, IfErr, length, is_some};
-ghost use Rattle.fca_command.specs.Commands.{reported};
+ghost use Rattle.fca_command.specs.Commands.{report_file};
 ghost use Rattle.command_io.specs.Readings.{then, MayRead, MayRefuse, Rises};
 ghost use Rattle.command_io.specs.Readings.Reading.{Refused, Read};
 ghost use Rattle.fca_io.specs.Faults.{Rose};
@@ -21,7 +21,7 @@ use context_table::Table;
 use csv_context::write_csv;
 use cxt_format::write_cxt;
 use direct_basis::proper_premises;
-use fca_command::{Command, Form, attributes_said};
+use fca_command::{Command, Form, attribute_set};
 use fca_io::Shelf;
 use fca_model::{Memory, Word};
 use json_reports::{basis_json, concepts_json};
@@ -38,7 +38,7 @@ pub fn report_answer<R: Threads + Sync, H: Shelf>(
     shelf: &mut H,
     file: &Word,
 ) -> Result<Answer, Stop>
-    requires { reported command.now ≡ Some file.now }
+    requires { report_file command.now ≡ Some file.now }
     ensures output { IfOk result (λ answer. MayRead (report_read command.now file.now (H.tells shelf.old)) answer) }
     ensures finished { IfOk result (λ answer. answer.ending ≡ Ending.Finished) }
     ensures refused { IfErr result (λ stop. IsRefusal stop → MayRefuse (report_read command.now file.now (H.tells shelf.old))) }
@@ -71,7 +71,7 @@ fn table_answer<R: Threads + Sync, H: Shelf>(
     shelf: &mut H,
     file: &Word,
 ) -> Result<Answer, Stop>
-    requires reports { is_some (reported command.now) ≡ true }
+    requires reports { is_some (report_file command.now) ≡ true }
     requires whole { reads_narrow command.now ≡ false }
     ensures output { IfOk result (λ answer. MayRead (report_read command.now file.now (H.tells shelf.old)) answer) }
     ensures finished { IfOk result (λ answer. answer.ending ≡ Ending.Finished) }
@@ -90,7 +90,7 @@ fn report_on<R: Threads + Sync>(
     command: &Command,
     table: &Table,
 ) -> Result<Answer, Stop>
-    requires reports { is_some (reported command.now) ≡ true }
+    requires reports { is_some (report_file command.now) ≡ true }
     requires whole { reads_narrow command.now ≡ false }
     ensures output { IfOk result (λ answer. MayRead (then (table_report command.now table.now) (λ text. Read (finished text))) answer) }
     ensures finished { IfOk result (λ answer. answer.ending ≡ Ending.Finished) }
@@ -170,7 +170,7 @@ fn attributes_in(table: &Table, word: &Word) -> Result<Attrs, Stop>
     ensures refused { IfErr result (λ stop. attributes_read table.now word.now ≡ Refused) }
     ensures cause { IfErr result (λ stop. stop ≡ Stop.UnknownAttribute) }
 {
-    match attributes_said(table, word.bytes()) {
+    match attribute_set(table, word.bytes()) {
         Some(set) => Ok(set),
         None => Err(Stop::UnknownAttribute),
     }

@@ -8,7 +8,7 @@ use Rattle.command_io.specs.Streams.{moment}
 use Rattle.fca_command.specs.Commands.{reads_input}
 use Rattle.fca_run.specs.Outputs.{output_by}
 use Rattle.fca_run.specs.Calls.{shelf_moment, unlinked, outside, IsStopBy, MayEnd}
-use Rattle.fca_run.proofs.CallLemmas.{any-ok, finished-ends, course-reported, reads_input-reported}
+use Rattle.fca_run.proofs.CallLemmas.{any-ok, finished-ends, course-report_file, reads_input-report_file}
 use Rattle.fca_run.proofs.call.plain_answer.Goals as goal
 
 pub returns-in-Some-clause-output : goal.returns-in-Some-clause-output
@@ -23,7 +23,7 @@ returns-in-Some-clause-ending g c =
 
 pub returns-in-Some-clause-course : goal.returns-in-Some-clause-course
 returns-in-Some-clause-course g c =
-    IfOk-weaker c.report_answer.result _ _ (λ answer finished. course-reported c.args.command.now (g.H.Shelf.tells c.args.shelf.now) (g.S.Source.left c.args.input.now) _ answer.text (sym c.in-Some.ensures)) c.report_answer.ensures.finished
+    IfOk-weaker c.report_answer.result _ _ (λ answer finished. course-report_file c.args.command.now (g.H.Shelf.tells c.args.shelf.now) (g.S.Source.left c.args.input.now) _ answer.text (sym c.in-Some.ensures)) c.report_answer.ensures.finished
 
 pub returns-in-Some-clause-cause : goal.returns-in-Some-clause-cause
 returns-in-Some-clause-cause g c =
@@ -39,7 +39,7 @@ returns-in-Some-clause-refused g c =
     subst P c.in-Some.ensures c.report_answer.ensures.refused
 
 pub returns-in-Some-clause-read_to_end : goal.returns-in-Some-clause-read_to_end
-returns-in-Some-clause-read_to_end g c = λ reads. (let unread : reads_input c.args.command.now ≡ false = reads_input-reported c.args.command.now _ (sym c.in-Some.ensures) in cc)
+returns-in-Some-clause-read_to_end g c = λ reads. (let unread : reads_input c.args.command.now ≡ false = reads_input-report_file c.args.command.now _ (sym c.in-Some.ensures) in cc)
 
 pub returns-in-None-clause-output : goal.returns-in-None-clause-output
 returns-in-None-clause-output g c =
