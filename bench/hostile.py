@@ -42,9 +42,7 @@ NOBODY = 61234  # the number of a user that has no other processes
 NO_MEMORY = b"fca: no memory\n"
 
 # What is known to be wrong: a part, and the first words of its commands. The list is empty where all is right.
-KNOWN = [
-    ("stacks", "explore first-bare.cxt"),  # ends by a signal below 1,328 KB: next_level goes as deep as the table has attributes
-]
+KNOWN = []
 
 SMALL = refused_memory.COMMANDS + [
     ("replay empty.cxt --known empty.known", "draw 1\n"),

@@ -27,15 +27,18 @@ others P questions = filter (λ j. not (same P j.premise)) questions
 
 -- a set that comes before another is not the same
 before_other : (A B : Set) → is_lt (lectic_cmp A B) ≡ true → same A B ≡ false
-before_other A B h = false_from_ne_true (same A B) (λ t. false≢true (sym (ap is_lt (ap (lectic_cmp A) (sym (same-true A B t)) ∙ lectic_refl A)) ∙ h))
+before_other A B h = false_from_ne_true (same A B)
+    (λ t. false≢true (sym (ap is_lt (ap (lectic_cmp A) (sym (same-true A B t)) ∙ lectic_refl A)) ∙ h))
 
-module _ (S : List Rule) (K : Context) (k : ℕ) (acc questions : List Rule) (q : IsQueue S K k acc questions) (i : Rule) (among : Among questions i) where
+module _ (S : List Rule) (K : Context) (k : ℕ) (acc questions : List Rule) (q : IsQueue S K k acc questions) (i : Rule)
+    (among : Among questions i) where
   -- what all members of the level pass, the question passes
   of_level : (p : Rule → Bool) → list_all p (level_of S K k) ≡ true → p i ≡ true
   of_level p a = among p (questions_all S K k acc questions p q a)
 
   pub question_size : size i.premise ≡ k
-  question_size = eqb-true (size i.premise) k (of_level (λ j. eqb (size j.premise) k) (level_all S K k (λ j. eqb (size j.premise) k) (λ P e t s. eq-eqb (size P) k s)))
+  question_size = eqb-true (size i.premise) k (of_level (λ j. eqb (size j.premise) k)
+      (level_all S K k (λ j. eqb (size j.premise) k) (λ P e t s. eq-eqb (size P) k s)))
 
   -- what all members of the basis pass
   pub question_member : (p : Rule → Bool) → list_all p (basis_known S K) ≡ true → p i ≡ true
@@ -43,22 +46,32 @@ module _ (S : List Rule) (K : Context) (k : ℕ) (acc questions : List Rule) (q 
   question_member p b = of_level p (list_all-filter_kept p (λ j. eqb (size j.premise) k) (basis_known S K) b)
 
   pub question_wide : length i.premise ≡ K.width
-  question_wide = eqb-true (length i.premise) K.width (of_level (λ j. eqb (length j.premise) K.width) (level_all S K k (λ j. eqb (length j.premise) K.width) (λ P e t s. eq-eqb (length P) K.width e)))
+  question_wide = eqb-true (length i.premise) K.width
+      (of_level (λ j. eqb (length j.premise) K.width)
+      (level_all S K k (λ j. eqb (length j.premise) K.width) (λ P e t s. eq-eqb (length P) K.width e)))
 
   pub question_closure : i.conclusion ≡ closure K i.premise
-  question_closure = same-true i.conclusion (closure K i.premise) (of_level (λ j. same j.conclusion (closure K j.premise)) (level_all S K k (λ j. same j.conclusion (closure K j.premise)) (λ P e t s. same_from (closure K P) (closure K P) refl)))
+  question_closure = same-true i.conclusion (closure K i.premise)
+      (of_level (λ j. same j.conclusion (closure K j.premise))
+      (level_all S K k (λ j. same j.conclusion (closure K j.premise)) (λ P e t s. same_from (closure K P) (closure K P) refl)))
 
   pub conclusion_wide : length i.conclusion ≡ K.width
   conclusion_wide = ap length question_closure ∙ length-closure K i.premise
 
   -- no accepted implication has its premise
   pub question_new : has_premise acc i.premise ≡ false
-  question_new = not-true (has_premise acc i.premise) (among (λ j. not (has_premise acc j.premise)) (subst (λ is. list_all (λ j. not (has_premise acc j.premise)) is ≡ true) (sym q.questions_are) (filter_passes (λ j. not (has_premise acc j.premise)) (level_of S K k))))
+  question_new = not-true (has_premise acc i.premise)
+      (among (λ j. not (has_premise acc j.premise))
+      (subst (λ is. list_all (λ j. not (has_premise acc j.premise)) is ≡ true) (sym q.questions_are)
+      (filter_passes (λ j. not (has_premise acc j.premise)) (level_of S K k))))
 
   part_more : HasPart S K k (acc ++ i ∷ [])
   part_more = record {
-    sound = λ p b. list_all-append p acc (i ∷ []) ∙ and_from (list_all p acc) (p i && true) (q.part.sound p b) (and_from (p i) true (question_member p b) refl);
-    small = list_all-append (λ j. leb (size j.premise) k) acc (i ∷ []) ∙ and_from (list_all (λ j. leb (size j.premise) k) acc) (leb (size i.premise) k && true) q.part.small (and_from (leb (size i.premise) k) true (le-leb (size i.premise) k (omega (arith, question_size))) refl);
+    sound = λ p b. list_all-append p acc (i ∷ [])
+        ∙ and_from (list_all p acc) (p i && true) (q.part.sound p b) (and_from (p i) true (question_member p b) refl);
+    small = list_all-append (λ j. leb (size j.premise) k) acc (i ∷ [])
+        ∙ and_from (list_all (λ j. leb (size j.premise) k) acc) (leb (size i.premise) k && true) q.part.small
+        (and_from (leb (size i.premise) k) true (le-leb (size i.premise) k (omega (arith, question_size))) refl);
     complete = λ p a. q.part.complete p (and_parts (list_all p acc) (p i && true) (sym (list_all-append p acc (i ∷ [])) ∙ a)).0;
   }
 
@@ -66,8 +79,11 @@ module _ (S : List Rule) (K : Context) (k : ℕ) (acc questions : List Rule) (q 
   questions_less =
       ap (others i.premise) q.questions_are
       ∙ filter-filter (λ j. not (same i.premise j.premise)) (λ j. not (has_premise acc j.premise)) (level_of S K k)
-      ∙ filter_agree_on (λ j. true) (λ j. not (has_premise acc j.premise) && not (same i.premise j.premise)) (λ j. not (has_premise (acc ++ i ∷ []) j.premise))
-      (λ j _. not_or (has_premise acc j.premise) (same i.premise j.premise) ∙ ap not (sym (list_any-append (λ x. same x.premise j.premise) acc (i ∷ [])))) (level_of S K k) (list_all_from (λ j. true) (λ j. refl) (level_of S K k))
+      ∙ filter_agree_on (λ j. true) (λ j. not (has_premise acc j.premise) && not (same i.premise j.premise))
+      (λ j. not (has_premise (acc ++ i ∷ []) j.premise))
+      (λ j _. not_or (has_premise acc j.premise) (same i.premise j.premise)
+      ∙ ap not (sym (list_any-append (λ x. same x.premise j.premise) acc (i ∷ [])))) (level_of S K k)
+      (list_all_from (λ j. true) (λ j. refl) (level_of S K k))
     where
       not_or : (a b : Bool) → (not a && not b) ≡ not (a || (b || false))
       not_or true b = refl
@@ -85,22 +101,31 @@ pub among_at : (questions : List Rule) (n : ℕ) (q : Rule) → n < length quest
 among_at questions n q l is p h = ap p is ∙ AllPass-from_list_all p questions h n q l
 
 -- where the premises are in lectic order, the questions with another premise are those at the other places
-pub others_remove : (questions : List Rule) (n : ℕ) (q : Rule) → increasing (premises questions) ≡ true → n < length questions → q ≡ get_or questions n q → others q.premise questions ≡ remove questions n
+pub others_remove : (questions : List Rule) (n : ℕ) (q : Rule) → increasing (premises questions) ≡ true → n < length questions
+    → q ≡ get_or questions n q → others q.premise questions ≡ remove questions n
 others_remove [] n q up l is = absurd (omega (arith, l))
 others_remove (i ∷ is) zero q up l e =
     subst (λ (x : Rule). filter (λ j. not (same x.premise j.premise)) (i ∷ is) ≡ is) (sym e)
     (ap (λ b. cond (not b) (i ∷ others i.premise is) (others i.premise is)) (same_refl i.premise)
-    ∙ filter_all (λ j. not (same i.premise j.premise)) is (behind i.premise is (and_parts (list_all (λ B. is_lt (lectic_cmp i.premise B)) (premises is)) (increasing (premises is)) up).0))
+    ∙ filter_all (λ j. not (same i.premise j.premise)) is
+    (behind i.premise is (and_parts (list_all (λ B. is_lt (lectic_cmp i.premise B)) (premises is)) (increasing (premises is)) up).0))
   where
-    behind : (P : Set) (js : List Rule) → list_all (λ B. is_lt (lectic_cmp P B)) (premises js) ≡ true → list_all (λ j. not (same P j.premise)) js ≡ true
+    behind : (P : Set) (js : List Rule) → list_all (λ B. is_lt (lectic_cmp P B)) (premises js) ≡ true
+        → list_all (λ j. not (same P j.premise)) js ≡ true
     behind P [] h = refl
     behind P (j ∷ js) h =
         let parts = and_parts (is_lt (lectic_cmp P j.premise)) (list_all (λ B. is_lt (lectic_cmp P B)) (premises js)) h in
-        and_from (not (same P j.premise)) (list_all (λ x. not (same P x.premise)) js) (ap not (before_other P j.premise parts.0)) (behind P js parts.1)
+        and_from (not (same P j.premise)) (list_all (λ x. not (same P x.premise)) js) (ap not (before_other P j.premise parts.0))
+        (behind P js parts.1)
 others_remove (i ∷ is) (suc n) q up l e =
     let parts = and_parts (list_all (λ B. is_lt (lectic_cmp i.premise B)) (premises is)) (increasing (premises is)) up in
-    let here : is_lt (lectic_cmp i.premise q.premise) ≡ true = among_at is n q (omega (arith, l)) e (λ j. is_lt (lectic_cmp i.premise j.premise)) (list_all-map (λ B. is_lt (lectic_cmp i.premise B)) is ∙ parts.0) in
-    let other : same q.premise i.premise ≡ false = false_from_ne_true (same q.premise i.premise) (λ t. false≢true (sym (before_other i.premise q.premise here) ∙ same_from i.premise q.premise (sym (same-true q.premise i.premise t)))) in
+    let here : is_lt (lectic_cmp i.premise q.premise) ≡ true =
+    among_at is n q (omega (arith, l)) e (λ j. is_lt (lectic_cmp i.premise j.premise))
+    (list_all-map (λ B. is_lt (lectic_cmp i.premise B)) is ∙ parts.0) in
+    let other : same q.premise i.premise ≡ false =
+    false_from_ne_true (same q.premise i.premise)
+    (λ t. false≢true (sym (before_other i.premise q.premise here)
+    ∙ same_from i.premise q.premise (sym (same-true q.premise i.premise t)))) in
     ap (λ b. cond (not b) (i ∷ others q.premise is) (others q.premise is)) other
     ∙ ap (λ js. i ∷ js) (others_remove is n q parts.1 (omega (arith, l)) e)
   where
@@ -115,8 +140,10 @@ more b x = record { context = b.context; known = b.known; accepted = b.accepted 
 abbrev pub base : Context → RuleParts → Base
 base K p = record { context = K; known = p.known; accepted = p.accepted }
 
-pub accepted_base : (K : Context) (rules p : RuleParts) (questions : List Rule) (now : Base) (n : ℕ) (q question : Rule) → base K rules ≡ now → p ≡ record { width = rules.width; known = rules.known; accepted = rules.accepted ++ q ∷ [] }
-    → n < length questions → q ≡ get_or questions n q → slice_get questions n ≡ Some question → base K p ≡ record { context = now.context; known = now.known; accepted = now.accepted ++ question ∷ [] }
+pub accepted_base : (K : Context) (rules p : RuleParts) (questions : List Rule) (now : Base) (n : ℕ) (q question : Rule)
+    → base K rules ≡ now → p ≡ record { width = rules.width; known = rules.known; accepted = rules.accepted ++ q ∷ [] }
+    → n < length questions → q ≡ get_or questions n q → slice_get questions n ≡ Some question
+    → base K p ≡ record { context = now.context; known = now.known; accepted = now.accepted ++ question ∷ [] }
 accepted_base K rules p questions now n q question v is l at s =
     let same_question : q ≡ question = inside (is_some_of (sym (slice_get-get_or questions n q l) ∙ s) at) in
     ap (base K) is ∙ ap (λ (b : Base). more b q) v ∙ ap (more now) same_question

@@ -1,6 +1,6 @@
--- The questions of the queue are the open ones: none that waits is smaller than the level, since each smaller member is accepted,
--- so those of the level that were not accepted are the smallest, if there are any. Where there are none, each member up to the
--- level is accepted, and the next level can be opened.
+-- The questions of the queue are the open ones: none that waits is smaller than the level, since each smaller member is accepted, so those
+-- of the level that were not accepted are the smallest, if there are any. Where there are none, each member up to the level is accepted,
+-- and the next level can be opened.
 use Rattle.std.proofs.Common.{◌≡◌, ◌≢◌, ℕ, suc, ◌+◌, ◌<◌, ◌≤◌, Bool, true, false, not, ◌||◌, cond, List, [], ◌∷◌, ◌++◌, map, length, filter, get_or, refl, sym, ap, ◌∙◌, subst, arith, inl, inr, eqb, eqb-true, eq-eqb, leb, le-leb, leb-true, ltb, lt-ltb}
 use Rattle.std.proofs.lemmas.Bool.{false≢true, and_parts, and_from, cases_Bool, cases_lt, or_cases, or_left, or_right, lt-leb, ltb-true, eqb-false}
 use Rattle.std.proofs.lemmas.List.{get_or_default}
@@ -30,18 +30,22 @@ use Rattle.level_queue.proofs.NarrowLemmas.{closure-with_row, narrowed_in}
 use Rattle.level_queue.proofs.AcceptLemmas.{question_member, question_size, question_new, question_wide, conclusion_wide, accept_keeps_queue, among_at, others_remove}
 
 -- each member of a list has its premise in the list
-pub each_heard : (acc is : List Rule) → ((P : Set) → has_premise is P ≡ true → has_premise acc P ≡ true) → list_all (λ i. has_premise acc i.premise) is ≡ true
+pub each_heard : (acc is : List Rule) → ((P : Set) → has_premise is P ≡ true → has_premise acc P ≡ true)
+    → list_all (λ i. has_premise acc i.premise) is ≡ true
 each_heard acc [] f = refl
-each_heard acc (i ∷ is) f = and_from (has_premise acc i.premise) (list_all (λ i. has_premise acc i.premise) is) (f i.premise (or_left (same i.premise i.premise) (has_premise is i.premise) (same_refl i.premise)))
+each_heard acc (i ∷ is) f = and_from (has_premise acc i.premise) (list_all (λ i. has_premise acc i.premise) is)
+    (f i.premise (or_left (same i.premise i.premise) (has_premise is i.premise) (same_refl i.premise)))
     (each_heard acc is (λ P t. f P (or_right (same i.premise P) (has_premise is P) t)))
 
 -- no premise of size k is among smaller ones
-none_heard : (k : ℕ) (acc : List Rule) (P : Set) → list_all (λ i. ltb (size i.premise) k) acc ≡ true → size P ≡ k → has_premise acc P ≡ false
+none_heard : (k : ℕ) (acc : List Rule) (P : Set) → list_all (λ i. ltb (size i.premise) k) acc ≡ true → size P ≡ k
+    → has_premise acc P ≡ false
 none_heard k [] P h e = refl
 none_heard k (i ∷ acc) P h e =
     let parts = and_parts (ltb (size i.premise) k) (list_all (λ i. ltb (size i.premise) k) acc) h in
     elim (cases_Bool (same i.premise P)) [
-      | inl t ↦ let s : size i.premise ≡ size P = ap size (same-true i.premise P t) in absurd (omega (arith, ltb-true (size i.premise) k parts.0))
+      | inl t ↦ let s : size i.premise ≡ size P = ap size (same-true i.premise P t) in
+          absurd (omega (arith, ltb-true (size i.premise) k parts.0))
       | inr f ↦ ap (λ b. b || has_premise acc P) f ∙ none_heard k acc P parts.1 e
     ]
 
@@ -49,7 +53,8 @@ module _ (S : List Rule) (K : Context) (k : ℕ) (acc : List Rule) where
   part_from : HasBelow S K k acc → HasPart S K k acc
   part_from h = record {
     sound = h.sound;
-    small = list_all-mono (λ i. ltb (size i.premise) k) (λ i. leb (size i.premise) k) (λ i t. le-leb (size i.premise) k (omega (arith, ltb-true (size i.premise) k t))) acc h.small;
+    small = list_all-mono (λ i. ltb (size i.premise) k) (λ i. leb (size i.premise) k)
+        (λ i t. le-leb (size i.premise) k (omega (arith, ltb-true (size i.premise) k t))) acc h.small;
     complete = h.complete;
   }
 
@@ -59,7 +64,9 @@ module _ (S : List Rule) (K : Context) (k : ℕ) (acc : List Rule) where
   none_below : HasPart S K k acc → list_all (λ i. leb k (size i.premise)) (waiting S K acc) ≡ true
   unfolding waiting
   none_below h = list_all-filter (λ i. leb k (size i.premise)) (λ i. not (has_premise acc i.premise)) (basis_known S K)
-      ∙ list_all-mono (λ i. leb k (size i.premise) || has_premise acc i.premise) (λ i. not (not (has_premise acc i.premise)) || leb k (size i.premise)) (λ i t. turn (leb k (size i.premise)) (has_premise acc i.premise) t) (basis_known S K)
+      ∙ list_all-mono (λ i. leb k (size i.premise) || has_premise acc i.premise)
+      (λ i. not (not (has_premise acc i.premise)) || leb k (size i.premise))
+      (λ i t. turn (leb k (size i.premise)) (has_premise acc i.premise) t) (basis_known S K)
       (h.complete (λ i. has_premise acc i.premise) (each_heard acc acc (λ P t. t)))
     where
       turn : (a b : Bool) → (a || b) ≡ true → (not (not b) || a) ≡ true
@@ -71,7 +78,9 @@ module _ (S : List Rule) (K : Context) (k : ℕ) (acc : List Rule) where
   -- past the width nothing waits
   pub past_open : HasPart S K k acc → K.width < k → open_questions S K acc ≡ []
   unfolding open_questions
-  past_open h lt = ap smallest (none_waits S K acc (list_all-mono (λ i. leb k (size i.premise)) (λ i. leb (suc K.width) (size i.premise)) (λ i t. le-leb (suc K.width) (size i.premise) (omega (arith, leb-true k (size i.premise) t))) (waiting S K acc) (none_below h)))
+  past_open h lt = ap smallest (none_waits S K acc
+      (list_all-mono (λ i. leb k (size i.premise)) (λ i. leb (suc K.width) (size i.premise))
+      (λ i t. le-leb (suc K.width) (size i.premise) (omega (arith, leb-true k (size i.premise) t))) (waiting S K acc) (none_below h)))
 
   -- the questions of the queue are the open ones, where there are any
   pub queue_open : (questions : List Rule) → IsQueue S K k acc questions → questions ≢ [] → questions ≡ open_questions S K acc
@@ -84,7 +93,8 @@ module _ (S : List Rule) (K : Context) (k : ℕ) (acc : List Rule) where
 
   -- of a level nothing was accepted before it is opened
   unheard : HasBelow S K k acc → filter (λ i. not (has_premise acc i.premise)) (level_of S K k) ≡ level_of S K k
-  unheard h = filter_all (λ i. not (has_premise acc i.premise)) (level_of S K k) (level_all S K k (λ i. not (has_premise acc i.premise)) (λ P e t s. ap not (none_heard k acc P h.small s)))
+  unheard h = filter_all (λ i. not (has_premise acc i.premise)) (level_of S K k)
+      (level_all S K k (λ i. not (has_premise acc i.premise)) (λ P e t s. ap not (none_heard k acc P h.small s)))
 
   pub opened_queue : (questions : List Rule) → HasBelow S K k acc → questions ≡ level_of S K k → IsQueue S K k acc questions
   opened_queue questions h is = record { part = part_from h; questions_are = is ∙ sym (unheard h) }
@@ -96,18 +106,22 @@ module _ (S : List Rule) (K : Context) (k : ℕ) (acc : List Rule) where
   unfolding level_of
   done_below questions q none = subst (λ m. HasBelow S K m acc) next (record {
     sound = q.part.sound;
-    small = list_all-mono (λ i. leb (size i.premise) k) (λ i. ltb (size i.premise) (suc k)) (λ i t. lt-ltb (size i.premise) (suc k) (omega (arith, leb-true (size i.premise) k t))) acc q.part.small;
+    small = list_all-mono (λ i. leb (size i.premise) k) (λ i. ltb (size i.premise) (suc k))
+        (λ i t. lt-ltb (size i.premise) (suc k) (omega (arith, leb-true (size i.premise) k t))) acc q.part.small;
     complete = λ p a.
         let at : Rule → Bool = λ i. eqb (size i.premise) k in
         let heard : Rule → Bool = λ i. has_premise acc i.premise in
         let all_heard = filter_none_all heard (filter at (basis_known S K)) (sym q.questions_are ∙ none) in
         basis_all S K (λ i. leb (suc k) (size i.premise) || p i) (λ Q e t. elim (cases_lt k (size Q)) [
           | inl lt ↦ or_left (leb (suc k) (size Q)) (p (rule Q (closure K Q))) (le-leb (suc k) (size Q) (omega arith))
-          | inr le ↦ or_right (leb (suc k) (size Q)) (p (rule Q (closure K Q))) (elim (or_cases (leb k (size Q)) (p (rule Q (closure K Q))) (basis_at S K (λ i. leb k (size i.premise) || p i) Q e t (q.part.complete p a))) [
-            | inl here ↦ accepted p Q a (basis_at S K (λ i. not (at i) || heard i) Q e t (sym (list_all-filter heard at (basis_known S K)) ∙ all_heard))
-                (eq-eqb (size Q) k (omega (arith, leb-true k (size Q) here)))
-            | inr there ↦ there
-          ])
+          | inr le ↦ or_right (leb (suc k) (size Q)) (p (rule Q (closure K Q)))
+              (elim (or_cases (leb k (size Q)) (p (rule Q (closure K Q)))
+              (basis_at S K (λ i. leb k (size i.premise) || p i) Q e t (q.part.complete p a))) [
+                | inl here ↦ accepted p Q a (basis_at S K (λ i. not (at i) || heard i) Q e t
+                    (sym (list_all-filter heard at (basis_known S K)) ∙ all_heard))
+                    (eq-eqb (size Q) k (omega (arith, leb-true k (size Q) here)))
+                | inr there ↦ there
+              ])
         ]);
   })
     where
@@ -118,12 +132,15 @@ module _ (S : List Rule) (K : Context) (k : ℕ) (acc : List Rule) where
       has_closure i = same i.conclusion (closure K i.premise)
 
       closures : list_all (λ i. same i.conclusion (closure K i.premise)) acc ≡ true
-      closures = q.part.sound (λ i. same i.conclusion (closure K i.premise)) (basis_all S K (λ i. same i.conclusion (closure K i.premise)) (λ R w u. same_refl (closure K R)))
+      closures = q.part.sound (λ i. same i.conclusion (closure K i.premise))
+          (basis_all S K (λ i. same i.conclusion (closure K i.premise)) (λ R w u. same_refl (closure K R)))
 
-      accepted : (p : Rule → Bool) (Q : Set) → list_all p acc ≡ true → (not (eqb (size Q) k) || has_premise acc Q) ≡ true → eqb (size Q) k ≡ true → p (rule Q (closure K Q)) ≡ true
+      accepted : (p : Rule → Bool) (Q : Set) → list_all p acc ≡ true → (not (eqb (size Q) k) || has_premise acc Q) ≡ true
+          → eqb (size Q) k ≡ true → p (rule Q (closure K Q)) ≡ true
       accepted p Q a h at = found acc a (implies_at (eqb (size Q) k) (has_premise acc Q) h at) closures
         where
-          found : (is : List Rule) → list_all p is ≡ true → has_premise is Q ≡ true → list_all (λ i. same i.conclusion (closure K i.premise)) is ≡ true → p (rule Q (closure K Q)) ≡ true
+          found : (is : List Rule) → list_all p is ≡ true → has_premise is Q ≡ true
+              → list_all (λ i. same i.conclusion (closure K i.premise)) is ≡ true → p (rule Q (closure K Q)) ≡ true
           found [] a h m = absurd (false≢true h)
           found (i ∷ is) a h m =
               let pa = and_parts (p i) (list_all p is) a in
@@ -131,7 +148,8 @@ module _ (S : List Rule) (K : Context) (k : ℕ) (acc : List Rule) where
               elim (or_cases (same i.premise Q) (has_premise is Q) h) [
                 | inl here ↦
                     let e : i.premise ≡ Q = same-true i.premise Q here in
-                    subst (λ C. p (rule Q C) ≡ true) (same-true i.conclusion (closure K i.premise) pm.0 ∙ ap (closure K) e) (subst (λ X. p (rule X i.conclusion) ≡ true) e pa.0)
+                    subst (λ C. p (rule Q C) ≡ true) (same-true i.conclusion (closure K i.premise) pm.0 ∙ ap (closure K) e)
+                    (subst (λ X. p (rule X i.conclusion) ≡ true) e pa.0)
                 | inr there ↦ found is pa.1 there pm.1
               ]
 
@@ -144,24 +162,32 @@ module _ (S : List Rule) (K : Context) (k : ℕ) (acc : List Rule) where
     members = h.sound (is_member S K) (basis_all S K (is_member S K) (λ P e p. member_from S K P (closure K P) e p refl));
     smaller = λ i among Q e p lt.
         let le : size i.premise ≤ k = leb-true (size i.premise) k (among (λ i. leb (size i.premise) k) h.small) in
-        elim (or_cases (leb k (size Q)) (has_premise acc Q) (basis_at S K (λ j. leb k (size j.premise) || has_premise acc j.premise) Q e p (h.complete (λ j. has_premise acc j.premise) (each_heard acc acc (λ P t. t))))) [
+        elim (or_cases (leb k (size Q)) (has_premise acc Q)
+        (basis_at S K (λ j. leb k (size j.premise) || has_premise acc j.premise) Q e p
+        (h.complete (λ j. has_premise acc j.premise) (each_heard acc acc (λ P t. t))))) [
           | inl big ↦ absurd (false≢true (sym (lt-leb k (size Q) (omega arith)) ∙ big))
           | inr there ↦ there
         ];
   }
 
 -- the premises of the questions have the size of the level
-pub questions_size : (S : List Rule) (K : Context) (k : ℕ) (acc questions : List Rule) → IsQueue S K k acc questions → list_all (λ i. eqb (size i.premise) k) questions ≡ true
-questions_size S K k acc questions q = questions_all S K k acc questions (λ i. eqb (size i.premise) k) q (level_all S K k (λ i. eqb (size i.premise) k) (λ P e t s. eq-eqb (size P) k s))
+pub questions_size : (S : List Rule) (K : Context) (k : ℕ) (acc questions : List Rule) → IsQueue S K k acc questions
+    → list_all (λ i. eqb (size i.premise) k) questions ≡ true
+questions_size S K k acc questions q = questions_all S K k acc questions (λ i. eqb (size i.premise) k) q
+    (level_all S K k (λ i. eqb (size i.premise) k) (λ P e t s. eq-eqb (size P) k s))
 
 -- and the width of the rows
-pub questions_wide : (S : List Rule) (K : Context) (k : ℕ) (acc questions : List Rule) → IsQueue S K k acc questions → list_all (λ i. eqb (length i.premise) K.width) questions ≡ true
-questions_wide S K k acc questions q = questions_all S K k acc questions (λ i. eqb (length i.premise) K.width) q (level_all S K k (λ i. eqb (length i.premise) K.width) (λ P e t s. eq-eqb (length P) K.width e))
+pub questions_wide : (S : List Rule) (K : Context) (k : ℕ) (acc questions : List Rule) → IsQueue S K k acc questions
+    → list_all (λ i. eqb (length i.premise) K.width) questions ≡ true
+questions_wide S K k acc questions q = questions_all S K k acc questions (λ i. eqb (length i.premise) K.width) q
+    (level_all S K k (λ i. eqb (length i.premise) K.width) (λ P e t s. eq-eqb (length P) K.width e))
 
 -- ---- a held question that is a member, and whose premise was not accepted, is open
 
-module _ (S : List Rule) (K : Context) (k : ℕ) (acc questions : List Rule) (queue : IsQueue S K k acc questions) (all_open : questions ≡ open_questions S K acc)
-    (q : Rule) (member : is_member S K q ≡ true) (smaller : SmallerAccepted S K acc q.premise) (new : has_premise acc q.premise ≡ false) where
+module _ (S : List Rule) (K : Context) (k : ℕ) (acc questions : List Rule) (queue : IsQueue S K k acc questions)
+    (all_open : questions ≡ open_questions S K acc)
+    (q : Rule) (member : is_member S K q ≡ true) (smaller : SmallerAccepted S K acc q.premise)
+    (new : has_premise acc q.premise ≡ false) where
   at_basis : (p : Rule → Bool) → list_all p (basis_known S K) ≡ true → p q ≡ true
   at_basis p h = let m = member_parts S K q member in subst (λ i. p i ≡ true) (sym m.2) (basis_at S K p q.premise m.0 m.1 h)
 
@@ -169,8 +195,10 @@ module _ (S : List Rule) (K : Context) (k : ℕ) (acc questions : List Rule) (qu
   none_larger : k < size q.premise → (is : List Rule) → is ≡ questions → is ≡ []
   none_larger lt [] e = refl
   none_larger lt (i ∷ is) e =
-      let among : (p : Rule → Bool) → list_all p questions ≡ true → p i ≡ true = λ p h. (and_parts (p i) (list_all p is) (ap (list_all p) e ∙ h)).0 in
-      let m = member_parts S K i (question_member S K k acc questions queue i among (is_member S K) (basis_all S K (is_member S K) (λ P e p. member_from S K P (closure K P) e p refl))) in
+      let among : (p : Rule → Bool) → list_all p questions ≡ true
+      → p i ≡ true = λ p h. (and_parts (p i) (list_all p is) (ap (list_all p) e ∙ h)).0 in
+      let m = member_parts S K i (question_member S K k acc questions queue i among (is_member S K)
+      (basis_all S K (is_member S K) (λ P e p. member_from S K P (closure K P) e p refl))) in
       let heard = smaller i.premise m.0 m.1 (omega (arith, question_size S K k acc questions queue i among)) in
       absurd (false≢true (sym (question_new S K k acc questions queue i among) ∙ heard))
 
@@ -180,10 +208,12 @@ module _ (S : List Rule) (K : Context) (k : ℕ) (acc questions : List Rule) (qu
         let none = none_larger lt questions refl in
         let heard = (open_none S K acc).0 (sym all_open ∙ none) in
         absurd (false≢true (sym new ∙ at_basis (λ i. has_premise acc i.premise) heard))
-    | inr le ↦ elim (or_cases (leb k (size q.premise)) (has_premise acc q.premise) (at_basis (λ i. leb k (size i.premise) || has_premise acc i.premise) (queue.part.complete (λ i. has_premise acc i.premise) (each_heard acc acc (λ P t. t))))) [
-      | inl big ↦ omega (arith, leb-true k (size q.premise) big)
-      | inr heard ↦ absurd (false≢true (sym new ∙ heard))
-    ]
+    | inr le ↦ elim (or_cases (leb k (size q.premise)) (has_premise acc q.premise)
+        (at_basis (λ i. leb k (size i.premise) || has_premise acc i.premise)
+        (queue.part.complete (λ i. has_premise acc i.premise) (each_heard acc acc (λ P t. t))))) [
+          | inl big ↦ omega (arith, leb-true k (size q.premise) big)
+          | inr heard ↦ absurd (false≢true (sym new ∙ heard))
+        ]
   ]
 
   pub held_is_open : Among questions q
@@ -193,7 +223,8 @@ module _ (S : List Rule) (K : Context) (k : ℕ) (acc questions : List Rule) (qu
       let u : Rule → Bool = λ i. not (has_premise acc i.premise) in
       let in_level = sym (list_all-filter p u (filter at (basis_known S K))) ∙ ap (list_all p) (sym queue.questions_are) ∙ h in
       let in_basis = sym (list_all-filter (λ i. not (u i) || p i) at (basis_known S K)) ∙ in_level in
-      implies_at (u q) (p q) (implies_at (at q) (not (u q) || p q) (at_basis (λ i. not (at i) || (not (u i) || p i)) in_basis) (eq-eqb (size q.premise) k held_size)) (ap not new)
+      implies_at (u q) (p q) (implies_at (at q) (not (u q) || p q) (at_basis (λ i. not (at i) || (not (u i) || p i)) in_basis)
+      (eq-eqb (size q.premise) k held_size)) (ap not new)
 
 -- ---- lists and places
 
@@ -221,7 +252,8 @@ module _ {S : List Rule} {K : Context} {k : ℕ} {acc questions : List Rule} (ke
 
   -- none of them is closed
   pub kept_unclosed : list_all is_unclosed questions ≡ true
-  kept_unclosed = questions_all S K k acc questions is_unclosed kept.queue (level_all S K k is_unclosed (λ P e p s. ap not (pseudo_parts S K P e p).not_closed))
+  kept_unclosed = questions_all S K k acc questions is_unclosed kept.queue
+      (level_all S K k is_unclosed (λ P e p s. ap not (pseudo_parts S K P e p).not_closed))
 
   pub kept_accepted : IsAccepted S K acc
   kept_accepted = accepted_from_part S K k acc kept.queue.part kept.distinct
@@ -240,13 +272,15 @@ module _ {S : List Rule} {K : Context} {k : ℕ} {acc questions : List Rule} (ke
       ap (λ qs. increasing (premises qs)) kept.queue.questions_are
       ∙ ap increasing (filtered (λ P. not (has_premise acc P)) (filter (λ i. eqb (size i.premise) k) (basis_known S K)))
       ∙ increasing-filter (λ P. not (has_premise acc P)) (premises (filter (λ i. eqb (size i.premise) k) (basis_known S K)))
-      (ap increasing (filtered (λ P. eqb (size P) k) (basis_known S K)) ∙ increasing-filter (λ P. eqb (size P) k) (premises (basis_known S K)) (basis_increasing S K))
+      (ap increasing (filtered (λ P. eqb (size P) k) (basis_known S K))
+      ∙ increasing-filter (λ P. eqb (size P) k) (premises (basis_known S K)) (basis_increasing S K))
     where
       filtered : (q : Set → Bool) (is : List Rule) → premises (filter (λ i. q i.premise) is) ≡ filter q (premises is)
       filtered q is = sym (filter-map q (λ (i : Rule). i.premise) is)
 
 -- a level that was found
-pub opened_kept : {S : List Rule} {K : Context} {k : ℕ} {acc questions : List Rule} → list_all (holds K) S ≡ true → distinct_premises acc ≡ true → IsNextLevel S K acc k questions → IsKept S K k acc questions
+pub opened_kept : {S : List Rule} {K : Context} {k : ℕ} {acc questions : List Rule} → list_all (holds K) S ≡ true
+    → distinct_premises acc ≡ true → IsNextLevel S K acc k questions → IsKept S K k acc questions
 opened_kept {S = S} {K = K} {k = k} {acc = acc} {questions = questions} hold distinct next = record {
   hold = hold;
   distinct = distinct;
@@ -255,7 +289,8 @@ opened_kept {S = S} {K = K} {k = k} {acc = acc} {questions = questions} hold dis
 }
 
 -- where one question is left, and it is accepted
-module _ {S : List Rule} {K : Context} {k : ℕ} {acc questions : List Rule} (kept : IsKept S K k acc questions) (n : ℕ) (q : Rule) (inside : n < length questions) (at : q ≡ get_or questions n q) where
+module _ {S : List Rule} {K : Context} {k : ℕ} {acc questions : List Rule} (kept : IsKept S K k acc questions) (n : ℕ) (q : Rule)
+    (inside : n < length questions) (at : q ≡ get_or questions n q) where
   among : Among questions q
   among = among_at questions n q inside at
 
@@ -269,7 +304,8 @@ module _ {S : List Rule} {K : Context} {k : ℕ} {acc questions : List Rule} (ke
   accepted_distinct = distinct_premises-push acc q kept.distinct (question_new S K k acc questions kept.queue q among)
 
   rest_queue : IsQueue S K k (acc ++ q ∷ []) (remove questions n)
-  rest_queue = accept_keeps_queue S K k acc questions kept.queue q among (remove questions n) (sym (others_remove questions n q (kept_increasing kept) inside at))
+  rest_queue = accept_keeps_queue S K k acc questions kept.queue q among (remove questions n)
+      (sym (others_remove questions n q (kept_increasing kept) inside at))
 
   -- others are left
   pub accepted_kept : 1 < length questions → IsKept S K k (acc ++ q ∷ []) (remove questions n)
@@ -277,12 +313,14 @@ module _ {S : List Rule} {K : Context} {k : ℕ} {acc questions : List Rule} (ke
     hold = kept.hold;
     distinct = accepted_distinct;
     queue = rest_queue;
-    done = λ none. absurd (let less = length-remove questions n inside in let zero_left = ap length none in omega (arith, more, less, zero_left));
+    done = λ none. absurd (let less = length-remove questions n inside in let zero_left = ap length none in
+        omega (arith, more, less, zero_left));
   }
 
   -- none is left
   pub accepted_below : length questions ≤ 1 → HasBelow S K (k + 1) (acc ++ q ∷ [])
-  accepted_below last = done_below S K k (acc ++ q ∷ []) (remove questions n) rest_queue (nil_of (remove questions n) (let less = length-remove questions n inside in omega (arith, last, less, inside)))
+  accepted_below last = done_below S K k (acc ++ q ∷ []) (remove questions n) rest_queue
+      (nil_of (remove questions n) (let less = length-remove questions n inside in omega (arith, last, less, inside)))
     where
       nil_of : (xs : List Rule) → length xs ≤ 0 → xs ≡ []
       nil_of [] l = refl
@@ -292,7 +330,8 @@ module _ {S : List Rule} {K : Context} {k : ℕ} {acc questions : List Rule} (ke
   accepted_bounded = let le = kept_bounded kept q among in omega (arith, le)
 
 -- a row was recorded
-module _ {S : List Rule} {K : Context} {k : ℕ} {acc questions : List Rule} (kept : IsKept S K k acc questions) (r : Set) (respecting : respects_all (S ++ acc) r ≡ true) where
+module _ {S : List Rule} {K : Context} {k : ℕ} {acc questions : List Rule} (kept : IsKept S K k acc questions) (r : Set)
+    (respecting : respects_all (S ++ acc) r ≡ true) where
   both : (respects_all S r ≡ true) × (respects_all acc r ≡ true)
   both = and_parts (respects_all S r) (respects_all acc r) (sym (list_all-append (respects r) S acc) ∙ respecting)
 
@@ -303,8 +342,10 @@ module _ {S : List Rule} {K : Context} {k : ℕ} {acc questions : List Rule} (ke
       holds_more : (i : Rule) → holds K i ≡ true → respects r i ≡ true → holds (with_row K r) i ≡ true
       holds_more i h g = subst (λ C. within i.conclusion C ≡ true) (sym (closure-with_row K r i.premise)) (go (within i.premise r) g)
         where
-          go : (b : Bool) → (not b || within i.conclusion r) ≡ true → within i.conclusion (cond b (meet (closure K i.premise) r) (closure K i.premise)) ≡ true
-          go true g = within-meet i.conclusion (closure K i.premise) r ∙ and_from (within i.conclusion (closure K i.premise)) (within i.conclusion r) h g
+          go : (b : Bool) → (not b || within i.conclusion r) ≡ true
+              → within i.conclusion (cond b (meet (closure K i.premise) r) (closure K i.premise)) ≡ true
+          go true g = within-meet i.conclusion (closure K i.premise) r
+              ∙ and_from (within i.conclusion (closure K i.premise)) (within i.conclusion r) h g
           go false g = h
 
       with_both : (J : List Rule) → list_all (holds K) J ≡ true → respects_all J r ≡ true → list_all (holds (with_row K r)) J ≡ true
@@ -316,7 +357,8 @@ module _ {S : List Rule} {K : Context} {k : ℕ} {acc questions : List Rule} (ke
 
   module _ (rest : List Rule) (is : rest ≡ still_open (map (narrowed r) questions)) where
     row_queue : IsQueue S (with_row K r) k acc rest
-    row_queue = row_keeps_queue S K r k acc kept.queue.part both.1 questions rest kept.queue (is ∙ ap still_open (narrowed_in S K r k acc questions kept.queue))
+    row_queue = row_keeps_queue S K r k acc kept.queue.part both.1 questions rest kept.queue
+        (is ∙ ap still_open (narrowed_in S K r k acc questions kept.queue))
 
     -- there was no question, or some are left
     pub row_kept : (rest ≡ [] → questions ≡ []) → IsKept S (with_row K r) k acc rest
@@ -327,4 +369,6 @@ module _ {S : List Rule} {K : Context} {k : ℕ} {acc questions : List Rule} (ke
     row_below none = done_below S (with_row K r) k acc rest row_queue none
 
   pub row_bounded : 0 < length questions → k + 1 ≤ (with_row K r).width + 1
-  row_bounded some = let le = kept_bounded kept (get_or questions 0 (rule [] [])) (among_at questions 0 (get_or questions 0 (rule [] [])) some (get_or_default questions 0 (rule [] []) (get_or questions 0 (rule [] [])) some)) in omega (arith, le)
+  row_bounded some = let le = kept_bounded kept (get_or questions 0 (rule [] []))
+      (among_at questions 0 (get_or questions 0 (rule [] [])) some
+      (get_or_default questions 0 (rule [] []) (get_or questions 0 (rule [] [])) some)) in omega (arith, le)

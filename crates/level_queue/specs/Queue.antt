@@ -1,5 +1,5 @@
--- A queue of the open questions: what callers see of it, and what it keeps. It stands at a level, the size of the open premises.
--- All smaller members of the basis are accepted, so the next level can be found when no question of this one is left.
+-- A queue of the open questions: what callers see of it, and what it keeps. It stands at a level, the size of the open premises. All
+-- smaller members of the basis are accepted, so the next level can be found when no question of this one is left.
 use Rattle.std.specs.Prelude.{◌≡◌, ℕ, ◌+◌, Bool, true, not, ◌||◌, ◌&&◌, cond, List, [], filter, nat_le}
 use Rattle.std.specs.List.{list_all}
 use Rattle.fca_model.specs.Sets.{Set, size, same, within, meet}
@@ -31,7 +31,8 @@ pub record IsQueue (S : List Rule) (K : Context) (k : ℕ) (acc questions : List
   pub part : HasPart S K k acc
   pub questions_are : questions ≡ filter (λ i. not (has_premise acc i.premise)) (level_of S K k)
 
--- between two calls: what is known holds in the rows, no two accepted implications have one premise, and a level past the width is the only one with no question
+-- between two calls: what is known holds in the rows, no two accepted implications have one premise, and a level past the width is the only
+-- one with no question
 pub record IsKept (S : List Rule) (K : Context) (k : ℕ) (acc questions : List Rule) : Type 0 where
   pub hold : list_all (holds K) S ≡ true
   pub distinct : distinct_premises acc ≡ true

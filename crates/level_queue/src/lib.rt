@@ -1,5 +1,5 @@
-//! The open questions of an exploration, kept from one event to the next: a recorded row closes some of them and changes the conclusions of others, an accepted
-//! question is taken out, and once none of a size is left the next size is opened, where it may be by a look at sets that were open before. No list of all sets is made.
+//! The open questions of an exploration, kept from one event to the next. A recorded row closes some of them and narrows the conclusions of others. An accepted
+//! question is taken out. After the last one of a size the next size is opened, if possible among candidates that were open before. Nothing lists all sets.
 #![tactic(auto)]
 
 mod open_level;
@@ -22,12 +22,12 @@ use implication_closure::{ImplicationList, Question};
 use next_level::Ahead;
 pub use next_level::{LevelSearch, OneThread, SideBySide};
 use open_level::open_level;
-use questions::{OpenQuestions, are_settled};
+use questions::{OpenQuestions, closes_all};
 use rules::Rules;
 use std::alloc::Global;
 use std::marker::Model;
 
-/// The rows, the rules and the open questions, whose premises have one size; and sets among which later ones may be known to be.
+/// The rows, the rules, the open questions, whose premises have one size, and candidates for later questions.
 pub struct LevelQueue {
     alloc: Global,
     rows: Rows,
@@ -37,7 +37,7 @@ pub struct LevelQueue {
     ahead: Ahead,
 }
 
-/// Written out, so that letting a queue go is one call and not the dropping of each list where it happens.
+/// Written out, so that dropping a queue is one call, and not the dropping of each list at each place.
 impl Drop for LevelQueue {
     fn drop(self) {
         let Self {
@@ -89,7 +89,7 @@ impl LevelQueue {
     {
         let rows = rows.copy()?;
         let rules = Rules::new(alloc, known)?;
-        let nothing = Ahead::unknown(alloc, rows.width())?;
+        let nothing = Ahead::none(alloc, rows.width())?;
         let first = open_level(&OneThread, alloc, &rows, rules.all(), &nothing)?;
         Ok(LevelQueue {
             alloc,
@@ -143,7 +143,7 @@ impl LevelQueue {
         }
     }
 
-    /// The place of the question among the open ones, where it is one of them; so it is while it is held, until a row refutes it or its premise is accepted.
+    /// The place of the question among the open ones, if it is one. A held question is open until a row refutes it or its premise is accepted.
     pub fn place_of(&self, question: &Question) -> Option<usize>
         ensures in_range { IfSome result (λ i. i < length (open_questions self.now.known self.now.context self.now.accepted)) }
         ensures found { IfSome result (λ i. slice_get (open_questions self.now.known self.now.context self.now.accepted) i ≡ Some question.now) }
@@ -163,7 +163,7 @@ impl LevelQueue {
         self.take_row_by(&OneThread, row)
     }
 
-    /// Records a row, where the search looks for the next level.
+    /// Records a row. The search looks for the next level.
     pub fn take_row_by<S: LevelSearch>(&mut self, search: &S, row: Attrs) -> Result<(), Memory>
         requires wide { length row ≡ self.old.context.width }
         requires respecting { respects_all (self.old.known ++ self.old.accepted) row ≡ true }
@@ -171,7 +171,7 @@ impl LevelQueue {
         ensures err { OnErr result (self.new ≡ self.old) }
     {
         self.rows.push(row)?;
-        if !are_settled(self.questions.as_slice(), &row) {
+        if !closes_all(self.questions.as_slice(), &row) {
             self.questions.narrow(&row);
             return Ok(());
         }
@@ -205,7 +205,7 @@ impl LevelQueue {
         self.accept_by(&OneThread, i)
     }
 
-    /// Accepts the open question at place i, where the search looks for the next level.
+    /// Accepts the open question at place i. The search looks for the next level.
     pub fn accept_by<S: LevelSearch>(&mut self, search: &S, i: usize) -> Result<(), Memory>
         requires { i < length (open_questions self.old.known self.old.context self.old.accepted) }
         ensures ok { (question : Rule) → slice_get (open_questions self.old.known self.old.context self.old.accepted) i ≡ Some question

@@ -1,4 +1,4 @@
-//! A list of questions that is quick to meet with a row: few of them are looked at.
+//! A list of questions that a row changes quickly, as few of them are looked at.
 
 ghost use Rattle.std.specs.Prelude.{◌≡◌, ◌<◌, ◌≤◌, ◌+◌, ◌-◌, true, nat_le, length, drop, slice_index_or, slice_set, IfOk};
 ghost use Rattle.std.specs.List.{copy_within, list_all};
@@ -7,16 +7,13 @@ ghost use Rattle.fca_model.specs.Implications.{Rule, premises};
 ghost use Rattle.level_queue.specs.Queue.{narrowed, is_unclosed, is_left};
 ghost use Rattle.level_queue.specs.QuestionLists.{AreInOneWord, IsPlaceFor};
 
-use attr_bits::{Attrs, Bits};
+use attr_bits::{Attrs, Bits, ONE_WORD};
 use fca_model::Memory;
 use implication_closure::{Implication, Question};
 use std::alloc::Global;
 use std::marker::Model;
 
-/// How many attributes one word holds.
-const ONE_WORD: u32 = 64;
-
-/// Questions, and apart from them their premises in one word each, which lie close together. Where a premise has more attributes, there are none of these.
+/// Questions, and apart from them their premises in one word each, which lie close together. If a premise has more attributes, there are none of these.
 #[derive(Drop)]
 pub(crate) struct QuestionList {
     questions: Vec<Question>,
@@ -35,7 +32,7 @@ impl Model for QuestionList {
     ghost invariant = { λ a. AreInOneWord a.questions.items a.in_one_word.items };
 }
 
-/// A row, and the same in one word where it has no more attributes.
+/// A row, also in one word if it fits.
 #[derive(Drop)]
 pub(crate) struct Row {
     whole: Attrs,
@@ -88,7 +85,7 @@ impl QuestionList {
         &self.questions
     }
 
-    /// Meets the question at the place, which is not closed, with a row. Whether it is not closed then either. Most stay as they are, and are not looked at.
+    /// Narrows the question at the place, which is not closed, by a row. Whether it is still not closed. Most questions stay as they are, and are not looked at.
     pub(crate) fn meet_at(&mut self, place: usize, row: &Row) -> bool
         requires inside { place < length self.old }
         requires unclosed { (question : Rule) → question ≡ slice_index_or self.old place question → is_unclosed question ≡ true }
@@ -117,7 +114,7 @@ impl QuestionList {
         self.questions[place].premise.within(&row.whole)
     }
 
-    /// Of the questions from a place on, the place among them of the first whose premise does not come before this one.
+    /// Of the questions from a place on, the place of the first one whose premise does not come before the given one.
     pub(crate) fn first_from(&self, first: usize, premise: &Attrs) -> usize
         requires inside { first ≤ length self.now }
         requires increasing { increasing (premises (drop first self.now)) ≡ true }
@@ -143,7 +140,7 @@ impl QuestionList {
     }
 }
 
-/// The premises in one word each, or none where one has more attributes.
+/// The premises in one word each, or none if one has more attributes.
 fn premises_in_one_word(alloc: Global, questions: &[Question]) -> Result<Vec<Bits<1>>, Memory>
     ensures { IfOk result (λ sets. AreInOneWord questions.now sets.items) }
 {
@@ -164,7 +161,7 @@ fn fit_one_word(questions: &[Question]) -> bool
     questions.iter().all(|i| i.premise.width() <= ONE_WORD)
 }
 
-/// The question once there is this row too: where the row has the premise, the conclusion loses what the row lacks.
+/// The question after this row. If the row has the premise, the conclusion loses what the row lacks.
 fn narrowed(row: &Attrs, question: &Question) -> Question
     ensures { result ≡ narrowed row.now question.now }
 {

@@ -1,4 +1,4 @@
-//! The open questions in lectic order, which change where they stand: one is taken out, or all are met with a row.
+//! The open questions in lectic order. They change in place: one is taken out, or a row narrows all.
 
 ghost use Rattle.std.specs.Prelude.{◌≡◌, ◌<◌, ◌≤◌, ◌-◌, ◌++◌, length, map, take, drop, true, false, slice_get, slice_index_or, slice_set, nat_lt, not, ◌&&◌, Some, IfSome, IsSome, IfOk};
 ghost use Rattle.std.specs.List.{list_all, list_any, remove};
@@ -71,7 +71,7 @@ impl OpenQuestions {
         }
     }
 
-    /// Takes out the question at place i. Those before it move, which are few where experts are asked the first questions.
+    /// Takes out the question at place i. Those before it move. They are few, as experts are asked the first questions.
     pub(crate) fn take_out(&mut self, i: usize)
         requires { i < length self.old }
         ensures { self.new ≡ remove self.old i }
@@ -82,7 +82,7 @@ impl OpenQuestions {
         self.first = first + 1;
     }
 
-    /// Meets the questions, none of which is closed, with a row. Those that are closed then are dropped.
+    /// Narrows the questions, none of which is closed, by a row. Those that it closes are dropped.
     pub(crate) fn narrow(&mut self, row: &Attrs)
         requires { list_all is_unclosed self.old ≡ true }
         ensures { self.new ≡ still_open (map (narrowed row.now) self.old) }
@@ -91,8 +91,8 @@ impl OpenQuestions {
     }
 }
 
-/// Meets the questions from a place on, none of which is closed, with a row. Those that are not closed then stand from the place on that is told: so only those
-/// before one that is dropped move. Those between two that are dropped move together.
+/// Narrows the questions from a place on, none of which is closed, by a row. Those that are still not closed stand from the returned place on, so a question moves
+/// only if a later one is dropped. Questions between two that are dropped move together.
 fn narrow_from(list: &mut QuestionList, first: usize, row: &Row) -> usize
     requires inside { first ≤ length list.old }
     requires unclosed { list_all is_unclosed (drop first list.old) ≡ true }
@@ -110,7 +110,7 @@ fn narrow_from(list: &mut QuestionList, first: usize, row: &Row) -> usize
     move_up(list, first, end, kept)
 }
 
-/// Moves the questions from one place to another up, to those that stand from a later place on, and tells where they stand now.
+/// Moves the questions between two places up to those from a later place on. Returns where they begin now.
 fn move_up(list: &mut QuestionList, first: usize, end: usize, later: usize) -> usize
     requires some { first ≤ end }
     requires before { end ≤ later }
@@ -127,21 +127,21 @@ fn move_up(list: &mut QuestionList, first: usize, end: usize, later: usize) -> u
     place
 }
 
-/// Whether there are questions and each is closed once there is this row too.
-pub(crate) fn are_settled(questions: &[Question], row: &Attrs) -> bool
+/// Whether there are questions and the row closes all of them.
+pub(crate) fn closes_all(questions: &[Question], row: &Attrs) -> bool
     ensures { result ≡ (nat_lt 0 (length questions.now) && not (list_any (is_left row.now) questions.now)) }
 {
     !questions.is_empty() && !is_any_left(questions, row)
 }
 
-/// Whether one of the questions is not closed once there is this row too.
+/// Whether the row leaves one of the questions not closed.
 fn is_any_left(questions: &[Question], row: &Attrs) -> bool
     ensures { result ≡ list_any (is_left row.now) questions.now }
 {
     questions.iter().any(|i| is_left(i, row))
 }
 
-/// Whether the question is not closed once there is this row too.
+/// Whether the row leaves the question not closed.
 fn is_left(question: &Question, row: &Attrs) -> bool
     ensures { result ≡ is_left row.now question.now }
 {

@@ -9,7 +9,7 @@ use implication_closure::{Implication, ImplicationList};
 use std::alloc::Global;
 use std::marker::Model;
 
-/// The known implications, the accepted ones, and all of them, the known ones first. Where nothing is known, the accepted ones are all, and stand once.
+/// The known implications, the accepted ones, and all of them, the known ones first. If nothing is known, the accepted ones are all, and stand once.
 #[derive(Drop)]
 pub(crate) struct Rules {
     known: ImplicationList,
@@ -33,9 +33,9 @@ impl Rules {
         ensures { IfOk result (λ rules. rules ≡ record { width = known.now.width; known = known.now.members; accepted = [] }) }
     {
         Ok(Rules {
-            known: copied(alloc, known)?,
+            known: copy_of(alloc, known)?,
             accepted: ImplicationList::new(alloc, known.width())?,
-            all: copied(alloc, known)?,
+            all: copy_of(alloc, known)?,
         })
     }
 
@@ -88,8 +88,8 @@ impl Rules {
     }
 }
 
-/// The same list once more.
-fn copied(alloc: Global, list: &ImplicationList) -> Result<ImplicationList, Memory>
+/// A copy of the list.
+fn copy_of(alloc: Global, list: &ImplicationList) -> Result<ImplicationList, Memory>
     ensures { IfOk result (λ copy. copy ≡ list.now) }
 {
     let mut copy = ImplicationList::new(alloc, list.width())?;

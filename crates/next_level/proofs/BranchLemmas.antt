@@ -37,25 +37,28 @@ module _ (A : Set) (i : ℕ) (inside : i < length A) where
   -- they have it, and agree with A before it
   pub branch_parts : (X : Set) → in_branch i A X ≡ true → (get_or X i false ≡ true) × (agree_before i A X ≡ true)
   branch_parts X h =
-      let agree : agree_before (suc i) (set A i true) X ≡ true = (and_parts (not (get_or A i false)) (agree_before (suc i) (set A i true) X) h).1 in (
+      let agree : agree_before (suc i) (set A i true) X ≡ true =
+      (and_parts (not (get_or A i false)) (agree_before (suc i) (set A i true) X) h).1 in (
         sym (agree_at (suc i) (set A i true) X agree i (omega arith)) ∙ get_or-set_same A i true false inside,
         sym (agree_same i A (set A i true) X (agree_with i A)) ∙ agree_less i (suc i) (set A i true) X (omega arith) agree,
       )
 
   -- a branch with no open set
   pub branch_none : (J : List Rule) (K : Context) (b : ℕ) (L : List Rule)
-      → ((X : Set) → IsOpen J K everything X → size X ≤ b → get_or X i false ≡ true → agree_before i A X ≡ false) → L ≡ [] → L ≡ open_where J K b (in_branch i A)
+      → ((X : Set) → IsOpen J K everything X → size X ≤ b → get_or X i false ≡ true → agree_before i A X ≡ false) → L ≡ []
+      → L ≡ open_where J K b (in_branch i A)
   branch_none J K b L none = nothing_open J K b (in_branch i A) L (λ X x s. elim (cases_Bool (in_branch i A X)) [
     | inl there ↦ let parts = branch_parts X there in absurd (false≢true (sym (none X x s parts.0) ∙ parts.1))
     | inr not_there ↦ not_there
   ])
 
-  pub branch_taken : (J : List Rule) (K : Context) (b : ℕ) (L : List Rule) → get_or A i false ≡ true → L ≡ [] → L ≡ open_where J K b (in_branch i A)
+  pub branch_taken : (J : List Rule) (K : Context) (b : ℕ) (L : List Rule) → get_or A i false ≡ true → L ≡ []
+      → L ≡ open_where J K b (in_branch i A)
   branch_taken J K b L has = nothing_open J K b (in_branch i A) L (λ X x s. branch_member X has)
 
 -- ---- the least set
 
-module _ {K : Context} {L : RuleList} {A : Set} {b : ℕ} (root : IsRoot K L A b) where
+module _ {K : Context} {L : RuleList} {A : Set} (root : IsRoot K L A) where
   pub root_wide : length A ≡ K.width
   root_wide = root.closure.wide ∙ length-replicate K.width false
 
@@ -67,7 +70,8 @@ module _ {K : Context} {L : RuleList} {A : Set} {b : ℕ} (root : IsRoot K L A b
         (subst (λ (M : RuleList). IsGood M.members F.buckets A) (sym list) good)
 
 -- the walk of what agrees with the least set before an attribute
-pub root_entered : {K : Context} {A : Set} {from : ℕ} {F : Watched} → IsInside K A from F → IsInside K A 0 F → (c : ℕ) (Ls : List Rule) → Ls ≡ [] → IsEntered K A from F c Ls
+pub root_entered : {K : Context} {A : Set} {from : ℕ} {F : Watched} → IsInside K A from F → IsInside K A 0 F → (c : ℕ) (Ls : List Rule)
+    → Ls ≡ [] → IsEntered K A from F c Ls
 root_entered at root = inside_entered at (λ X x. root.least X x.wide x.respecting refl)
 
 -- ---- below the least set
@@ -99,8 +103,10 @@ module _ {K : Context} {A : Set} {F : Watched} (root : IsInside K A 0 F) (i : �
   }
 
   -- where each set that has the attribute and respects the list differs from A before it
-  pub branch_differs : (b : ℕ) (Y : Set) (L : List Rule) → Y ≡ set A i true → Differs J i A Y → L ≡ [] → L ≡ open_where J K b (in_branch i A)
-  branch_differs b Y L y differs = branch_none A i has_i J K b L (λ X x s has. differs X (subst (λ Z. within Z X ≡ true) (sym y) (set_within A X i (above X x) has)) x.respecting)
+  pub branch_differs : (b : ℕ) (Y : Set) (L : List Rule) → Y ≡ set A i true → Differs J i A Y → L ≡ []
+      → L ≡ open_where J K b (in_branch i A)
+  branch_differs b Y L y differs = branch_none A i has_i J K b L
+      (λ X x s has. differs X (subst (λ Z. within Z X ≡ true) (sym y) (set_within A X i (above X x) has)) x.respecting)
 
   module _ (C : Set) (c : IsClosure J (set A i true) C) where
     -- they contain the closure
@@ -109,7 +115,8 @@ module _ {K : Context} {A : Set} {F : Watched} (root : IsInside K A 0 F) (i : �
 
     -- where they are larger than the bound
     pub branch_larger : (b : ℕ) (L : List Rule) → b < size C → L ≡ [] → L ≡ open_where J K b (in_branch i A)
-    branch_larger b L gt = branch_none A i has_i J K b L (λ X x s has. absurd (let le = size_mono C X (contain X (above X x) x.respecting has) in omega (arith, le, s, gt)))
+    branch_larger b L gt = branch_none A i has_i J K b L
+        (λ X x s has. absurd (let le = size_mono C X (contain X (above X x) x.respecting has) in omega (arith, le, s, gt)))
 
     module _ (agree : agree_before i A C ≡ true) (r : Rule) (premise : r.premise ≡ A) (conclusion : r.conclusion ≡ C) where
       abbrev I : List Rule
@@ -117,7 +124,8 @@ module _ {K : Context} {A : Set} {F : Watched} (root : IsInside K A 0 F) (i : �
 
       -- what respects the list with the implication more
       parts_of : (X : Set) → respects_all I X ≡ true → (respects_all J X ≡ true) × (respects X r ≡ true)
-      parts_of X h = let both = and_parts (respects_all J X) (respects X r && true) (sym (list_all-append (respects X) J (r ∷ [])) ∙ h) in (both.0, (and_parts (respects X r) true both.1).0)
+      parts_of X h = let both = and_parts (respects_all J X) (respects X r && true) (sym (list_all-append (respects X) J (r ∷ [])) ∙ h) in
+          (both.0, (and_parts (respects X r) true both.1).0)
 
       both_of : (X : Set) → respects_all J X ≡ true → within C X ≡ true → respects_all I X ≡ true
       both_of X h up = list_all-append (respects X) J (r ∷ []) ∙ and_from (respects_all J X) (respects X r && true) h
@@ -126,18 +134,21 @@ module _ {K : Context} {A : Set} {F : Watched} (root : IsInside K A 0 F) (i : �
       over : (X : Set) → length X ≡ K.width → respects_all I X ≡ true → within C X ≡ true
       over X e h =
           let both = parts_of X h in
-          subst (λ Y. within Y X ≡ true) conclusion (respects_at X r both.1 (subst (λ Y. within Y X ≡ true) (sym premise) (root.least X e both.0 refl)))
+          subst (λ Y. within Y X ≡ true) conclusion (respects_at X r both.1
+          (subst (λ Y. within Y X ≡ true) (sym premise) (root.least X e both.0 refl)))
 
       has_c : get_or C i false ≡ true
       has_c = closure_has J K.width A root.wide i lt C c
 
       same_branch : (X : Set) → agree_before (suc i) C X ≡ agree_before (suc i) (set A i true) X
       same_branch X = agree_same (suc i) (set A i true) C X
-          (agree_more i (set A i true) C (agree_same i A (set A i true) C (agree_with i A) ∙ agree) (get_or-set_same A i true false has_i ∙ sym has_c))
+          (agree_more i (set A i true) C (agree_same i A (set A i true) C (agree_with i A) ∙ agree)
+          (get_or-set_same A i true false has_i ∙ sym has_c))
 
       -- the branch, where the least of it is put to the list
       pub branch_listed : (b : ℕ) (L : List Rule) → L ≡ open_where I K b (up_to (suc i) C) → L ≡ open_where J K b (in_branch i A)
-      branch_listed b L = other_where I J K b (up_to (suc i) C) (in_branch i A) L (λ X e. bool_iff (respects_all I X && up_to (suc i) C X) (respects_all J X && in_branch i A X)
+      branch_listed b L = other_where I J K b (up_to (suc i) C) (in_branch i A) L
+          (λ X e. bool_iff (respects_all I X && up_to (suc i) C X) (respects_all J X && in_branch i A X)
           (λ h.
           let here = and_parts (respects_all I X) (up_to (suc i) C X) h in
           let at : agree_before (suc i) C X ≡ true = up_to_agree (suc i) C X here.1 (within_not_before (suc i) C X (over X e here.0)) in
@@ -148,16 +159,21 @@ module _ {K : Context} {A : Set} {F : Watched} (root : IsInside K A 0 F) (i : �
           and_from (respects_all I X) (up_to (suc i) C X) (both_of X here.0 (contain X (root.least X e here.0 refl) here.0 has))
           (agree_up_to (suc i) C X (same_branch X ∙ sym (branch_is A i has_i X lacks) ∙ here.1))))
 
-      module _ {H : Watched} (at : IsInside K C (i + 1) H) (same_list : H.list ≡ F.list) (G : Watched) (list : G.list ≡ record { width = H.list.width; members = H.list.members ++ r ∷ [] }) (put : IsPutBefore 0 H.buckets G.buckets r) where
+      module _ {H : Watched} (at : IsInside K C (i + 1) H) (same_list : H.list ≡ F.list) (G : Watched)
+          (list : G.list ≡ record { width = H.list.width; members = H.list.members ++ r ∷ [] })
+          (put : IsPutBefore 0 H.buckets G.buckets r) where
         -- the walk of the branch
         pub branch_inside : IsInside K C (i + 1) G
         branch_inside = record {
           width = ap (λ (M : RuleList). M.width) list ∙ at.width;
           wide = at.wide;
           respecting = subst (λ (M : RuleList). respects_all M.members C ≡ true) (sym list)
-              (list_all-append (respects C) H.list.members (r ∷ []) ∙ and_from (respects_all H.list.members C) (respects C r && true) at.respecting (and_from (respects C r) true mine refl));
+              (list_all-append (respects C) H.list.members (r ∷ [])
+              ∙ and_from (respects_all H.list.members C) (respects C r && true) at.respecting (and_from (respects C r) true mine refl));
           least = λ X e h. at.least X e
-              (and_parts (respects_all H.list.members X) (respects X r && true) (sym (list_all-append (respects X) H.list.members (r ∷ [])) ∙ subst (λ (M : RuleList). respects_all M.members X ≡ true) list h)).0;
+              (and_parts (respects_all H.list.members X) (respects X r && true)
+              (sym (list_all-append (respects X) H.list.members (r ∷ []))
+              ∙ subst (λ (M : RuleList). respects_all M.members X ≡ true) list h)).0;
           inside = at.inside;
           filed = subst (λ (M : RuleList). IsFiled M.width M.members G.buckets) (sym list)
               (push_filed H.list.width H.list.members H.buckets G.buckets 0 r put at.filed (λ k e. absurd (omega (arith, e))));
@@ -175,26 +191,33 @@ module _ {K : Context} {A : Set} {F : Watched} (root : IsInside K A 0 F) (i : �
         same_members = ap (λ (M : RuleList). M.members) list ∙ ap (λ (M : RuleList). M.members ++ r ∷ []) same_list
 
         pub branch_entered : (b : ℕ) (Ls : List Rule) → Ls ≡ [] → IsEntered K C (i + 1) G b Ls
-        branch_entered = inside_entered branch_inside (λ X x. over X x.wide (subst (λ M. respects_all M X ≡ true) same_members x.respecting))
+        branch_entered = inside_entered branch_inside
+            (λ X x. over X x.wide (subst (λ M. respects_all M X ≡ true) same_members x.respecting))
 
-        pub branch_among : (whole : Bool) (sets : List Set) → AreAmong H.list.members K C (i + 1) whole sets → AreAmong G.list.members K C (i + 1) whole sets
+        pub branch_among : (whole : Bool) (sets : List Set) → AreAmong H.list.members K C (i + 1) whole sets
+            → AreAmong G.list.members K C (i + 1) whole sets
         branch_among whole sets among X x = among X (record {
           wide = x.wide;
-          respecting = subst (λ (M : RuleList). respects_all M.members X ≡ true) (sym same_list) (parts_of X (subst (λ M. respects_all M X ≡ true) same_members x.respecting)).0;
+          respecting = subst (λ (M : RuleList). respects_all M.members X ≡ true) (sym same_list)
+              (parts_of X (subst (λ M. respects_all M X ≡ true) same_members x.respecting)).0;
           not_closed = x.not_closed;
           passes = x.passes;
         })
 
-        pub branch_done : (b : ℕ) (L : List Rule) (list_after : RuleList) → list_after ≡ G.list → L ≡ open_where list_after.members K b (up_to (i + 1) C) → L ≡ open_where J K b (in_branch i A)
+        pub branch_done : (b : ℕ) (L : List Rule) (list_after : RuleList) → list_after ≡ G.list
+            → L ≡ open_where list_after.members K b (up_to (i + 1) C) → L ≡ open_where J K b (in_branch i A)
         branch_done b L after same_after l =
             let next : i + 1 ≡ suc i = omega arith in
-            branch_listed b L (subst (λ M. L ≡ open_where M K b (up_to (suc i) C)) (ap (λ (M : RuleList). M.members) same_after ∙ same_members) (subst (λ k. L ≡ open_where after.members K b (up_to k C)) next l))
+            branch_listed b L (subst (λ M. L ≡ open_where M K b (up_to (suc i) C))
+            (ap (λ (M : RuleList). M.members) same_after ∙ same_members)
+            (subst (λ k. L ≡ open_where after.members K b (up_to k C)) next l))
 
 -- ---- one branch after the other
 
 module _ (J : List Rule) (K : Context) (A : Set) (i : ℕ) (inside : i < length A) where
   -- what comes before the branch, and the branch
-  pub branch_append : (b : ℕ) (L M : List Rule) → L ≡ open_where J K b (up_to (suc i) A) → M ≡ open_where J K b (in_branch i A) → L ++ M ≡ open_where J K b (up_to i A)
+  pub branch_append : (b : ℕ) (L M : List Rule) → L ≡ open_where J K b (up_to (suc i) A) → M ≡ open_where J K b (in_branch i A)
+      → L ++ M ≡ open_where J K b (up_to i A)
   branch_append b L M l m = elim (cases_Bool (get_or A i false)) [
     | inl has ↦ open_append J K b (up_to i A) (in_branch i A) L M
         (λ X Z less p q. absurd (false≢true (sym (branch_member A i inside X has) ∙ q)))
@@ -210,10 +233,12 @@ module _ (J : List Rule) (K : Context) (A : Set) (i : ℕ) (inside : i < length 
         open_append J K b (up_to i A) (in_branch i A) L M
         (λ X Z less p q t. branch_is A i inside Z lacks ∙ last k C X Z less (sym (branch_is A i inside X lacks) ∙ q) (sym (up Z) ∙ t))
         (same_where J K b (up_to k A) (λ X. up_to i A X && not (in_branch i A X)) L
-        (λ X e r n s. sym (child_before i A C X lacks has (agree_with i A)) ∙ sym (no_more (before k C X) (agree_before k C X) (agree_not_before k C X))
+        (λ X e r n s. sym (child_before i A C X lacks has (agree_with i A))
+        ∙ sym (no_more (before k C X) (agree_before k C X) (agree_not_before k C X))
         ∙ sym (ap₂ (λ u v. u && not v) (up X) (branch_is A i inside X lacks))) l)
         (same_where J K b (in_branch i A) (λ X. up_to i A X && in_branch i A X) M
-        (λ X e r n s. branch_is A i inside X lacks ∙ sym (only (before k C X) (agree_before k C X)) ∙ sym (ap₂ (λ u v. u && v) (up X) (branch_is A i inside X lacks))) m)
+        (λ X e r n s. branch_is A i inside X lacks ∙ sym (only (before k C X) (agree_before k C X))
+        ∙ sym (ap₂ (λ u v. u && v) (up X) (branch_is A i inside X lacks))) m)
   ]
     where
       all_of : (u v : Bool) → v ≡ false → (u && not v) ≡ u
@@ -225,7 +250,8 @@ module _ (J : List Rule) (K : Context) (A : Set) (i : ℕ) (inside : i < length 
       none_of false v e = sym e
 
       -- behind a set of the branch only others of it come
-      last : (k : ℕ) (C X Z : Set) → is_lt (lectic_cmp X Z) ≡ true → agree_before k C X ≡ true → up_to k C Z ≡ true → agree_before k C Z ≡ true
+      last : (k : ℕ) (C X Z : Set) → is_lt (lectic_cmp X Z) ≡ true → agree_before k C X ≡ true → up_to k C Z ≡ true
+          → agree_before k C Z ≡ true
       last k C X Z less x z = elim (or_cases (before k C Z) (agree_before k C Z) z) [
         | inl first ↦
             let back : lectic_cmp Z X ≡ Less = before_comes_first k X Z (before_same k C X Z x ∙ first) in
@@ -239,7 +265,8 @@ no_parts : {X : Type 0} (xs ys : List X) → xs ++ ys ≡ [] → (xs ≡ []) × 
 no_parts [] ys e = (refl, e)
 no_parts (x ∷ xs) ys e = absurd (cc)
 
-module _ (J : List Rule) (K : Context) (p q : Set → Bool) (a b c : ℕ) (L M N : List Rule) (l : L ≡ open_where J K a p) (m : M ≡ open_where J K b q) (least : c ≡ min a b)
+module _ (J : List Rule) (K : Context) (p q : Set → Bool) (a b c : ℕ) (L M N : List Rule) (l : L ≡ open_where J K a p)
+    (m : M ≡ open_where J K b q) (least : c ≡ min a b)
     (parts : N ≡ filter (λ i. leb (size i.premise) c) L ++ filter (λ i. leb (size i.premise) c) M) where
   at_a : c ≤ a
   at_a = omega (arith, least)
@@ -258,8 +285,12 @@ module _ (J : List Rule) (K : Context) (p q : Set → Bool) (a b c : ℕ) (L M N
   lower_steady d s t none =
       let both = no_parts (filter (λ i. leb (size i.premise) c) L) (filter (λ i. leb (size i.premise) c) M) (sym parts ∙ none) in
       elim (cases_lt a b) [
-        | inl lt ↦ let same_bound : c ≡ a = omega (arith, least, lt) in same_bound ∙ s (l ∙ subst (λ k. open_where J K k p ≡ filter (λ i. leb (size i.premise) c) L) same_bound (sym lower_first) ∙ both.0)
-        | inr ge ↦ let same_bound : c ≡ b = omega (arith, least, ge) in same_bound ∙ t (m ∙ subst (λ k. open_where J K k q ≡ filter (λ i. leb (size i.premise) c) M) same_bound (sym lower_second) ∙ both.1)
+        | inl lt ↦ let same_bound : c ≡ a = omega (arith, least, lt) in
+            same_bound ∙ s (l ∙ subst (λ k. open_where J K k p ≡ filter (λ i. leb (size i.premise) c) L) same_bound (sym lower_first)
+            ∙ both.0)
+        | inr ge ↦ let same_bound : c ≡ b = omega (arith, least, ge) in
+            same_bound ∙ t (m ∙ subst (λ k. open_where J K k q ≡ filter (λ i. leb (size i.premise) c) M) same_bound (sym lower_second)
+            ∙ both.1)
       ]
 
 -- ---- the parts
@@ -271,7 +302,8 @@ module _ (J : List Rule) (K : Context) (A : Set) (n : ℕ) (inside : n ≤ lengt
     steady = λ e. same_bound;
   }
 
-  one_more : (k : ℕ) → k ≤ n → (b : ℕ) (L M : List Rule) → L ≡ open_where J K b (in_parts n k A) → M ≡ open_where J K b (in_part n k A) → L ++ M ≡ open_where J K b (in_parts n (suc k) A)
+  one_more : (k : ℕ) → k ≤ n → (b : ℕ) (L M : List Rule) → L ≡ open_where J K b (in_parts n k A) → M ≡ open_where J K b (in_part n k A)
+      → L ++ M ≡ open_where J K b (in_parts n (suc k) A)
   one_more zero le b L M l m =
       let whole : n - 0 ≡ n = omega arith in
       subst (λ k. L ++ M ≡ open_where J K b (up_to k A)) (sym whole) (ap (λ Zs. Zs ++ M) (none_listed J K b L l) ∙ m)
@@ -281,8 +313,10 @@ module _ (J : List Rule) (K : Context) (A : Set) (n : ℕ) (inside : n ≤ lengt
       branch_append J K A i (omega (arith, le, inside)) b L M (subst (λ m. L ≡ open_where J K b (up_to m A)) next l) m
 
   -- the parts before, and the next one, up to the lower of both bounds
-  pub parts_more : (k : ℕ) → k ≤ n → (d : ℕ) {a b : ℕ} {L M : List Rule} → AreOpen J K (in_parts n k A) d a L → AreOpen J K (in_part n k A) d b M
-      → (c : ℕ) (N : List Rule) → c ≡ min a b → N ≡ filter (λ i. leb (size i.premise) c) L ++ filter (λ i. leb (size i.premise) c) M → AreOpen J K (in_parts n (suc k) A) d c N
+  pub parts_more : (k : ℕ) → k ≤ n → (d : ℕ) {a b : ℕ} {L M : List Rule} → AreOpen J K (in_parts n k A) d a L
+      → AreOpen J K (in_part n k A) d b M
+      → (c : ℕ) (N : List Rule) → c ≡ min a b → N ≡ filter (λ i. leb (size i.premise) c) L ++ filter (λ i. leb (size i.premise) c) M
+      → AreOpen J K (in_parts n (suc k) A) d c N
   parts_more k le d {a = a} {b = b} {L = L} {M = M} l m c N least parts = record {
     listed = parts ∙ one_more k le c _ _
         (lower_first J K (in_parts n k A) (in_part n k A) a b c L M N l.listed m.listed least parts)

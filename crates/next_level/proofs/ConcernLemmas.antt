@@ -32,7 +32,8 @@ module _ (A : Set) (i : ℕ) where
           ]
 
   -- a set that agrees with A before i respects all members where it respects those that concern it
-  concerning_enough : (J : List Rule) (X : Set) → agree_before i A X ≡ true → respects_all (filter (concerns i A) J) X ≡ true → respects_all J X ≡ true
+  concerning_enough : (J : List Rule) (X : Set) → agree_before i A X ≡ true → respects_all (filter (concerns i A) J) X ≡ true
+      → respects_all J X ≡ true
   concerning_enough J X agree h = list_all-mono (λ r. not (concerns i A r) || respects X r) (respects X)
       (λ r t. respects_from X r (λ p. respects_at X r (implies_at (concerns i A r) (respects X r) t (premise_concerns r X agree p)) p))
       J (sym (list_all-filter (respects X) (concerns i A) J) ∙ h)
@@ -42,7 +43,8 @@ module _ (A : Set) (i : ℕ) where
   concerning_fewer J X h = list_all-filter_kept (respects X) (concerns i A) J h
 
   -- what A and a set that respects these have in common respects all
-  common_respects : (J : List Rule) (T : Set) → respects_all J A ≡ true → respects_all (filter (concerns i A) J) T ≡ true → respects_all J (meet A T) ≡ true
+  common_respects : (J : List Rule) (T : Set) → respects_all J A ≡ true → respects_all (filter (concerns i A) J) T ≡ true
+      → respects_all J (meet A T) ≡ true
   common_respects J T a t = list_all-mono₂ (respects A) (λ r. not (concerns i A r) || respects T r) (respects (meet A T)) each
       J a (sym (list_all-filter (respects T) (concerns i A) J) ∙ t)
     where
@@ -52,12 +54,12 @@ module _ (A : Set) (i : ℕ) where
           within-meet r.conclusion A T ∙ and_from (within r.conclusion A) (within r.conclusion T) (respects_at A r in_a both.0)
           (respects_at T r (implies_at (concerns i A r) (respects T r) in_t (premise_concerns r A (agree_refl i A) both.0)) both.1))
 
-module _ {K : Context} {L : RuleList} {A : Set} {b : ℕ} (root : IsRoot K L A b) (i : ℕ) where
+module _ {K : Context} {L : RuleList} {A : Set} (root : IsRoot K L A) (i : ℕ) where
   abbrev I : List Rule
   I = filter (concerns i A) L.members
 
   -- the least set is the same
-  pub concerning_root : IsRoot K (concerning i A L) A b
+  pub concerning_root : IsRoot K (concerning i A L) A
   concerning_root = record {
     width = root.width;
     closure = record {
@@ -70,7 +72,6 @@ module _ {K : Context} {L : RuleList} {A : Set} {b : ℕ} (root : IsRoot K L A b
           ∙ root.closure.least (meet A T) (within-meet nothing A T ∙ and_from (within nothing A) (within nothing T) root.closure.above up)
           (common_respects A i L.members T root.closure.respecting h))).1;
     };
-    small = root.small;
   }
 
   -- and so are the open sets that agree with it before i
@@ -87,6 +88,12 @@ module _ {K : Context} {L : RuleList} {A : Set} {b : ℕ} (root : IsRoot K L A b
       and_from (respects_all I X) (p X) (concerning_fewer A i L.members X both.0) both.1))
       (subst (λ (N : RuleList). Ls ≡ open_where N.members K c p) same_list l)
 
-  pub concerning_among : (M : RuleList) → M ≡ concerning i A L → (whole : Bool) (sets : List Set) → AllAmong L.members K whole sets → AreAmong M.members K A i whole sets
+  pub concerning_among : (M : RuleList) → M ≡ concerning i A L → (whole : Bool) (sets : List Set) → AllAmong L.members K whole sets
+      → AreAmong M.members K A i whole sets
   concerning_among M same_list whole sets all = subst (λ (N : RuleList). AreAmong N.members K A i whole sets) (sym same_list)
-      (λ X x. all X (record { wide = x.wide; respecting = concerning_enough A i L.members X x.passes x.respecting; not_closed = x.not_closed; passes = refl }))
+      (λ X x. all X (record {
+        wide = x.wide;
+        respecting = concerning_enough A i L.members X x.passes x.respecting;
+        not_closed = x.not_closed;
+        passes = refl;
+      }))

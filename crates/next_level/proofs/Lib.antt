@@ -3,3 +3,4 @@ pub mod LevelWalkLemmas
 pub mod SizeLemmas
 pub mod BranchLemmas
 pub mod ConcernLemmas
+pub mod StepLemmas

@@ -1,9 +1,11 @@
 -- Sets among which all open ones are.
 --
--- The rows and the rules of an exploration only grow. A set that respects the rules later and is not closed later did so before; so where all such sets were
--- listed once, those of all later levels are among them. (Ganter and Wille, "Formal Concept Analysis", attribute exploration.)
+-- The rows and the rules of an exploration only grow. A set that respects the rules later and is not closed later did so before; so where
+-- all such sets were listed once, those of all later levels are among them. (Ganter and Wille, "Formal Concept Analysis", attribute
+-- exploration.)
 --
--- Of the rows {a}, {b}, {c} over a, b, c, with no rules, the open sets are {b, c}, {a, c} and {a, b}. Under {b, c} -> {a, b, c} only the last two are open.
+-- Of the rows {a}, {b}, {c} over a, b, c, with no rules, the open sets are {b, c}, {a, c} and {a, b}. Under {b, c} -> {a, b, c} only the
+-- last two are open.
 use Rattle.std.specs.Prelude.{◌≡◌, ℕ, ◌<◌, ◌≤◌, ◌==◌, ◌||◌, Bool, true, false, not, nat_lt, List, Option, None, Some, filter}
 use Rattle.std.specs.List.{list_any}
 use Rattle.fca_model.specs.Sets.{Set, same, size, agree_before}

@@ -1,24 +1,23 @@
 -- The branches of a walk.
 --
--- The sets that contain the least one are those that agree with it before some attribute, and behind these, for each attribute before, the last first, those that
--- agree with the least set before it and have it. In this order they are in lectic order. (Ganter and Wille, "Formal Concept Analysis", the algorithm Next
--- Closure.)
+-- The sets that contain the least one are those that agree with it before some attribute, and behind these, for each attribute before, the
+-- last first, those that agree with the least set before it and have it. In this order they are in lectic order. (Ganter and Wille, "Formal
+-- Concept Analysis", the algorithm Next Closure.)
 --
--- Of the sets over a, b, c, where {} is the least, {} and {c} agree with it before attribute 2, the branch of attribute 1 has {b} and {b, c}, and that of attribute
--- 0 has the four sets with a.
-use Rattle.std.specs.Prelude.{◌≡◌, ℕ, zero, suc, ◌-◌, ◌≤◌, ◌&&◌, Bool, not, false, true, List, [], replicate, slice_index_or, slice_set}
-use Rattle.fca_model.specs.Sets.{Set, size, agree_before}
+-- Of the sets over a, b, c, where {} is the least, {} and {c} agree with it before attribute 2, the branch of attribute 1 has {b} and {b,
+-- c}, and that of attribute 0 has the four sets with a.
+use Rattle.std.specs.Prelude.{◌≡◌, ℕ, zero, suc, ◌-◌, ◌&&◌, Bool, not, false, true, List, [], replicate, slice_index_or, slice_set}
+use Rattle.fca_model.specs.Sets.{Set, agree_before}
 use Rattle.fca_model.specs.Context.{Context}
 use Rattle.fca_model.specs.Implications.{Rule}
 use Rattle.implication_closure.specs.Closing.{RuleList, IsClosure}
 use Rattle.lectic_basis.specs.Trees.{up_to}
 use Rattle.next_level.specs.NextLevel.{open_where}
 
--- A is the least set that respects the list, and no larger than the bound
-pub record IsRoot (K : Context) (L : RuleList) (A : Set) (b : ℕ) : Type 0 where
+-- A is the least set that respects the list
+pub record IsRoot (K : Context) (L : RuleList) (A : Set) : Type 0 where
   pub width : L.width ≡ K.width
   pub closure : IsClosure L.members (replicate K.width false) A
-  pub small : size A ≤ b
 
 -- A lacks attribute i, and X has it and agrees with A before it
 abbrev pub in_branch : ℕ → Set → Set → Bool

@@ -1,7 +1,7 @@
 -- The states of the walk for the next level.
 --
--- The walk looks at the sets that respect the list and agree with A before an attribute. It keeps those seen so far that are not closed and no larger than a
--- bound: a branch whose sets are larger is not entered.
+-- The walk looks at the sets that respect the list and agree with A before an attribute. It keeps those seen so far that are not closed and
+-- no larger than a bound: a branch whose sets are larger is not entered.
 use Rattle.std.specs.Prelude.{nat_le, ◌==◌, ◌⊎◌, ◌≡◌, ℕ, suc, ◌<◌, ◌≤◌, true, length, List, []}
 use Rattle.std.specs.List.{list_all, list_any}
 use Rattle.fca_model.specs.Sets.{Set, within, size}

@@ -1,10 +1,11 @@
 -- The next level of the basis that has a member.
 --
--- Where a list has what is known and all basis members below a size, the sets that respect the list and are not closed are at least of that size, and those
--- of least size are the members of the next level. (Ganter and Wille, "Formal Concept Analysis", pseudo-intents; the levels are those of `fca_model`.)
+-- Where a list has what is known and all basis members below a size, the sets that respect the list and are not closed are at least of that
+-- size, and those of least size are the members of the next level. (Ganter and Wille, "Formal Concept Analysis", pseudo-intents; the levels
+-- are those of `fca_model`.)
 --
--- Of the rows {a}, {b}, {c} over a, b, c, with nothing known and nothing accepted, the sets that are not closed are {b, c}, {a, c} and {a, b}, all of size 2:
--- the next level is that of size 2, and has all three members.
+-- Of the rows {a}, {b}, {c} over a, b, c, with nothing known and nothing accepted, the sets that are not closed are {b, c}, {a, c} and {a,
+-- b}, all of size 2: the next level is that of size 2, and has all three members.
 use Rattle.std.specs.Prelude.{◌≡◌, ℕ, ◌≤◌, ◌+◌, ◌==◌, ◌⊎◌, length, Bool, nat_le, true, false, not, ◌&&◌, List, [], filter, map}
 use Rattle.fca_model.specs.Sets.{Set, within, size, all_sets, agree_before}
 use Rattle.fca_model.specs.Context.{Context, closure, is_closed}

@@ -1,4 +1,4 @@
-//! Sets among which the open ones of later levels are.
+//! Candidates for later levels.
 
 ghost use Rattle.std.specs.Prelude.{◌≡◌, ◌≤◌, [], IfOk, true, false, filter, nat_lt};
 ghost use Rattle.fca_model.specs.Implications.{premises};
@@ -6,13 +6,13 @@ ghost use Rattle.fca_model.specs.Sets.{size};
 ghost use Rattle.implication_closure.specs.Closing.{HaveWidth};
 ghost use Rattle.next_level.specs.Among.{IsRest};
 
-use crate::open_sets::{OpenSets, larger};
+use crate::open_sets::{OpenSets, of_larger_size};
 use attr_bits::Bits;
 use derivation::Rows;
 use fca_model::{Implication, Memory};
 use std::alloc::Global;
 
-/// Sets among which all are that will be open. Where it is not known to have all, it has none.
+/// Sets kept for later levels. If `whole`, every set that will be open is one of them; otherwise there are none.
 #[derive(Drop)]
 pub struct Ahead {
     pub whole: bool,
@@ -20,8 +20,8 @@ pub struct Ahead {
 }
 
 impl Ahead {
-    /// Nothing is known.
-    pub fn unknown(alloc: Global, width: u32) -> Result<Ahead, Memory>
+    /// No sets, of which nothing is known.
+    pub fn none(alloc: Global, width: u32) -> Result<Ahead, Memory>
         requires { width ≤ 1024 }
         ensures { IfOk result (λ ahead. (ahead.whole ≡ false) × (ahead.sets ≡ record { width = width; rows = [] })) }
     {
@@ -32,7 +32,7 @@ impl Ahead {
     }
 }
 
-/// Those of the open sets that are larger, if all that are larger are among them, and they are not too many. Where there is no memory for them, nothing is known.
+/// The larger ones among the open sets. None are kept if larger ones may be missing, if they are too many, or if memory runs out.
 pub(crate) fn ahead_of<const W: usize>(
     alloc: Global,
     width: u32,
@@ -47,15 +47,15 @@ pub(crate) fn ahead_of<const W: usize>(
     ensures wide { IfOk result (λ ahead. ahead.sets.width ≡ width) }
 {
     if seen.bound < width {
-        return Ahead::unknown(alloc, width);
+        return Ahead::none(alloc, width);
     }
     match rest_of(alloc, width, &seen.members, size, most) {
         Ok(ahead) => Ok(ahead),
-        Err(_) => Ahead::unknown(alloc, width),
+        Err(_) => Ahead::none(alloc, width),
     }
 }
 
-/// The premises that are larger, if they are not too many.
+/// The larger premises, or none if they are too many.
 fn rest_of<const W: usize>(
     alloc: Global,
     width: u32,
@@ -69,9 +69,9 @@ fn rest_of<const W: usize>(
     ensures rest { IfOk result (λ ahead. ahead.whole ≡ true → ahead.sets ≡ record { width = width; rows = premises (filter (λ i. nat_lt level (size i.premise)) members.now) }) }
     ensures wide { IfOk result (λ ahead. ahead.sets.width ≡ width) }
 {
-    let rest = larger(alloc, members, level)?;
+    let rest = of_larger_size(alloc, members, level)?;
     if rest.len() > most {
-        return Ahead::unknown(alloc, width);
+        return Ahead::none(alloc, width);
     }
     let sets = premises_of(alloc, width, &rest)?;
     Ok(Ahead { whole: true, sets })

@@ -1,4 +1,4 @@
-//! Sets among which the open ones are known to be, and those of them in a branch of the walk.
+//! Candidates: sets to which the open ones may be limited, and those of them in a branch of the walk.
 
 ghost use Rattle.std.specs.Prelude.{◌≡◌, ◌≤◌, ◌&&◌, IfOk, filter, not, true};
 ghost use Rattle.std.specs.List.{list_any};
@@ -9,7 +9,7 @@ use attr_bits::Bits;
 use fca_model::Memory;
 use std::alloc::Global;
 
-/// Sets among which all open ones are, where they are whole. Else they tell nothing.
+/// If `whole`, every open set is one of these; otherwise they say nothing.
 #[derive(Drop)]
 pub(crate) struct Among<const W: usize> {
     pub whole: bool,
@@ -26,7 +26,15 @@ impl<const W: usize> Among<W> {
         Ok(Among { whole, sets })
     }
 
-    /// Those that have attribute i as the first that a lacks.
+    /// These sets once more.
+    pub(crate) fn copy(&self, alloc: Global) -> Result<Among<W>, Memory>
+        requires words { W ≤ 1024 }
+        ensures { IfOk result (λ among. (among.whole ≡ self.now.whole) × (among.sets.items ≡ self.now.sets.items)) }
+    {
+        Among::of(alloc, self.whole, &self.sets)
+    }
+
+    /// Those whose first attribute outside a is i.
     pub(crate) fn branch(&self, alloc: Global, a: &Bits<W>, i: u32) -> Result<Among<W>, Memory>
         requires words { W ≤ 1024 }
         ensures { IfOk result (λ part. (part.whole ≡ self.now.whole) × (part.sets.items ≡ filter (λ X. stands_at i (first_missing 0 X a.now)) self.now.sets.items)) }
@@ -38,7 +46,7 @@ impl<const W: usize> Among<W> {
         })
     }
 
-    /// Whether none of them is in the branch, and no other set is open.
+    /// Whether no open set is in the branch of attribute i.
     pub(crate) fn passes(&self, a: &Bits<W>, i: u32) -> bool
         requires words { W ≤ 1024 }
         ensures { result ≡ (self.now.whole && not (list_any (λ X. stands_at i (first_missing 0 X a.now)) self.now.sets.items)) }
@@ -47,7 +55,7 @@ impl<const W: usize> Among<W> {
     }
 }
 
-/// Those of the sets that have attribute i as the first that a lacks.
+/// Those of the sets whose first attribute outside a is i.
 fn part_of<const W: usize>(
     alloc: Global,
     among: &[Bits<W>],
@@ -70,7 +78,7 @@ fn part_of<const W: usize>(
     )
 }
 
-/// Whether attribute i is the first of the set that a lacks.
+/// Whether i is the first attribute of the set outside a.
 fn is_in_branch<const W: usize>(set: &Bits<W>, a: &Bits<W>, i: u32) -> bool
     ensures { result ≡ stands_at i (first_missing 0 set.now a.now) }
 {

@@ -1,18 +1,19 @@
-//! The open sets that a walk has seen.
+//! The open sets that a walk has met.
 
-ghost use Rattle.std.specs.Prelude.{◌≡◌, ◌≤◌, ◌++◌, min, OnOk, IfOk, filter, List, Bool, nat_le, nat_lt, ◌==◌};
+ghost use Rattle.std.specs.Prelude.{◌≡◌, ◌≤◌, ◌++◌, [], min, OnOk, IfOk, filter, List, Bool, nat_le, nat_lt, ◌==◌};
 ghost use Rattle.fca_model.specs.Sets.{Set, size};
 ghost use Rattle.fca_model.specs.Context.{Context};
 ghost use Rattle.fca_model.specs.Implications.{Rule};
 ghost use Rattle.next_level.specs.NextLevel.{open_where};
 ghost use Rattle.next_level.specs.LevelWalks.{IsSteady, IsLeastSize};
 
+use crate::branches::Limits;
 use attr_bits::Bits;
 use fca_model::{Implication, Memory};
 use std::alloc::Global;
 
-/// The open sets seen so far that are no larger than the bound, with their closures. After so many visits the bound falls to the least size of these, and then to
-/// the size of each smaller one.
+/// The open sets met so far that are no larger than the bound, with their closures. After a number of visits the bound falls to the least size of these, and
+/// from then on to the size of each smaller one.
 #[derive(Drop)]
 pub(crate) struct OpenSets<const W: usize> {
     pub bound: u32,
@@ -21,7 +22,19 @@ pub(crate) struct OpenSets<const W: usize> {
 }
 
 impl<const W: usize> OpenSets<W> {
-    /// One visit more. With the last one the bound falls.
+    /// The start of a walk, with no open sets yet.
+    pub(crate) fn new(alloc: Global, limits: Limits) -> OpenSets<W>
+        ensures bound { result.bound ≡ limits.bound }
+        ensures members { result.members.items ≡ [] }
+    {
+        OpenSets {
+            bound: limits.bound,
+            visits: limits.visits,
+            members: Vec::new(alloc),
+        }
+    }
+
+    /// Counts one more visit. At the last one the bound falls.
     pub(crate) fn visit(&mut self, alloc: Global) -> Result<(), Memory>
         requires words { W ≤ 1024 }
         ensures listed { OnOk result ((J : List Rule) (K : Context) (p : Set → Bool)
@@ -38,7 +51,7 @@ impl<const W: usize> OpenSets<W> {
         Ok(())
     }
 
-    /// Has the bound fall to the least size of an open set, if one was seen.
+    /// Lowers the bound to the least size of an open set, if one was met.
     fn fall(&mut self, alloc: Global) -> Result<(), Memory>
         requires words { W ≤ 1024 }
         ensures listed { OnOk result ((J : List Rule) (K : Context) (p : Set → Bool)
@@ -46,7 +59,7 @@ impl<const W: usize> OpenSets<W> {
         ensures steady { OnOk result (IsSteady self.old.bound self.old.members.items self.new.bound self.new.members.items) }
     {
         let least = least_size(&self.members, self.bound);
-        let kept = no_larger(alloc, &self.members, least)?;
+        let kept = up_to_size(alloc, &self.members, least)?;
         if kept.is_empty() {
             return Ok(());
         }
@@ -55,7 +68,7 @@ impl<const W: usize> OpenSets<W> {
         Ok(())
     }
 
-    /// Has the bound fall to the size of an open set, if no visits are left.
+    /// Lowers the bound to the size of an open set, if no visits are left.
     pub(crate) fn make_room(&mut self, alloc: Global, size: u32) -> Result<(), Memory>
         requires words { W ≤ 1024 }
         requires small { size ≤ self.old.bound }
@@ -66,12 +79,12 @@ impl<const W: usize> OpenSets<W> {
         if self.visits > 0 || size == self.bound {
             return Ok(());
         }
-        self.members = no_larger(alloc, &self.members, size)?;
+        self.members = up_to_size(alloc, &self.members, size)?;
         self.bound = size;
         Ok(())
     }
 
-    /// Puts others last, up to the lower of both bounds.
+    /// Appends others, up to the lower of both bounds.
     pub(crate) fn append(&mut self, alloc: Global, others: &OpenSets<W>) -> Result<(), Memory>
         requires words { W ≤ 1024 }
         ensures bound { OnOk result (self.new.bound ≡ min self.old.bound others.now.bound) }
@@ -80,8 +93,8 @@ impl<const W: usize> OpenSets<W> {
             ++ filter (λ i. nat_le (size i.premise) self.new.bound) others.now.members.items) }
     {
         let bound = self.bound.min(others.bound);
-        self.members = no_larger(alloc, &self.members, bound)?;
-        let mut more = no_larger(alloc, &others.members, bound)?;
+        self.members = up_to_size(alloc, &self.members, bound)?;
+        let mut more = up_to_size(alloc, &others.members, bound)?;
         self.members.append(&mut more)?;
         self.bound = bound;
         Ok(())
@@ -89,7 +102,7 @@ impl<const W: usize> OpenSets<W> {
 }
 
 /// Those whose premises have at most this size.
-fn no_larger<const W: usize>(
+fn up_to_size<const W: usize>(
     alloc: Global,
     members: &[Implication<Bits<W>>],
     most: u32,
@@ -133,7 +146,7 @@ pub(crate) fn of_size<const W: usize>(
 }
 
 /// Those whose premises are larger.
-pub(crate) fn larger<const W: usize>(
+pub(crate) fn of_larger_size<const W: usize>(
     alloc: Global,
     members: &[Implication<Bits<W>>],
     count: u32,
@@ -154,7 +167,7 @@ pub(crate) fn larger<const W: usize>(
     )
 }
 
-/// The least size of a premise, or the given number where there is no smaller one.
+/// The least size of a premise, or the given number if no premise is smaller.
 pub(crate) fn least_size<const W: usize>(members: &[Implication<Bits<W>>], past: u32) -> u32
     requires words { W ≤ 1024 }
     ensures { IsLeastSize past members.now result }

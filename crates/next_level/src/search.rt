@@ -1,28 +1,24 @@
-//! How the next level is looked for: by one thread, or by several side by side.
+//! How the next level is looked for: by one thread, or by several.
 
-ghost use Rattle.std.specs.Prelude.{◌≡◌, ◌≤◌, ◌+◌, ◌++◌, ℕ, List, [], IfOk};
-ghost use Rattle.fca_model.specs.Implications.{Rule};
-ghost use Rattle.fca_model.specs.Levels.{HasBelow};
-ghost use Rattle.next_level.specs.NextLevel.{IsNextLevel, open_where, everything};
-ghost use Rattle.next_level.specs.Among.{AllAmong, IsAhead};
-ghost use Rattle.next_level.specs.Branches.{IsRoot};
+ghost use Rattle.std.specs.Prelude.{◌≡◌, ◌≤◌, [], IfOk};
+ghost use Rattle.fca_model.specs.Sets.{size};
+ghost use Rattle.next_level.specs.NextLevel.{open_where, everything};
+ghost use Rattle.next_level.specs.Openings.{CanOpen, IsOpened};
 
 use crate::ahead::Ahead;
-use crate::among::Among;
-use crate::branches::{Walk, Walker};
+use crate::branches::{Limits, Walk, Walker};
 use crate::open_sets::OpenSets;
 use crate::{Opened, open_next, open_next_by};
-use attr_bits::Bits;
 use derivation::Rows;
-use extent_blocks::IndexedRows;
 use fca_model::Memory;
-use implication_closure::{ImplicationList, ImplicationListOf};
+use implication_closure::ImplicationList;
 use std::alloc::Global;
 use std::thread::Threads;
 
-/// How many branches are walked through for each processor, so that all have enough to do, and how many at most, as each has a list of its own.
+/// How many branches there are for each processor, so that all have enough to do.
 const BRANCHES: u32 = 2;
 
+/// How many branches there are at most, as each has a list of its own.
 const MOST: u32 = 16;
 
 /// A way to look for the next level.
@@ -35,16 +31,11 @@ pub trait LevelSearch {
         rules: &ImplicationList,
         ahead: &Ahead,
     ) -> Result<Opened, Memory>
-        requires wide { rules.now.width ≡ rows.now.width }
-        requires ahead_wide { ahead.now.sets.width ≡ rows.now.width }
-        requires among { AllAmong rules.now.members rows.now ahead.now.whole ahead.now.sets.rows }
-        ensures next { (known found : List Rule) (reached : ℕ) → rules.now.members ≡ known ++ found → HasBelow known rows.now reached found → reached ≤ rows.now.width + 1
-            → IfOk result (λ opened. IsNextLevel known rows.now found opened.level.size opened.level.members.items) }
-        ensures ahead { IfOk result (λ opened. IsAhead rules.now.members rows.now opened.level.size opened.ahead.whole opened.ahead.sets.rows) }
-        ensures ahead_wide { IfOk result (λ opened. opened.ahead.sets.width ≡ rows.now.width) };
+        requires { CanOpen rows.now rules.now ahead.now }
+        ensures { IfOk result (λ opened. IsOpened rows.now rules.now opened.level.size opened.level.members.items opened.ahead) };
 }
 
-/// By the thread that asks.
+/// The thread that asks looks for the level.
 #[derive(Clone, Copy, Debug)]
 pub struct OneThread;
 
@@ -60,7 +51,7 @@ impl LevelSearch for OneThread {
     }
 }
 
-/// By so many branches that as many processors have work, each in a thread of its own, where there is enough to do; for one processor by the thread that asks.
+/// Several threads share the branches if there is enough to do and more than one processor. Otherwise the thread that asks looks for the level.
 #[derive(Drop)]
 pub struct SideBySide<'a, R> {
     pub rt: &'a R,
@@ -80,7 +71,7 @@ impl<'a, R: Threads> LevelSearch for SideBySide<'a, R> {
 }
 
 impl<'a, R: Threads> SideBySide<'a, R> {
-    /// How many branches are walked through, of so many attributes.
+    /// How many branches a walk over this many attributes is split into.
     fn branches(&self, width: u32) -> u32
         ensures { result ≤ width }
     {
@@ -92,62 +83,26 @@ impl<'a, R: Threads> SideBySide<'a, R> {
 }
 
 impl<const W: usize> Walker<W> for OneThread {
-    fn walk(
-        &self,
-        alloc: Global,
-        sheet: &IndexedRows<W>,
-        list: &ImplicationListOf<W>,
-        least: &Bits<W>,
-        among: &Among<W>,
-        bound: u32,
-        visits: usize,
-    ) -> Result<OpenSets<W>, Memory>
-        requires root { IsRoot sheet.now list.now least.now bound }
-        requires among { AllAmong list.now.members sheet.now among.now.whole among.now.sets.items }
-        ensures listed { IfOk result (λ sets. sets.members.items ≡ open_where list.now.members sheet.now sets.bound everything) }
-        ensures steady { IfOk result (λ sets. sets.members.items ≡ [] → sets.bound ≡ bound) }
+    fn walk(&self, alloc: Global, walk: &Walk<W>, limits: Limits) -> Result<OpenSets<W>, Memory>
+        requires { size walk.now.least ≤ limits.bound }
+        ensures listed { IfOk result (λ sets. sets.members.items ≡ open_where walk.now.list.members walk.now.indexed sets.bound everything) }
+        ensures steady { IfOk result (λ sets. sets.members.items ≡ [] → sets.bound ≡ limits.bound) }
     {
-        let walk = Walk {
-            sheet,
-            list,
-            least,
-            among,
-            bound,
-            visits,
-        };
-        walk.open_behind(alloc, 0)
+        walk.open_behind(alloc, 0, limits)
     }
 }
 
 impl<'a, R: Threads, const W: usize> Walker<W> for SideBySide<'a, R> {
-    fn walk(
-        &self,
-        alloc: Global,
-        sheet: &IndexedRows<W>,
-        list: &ImplicationListOf<W>,
-        least: &Bits<W>,
-        among: &Among<W>,
-        bound: u32,
-        visits: usize,
-    ) -> Result<OpenSets<W>, Memory>
-        requires root { IsRoot sheet.now list.now least.now bound }
-        requires among { AllAmong list.now.members sheet.now among.now.whole among.now.sets.items }
-        ensures listed { IfOk result (λ sets. sets.members.items ≡ open_where list.now.members sheet.now sets.bound everything) }
-        ensures steady { IfOk result (λ sets. sets.members.items ≡ [] → sets.bound ≡ bound) }
+    fn walk(&self, alloc: Global, walk: &Walk<W>, limits: Limits) -> Result<OpenSets<W>, Memory>
+        requires { size walk.now.least ≤ limits.bound }
+        ensures listed { IfOk result (λ sets. sets.members.items ≡ open_where walk.now.list.members walk.now.indexed sets.bound everything) }
+        ensures steady { IfOk result (λ sets. sets.members.items ≡ [] → sets.bound ≡ limits.bound) }
     {
-        let walk = Walk {
-            sheet,
-            list,
-            least,
-            among,
-            bound,
-            visits,
-        };
-        if self.processors > 1 && walk.pays() {
-            let branches = self.branches(sheet.rows().width());
-            let all = walk.open_parts(self.rt, &alloc, branches, branches + 1)?;
+        if self.processors > 1 && walk.pays(limits) {
+            let branches = self.branches(walk.indexed.rows().width());
+            let all = walk.open_parts(self.rt, &alloc, branches, branches + 1, limits)?;
             return Ok(all);
         }
-        walk.open_behind(alloc, 0)
+        walk.open_behind(alloc, 0, limits)
     }
 }

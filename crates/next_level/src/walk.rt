@@ -1,5 +1,5 @@
-//! The walk through the sets that respect a list, in lectic order. None that is larger than the bound is entered. Where the open sets are known to be among some,
-//! no branch is entered that has none of these.
+//! The walk through the sets that respect a list, in lectic order. It enters no set that is larger than the bound. If the open sets are known to be among
+//! some, it enters no branch that has none of these.
 
 ghost use Rattle.std.specs.Prelude.{◌≡◌, ◌≤◌, ◌<◌, ◌+◌, ℕ, List, OnOk, IfOk, IfSome, MatchOption, length, slice_index_or, slice_set, true, false};
 ghost use Rattle.fca_model.specs.Sets.{size, within, agree_before};
@@ -9,6 +9,7 @@ ghost use Rattle.extent_blocks.specs.Blocks.{IsExtent};
 ghost use Rattle.lectic_basis.specs.Watches.{Watched};
 ghost use Rattle.next_level.specs.Among.{AreAmong};
 ghost use Rattle.next_level.specs.LevelWalks.{IsEntered, IsLeft, IsTrying, HasLevel, IsSteady};
+ghost use Rattle.next_level.specs.Steps.{IsBegun, IsBelow, IsChild, IsStep};
 
 use crate::among::Among;
 use crate::open_sets::OpenSets;
@@ -18,88 +19,165 @@ use fca_model::{Implication, Memory};
 use lectic_basis::{WatchedList, close};
 use std::alloc::Global;
 
+/// A set below which open ones may be, the rows that contain it, and sets among which the open ones are. The walk has tried all attributes from `end` on, and
+/// tries none before `from`.
+#[derive(Drop)]
+pub(crate) struct Step<const W: usize> {
+    pub(crate) set: Bits<W>,
+    pub(crate) from: u32,
+    pub(crate) end: u32,
+    pub(crate) near: BlockExtent,
+    pub(crate) among: Among<W>,
+}
+
+/// A set that the walk has entered below another, by the attribute that was tried.
+#[derive(Drop)]
+pub(crate) struct Child<const W: usize> {
+    pub(crate) set: Bits<W>,
+    pub(crate) attribute: u32,
+}
+
 /// Visits a, and then all that agree with it before attribute `from`.
 pub(crate) fn enter_all<const W: usize>(
     alloc: Global,
-    sheet: &IndexedRows<W>,
+    indexed: &IndexedRows<W>,
     found: &mut WatchedList<W>,
     level: &mut OpenSets<W>,
     a: &Bits<W>,
     from: u32,
-    among: &Among<W>,
+    among: Among<W>,
 ) -> Result<(), Memory>
-    requires entered { IsEntered sheet.now a.now from found.old level.old.bound level.old.members.items }
+    requires entered { IsEntered indexed.now a.now from found.old level.old.bound level.old.members.items }
     requires small { size a.now ≤ level.old.bound }
-    requires among { AreAmong found.old.list.members sheet.now a.now from among.now.whole among.now.sets.items }
-    ensures level { OnOk result (HasLevel sheet.now a.now from found.old found.new level.new.bound level.new.members.items) }
+    requires among { AreAmong found.old.list.members indexed.now a.now from among.whole among.sets.items }
+    ensures level { OnOk result (HasLevel indexed.now a.now from found.old found.new level.new.bound level.new.members.items) }
     ensures steady { OnOk result (IsSteady level.old.bound level.old.members.items level.new.bound level.new.members.items) }
 {
     let _width = found.width();
-    let closed = sheet.rows().closure(a);
-    if enter(alloc, sheet, found, level, a, &closed, from)? {
-        let near = BlockExtent::of(alloc, sheet, a)?;
-        return try_each(alloc, sheet, &near, found, level, a, from, among);
+    let closed = indexed.rows().closure(a);
+    if enter(alloc, indexed, found, level, a, &closed, from)? {
+        let near = BlockExtent::of(alloc, indexed, a)?;
+        let first = Step {
+            set: *a,
+            from,
+            end: found.width(),
+            near,
+            among,
+        };
+        return visit_below(alloc, indexed, found, level, first);
     }
     Ok(())
 }
 
-/// Visits all that agree with the intent a before attribute `from` and come behind it. The rows near by are those that contain a.
-fn try_each<const W: usize>(
+/// Visits all that agree with the set of the step before its first attribute and come behind it. The steps that are not done wait in a list, so a deep walk
+/// takes no more stack than a shallow one.
+fn visit_below<const W: usize>(
     alloc: Global,
-    sheet: &IndexedRows<W>,
-    near: &BlockExtent,
+    indexed: &IndexedRows<W>,
     found: &mut WatchedList<W>,
     level: &mut OpenSets<W>,
-    a: &Bits<W>,
-    from: u32,
-    among: &Among<W>,
+    first: Step<W>,
 ) -> Result<(), Memory>
-    requires left { IsLeft sheet.now a.now from found.old level.old.bound level.old.members.items }
-    requires near { IsExtent sheet.now a.now near.now }
-    requires among { AreAmong found.old.list.members sheet.now a.now from among.now.whole among.now.sets.items }
-    ensures level { OnOk result (HasLevel sheet.now a.now from found.old found.new level.new.bound level.new.members.items) }
+    requires { IsStep indexed.now first found.old found.old level.old.bound level.old.members.items }
+    ensures level { OnOk result (HasLevel indexed.now first.entry.set first.entry.from found.old found.new level.new.bound level.new.members.items) }
     ensures steady { OnOk result (IsSteady level.old.bound level.old.members.items level.new.bound level.new.members.items) }
 {
-    for i in (from..sheet.rows().width()).rev() {
-        if let Some(child) = child_at(alloc, sheet, near, found, level, a, i, among)? {
-            let part = child_among(alloc, sheet, found, a, i, among, &child)?;
-            let below = near_below(alloc, sheet, near, a, i, &child)?;
-            try_each(alloc, sheet, &below, found, level, &child, i + 1, &part)?;
+    let _width = found.width();
+    let mut steps = vec![in alloc; first]?;
+    while let Some(mut step) = steps.pop() {
+        let child = next_child(alloc, indexed, found, level, &step)?;
+        let Some(child) = child else {
+            continue;
+        };
+        let below = step_below(alloc, indexed, found, &step, &child)?;
+        step.end = child.attribute;
+        steps.push(step)?;
+        steps.push(below)?;
+    }
+    Ok(())
+}
+
+/// Tries the attributes that are left at the step, the last first, until a set is entered below which open ones may be.
+fn next_child<const W: usize>(
+    alloc: Global,
+    indexed: &IndexedRows<W>,
+    found: &mut WatchedList<W>,
+    level: &mut OpenSets<W>,
+    step: &Step<W>,
+) -> Result<Option<Child<W>>, Memory>
+    requires { IsStep indexed.now step.now found.old found.old level.old.bound level.old.members.items }
+    ensures child { IfOk result (λ child. MatchOption child
+        (HasLevel indexed.now step.now.set step.now.from found.old found.new level.new.bound level.new.members.items)
+        (IsChild indexed.now step.now found.old found.new level.new.bound level.new.members.items)) }
+    ensures below { IfOk result (λ child. IfSome child (IsBelow step.now)) }
+    ensures steady { OnOk result (IsSteady level.old.bound level.old.members.items level.new.bound level.new.members.items) }
+{
+    let _width = found.width();
+    for i in (step.from..step.end).rev() {
+        if let Some(set) = child_at(alloc, indexed, found, level, step, i)? {
+            return Ok(Some(Child { set, attribute: i }));
         }
     }
-    Ok(())
+    Ok(None)
 }
 
-/// Enters the least set that contains a and attribute i and respects the list, if a lacks i, the set agrees with a before it, and open sets may be in its branch.
-/// Where more is left there, it is behind the set that is told.
+/// The step at the child, before any attribute is tried there.
+fn step_below<const W: usize>(
+    alloc: Global,
+    indexed: &IndexedRows<W>,
+    found: &WatchedList<W>,
+    step: &Step<W>,
+    child: &Child<W>,
+) -> Result<Step<W>, Memory>
+    requires wide { length step.now.set ≡ indexed.now.width }
+    requires inside { child.now.attribute < indexed.now.width }
+    requires below { IsBelow step.now child.now }
+    requires near { IsExtent indexed.now step.now.set step.now.near }
+    requires among { AreAmong found.now.list.members indexed.now step.now.set step.now.from step.now.among.whole step.now.among.sets.items }
+    ensures { IfOk result (IsBegun indexed.now found.now child.now) }
+{
+    let _width = found.width();
+    let i = child.attribute;
+    let among = child_among(alloc, indexed, found, &step.set, i, &step.among, &child.set)?;
+    let near = near_below(alloc, indexed, &step.near, &step.set, i, &child.set)?;
+    Ok(Step {
+        set: child.set,
+        from: i + 1,
+        end: indexed.rows().width(),
+        near,
+        among,
+    })
+}
+
+/// Enters the least set that contains the set of the step and attribute i and respects the list. It is given if more may be behind it. Nothing is entered if the
+/// step has i, if the larger set does not agree with the step before i, or if no open set may be there.
 fn child_at<const W: usize>(
     alloc: Global,
-    sheet: &IndexedRows<W>,
-    near: &BlockExtent,
+    indexed: &IndexedRows<W>,
     found: &mut WatchedList<W>,
     level: &mut OpenSets<W>,
-    a: &Bits<W>,
+    step: &Step<W>,
     i: u32,
-    among: &Among<W>,
 ) -> Result<Option<Bits<W>>, Memory>
-    requires trying { IsTrying sheet.now a.now i found.old level.old.bound level.old.members.items }
-    requires among { AreAmong found.old.list.members sheet.now a.now i among.now.whole among.now.sets.items }
-    requires near { IsExtent sheet.now a.now near.now }
-    ensures left { IfOk result (λ child. IfSome child (λ b. IsLeft sheet.now b (i + 1) found.new level.new.bound level.new.members.items)) }
-    ensures larger { IfOk result (λ child. IfSome child (λ b. within (slice_set a.now i true) b ≡ true)) }
-    ensures agree { IfOk result (λ child. IfSome child (λ b. agree_before i a.now b ≡ true)) }
-    ensures lacks { IfOk result (λ child. IfSome child (λ b. slice_index_or a.now i false ≡ false)) }
+    requires trying { IsTrying indexed.now step.now.set i found.old level.old.bound level.old.members.items }
+    requires among { AreAmong found.old.list.members indexed.now step.now.set i step.now.among.whole step.now.among.sets.items }
+    requires near { IsExtent indexed.now step.now.set step.now.near }
+    ensures left { IfOk result (λ child. IfSome child (λ b. IsLeft indexed.now b (i + 1) found.new level.new.bound level.new.members.items)) }
+    ensures larger { IfOk result (λ child. IfSome child (λ b. within (slice_set step.now.set i true) b ≡ true)) }
+    ensures agree { IfOk result (λ child. IfSome child (λ b. agree_before i step.now.set b ≡ true)) }
+    ensures lacks { IfOk result (λ child. IfSome child (λ b. slice_index_or step.now.set i false ≡ false)) }
     ensures list { OnOk result (found.new.list ≡ found.old.list) }
     ensures done { IfOk result (λ child. MatchOption child
-        (HasLevel sheet.now a.now i found.old found.new level.new.bound level.new.members.items)
-        (λ b. (new : Watched) (size : ℕ) (members : List Rule) → HasLevel sheet.now b (i + 1) found.new new size members → HasLevel sheet.now a.now i found.old new size members)) }
+        (HasLevel indexed.now step.now.set i found.old found.new level.new.bound level.new.members.items)
+        (λ b. (new : Watched) (size : ℕ) (members : List Rule) → HasLevel indexed.now b (i + 1) found.new new size members → HasLevel indexed.now step.now.set i found.old new size members)) }
     ensures steady { OnOk result (IsSteady level.old.bound level.old.members.items level.new.bound level.new.members.items) }
 {
     let _width = found.width();
+    let a = &step.set;
     if a.has(i) {
         return Ok(None);
     }
-    if among.passes(a, i) {
+    if step.among.passes(a, i) {
         return Ok(None);
     }
     let mut reached = a.with(i);
@@ -109,51 +187,51 @@ fn child_at<const W: usize>(
     if reached.size() > level.bound {
         return Ok(None);
     }
-    let closed = closure_near(sheet, near, a, i, &reached);
-    if enter(alloc, sheet, found, level, &reached, &closed, i + 1)? {
+    let closed = closure_near(indexed, &step.near, a, i, &reached);
+    if enter(alloc, indexed, found, level, &reached, &closed, i + 1)? {
         return Ok(Some(reached));
     }
     Ok(None)
 }
 
-/// The sets among which those are that are open and agree with the child before attribute i + 1.
+/// The candidates that agree with the child before attribute i + 1.
 pub(crate) fn child_among<const W: usize>(
     alloc: Global,
-    sheet: &IndexedRows<W>,
+    indexed: &IndexedRows<W>,
     found: &WatchedList<W>,
     a: &Bits<W>,
     i: u32,
     among: &Among<W>,
     child: &Bits<W>,
 ) -> Result<Among<W>, Memory>
-    requires inside { i < sheet.now.width }
-    requires wide { length a.now ≡ sheet.now.width }
-    requires among { AreAmong found.now.list.members sheet.now a.now i among.now.whole among.now.sets.items }
+    requires inside { i < indexed.now.width }
+    requires wide { length a.now ≡ indexed.now.width }
+    requires among { AreAmong found.now.list.members indexed.now a.now i among.now.whole among.now.sets.items }
     requires lacks { slice_index_or a.now i false ≡ false }
     requires larger { within (slice_set a.now i true) child.now ≡ true }
     requires agree { agree_before i a.now child.now ≡ true }
-    ensures { IfOk result (λ part. AreAmong found.now.list.members sheet.now child.now (i + 1) part.whole part.sets.items) }
+    ensures { IfOk result (λ part. AreAmong found.now.list.members indexed.now child.now (i + 1) part.whole part.sets.items) }
 {
     let _width = found.width();
     let part = among.branch(alloc, a, i)?;
     Ok(part)
 }
 
-/// Visits a alone, whose closure is given. Whether what agrees with it before attribute `from` may have what is looked for.
+/// Visits a alone, whose closure is given. Whether open sets within the bound may agree with it before attribute `from` and come behind it.
 fn enter<const W: usize>(
     alloc: Global,
-    sheet: &IndexedRows<W>,
+    indexed: &IndexedRows<W>,
     found: &WatchedList<W>,
     level: &mut OpenSets<W>,
     a: &Bits<W>,
     closed: &Bits<W>,
     from: u32,
 ) -> Result<bool, Memory>
-    requires entered { IsEntered sheet.now a.now from found.now level.old.bound level.old.members.items }
+    requires entered { IsEntered indexed.now a.now from found.now level.old.bound level.old.members.items }
     requires small { size a.now ≤ level.old.bound }
-    requires closed { closed.now ≡ closure sheet.now a.now }
-    ensures left { IfOk result (λ left. left ≡ true → IsLeft sheet.now a.now from found.now level.new.bound level.new.members.items) }
-    ensures done { IfOk result (λ left. left ≡ false → HasLevel sheet.now a.now from found.now found.now level.new.bound level.new.members.items) }
+    requires closed { closed.now ≡ closure indexed.now a.now }
+    ensures left { IfOk result (λ left. left ≡ true → IsLeft indexed.now a.now from found.now level.new.bound level.new.members.items) }
+    ensures done { IfOk result (λ left. left ≡ false → HasLevel indexed.now a.now from found.now found.now level.new.bound level.new.members.items) }
     ensures steady { OnOk result (IsSteady level.old.bound level.old.members.items level.new.bound level.new.members.items) }
 {
     let _width = found.width();
@@ -173,72 +251,72 @@ fn enter<const W: usize>(
     Ok(count < level.bound)
 }
 
-/// The closure of a set that contains a and attribute i. The rows near by are those that contain a.
+/// The closure of a set that contains a and attribute i, by the rows that contain a.
 fn closure_near<const W: usize>(
-    sheet: &IndexedRows<W>,
+    indexed: &IndexedRows<W>,
     near: &BlockExtent,
     a: &Bits<W>,
     i: u32,
     larger: &Bits<W>,
 ) -> Bits<W>
-    requires inside { i < sheet.now.width }
-    requires wide { length a.now ≡ sheet.now.width }
-    requires near { IsExtent sheet.now a.now near.now }
+    requires inside { i < indexed.now.width }
+    requires wide { length a.now ≡ indexed.now.width }
+    requires near { IsExtent indexed.now a.now near.now }
     requires larger { within (slice_set a.now i true) larger.now ≡ true }
-    requires larger_wide { length larger.now ≡ sheet.now.width }
-    ensures { result ≡ closure sheet.now larger.now }
+    requires larger_wide { length larger.now ≡ indexed.now.width }
+    ensures { result ≡ closure indexed.now larger.now }
 {
-    let _width = sheet.rows().width();
+    let _width = indexed.rows().width();
     let tried = a.with(i);
-    let shared = near.closure_with(sheet, i, &tried);
+    let shared = near.closure_with(indexed, i, &tried);
     if larger.within(&shared) {
         return shared;
     }
-    sheet.rows().closure(larger)
+    indexed.rows().closure(larger)
 }
 
-/// The rows that contain a set which contains a and attribute i. Where the list holds in the rows, those of the rows near a that have i are all.
+/// The rows that contain a set which contains a and attribute i. If the list holds in the rows, these are the rows near a that have i.
 fn near_below<const W: usize>(
     alloc: Global,
-    sheet: &IndexedRows<W>,
+    indexed: &IndexedRows<W>,
     near: &BlockExtent,
     a: &Bits<W>,
     i: u32,
     larger: &Bits<W>,
 ) -> Result<BlockExtent, Memory>
-    requires inside { i < sheet.now.width }
-    requires wide { length a.now ≡ sheet.now.width }
-    requires near { IsExtent sheet.now a.now near.now }
+    requires inside { i < indexed.now.width }
+    requires wide { length a.now ≡ indexed.now.width }
+    requires near { IsExtent indexed.now a.now near.now }
     requires larger { within (slice_set a.now i true) larger.now ≡ true }
-    ensures { IfOk result (λ below. IsExtent sheet.now larger.now below) }
+    ensures { IfOk result (λ below. IsExtent indexed.now larger.now below) }
 {
-    let _width = sheet.rows().width();
-    if is_shared(sheet, near, a, i, larger) {
+    let _width = indexed.rows().width();
+    if is_shared(indexed, near, a, i, larger) {
         let mut below = BlockExtent::new(alloc);
-        below.set_having(near, sheet, i)?;
+        below.set_having(near, indexed, i)?;
         return Ok(below);
     }
-    BlockExtent::of(alloc, sheet, larger)
+    BlockExtent::of(alloc, indexed, larger)
 }
 
-/// Whether all rows that contain the intent a and have attribute i contain the set. Where it has nothing else, no row is looked at.
+/// Whether all rows that contain a and have attribute i contain the larger set. No row is looked at if it has nothing else.
 fn is_shared<const W: usize>(
-    sheet: &IndexedRows<W>,
+    indexed: &IndexedRows<W>,
     near: &BlockExtent,
     a: &Bits<W>,
     i: u32,
     larger: &Bits<W>,
 ) -> bool
-    requires inside { i < sheet.now.width }
-    requires wide { length a.now ≡ sheet.now.width }
-    requires near { IsExtent sheet.now a.now near.now }
-    ensures { result ≡ true → within larger.now (closure sheet.now (slice_set a.now i true)) ≡ true }
+    requires inside { i < indexed.now.width }
+    requires wide { length a.now ≡ indexed.now.width }
+    requires near { IsExtent indexed.now a.now near.now }
+    ensures { result ≡ true → within larger.now (closure indexed.now (slice_set a.now i true)) ≡ true }
 {
-    let _width = sheet.rows().width();
+    let _width = indexed.rows().width();
     let tried = a.with(i);
     if larger.within(&tried) {
         return true;
     }
-    let shared = near.closure_with(sheet, i, &tried);
+    let shared = near.closure_with(indexed, i, &tried);
     larger.within(&shared)
 }

@@ -3,8 +3,10 @@ use Rattle.fca_model.specs.Context.{Context}
 use Rattle.next_level.proofs.NextLevelLemmas.{unknown_among}
 use Rattle.next_level.proofs.next_level.Goals as goal
 
-pub open_next-requires-clause-ahead_wide : goal.open_next-requires-clause-ahead_wide
-open_next-requires-clause-ahead_wide c = ap (λ (L : Context). L.width) c.in_ok-nothing.ensures.1 ∙ c.width.ensures.width
-
-pub open_next-requires-clause-among : goal.open_next-requires-clause-among
-open_next-requires-clause-among c = unknown_among c.args.rules.now.members c.args.rows.now c.in_ok-nothing.nothing.whole c.in_ok-nothing.nothing.sets.rows c.in_ok-nothing.ensures.0
+pub open_next-requires : goal.open_next-requires
+open_next-requires c = record {
+  wide = c.requires.wide;
+  ahead_wide = ap (λ (L : Context). L.width) c.in_ok-nothing.ensures.1 ∙ c.width.ensures.width;
+  among = unknown_among c.args.rules.now.members c.args.rows.now c.in_ok-nothing.nothing.whole c.in_ok-nothing.nothing.sets.rows
+      c.in_ok-nothing.ensures.0;
+}

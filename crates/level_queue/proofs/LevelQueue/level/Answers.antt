@@ -10,19 +10,23 @@ use Rattle.level_queue.proofs.LevelQueue.level.Goals as goal
 
 pub returns-then-is_empty-clause-none : goal.returns-then-is_empty-clause-none
 returns-then-is_empty-clause-none c =
-    let opened = c.as_slice.ensures ∙ kept_open c.self.invariant.kept ∙ ap (λ (b : Base). open_questions b.known b.context b.accepted) c.self.view_is in
+    let opened = c.as_slice.ensures ∙ kept_open c.self.invariant.kept
+    ∙ ap (λ (b : Base). open_questions b.known b.context b.accepted) c.self.view_is in
     let none = is_nil c.as_slice.result.now (length c.as_slice.result.now) refl c.is_empty.result c.is_empty.ensures c.if-is_empty.true in
     (λ _. sym opened ∙ none, λ _. refl)
 
 pub returns-else-is_empty-clause-none : goal.returns-else-is_empty-clause-none
 returns-else-is_empty-clause-none c =
-    let opened = c.as_slice.ensures ∙ kept_open c.self.invariant.kept ∙ ap (λ (b : Base). open_questions b.known b.context b.accepted) c.self.view_is in (
+    let opened = c.as_slice.ensures ∙ kept_open c.self.invariant.kept
+    ∙ ap (λ (b : Base). open_questions b.known b.context b.accepted) c.self.view_is in (
       λ t. absurd (false≢true (sym t)),
-      λ e. absurd (not_nil c.as_slice.result.now (length c.as_slice.result.now) refl c.is_empty.result c.is_empty.ensures c.if-is_empty.false (opened ∙ e)),
+      λ e. absurd (not_nil c.as_slice.result.now (length c.as_slice.result.now) refl c.is_empty.result c.is_empty.ensures
+          c.if-is_empty.false (opened ∙ e)),
     )
 
 pub returns-else-is_empty-clause-size : goal.returns-else-is_empty-clause-size
 returns-else-is_empty-clause-size c =
     let a = c.self.inside in
-    subst (λ (qs : List Rule). list_all (λ (q : Rule). size q.premise == a.level) qs ≡ true) (kept_open c.self.invariant.kept ∙ ap (λ (b : Base). open_questions b.known b.context b.accepted) c.self.view_is)
+    subst (λ (qs : List Rule). list_all (λ (q : Rule). size q.premise == a.level) qs ≡ true)
+    (kept_open c.self.invariant.kept ∙ ap (λ (b : Base). open_questions b.known b.context b.accepted) c.self.view_is)
     (questions_size a.rules.known a.rows a.level a.rules.accepted a.questions c.self.invariant.kept.queue)

@@ -12,15 +12,14 @@ use Rattle.level_queue.proofs.OpenLemmas.{opened_kept}
 use Rattle.next_level.proofs.NextLevelLemmas.{unknown_among}
 use Rattle.level_queue.proofs.LevelQueue.open_known.Goals as goal
 
-pub open_level-requires-clause-wide : goal.open_level-requires-clause-wide
-open_level-requires-clause-wide c =
-    ap (λ (J : RuleList). J.width) c.all.ensures ∙ ap (λ (p : RuleParts). p.width) c.in_ok-rules.ensures ∙ c.requires.wide ∙ sym (ap (λ (L : Context). L.width) c.in_ok-rows.ensures)
-
-pub open_level-requires-clause-ahead_wide : goal.open_level-requires-clause-ahead_wide
-open_level-requires-clause-ahead_wide c = ap (λ (L : Context). L.width) c.in_ok-nothing.ensures.1 ∙ c.width.ensures.width
-
-pub open_level-requires-clause-among : goal.open_level-requires-clause-among
-open_level-requires-clause-among c = unknown_among c.all.result.now.members c.in_ok-rows.rows c.in_ok-nothing.nothing.whole c.in_ok-nothing.nothing.sets.rows c.in_ok-nothing.ensures.0
+pub open_level-requires : goal.open_level-requires
+open_level-requires c = record {
+  wide = ap (λ (J : RuleList). J.width) c.all.ensures ∙ ap (λ (p : RuleParts). p.width) c.in_ok-rules.ensures ∙ c.requires.wide
+      ∙ sym (ap (λ (L : Context). L.width) c.in_ok-rows.ensures);
+  ahead_wide = ap (λ (L : Context). L.width) c.in_ok-nothing.ensures.1 ∙ c.width.ensures.width;
+  among = unknown_among c.all.result.now.members c.in_ok-rows.rows c.in_ok-nothing.nothing.whole c.in_ok-nothing.nothing.sets.rows
+      c.in_ok-nothing.ensures.0;
+}
 
 pub invariant_of-result : goal.invariant_of-result
 invariant_of-result c =
@@ -29,11 +28,15 @@ invariant_of-result c =
     let known_is : rules.known ≡ c.args.known.now.members = ap (λ (p : RuleParts). p.known) c.in_ok-rules.ensures in
     let none_is = ap (λ (p : RuleParts). p.accepted) c.in_ok-rules.ensures in
     record {
-      wide = ap (λ (p : RuleParts). p.width) c.in_ok-rules.ensures ∙ c.requires.wide ∙ sym (ap (λ (L : Context). L.width) c.in_ok-rows.ensures);
+      wide = ap (λ (p : RuleParts). p.width) c.in_ok-rules.ensures ∙ c.requires.wide
+          ∙ sym (ap (λ (L : Context). L.width) c.in_ok-rows.ensures);
       kept = opened_kept
-          (subst (λ (L : Context). list_all (holds L) rules.known ≡ true) (sym c.in_ok-rows.ensures) (ap (list_all (holds c.args.rows.now)) known_is ∙ c.requires.hold))
+          (subst (λ (L : Context). list_all (holds L) rules.known ≡ true) (sym c.in_ok-rows.ensures)
+          (ap (list_all (holds c.args.rows.now)) known_is ∙ c.requires.hold))
           (ap distinct_premises none_is)
-          (c.in_ok-first.ensures.next rules.known rules.accepted 0 (ap (λ (J : RuleList). J.members) c.all.ensures) (subst (λ acc. HasBelow rules.known K 0 acc) (sym none_is) (has_none rules.known K)) (omega arith));
+          (c.in_ok-first.ensures.next rules.known rules.accepted 0 (ap (λ (J : RuleList). J.members) c.all.ensures)
+          (subst (λ acc. HasBelow rules.known K 0 acc) (sym none_is) (has_none rules.known K)) (omega arith));
       ahead_wide = c.in_ok-first.ensures.ahead_wide;
-      ahead = subst (λ (J : RuleList). IsAhead J.members K c.in_ok-first.first.size c.in_ok-first.first.ahead.whole c.in_ok-first.first.ahead.sets.rows) c.all.ensures c.in_ok-first.ensures.ahead;
+      ahead = subst (λ (J : RuleList). IsAhead J.members K c.in_ok-first.first.size c.in_ok-first.first.ahead.whole
+          c.in_ok-first.first.ahead.sets.rows) c.all.ensures c.in_ok-first.ensures.ahead;
     }

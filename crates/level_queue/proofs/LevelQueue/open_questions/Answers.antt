@@ -5,4 +5,5 @@ use Rattle.level_queue.proofs.OpenLemmas.{kept_open}
 use Rattle.level_queue.proofs.LevelQueue.open_questions.Goals as goal
 
 pub returns : goal.returns
-returns c = c.as_slice.ensures ∙ kept_open c.self.invariant.kept ∙ ap (λ (b : Base). open_questions b.known b.context b.accepted) c.self.view_is
+returns c = c.as_slice.ensures ∙ kept_open c.self.invariant.kept
+    ∙ ap (λ (b : Base). open_questions b.known b.context b.accepted) c.self.view_is

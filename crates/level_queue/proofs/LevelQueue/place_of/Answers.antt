@@ -14,11 +14,15 @@ place_of-requires c = kept_increasing c.self.invariant.kept
 
 pub returns-clause-in_range : goal.returns-clause-in_range
 returns-clause-in_range c =
-    subst (λ (qs : List Rule). IfSome c.place_of.result (λ i. i < length qs)) (kept_open c.self.invariant.kept ∙ ap (λ (b : Base). open_questions b.known b.context b.accepted) c.self.view_is) c.place_of.ensures.inside
+    subst (λ (qs : List Rule). IfSome c.place_of.result (λ i. i < length qs))
+    (kept_open c.self.invariant.kept ∙ ap (λ (b : Base). open_questions b.known b.context b.accepted) c.self.view_is)
+    c.place_of.ensures.inside
 
 pub returns-clause-found : goal.returns-clause-found
 returns-clause-found c =
-    subst (λ (qs : List Rule). IfSome c.place_of.result (λ i. slice_get qs i ≡ Some c.args.question.now)) (kept_open c.self.invariant.kept ∙ ap (λ (b : Base). open_questions b.known b.context b.accepted) c.self.view_is) c.place_of.ensures.found
+    subst (λ (qs : List Rule). IfSome c.place_of.result (λ i. slice_get qs i ≡ Some c.args.question.now))
+    (kept_open c.self.invariant.kept ∙ ap (λ (b : Base). open_questions b.known b.context b.accepted) c.self.view_is)
+    c.place_of.ensures.found
 
 pub returns-clause-held : goal.returns-clause-held
 returns-clause-held c held_before true_here new =

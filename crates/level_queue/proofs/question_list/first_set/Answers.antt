@@ -7,5 +7,6 @@ use Rattle.level_queue.proofs.question_list.first_set.Goals as goal
 
 pub returns : goal.returns
 returns c =
-    let point = IsPartitionPoint-from_clause (λ A. is_lt (lectic_cmp A c.args.set.now)) c.args.sets.now _ c.partition_point.ensures.partitioned (partitioned c.args.set.now c.args.sets.now c.requires) (λ a r f k. search rules) in
+    let point = IsPartitionPoint-from_clause (λ A. is_lt (lectic_cmp A c.args.set.now)) c.args.sets.now _
+    c.partition_point.ensures.partitioned (partitioned c.args.set.now c.args.sets.now c.requires) (λ a r f k. search rules) in
     record { inside = c.partition_point.ensures.bound; before = point.0; behind = point.1 }

@@ -6,7 +6,8 @@ use Rattle.level_queue.proofs.question_list.premises_in_one_word.Goals as goal
 
 pub resize-requires : goal.resize-requires
 resize-requires c =
-    let fits = premise_fits c.args.questions.now c.loop-question.question-index c.question-item.result (sym c.fit_one_word.ensures ∙ c.if-not-fit_one_word.false) c.loop-question-test.true c.question-item.is in
+    let fits = premise_fits c.args.questions.now c.loop-question.question-index c.question-item.result
+    (sym c.fit_one_word.ensures ∙ c.if-not-fit_one_word.false) c.loop-question-test.true c.question-item.is in
     omega (arith, fits)
 
 pub loop-question-preserved : goal.loop-question-preserved
@@ -15,4 +16,5 @@ loop-question-preserved c =
     c.loop-question-test.true c.question-item.is c.resize.ensures c.loop-question.invariant c.in_ok-push.ensures.items
 
 pub returns : goal.returns
-returns c _ = c.loop-question.invariant ∙ ap premises (take_all c.loop-question.question-index c.args.questions.now c.loop-question-test.false)
+returns c _ = c.loop-question.invariant ∙ ap premises
+    (take_all c.loop-question.question-index c.args.questions.now c.loop-question-test.false)

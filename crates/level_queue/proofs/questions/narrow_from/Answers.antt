@@ -11,7 +11,8 @@ meet_at-requires-clause-unclosed c q at =
     let i = c.loop-place.place - 1 in
     let next : c.loop-place.place ≡ suc i = omega arith in
     let inside : i < length c.loop-place.list = let a = n.run in let b = n.before in let d = n.inside in omega (arith, a, b, d, next) in
-    unclosed_at c.args.list.now c.args.first i q c.requires.unclosed (omega arith) (let e = n.long in omega (arith, e, inside)) (was n i next inside q at)
+    unclosed_at c.args.list.now c.args.first i q c.requires.unclosed (omega arith) (let e = n.long in omega (arith, e, inside))
+    (was n i next inside q at)
 
 pub loop-place-preserved-then-not-meet_at : goal.loop-place-preserved-then-not-meet_at
 loop-place-preserved-then-not-meet_at c =
@@ -24,8 +25,11 @@ loop-place-preserved-then-not-meet_at c =
     let at : q ≡ get_or c.loop-place.list i q = get_or_default c.loop-place.list i none q inside in
     record {
       from_on = omega arith;
-      narrowing = narrowing_drops n i next inside q at (sym (c.meet_at.ensures.left q at) ∙ c.if-not-meet_at.true) c.meet_at.new.self c.move_up-kept.new.list (i + 1) c.move_up-kept.result
-          (c.meet_at.ensures.met q at) (omega arith) c.move_up-kept.ensures.place c.move_up-kept.ensures.moved c.move_up-kept.ensures.rest c.move_up-kept.ensures.long;
+      narrowing = narrowing_drops n i next inside q at
+          (sym (c.meet_at.ensures.left q at) ∙ c.if-not-meet_at.true) c.meet_at.new.self c.move_up-kept.new.list
+          (i + 1) c.move_up-kept.result
+          (c.meet_at.ensures.met q at) (omega arith) c.move_up-kept.ensures.place c.move_up-kept.ensures.moved c.move_up-kept.ensures.rest
+          c.move_up-kept.ensures.long;
     }
 
 pub loop-place-preserved : goal.loop-place-preserved
@@ -39,7 +43,8 @@ loop-place-preserved c =
     let at : q ≡ get_or c.loop-place.list i q = get_or_default c.loop-place.list i none q inside in
     record {
       from_on = omega arith;
-      narrowing = subst (λ qs. IsNarrowing c.args.row.now c.args.list.now qs c.loop-place.kept c.loop-place.end i) (sym (c.meet_at.ensures.met q at))
+      narrowing = subst (λ qs. IsNarrowing c.args.row.now c.args.list.now qs c.loop-place.kept c.loop-place.end i)
+          (sym (c.meet_at.ensures.met q at))
           (narrowing_keeps n i next inside q at (sym (c.meet_at.ensures.left q at) ∙ c.if-not-meet_at.false));
     }
 

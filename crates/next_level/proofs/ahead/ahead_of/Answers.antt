@@ -7,5 +7,6 @@ use Rattle.next_level.proofs.ahead.ahead_of.Goals as goal
 pub returns-in-Ok-clause-rest : goal.returns-in-Ok-clause-rest
 returns-in-Ok-clause-rest g c e = record {
   all = omega (arith, c.if-seen-width.false);
-  larger = ap (λ (X : Context). X.rows) (c.in-Ok.ensures.rest e) ∙ ap (λ xs. premises (filter (λ i. ltb c.args.size (size i.premise)) xs)) c.deref.ensures.value;
+  larger = ap (λ (X : Context). X.rows) (c.in-Ok.ensures.rest e)
+      ∙ ap (λ xs. premises (filter (λ i. ltb c.args.size (size i.premise)) xs)) c.deref.ensures.value;
 }

@@ -10,5 +10,7 @@ loop-member-preserved g c =
     let r = c.min-least.result in
     let below : r ≤ k = omega (arith, c.min-least.ensures) in
     let too : r ≤ s = omega (arith, c.min-least.ensures) in
-    let one : (r ≡ k) ⊎ (r ≡ s) = elim (cases_lt k s) [ inl lt ↦ inl (omega (arith, c.min-least.ensures, lt)) | inr ge ↦ inr (omega (arith, c.min-least.ensures, ge)) ] in
-    least_more c.args.past k s r c.args.members.now c.loop-member.member-index c.member-item.result c.loop-member-test.true c.member-item.is c.size.ensures.size below too one c.loop-member.invariant
+    let one : (r ≡ k) ⊎ (r ≡ s) = elim (cases_lt k s)
+    [ inl lt ↦ inl (omega (arith, c.min-least.ensures, lt)) | inr ge ↦ inr (omega (arith, c.min-least.ensures, ge)) ] in
+    least_more c.args.past k s r c.args.members.now c.loop-member.member-index c.member-item.result c.loop-member-test.true c.member-item.is
+    c.size.ensures.size below too one c.loop-member.invariant

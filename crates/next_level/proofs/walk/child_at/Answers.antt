@@ -3,7 +3,9 @@ use Rattle.next_level.proofs.LevelWalkLemmas.{left_passed, left_member, left_can
 use Rattle.next_level.proofs.walk.child_at.Goals as goal
 
 pub returns-then-passes-clause-done : goal.returns-then-passes-clause-done
-returns-then-passes-clause-done g c = left_passed c.args.sheet.now c.args.a.now c.args.i c.args.found.now c.args.level.now.bound c.args.level.now.members.items c.args.among.now.whole c.args.among.now.sets.items c.requires.trying c.requires.among (sym c.has.ensures ∙ c.if-has.false) (sym c.passes.ensures ∙ c.if-passes.true)
+returns-then-passes-clause-done g c = left_passed c.args.indexed.now c.args.step.now.set c.args.i c.args.found.now c.args.level.now.bound
+    c.args.level.now.members.items c.args.step.now.among.whole c.args.step.now.among.sets.items c.requires.trying c.requires.among
+    (sym c.has.ensures ∙ c.if-has.false) (sym c.passes.ensures ∙ c.if-passes.true)
 
 pub returns-then-passes-clause-steady : goal.returns-then-passes-clause-steady
 returns-then-passes-clause-steady g c = steady_same
@@ -12,31 +14,78 @@ pub returns-then-has-clause-done : goal.returns-then-has-clause-done
 returns-then-has-clause-done g c = left_member c.requires.trying (sym c.has.ensures ∙ c.if-has.true)
 
 pub close-requires : goal.close-requires
-close-requires g c = (omega arith, (omega (arith, c.width-width.ensures.words), left_can_close c.requires.trying (sym c.has.ensures ∙ c.if-has.false) c.with-reached.ensures))
+close-requires g c = (
+  omega arith,
+  (
+    omega (arith, c.width-width.ensures.words),
+    left_can_close c.requires.trying (sym c.has.ensures ∙ c.if-has.false) c.with-reached.ensures,
+  ),
+)
 
 pub returns-then-not-branch-clause-done : goal.returns-then-not-branch-clause-done
-returns-then-not-branch-clause-done g c = left_none c.requires.trying (sym c.has.ensures ∙ c.if-has.false) c.with-reached.ensures c.in_ok-close.ensures.moved (c.in_ok-close.ensures.differs c.if-not-branch.true)
+returns-then-not-branch-clause-done g c = left_none c.requires.trying
+    (sym c.has.ensures ∙ c.if-has.false) c.with-reached.ensures c.in_ok-close.ensures.moved
+    (c.in_ok-close.ensures.differs c.if-not-branch.true)
 
 pub returns-then-size-level-clause-done : goal.returns-then-size-level-clause-done
 returns-then-size-level-clause-done g c =
     let lacks = sym c.has.ensures ∙ c.if-has.false in
     let closed = c.in_ok-close.ensures.closure c.if-not-branch.false in
-    left_done c.requires.trying lacks c.with-reached.ensures c.in_ok-close.ensures.moved closed (enter_larger (left_entered c.requires.trying lacks c.with-reached.ensures c.in_ok-close.ensures.moved closed) (omega (arith, c.size.ensures.size, c.if-size-level.true)))
+    left_done c.requires.trying lacks c.with-reached.ensures c.in_ok-close.ensures.moved closed
+    (enter_larger (left_entered c.requires.trying lacks c.with-reached.ensures c.in_ok-close.ensures.moved closed)
+    (omega (arith, c.size.ensures.size, c.if-size-level.true)))
 
 pub closure_near-closed-requires : goal.closure_near-closed-requires
 closure_near-closed-requires g c =
     let lacks = sym c.has.ensures ∙ c.if-has.false in
-    let closed = c.in_ok-close.ensures.closure c.if-not-branch.false in
-    (omega arith, (omega (arith, c.width-width.ensures.words), (c.requires.trying.inside, (c.requires.trying.at.wide, (c.requires.near, (left_above c.requires.trying lacks c.with-reached.ensures c.in_ok-close.ensures.moved closed, left_wide c.requires.trying lacks c.with-reached.ensures c.in_ok-close.ensures.moved closed))))))
+    let closed = c.in_ok-close.ensures.closure c.if-not-branch.false in (
+      omega arith,
+      (
+        omega (arith, c.width-width.ensures.words),
+        (
+          c.requires.trying.inside,
+          (
+            c.requires.trying.at.wide,
+            (
+              c.requires.near,
+              (
+                left_above c.requires.trying lacks c.with-reached.ensures c.in_ok-close.ensures.moved closed,
+                left_wide c.requires.trying lacks c.with-reached.ensures c.in_ok-close.ensures.moved closed,
+              ),
+            ),
+          ),
+        ),
+      ),
+    )
 
 pub enter-requires : goal.enter-requires
-enter-requires g c = (omega arith, (omega arith, (omega arith, (omega (arith, c.width-width.ensures.words), (left_entered c.requires.trying (sym c.has.ensures ∙ c.if-has.false) c.with-reached.ensures c.in_ok-close.ensures.moved (c.in_ok-close.ensures.closure c.if-not-branch.false), (omega (arith, c.size.ensures.size, c.if-size-level.false), c.closure_near-closed.ensures))))))
+enter-requires g c = (
+  omega arith,
+  (
+    omega arith,
+    (
+      omega arith,
+      (
+        omega (arith, c.width-width.ensures.words),
+        (
+          left_entered c.requires.trying (sym c.has.ensures
+              ∙ c.if-has.false) c.with-reached.ensures c.in_ok-close.ensures.moved (c.in_ok-close.ensures.closure c.if-not-branch.false),
+          (omega (arith, c.size.ensures.size, c.if-size-level.false), c.closure_near-closed.ensures),
+        ),
+      ),
+    ),
+  ),
+)
 
 pub returns-then-branch-clause-done : goal.returns-then-branch-clause-done
-returns-then-branch-clause-done g c = λ new size members h. left_done c.requires.trying (sym c.has.ensures ∙ c.if-has.false) c.with-reached.ensures c.in_ok-close.ensures.moved (c.in_ok-close.ensures.closure c.if-not-branch.false) h
+returns-then-branch-clause-done g c = λ new size members h. left_done c.requires.trying
+    (sym c.has.ensures ∙ c.if-has.false) c.with-reached.ensures c.in_ok-close.ensures.moved
+    (c.in_ok-close.ensures.closure c.if-not-branch.false) h
 
 pub returns-clause-done : goal.returns-clause-done
-returns-clause-done g c = left_done c.requires.trying (sym c.has.ensures ∙ c.if-has.false) c.with-reached.ensures c.in_ok-close.ensures.moved (c.in_ok-close.ensures.closure c.if-not-branch.false) (c.in_ok-enter.ensures.done c.if-branch.false)
+returns-clause-done g c = left_done c.requires.trying
+    (sym c.has.ensures ∙ c.if-has.false) c.with-reached.ensures c.in_ok-close.ensures.moved
+    (c.in_ok-close.ensures.closure c.if-not-branch.false) (c.in_ok-enter.ensures.done c.if-branch.false)
 
 pub returns-then-has-clause-steady : goal.returns-then-has-clause-steady
 returns-then-has-clause-steady g c = steady_same

@@ -12,11 +12,14 @@ closure_with-shared-requires g c =
           c.requires.inside,
           (
             ap length c.with-tried.ensures ∙ length-set c.args.a.now c.args.i true ∙ wide,
-            extent_tried c.args.sheet.now c.args.a.now c.args.i c.args.near.now c.requires.near wide c.requires.inside c.with-tried.result c.with-tried.ensures,
+            extent_tried c.args.indexed.now c.args.a.now c.args.i c.args.near.now c.requires.near wide c.requires.inside c.with-tried.result
+                c.with-tried.ensures,
           ),
         ),
       ),
     )
 
 pub returns-then-within : goal.returns-then-within
-returns-then-within g c = closure_shared c.args.sheet.now c.args.a.now c.args.i c.args.larger.now c.with-tried.result c.requires.wide c.requires.larger c.with-tried.ensures c.closure_with-shared.result c.closure_with-shared.ensures (sym c.within.ensures ∙ c.if-within.true)
+returns-then-within g c = closure_shared c.args.indexed.now c.args.a.now c.args.i c.args.larger.now c.with-tried.result c.requires.wide
+    c.requires.larger c.with-tried.ensures c.closure_with-shared.result c.closure_with-shared.ensures
+    (sym c.within.ensures ∙ c.if-within.true)

@@ -16,7 +16,8 @@ closure_with-shared-requires g c =
           c.requires.inside,
           (
             ap length c.with-tried.ensures ∙ length-set c.args.a.now c.args.i true ∙ wide,
-            extent_tried c.args.sheet.now c.args.a.now c.args.i c.args.near.now c.requires.near wide c.requires.inside c.with-tried.result c.with-tried.ensures,
+            extent_tried c.args.indexed.now c.args.a.now c.args.i c.args.near.now c.requires.near wide c.requires.inside c.with-tried.result
+                c.with-tried.ensures,
           ),
         ),
       ),
@@ -25,8 +26,10 @@ closure_with-shared-requires g c =
 pub returns-then-within : goal.returns-then-within
 returns-then-within g c = λ _.
     let X = set c.args.a.now c.args.i true in
-    within_trans c.args.larger.now X (closure c.args.sheet.now X) (subst (λ Y. within c.args.larger.now Y ≡ true) c.with-tried.ensures (sym c.within.ensures ∙ c.if-within.true))
-    (closure_extensive c.args.sheet.now X (length-set c.args.a.now c.args.i true ∙ c.requires.wide))
+    within_trans c.args.larger.now X (closure c.args.indexed.now X)
+    (subst (λ Y. within c.args.larger.now Y ≡ true) c.with-tried.ensures (sym c.within.ensures ∙ c.if-within.true))
+    (closure_extensive c.args.indexed.now X (length-set c.args.a.now c.args.i true ∙ c.requires.wide))
 
 pub returns : goal.returns
-returns g c = λ t. subst (λ Y. within c.args.larger.now Y ≡ true) (c.closure_with-shared.ensures ∙ ap (closure c.args.sheet.now) c.with-tried.ensures) (sym c.within-2.ensures ∙ t)
+returns g c = λ t. subst (λ Y. within c.args.larger.now Y ≡ true)
+    (c.closure_with-shared.ensures ∙ ap (closure c.args.indexed.now) c.with-tried.ensures) (sym c.within-2.ensures ∙ t)

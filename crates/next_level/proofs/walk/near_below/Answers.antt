@@ -6,5 +6,6 @@ use Rattle.next_level.proofs.walk.near_below.Goals as goal
 pub returns-then-is_shared : goal.returns-then-is_shared
 returns-then-is_shared g c =
     let X = set c.args.a.now c.args.i true in
-    extent_below c.args.sheet.now c.args.a.now c.args.i c.args.larger.now X c.requires.wide c.requires.larger refl
-    c.args.near.now c.set_having.new.self c.requires.near c.requires.inside (closure c.args.sheet.now X) refl (c.is_shared.ensures c.if-is_shared.true) c.in_ok-set_having.ensures
+    extent_below c.args.indexed.now c.args.a.now c.args.i c.args.larger.now X c.requires.wide c.requires.larger refl
+    c.args.near.now c.set_having.new.self c.requires.near c.requires.inside (closure c.args.indexed.now X) refl
+    (c.is_shared.ensures c.if-is_shared.true) c.in_ok-set_having.ensures

@@ -6,4 +6,6 @@ use Rattle.level_queue.proofs.questions.OpenQuestions.take_out.Goals as goal
 pub returns : goal.returns
 returns c =
     let a = c.self.inside in
-    ap (drop (a.first + 1)) c.copy_within.ensures ∙ taken_out a.list a.first c.args.i c.self.invariant (omega (arith, c.requires, ap length c.self.view_is)) ∙ ap (λ qs. remove qs c.args.i) c.self.view_is
+    ap (drop (a.first + 1)) c.copy_within.ensures
+    ∙ taken_out a.list a.first c.args.i c.self.invariant (omega (arith, c.requires, ap length c.self.view_is))
+    ∙ ap (λ qs. remove qs c.args.i) c.self.view_is

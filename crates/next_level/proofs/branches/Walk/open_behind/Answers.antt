@@ -1,4 +1,5 @@
-use Rattle.std.proofs.Common.{◌∙◌, arith}
+use Rattle.std.proofs.Common.{◌∙◌, sym, subst, arith}
+use Rattle.next_level.specs.Among.{AreAmong}
 use Rattle.lectic_basis.specs.Trees.{up_to}
 use Rattle.lectic_basis.proofs.PlaceLemmas.{up_to_agree, within_not_before}
 use Rattle.next_level.proofs.BranchLemmas.{root_entered}
@@ -8,17 +9,43 @@ use Rattle.next_level.proofs.branches.Walk.open_behind.Goals as goal
 pub enter_all-requires : goal.enter_all-requires
 enter_all-requires g c =
     let self = c.args.self.now in
-    let seen = c.nothing-seen.result in
+    let seen = c.new-seen.result in
     let found = c.in_ok-found.ensures in
-    let entered = root_entered (found.inside c.args.from c.requires.inside) (found.inside 0 (omega arith)) seen.bound seen.members.items c.nothing-seen.ensures.members in
-    let small = self.root.small in
-    let among = concerning_among self.root c.args.from c.in_ok-found.found.list found.list self.among.now.whole self.among.now.sets.items self.all_among in
-    (omega arith, (omega arith, (omega arith, (omega (arith, c.width-width.ensures.words), (omega arith, (entered, (omega (arith, small, c.nothing-seen.ensures.bound), among)))))))
+    let entered = root_entered (found.inside c.args.from c.requires.inside)
+    (found.inside 0 (omega arith)) seen.bound seen.members.items c.new-seen.ensures.members in
+    let among = concerning_among self.root c.args.from c.in_ok-found.found.list found.list self.among.whole self.among.sets.items
+    self.all_among in (
+      omega arith,
+      (
+        omega arith,
+        (
+          omega arith,
+          (
+            omega (arith, c.width-width.ensures.words),
+            (
+              omega arith,
+              (
+                entered,
+                (
+                  omega (arith, c.requires.small, c.new-seen.ensures.bound),
+                  subst (λ b. AreAmong c.in_ok-found.found.list.members self.indexed self.least c.args.from b
+                      c.in_ok-among.among.sets.items)
+                      (sym c.in_ok-among.ensures.0) (subst (λ Xs. AreAmong c.in_ok-found.found.list.members self.indexed self.least
+                      c.args.from
+                      self.among.whole Xs) (sym c.in_ok-among.ensures.1) among),
+                ),
+              ),
+            ),
+          ),
+        ),
+      ),
+    )
 
 pub returns-clause-listed : goal.returns-clause-listed
 returns-clause-listed g c =
     let self = c.args.self.now in
     let level = c.in_ok-enter_all.ensures.level in
-    concerning_listed self.root c.args.from (up_to c.args.from self.least.now)
-    (λ X up p. up_to_agree c.args.from self.least.now X p (within_not_before c.args.from self.least.now X up))
-    c.enter_all.new.found.list (level.list ∙ c.in_ok-found.ensures.list) c.enter_all.new.level.bound c.enter_all.new.level.members.items level.level
+    concerning_listed self.root c.args.from (up_to c.args.from self.least)
+    (λ X up p. up_to_agree c.args.from self.least X p (within_not_before c.args.from self.least X up))
+    c.enter_all.new.found.list (level.list ∙ c.in_ok-found.ensures.list) c.enter_all.new.level.bound c.enter_all.new.level.members.items
+    level.level

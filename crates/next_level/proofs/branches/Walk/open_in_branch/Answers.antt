@@ -10,50 +10,59 @@ pub returns-then-has-clause-listed : goal.returns-then-has-clause-listed
 returns-then-has-clause-listed g c =
     let self = c.args.self.now in
     let wide = root_wide self.root in
-    branch_taken self.least.now c.args.i (omega (arith, wide, c.requires.inside)) self.list.now.members self.sheet.now c.nothing-seen.result.bound c.nothing-seen.result.members.items
-    (sym c.has.ensures ∙ c.if-has.true) c.nothing-seen.ensures.members
+    branch_taken self.least c.args.i (omega (arith, wide, c.requires)) self.list.members self.indexed c.new-seen.result.bound
+    c.new-seen.result.members.items
+    (sym c.has.ensures ∙ c.if-has.true) c.new-seen.ensures.members
 
 pub returns-then-passes-clause-listed : goal.returns-then-passes-clause-listed
 returns-then-passes-clause-listed g c =
     let self = c.args.self.now in
     let wide = root_wide self.root in
-    let J = self.list.now.members in
-    let whole = self.among.now.whole in
-    let sets = self.among.now.sets.items in
-    branch_none self.least.now c.args.i (omega (arith, wide, c.requires.inside)) J self.sheet.now c.nothing-seen.result.bound c.nothing-seen.result.members.items
-    (λ X x s has. none_among J self.sheet.now self.least.now 0 c.args.i whole sets (among_start J self.sheet.now self.least.now 0 whole sets self.all_among) (omega arith)
-    (sym c.has.ensures ∙ c.if-has.false) (sym c.passes.ensures ∙ c.if-passes.true) X x has) c.nothing-seen.ensures.members
+    let J = self.list.members in
+    let whole = self.among.whole in
+    let sets = self.among.sets.items in
+    branch_none self.least c.args.i (omega (arith, wide, c.requires)) J self.indexed c.new-seen.result.bound
+    c.new-seen.result.members.items
+    (λ X x s has. none_among J self.indexed self.least 0 c.args.i whole sets
+    (among_start J self.indexed self.least 0 whole sets self.all_among) (omega arith)
+    (sym c.has.ensures ∙ c.if-has.false) (sym c.passes.ensures ∙ c.if-passes.true) X x has) c.new-seen.ensures.members
 
 pub close-requires : goal.close-requires
 close-requires g c =
     let found = c.in_ok-found.ensures in
     let root = found.inside 0 (omega arith) in
-    let lacks = sym c.has.ensures ∙ c.if-has.false in
-    (omega arith, (omega (arith, c.width-width.ensures.words), left_can_close (branch_trying root c.args.i c.requires.inside lacks 0) lacks c.with-reached.ensures))
+    let lacks = sym c.has.ensures ∙ c.if-has.false in (
+      omega arith,
+      (
+        omega (arith, c.width-width.ensures.words),
+        left_can_close (branch_trying root c.args.i c.requires lacks 0) lacks c.with-reached.ensures,
+      ),
+    )
 
 pub returns-then-not-branch-clause-listed : goal.returns-then-not-branch-clause-listed
 returns-then-not-branch-clause-listed g c =
     let found = c.in_ok-found.ensures in
     let root = found.inside 0 (omega arith) in
     let lacks = sym c.has.ensures ∙ c.if-has.false in
-    concerning_listed c.args.self.now.root c.args.i (in_branch c.args.i c.args.self.now.least.now)
-    (λ X up p. (branch_parts c.args.self.now.least.now c.args.i (omega (arith, root_wide c.args.self.now.root, c.requires.inside)) X p).1)
+    concerning_listed c.args.self.now.root c.args.i (in_branch c.args.i c.args.self.now.least)
+    (λ X up p. (branch_parts c.args.self.now.least c.args.i (omega (arith, root_wide c.args.self.now.root, c.requires)) X p).1)
     c.in_ok-found.found.list found.list _ _
-    (branch_differs root c.args.i c.requires.inside lacks c.nothing-seen.result.bound c.with-reached.result c.nothing-seen.result.members.items c.with-reached.ensures
-    (c.in_ok-close.ensures.differs c.if-not-branch.true) c.nothing-seen.ensures.members)
+    (branch_differs root c.args.i c.requires lacks c.new-seen.result.bound c.with-reached.result c.new-seen.result.members.items
+    c.with-reached.ensures
+    (c.in_ok-close.ensures.differs c.if-not-branch.true) c.new-seen.ensures.members)
 
-pub returns-then-size-self-clause-listed : goal.returns-then-size-self-clause-listed
-returns-then-size-self-clause-listed g c =
+pub returns-then-size-limits-clause-listed : goal.returns-then-size-limits-clause-listed
+returns-then-size-limits-clause-listed g c =
     let found = c.in_ok-found.ensures in
     let root = found.inside 0 (omega arith) in
     let lacks = sym c.has.ensures ∙ c.if-has.false in
     let closed = c.in_ok-close.ensures.closure c.if-not-branch.false in
     let closure = subst (λ X. IsClosure c.in_ok-found.found.list.members X c.close.new.closed) c.with-reached.ensures closed.closure in
-    concerning_listed c.args.self.now.root c.args.i (in_branch c.args.i c.args.self.now.least.now)
-    (λ X up p. (branch_parts c.args.self.now.least.now c.args.i (omega (arith, root_wide c.args.self.now.root, c.requires.inside)) X p).1)
+    concerning_listed c.args.self.now.root c.args.i (in_branch c.args.i c.args.self.now.least)
+    (λ X up p. (branch_parts c.args.self.now.least c.args.i (omega (arith, root_wide c.args.self.now.root, c.requires)) X p).1)
     c.in_ok-found.found.list found.list _ _
-    (branch_larger root c.args.i c.requires.inside lacks c.close.new.closed closure c.nothing-seen.result.bound c.nothing-seen.result.members.items
-    (omega (arith, c.size.ensures.size, c.if-size-self.true, c.nothing-seen.ensures.bound)) c.nothing-seen.ensures.members)
+    (branch_larger root c.args.i c.requires lacks c.close.new.closed closure c.new-seen.result.bound c.new-seen.result.members.items
+    (omega (arith, c.size.ensures.size, c.if-size-limits.true, c.new-seen.ensures.bound)) c.new-seen.ensures.members)
 
 pub child_among-requires : goal.child_among-requires
 child_among-requires g c =
@@ -62,10 +71,28 @@ child_among-requires g c =
     let root = found.inside 0 (omega arith) in
     let lacks = sym c.has.ensures ∙ c.if-has.false in
     let closed = c.in_ok-close.ensures.closure c.if-not-branch.false in
-    let trying = branch_trying root c.args.i c.requires.inside lacks 0 in
+    let trying = branch_trying root c.args.i c.requires lacks 0 in
     let moved = c.in_ok-close.ensures.moved in
-    let among = concerning_among self.root c.args.i c.close.new.found.list (moved.list ∙ found.list) self.among.now.whole self.among.now.sets.items self.all_among in
-    (omega arith, (omega arith, (omega (arith, c.width-width.ensures.words), (omega arith, (c.requires.inside, (root_wide self.root, (among, (lacks, (left_above trying lacks c.with-reached.ensures moved closed, closed.agree)))))))))
+    let among = concerning_among self.root c.args.i c.close.new.found.list
+    (moved.list ∙ found.list) self.among.whole self.among.sets.items self.all_among in (
+      omega arith,
+      (
+        omega arith,
+        (
+          omega (arith, c.width-width.ensures.words),
+          (
+            omega arith,
+            (
+              c.requires,
+              (
+                root_wide self.root,
+                (among, (lacks, (left_above trying lacks c.with-reached.ensures moved closed, closed.agree))),
+              ),
+            ),
+          ),
+        ),
+      ),
+    )
 
 pub enter_all-requires : goal.enter_all-requires
 enter_all-requires g c =
@@ -76,13 +103,26 @@ enter_all-requires g c =
     let closed = c.in_ok-close.ensures.closure c.if-not-branch.false in
     let closure = subst (λ X. IsClosure c.in_ok-found.found.list.members X c.close.new.closed) c.with-reached.ensures closed.closure in
     let moved = c.in_ok-close.ensures.moved in
-    let at = (left_entered (branch_trying root c.args.i c.requires.inside lacks 0) lacks c.with-reached.ensures moved closed).at in
+    let at = (left_entered (branch_trying root c.args.i c.requires lacks 0) lacks c.with-reached.ensures moved closed).at in
     let put = c.in_ok-push_to_wait.ensures in
-    let seen = c.nothing-seen.result in
-    let entered = branch_entered root c.args.i c.requires.inside lacks c.close.new.closed closure closed.agree _ refl refl at moved.list c.push_to_wait.new.self put.list put.put seen.bound seen.members.items c.nothing-seen.ensures.members in
-    let among = branch_among root c.args.i c.requires.inside lacks c.close.new.closed closure closed.agree _ refl refl at moved.list c.push_to_wait.new.self put.list put.put
-    c.in_ok-part.part.whole c.in_ok-part.part.sets.items c.in_ok-part.ensures in
-    (omega arith, (omega arith, (omega arith, (omega (arith, c.width-width.ensures.words), (omega arith, (entered, (omega (arith, c.size.ensures.size, c.if-size-self.false, c.nothing-seen.ensures.bound), among)))))))
+    let seen = c.new-seen.result in
+    let entered = branch_entered root c.args.i c.requires lacks c.close.new.closed closure closed.agree _ refl refl at moved.list
+    c.push_to_wait.new.self put.list put.put seen.bound seen.members.items c.new-seen.ensures.members in
+    let among = branch_among root c.args.i c.requires lacks c.close.new.closed closure closed.agree _ refl refl at moved.list
+    c.push_to_wait.new.self put.list put.put
+    c.in_ok-part.part.whole c.in_ok-part.part.sets.items c.in_ok-part.ensures in (
+      omega arith,
+      (
+        omega arith,
+        (
+          omega arith,
+          (
+            omega (arith, c.width-width.ensures.words),
+            (omega arith, (entered, (omega (arith, c.size.ensures.size, c.if-size-limits.false, c.new-seen.ensures.bound), among))),
+          ),
+        ),
+      ),
+    )
 
 pub returns-clause-listed : goal.returns-clause-listed
 returns-clause-listed g c =
@@ -92,11 +132,12 @@ returns-clause-listed g c =
     let closed = c.in_ok-close.ensures.closure c.if-not-branch.false in
     let closure = subst (λ X. IsClosure c.in_ok-found.found.list.members X c.close.new.closed) c.with-reached.ensures closed.closure in
     let moved = c.in_ok-close.ensures.moved in
-    let at = (left_entered (branch_trying root c.args.i c.requires.inside lacks 0) lacks c.with-reached.ensures moved closed).at in
+    let at = (left_entered (branch_trying root c.args.i c.requires lacks 0) lacks c.with-reached.ensures moved closed).at in
     let put = c.in_ok-push_to_wait.ensures in
     let level = c.in_ok-enter_all.ensures.level in
-    concerning_listed c.args.self.now.root c.args.i (in_branch c.args.i c.args.self.now.least.now)
-    (λ X up p. (branch_parts c.args.self.now.least.now c.args.i (omega (arith, root_wide c.args.self.now.root, c.requires.inside)) X p).1)
+    concerning_listed c.args.self.now.root c.args.i (in_branch c.args.i c.args.self.now.least)
+    (λ X up p. (branch_parts c.args.self.now.least c.args.i (omega (arith, root_wide c.args.self.now.root, c.requires)) X p).1)
     c.in_ok-found.found.list found.list _ _
-    (branch_done root c.args.i c.requires.inside lacks c.close.new.closed closure closed.agree _ refl refl at moved.list c.push_to_wait.new.self put.list put.put
+    (branch_done root c.args.i c.requires lacks c.close.new.closed closure closed.agree _ refl refl at moved.list
+    c.push_to_wait.new.self put.list put.put
     c.enter_all.new.level.bound c.enter_all.new.level.members.items c.enter_all.new.found.list level.list level.level)

@@ -4,7 +4,7 @@ use Rattle.implication_closure.specs.Closing.{RuleList}
 use Rattle.lectic_basis.specs.Watches.{IsFiled, IsGood}
 use Rattle.next_level.proofs.BranchLemmas.{root_at, root_wide}
 use Rattle.next_level.proofs.ConcernLemmas.{concerning_root}
-use Rattle.next_level.proofs.branches.Walk.concerned.Goals as goal
+use Rattle.next_level.proofs.branches.Walk.rules_from.Goals as goal
 
 pub of_narrow-requires : goal.of_narrow-requires
 of_narrow-requires g c =
@@ -18,7 +18,7 @@ of_narrow-requires g c =
           omega arith,
           (
             root_wide root ∙ sym root.width ∙ ap (λ (L : RuleList). L.width) (sym list),
-            subst (λ (L : RuleList). respects_all L.members self.least.now ≡ true) (sym list) root.closure.respecting,
+            subst (λ (L : RuleList). respects_all L.members self.least ≡ true) (sym list) root.closure.respecting,
           ),
         ),
       ),
@@ -31,4 +31,5 @@ returns-clause-inside g c =
     let found = c.in_ok-found.ensures in
     let buckets = c.in_ok-found.found.buckets in
     root_at (concerning_root self.root c.args.from) (found.list ∙ list)
-    (subst (λ (L : RuleList). IsFiled L.width L.members buckets) list found.filed) (subst (λ (L : RuleList). IsGood L.members buckets self.least.now) list found.good)
+    (subst (λ (L : RuleList). IsFiled L.width L.members buckets) list found.filed)
+    (subst (λ (L : RuleList). IsGood L.members buckets self.least) list found.good)
