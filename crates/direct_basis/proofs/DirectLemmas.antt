@@ -2,7 +2,8 @@
 -- away from X as long as the attribute stays in the closure; once each member is needed, the set is a proper premise. So a set respects
 -- the direct basis exactly where it is closed, and with the Duquenne-Guigues basis it shares the sets that respect it, so it has at least
 -- as many members.
-use Rattle.std.proofs.Common.{◌≡◌, ℕ, zero, suc, ◌+◌, ◌<◌, ◌≤◌, Bool, true, false, not, ◌||◌, List, [], ◌∷◌, map, filter, fold, length, get_or, set, refl, sym, ap, ap₂, ◌∙◌, subst, arith, inl, inr}
+use Rattle.std.proofs.Common.{◌≡◌, ℕ, zero, suc, ◌+◌, ◌<◌, ◌≤◌, Bool, true, false, not, ◌||◌, List, [], ◌∷◌, map, filter, fold, length}
+use Rattle.std.proofs.Common.{get_or, set, refl, sym, ap, ap₂, ◌∙◌, subst, arith, inl, inr}
 use Rattle.std.proofs.lemmas.Bool.{false≢true, cases_Bool, or_left, or_right, not-false, false_from_ne_true}
 use Rattle.std.proofs.lemmas.List.{length-set}
 use Rattle.std.proofs.lemmas.List.Folds.{list_all-map}
@@ -12,9 +13,12 @@ use Rattle.fca_model.specs.Sets.{Set, within, join, size, same, all_sets}
 use Rattle.fca_model.specs.Context.{Context, closure, is_closed}
 use Rattle.fca_model.specs.Implications.{Rule, rule, respects, respects_all, holds, follows, equivalent}
 use Rattle.fca_model.specs.Pseudo.{basis, basis_known}
-use Rattle.fca_model.proofs.ListLemmas.{list_all-filter, list_any_at, list_any-not, list_any-map, filter_passes, implies_from, implies_at, bool_iff}
-use Rattle.fca_model.proofs.SetLemmas.{within_refl, within_trans, within_antisymm, same_from, same-true, within_at_place, within_from_places, all_sets_at, all_sets_from}
-use Rattle.fca_model.proofs.ClosureLemmas.{length-closure, closure_extensive, closure_monotone, closure_idempotent, respects_from, respects_at}
+use Rattle.fca_model.proofs.ListLemmas.{list_all-filter, list_any_at, list_any-not, list_any-map, filter_passes, implies_from, implies_at}
+use Rattle.fca_model.proofs.ListLemmas.{bool_iff}
+use Rattle.fca_model.proofs.SetLemmas.{within_refl, within_trans, within_antisymm, same_from, same-true, within_at_place}
+use Rattle.fca_model.proofs.SetLemmas.{within_from_places, all_sets_at, all_sets_from}
+use Rattle.fca_model.proofs.ClosureLemmas.{length-closure, closure_extensive, closure_monotone, closure_idempotent, respects_from}
+use Rattle.fca_model.proofs.ClosureLemmas.{respects_at}
 use Rattle.fca_model.proofs.PseudoLemmas.{holds_respected, closed_by_respecting}
 use Rattle.fca_model.proofs.LeastLemmas.{least_equivalent}
 use Rattle.direct_basis.specs.Direct.{members, without, from_parts, proper, direct, one_pass}

@@ -2,7 +2,9 @@
 -- was visited; and its first member comes before all of those. So each free set is visited, by induction on its size, and each proper
 -- premise is free. Put in their places, the proper ones are a list in lectic order with the same members as the definition's, so the same
 -- list.
-use Rattle.std.proofs.Common.{◌≡◌, ℕ, zero, suc, ◌+◌, ◌<◌, Bool, true, false, ◌&&◌, ◌||◌, List, [], ◌∷◌, ◌++◌, take, map, filter, length, replicate, get_or, set, All, refl, sym, ap, ◌∙◌, arith, eqb, eqb-true, eq-eqb, add-one, Ordering, Less, Equal, Greater}
+use Rattle.std.proofs.Common.{◌≡◌, ℕ, zero, suc, ◌+◌, ◌<◌, Bool, true, false, ◌&&◌, ◌||◌, List, [], ◌∷◌, ◌++◌, take, map, filter, length}
+use Rattle.std.proofs.Common.{replicate, get_or, set, All, refl, sym, ap, ◌∙◌, arith, eqb, eqb-true, eq-eqb, add-one, Ordering, Less, Equal}
+use Rattle.std.proofs.Common.{Greater}
 use Rattle.std.proofs.Math.Bool.{or-false, or_assoc, or_comm}
 use Rattle.std.proofs.lemmas.Bool.{false≢true, and_parts, and_from, or_left}
 use Rattle.std.proofs.lemmas.Grind.{flat_map-append}

@@ -4,7 +4,8 @@
 -- each free set is met once, from itself without its first member: a level has the free sets of one size, and the sets visited next are
 -- those of the level with one attribute more that comes before all members. (Free sets are the minimal generators of the intents:
 -- Bastide, Taouil, Pasquier, Stumme and Lakhal, 2000, "Mining frequent patterns with counting inference".)
-use Rattle.std.specs.Prelude.{◌≡◌, ℕ, zero, suc, Bool, true, false, not, List, [], ◌∷◌, map, filter, fold, replicate, slice_index_or, slice_set}
+use Rattle.std.specs.Prelude.{◌≡◌, ℕ, zero, suc, Bool, true, false, not, List, [], ◌∷◌, map, filter, fold, replicate, slice_index_or}
+use Rattle.std.specs.Prelude.{slice_set}
 use Rattle.std.specs.List.{list_all, range_with_len, flat_map}
 use Rattle.std.specs.BTreeSet.{insert_key}
 use Rattle.fca_model.specs.Sets.{Set, lectic_cmp}

@@ -1,5 +1,6 @@
 -- A member more that waits, and what the tree needs of a closure.
-use Rattle.std.proofs.Common.{◌≡◌, ℕ, zero, suc, ◌+◌, ◌<◌, Bool, true, false, ◌&&◌, ◌||◌, Some, None, List, [], ◌∷◌, ◌++◌, length, get_or, take, refl, sym, ap, ◌∙◌, subst, arith, inl, inr}
+use Rattle.std.proofs.Common.{◌≡◌, ℕ, zero, suc, ◌+◌, ◌<◌, Bool, true, false, ◌&&◌, ◌||◌, Some, None, List, [], ◌∷◌, ◌++◌, length, get_or}
+use Rattle.std.proofs.Common.{take, refl, sym, ap, ◌∙◌, subst, arith, inl, inr}
 use Rattle.std.proofs.lemmas.Bool.{false≢true, and_parts, and_from, cases_eq, or_left, or_right}
 use Rattle.std.proofs.lemmas.List.{take_more, get_or_default}
 use Rattle.std.proofs.lemmas.List.Sums.{AllPass-from_list_all}
@@ -14,7 +15,8 @@ use Rattle.fca_model.proofs.StepLemmas.{first_missing_none}
 use Rattle.fca_model.proofs.ListLemmas.{list_all-mono}
 use Rattle.attr_bits.proofs.DifferenceLemmas.{first_missing-parts}
 use Rattle.lectic_basis.proofs.BucketLemmas.{put_all}
-use Rattle.lectic_basis.specs.Watches.{bucket, member_at, Outside, Covers, IsGood, HasKept, IsFiled, IsPut, IsPutBefore, IsClosedBefore, Differs}
+use Rattle.lectic_basis.specs.Watches.{bucket, member_at, Outside, Covers, IsGood, HasKept, IsFiled, IsPut, IsPutBefore, IsClosedBefore}
+use Rattle.lectic_basis.specs.Watches.{Differs}
 
 -- ---- one member more
 

@@ -1,7 +1,8 @@
 -- The closure under members that wait. A member of the bucket of an attribute z of the set has either an attribute of its premise outside
 -- the set, and waits for that from now on; or its premise lies within the set, and its conclusion is joined. Once each attribute of the
 -- set was looked through, the premise of each member that still waits for an attribute outside does not lie within the set.
-use Rattle.std.proofs.Common.{◌≡◌, ℕ, ◌+◌, ◌-◌, ◌<◌, ◌≤◌, Bool, true, false, not, ◌&&◌, ◌||◌, Some, None, List, [], ◌∷◌, ◌++◌, length, get_or, set, take, refl, sym, ap, ◌∙◌, subst, arith, inl, inr, get_or-set_other, length-set, eqb, eqb-true}
+use Rattle.std.proofs.Common.{◌≡◌, ℕ, ◌+◌, ◌-◌, ◌<◌, ◌≤◌, Bool, true, false, not, ◌&&◌, ◌||◌, Some, None, List, [], ◌∷◌, ◌++◌, length}
+use Rattle.std.proofs.Common.{get_or, set, take, refl, sym, ap, ◌∙◌, subst, arith, inl, inr, get_or-set_other, length-set, eqb, eqb-true}
 use Rattle.std.proofs.lemmas.Bool.{false≢true, and_parts, and_from, cases_Bool, cases_eq, or_left, or_right, false_from_ne_true}
 use Rattle.std.proofs.lemmas.List.{take_more, get_or_default}
 use Rattle.std.proofs.lemmas.List.Sums.{AllPass-from_list_all}
@@ -10,7 +11,8 @@ use Rattle.std.specs.List.{list_all}
 use Rattle.fca_model.specs.Sets.{Set, within, join, size, agree_before}
 use Rattle.fca_model.specs.Implications.{Rule, rule, respects, respects_all}
 use Rattle.fca_model.specs.Exploration.{first_missing}
-use Rattle.fca_model.proofs.SetLemmas.{within_refl, within_trans, within_antisymm, within_set, within_at_place, not_within_at, set_within, length-join, within-join, within-join_right, join_within, size-set, size_le, agree_at, agree_from}
+use Rattle.fca_model.proofs.SetLemmas.{within_refl, within_trans, within_antisymm, within_set, within_at_place, not_within_at, set_within}
+use Rattle.fca_model.proofs.SetLemmas.{length-join, within-join, within-join_right, join_within, size-set, size_le, agree_at, agree_from}
 use Rattle.fca_model.proofs.ClosureLemmas.{respects_at}
 use Rattle.fca_model.proofs.StepLemmas.{first_missing_none}
 use Rattle.fca_model.proofs.ListLemmas.{list_all-mono, bool_iff}
@@ -18,7 +20,8 @@ use Rattle.attr_bits.proofs.DifferenceLemmas.{first_missing-parts}
 use Rattle.attr_bits.proofs.PlaceLemmas.{member_below}
 use Rattle.implication_closure.specs.Closing.{RuleList, has_width, HaveWidth}
 use Rattle.lectic_basis.proofs.BucketLemmas.{moved_all}
-use Rattle.lectic_basis.specs.Watches.{Watched, CanClose, HasMoved, bucket, waiting_at, Outside, Covers, IsGood, HasKept, IsSorted, IsFiled, IsMoved, IsSettling, IsClosedBefore, Differs, IsBounded}
+use Rattle.lectic_basis.specs.Watches.{Watched, CanClose, HasMoved, bucket, waiting_at, Outside, Covers, IsGood, HasKept, IsSorted, IsFiled}
+use Rattle.lectic_basis.specs.Watches.{IsMoved, IsSettling, IsClosedBefore, Differs, IsBounded}
 
 -- a set between two that agree
 pub agree_between : (k : ℕ) (A D T : Set) → within A D ≡ true → within D T ≡ true → agree_before k A T ≡ true → agree_before k A D ≡ true

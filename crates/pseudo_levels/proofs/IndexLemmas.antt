@@ -1,6 +1,8 @@
 -- Why an index misses no member that a set breaks. The premise of a member has both attributes of its bucket, so a set that takes the
 -- premise in has them too, and looks into the bucket. In a bucket whose attributes the set has not, no premise lies within the set.
-use Rattle.std.proofs.Common.{◌≡◌, ℕ, zero, suc, ◌+◌, ◌*◌, ◌/◌, ◌%◌, ◌<◌, ◌≤◌, Bool, true, false, not, ◌&&◌, ◌||◌, cond, Option, Some, None, Result, Ok, Err, OnErr, MatchOption, List, [], ◌∷◌, ◌++◌, length, map, get_or, set, find, refl, get_or-set_same, get_or-set_other, sym, ap, ◌∙◌, subst, arith, inl, inr, eqb, eqb-true, leb, leb-true}
+use Rattle.std.proofs.Common.{◌≡◌, ℕ, zero, suc, ◌+◌, ◌*◌, ◌/◌, ◌%◌, ◌<◌, ◌≤◌, Bool, true, false, not, ◌&&◌, ◌||◌, cond, Option, Some, None}
+use Rattle.std.proofs.Common.{Result, Ok, Err, OnErr, MatchOption, List, [], ◌∷◌, ◌++◌, length, map, get_or, set, find, refl}
+use Rattle.std.proofs.Common.{get_or-set_same, get_or-set_other, sym, ap, ◌∙◌, subst, arith, inl, inr, eqb, eqb-true, leb, leb-true}
 use Rattle.std.proofs.Math.Nat.{mul-add-mod_self_right, mod-eq_of_lt}
 use Rattle.std.proofs.lemmas.Nat.{div-mul-add, div-add-mod'}
 use Rattle.std.proofs.lemmas.Bool.{le-leb, false≢true, and_parts, and_from, cases_Bool, cases_lt, cases_eq}

@@ -1,6 +1,7 @@
 -- The basis by size is a least basis. It has the members of the basis, so it says the same; and it is as long, since up to each size
 -- it has as many members as the basis has of smaller sizes.
-use Rattle.std.proofs.Common.{◌≡◌, ℕ, zero, suc, ◌+◌, Bool, true, false, not, ◌||◌, cond, List, [], ◌∷◌, length, filter, refl, sym, ap, ap₂, ◌∙◌, subst, arith, inl, inr, eqb, eq-eqb, ne_eqb, ltb, lt-ltb, le-ltb, leb, leb-true}
+use Rattle.std.proofs.Common.{◌≡◌, ℕ, zero, suc, ◌+◌, Bool, true, false, not, ◌||◌, cond, List, [], ◌∷◌, length, filter, refl, sym, ap, ap₂}
+use Rattle.std.proofs.Common.{◌∙◌, subst, arith, inl, inr, eqb, eq-eqb, ne_eqb, ltb, lt-ltb, le-ltb, leb, leb-true}
 use Rattle.std.proofs.lemmas.Bool.{cases_lt, cases_eq, or_cases, ltb-true}
 use Rattle.std.proofs.lemmas.List.{length-append}
 use Rattle.std.specs.List.{list_all}

@@ -2,7 +2,9 @@
 -- and respects what was found, so a candidate of size k at least lies within it, and is it. Each larger set that the candidates of
 -- size k lead to contains a member or a set that is settled. And once the closures of the members have grown, and the members
 -- are found, the larger candidates lead to all.
-use Rattle.std.proofs.Common.{◌≡◌, ℕ, zero, suc, ◌+◌, Bool, true, false, not, ◌&&◌, ◌||◌, cond, Some, None, List, [], ◌∷◌, ◌++◌, map, length, filter, refl, sym, ap, ap₂, ◌∙◌, subst, arith, inl, inr, eqb, eqb-true, eq-eqb, leb, le-leb, leb-true, replicate}
+use Rattle.std.proofs.Common.{◌≡◌, ℕ, zero, suc, ◌+◌, Bool, true, false, not, ◌&&◌, ◌||◌, cond, Some, None, List, [], ◌∷◌, ◌++◌, map}
+use Rattle.std.proofs.Common.{length, filter, refl, sym, ap, ap₂, ◌∙◌, subst, arith, inl, inr, eqb, eqb-true, eq-eqb, leb, le-leb, leb-true}
+use Rattle.std.proofs.Common.{replicate}
 use Rattle.std.proofs.lemmas.Bool.{false≢true, and_parts, and_from, or_cases, or_left, or_right}
 use Rattle.std.proofs.lemmas.List.Folds.{list_all-append, list_all-map}
 use Rattle.std.proofs.lemmas.Simd.{length-replicate}
@@ -13,14 +15,16 @@ use Rattle.fca_model.specs.Context.{Context, closure, is_closed}
 use Rattle.fca_model.specs.Implications.{Rule, rule, respects, respects_all}
 use Rattle.fca_model.specs.Pseudo.{basis_known, pseudo_known}
 use Rattle.fca_model.specs.Levels.{level_of, levels_below, by_size, absorbs_all, HasBelow}
-use Rattle.fca_model.proofs.ListLemmas.{implies_from, list_all-mono, list_all-filter, list_all-filter_kept, list_all-and, list_any-mono₂, list_any_at, filter_passes}
+use Rattle.fca_model.proofs.ListLemmas.{implies_from, list_all-mono, list_all-filter, list_all-filter_kept, list_all-and, list_any-mono₂}
+use Rattle.fca_model.proofs.ListLemmas.{list_any_at, filter_passes}
 use Rattle.fca_model.proofs.SetLemmas.{same_refl, same_from, same_by_size, size_mono, all_sets_increasing, all_sets_widths}
 use Rattle.fca_model.proofs.SortedLemmas.{at_member, same_members, increasing-filter, in_filter, of_filter, in_all_sets}
 use Rattle.fca_model.proofs.ClosureLemmas.{length-closure, closure_extensive, closure_idempotent, respects_at}
 use Rattle.fca_model.proofs.PseudoLemmas.{pseudo_parts, basis_all}
 use Rattle.fca_model.proofs.LevelLemmas.{pseudo_by_found, respects_found, level_is, has_below}
 use Rattle.implication_closure.specs.Closing.{has_width, HaveWidth}
-use Rattle.pseudo_levels.specs.Search.{judged, members_of, AreWide, Has, HasLarger, HaveLarger, Grows, leads, LeadsAll, LeadsOn, IsSettled, IsOpened}
+use Rattle.pseudo_levels.specs.Search.{judged, members_of, AreWide, Has, HasLarger, HaveLarger, Grows, leads, LeadsAll, LeadsOn, IsSettled}
+use Rattle.pseudo_levels.specs.Search.{IsOpened}
 use Rattle.pseudo_levels.proofs.ReachLemmas.{split_leads, larger_leads, leads_by}
 
 -- a set that leads on is a member or another

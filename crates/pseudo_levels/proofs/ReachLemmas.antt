@@ -1,7 +1,9 @@
 -- Why larger candidates lead on. Let P be a set that is not closed and respects S and what was found, and let X be a set within P.
 -- Where X breaks a rule, X with its conclusion lies within P and is larger. Where X is closed, it is not P, so P has an
 -- attribute that X lacks, and X with that attribute lies within P.
-use Rattle.std.proofs.Common.{◌≡◌, ℕ, zero, suc, ◌+◌, ◌<◌, ◌≤◌, Bool, true, false, not, ◌&&◌, ◌||◌, cond, Option, Some, None, List, [], ◌∷◌, ◌++◌, map, length, filter, get_or, set, take, refl, sym, ap, ◌∙◌, subst, arith, inl, inr, eqb, eq-eqb, leb, le-leb, leb-true}
+use Rattle.std.proofs.Common.{◌≡◌, ℕ, zero, suc, ◌+◌, ◌<◌, ◌≤◌, Bool, true, false, not, ◌&&◌, ◌||◌, cond, Option, Some, None, List, [], ◌∷◌}
+use Rattle.std.proofs.Common.{◌++◌, map, length, filter, get_or, set, take, refl, sym, ap, ◌∙◌, subst, arith, inl, inr, eqb, eq-eqb, leb}
+use Rattle.std.proofs.Common.{le-leb, leb-true}
 use Rattle.std.proofs.lemmas.Bool.{false≢true, and_parts, and_from, cases_Bool, cases_lt, or_cases, or_left, or_right}
 use Rattle.std.proofs.lemmas.List.{take_more, get_or_default}
 use Rattle.std.proofs.lemmas.List.Folds.{list_any-append}
@@ -11,7 +13,8 @@ use Rattle.fca_model.specs.Sets.{Set, size, within, join, same, strictly_within}
 use Rattle.fca_model.specs.Context.{Context, closure, is_closed}
 use Rattle.fca_model.specs.Implications.{Rule, rule, respects, respects_all}
 use Rattle.fca_model.specs.Levels.{absorbs_all}
-use Rattle.fca_model.proofs.SetLemmas.{within_antisymm, within_trans, within-join, within-join_right, join_within, length-join, same-true, same_from, strictly-parts, strictly_from, size_strict, size-set, set_within, lacks}
+use Rattle.fca_model.proofs.SetLemmas.{within_antisymm, within_trans, within-join, within-join_right, join_within, length-join, same-true}
+use Rattle.fca_model.proofs.SetLemmas.{same_from, strictly-parts, strictly_from, size_strict, size-set, set_within, lacks}
 use Rattle.fca_model.proofs.ClosureLemmas.{respects_at}
 use Rattle.pseudo_levels.specs.Search.{judged, Has, HasLarger, leads, Grows, IsSettled}
 use Rattle.pseudo_levels.specs.Index.{IsBroken}

@@ -1,6 +1,7 @@
 -- An index of implications. Each is in the bucket of two attributes of its premise, so a set can break those alone whose
 -- bucket stands for two of its own attributes.
-use Rattle.std.specs.Prelude.{◌≡◌, ℕ, zero, suc, ◌/◌, ◌%◌, ◌≢◌, ◌≤◌, Bool, true, false, not, ◌&&◌, List, [], length, take, slice_index_or, nat_le, ◌++◌, ◌∷◌}
+use Rattle.std.specs.Prelude.{◌≡◌, ℕ, zero, suc, ◌/◌, ◌%◌, ◌≢◌, ◌≤◌, Bool, true, false, not, ◌&&◌, List, [], length, take, slice_index_or}
+use Rattle.std.specs.Prelude.{nat_le, ◌++◌, ◌∷◌}
 use Rattle.std.specs.List.{list_all}
 use Rattle.fca_model.specs.Sets.{Set, within, strictly_within}
 use Rattle.fca_model.specs.Implications.{Rule}

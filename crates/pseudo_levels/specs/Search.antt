@@ -1,6 +1,7 @@
 -- The search for the members of the basis, one size of premises after the other. It keeps a set of candidates, such that below
 -- each set that is not closed, and respects what was found, there is a candidate that is large enough.
-use Rattle.std.specs.Prelude.{◌≡◌, ℕ, suc, ◌<◌, ◌≤◌, Bool, true, false, not, ◌&&◌, ◌||◌, cond, Option, Some, None, List, length, filter_map, ◌==◌, nat_le, slice_index_or, slice_set}
+use Rattle.std.specs.Prelude.{◌≡◌, ℕ, suc, ◌<◌, ◌≤◌, Bool, true, false, not, ◌&&◌, ◌||◌, cond, Option, Some, None, List, length, filter_map}
+use Rattle.std.specs.Prelude.{◌==◌, nat_le, slice_index_or, slice_set}
 use Rattle.std.specs.List.{list_all, list_any}
 use Rattle.std.specs.Option.{is_some}
 use Rattle.fca_model.specs.Sets.{Set, size, within, same}

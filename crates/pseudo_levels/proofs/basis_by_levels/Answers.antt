@@ -3,7 +3,8 @@ use Rattle.fca_model.specs.Implications.{Rule}
 use Rattle.fca_model.specs.Levels.{by_size}
 use Rattle.implication_closure.specs.Closing.{RuleList, HaveWidth}
 use Rattle.pseudo_levels.specs.Search.{AreWide, HaveLarger, IsOpened}
-use Rattle.pseudo_levels.proofs.LevelLemmas.{levels_none, levels_next, levels_all, leads_first, leads_more, first_wide, found_below, members_wide, conclusions_grow}
+use Rattle.pseudo_levels.proofs.LevelLemmas.{levels_none, levels_next, levels_all, leads_first, leads_more, first_wide, found_below}
+use Rattle.pseudo_levels.proofs.LevelLemmas.{members_wide, conclusions_grow}
 use Rattle.pseudo_levels.proofs.LeastLemmas.{by_size_least, list_is}
 use Rattle.pseudo_levels.proofs.basis_by_levels.Goals as goal
 

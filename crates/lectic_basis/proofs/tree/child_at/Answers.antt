@@ -3,7 +3,8 @@ use Rattle.std.proofs.lemmas.Result.{on_ok_weaker}
 use Rattle.implication_closure.specs.Closing.{RuleList}
 use Rattle.lectic_basis.specs.Forced.{AreForced}
 use Rattle.lectic_basis.specs.Watches.{IsBounded}
-use Rattle.lectic_basis.proofs.WalkLemmas.{below_can_close, below_none, below_visit, below_told, below_up, told_forced, told_extent, below_extent, below_wide}
+use Rattle.lectic_basis.proofs.WalkLemmas.{below_can_close, below_none, below_visit, below_told, below_up, told_forced, told_extent}
+use Rattle.lectic_basis.proofs.WalkLemmas.{below_extent, below_wide}
 use Rattle.lectic_basis.proofs.tree.child_at.Goals as goal
 
 pub close-requires : goal.close-requires

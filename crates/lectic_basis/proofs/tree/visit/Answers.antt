@@ -2,7 +2,8 @@ use Rattle.std.proofs.Common.{◌≡◌, true, sym, ◌∙◌, subst, arith}
 use Rattle.fca_model.specs.Sets.{Set, within}
 use Rattle.fca_model.proofs.ClosureLemmas.{closure_extensive}
 use Rattle.fca_model.proofs.SetLemmas.{within_refl}
-use Rattle.lectic_basis.proofs.WalkLemmas.{visit_wide, visit_inside, closure_wide, closure_up, visit_closed, visit_ends, visit_can_close, visit_below, visit_done, part_before, longer_push}
+use Rattle.lectic_basis.proofs.WalkLemmas.{visit_wide, visit_inside, closure_wide, closure_up, visit_closed, visit_ends, visit_can_close}
+use Rattle.lectic_basis.proofs.WalkLemmas.{visit_below, visit_done, part_before, longer_push}
 use Rattle.lectic_basis.proofs.tree.visit.Goals as goal
 
 -- an intent

@@ -4,7 +4,8 @@ use Rattle.lectic_basis.specs.Forced.{NoneTried, IsLastTried}
 use Rattle.lectic_basis.specs.Walks.{HasFound, IsPart}
 use Rattle.lectic_basis.specs.Watches.{Watched}
 use Rattle.lectic_basis.specs.declared.tree.Step.{Step}
-use Rattle.lectic_basis.proofs.StepLemmas.{IsWalk, walk_first, walk_step, walk_none, walk_trying, walk_lacks, walk_tried, walk_below, walk_done, room_done, room_tried, room_deeper}
+use Rattle.lectic_basis.proofs.StepLemmas.{IsWalk, walk_first, walk_step, walk_none, walk_trying, walk_lacks, walk_tried, walk_below}
+use Rattle.lectic_basis.proofs.StepLemmas.{walk_done, room_done, room_tried, room_deeper}
 use Rattle.lectic_basis.proofs.tree.visit_below.Goals as goal
 
 pub loop-step-init : goal.loop-step-init
