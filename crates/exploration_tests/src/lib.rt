@@ -11,4 +11,8 @@ mod explore_state_tests;
 #[cfg(test)]
 mod real_ends_tests;
 #[cfg(test)]
+mod serve_tests;
+#[cfg(test)]
 mod tables;
+#[cfg(test)]
+mod turn_lock_tests;

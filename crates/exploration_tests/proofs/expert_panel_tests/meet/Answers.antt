@@ -12,6 +12,8 @@ two meeting = 2
 pub run_panel-requires-after_bounds : goal.run_panel-requires-after_bounds
 run_panel-requires-after_bounds g c κs within =
     let gate = c.in_ok-gate.gate in
-    let wide : 2 ≡ gate.base.table.context.width = sym (ap (λ (o : Opening). o.table.context.width) c.in_ok-gate.ensures.opening ∙ c.in_ok-opened.ensures.width) in
+    let wide : 2 ≡ gate.base.table.context.width =
+    sym (ap (λ (o : Opening). o.table.context.width) c.in_ok-gate.ensures.opening ∙ c.in_ok-opened.ensures.width) in
     subst (All (IsSeatOf two gate)) (sym c.as_mut_slice.ensures.value)
-    (seats_of two gate c.in_ok-seats.seats.items (subst (All (Belongs gate)) (sym c.in_ok-seats.ensures.passes) c.in_ok-gate.ensures.belong) (λ k d h. wide))
+    (seats_of two gate c.in_ok-seats.seats.items (subst (All (Belongs gate)) (sym c.in_ok-seats.ensures.passes) c.in_ok-gate.ensures.belong)
+    (λ k d h. wide))
