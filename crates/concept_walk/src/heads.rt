@@ -7,7 +7,7 @@ use fca_model::Memory;
 use itoa::Buffer;
 use std::alloc::Global;
 
-/// The line that says in these words how many there are.
+/// The line of the words and the number.
 pub fn head_of(alloc: Global, words: &[u8], count: usize) -> Result<Vec<u8>, Memory>
     ensures { IfOk result (λ head. head.items ≡ count_line words.now count) }
 {
@@ -16,7 +16,7 @@ pub fn head_of(alloc: Global, words: &[u8], count: usize) -> Result<Vec<u8>, Mem
     Ok(head)
 }
 
-/// Appends that line.
+/// Appends the line of the words and the number.
 pub fn add_head(text: &mut Vec<u8>, words: &[u8], count: usize) -> Result<(), Memory>
     ensures { OnOk result (text.new.items ≡ text.old.items ++ count_line words.now count) }
 {

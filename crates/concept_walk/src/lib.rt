@@ -1,20 +1,22 @@
-//! The concepts of a table, gathered along the tree of intents. What goes down the tree is the extent, as places in the table.
+//! The concepts of a table, gathered along the tree of intents. The extent goes down the tree, as places in the table.
 #![tactic(auto)]
 
 mod branch;
-mod desks;
+mod cross_table;
 mod few_branch;
 mod heads;
 mod names;
+mod node;
 mod notes;
 mod page;
-mod sheet;
+mod scratch;
 mod steps;
 
-pub use branch::{Child, next_child, places_of, write_branch};
-pub use desks::{Desk, Desks};
+pub use branch::{Child, gather_branch, next_child, places_of};
+pub use cross_table::CrossTable;
 pub use heads::{add_head, head_of};
 pub use names::{attribute_pieces, put_attributes, table_names};
-pub use notes::known;
+pub use node::{Candidates, Node};
+pub use notes::known_witnesses;
 pub use page::Page;
-pub use sheet::Sheet;
+pub use scratch::{Scratch, ScratchPool};

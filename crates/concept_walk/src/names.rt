@@ -1,28 +1,28 @@
-//! The names of a table as pieces, each with what stands between two names of a list behind it.
+//! The names of a table as pieces, each with a comma and a space behind it.
 
 ghost use Rattle.std.specs.Prelude.{◌≡◌, ◌+◌, ◌*◌, ◌≤◌, ◌++◌, ◌∷◌, [], map, take, length, IfOk, OnOk};
 ghost use Rattle.expert_wire.specs.Texts.{comma_list, names_of};
-ghost use Rattle.packed_concepts.specs.Listing.{parted};
+ghost use Rattle.packed_concepts.specs.Listing.{with_comma};
 ghost use Rattle.packed_concepts.specs.Pieces.{ArePieces, piece_texts};
 
 use attr_bits::Bits;
 use context_table::Table;
-use fca_model::{MAX_NAME_BYTES, Memory};
+use fca_model::{MAX_NAME_BYTES, Memory, Name};
 use packed_concepts::{Block, Names, PIECE_BYTES, PIECE_ROOM, Pieces, block_of, put_set, tail_of};
 use std::alloc::Global;
 
-/// The names of the attributes and of the objects.
-pub fn table_names(alloc: Global, table: &Table) -> Result<Names, Memory>
-    ensures { IfOk result (λ names. names ≡ record { attributes = table.now.attributes; objects = table.now.objects }) }
+/// The names of the objects and of the table's attributes. Those of the objects are dropped once they are in pieces.
+pub fn table_names(alloc: Global, objects: Vec<Name>, table: &Table) -> Result<Names, Memory>
+    ensures { IfOk result (λ names. names ≡ record { attributes = table.now.attributes; objects = objects.items }) }
 {
     let attributes = attribute_pieces(alloc, table)?;
-    let objects = object_pieces(alloc, table)?;
+    let objects = object_pieces(alloc, &objects)?;
     Ok(Names::new(attributes, objects))
 }
 
 /// The names of the attributes.
 pub fn attribute_pieces(alloc: Global, table: &Table) -> Result<Pieces, Memory>
-    ensures { IfOk result (λ pieces. pieces ≡ map parted table.now.attributes) }
+    ensures { IfOk result (λ pieces. pieces ≡ map with_comma table.now.attributes) }
 {
     let width = table.rows().width();
     let mut blocks = Vec::with_capacity(alloc, width as usize)?;
@@ -35,20 +35,19 @@ pub fn attribute_pieces(alloc: Global, table: &Table) -> Result<Pieces, Memory>
 }
 
 /// The names of the objects.
-fn object_pieces(alloc: Global, table: &Table) -> Result<Pieces, Memory>
-    ensures { IfOk result (λ pieces. pieces ≡ map parted table.now.objects) }
+fn object_pieces(alloc: Global, objects: &[Name]) -> Result<Pieces, Memory>
+    ensures { IfOk result (λ pieces. pieces ≡ map with_comma objects.now) }
 {
-    let count = table.rows().len();
-    let mut blocks = Vec::with_capacity(alloc, count)?;
-    let mut tails = Vec::with_capacity(alloc, count)?;
-    for object in 0..count {
-        let name = table.object(object).bytes();
+    let mut blocks = Vec::with_capacity(alloc, objects.len())?;
+    let mut tails = Vec::with_capacity(alloc, objects.len())?;
+    for object in objects {
+        let name = object.bytes();
         add_name(alloc, &mut blocks, &mut tails, name)?;
     }
     Ok(Pieces::new(blocks, tails))
 }
 
-/// Puts the name, with a comma and a space behind it, behind the pieces of these blocks and tails.
+/// Adds the piece of the name to the blocks and tails.
 fn add_name(
     alloc: Global,
     blocks: &mut Vec<Block>,
@@ -59,24 +58,24 @@ fn add_name(
     requires pieces { ArePieces blocks.old.items (map (λ v. v.items) tails.old.items) }
     ensures pieces { OnOk result (ArePieces blocks.new.items (map (λ v. v.items) tails.new.items)) }
     ensures texts { OnOk result (piece_texts blocks.new.items (map (λ v. v.items) tails.new.items)
-        ≡ piece_texts blocks.old.items (map (λ v. v.items) tails.old.items) ++ parted name.now ∷ []) }
+        ≡ piece_texts blocks.old.items (map (λ v. v.items) tails.old.items) ++ with_comma name.now ∷ []) }
 {
-    let text = parted(alloc, name)?;
+    let text = with_comma(alloc, name)?;
     blocks.push(block_of(&text))?;
     tails.push(tail_of(alloc, &text)?)?;
     Ok(())
 }
 
 /// The name with a comma and a space behind it.
-fn parted(alloc: Global, name: &[u8]) -> Result<Vec<u8>, Memory>
-    ensures { IfOk result (λ text. text.items ≡ parted name.now) }
+fn with_comma(alloc: Global, name: &[u8]) -> Result<Vec<u8>, Memory>
+    ensures { IfOk result (λ text. text.items ≡ with_comma name.now) }
 {
     let mut text = Vec::from_slice(alloc, name)?;
     text.extend_from_slice(b", ")?;
     Ok(text)
 }
 
-/// Puts the names of the attributes in the set down, and tells where they end.
+/// Puts the names of the attributes in the set at `start` and returns their end.
 pub fn put_attributes<const W: usize>(
     table: &Table,
     names: &Pieces,
@@ -84,7 +83,7 @@ pub fn put_attributes<const W: usize>(
     start: usize,
     set: &Bits<W>,
 ) -> usize
-    requires names { names.now ≡ map parted table.now.attributes }
+    requires names { names.now ≡ map with_comma table.now.attributes }
     requires few { length set.now ≤ length table.now.attributes }
     requires room { start + PIECE_ROOM * length set.now ≤ length text.old }
     ensures text { take result text.new ≡ take start text.old ++ comma_list (names_of table.now.attributes set.now) }

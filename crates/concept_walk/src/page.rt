@@ -4,23 +4,23 @@ ghost use Rattle.std.specs.Prelude.{◌≡◌, ◌≤◌, ◌∷◌, [], true, O
 ghost use Rattle.fca_model.specs.Context.{extent};
 ghost use Rattle.concept_walk.specs.Pages.{Fills};
 
-use crate::sheet::Sheet;
+use crate::cross_table::CrossTable;
 use attr_bits::Bits;
 use fca_model::Memory;
 use packed_concepts::ConceptPage;
 use std::alloc::Global;
 
-/// Concepts, and whether none is missing for want of memory.
+/// Concepts, and whether all of them found room in memory.
 #[derive(Drop)]
 pub struct Page<const W: usize> {
     /// The concepts.
     pub concepts: ConceptPage<W>,
-    /// Whether no concept is missing. Who fills the page says so.
+    /// Whether no concept is missing. The code that fills the page sets it.
     pub whole: bool,
 }
 
 impl<const W: usize> Page<W> {
-    /// A page with no concept; it takes no memory yet.
+    /// A page with no concept. It takes no memory yet.
     pub fn new(alloc: Global) -> Page<W>
         requires { W ≤ 1024 }
         ensures concepts { result.concepts ≡ [] }
@@ -33,11 +33,16 @@ impl<const W: usize> Page<W> {
     }
 
     /// Adds the concept of a, whose objects stand at these places.
-    pub fn add(&mut self, sheet: &Sheet<'_, W>, a: &Bits<W>, places: &[u16]) -> Result<(), Memory>
-        requires { places.now ≡ extent sheet.now.context a.now }
-        ensures { OnOk result (Fills sheet.now self.old self.new (a.now ∷ [])) }
+    pub fn add(
+        &mut self,
+        crosses: &CrossTable<'_, W>,
+        a: &Bits<W>,
+        places: &[u16],
+    ) -> Result<(), Memory>
+        requires { places.now ≡ extent crosses.now a.now }
+        ensures { OnOk result (Fills crosses.now self.old self.new (a.now ∷ [])) }
     {
-        let _words = sheet.rows().width();
+        let _words = crosses.rows().width();
         self.concepts.add(a, places)?;
         Ok(())
     }

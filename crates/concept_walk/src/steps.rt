@@ -1,16 +1,18 @@
-//! The steps of the walk that are not done. They wait in a list, so how deep the tree is asks nothing of the stack.
+//! The steps of the walk that are not done. They wait in a list, so the depth of the tree asks nothing of the stack.
 
-ghost use Rattle.std.specs.Prelude.{◌≡◌, ◌≤◌, ◌∷◌, [], true, IfOk, MatchOption, length, take};
+ghost use Rattle.std.specs.Prelude.{◌≡◌, ◌≤◌, [], true, IfOk, length, take};
 ghost use Rattle.fca_model.specs.Context.{extent, is_closed};
 ghost use Rattle.lectic_concepts.specs.Branches.{AreSeen};
-ghost use Rattle.concept_walk.specs.Steps.{IsStep, HasEntered, HasMet};
+ghost use Rattle.concept_walk.specs.Nodes.{IsNode, AreCandidates};
+ghost use Rattle.concept_walk.specs.Steps.{IsStep, BeginsAt, HasEntered, HasMet};
 
 use crate::branch::next_child;
-use crate::desks::{Desk, Desks, taken};
-use crate::few_branch::write_apart;
-use crate::notes::known;
+use crate::cross_table::CrossTable;
+use crate::few_branch::gather_apart;
+use crate::node::{Candidates, Node};
+use crate::notes::known_witnesses;
 use crate::page::Page;
-use crate::sheet::Sheet;
+use crate::scratch::{Scratch, ScratchPool, take_scratch};
 use attr_bits::Bits;
 use extent_places::{last_member, pays_to_set_apart, tries_of};
 use fca_model::Memory;
@@ -18,7 +20,7 @@ use lectic_concepts::pass_witnesses;
 use std::alloc::Global;
 use std::mem::replace;
 
-/// An intent whose children are looked for, the last first.
+/// A node whose children are looked for, the last first.
 #[derive(Drop)]
 pub(crate) struct Step<const W: usize> {
     /// The intent.
@@ -27,141 +29,141 @@ pub(crate) struct Step<const W: usize> {
     pub(crate) places: Vec<u16>,
     /// How many those are.
     pub(crate) count: usize,
-    /// What was seen of its closures above.
-    pub(crate) seen: Vec<u32>,
-    /// The attributes from which a child may come.
-    pub(crate) tries: Bits<W>,
-    /// From the attributes before this one no child is looked for.
+    /// The first attribute from which a child may come.
     pub(crate) from: u32,
-    /// From this attribute on all were tried.
-    pub(crate) end: u32,
-    /// What is written on while a child is looked for.
-    pub(crate) desk: Desk,
+    /// For each attribute a member of the intent's closure with it, as far as that was found above.
+    pub(crate) witnesses: Vec<u32>,
+    /// The attributes from which a child may come.
+    pub(crate) candidates: Candidates<W>,
+    /// The lists to write on while a child is looked for.
+    pub(crate) scratch: Scratch,
 }
 
-/// What came of the look for the next child.
+/// The outcome of the search for the next child.
 #[derive(Drop)]
 pub(crate) enum Met<const W: usize> {
     /// No child is left.
     Nothing,
-    /// A child, whose branch is written whole.
+    /// A child, whose whole branch was gathered.
     Whole,
-    /// A child, which is written, and below which others may be.
+    /// A child, whose concept was added, and below which others may be.
     Below(Step<W>),
 }
 
-/// Writes the line of a, whose places stand in front of those found, or where it pays or nothing is below a those of the whole branch from attribute `from`
-/// on. Where more may be left, tells the step.
+/// Adds the concept of the node's intent to the page, or those of its whole branch if it pays or there are no others. If more may be left, gives the
+/// attributes from which a child may come.
 pub(crate) fn enter<const W: usize>(
     alloc: Global,
-    sheet: &Sheet<'_, W>,
+    crosses: &CrossTable<'_, W>,
     page: &mut Page<W>,
-    a: &Bits<W>,
-    found: &mut Vec<u16>,
-    count: usize,
-    from: u32,
-    seen: &[u32],
-    desks: &mut Desks<W>,
-) -> Result<Option<Step<W>>, Memory>
-    requires wide { length a.now ≡ sheet.now.context.width }
-    requires closed { is_closed sheet.now.context a.now ≡ true }
-    requires places { take count found.old.items ≡ extent sheet.now.context a.now }
-    requires few { count ≤ length found.old.items }
-    requires inside { from ≤ sheet.now.context.width }
-    requires seen { AreSeen sheet.now.context a.now seen.now }
-    ensures { IfOk result (λ step. HasEntered sheet.now page.old page.new a.now from step) }
+    node: &Node<'_, W>,
+    pool: &mut ScratchPool<W>,
+) -> Result<Option<Candidates<W>>, Memory>
+    requires { IsNode crosses.now node.now }
+    ensures { IfOk result (λ left. HasEntered crosses.now page.old page.new node.now left) }
 {
-    let rows = sheet.rows();
+    let rows = crosses.rows();
     let width = rows.width();
-    let places = &found[..count];
-    if pays_to_set_apart(count, width.saturating_sub(from)) {
-        write_apart(alloc, sheet, page, a, places, from, seen, desks)?;
+    if pays_to_set_apart(node.places.len(), width.saturating_sub(node.from)) {
+        gather_apart(alloc, crosses, page, node, pool)?;
         return Ok(None);
     }
-    page.add(sheet, a, places)?;
-    let tries = tries_of(rows, a, places);
-    let Some(last) = last_member(&tries, from, width) else {
+    page.add(crosses, node.intent, node.places)?;
+    let attributes = tries_of(rows, node.intent, node.places);
+    let Some(last) = last_member(&attributes, node.from, width) else {
         return Ok(None);
     };
-    let mut above = taken(alloc, &mut desks.free);
-    above.noted.extend_from_slice(seen)?;
-    Ok(Some(Step {
-        intent: *a,
-        places: replace(found, above.found),
-        count,
-        seen: above.noted,
-        tries,
-        from,
+    Ok(Some(Candidates {
+        attributes,
         end: last + 1,
-        desk: taken(alloc, &mut desks.free),
     }))
+}
+
+/// The step at the node.
+pub(crate) fn first_step<const W: usize>(
+    alloc: Global,
+    crosses: &CrossTable<'_, W>,
+    node: &Node<'_, W>,
+    candidates: Candidates<W>,
+    pool: &mut ScratchPool<W>,
+) -> Result<Step<W>, Memory>
+    requires node { IsNode crosses.now node.now }
+    requires candidates { AreCandidates crosses.now node.now.intent.now candidates }
+    requires order { node.now.from ≤ candidates.end }
+    ensures { IfOk result (λ step. BeginsAt crosses.now node.now.intent.now node.now.from candidates.entry.end step) }
+{
+    let _words = crosses.rows().width();
+    let mut spare = take_scratch(alloc, &mut pool.free);
+    spare.found.clear();
+    spare.found.extend_from_slice(node.places)?;
+    spare.noted.extend_from_slice(node.witnesses)?;
+    Ok(Step {
+        intent: *node.intent,
+        places: spare.found,
+        count: node.places.len(),
+        from: node.from,
+        witnesses: spare.noted,
+        candidates,
+        scratch: take_scratch(alloc, &mut pool.free),
+    })
 }
 
 /// Enters the next child of the step, the last that is left.
 pub(crate) fn next_step<const W: usize>(
     alloc: Global,
-    sheet: &Sheet<'_, W>,
+    crosses: &CrossTable<'_, W>,
     page: &mut Page<W>,
     step: &mut Step<W>,
-    desks: &mut Desks<W>,
+    pool: &mut ScratchPool<W>,
 ) -> Result<Met<W>, Memory>
-    requires { IsStep sheet.now.context step.old }
-    ensures { IfOk result (λ met. HasMet sheet.now page.old page.new step.old step.new met) }
+    requires { IsStep crosses.now step.old }
+    ensures { IfOk result (λ met. HasMet crosses.now page.old page.new step.old step.new met) }
 {
-    let _words = sheet.rows().width();
-    let met = next_child(
-        sheet,
-        &step.intent,
-        &step.places[..step.count],
-        &step.tries,
-        step.from,
-        step.end,
-        &step.seen,
-        &mut step.desk,
-    )?;
+    let _words = crosses.rows().width();
+    let node = Node {
+        intent: &step.intent,
+        places: &step.places[..step.count],
+        from: step.from,
+        witnesses: &step.witnesses,
+    };
+    let met = next_child(crosses, &node, &step.candidates, &mut step.scratch)?;
     let Some(child) = met else {
         return Ok(Met::Nothing);
     };
-    step.end = child.attribute;
-    let known = known(sheet, &step.intent, &step.seen, &step.desk.noted);
-    let passed = pass_witnesses(sheet.rows(), &step.intent, known, &child.intent);
-    let below = enter(
-        alloc,
-        sheet,
-        page,
-        &child.intent,
-        &mut step.desk.found,
-        child.count,
-        child.attribute + 1,
-        passed,
-        desks,
-    )?;
-    Ok(match below {
-        None => Met::Whole,
-        Some(below) => Met::Below(below),
-    })
+    step.candidates.end = child.attribute;
+    let known = known_witnesses(crosses, &step.intent, &step.witnesses, &step.scratch.noted);
+    let passed = pass_witnesses(crosses.rows(), &step.intent, known, &child.intent);
+    let below = Node {
+        intent: &child.intent,
+        places: &step.scratch.found[..child.count],
+        from: child.attribute + 1,
+        witnesses: passed,
+    };
+    let Some(candidates) = enter(alloc, crosses, page, &below, pool)? else {
+        return Ok(Met::Whole);
+    };
+    let mut spare = take_scratch(alloc, &mut pool.free);
+    spare.noted.extend_from_slice(passed)?;
+    Ok(Met::Below(Step {
+        intent: child.intent,
+        places: replace(&mut step.scratch.found, spare.found),
+        count: child.count,
+        from: child.attribute + 1,
+        witnesses: spare.noted,
+        candidates,
+        scratch: take_scratch(alloc, &mut pool.free),
+    }))
 }
 
-/// The steps to begin with.
-pub(crate) fn begun<const W: usize>(
-    alloc: Global,
-    first: Option<Step<W>>,
-) -> Result<Vec<Step<W>>, Memory>
-    ensures { IfOk result (λ steps. MatchOption first.entry (steps.items ≡ []) (λ step. steps.items ≡ step ∷ [])) }
-{
-    let mut steps = Vec::new(alloc);
-    if let Some(step) = first {
-        steps.push(step)?;
-    }
-    Ok(steps)
-}
-
-/// Puts what the step wrote on back, so that later steps take it again: those at the same depth take lists of the same length.
-pub(crate) fn put_back<const W: usize>(step: Step<W>, free: &mut Vec<Desk>) -> Result<(), Memory> {
-    free.push(step.desk)?;
-    free.push(Desk {
+/// Puts back the lists of the step. Later steps take them again, at the same depth those of the same length.
+pub(crate) fn put_back<const W: usize>(
+    step: Step<W>,
+    free: &mut Vec<Scratch>,
+) -> Result<(), Memory> {
+    free.push(step.scratch)?;
+    free.push(Scratch {
         found: step.places,
-        noted: step.seen,
+        noted: step.witnesses,
     })?;
     Ok(())
 }

@@ -15,7 +15,8 @@ line-parts t old number A E = regroup old number (codes " {") (comma_list (names
     regroup o n s i m e l = simp append_assoc
 
 -- some lines, and those behind them
-pub lines_from-append : (t : Named) (n : ℕ) (cs ds : List (Set × List ℕ)) → lines_from t n (cs ++ ds) ≡ lines_from t n cs ++ lines_from t (n + length cs) ds
+pub lines_from-append : (t : Named) (n : ℕ) (cs ds : List (Set × List ℕ))
+    → lines_from t n (cs ++ ds) ≡ lines_from t n cs ++ lines_from t (n + length cs) ds
 lines_from-append t n [] ds = ap (λ k. lines_from t k ds) (omega arith)
 lines_from-append t n (c ∷ cs) ds =
     let line : Text = line_of t (ordinal n) c.0 c.1 in

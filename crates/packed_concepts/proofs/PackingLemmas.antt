@@ -17,7 +17,8 @@ unpacked-more [] (x ∷ T) E p fits long = absurd (omega (arith, fits))
 unpacked-more (q ∷ ps) T E p fits long =
     let rest = length-drop q.count T in
     ap₂ (λ F cs. (q.intent, F) ∷ cs) (take-append-le q.count T E (omega (arith, fits)))
-    (ap (unpacked (ps ++ p ∷ [])) (drop-append-le q.count T E (omega (arith, fits))) ∙ unpacked-more ps (drop q.count T) E p (omega (arith, fits, rest)) long)
+    (ap (unpacked (ps ++ p ∷ [])) (drop-append-le q.count T E (omega (arith, fits)))
+    ∙ unpacked-more ps (drop q.count T) E p (omega (arith, fits, rest)) long)
 
 pub length-unpacked : {W : ℕ} (ps : List (Packed W)) (T : List ℕ) → length (unpacked ps T) ≡ length ps
 length-unpacked [] T = refl
@@ -28,14 +29,17 @@ intents-unpacked [] T = refl
 intents-unpacked (p ∷ ps) T = ap (λ Xs. p.intent ∷ Xs) (intents-unpacked ps (drop p.count T))
 
 -- the places that are behind them change nothing
-pub most-unpacked : {W : ℕ} (ps : List (Packed W)) (T : List ℕ) (most : ℕ) → All (λ p. p.count ≤ most) ps → All (λ c. length c.1 ≤ most) (unpacked ps T)
+pub most-unpacked : {W : ℕ} (ps : List (Packed W)) (T : List ℕ) (most : ℕ) → All (λ p. p.count ≤ most) ps
+    → All (λ c. length c.1 ≤ most) (unpacked ps T)
 most-unpacked [] T most h = λ k d l. absurd (omega arith)
 most-unpacked (p ∷ ps) T most h = All-cons (λ c. length c.1 ≤ most) (p.intent, take p.count T) (unpacked ps (drop p.count T))
     (let first = All-head (λ q. q.count ≤ most) p ps h in let long = length-take p.count T in omega (arith, first, long))
     (most-unpacked ps (drop p.count T) most (All-tail (λ q. q.count ≤ most) p ps h))
 
-pub most-more : {W : ℕ} (ps : List (Packed W)) (p : Packed W) (most more : ℕ) → All (λ q. q.count ≤ most) ps → most ≤ more → p.count ≤ more → All (λ q. q.count ≤ more) (ps ++ p ∷ [])
-most-more ps p most more h wider last = All-append (λ q. q.count ≤ more) ps (p ∷ []) (λ k d l. let b = h k d l in omega (arith, b, wider)) (All-cons (λ q. q.count ≤ more) p [] last (λ k d l. absurd (omega arith)))
+pub most-more : {W : ℕ} (ps : List (Packed W)) (p : Packed W) (most more : ℕ) → All (λ q. q.count ≤ most) ps → most ≤ more → p.count ≤ more
+    → All (λ q. q.count ≤ more) (ps ++ p ∷ [])
+most-more ps p most more h wider last = All-append (λ q. q.count ≤ more) ps (p ∷ []) (λ k d l. let b = h k d l in omega (arith, b, wider))
+    (All-cons (λ q. q.count ≤ more) p [] last (λ k d l. absurd (omega arith)))
 
 -- the concept at place i, and those behind it
 module _ {W : ℕ} (ps : List (Packed W)) (i : ℕ) (p : Packed W) (inside : i < length ps) (is : p ≡ get_or ps i p) where

@@ -3,4 +3,4 @@ pub mod Pieces
 pub mod Lines
 pub mod Packing
 pub mod Passing
-pub mod Narrow
+pub mod Pages

@@ -2,17 +2,19 @@
 
 ghost use Rattle.std.specs.Prelude.{◌≡◌, ◌+◌, ◌≤◌, ◌++◌, length, take};
 
-/// How many bytes a block has.
+/// The number of bytes of a block.
 pub const HEAD: usize = 16;
 
-/// The first bytes of a text, filled up to a block that is put down in one move.
+/// The first bytes of a text, filled up to a block. It is put down in one move.
 #[derive(Clone, Copy)]
 pub struct Block {
+    /// The bytes.
     pub bytes: [u8; HEAD],
+    /// How many of them are filled, from the first on.
     pub filled: u32,
 }
 
-/// Puts the bytes that fill the block down from that place on, and tells where they end. What is behind them is left as it may be.
+/// Puts the bytes that fill the block at `start` and returns their end. The bytes behind them are left undefined.
 pub fn put_block(text: &mut [u8], start: usize, block: &Block) -> usize
     requires filled { block.now.filled ≤ HEAD }
     requires room { start + HEAD ≤ length text.old }

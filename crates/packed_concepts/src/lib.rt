@@ -1,20 +1,19 @@
-//! The concepts of a table, packed, and the text of their lines, which is put down from that: whole, or while it is written through a buffer that is there before
-//! the first byte goes out.
+//! The concepts of a table, packed, and the text of their lines. It is written through a buffer that is there before the first byte goes out.
 #![tactic(auto)]
 
 mod block;
 mod line;
 mod names;
-mod narrow;
 mod page;
+mod pages;
 mod pieces;
 mod text;
 mod writing;
 
 pub use block::{Block, HEAD, put_block};
-pub use line::{MARKS, append_line, make_room, room_of};
+pub use line::{MARKS, make_room, room_of};
 pub use names::{Names, put_set};
-pub use narrow::ConceptsText;
 pub use page::{ConceptPage, Packed};
+pub use pages::NarrowPages;
 pub use pieces::{PIECE_BYTES, PIECE_ROOM, Pieces, block_of, put_bytes, tail_of};
-pub use text::PackedText;
+pub use text::ConceptsText;

@@ -1,17 +1,17 @@
-//! The names of a table as pieces that are put down in lists.
+//! The names of a table, as pieces for lists of names.
 
 ghost use Rattle.std.specs.Prelude.{◌≡◌, ◌+◌, ◌-◌, ◌*◌, ◌≤◌, ◌<◌, ◌++◌, All, List, length, map, take, cond, nat_lt};
 ghost use Rattle.std.specs.List.{concat};
 ghost use Rattle.fca_model.specs.Tables.{Text};
 ghost use Rattle.expert_wire.specs.Texts.{comma_list, names_of};
-ghost use Rattle.packed_concepts.specs.Listing.{parted, unparted, AreParted};
+ghost use Rattle.packed_concepts.specs.Listing.{with_comma, without_comma, HaveCommas};
 ghost use Rattle.packed_concepts.specs.Lines.{names_at};
 
 use crate::pieces::{PIECE_BYTES, PIECE_ROOM, Pieces};
 use attr_bits::Bits;
 use std::marker::Model;
 
-/// The names of attributes and of objects, each with what stands between two names of a list behind it.
+/// The names of attributes and of objects, each with a comma and a space behind it.
 #[derive(Drop)]
 pub struct Names {
     attributes: Pieces,
@@ -21,21 +21,21 @@ pub struct Names {
 impl Model for Names {
     ghost use Rattle.std.specs.Prelude.{map};
     ghost use Rattle.packed_concepts.specs.Lines.{Named};
-    ghost use Rattle.packed_concepts.specs.Listing.{unparted, AreParted};
+    ghost use Rattle.packed_concepts.specs.Listing.{without_comma, HaveCommas};
 
     ghost Value = { Named };
 
-    ghost view = { λ n. record { attributes = map unparted n.attributes; objects = map unparted n.objects } };
+    ghost view = { λ n. record { attributes = map without_comma n.attributes; objects = map without_comma n.objects } };
 
-    ghost invariant = { λ n. record { attributes : AreParted n.attributes; objects : AreParted n.objects } };
+    ghost invariant = { λ n. record { attributes : HaveCommas n.attributes; objects : HaveCommas n.objects } };
 }
 
 impl Names {
-    /// The names of which these are the pieces.
+    /// The names whose pieces these are.
     pub fn new(attributes: Pieces, objects: Pieces) -> Names
-        requires attributes { AreParted attributes }
-        requires objects { AreParted objects }
-        ensures { result ≡ record { attributes = map unparted attributes; objects = map unparted objects } }
+        requires attributes { HaveCommas attributes }
+        requires objects { HaveCommas objects }
+        ensures { result ≡ record { attributes = map without_comma attributes; objects = map without_comma objects } }
     {
         Names {
             attributes,
@@ -43,14 +43,14 @@ impl Names {
         }
     }
 
-    /// How many attributes there are.
+    /// The number of attributes.
     pub fn width(&self) -> usize
         ensures { result ≡ length self.now.attributes }
     {
         self.attributes.len()
     }
 
-    /// Puts the names of the attributes in the set down, and tells where they end.
+    /// Puts the names of the attributes in the set at `start` and returns their end.
     pub fn put_intent<const W: usize>(&self, text: &mut [u8], start: usize, set: &Bits<W>) -> usize
         requires few { length set.now ≤ length self.now.attributes }
         requires room { start + PIECE_ROOM * length set.now ≤ length text.old }
@@ -61,7 +61,7 @@ impl Names {
         put_set(&self.attributes, text, start, set)
     }
 
-    /// Puts the names of the objects at these places down, and tells where they end.
+    /// Puts the names of the objects at these places at `start` and returns their end.
     pub fn put_extent(&self, text: &mut [u8], start: usize, places: &[u16]) -> usize
         requires inside { All (λ p. p < length self.now.objects) places.now }
         requires room { start + PIECE_ROOM * length places.now ≤ length text.old }
@@ -70,11 +70,11 @@ impl Names {
         ensures room { length text.new ≡ length text.old }
     {
         let end = put_places(&self.objects, text, start, places);
-        without_comma(start, end)
+        end_without_comma(start, end)
     }
 }
 
-/// Puts the names of the attributes in the set down, of which these are the pieces, and tells where they end.
+/// Puts the names of the members, whose pieces these are, at `start` and returns their end.
 pub fn put_set<const W: usize>(
     pieces: &Pieces,
     text: &mut [u8],
@@ -83,15 +83,15 @@ pub fn put_set<const W: usize>(
 ) -> usize
     requires few { length set.now ≤ length pieces.now }
     requires room { start + PIECE_ROOM * length set.now ≤ length text.old }
-    ensures text { (names : List Text) → pieces.now ≡ map parted names → take result text.new ≡ take start text.old ++ comma_list (names_of names set.now) }
+    ensures text { (names : List Text) → pieces.now ≡ map with_comma names → take result text.new ≡ take start text.old ++ comma_list (names_of names set.now) }
     ensures ends { result ≤ start + PIECE_BYTES * length set.now }
     ensures room { length text.new ≡ length text.old }
 {
     let end = put_members(pieces, text, start, set);
-    without_comma(start, end)
+    end_without_comma(start, end)
 }
 
-/// Puts the pieces of the members down, and tells where they end.
+/// Puts the pieces of the members at `start` and returns their end.
 fn put_members<const W: usize>(
     pieces: &Pieces,
     text: &mut [u8],
@@ -115,7 +115,7 @@ fn put_members<const W: usize>(
     end
 }
 
-/// Puts the pieces at these places down, and tells where they end.
+/// Puts the pieces at these places at `start` and returns their end.
 fn put_places(pieces: &Pieces, text: &mut [u8], start: usize, places: &[u16]) -> usize
     requires inside { All (λ p. p < length pieces.now) places.now }
     requires room { start + PIECE_ROOM * length places.now ≤ length text.old }
@@ -131,8 +131,8 @@ fn put_places(pieces: &Pieces, text: &mut [u8], start: usize, places: &[u16]) ->
     end
 }
 
-/// The end without the comma and the space behind the last of the names that stand there, if there is one.
-fn without_comma(start: usize, end: usize) -> usize
+/// The end without the last comma and space, if any name stands between.
+fn end_without_comma(start: usize, end: usize) -> usize
     ensures { result ≡ cond (nat_lt start end) (end - 2) end }
 {
     if start < end {

@@ -1,4 +1,4 @@
-//! Concepts one behind the other: the intents as sets, and the places of the objects of all of them in one list.
+//! Concepts one behind the other: their intents as sets, and the places of their objects in one list.
 
 ghost use Rattle.std.specs.Prelude.{◌≡◌, ◌≤◌, ◌++◌, ◌∷◌, [], All, IfOk, OnOk, length, map};
 ghost use Rattle.packed_concepts.specs.Packing.{total, unpacked};
@@ -8,12 +8,12 @@ use fca_model::Memory;
 use std::alloc::Global;
 use std::marker::Model;
 
-/// An intent, and how many objects have it.
+/// An intent and the number of its objects.
 #[derive(Clone, Copy)]
 pub struct Packed<const W: usize> {
     /// The intent.
     pub intent: Bits<W>,
-    /// How many objects have it.
+    /// The number of its objects.
     pub count: u32,
 }
 
@@ -44,7 +44,7 @@ impl<const W: usize> Model for ConceptPage<W> {
 }
 
 impl<const W: usize> ConceptPage<W> {
-    /// No concept; it takes no memory yet.
+    /// No concept. It takes no memory yet.
     pub fn new(alloc: Global) -> ConceptPage<W>
         requires { W ≤ 1024 }
         ensures { result ≡ [] }
@@ -75,7 +75,7 @@ impl<const W: usize> ConceptPage<W> {
         Ok(())
     }
 
-    /// How many concepts there are.
+    /// The number of concepts.
     pub fn len(&self) -> usize
         ensures count { result ≡ length self.now }
         ensures words { W ≤ 1024 }
@@ -83,7 +83,7 @@ impl<const W: usize> ConceptPage<W> {
         self.packed.len()
     }
 
-    /// At least as many as a concept has objects.
+    /// At least the number of objects of each concept.
     pub(crate) fn most(&self) -> usize
         ensures { All (λ c. length c.1 ≤ result) self.now }
     {
@@ -98,7 +98,7 @@ impl<const W: usize> ConceptPage<W> {
         Ok(intents)
     }
 
-    /// The intents with the numbers of their objects, and the places of these.
+    /// The intents with the numbers of their objects, and the places of these objects.
     pub(crate) fn parts(&self) -> (&[Packed<W>], &[u16])
         ensures concepts { unpacked result.0.now result.1.now ≡ self.now }
         ensures fits { total result.0.now ≡ length result.1.now }

@@ -1,4 +1,4 @@
-//! Texts that are put down often.
+//! Texts that are put down often, in pieces of fixed length.
 
 ghost use Rattle.std.specs.Prelude.{◌≡◌, ◌+◌, ◌<◌, ◌≤◌, ◌++◌, [], min, IfOk, length, map, take, drop, slice_index_or};
 ghost use Rattle.packed_concepts.specs.Pieces.{IsPiece, ArePieces, piece_text, piece_texts};
@@ -8,14 +8,14 @@ use fca_model::{MAX_NAME_BYTES, Memory};
 use std::alloc::Global;
 use std::marker::Model;
 
-/// The most bytes of a piece: a name, and what stands between two names.
+/// The most bytes of a piece: a name, a comma and a space.
 pub const PIECE_BYTES: usize = MAX_NAME_BYTES + 2;
 
-/// How many bytes have to be free where a piece is put down.
+/// The bytes to be free where a piece is put down.
 pub const PIECE_ROOM: usize = PIECE_BYTES + HEAD;
 
-/// Texts that are put down often: of each a block that is put down in one move, and the bytes behind it where the block is full. Blocks stand apart from
-/// what is behind them, so that those of many short texts lie close together.
+/// Texts that are put down often: of each a block, and the bytes behind it if the block is full. Blocks and tails stand in lists of their own, so the blocks of
+/// many short texts lie close together.
 #[derive(Drop)]
 pub struct Pieces {
     blocks: Vec<Block>,
@@ -42,14 +42,14 @@ impl Pieces {
         Pieces { blocks, tails }
     }
 
-    /// How many texts there are.
+    /// The number of texts.
     pub fn len(&self) -> usize
         ensures { result ≡ length self.now }
     {
         self.blocks.len()
     }
 
-    /// Puts text i down from that place on, and tells where it ends. What is behind it is left as it may be.
+    /// Puts text i at `start` and returns its end. The bytes behind it are left undefined.
     pub fn put(&self, i: usize, text: &mut [u8], start: usize) -> usize
         requires inside { i < length self.now }
         requires room { start + PIECE_ROOM ≤ length text.old }
@@ -62,7 +62,7 @@ impl Pieces {
     }
 }
 
-/// Puts the text of the block and the tail down from that place on, and tells where it ends. The tail is looked at only where the block is full.
+/// Puts the text of the block and the tail at `start` and returns its end. The tail is looked at only if the block is full.
 fn put_piece(block: &Block, tail: &Vec<u8>, text: &mut [u8], start: usize) -> usize
     requires piece { IsPiece block.now tail.now.items }
     requires room { start + PIECE_ROOM ≤ length text.old }
@@ -78,7 +78,7 @@ fn put_piece(block: &Block, tail: &Vec<u8>, text: &mut [u8], start: usize) -> us
     put_bytes(text, end, tail)
 }
 
-/// The first bytes of the text.
+/// The block of the first bytes of the text.
 pub fn block_of(text: &[u8]) -> Block
     ensures filled { result.filled ≡ min (length text.now) HEAD }
     ensures bytes { take result.filled result.bytes ≡ take HEAD text.now }
@@ -100,7 +100,7 @@ pub fn tail_of(alloc: Global, text: &[u8]) -> Result<Vec<u8>, Memory>
     Ok(Vec::from_slice(alloc, &text[filled..])?)
 }
 
-/// Puts the bytes down from that place on, and tells where they end.
+/// Puts the bytes at `start` and returns their end.
 pub fn put_bytes(text: &mut [u8], start: usize, bytes: &[u8]) -> usize
     requires { start + length bytes.now ≤ length text.old }
     ensures text { take result text.new ≡ take start text.old ++ bytes.now }

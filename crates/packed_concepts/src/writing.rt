@@ -1,4 +1,4 @@
-//! How the lines of packed concepts are written through a buffer.
+//! The lines of packed concepts, written through a buffer.
 
 ghost use Rattle.std.specs.Prelude.{◌≡◌, ◌+◌, ◌*◌, ◌^◌, ◌<◌, ◌≤◌, ◌++◌, [], All, IfOk, IfErr, OnOk, length, take};
 ghost use Rattle.std.specs.List.{flat_map};
@@ -22,7 +22,7 @@ pub(crate) const DIGITS: usize = 20;
 /// The most bytes of a line beside its names.
 const LINE: usize = MARKS + DIGITS;
 
-/// From so many bytes on that wait they are written.
+/// So many bytes that wait in the buffer are written.
 pub(crate) const MANY_BYTES: usize = 1 << 18;
 
 /// Appends the part to the sink. After an `Err` the sink holds a front of it.
@@ -32,7 +32,8 @@ pub(crate) fn write_part<K: Sink>(out: &mut K, part: &[u8]) -> Result<(), Put>
     write_text(out, part)
 }
 
-/// Makes way for so many bytes behind those that wait in the buffer up to the end, and tells where these end from then on.
+/// Makes room for so many bytes behind those that wait in the buffer up to `end`, and returns their end from then on. Bytes that wait are written, if
+/// necessary.
 fn make_way<K: Sink>(out: &mut K, buffer: &[u8], end: usize, room: usize) -> Result<usize, Put>
     requires end { end ≤ length buffer.now }
     requires room { room ≤ length buffer.now }
@@ -49,8 +50,8 @@ fn make_way<K: Sink>(out: &mut K, buffer: &[u8], end: usize, room: usize) -> Res
     Ok(0)
 }
 
-/// Puts the line of the concept at the place behind what waits in the buffer up to the end, and tells where it ends there. What waited is written before, where it
-/// is much or leaves no room.
+/// Puts the line of the concept at the place behind the bytes that wait in the buffer, and returns its end. Bytes that wait are written before, if they are many
+/// or leave no room.
 fn pass_line<K: Sink, const W: usize>(
     out: &mut K,
     names: &Names,
@@ -79,7 +80,7 @@ fn pass_line<K: Sink, const W: usize>(
     Ok(put_line(buffer, start, names, number, intent, places))
 }
 
-/// Puts the lines of the page down in the same way, the first of which is at the place, and tells where they end in the buffer.
+/// Puts the lines of the page, the first of which is at the place, behind the bytes that wait, and returns their end.
 fn pass_page<K: Sink, const W: usize>(
     out: &mut K,
     names: &Names,
@@ -114,7 +115,7 @@ fn pass_page<K: Sink, const W: usize>(
     Ok(waits)
 }
 
-/// Puts the lines of all pages down in the same way, the first of which is at the first place.
+/// Puts the lines of all pages behind the bytes that wait, and returns their end.
 pub(crate) fn pass_pages<K: Sink, const W: usize>(
     out: &mut K,
     names: &Names,

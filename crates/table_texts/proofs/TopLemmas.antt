@@ -1,6 +1,6 @@
 -- Branches that are laid out, cut into jobs, and written on pages.
-use Rattle.std.proofs.Common.{◌≡◌, ℕ, ◌+◌, ◌-◌, ◌<◌, ◌≤◌, All, List, [], ◌∷◌, ◌++◌, length, take, drop, suc, refl, sym, ap, ap₂, subst, ◌∙◌, arith}
-use Rattle.std.proofs.lemmas.List.{append-nil, take-append-drop, take-take, drop-take, take_at, drop_at}
+use Rattle.std.proofs.Common.{◌≡◌, ℕ, ◌+◌, ◌<◌, All, List, [], ◌∷◌, ◌++◌, length, take, suc, refl, sym, ap, subst, ◌∙◌, arith}
+use Rattle.std.proofs.lemmas.List.{append-nil, take_at, drop_at}
 use Rattle.std.proofs.Math.Seq.{take-suc}
 use Rattle.std.proofs.lemmas.List.Concat.{flat_map-append}
 use Rattle.std.specs.List.{flat_map}
@@ -13,31 +13,31 @@ use Rattle.table_texts.specs.Tops.{branches, all_branches}
 use Rattle.table_texts.specs.declared.tops.Top.{Top}
 
 -- the first so many, and the next one
-pub take-next : {X : Type 0} (xs : List X) (i : ℕ) (x : X) → i < length xs → x ≡ slice_index_or xs i x → take (i + 1) xs ≡ take i xs ++ x ∷ []
-take-next xs i x l is = let next : i + 1 ≡ suc i = omega arith in ap (λ k. take k xs) next ∙ take-suc xs i x l ∙ ap (λ y. take i xs ++ y ∷ []) (sym is)
+pub take-next : {X : Type 0} (xs : List X) (i : ℕ) (x : X) → i < length xs → x ≡ slice_index_or xs i x
+    → take (i + 1) xs ≡ take i xs ++ x ∷ []
+take-next xs i x l is = let next : i + 1 ≡ suc i = omega arith in
+    ap (λ k. take k xs) next ∙ take-suc xs i x l ∙ ap (λ y. take i xs ++ y ∷ []) (sym is)
 
 -- what they give
-pub flat_map-next : {X A : Type 0} (h : X → List A) (xs : List X) (i : ℕ) (x : X) → i < length xs → x ≡ slice_index_or xs i x → flat_map h (take (i + 1) xs) ≡ flat_map h (take i xs) ++ h x
-flat_map-next h xs i x l is = ap (flat_map h) (take-next xs i x l is) ∙ flat_map-append h (take i xs) (x ∷ []) ∙ ap (λ z. flat_map h (take i xs) ++ z) (append-nil (h x))
-
--- the first so many, and some of those behind
-pub flat_map-parts : {X A : Type 0} (h : X → List A) (xs : List X) (done end : ℕ) → done ≤ end → flat_map h (take end xs) ≡ flat_map h (take done xs) ++ flat_map h (take (end - done) (drop done xs))
-flat_map-parts h xs done end le =
-    let whole : end ≡ done + (end - done) = omega (arith, le) in
-    let first : take done (take end xs) ≡ take done xs = take-take done end xs le in
-    let rest : drop done (take end xs) ≡ take (end - done) (drop done xs) = ap (λ k. drop done (take k xs)) whole ∙ drop-take done (end - done) xs in
-    ap (flat_map h) (sym (take-append-drop done (take end xs)) ∙ ap₂ (λ u z. u ++ z) first rest) ∙ flat_map-append h (take done xs) (take (end - done) (drop done xs))
+pub flat_map-next : {X A : Type 0} (h : X → List A) (xs : List X) (i : ℕ) (x : X) → i < length xs → x ≡ slice_index_or xs i x
+    → flat_map h (take (i + 1) xs) ≡ flat_map h (take i xs) ++ h x
+flat_map-next h xs i x l is = ap (flat_map h) (take-next xs i x l is) ∙ flat_map-append h (take i xs) (x ∷ [])
+    ∙ ap (λ z. flat_map h (take i xs) ++ z) (append-nil (h x))
 
 -- what holds of all that the jobs have holds of those of each
-pub All-jobs : {X : Type 0} (P : X → Type 0) (jobs : List (Bor (List X))) → All P (flat_map (λ job. job.now) jobs) → All (λ job. All P job.now) jobs
+pub All-jobs : {X : Type 0} (P : X → Type 0) (jobs : List (Bor (List X))) → All P (flat_map (λ job. job.now) jobs)
+    → All (λ job. All P job.now) jobs
 All-jobs P [] h = All-nil (λ job. All P job.now)
 All-jobs P (job ∷ jobs) h =
     let all = job.now ++ flat_map (λ j. j.now) jobs in
     All-cons (λ (j : _). All P j.now) job jobs
     (subst (All P) (take_at job.now (flat_map (λ j. j.now) jobs) (length job.now) refl) (All-take P (length job.now) all h))
-    (All-jobs P jobs (subst (All P) (drop_at job.now (flat_map (λ j. j.now) jobs) (length job.now) refl) (All-drop P (length job.now) all h)))
+    (All-jobs P jobs (subst (All P) (drop_at job.now (flat_map (λ j. j.now) jobs) (length job.now) refl)
+    (All-drop P (length job.now) all h)))
 
 -- the jobs have the branches that were cut
-pub branches-jobs : (K : Context) {W : ℕ} (jobs : List (Bor (List (Top W)))) → all_branches K jobs ≡ branches K (flat_map (λ job. job.now) jobs)
+pub branches-jobs : (K : Context) {W : ℕ} (jobs : List (Bor (List (Top W))))
+    → all_branches K jobs ≡ branches K (flat_map (λ job. job.now) jobs)
 branches-jobs K {W} [] = refl
-branches-jobs K {W} (job ∷ jobs) = ap (λ z. branches K job.now ++ z) (branches-jobs K jobs) ∙ sym (flat_map-append (λ (x : Top W). branch K x.intent x.from) job.now (flat_map (λ j. j.now) jobs))
+branches-jobs K {W} (job ∷ jobs) = ap (λ z. branches K job.now ++ z) (branches-jobs K jobs)
+    ∙ sym (flat_map-append (λ (x : Top W). branch K x.intent x.from) job.now (flat_map (λ j. j.now) jobs))

@@ -1,3 +1,4 @@
+pub mod Lattices
 pub mod Numerals
 pub mod Tops
 pub mod Teams

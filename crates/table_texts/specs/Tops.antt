@@ -3,7 +3,6 @@ use Rattle.std.specs.Prelude.{◌≡◌, ◌<◌, ◌≤◌, ℕ, true, List, le
 use Rattle.std.specs.List.{flat_map}
 use denote.Ref.{Bor}
 use Rattle.fca_model.specs.Sets.{Set}
-use Rattle.fca_model.specs.Tables.{NamedContext}
 use Rattle.fca_model.specs.Context.{Context, extent, is_closed}
 use Rattle.lectic_concepts.specs.Branches.{branch, AreSeen}
 use Rattle.concept_walk.specs.Pages.{IsPage}
@@ -16,7 +15,7 @@ pub record IsTop (K : Context) {W : ℕ} (top : Top W) : Type 0 where
   pub closed : is_closed K top.intent ≡ true
   pub inside : top.from ≤ K.width
   pub places : top.places.items ≡ extent K top.intent
-  pub seen : AreSeen K top.intent top.seen.items
+  pub witnesses : AreSeen K top.intent top.witnesses.items
 
 -- the intents of the branches, one branch behind the other
 abbrev pub branches : Context → {W : ℕ} → List (Top W) → List Set
@@ -27,9 +26,9 @@ abbrev pub all_branches : Context → {W : ℕ} → List (Bor (List (Top W))) �
 all_branches K jobs = flat_map (λ job. branches K job.now) jobs
 
 -- the page has the concepts of the branches, unless one is missing
-abbrev pub Wrote : NamedContext → {W : ℕ} → Page W → List (Top W) → Type 0
-Wrote t page job = page.whole ≡ true → IsPage t page (branches t.context job)
+abbrev pub Wrote : Context → {W : ℕ} → Page W → List (Top W) → Type 0
+Wrote K page job = page.whole ≡ true → IsPage K page (branches K job)
 
 -- each page has those of the job at its place
-abbrev pub EachWrote : NamedContext → {W : ℕ} → List (Page W) → List (Bor (List (Top W))) → Type 0
-EachWrote t pages jobs = (i : ℕ) (p : _) (j : _) → i < length jobs → Wrote t (slice_index_or pages i p) (slice_index_or jobs i j).now
+abbrev pub EachWrote : Context → {W : ℕ} → List (Page W) → List (Bor (List (Top W))) → Type 0
+EachWrote K pages jobs = (i : ℕ) (p : _) (j : _) → i < length jobs → Wrote K (slice_index_or pages i p) (slice_index_or jobs i j).now

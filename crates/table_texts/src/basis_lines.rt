@@ -5,7 +5,7 @@ ghost use Rattle.fca_model.specs.Pseudo.{basis};
 ghost use Rattle.implication_closure.specs.Closing.{HaveWidth};
 ghost use Rattle.expert_wire.specs.Texts.{arrow_text, line_end};
 ghost use Rattle.report_texts.specs.Reports.{arrow_line, basis_text};
-ghost use Rattle.packed_concepts.specs.Listing.{parted};
+ghost use Rattle.packed_concepts.specs.Listing.{with_comma};
 
 use attr_bits::Bits;
 use canonical_basis::basis_in_words;
@@ -17,7 +17,7 @@ use itoa::Buffer;
 use packed_concepts::{MARKS, PIECE_ROOM, Pieces, make_room, put_bytes, room_of};
 use std::alloc::Global;
 
-/// The basis of these rows, one member a line, with the names of the table's attributes. What it is found by is dropped before the text is written.
+/// The basis of these rows, one member a line, with the names of the table's attributes. The rows are dropped before the text is written.
 pub(crate) fn basis_in<const W: usize>(
     alloc: Global,
     table: &Table,
@@ -32,14 +32,14 @@ pub(crate) fn basis_in<const W: usize>(
     arrows_text(alloc, table, &names, list.as_slice())
 }
 
-/// The implications, one a line, behind a line that says how many they are.
+/// The implications, one a line, after a line with their number.
 fn arrows_text<const W: usize>(
     alloc: Global,
     table: &Table,
     names: &Pieces,
     members: &[Implication<Bits<W>>],
 ) -> Result<Vec<u8>, Memory>
-    requires names { names.now ≡ map parted table.now.attributes }
+    requires names { names.now ≡ map with_comma table.now.attributes }
     requires wide { HaveWidth (length table.now.attributes) members.now }
     ensures { IfOk result (λ v. v.items ≡ basis_text table.now.attributes members.now) }
 {
@@ -52,7 +52,7 @@ fn arrows_text<const W: usize>(
     Ok(bytes)
 }
 
-/// Puts the line down from that place on, where there is room for it or room is made, and tells where it ends.
+/// Puts the line of the implication at `start`, makes room if necessary, and returns its end.
 fn add_arrow<const W: usize>(
     bytes: &mut Vec<u8>,
     start: usize,
@@ -62,7 +62,7 @@ fn add_arrow<const W: usize>(
     member: &Implication<Bits<W>>,
 ) -> Result<usize, Memory>
     requires start { start ≤ length bytes.old.items }
-    requires names { names.now ≡ map parted table.now.attributes }
+    requires names { names.now ≡ map with_comma table.now.attributes }
     requires premise { length member.now.premise ≤ length table.now.attributes }
     requires conclusion { length member.now.conclusion ≤ length table.now.attributes }
     ensures text { IfOk result (λ end. take end bytes.new.items ≡ take start bytes.old.items ++ arrow_line [] table.now.attributes place member.now) }
@@ -82,7 +82,7 @@ fn add_arrow<const W: usize>(
     Ok(put_arrow(bytes, start, table, names, digits, member))
 }
 
-/// Puts the line with these digits down from that place on, and tells where it ends.
+/// Puts the line with these digits at `start` and returns its end.
 fn put_arrow<const W: usize>(
     text: &mut [u8],
     start: usize,
@@ -91,7 +91,7 @@ fn put_arrow<const W: usize>(
     digits: &[u8],
     member: &Implication<Bits<W>>,
 ) -> usize
-    requires names { names.now ≡ map parted table.now.attributes }
+    requires names { names.now ≡ map with_comma table.now.attributes }
     requires premise { length member.now.premise ≤ length table.now.attributes }
     requires conclusion { length member.now.conclusion ≤ length table.now.attributes }
     requires room { start + (length digits.now + (MARKS + PIECE_ROOM * (length member.now.premise + length member.now.conclusion))) ≤ length text.old }
@@ -103,7 +103,7 @@ fn put_arrow<const W: usize>(
     let number = put_bytes(text, start, digits);
     let opened = put_bytes(text, number, b" {");
     let premise = put_attributes(table, names, text, opened, &member.premise);
-    let parted = put_bytes(text, premise, b"} -> {");
-    let conclusion = put_attributes(table, names, text, parted, &gained);
+    let between = put_bytes(text, premise, b"} -> {");
+    let conclusion = put_attributes(table, names, text, between, &gained);
     put_bytes(text, conclusion, b"}\n")
 }

@@ -11,10 +11,10 @@ use fca_model::Memory;
 use packed_concepts::{Block, HEAD, make_room, put_block, put_bytes};
 use std::alloc::Global;
 
-/// How many bytes have to be free where a line is put down: two numerals, and what stands behind each.
+/// The bytes to be free where a line is put down: two numerals, and a byte behind each.
 const LINE_ROOM: usize = 2 * HEAD + 2;
 
-/// The text with the number of the covers and their lines behind it.
+/// The text, followed by the number of the covers and their lines.
 pub(crate) fn with_covers(
     alloc: Global,
     text: Vec<u8>,
@@ -29,7 +29,7 @@ pub(crate) fn with_covers(
     Ok(bytes)
 }
 
-/// Puts the lines down behind the text, and tells where they end. Each numeral is written once, and put down where it stands.
+/// Puts the lines behind the text and returns their end. The digits of each number are made once.
 fn add_covers(
     alloc: Global,
     bytes: &mut Vec<u8>,
@@ -46,7 +46,7 @@ fn add_covers(
     Ok(end)
 }
 
-/// Puts the line down from that place on, where there is room for it or room is made, and tells where it ends.
+/// Puts the line of the cover at `start`, makes room if necessary, and returns its end.
 fn add_cover(
     bytes: &mut Vec<u8>,
     start: usize,
@@ -80,7 +80,7 @@ fn count_over(numerals: &mut Vec<Block>, place: usize) -> Result<(), Memory>
     count_up_to(numerals, len)
 }
 
-/// Puts the line down from that place on, and tells where it ends.
+/// Puts the line of the cover at `start` and returns its end.
 fn put_cover(text: &mut [u8], start: usize, numerals: &[Block], upper: usize, lower: usize) -> usize
     requires numerals { AreNumerals numerals.now }
     requires upper { upper < length numerals.now }
@@ -91,7 +91,7 @@ fn put_cover(text: &mut [u8], start: usize, numerals: &[Block], upper: usize, lo
     ensures room { length text.new ≡ length text.old }
 {
     let first = put_block(text, start, &numerals[upper]);
-    let parted = put_bytes(text, first, b" ");
-    let second = put_block(text, parted, &numerals[lower]);
+    let between = put_bytes(text, first, b" ");
+    let second = put_block(text, between, &numerals[lower]);
     put_bytes(text, second, b"\n")
 }

@@ -5,48 +5,39 @@ ghost use Rattle.concept_walk.specs.Pages.{Fills};
 ghost use Rattle.table_texts.specs.Tops.{IsTop, branches, Wrote};
 
 use crate::tops::Top;
-use concept_walk::{Desks, Page, Sheet, write_branch};
+use concept_walk::{CrossTable, Page, ScratchPool, gather_branch};
 use fca_model::Memory;
 use std::alloc::Global;
 
 /// A page with the concepts of the branches.
 pub(crate) fn page_of<const W: usize>(
     alloc: Global,
-    sheet: &Sheet<'_, W>,
+    crosses: &CrossTable<'_, W>,
     job: &[Top<W>],
 ) -> Page<W>
-    requires { All (IsTop sheet.now.context) job.now }
-    ensures { Wrote sheet.now result job.now }
+    requires { All (IsTop crosses.now) job.now }
+    ensures { Wrote crosses.now result job.now }
 {
-    let _words = sheet.rows().width();
+    let _words = crosses.rows().width();
     let mut page = Page::new(alloc);
-    page.whole = write_tops(alloc, sheet, job, &mut page).is_ok();
+    page.whole = gather_tops(alloc, crosses, job, &mut page).is_ok();
     page
 }
 
 /// Adds the concepts of the branches.
-pub(crate) fn write_tops<const W: usize>(
+pub(crate) fn gather_tops<const W: usize>(
     alloc: Global,
-    sheet: &Sheet<'_, W>,
+    crosses: &CrossTable<'_, W>,
     job: &[Top<W>],
     page: &mut Page<W>,
 ) -> Result<(), Memory>
-    requires { All (IsTop sheet.now.context) job.now }
-    ensures { OnOk result (Fills sheet.now page.old page.new (branches sheet.now.context job.now)) }
+    requires { All (IsTop crosses.now) job.now }
+    ensures { OnOk result (Fills crosses.now page.old page.new (branches crosses.now job.now)) }
 {
-    let _words = sheet.rows().width();
-    let mut desks = Desks::new(alloc, sheet.rows())?;
+    let _words = crosses.rows().width();
+    let mut pool = ScratchPool::new(alloc, crosses.rows())?;
     for top in job {
-        write_branch(
-            alloc,
-            sheet,
-            page,
-            &top.intent,
-            &top.places,
-            top.from,
-            &top.seen,
-            &mut desks,
-        )?;
+        gather_branch(alloc, crosses, page, &top.node(crosses), &mut pool)?;
     }
     Ok(())
 }

@@ -1,4 +1,4 @@
-//! Branches put together to jobs of about the same work.
+//! Branches grouped into jobs of about the same work.
 
 ghost use Rattle.std.specs.Prelude.{◌≡◌, ◌<◌, ◌≤◌, ◌++◌, All, IfOk, length};
 ghost use Rattle.std.specs.List.{flat_map};
@@ -6,27 +6,27 @@ ghost use Rattle.fca_model.specs.Context.{Context};
 ghost use Rattle.table_texts.specs.Tops.{IsTop, branches, all_branches};
 
 use crate::tops::Top;
-use concept_walk::Sheet;
+use concept_walk::CrossTable;
 use fca_model::Memory;
 use std::alloc::Global;
 
-/// About how many jobs are made.
+/// About the number of jobs.
 const JOBS: usize = 64;
 
-/// In how many parts each expected object is counted.
+/// The number of parts in which each expected object is counted.
 const PARTS: usize = 4;
 
-/// What a line takes beside its objects, in such parts.
+/// The work of a line beside its objects, in such parts.
 const LINE: usize = 64;
 
-/// How many crosses there are in so many cells, about.
+/// About how many of so many cells have a cross.
 #[derive(Clone, Copy, Drop)]
 pub(crate) struct Density {
     crosses: usize,
     cells: usize,
 }
 
-/// How dense the table is whose branches those are, that of the least intent alone and those of its children.
+/// The density of the table, from the branches of the least intent alone and of its children.
 pub(crate) fn density_of<const W: usize>(children: &[Top<W>]) -> Density {
     let mut crosses = 0usize;
     let mut most = 0usize;
@@ -40,24 +40,24 @@ pub(crate) fn density_of<const W: usize>(children: &[Top<W>]) -> Density {
     }
 }
 
-/// The branches as jobs of about the same work.
+/// Jobs of about the same work, which have the branches in their order.
 pub(crate) fn jobs_of<'a, const W: usize>(
     alloc: Global,
-    sheet: &Sheet<'_, W>,
+    crosses: &CrossTable<'_, W>,
     tops: &'a [Top<W>],
     density: Density,
 ) -> Result<Vec<&'a [Top<W>]>, Memory>
-    requires { All (IsTop sheet.now.context) tops.now }
-    ensures tops { IfOk result (λ jobs. All (λ job. All (IsTop sheet.now.context) job.now) jobs.items) }
-    ensures branches { IfOk result (λ jobs. all_branches sheet.now.context jobs.items ≡ branches sheet.now.context tops.now) }
+    requires { All (IsTop crosses.now) tops.now }
+    ensures tops { IfOk result (λ jobs. All (λ job. All (IsTop crosses.now) job.now) jobs.items) }
+    ensures branches { IfOk result (λ jobs. all_branches crosses.now jobs.items ≡ branches crosses.now tops.now) }
 {
-    let _words = sheet.rows().width();
-    let jobs = cut(alloc, tops, density)?;
+    let _words = crosses.rows().width();
+    let jobs = split_tops(alloc, tops, density)?;
     Ok(jobs)
 }
 
-/// The branches, cut into jobs. What is found is the same wherever they are cut.
-fn cut<const W: usize>(
+/// The branches, split into jobs. The answer is the same wherever they are split.
+fn split_tops<const W: usize>(
     alloc: Global,
     tops: &[Top<W>],
     density: Density,
@@ -75,7 +75,7 @@ fn cut<const W: usize>(
     Ok(jobs)
 }
 
-/// How many branches the first job has: at least one.
+/// The number of branches of the first job: at least one.
 fn first_job<const W: usize>(tops: &[Top<W>], density: Density, share: usize) -> usize
     requires { 0 < length tops.now }
     ensures some { 0 < result }
@@ -91,7 +91,7 @@ fn first_job<const W: usize>(tops: &[Top<W>], density: Density, share: usize) ->
     tops.len()
 }
 
-/// A guess at the work that the branches are.
+/// A guess at the work of the branches.
 fn work_of<const W: usize>(tops: &[Top<W>], density: Density) -> usize {
     let mut work = 0usize;
     for top in tops {
@@ -100,19 +100,19 @@ fn work_of<const W: usize>(tops: &[Top<W>], density: Density) -> usize {
     work
 }
 
-/// A guess at the work that the branch is: of each number of attributes that are left so many sets are intents as there are, while some objects are expected
-/// to have them, and the line of each is as long as these are many.
+/// A guess at the work of the branch. Each set of attributes that are left counts as an intent, as long as some objects are expected to have it, and the line
+/// of an intent is the longer, the more objects are expected.
 fn work_at<const W: usize>(top: &Top<W>, density: Density) -> usize {
     let left = top.intent.width().saturating_sub(top.from) as usize;
     let mut objects = top.places.len().saturating_mul(PARTS);
     let mut sets = 1usize;
     let mut work = 1usize;
-    for taken in 0..left {
+    for size in 0..left {
         if objects == 0 {
             return work;
         }
         work = work.saturating_add(sets.saturating_mul(objects.saturating_add(LINE)));
-        sets = sets.saturating_mul(left - taken) / (taken + 1);
+        sets = sets.saturating_mul(left - size) / (size + 1);
         objects = objects.saturating_mul(density.crosses) / density.cells.max(1);
     }
     work

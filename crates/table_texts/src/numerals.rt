@@ -1,4 +1,4 @@
-//! The numerals of places, from 1 on, each as a block.
+//! The numerals of places, from 1 on, as blocks.
 
 ghost use Rattle.std.specs.Prelude.{◌≡◌, ◌≤◌, OnOk, IfOk, length};
 ghost use Rattle.table_texts.specs.Numerals.{IsNumeral, AreNumerals};

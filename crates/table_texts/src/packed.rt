@@ -1,81 +1,115 @@
-//! The concepts of a table, packed. Where it pays several threads find them, each on a page of its own.
+//! The concepts of a table, packed. If it pays, several threads find them, each on pages of its own.
 
-ghost use Rattle.std.specs.Prelude.{◌≡◌, ◌≤◌, true, All, IfOk, map};
+ghost use Rattle.std.specs.Prelude.{◌≡◌, ◌≤◌, true, All, IfOk, length, map};
 ghost use Rattle.std.specs.List.{flat_map};
 ghost use Rattle.fca_model.specs.Pseudo.{intents};
 ghost use Rattle.lectic_concepts.specs.Concepts.{concepts};
 ghost use Rattle.report_texts.specs.Reports.{concepts_text};
+ghost use Rattle.context_table.specs.Narrow.{context_in};
+ghost use Rattle.packed_concepts.specs.Pages.{concepts_on};
 ghost use Rattle.concept_walk.specs.Pages.{concept_at};
 ghost use Rattle.table_texts.specs.Tops.{IsTop, branches};
 
-use crate::filling::write_tops;
+use crate::filling::gather_tops;
 use crate::jobs::{density_of, jobs_of};
-use crate::teams::filled_pages;
-use crate::tops::{Top, laid_out, large_part, pays, root_of};
-use concept_walk::{Page, Sheet, table_names};
-use context_table::Table;
+use crate::teams::fill_pages;
+use crate::tops::{Top, large_part, lay_out_large, pays, root_of};
+use concept_walk::{CrossTable, Page, table_names};
+use context_table::{NarrowRows, NarrowTable};
 use derivation::RowsOf;
-use fca_model::Memory;
-use packed_concepts::{ConceptPage, PackedText};
+use fca_model::{MAX_OBJECTS, Memory};
+use packed_concepts::{ConceptPage, ConceptsText, NarrowPages};
 use std::alloc::Global;
 use std::thread::Threads;
 
-/// The text of the concepts of the table's rows, in as many words as those have.
-pub(crate) fn packed_in<R: Threads + Sync, const W: usize>(
+/// All concepts of the table, one a line. If it pays, several threads find them.
+pub fn narrow_concepts_text<R: Threads + Sync>(
     rt: &R,
     alloc: Global,
-    table: &Table,
+    table: NarrowTable,
+) -> Result<ConceptsText, Memory>
+    ensures { IfOk result (λ text. text ≡ concepts_text table (concepts table.context)) }
+{
+    let (objects, attributes, rows) = table.into_parts();
+    let _rows = attributes.rows();
+    let names = table_names(alloc, objects, &attributes)?;
+    let pages = narrow_pages(rt, alloc, rows)?;
+    let text = ConceptsText::new(alloc, names, pages)?;
+    Ok(text)
+}
+
+/// The concepts of the rows.
+fn narrow_pages<R: Threads + Sync>(
+    rt: &R,
+    alloc: Global,
+    rows: NarrowRows,
+) -> Result<NarrowPages, Memory>
+    requires { length (context_in rows).rows ≤ MAX_OBJECTS }
+    ensures { IfOk result (λ pages. concepts_on pages ≡ map (concept_at (context_in rows)) (intents (context_in rows))) }
+{
+    Ok(match rows {
+        NarrowRows::One(rows) => NarrowPages::One(pages_of(rt, alloc, &rows)?),
+        NarrowRows::Two(rows) => NarrowPages::Two(pages_of(rt, alloc, &rows)?),
+        NarrowRows::Four(rows) => NarrowPages::Four(pages_of(rt, alloc, &rows)?),
+        NarrowRows::All(rows) => NarrowPages::All(pages_of(rt, alloc, &rows)?),
+    })
+}
+
+/// The concepts of the rows, in as many words as those have.
+fn pages_of<R: Threads + Sync, const W: usize>(
+    rt: &R,
+    alloc: Global,
     rows: &RowsOf<W>,
-) -> Result<PackedText<W>, Memory>
-    requires { rows.now ≡ table.now.context }
-    ensures { IfOk result (λ text. text ≡ concepts_text table.now (concepts table.now.context)) }
+) -> Result<Vec<ConceptPage<W>>, Memory>
+    requires { length rows.now.rows ≤ MAX_OBJECTS }
+    ensures { IfOk result (λ pages. flat_map (λ page. page) pages.items ≡ map (concept_at rows.now) (intents rows.now)) }
 {
     let _width = rows.width();
-    let sheet = Sheet::new(alloc, table, rows)?;
-    let root = root_of(alloc, &sheet)?;
-    let children = laid_out(alloc, &sheet, &root, 0)?;
-    let pages = if pays(&children) {
-        many_pages(rt, alloc, &sheet, &children)?
-    } else {
-        one_page(alloc, &sheet, &root)?
-    };
-    text_of(alloc, table, pages)
+    let crosses = CrossTable::new(alloc, rows)?;
+    let root = root_of(alloc, &crosses)?;
+    let children = lay_out_large(alloc, &crosses, &root, 0)?;
+    if pays(&children) {
+        let pages = many_pages(rt, alloc, &crosses, &children)?;
+        return Ok(pages);
+    }
+    let page = one_page(alloc, &crosses, &root)?;
+    let mut pages = Vec::new(alloc);
+    pages.push(page)?;
+    Ok(pages)
 }
 
 /// The concepts of the branches, which are all, on one page.
 pub(crate) fn one_page<const W: usize>(
     alloc: Global,
-    sheet: &Sheet<'_, W>,
+    crosses: &CrossTable<'_, W>,
     tops: &[Top<W>],
-) -> Result<Vec<ConceptPage<W>>, Memory>
-    requires tops { All (IsTop sheet.now.context) tops.now }
-    requires whole { branches sheet.now.context tops.now ≡ intents sheet.now.context }
-    ensures { IfOk result (λ pages. flat_map (λ page. page) pages.items ≡ map (concept_at sheet.now.context) (intents sheet.now.context)) }
+) -> Result<ConceptPage<W>, Memory>
+    requires tops { All (IsTop crosses.now) tops.now }
+    requires whole { branches crosses.now tops.now ≡ intents crosses.now }
+    ensures { IfOk result (λ page. page ≡ map (concept_at crosses.now) (intents crosses.now)) }
 {
-    let _words = sheet.rows().width();
+    let _words = crosses.rows().width();
     let mut page = Page::new(alloc);
-    write_tops(alloc, sheet, tops, &mut page)?;
-    let mut pages = Vec::new(alloc);
-    pages.push(page.concepts)?;
-    Ok(pages)
+    gather_tops(alloc, crosses, tops, &mut page)?;
+    Ok(page.concepts)
 }
 
-/// The concepts of the branches, which are all, laid out once more, and large ones twice, on pages that several threads fill.
+/// The concepts of the branches, which are all, on pages that several threads fill. The branches are laid out once more, and large ones twice.
 fn many_pages<R: Threads + Sync, const W: usize>(
     rt: &R,
     alloc: Global,
-    sheet: &Sheet<'_, W>,
+    crosses: &CrossTable<'_, W>,
     tops: &[Top<W>],
 ) -> Result<Vec<ConceptPage<W>>, Memory>
-    requires tops { All (IsTop sheet.now.context) tops.now }
-    requires whole { branches sheet.now.context tops.now ≡ intents sheet.now.context }
-    ensures { IfOk result (λ pages. flat_map (λ page. page) pages.items ≡ map (concept_at sheet.now.context) (intents sheet.now.context)) }
+    requires tops { All (IsTop crosses.now) tops.now }
+    requires whole { branches crosses.now tops.now ≡ intents crosses.now }
+    ensures { IfOk result (λ pages. flat_map (λ page. page) pages.items ≡ map (concept_at crosses.now) (intents crosses.now)) }
 {
-    let _words = sheet.rows().width();
-    let more = laid_out(alloc, sheet, tops, 0)?;
-    let finer = laid_out(alloc, sheet, &more, large_part(&more))?;
-    let jobs = jobs_of(alloc, sheet, &finer, density_of(tops))?;
-    let pages = filled_pages(rt, alloc, sheet, &jobs)?;
+    let _words = crosses.rows().width();
+    let more = lay_out_large(alloc, crosses, tops, 0)?;
+    let finer = lay_out_large(alloc, crosses, &more, large_part(&more))?;
+    let jobs = jobs_of(alloc, crosses, &finer, density_of(tops))?;
+    let pages = fill_pages(rt, alloc, crosses, &jobs)?;
     let pages = whole_pages(alloc, pages)?;
     Ok(pages)
 }
@@ -97,20 +131,4 @@ fn whole_pages<const W: usize>(
         made.push(page.concepts)?;
     }
     Ok(made)
-}
-
-/// The text of the concepts on the pages, which are all.
-pub(crate) fn text_of<const W: usize>(
-    alloc: Global,
-    table: &Table,
-    pages: Vec<ConceptPage<W>>,
-) -> Result<PackedText<W>, Memory>
-    requires words { W ≤ 1024 }
-    requires whole { flat_map (λ page. page) pages.items ≡ map (concept_at table.now.context) (intents table.now.context) }
-    ensures { IfOk result (λ text. text ≡ concepts_text table.now (concepts table.now.context)) }
-{
-    let _rows = table.rows();
-    let names = table_names(alloc, table)?;
-    let text = PackedText::new(alloc, names, pages)?;
-    Ok(text)
 }

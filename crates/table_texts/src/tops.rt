@@ -1,42 +1,59 @@
-//! The tree of intents as a list of branches, of which each can be written by itself.
+//! The tree of intents as a list of branches. The concepts of each can be gathered by themselves.
 
 ghost use Rattle.std.specs.Prelude.{◌≡◌, ◌≤◌, ◌++◌, true, All, IfOk, OnOk, length};
 ghost use Rattle.std.specs.List.{flat_map};
-ghost use Rattle.fca_model.specs.Context.{is_closed, extent};
+ghost use Rattle.fca_model.specs.Context.{is_closed};
 ghost use Rattle.fca_model.specs.Pseudo.{intents};
-ghost use Rattle.lectic_concepts.specs.Branches.{branch, AreSeen};
+ghost use Rattle.lectic_concepts.specs.Branches.{branch};
+ghost use Rattle.concept_walk.specs.Nodes.{IsNode};
 ghost use Rattle.table_texts.specs.Tops.{IsTop, branches};
 
 use attr_bits::Bits;
-use concept_walk::{Desk, Sheet, known, next_child, places_of};
+use concept_walk::{Candidates, CrossTable, Node, Scratch, known_witnesses, next_child, places_of};
 use extent_places::tries_of;
 use fca_model::Memory;
 use lectic_concepts::{own_witnesses, pass_witnesses};
 use std::alloc::Global;
 
-/// How many branches are enough, so that none is laid out again.
+/// So many branches are enough, so none is laid out again.
 const ENOUGH: usize = 2_048;
 
-/// A large branch seems this part of all.
+/// A large branch seems at least this part of all.
 const LARGE: usize = 128;
 
 /// So many branches are many.
 const MANY: usize = 12;
 
-/// So many objects that all pairs of branches share are next to none.
-const NEXT_TO_NONE: usize = 512;
+/// The branches overlap if their pairs share at least so many objects.
+const OVERLAP: usize = 512;
 
-/// The branch of an intent from an attribute on, with the places of the objects of the intent, and with what is seen of its closures.
+/// The branch of a node of the tree of intents.
 #[derive(Drop)]
 pub(crate) struct Top<const W: usize> {
     pub(crate) intent: Bits<W>,
     pub(crate) from: u32,
     pub(crate) places: Vec<u16>,
-    pub(crate) seen: Vec<u32>,
+    pub(crate) witnesses: Vec<u32>,
 }
 
 impl<const W: usize> Top<W> {
-    /// How large the branch seems: the pairs of its objects, times the attributes that are left.
+    /// The node.
+    pub(crate) fn node(&self, crosses: &CrossTable<'_, W>) -> Node<'_, W>
+        requires { IsTop crosses.now self.now }
+        ensures node { IsNode crosses.now result }
+        ensures intent { result.intent.now ≡ self.now.intent }
+        ensures from { result.from ≡ self.now.from }
+    {
+        let _words = crosses.rows().width();
+        Node {
+            intent: &self.intent,
+            places: &self.places,
+            from: self.from,
+            witnesses: &self.witnesses,
+        }
+    }
+
+    /// A guess at the size of the branch: the pairs of its objects, times the attributes that are left.
     fn size(&self) -> usize {
         let left = self.intent.width().saturating_sub(self.from) as usize;
         let objects = self.places.len();
@@ -44,7 +61,7 @@ impl<const W: usize> Top<W> {
     }
 }
 
-/// What a branch seems at least that is a large part of these.
+/// The least size of a branch that is a large part of these.
 pub(crate) fn large_part<const W: usize>(tops: &[Top<W>]) -> usize {
     let mut whole = 0usize;
     for top in tops {
@@ -56,28 +73,33 @@ pub(crate) fn large_part<const W: usize>(tops: &[Top<W>]) -> usize {
 /// The branch of all intents.
 pub(crate) fn root_of<const W: usize>(
     alloc: Global,
-    sheet: &Sheet<'_, W>,
+    crosses: &CrossTable<'_, W>,
 ) -> Result<Vec<Top<W>>, Memory>
-    ensures tops { IfOk result (λ tops. All (IsTop sheet.now.context) tops.items) }
-    ensures branches { IfOk result (λ tops. branches sheet.now.context tops.items ≡ intents sheet.now.context) }
+    ensures tops { IfOk result (λ tops. All (IsTop crosses.now) tops.items) }
+    ensures branches { IfOk result (λ tops. branches crosses.now tops.items ≡ intents crosses.now) }
 {
-    let rows = sheet.rows();
-    let least = least_intent(sheet);
-    let places = sheet.extent(alloc, &least)?;
-    let seen = own_witnesses(alloc, rows, &least)?;
+    let rows = crosses.rows();
+    let least = least_intent(crosses);
+    let places = crosses.extent(alloc, &least)?;
+    let witnesses = own_witnesses(alloc, rows, &least)?;
+    let root = Node {
+        intent: &least,
+        places: &places,
+        from: 0,
+        witnesses: &witnesses,
+    };
     let mut tops = Vec::new(alloc);
-    add_top(alloc, sheet, &least, &places, 0, &seen, &mut tops)?;
+    add_top(alloc, crosses, &root, &mut tops)?;
     Ok(tops)
 }
 
-/// Whether it pays to go through the branches side by side: there are some of them, and two of them share not next to no objects. What is found is the same
-/// either way.
+/// Whether it pays to go through the branches side by side: they are many, and they overlap. The answer is the same either way.
 pub(crate) fn pays<const W: usize>(tops: &[Top<W>]) -> bool {
     let most = most_objects(tops);
-    MANY <= tops.len() && NEXT_TO_NONE.saturating_mul(most) <= shared_objects(tops, most)
+    MANY <= tops.len() && OVERLAP.saturating_mul(most) <= overlap_of(tops, most)
 }
 
-/// How many objects the branch with the most has.
+/// The most objects of a branch.
 fn most_objects<const W: usize>(tops: &[Top<W>]) -> usize {
     let mut most = 0usize;
     for top in tops {
@@ -86,8 +108,8 @@ fn most_objects<const W: usize>(tops: &[Top<W>]) -> usize {
     most
 }
 
-/// About how many objects all pairs of branches share, times how many one has at most.
-fn shared_objects<const W: usize>(tops: &[Top<W>], most: usize) -> usize {
+/// About the number of objects that all pairs of branches share, times the most of one branch.
+fn overlap_of<const W: usize>(tops: &[Top<W>], most: usize) -> usize {
     let mut squares = 0usize;
     for top in tops {
         let len = top.places.len();
@@ -97,135 +119,120 @@ fn shared_objects<const W: usize>(tops: &[Top<W>], most: usize) -> usize {
 }
 
 /// The intent that all others contain.
-fn least_intent<const W: usize>(sheet: &Sheet<'_, W>) -> Bits<W>
-    ensures wide { length result ≡ sheet.now.context.width }
-    ensures closed { is_closed sheet.now.context result ≡ true }
-    ensures least { branch sheet.now.context result 0 ≡ intents sheet.now.context }
+fn least_intent<const W: usize>(crosses: &CrossTable<'_, W>) -> Bits<W>
+    ensures wide { length result ≡ crosses.now.width }
+    ensures closed { is_closed crosses.now result ≡ true }
+    ensures least { branch crosses.now result 0 ≡ intents crosses.now }
 {
-    let rows = sheet.rows();
+    let rows = crosses.rows();
     rows.closure(&Bits::empty(rows.width()))
 }
 
-/// The same branches, each that seems at least so large laid out as its intent alone and the branches of its children, until there are enough.
-pub(crate) fn laid_out<const W: usize>(
+/// The branches. Each that seems at least so large is laid out as its intent alone and the branches of its children, until these are enough.
+pub(crate) fn lay_out_large<const W: usize>(
     alloc: Global,
-    sheet: &Sheet<'_, W>,
+    crosses: &CrossTable<'_, W>,
     tops: &[Top<W>],
     least: usize,
 ) -> Result<Vec<Top<W>>, Memory>
-    requires tops { All (IsTop sheet.now.context) tops.now }
-    ensures tops { IfOk result (λ more. All (IsTop sheet.now.context) more.items) }
-    ensures branches { IfOk result (λ more. branches sheet.now.context more.items ≡ branches sheet.now.context tops.now) }
+    requires tops { All (IsTop crosses.now) tops.now }
+    ensures tops { IfOk result (λ more. All (IsTop crosses.now) more.items) }
+    ensures branches { IfOk result (λ more. branches crosses.now more.items ≡ branches crosses.now tops.now) }
 {
-    let _words = sheet.rows().width();
+    let _words = crosses.rows().width();
     let mut more = Vec::new(alloc);
     for top in tops {
-        lay_out_if_large(alloc, sheet, top, least, &mut more)?;
+        lay_out_if_large(alloc, crosses, top, least, &mut more)?;
     }
     Ok(more)
 }
 
-/// Puts the branch last, laid out where it seems at least so large and there are not enough yet.
+/// Puts the branch last. It is laid out if it seems at least so large and the branches are not enough yet.
 fn lay_out_if_large<const W: usize>(
     alloc: Global,
-    sheet: &Sheet<'_, W>,
+    crosses: &CrossTable<'_, W>,
     top: &Top<W>,
     least: usize,
     more: &mut Vec<Top<W>>,
 ) -> Result<(), Memory>
-    requires top { IsTop sheet.now.context top.now }
-    requires tops { All (IsTop sheet.now.context) more.old.items }
-    ensures tops { OnOk result (All (IsTop sheet.now.context) more.new.items) }
-    ensures branches { OnOk result (branches sheet.now.context more.new.items
-        ≡ branches sheet.now.context more.old.items ++ branch sheet.now.context top.now.intent top.now.from) }
+    requires top { IsTop crosses.now top.now }
+    requires tops { All (IsTop crosses.now) more.old.items }
+    ensures tops { OnOk result (All (IsTop crosses.now) more.new.items) }
+    ensures branches { OnOk result (branches crosses.now more.new.items
+        ≡ branches crosses.now more.old.items ++ branch crosses.now top.now.intent top.now.from) }
 {
-    let _words = sheet.rows().width();
+    let _words = crosses.rows().width();
     if least <= top.size() && more.len() < ENOUGH {
-        return lay_out(alloc, sheet, top, more);
+        return lay_out(alloc, crosses, top, more);
     }
-    add_top(
-        alloc,
-        sheet,
-        &top.intent,
-        &top.places,
-        top.from,
-        &top.seen,
-        more,
-    )
+    add_top(alloc, crosses, &top.node(crosses), more)?;
+    Ok(())
 }
 
 /// Puts the intent alone and the branches of its children last.
 fn lay_out<const W: usize>(
     alloc: Global,
-    sheet: &Sheet<'_, W>,
+    crosses: &CrossTable<'_, W>,
     top: &Top<W>,
     more: &mut Vec<Top<W>>,
 ) -> Result<(), Memory>
-    requires top { IsTop sheet.now.context top.now }
-    requires tops { All (IsTop sheet.now.context) more.old.items }
-    ensures tops { OnOk result (All (IsTop sheet.now.context) more.new.items) }
-    ensures branches { OnOk result (branches sheet.now.context more.new.items
-        ≡ branches sheet.now.context more.old.items ++ branch sheet.now.context top.now.intent top.now.from) }
+    requires top { IsTop crosses.now top.now }
+    requires tops { All (IsTop crosses.now) more.old.items }
+    ensures tops { OnOk result (All (IsTop crosses.now) more.new.items) }
+    ensures branches { OnOk result (branches crosses.now more.new.items
+        ≡ branches crosses.now more.old.items ++ branch crosses.now top.now.intent top.now.from) }
 {
-    let rows = sheet.rows();
-    let a = &top.intent;
-    let tries = tries_of(rows, a, &top.places);
-    let mut desk = Desk::new(alloc);
-    let mut end = rows.width();
-    add_top(alloc, sheet, a, &top.places, end, &top.seen, more)?;
-    while top.from < end {
-        let met = next_child(
-            sheet,
-            a,
-            &top.places,
-            &tries,
-            top.from,
-            end,
-            &top.seen,
-            &mut desk,
-        )?;
+    let rows = crosses.rows();
+    let node = top.node(crosses);
+    let mut candidates = Candidates {
+        attributes: tries_of(rows, node.intent, node.places),
+        end: rows.width(),
+    };
+    let alone = Node {
+        intent: node.intent,
+        places: node.places,
+        from: candidates.end,
+        witnesses: node.witnesses,
+    };
+    add_top(alloc, crosses, &alone, more)?;
+    let mut scratch = Scratch::new(alloc);
+    while node.from < candidates.end {
+        let met = next_child(crosses, &node, &candidates, &mut scratch)?;
         let Some(child) = met else {
             break;
         };
-        end = child.attribute;
-        let below = places_of(sheet, &child, &desk.found);
-        let passed = pass_witnesses(
-            rows,
-            a,
-            known(sheet, a, &top.seen, &desk.noted),
-            &child.intent,
-        );
-        add_top(alloc, sheet, &child.intent, below, end + 1, passed, more)?;
+        candidates.end = child.attribute;
+        let known = known_witnesses(crosses, node.intent, node.witnesses, &scratch.noted);
+        let below = Node {
+            intent: &child.intent,
+            places: places_of(crosses, &child, &scratch.found),
+            from: child.attribute + 1,
+            witnesses: pass_witnesses(rows, node.intent, known, &child.intent),
+        };
+        add_top(alloc, crosses, &below, more)?;
     }
     Ok(())
 }
 
-/// Puts the branch last.
+/// Puts the node's branch last.
 fn add_top<const W: usize>(
     alloc: Global,
-    sheet: &Sheet<'_, W>,
-    a: &Bits<W>,
-    places: &[u16],
-    from: u32,
-    seen: &[u32],
+    crosses: &CrossTable<'_, W>,
+    node: &Node<'_, W>,
     tops: &mut Vec<Top<W>>,
 ) -> Result<(), Memory>
-    requires wide { length a.now ≡ sheet.now.context.width }
-    requires closed { is_closed sheet.now.context a.now ≡ true }
-    requires places { places.now ≡ extent sheet.now.context a.now }
-    requires inside { from ≤ sheet.now.context.width }
-    requires seen { AreSeen sheet.now.context a.now seen.now }
-    requires tops { All (IsTop sheet.now.context) tops.old.items }
-    ensures tops { OnOk result (All (IsTop sheet.now.context) tops.new.items) }
-    ensures branches { OnOk result (branches sheet.now.context tops.new.items
-        ≡ branches sheet.now.context tops.old.items ++ branch sheet.now.context a.now from) }
+    requires node { IsNode crosses.now node.now }
+    requires tops { All (IsTop crosses.now) tops.old.items }
+    ensures tops { OnOk result (All (IsTop crosses.now) tops.new.items) }
+    ensures branches { OnOk result (branches crosses.now tops.new.items
+        ≡ branches crosses.now tops.old.items ++ branch crosses.now node.now.intent.now node.now.from) }
 {
-    let _words = sheet.rows().width();
+    let _words = crosses.rows().width();
     tops.push(Top {
-        intent: *a,
-        from,
-        places: Vec::from_slice(alloc, places)?,
-        seen: Vec::from_slice(alloc, seen)?,
+        intent: *node.intent,
+        from: node.from,
+        places: Vec::from_slice(alloc, node.places)?,
+        witnesses: Vec::from_slice(alloc, node.witnesses)?,
     })?;
     Ok(())
 }

@@ -2,10 +2,13 @@ use Rattle.lectic_concepts.proofs.IntentLemmas.{intent_with, within_with}
 use Rattle.concept_walk.proofs.branch.child_at.Goals as goal
 
 pub returns-then-is_child-clause-wide : goal.returns-then-is_child-clause-wide
-returns-then-is_child-clause-wide g c = (intent_with c.args.sheet.now.context c.args.a.now c.args.i c.requires.wide c.requires.inside c.narrowed-child.result.intent c.narrowed-child.ensures.closed).wide
+returns-then-is_child-clause-wide g c = (intent_with c.args.crosses.now c.args.node.now.intent.now c.args.i c.requires.node.wide
+    c.requires.inside c.closure_with-child.result.intent c.closure_with-child.ensures.closed).wide
 
 pub returns-then-is_child-clause-closed : goal.returns-then-is_child-clause-closed
-returns-then-is_child-clause-closed g c = (intent_with c.args.sheet.now.context c.args.a.now c.args.i c.requires.wide c.requires.inside c.narrowed-child.result.intent c.narrowed-child.ensures.closed).closed
+returns-then-is_child-clause-closed g c = (intent_with c.args.crosses.now c.args.node.now.intent.now c.args.i c.requires.node.wide
+    c.requires.inside c.closure_with-child.result.intent c.closure_with-child.ensures.closed).closed
 
 pub returns-then-is_child-clause-larger : goal.returns-then-is_child-clause-larger
-returns-then-is_child-clause-larger g c = within_with c.args.sheet.now.context c.args.a.now c.args.i c.requires.wide c.requires.inside c.narrowed-child.result.intent c.narrowed-child.ensures.closed
+returns-then-is_child-clause-larger g c = within_with c.args.crosses.now c.args.node.now.intent.now c.args.i c.requires.node.wide
+    c.requires.inside c.closure_with-child.result.intent c.closure_with-child.ensures.closed

@@ -4,10 +4,10 @@ use Rattle.concept_walk.proofs.branch.next_child.Given as goal
 
 abbrev pub invariant-loop-i : goal.invariant-loop-i
 invariant-loop-i g l = record {
-  from_on : l.from ≤ l.place;
-  inside : l.place ≤ l.end;
-  noted : AreSeen l.sheet.context l.a l.desk.noted.items;
-  none : branch l.sheet.context l.a l.place ≡ branch l.sheet.context l.a l.end;
+  from_on : l.node.from ≤ l.place;
+  inside : l.place ≤ l.candidates.end;
+  noted : AreSeen l.crosses l.node.intent.now l.scratch.noted.items;
+  none : branch l.crosses l.node.intent.now l.place ≡ branch l.crosses l.node.intent.now l.candidates.end;
 }
 
 abbrev pub decreases-loop-i : goal.decreases-loop-i

@@ -1,10 +1,9 @@
-use Rattle.std.proofs.Common.{◌≡◌, ◌+◌, ℕ, List, [], ◌∷◌, ◌++◌, ◌∙◌, refl, sym, ap, subst, arith}
+use Rattle.std.proofs.Common.{◌≡◌, ◌+◌, [], ◌∷◌, ◌∙◌, sym, ap, subst, arith}
 use Rattle.fca_model.specs.Sets.{Set}
 use Rattle.fca_model.specs.Context.{Context}
-use Rattle.lectic_concepts.specs.Branches.{branch, AreSeen}
+use Rattle.lectic_concepts.specs.Branches.{branch}
 use Rattle.lectic_concepts.proofs.IntentLemmas.{IsIntent}
 use Rattle.lectic_concepts.proofs.BranchLemmas.{branch_end}
-use Rattle.lectic_concepts.proofs.SeenLemmas.{seen_none}
 use Rattle.extent_places.specs.Tries.{AreTries}
 use Rattle.extent_places.proofs.TryLemmas.{branch-between}
 use Rattle.concept_walk.specs.Pages.{Fills}
@@ -12,39 +11,34 @@ use Rattle.concept_walk.proofs.steps.enter.Goals as goal
 
 pub returns-in_default : goal.returns-in_default
 returns-in_default g c =
-    let K : Context = c.args.sheet.now.context in
-    let A : Set = c.args.a.now in
+    let K : Context = c.args.crosses.now in
+    let A : Set = c.args.node.now.intent.now in
     let a : IsIntent K A = record { wide = c.requires.wide; closed = c.requires.closed } in
     let width : c.width-width.result ≡ K.width = c.width-width.ensures.width ∙ ap (λ (J : Context). J.width) c.rows-rows.ensures in
-    let tries = subst (λ (J : Context). AreTries J A c.tries_of-tries.result) c.rows-rows.ensures c.tries_of-tries.ensures.tries in
-    let alone : branch K A c.args.from ≡ A ∷ [] =
-    branch-between K A c.tries_of-tries.result c.args.from c.width-width.result tries (omega (arith, width, c.requires.inside)) (omega (arith, width)) c.in_default.ensures ∙ ap (branch K A) width ∙ branch_end K A a in
-    subst (Fills c.args.sheet.now c.args.page.now c.add.new.self) (sym alone) c.in_ok-add.ensures
+    let tries = subst (λ (J : Context). AreTries J A c.tries_of-attributes.result) c.rows-rows.ensures c.tries_of-attributes.ensures.tries
+    in
+    let alone : branch K A c.args.node.now.from ≡ A ∷ [] =
+    branch-between K A c.tries_of-attributes.result c.args.node.now.from c.width-width.result tries
+    (omega (arith, width, c.requires.inside)) (omega (arith, width)) c.in_default.ensures ∙ ap (branch K A) width ∙ branch_end K A a in
+    subst (Fills K c.args.page.now c.add.new.self) (sym alone) c.in_ok-add.ensures
 
 pub returns : goal.returns
 returns g c =
-    let K : Context = c.args.sheet.now.context in
-    let A : Set = c.args.a.now in
+    let K : Context = c.args.crosses.now in
+    let A : Set = c.args.node.now.intent.now in
     let a : IsIntent K A = record { wide = c.requires.wide; closed = c.requires.closed } in
     let width : c.width-width.result ≡ K.width = c.width-width.ensures.width ∙ ap (λ (J : Context). J.width) c.rows-rows.ensures in
-    let tries = subst (λ (J : Context). AreTries J A c.tries_of-tries.result) c.rows-rows.ensures c.tries_of-tries.ensures.tries in
+    let tries = subst (λ (J : Context). AreTries J A c.tries_of-attributes.result) c.rows-rows.ensures c.tries_of-attributes.ensures.tries
+    in
     let last = c.in-Some.ensures in
     let alone : branch K A (c.in-Some.last + 1) ≡ A ∷ [] =
-    branch-between K A c.tries_of-tries.result (c.in-Some.last + 1) c.width-width.result tries (omega (arith, last.1)) (omega (arith, width)) last.2 ∙ ap (branch K A) width ∙ branch_end K A a in
-    let noted : c.extend_from_slice.new.self.items ≡ c.args.seen.now = c.in_ok-extend_from_slice.ensures.items ∙ ap (λ (xs : List ℕ). xs ++ c.args.seen.now) c.taken-above.ensures in (
+    branch-between K A c.tries_of-attributes.result (c.in-Some.last + 1) c.width-width.result tries (omega (arith, last.1))
+    (omega (arith, width)) last.2 ∙ ap (branch K A) width ∙ branch_end K A a in (
       record {
-        wide = c.requires.wide;
-        closed = c.requires.closed;
-        places = rw c.replace.ensures.value c.requires.places;
-        few = rw c.replace.ensures.value c.requires.few;
-        seen = subst (AreSeen K A) (sym noted) c.requires.seen;
-        noted = seen_none K A c.taken.result.noted.items c.taken.ensures;
-        tried = c.tries_of-tries.ensures.wide ∙ ap (λ (J : Context). J.width) c.rows-rows.ensures;
+        wide = c.tries_of-attributes.ensures.wide ∙ ap (λ (J : Context). J.width) c.rows-rows.ensures;
         tries = tries;
-        order = omega (arith, last.0);
         inside = omega (arith, last.1, width);
       },
-      refl,
-      refl,
-      subst (Fills c.args.sheet.now c.args.page.now c.add.new.self) (sym alone) c.in_ok-add.ensures,
+      omega (arith, last.0),
+      subst (Fills K c.args.page.now c.add.new.self) (sym alone) c.in_ok-add.ensures,
     )

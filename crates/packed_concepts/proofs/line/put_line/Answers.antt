@@ -15,11 +15,11 @@ put_extent-extent-requires g c = record {
     c.put_bytes-number.ensures.ends,
     c.put_bytes-opened.ensures.ends,
     c.put_intent-intent.ensures.ends,
-    c.put_bytes-parted.ensures.ends,
+    c.put_bytes-between.ensures.ends,
     c.put_bytes-number.ensures.room,
     c.put_bytes-opened.ensures.room,
     c.put_intent-intent.ensures.room,
-    c.put_bytes-parted.ensures.room,
+    c.put_bytes-between.ensures.room,
   );
 }
 
@@ -29,10 +29,11 @@ returns g c =
     let old : Text = take c.args.start c.args.text.now in
     let number : take c.put_bytes-opened.result c.put_bytes-opened.new.text ≡ (old ++ c.args.digits.now) ++ codes " {" =
     c.put_bytes-opened.ensures.text ∙ ap (λ (z : Text). z ++ codes " {") c.put_bytes-number.ensures.text in
-    let intent : take c.put_bytes-parted.result c.put_bytes-parted.new.text ≡ (((old ++ c.args.digits.now) ++ codes " {") ++ comma_list (names_of t.attributes c.args.a.now)) ++ codes "} | {" =
-    c.put_bytes-parted.ensures.text ∙ ap (λ (z : Text). z ++ codes "} | {") (c.put_intent-intent.ensures.text ∙ ap (λ (z : Text). z ++ comma_list (names_of t.attributes c.args.a.now)) number) in
+    let intent : take c.put_bytes-between.result c.put_bytes-between.new.text ≡ (((old ++ c.args.digits.now) ++ codes " {") ++ comma_list (names_of t.attributes c.args.a.now)) ++ codes "} | {" =
+    c.put_bytes-between.ensures.text ∙ ap (λ (z : Text). z ++ codes "} | {") (c.put_intent-intent.ensures.text ∙ ap (λ (z : Text). z ++ comma_list (names_of t.attributes c.args.a.now)) number) in
     record {
-      text = c.put_bytes.ensures.text ∙ ap (λ (z : Text). z ++ codes "}\n") (c.put_extent-extent.ensures.text ∙ ap (λ (z : Text). z ++ comma_list (names_at t.objects c.args.places.now)) intent)
+      text = c.put_bytes.ensures.text ∙ ap (λ (z : Text). z ++ codes "}\n")
+          (c.put_extent-extent.ensures.text ∙ ap (λ (z : Text). z ++ comma_list (names_at t.objects c.args.places.now)) intent)
           ∙ line-parts t old c.args.digits.now c.args.a.now c.args.places.now;
       ends = omega (
         arith,
@@ -40,15 +41,16 @@ returns g c =
         c.put_bytes-number.ensures.ends,
         c.put_bytes-opened.ensures.ends,
         c.put_intent-intent.ensures.ends,
-        c.put_bytes-parted.ensures.ends,
+        c.put_bytes-between.ensures.ends,
         c.put_extent-extent.ensures.ends,
         c.put_bytes.ensures.ends,
         c.put_bytes-number.ensures.room,
         c.put_bytes-opened.ensures.room,
         c.put_intent-intent.ensures.room,
-        c.put_bytes-parted.ensures.room,
+        c.put_bytes-between.ensures.room,
         c.put_extent-extent.ensures.room,
         c.put_bytes.ensures.room,
       );
-      room = c.put_bytes.ensures.room ∙ c.put_extent-extent.ensures.room ∙ c.put_bytes-parted.ensures.room ∙ c.put_intent-intent.ensures.room ∙ c.put_bytes-opened.ensures.room ∙ c.put_bytes-number.ensures.room;
+      room = c.put_bytes.ensures.room ∙ c.put_extent-extent.ensures.room ∙ c.put_bytes-between.ensures.room
+          ∙ c.put_intent-intent.ensures.room ∙ c.put_bytes-opened.ensures.room ∙ c.put_bytes-number.ensures.room;
     }

@@ -15,6 +15,9 @@ loop-place-preserved c =
       begins = omega (arith, c.put-end.ensures.begins, c.loop-place.invariant.begins);
       ends = omega (arith, c.put-end.ensures.ends, c.loop-place.invariant.ends);
       room = c.put-end.ensures.room ∙ c.loop-place.invariant.room;
-      written = places_more c.args.pieces.now c.args.places.now c.loop-place.place-index piece (take c.loop-place.end c.loop-place.text) (take c.put-end.result c.put-end.new.text) _
-          c.loop-place-test.true (c.requires.inside c.loop-place.place-index 0 c.loop-place-test.true) (get_or_default c.args.pieces.now p [] piece (c.requires.inside c.loop-place.place-index 0 c.loop-place-test.true)) c.put-end.ensures.text c.loop-place.invariant.written;
+      written = places_more c.args.pieces.now c.args.places.now c.loop-place.place-index piece (take c.loop-place.end c.loop-place.text)
+          (take c.put-end.result c.put-end.new.text) _
+          c.loop-place-test.true (c.requires.inside c.loop-place.place-index 0 c.loop-place-test.true)
+          (get_or_default c.args.pieces.now p [] piece (c.requires.inside c.loop-place.place-index 0 c.loop-place-test.true))
+          c.put-end.ensures.text c.loop-place.invariant.written;
     }

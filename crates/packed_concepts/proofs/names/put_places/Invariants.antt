@@ -9,5 +9,6 @@ invariant-loop-place l = record {
   begins : l.fn.start ≤ l.end;
   ends : l.end ≤ l.fn.start + 257 * l.place-index;
   room : length l.text ≡ length l.fn.text;
-  written : take l.end l.text ++ concat (names_at l.pieces (drop l.place-index l.places)) ≡ take l.fn.start l.fn.text ++ concat (names_at l.pieces l.places);
+  written : take l.end l.text ++ concat (names_at l.pieces (drop l.place-index l.places)) ≡ take l.fn.start l.fn.text ++ concat
+      (names_at l.pieces l.places);
 }

@@ -8,5 +8,6 @@ returns-clause-rest c =
     let len = length c.args.bytes.now in
     let mid = length-take (c.args.start + len - c.args.start) (drop c.args.start c.args.text.now) in
     let rest = length-drop c.args.start c.args.text.now in
-    drop-put_mid c.args.start (c.args.start + len - c.args.start) c.args.text.now c.copy_from_slice.new.self (c.args.start + len) (omega arith) (omega (arith, c.requires))
+    drop-put_mid c.args.start (c.args.start + len - c.args.start) c.args.text.now c.copy_from_slice.new.self (c.args.start + len)
+    (omega arith) (omega (arith, c.requires))
     (omega (arith, c.copy_from_slice.ensures.len, mid, rest, c.requires))

@@ -15,5 +15,6 @@ invariant-loop-one g l = record {
   few : l.next + length (drop l.one-index l.packed) < 2 ^ 64;
   passing : IsPassing (g.K.Sink.held l.fn.out) (g.K.Sink.held l.out) (g.K.Sink.faults l.fn.out) (g.K.Sink.faults l.out)
       (g.K.Sink.beside l.fn.out) (g.K.Sink.beside l.out) (g.K.Sink.asked_beside l.fn.out) (g.K.Sink.asked_beside l.out)
-      (take l.fn.end l.fn.buffer) (take l.waits l.buffer) (lines_from l.names l.fn.place l.page) (lines_from l.names l.next (unpacked (drop l.one-index l.packed) l.rest));
+      (take l.fn.end l.fn.buffer) (take l.waits l.buffer) (lines_from l.names l.fn.place l.page)
+      (lines_from l.names l.next (unpacked (drop l.one-index l.packed) l.rest));
 }

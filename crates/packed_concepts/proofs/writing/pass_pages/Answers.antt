@@ -22,12 +22,16 @@ pass_page-requires g c =
     let i = c.loop-page.page-index in
     let page : List (Set × List ℕ) = c.page-item.result in
     let next = next_page c.args.pages.now i page c.loop-page-test.true c.page-item.is in
-    let count : length (flat_map (λ x. x) (drop i c.args.pages.now)) ≡ length page + length (flat_map (λ x. x) (drop (i + 1) c.args.pages.now)) = ap length next ∙ length-append page (flat_map (λ x. x) (drop (i + 1) c.args.pages.now)) in (
+    let count : length (flat_map (λ x. x) (drop i c.args.pages.now)) ≡ length page + length
+    (flat_map (λ x. x) (drop (i + 1) c.args.pages.now)) = ap length next
+    ∙ length-append page (flat_map (λ x. x) (drop (i + 1) c.args.pages.now)) in (
       omega (arith, c.len-count.ensures.words),
       (
         of_page (All (IsNamed c.args.names.now)) c.args.pages.now i page c.loop-page-test.true c.page-item.is c.requires.named,
         (
-          subst (λ n. All (Holds n) page) (sym c.loop-page.invariant.room) (of_page (All (Holds (length c.args.buffer.now))) c.args.pages.now i page c.loop-page-test.true c.page-item.is c.requires.holds),
+          subst (λ n. All (Holds n) page) (sym c.loop-page.invariant.room)
+              (of_page (All (Holds (length c.args.buffer.now))) c.args.pages.now i page c.loop-page-test.true c.page-item.is
+              c.requires.holds),
           (c.loop-page.invariant.end, omega (arith, count, c.loop-page.invariant.few)),
         ),
       ),
@@ -42,7 +46,8 @@ returns-in_err-waits-clause-failed g c =
     let later : List (Set × List ℕ) = flat_map (λ x. x) (drop (i + 1) c.args.pages.now) in
     let next = next_page c.args.pages.now i page c.loop-page-test.true c.page-item.is in
     let p = err_from_is_err_and c.from_residual.result c.from_residual.ensures.1 in
-    rw (p.1, p.2) (IsPassing-fault _ (take c.loop-page.waits c.loop-page.buffer) _ (lines_from t n page) _ (lines_from t (n + length page) later) _
+    rw (p.1, p.2) (IsPassing-fault _ (take c.loop-page.waits c.loop-page.buffer) _ (lines_from t n page) _
+    (lines_from t (n + length page) later) _
     (ap (lines_from t n) next ∙ lines_from-append t n page later) c.loop-page.invariant.passing c.in_err-waits.ensures.failed)
 
 pub loop-page-preserved : goal.loop-page-preserved
@@ -53,12 +58,14 @@ loop-page-preserved g c =
     let n = c.loop-page.next in
     let later : List (Set × List ℕ) = flat_map (λ x. x) (drop (i + 1) c.args.pages.now) in
     let next = next_page c.args.pages.now i page c.loop-page-test.true c.page-item.is in
-    let count : length (flat_map (λ x. x) (drop i c.args.pages.now)) ≡ length page + length later = ap length next ∙ length-append page later in
+    let count : length (flat_map (λ x. x) (drop i c.args.pages.now)) ≡ length page + length later = ap length next
+    ∙ length-append page later in
     let more : n + length page ≡ n + c.len-count.result = ap (λ k. n + k) (sym c.len-count.ensures.count) in
     record {
       end = c.in_ok-waits.ensures.end;
       room = c.in_ok-waits.ensures.room ∙ c.loop-page.invariant.room;
       few = omega (arith, count, c.len-count.ensures.count, c.loop-page.invariant.few);
-      passing = IsPassing-more _ _ _ _ (lines_from t n page) _ _ (ap (lines_from t n) next ∙ lines_from-append t n page later ∙ ap (λ k. lines_from t n page ++ lines_from t k later) more)
+      passing = IsPassing-more _ _ _ _ (lines_from t n page) _ _
+          (ap (lines_from t n) next ∙ lines_from-append t n page later ∙ ap (λ k. lines_from t n page ++ lines_from t k later) more)
           c.loop-page.invariant.passing c.in_ok-waits.ensures.passed;
     }

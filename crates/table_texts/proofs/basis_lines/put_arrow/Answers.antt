@@ -9,7 +9,8 @@ use Rattle.table_texts.proofs.basis_lines.put_arrow.Goals as goal
 
 pub put_attributes-conclusion-requires : goal.put_attributes-conclusion-requires
 put_attributes-conclusion-requires g c =
-    let wide : length c.minus-gained.result ≡ length c.args.member.now.conclusion = ap length c.minus-gained.ensures ∙ length-minus c.args.member.now.conclusion c.args.member.now.premise in (
+    let wide : length c.minus-gained.result ≡ length c.args.member.now.conclusion = ap length c.minus-gained.ensures
+    ∙ length-minus c.args.member.now.conclusion c.args.member.now.premise in (
       omega arith,
       (
         c.requires.names,
@@ -22,11 +23,11 @@ put_attributes-conclusion-requires g c =
             c.put_bytes-number.ensures.ends,
             c.put_bytes-opened.ensures.ends,
             c.put_attributes-premise.ensures.ends,
-            c.put_bytes-parted.ensures.ends,
+            c.put_bytes-between.ensures.ends,
             c.put_bytes-number.ensures.room,
             c.put_bytes-opened.ensures.room,
             c.put_attributes-premise.ensures.room,
-            c.put_bytes-parted.ensures.room,
+            c.put_bytes-between.ensures.room,
           ),
         ),
       ),
@@ -34,7 +35,8 @@ put_attributes-conclusion-requires g c =
 
 pub put_bytes-requires : goal.put_bytes-requires
 put_bytes-requires g c =
-    let wide : length c.minus-gained.result ≡ length c.args.member.now.conclusion = ap length c.minus-gained.ensures ∙ length-minus c.args.member.now.conclusion c.args.member.now.premise in
+    let wide : length c.minus-gained.result ≡ length c.args.member.now.conclusion = ap length c.minus-gained.ensures
+    ∙ length-minus c.args.member.now.conclusion c.args.member.now.premise in
     omega (
       arith,
       wide,
@@ -42,12 +44,12 @@ put_bytes-requires g c =
       c.put_bytes-number.ensures.ends,
       c.put_bytes-opened.ensures.ends,
       c.put_attributes-premise.ensures.ends,
-      c.put_bytes-parted.ensures.ends,
+      c.put_bytes-between.ensures.ends,
       c.put_attributes-conclusion.ensures.ends,
       c.put_bytes-number.ensures.room,
       c.put_bytes-opened.ensures.room,
       c.put_attributes-premise.ensures.room,
-      c.put_bytes-parted.ensures.room,
+      c.put_bytes-between.ensures.room,
       c.put_attributes-conclusion.ensures.room,
     )
 
@@ -57,13 +59,15 @@ returns g c =
     let old : Text = take c.args.start c.args.text.now in
     let P : Set = c.args.member.now.premise in
     let G : Set = c.minus-gained.result in
-    let wide : length G ≡ length c.args.member.now.conclusion = ap length c.minus-gained.ensures ∙ length-minus c.args.member.now.conclusion P in
+    let wide : length G ≡ length c.args.member.now.conclusion = ap length c.minus-gained.ensures
+    ∙ length-minus c.args.member.now.conclusion P in
     let number : take c.put_bytes-opened.result c.put_bytes-opened.new.text ≡ (old ++ c.args.digits.now) ++ codes " {" =
     c.put_bytes-opened.ensures.text ∙ ap (λ (z : Text). z ++ codes " {") c.put_bytes-number.ensures.text in
-    let premise : take c.put_bytes-parted.result c.put_bytes-parted.new.text ≡ (((old ++ c.args.digits.now) ++ codes " {") ++ comma_list (names_of names P)) ++ codes "} -> {" =
-    c.put_bytes-parted.ensures.text ∙ ap (λ (z : Text). z ++ codes "} -> {") (c.put_attributes-premise.ensures.text ∙ ap (λ (z : Text). z ++ comma_list (names_of names P)) number) in
+    let premise : take c.put_bytes-between.result c.put_bytes-between.new.text ≡ (((old ++ c.args.digits.now) ++ codes " {") ++ comma_list (names_of names P)) ++ codes "} -> {" =
+    c.put_bytes-between.ensures.text ∙ ap (λ (z : Text). z ++ codes "} -> {") (c.put_attributes-premise.ensures.text ∙ ap (λ (z : Text). z ++ comma_list (names_of names P)) number) in
     record {
-      text = c.put_bytes.ensures.text ∙ ap (λ (z : Text). z ++ codes "}\n") (c.put_attributes-conclusion.ensures.text ∙ ap (λ (z : Text). z ++ comma_list (names_of names G)) premise)
+      text = c.put_bytes.ensures.text ∙ ap (λ (z : Text). z ++ codes "}\n")
+          (c.put_attributes-conclusion.ensures.text ∙ ap (λ (z : Text). z ++ comma_list (names_of names G)) premise)
           ∙ arrow-parts names old c.args.digits.now c.args.member.now G c.minus-gained.ensures;
       ends = omega (
         arith,
@@ -72,15 +76,16 @@ returns g c =
         c.put_bytes-number.ensures.ends,
         c.put_bytes-opened.ensures.ends,
         c.put_attributes-premise.ensures.ends,
-        c.put_bytes-parted.ensures.ends,
+        c.put_bytes-between.ensures.ends,
         c.put_attributes-conclusion.ensures.ends,
         c.put_bytes.ensures.ends,
         c.put_bytes-number.ensures.room,
         c.put_bytes-opened.ensures.room,
         c.put_attributes-premise.ensures.room,
-        c.put_bytes-parted.ensures.room,
+        c.put_bytes-between.ensures.room,
         c.put_attributes-conclusion.ensures.room,
         c.put_bytes.ensures.room,
       );
-      room = c.put_bytes.ensures.room ∙ c.put_attributes-conclusion.ensures.room ∙ c.put_bytes-parted.ensures.room ∙ c.put_attributes-premise.ensures.room ∙ c.put_bytes-opened.ensures.room ∙ c.put_bytes-number.ensures.room;
+      room = c.put_bytes.ensures.room ∙ c.put_attributes-conclusion.ensures.room ∙ c.put_bytes-between.ensures.room
+          ∙ c.put_attributes-premise.ensures.room ∙ c.put_bytes-opened.ensures.room ∙ c.put_bytes-number.ensures.room;
     }

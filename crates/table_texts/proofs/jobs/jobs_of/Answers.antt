@@ -6,10 +6,10 @@ use Rattle.table_texts.proofs.jobs.jobs_of.Goals as goal
 
 pub returns-clause-tops : goal.returns-clause-tops
 returns-clause-tops g c =
-    let K : Context = c.args.sheet.now.context in
+    let K : Context = c.args.crosses.now in
     All-jobs (IsTop K) c.in_ok-jobs.jobs.items (subst (All (IsTop K)) (sym c.in_ok-jobs.ensures) c.requires)
 
 pub returns-clause-branches : goal.returns-clause-branches
 returns-clause-branches g c =
-    let K : Context = c.args.sheet.now.context in
+    let K : Context = c.args.crosses.now in
     branches-jobs K c.in_ok-jobs.jobs.items ∙ ap (branches K) c.in_ok-jobs.ensures

@@ -1,7 +1,6 @@
 use Rattle.std.proofs.Common.{◌≡◌, ◌∙◌, List, ℕ, map, ap}
 use Rattle.std.specs.List.{flat_map}
 use Rattle.fca_model.specs.Sets.{Set}
-use Rattle.fca_model.specs.Tables.{NamedContext}
 use Rattle.fca_model.specs.Context.{Context}
 use Rattle.fca_model.specs.Pseudo.{intents}
 use Rattle.concept_walk.specs.Pages.{concept_at}
@@ -11,9 +10,10 @@ use Rattle.table_texts.proofs.packed.many_pages.Goals as goal
 
 pub returns : goal.returns
 returns g c =
-    let t : NamedContext = c.args.sheet.now in
-    let K : Context = t.context in
+    let K : Context = c.args.crosses.now in
     let whole : all_branches K c.deref-4.result.now ≡ intents K =
-    ap (all_branches K) c.deref-4.ensures.value ∙ c.in_ok-jobs.ensures.branches ∙ ap (branches K) c.deref-3.ensures.value ∙ c.in_ok-finer.ensures.branches ∙ ap (branches K) c.deref.ensures.value ∙ c.in_ok-more.ensures.branches ∙ c.requires.whole in
+    ap (all_branches K) c.deref-4.ensures.value ∙ c.in_ok-jobs.ensures.branches ∙ ap (branches K) c.deref-3.ensures.value
+    ∙ c.in_ok-finer.ensures.branches ∙ ap (branches K) c.deref.ensures.value ∙ c.in_ok-more.ensures.branches ∙ c.requires.whole in
     ap (flat_map (λ (x : List (Set × List ℕ)). x)) c.in_ok-pages-2.ensures.concepts
-    ∙ concepts-jobs t c.in_ok-pages.pages.items c.deref-4.result.now c.in_ok-pages.ensures.even c.in_ok-pages.ensures.pages c.in_ok-pages-2.ensures.whole ∙ ap (map (concept_at K)) whole
+    ∙ concepts-jobs K c.in_ok-pages.pages.items c.deref-4.result.now c.in_ok-pages.ensures.even c.in_ok-pages.ensures.pages
+    c.in_ok-pages-2.ensures.whole ∙ ap (map (concept_at K)) whole

@@ -16,7 +16,9 @@ loop-page-preserved g c =
     let next : into_iter_items c.loop-page.page-iterator ≡ page ∷ rest = c.in-Some.ensures.steps.0 in
     let given : Page g.row.W → List (Set × List ℕ) = λ p. p.concepts in
     record {
-      whole = λ w. c.loop-page.invariant.whole (subst (All (λ (p : Page g.row.W). p.whole ≡ true)) (sym next) (All-cons (λ (p : Page g.row.W). p.whole ≡ true) page rest (holds page.whole c.if-not-page.false) w));
-      concepts = ap (λ (xs : List (List (Set × List ℕ))). xs ++ map given rest) c.in_ok-push.ensures.items ∙ append_assoc c.loop-page.made.items (page.concepts ∷ []) (map given rest)
+      whole = λ w. c.loop-page.invariant.whole (subst (All (λ (p : Page g.row.W). p.whole ≡ true)) (sym next)
+          (All-cons (λ (p : Page g.row.W). p.whole ≡ true) page rest (holds page.whole c.if-not-page.false) w));
+      concepts = ap (λ (xs : List (List (Set × List ℕ))). xs ++ map given rest) c.in_ok-push.ensures.items
+          ∙ append_assoc c.loop-page.made.items (page.concepts ∷ []) (map given rest)
           ∙ ap (λ (ps : List (Page g.row.W)). c.loop-page.made.items ++ map given ps) (sym next) ∙ c.loop-page.invariant.concepts;
     }

@@ -7,7 +7,7 @@ use Rattle.table_texts.proofs.teams.put_all.Given as goal
 
 abbrev pub invariant-loop-filled : goal.invariant-loop-filled
 invariant-loop-filled g l = record {
-  to_come : All (λ filled. All (IsFilled l.sheet l.jobs) filled.items) (into_iter_items l.filled-iterator);
+  to_come : All (λ filled. All (IsFilled l.crosses l.jobs) filled.items) (into_iter_items l.filled-iterator);
   even : length l.pages ≡ length l.jobs;
-  pages : EachWrote l.sheet l.pages l.jobs;
+  pages : EachWrote l.crosses l.pages l.jobs;
 }

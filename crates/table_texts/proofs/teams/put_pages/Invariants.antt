@@ -7,7 +7,7 @@ use Rattle.table_texts.proofs.teams.put_pages.Given as goal
 
 abbrev pub invariant-loop-one : goal.invariant-loop-one
 invariant-loop-one g l = record {
-  to_come : All (IsFilled l.sheet l.jobs) (into_iter_items l.one-iterator);
+  to_come : All (IsFilled l.crosses l.jobs) (into_iter_items l.one-iterator);
   even : length l.pages ≡ length l.jobs;
-  pages : EachWrote l.sheet l.pages l.jobs;
+  pages : EachWrote l.crosses l.pages l.jobs;
 }

@@ -3,4 +3,4 @@ use Rattle.table_texts.specs.Teams.{IsFilled}
 use Rattle.table_texts.proofs.teams.take_jobs.Given as goal
 
 abbrev pub invariant-loop : goal.invariant-loop
-invariant-loop g l = All (IsFilled l.sheet l.jobs) l.filled.items
+invariant-loop g l = All (IsFilled l.crosses l.jobs) l.filled.items

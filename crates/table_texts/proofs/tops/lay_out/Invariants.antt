@@ -1,17 +1,17 @@
 use Rattle.std.proofs.Common.{◌≡◌, ◌≤◌, ◌++◌, All}
 use Rattle.lectic_concepts.specs.Branches.{branch, AreSeen}
+use Rattle.concept_walk.specs.Nodes.{AreCandidates}
 use Rattle.table_texts.specs.Tops.{IsTop, branches}
 use Rattle.table_texts.proofs.tops.lay_out.Given as goal
 
-abbrev pub invariant-loop-end : goal.invariant-loop-end
-invariant-loop-end g l = record {
-  from_on : l.top.from ≤ l.end;
-  inside : l.end ≤ l.sheet.context.width;
-  noted : AreSeen l.sheet.context l.a l.desk.noted.items;
-  tops : All (IsTop l.sheet.context) l.more.items;
-  laid : branches l.sheet.context l.more.items ≡ branches l.sheet.context l.fn.more.items ++ branch l.sheet.context l.a l.end;
-  same : l.a ≡ l.top.intent;
+abbrev pub invariant-loop-candidates : goal.invariant-loop-candidates
+invariant-loop-candidates g l = record {
+  from_on : l.node.from ≤ l.candidates.end;
+  candidates : AreCandidates l.crosses l.node.intent.now l.candidates;
+  noted : AreSeen l.crosses l.node.intent.now l.scratch.noted.items;
+  tops : All (IsTop l.crosses) l.more.items;
+  laid : branches l.crosses l.more.items ≡ branches l.crosses l.fn.more.items ++ branch l.crosses l.node.intent.now l.candidates.end;
 }
 
-abbrev pub decreases-loop-end : goal.decreases-loop-end
-decreases-loop-end g l = l.end
+abbrev pub decreases-loop-candidates : goal.decreases-loop-candidates
+decreases-loop-candidates g l = l.candidates.end

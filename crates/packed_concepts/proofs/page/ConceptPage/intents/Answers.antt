@@ -7,4 +7,5 @@ use Rattle.packed_concepts.proofs.page.ConceptPage.intents.Goals as goal
 pub returns : goal.returns
 returns g c =
     c.in_ok-intents.ensures ∙ ap (λ (ps : List (Packed g.row.W)). map (λ p. p.intent) ps) c.deref.ensures.value
-    ∙ sym (intents-unpacked c.self.inside.packed.items (take c.self.inside.end c.self.inside.places.items)) ∙ ap (λ (cs : List (Set × List ℕ)). map (λ x. x.0) cs) c.self.view_is
+    ∙ sym (intents-unpacked c.self.inside.packed.items (take c.self.inside.end c.self.inside.places.items))
+    ∙ ap (λ (cs : List (Set × List ℕ)). map (λ x. x.0) cs) c.self.view_is

@@ -1,0 +1,61 @@
+//! What the steps of a walk write on.
+
+ghost use Rattle.std.specs.Prelude.{◌≡◌, [], IfOk};
+ghost use Rattle.extent_places.specs.Few.{HasNoObject};
+
+use derivation::RowsOf;
+use extent_places::FewObjects;
+use fca_model::Memory;
+use std::alloc::Global;
+
+/// Two lists that a step of the walk writes on. Later steps use them again.
+#[derive(Drop)]
+pub struct Scratch {
+    /// Places, of which the front was found last.
+    pub found: Vec<u16>,
+    /// For each attribute a member of the closure with it, or nothing.
+    pub noted: Vec<u32>,
+}
+
+/// The lists that no step writes on at present, and the few objects that were set apart last.
+#[derive(Drop)]
+pub struct ScratchPool<const W: usize> {
+    pub(crate) free: Vec<Scratch>,
+    pub(crate) few: FewObjects<W>,
+}
+
+impl Scratch {
+    /// Nothing found and nothing noted.
+    pub fn new(alloc: Global) -> Scratch
+        ensures { result.noted.items ≡ [] }
+    {
+        Scratch {
+            found: Vec::new(alloc),
+            noted: Vec::new(alloc),
+        }
+    }
+}
+
+impl<const W: usize> ScratchPool<W> {
+    /// An empty pool, for walks over these rows.
+    pub fn new(alloc: Global, rows: &RowsOf<W>) -> Result<ScratchPool<W>, Memory>
+        ensures free { IfOk result (λ pool. pool.free.items ≡ []) }
+        ensures few { IfOk result (λ pool. HasNoObject pool.few) }
+    {
+        Ok(ScratchPool {
+            free: Vec::new(alloc),
+            few: FewObjects::new(alloc, rows.width())?,
+        })
+    }
+}
+
+/// Takes free lists, or makes them. Nothing is noted there.
+pub(crate) fn take_scratch(alloc: Global, free: &mut Vec<Scratch>) -> Scratch
+    ensures { result.noted.items ≡ [] }
+{
+    if let Some(mut scratch) = free.pop() {
+        scratch.noted.clear();
+        return scratch;
+    }
+    Scratch::new(alloc)
+}
