@@ -1,10 +1,12 @@
 -- What is promised of an exploration follows from the laws of its steps: each front of a legal history is one too, and so each
 -- reply is the one at its moment.
-use Rattle.std.proofs.Common.{◌≡◌, ◌↔◌, ◌++◌, ◌∷◌, [], ℕ, Bool, List, Option, Some, None, cond, length, eqb, nat_le, true, false, refl, sym, ap, ◌∙◌, subst, append_assoc}
+use Rattle.std.proofs.Common.{◌≡◌, ◌↔◌, ◌++◌, ◌∷◌, [], ℕ, Bool, List, Option, Some, None, cond, length, eqb, nat_le, true, false, refl, sym}
+use Rattle.std.proofs.Common.{ap, ◌∙◌, subst, append_assoc}
 use Rattle.std.proofs.lemmas.Bool.{and_parts}
 use Rattle.std.specs.List.{list_all}
 use Rattle.fca_model.specs.Tables.{NamedContext}
-use Rattle.fca_model.specs.Exploration.{State, SetReply, SetEntry, SetHold, Settings, is_expert, open_in, given_back, holders_of, all_held, least_held, asked, draw_reply, reply_to, state_after, events_of, IsLegal}
+use Rattle.fca_model.specs.Exploration.{State, SetReply, SetEntry, SetHold, Settings, is_expert, open_in, given_back, holders_of, all_held}
+use Rattle.fca_model.specs.Exploration.{least_held, asked, draw_reply, reply_to, state_after, events_of, IsLegal}
 use Rattle.fca_model.specs.declared.Event.TheVariants.{Draw}
 use Rattle.fca_model.specs.declared.Reply.TheVariants.{Ask, AllHeld, Done}
 use Rattle.fca_model.specs.Context.{Context}
@@ -26,7 +28,8 @@ use Rattle.command_io.specs.Explorations.{opening_of, IsOnCourse, IsAsked, IsExp
 
 -- ---- moments
 
-moment-then : (s : State) (H before after : List SetEntry) → IsValid s → IsLegal s H → H ≡ before ++ after → IsOnCourse (state_after s (events_of before))
+moment-then : (s : State) (H before after : List SetEntry) → IsValid s → IsLegal s H → H ≡ before ++ after
+    → IsOnCourse (state_after s (events_of before))
 moment-then s H before after valid legal split =
     let now : State = state_after s (events_of before) in
     let there : IsValid now = legal_valid s before valid (legal_front s before after (subst (IsLegal s) split legal)) in
@@ -50,7 +53,8 @@ draw-asked s e q h =
     let hs = given_back e s.holds in
     let chosen = asks-chosen s.settings.holders hs (open_in s) q h in record {
       among = draw_asks s.settings.holders hs (open_in s) q h;
-      fewest = find_passes (λ i. list_all (λ j. nat_le (holders_of i.premise hs) (holders_of j.premise hs)) (open_in s)) (open_in s) q chosen;
+      fewest = find_passes (λ i. list_all (λ j. nat_le (holders_of i.premise hs) (holders_of j.premise hs)) (open_in s))
+          (open_in s) q chosen;
       first = chosen;
     }
 
@@ -61,30 +65,34 @@ replied s H before after entry legal split =
     let joined = split ∙ sym (append_assoc before (entry ∷ []) after) in
     legal_reply s before entry (legal_front s (before ++ entry ∷ []) after (subst (IsLegal s) joined legal))
 
-asked-then : (s : State) (H before after : List SetEntry) (e : ℕ) (q : Rule) → IsLegal s H → H ≡ before ++ record { event = Draw e; reply = Ask q } ∷ after
+asked-then : (s : State) (H before after : List SetEntry) (e : ℕ) (q : Rule) → IsLegal s H
+    → H ≡ before ++ record { event = Draw e; reply = Ask q } ∷ after
     → IsAsked (state_after s (events_of before)) e q
 asked-then s H before after e q legal split =
     let entry : SetEntry = record { event = Draw e; reply = Ask q } in
     draw-asked (state_after s (events_of before)) e q (sym (replied s H before after entry legal split))
 
-done-then : (s : State) (H before after : List SetEntry) (e : ℕ) (reply : SetReply) → IsLegal s H → H ≡ before ++ record { event = Draw e; reply = reply } ∷ after
+done-then : (s : State) (H before after : List SetEntry) (e : ℕ) (reply : SetReply) → IsLegal s H
+    → H ≡ before ++ record { event = Draw e; reply = reply } ∷ after
     → (reply ≡ Done) ↔ (open_in (state_after s (events_of before)) ≡ [])
 done-then s H before after e reply legal split =
     let entry : SetEntry = record { event = Draw e; reply = reply } in
-    let answer = replied s H before after entry legal split in
+    let output = replied s H before after entry legal split in
     let law = draw_done (state_after s (events_of before)) e in
-    (λ done. law.0 (sym answer ∙ done), λ none. answer ∙ law.1 none)
+    (λ done. law.0 (sym output ∙ done), λ none. output ∙ law.1 none)
 
 -- ---- all that is promised
 
 -- what every row respects, of sets as wide as the rows, holds
 known_holds : (S : List Rule) (K : Context) → HaveWidth K.width S → rows_respect S K ≡ true → list_all (holds K) S ≡ true
 known_holds S K wide respecting =
-    known_hold S K (list_all-mono (has_width K.width) (λ i. eqb (length i.conclusion) K.width) (λ i w. (and_parts (eqb (length i.premise) K.width) (eqb (length i.conclusion) K.width) w).1) S wide) respecting
+    known_hold S K (list_all-mono (has_width K.width) (λ i. eqb (length i.conclusion) K.width)
+    (λ i w. (and_parts (eqb (length i.premise) K.width) (eqb (length i.conclusion) K.width) w).1) S wide) respecting
 
 pub legal-course : (table : NamedContext) (experts : ℕ) (settings : Settings) (H : List SetEntry) → is_expert experts ≡ true
     → rows_respect settings.known table.context ≡ true → HaveWidth table.context.width settings.known
-    → IsLegal (opening_state (opening_of table experts settings)) H → IsExplored (record { opening = opening_of table experts settings; journal = H })
+    → IsLegal (opening_state (opening_of table experts settings)) H
+    → IsExplored (record { opening = opening_of table experts settings; journal = H })
 legal-course table experts settings H expert respecting wide legal =
     let o : Opening = opening_of table experts settings in
     let s : State = opening_state o in
@@ -99,10 +107,12 @@ legal-course table experts settings H expert respecting wide legal =
     let Wide : ℕ → Type 0 = λ n. HaveWidth n settings.known in
     let known : list_all (holds now.context) settings.known ≡ true =
     known_holds settings.known now.context (subst Wide (sym (run_width s (events_of H))) wide)
-    (subst Respect (kept_known o H now.context now.accepted now.holds kept) (kept_valid o H now.context now.accepted now.holds kept).known) in
+    (subst Respect (kept_known o H now.context now.accepted now.holds kept) (kept_valid o H now.context now.accepted now.holds kept).known)
+    in
     record {
       legal = legal;
-      moments = λ before after split. moment-then s H before after (opening_valid table.context table.objects settings respecting) legal split;
+      moments = λ before after split. moment-then s H before after
+          (opening_valid table.context table.objects settings respecting) legal split;
       asked = λ before after e q split. asked-then s H before after e q legal split;
       done = λ before after e reply split. done-then s H before after e reply legal split;
       basis = λ none. basis_is o H now.context now.accepted now.holds kept known none;

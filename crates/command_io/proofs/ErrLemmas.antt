@@ -10,7 +10,8 @@ use Rattle.expert_wire.specs.Parts.{Writes}
 use Rattle.command_io.specs.Streams.{Moment, GainsLine}
 
 -- what is left of parts begins with the one at hand
-pub flat_map-drop_or : {X : Type 0} (f : X → Text) (xs : List X) (i : ℕ) (other : X) → i < length xs → flat_map f (drop i xs) ≡ f (get_or xs i other) ++ flat_map f (drop (suc i) xs)
+pub flat_map-drop_or : {X : Type 0} (f : X → Text) (xs : List X) (i : ℕ) (other : X) → i < length xs
+    → flat_map f (drop i xs) ≡ f (get_or xs i other) ++ flat_map f (drop (suc i) xs)
 flat_map-drop_or f xs i other h = ap (flat_map f) (drop-cons xs i other h)
 
 pub writes-gain : {E : Type 0} (old new : Moment E) {o o' : Option Text} {a a' : Asked} {line : Text} (r : Result (Unit {0}) Put)

@@ -1,11 +1,12 @@
--- Lines on err, letter by letter: one for each kind of place, and those of want of memory, of a file of too many objects, and of turns that are spent.
+-- Lines on err, letter by letter: one for each kind of place, and those of want of memory, of a file of too many objects, and of turns that
+-- are spent.
 use Rattle.std.proofs.Common.{◌≡◌, ◌++◌, ℕ, Some, append_assoc, refl}
 use Rattle.std.specs.Prelude.{codes, decimal}
 use Rattle.expert_wire.specs.Texts.{line_end}
 use Rattle.cxt_format.specs.declared.CxtFault.TheVariants as cxt
 use Rattle.csv_context.specs.declared.CsvFault.TheVariants as csv
 use Rattle.command_io.specs.ErrLines.{stop_line, ending_line}
-use Rattle.command_io.specs.declared.answer.Ending.TheVariants.{Spent}
+use Rattle.command_io.specs.declared.output.Ending.TheVariants.{Spent}
 use Rattle.command_io.specs.declared.stop.Origin.TheVariants.{File}
 use Rattle.command_io.specs.declared.stop.Stop.TheVariants.{NoTable, NoCsv, Memory}
 

@@ -2,4 +2,5 @@ pub mod CourseLemmas
 pub mod ErrLemmas
 pub mod ReadingLemmas
 pub mod KnownLemmas
+pub mod QuietLemmas
 mod Examples

@@ -12,13 +12,15 @@ refused_then Missing next may = may
 refused_then Refused next may = tt
 refused_then (Read x) next may = absurd may
 
-pub refused_after : {X Y : Type 0} (r : Reading X) (x : X) (next : X → Reading Y) → MayRead r x → MayRefuse (next x) → MayRefuse (then r next)
+pub refused_after : {X Y : Type 0} (r : Reading X) (x : X) (next : X → Reading Y) → MayRead r x → MayRefuse (next x)
+    → MayRefuse (then r next)
 refused_after Untold x next here may = tt
 refused_after Missing x next here may = here
 refused_after Refused x next here may = tt
 refused_after {X = X} (Read y) x next here may = let P : X → Type 0 = λ z. MayRefuse (next z) in subst P here may
 
-pub read_after : {X Y : Type 0} (r : Reading X) (x : X) (next : X → Reading Y) (y : Y) → MayRead r x → MayRead (next x) y → MayRead (then r next) y
+pub read_after : {X Y : Type 0} (r : Reading X) (x : X) (next : X → Reading Y) (y : Y) → MayRead r x → MayRead (next x) y
+    → MayRead (then r next) y
 read_after Untold x next y here may = tt
 read_after Missing x next y here may = here
 read_after Refused x next y here may = here

@@ -1,6 +1,6 @@
--- Why a table, a table of values, a plan or a script could not be read: which stop it is. A fault comes only where a count of faults rose
--- for this file, or for the input, and a form is refused only of bytes that are not too many.
-use Rattle.std.specs.Prelude.{◌≡◌, ⊤, ℕ, true, false, Option, None, Some, Err, length, ◌<◌, ◌≤◌}
+-- Why a table, a table of values, a plan or a script could not be read, and which stop that is. A fault comes only if the count of faults
+-- of this file, or of the input, rose. A form is refused only if the bytes are no more than a file may have.
+use Rattle.std.specs.Prelude.{◌≡◌, ⊤, ℕ, true, false, Option, None, Some, Result, Err, length, ◌<◌, ◌≤◌}
 use Rattle.fca_model.specs.Tables.{Text}
 use Rattle.fca_model.specs.declared.TheConstants.{FILE_BYTES}
 use Rattle.fca_io.specs.Shelves.{Told, MayExceed}
@@ -16,38 +16,49 @@ use Rattle.command_io.specs.Forms.{is_csv}
 use Rattle.command_io.specs.declared.stop.Origin.{Origin}
 use Rattle.command_io.specs.declared.stop.Origin.TheVariants.{Input}
 use Rattle.command_io.specs.declared.stop.Stop.{Stop}
-use Rattle.command_io.specs.declared.stop.Stop.TheVariants.{TooLong, NoTable, NoCsv, BadValues, BadPlan, NoScript, Fault, Memory}
+use Rattle.command_io.specs.declared.stop.Stop.TheVariants.{TooLong, NoTable, NoCsv, BadValues, BadPlan, NoScript, Fault, Listener, Memory}
 
--- the stop where bytes of this origin were not taken
+-- P holds unless a file or the input could not be read
+abbrev pub UnlessFault : {X : Type 0} → Result X Stop → Type 0 → Type 0
+UnlessFault (Err (Fault origin)) P = ⊤
+UnlessFault _ P = P
+
+-- P holds unless the listener failed
+abbrev pub UnlessListener : {X : Type 0} → Result X Stop → Type 0 → Type 0
+UnlessListener (Err Listener) P = ⊤
+UnlessListener _ P = P
+
+-- the stop for bytes of this origin that could not be read
 abbrev pub taken_stop : Taken → Origin → Stop
 taken_stop taken.Failed origin = Fault origin
 taken_stop taken.Long origin = TooLong origin
 taken_stop taken.Memory origin = Memory
 
--- the stop of bytes under this name, which come from the origin: they are not of the form
+-- the stop for bytes of the file of this name that do not have its form
 abbrev pub IsFormStop : Text → Origin → Text → Stop → Type 0
 IsFormStop name origin bytes (NoTable at fault) = (at ≡ origin) × (is_csv name ≡ false) × (cxt_form bytes ≡ Err fault)
 IsFormStop name origin bytes (NoCsv at fault) = (at ≡ origin) × (is_csv name ≡ true) × (csv_form bytes ≡ Err fault)
 IsFormStop name origin bytes Memory = ⊤
 IsFormStop name origin bytes _ = ⊥
 
--- where it is told what a file holds, that is no longer than a file may be, and P holds of it
+-- if the shelf tells what a file holds: that is no longer than a file may be, and P holds of it
 abbrev pub IfHeld : Told → (Text → Type 0) → Type 0
 IfHeld None P = ⊤
 IfHeld (Some None) P = ⊥
 IfHeld (Some (Some bytes)) P = (length bytes ≤ FILE_BYTES) × P bytes
 
--- The stop of the file of this name, of which this is told and which comes from the origin: it could not be read, and a count of faults
--- rose; it is too long; or it is not, and its bytes are not of the form
+-- The stop for the file of this name: it could not be read, and a count of faults rose; it is too long; or it is not too long, and its
+-- bytes do not have its form
 abbrev pub IsFileStop : Text → Told → Type 0 → Origin → Stop → Type 0
 IsFileStop name told rose origin (Fault at) = (at ≡ origin) × rose
 IsFileStop name told rose origin (TooLong at) = (at ≡ origin) × MayExceed told FILE_BYTES
-IsFileStop name told rose origin (NoTable at fault) = (at ≡ origin) × (is_csv name ≡ false) × IfHeld told (λ bytes. cxt_form bytes ≡ Err fault)
+IsFileStop name told rose origin (NoTable at fault) = (at ≡ origin) × (is_csv name ≡ false)
+    × IfHeld told (λ bytes. cxt_form bytes ≡ Err fault)
 IsFileStop name told rose origin (NoCsv at fault) = (at ≡ origin) × (is_csv name ≡ true) × IfHeld told (λ bytes. csv_form bytes ≡ Err fault)
 IsFileStop name told rose origin Memory = ⊤
 IsFileStop name told rose origin _ = ⊥
 
--- the stop of the file of values of which this is told and which comes from the origin
+-- the stop for a file of values
 abbrev pub IsValuesStop : Told → Type 0 → Origin → Stop → Type 0
 IsValuesStop told rose origin (Fault at) = (at ≡ origin) × rose
 IsValuesStop told rose origin (TooLong at) = (at ≡ origin) × MayExceed told FILE_BYTES
@@ -55,7 +66,7 @@ IsValuesStop told rose origin (BadValues at fault) = (at ≡ origin) × IfHeld t
 IsValuesStop told rose origin Memory = ⊤
 IsValuesStop told rose origin _ = ⊥
 
--- the stop of the file of a plan for the table of values
+-- the stop for a file with a plan for the table of values
 abbrev pub IsPlanStop : ValueTable → Told → Type 0 → Origin → Stop → Type 0
 IsPlanStop t told rose origin (Fault at) = (at ≡ origin) × rose
 IsPlanStop t told rose origin (TooLong at) = (at ≡ origin) × MayExceed told FILE_BYTES
@@ -63,17 +74,17 @@ IsPlanStop t told rose origin (BadPlan at fault) = (at ≡ origin) × IfHeld tol
 IsPlanStop t told rose origin Memory = ⊤
 IsPlanStop t told rose origin _ = ⊥
 
--- there may be more left than the limit
+-- if the input tells what is left, it is more than the limit
 abbrev pub MayBeLonger : Option Text → ℕ → Type 0
 MayBeLonger None limit = ⊤
 MayBeLonger (Some bytes) limit = limit < length bytes
 
--- where the input tells what is left, that is no longer than a file may be, and P holds of it
+-- if the input tells what is left: that is no longer than a file may be, and P holds of it
 abbrev pub IfLeft : Option Text → (Text → Type 0) → Type 0
 IfLeft None P = ⊤
 IfLeft (Some bytes) P = (length bytes ≤ FILE_BYTES) × P bytes
 
--- the stop of a script on this input, whose rows have width n
+-- the stop for a script on this input, of a table of width n
 abbrev pub IsScriptStop : ℕ → Option Text → Type 0 → Stop → Type 0
 IsScriptStop n input rose (Fault at) = (at ≡ Input) × rose
 IsScriptStop n input rose (TooLong at) = (at ≡ Input) × MayBeLonger input FILE_BYTES

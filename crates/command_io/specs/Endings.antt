@@ -1,11 +1,11 @@
--- The two parts of a call: what its command comes to, an answer or a stop, and what the call did with that. The status says the second.
+-- The two parts of a call: its command comes to an output or a stop, and the call writes that. The status says what was written.
 --
--- `concepts F`, whose text a fault of out cut off, has the outcome `CutOff`, and so the status 4.
+-- If a fault of out cuts off the text of `concepts F`, the outcome is `CutOff` and the status 4.
 use Rattle.std.specs.Prelude.{◌≡◌, ◌⊎◌, ⊤, ℕ, List, [], ◌∷◌, Result, Ok, Err}
 use Rattle.fca_model.specs.Tables.{Text}
 use Rattle.fca_model.specs.Implications.{Rule}
-use Rattle.command_io.specs.declared.answer.Ending.{Ending}
-use Rattle.command_io.specs.declared.answer.Ending.TheVariants.{Finished, Open, Spent}
+use Rattle.command_io.specs.declared.output.Ending.{Ending}
+use Rattle.command_io.specs.declared.output.Ending.TheVariants.{Finished, Open, Spent}
 use Rattle.command_io.specs.declared.stop.Origin.{Origin}
 use Rattle.command_io.specs.declared.stop.Origin.TheVariants.{Input}
 use Rattle.command_io.specs.declared.stop.Stop.{Stop}
@@ -19,16 +19,16 @@ pub record Output : Type 0 where
   pub text : Text
   pub ending : Ending
 
--- a text that leaves nothing open
+-- the output of a text that leaves no question open
 abbrev pub finished : Text → Output
 finished text = record { text = text; ending = Finished }
 
--- how a text ends that leaves these questions open
+-- the ending of a text that leaves these questions open
 abbrev pub ending_of : List Rule → Ending
 ending_of [] = Finished
 ending_of (question ∷ later) = Open
 
--- the stop refuses what was read
+-- the stop refuses something that was read
 abbrev pub IsRefusal : Stop → Type 0
 IsRefusal NoCommand = ⊥
 IsRefusal (Fault origin) = ⊥
@@ -43,7 +43,7 @@ IsUnread Listener = ⊥
 IsUnread Memory = ⊥
 IsUnread _ = ⊤
 
--- what comes of the input is of no file
+-- the origin is a file
 abbrev pub IsFile : Origin → Type 0
 IsFile Input = ⊥
 IsFile _ = ⊤
@@ -63,33 +63,33 @@ IsOfFile _ = ⊥
 
 -- ---- what a call did
 
--- the whole text was written, a fault of out cut it off, or there was none
+-- the whole text was written, a fault of out cut it off, or there was no text
 pub data Outcome : Type 0 where
   Written : Output → Outcome
   CutOff : Output → Outcome
   Stopped : Stop → Outcome
 
--- what may become of what a command came to
+-- what may become of an output or a stop
 abbrev pub MayBecome : Result Output Stop → Outcome → Type 0
-MayBecome (Ok answer) outcome = (outcome ≡ Written answer) ⊎ (outcome ≡ CutOff answer)
+MayBecome (Ok output) outcome = (outcome ≡ Written output) ⊎ (outcome ≡ CutOff output)
 MayBecome (Err stop) outcome = outcome ≡ Stopped stop
 
--- P holds of the answer, if there is one
-abbrev pub IfAnswer : Outcome → (Output → Type 0) → Type 0
-IfAnswer (Written answer) P = P answer
-IfAnswer (CutOff answer) P = P answer
-IfAnswer (Stopped stop) P = ⊤
+-- P holds of the output, if there is one
+abbrev pub IfOutput : Outcome → (Output → Type 0) → Type 0
+IfOutput (Written output) P = P output
+IfOutput (CutOff output) P = P output
+IfOutput (Stopped stop) P = ⊤
 
--- P holds of the answer, if the whole text was written
+-- P holds of the output, if its whole text was written
 abbrev pub IfWritten : Outcome → (Output → Type 0) → Type 0
-IfWritten (Written answer) P = P answer
-IfWritten (CutOff answer) P = ⊤
+IfWritten (Written output) P = P output
+IfWritten (CutOff output) P = ⊤
 IfWritten (Stopped stop) P = ⊤
 
 -- P holds of the stop, if there is one
 abbrev pub IfStopped : Outcome → (Stop → Type 0) → Type 0
-IfStopped (Written answer) P = ⊤
-IfStopped (CutOff answer) P = ⊤
+IfStopped (Written output) P = ⊤
+IfStopped (CutOff output) P = ⊤
 IfStopped (Stopped stop) P = P stop
 
 -- ---- the status of each outcome
@@ -116,6 +116,6 @@ stop_status Memory = 5
 stop_status Listener = 7
 
 abbrev pub status_of : Outcome → ℕ
-status_of (Written answer) = ending_status answer.ending
-status_of (CutOff answer) = 4
+status_of (Written output) = ending_status output.ending
+status_of (CutOff output) = 4
 status_of (Stopped stop) = stop_status stop

@@ -1,5 +1,5 @@
--- The lines on err. Each begins with `fca: ` and tells why a call wrote no text or not all of it: where it is of a file or of the
--- script, by the name of the file or `input`, and by the place in it where there is one.
+-- The lines on err. Each begins with `fca: ` and says why a call wrote no text, or not all of it. It names the file at fault, or `input`,
+-- and the place in it, if there is one.
 --
 -- A row that is too short, in line 9 of the file F: `fca: F: line 9: bad row`.
 use Rattle.std.specs.Prelude.{ℕ, decimal, codes, Option, None, Some, List, [], ◌∷◌, slice_get, unwrap_or}
@@ -16,9 +16,10 @@ use Rattle.csv_context.specs.Faults as csv
 use Rattle.expert_scripts.specs.KnownFaults as rules
 use Rattle.expert_scripts.specs.Faults as script
 use Rattle.expert_wire.specs.Texts.{line_end, ordinal}
-use Rattle.command_io.specs.declared.err_line.TheConstants.{NO_SUCH_COMMAND, BAD_VALUES, BAD_PLAN, ATTRIBUTES_DIFFER, LISTENER_FAULT, TURNS_SPENT, INPUT}
-use Rattle.command_io.specs.declared.answer.Ending.{Ending}
-use Rattle.command_io.specs.declared.answer.Ending.TheVariants.{Finished, Open, Spent}
+use Rattle.command_io.specs.declared.err_line.TheConstants.{NO_SUCH_COMMAND, BAD_VALUES, BAD_PLAN, ATTRIBUTES_DIFFER, LISTENER_FAULT}
+use Rattle.command_io.specs.declared.err_line.TheConstants.{TURNS_SPENT, INPUT}
+use Rattle.command_io.specs.declared.output.Ending.{Ending}
+use Rattle.command_io.specs.declared.output.Ending.TheVariants.{Finished, Open, Spent}
 use Rattle.command_io.specs.Endings.{Outcome}
 use Rattle.command_io.specs.Endings.Outcome.{Written, CutOff, Stopped}
 use Rattle.command_io.specs.declared.stop.Origin.{Origin}
@@ -37,24 +38,24 @@ plain_line words = concat (codes "fca: " ∷ words ∷ line_end ∷ [])
 abbrev pub placed_line : Text → Place × Text → Text
 placed_line name description = concat (codes "fca: " ∷ name ∷ codes ": " ∷ description_text description ∷ line_end ∷ [])
 
--- a line of these words on the place of this kind, which has this number
+-- a line of these words after a name and a place of this kind with its number
 abbrev pub numbered_line : Text → Text → ℕ → Text → Text
 numbered_line name kind number words = concat (codes "fca: " ∷ name ∷ codes ": " ∷ kind ∷ decimal number ∷ codes ": " ∷ words ∷ line_end ∷ [])
 
--- a line on the row of what has this name that breaks one of the known implications, by their places
+-- the line of a row that breaks a known implication, by the places of both
 abbrev pub breaks_line : Text → ℕ → ℕ → Text
 breaks_line name row rule = concat (codes "fca: " ∷ name ∷ codes ": row " ∷ ordinal row ∷ codes " breaks known " ∷ ordinal rule ∷ line_end ∷ [])
 
 -- ---- the line of a stop
 
--- the name under which the line speaks of what is at fault, where a file at fault has the name `file`
+-- the name of what is at fault; a file at fault has the name `file`
 abbrev pub name_of : Text → Origin → Text
 name_of file File = file
 name_of file Known = file
 name_of file (Later place) = file
 name_of file Input = INPUT.now
 
--- the line of a stop, where a file at fault has the name `file`
+-- the line of a stop; a file at fault has the name `file`
 abbrev pub stop_line : Text → Stop → Text
 stop_line file NoCommand = plain_line NO_SUCH_COMMAND.now
 stop_line file (TooLong origin) = placed_line (name_of file origin) (Whole, TOO_LONG.now)
@@ -71,15 +72,15 @@ stop_line file (Fault origin) = placed_line (name_of file origin) (Whole, READ_F
 stop_line file Listener = plain_line LISTENER_FAULT.now
 stop_line file Memory = plain_line NO_MEMORY.now
 
--- where out failed
+-- the line of a fault of out
 abbrev pub write_fault_line : Text
 write_fault_line = plain_line WRITE_FAULT.now
 
--- where an expert took all turns before it was done
+-- the line of turns that are spent
 abbrev pub turns_spent_line : Text
 turns_spent_line = plain_line TURNS_SPENT.now
 
--- what is at fault, which is the first file where it is nothing else
+-- what is at fault; if a stop names nothing, it is the first file
 abbrev pub stop_origin : Stop → Origin
 stop_origin (TooLong origin) = origin
 stop_origin (NoTable origin fault) = origin
@@ -92,7 +93,7 @@ stop_origin (OtherAttributes origin) = origin
 stop_origin (Fault origin) = origin
 stop_origin _ = File
 
--- the name of the file from which it is, where the first file, that of what is known and those behind it are named so
+-- the name of the file of this origin, of the first file, the known file and the later ones
 abbrev pub file_from : Text → Option Text → List Text → Origin → Text
 file_from file known later Known = unwrap_or known file
 file_from file known later (Later place) = unwrap_or (slice_get later place) file
@@ -104,14 +105,14 @@ file_at_fault file known later stop = file_from file known later (stop_origin st
 
 -- ---- the line of an outcome
 
--- the line of a text that was written whole: where an expert took all turns before it was done
+-- the line of a text that was written whole: only if turns are spent
 abbrev pub ending_line : Ending → Option Text
 ending_line Finished = None
 ending_line Open = None
 ending_line Spent = Some turns_spent_line
 
--- the line that a call writes, if it writes one, where this is the name of the file at fault
+-- the line that a call writes, if it writes one; the function gives the name of the file at fault
 abbrev pub line_of : (Stop → Text) → Outcome → Option Text
-line_of file (Written answer) = ending_line answer.ending
-line_of file (CutOff answer) = Some write_fault_line
+line_of file (Written output) = ending_line output.ending
+line_of file (CutOff output) = Some write_fault_line
 line_of file (Stopped stop) = Some (stop_line (file stop) stop)

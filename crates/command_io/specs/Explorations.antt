@@ -6,7 +6,8 @@ use Rattle.fca_model.specs.Tables.{NamedContext}
 use Rattle.fca_model.specs.Implications.{Rule}
 use Rattle.fca_model.specs.Questions.{waiting, open_questions}
 use Rattle.fca_model.specs.Invariant.{Among, IsValid}
-use Rattle.fca_model.specs.Exploration.{SetEntry, SetReply, Settings, State, open_in, given_back, holders_of, least_held, state_after, events_of, IsLegal}
+use Rattle.fca_model.specs.Exploration.{SetEntry, SetReply, Settings, State, open_in, given_back, holders_of, least_held, state_after}
+use Rattle.fca_model.specs.Exploration.{events_of, IsLegal}
 use Rattle.fca_model.specs.declared.Event.TheVariants.{Draw}
 use Rattle.fca_model.specs.declared.Reply.TheVariants.{Ask, Done}
 use Rattle.explore_state.specs.History.{Opening, History, opening_state}
@@ -37,26 +38,31 @@ last_state r = state_at r r.journal
 abbrev pub open_at : Recorded → List Rule
 open_at r = open_questions r.opening.settings.known (last_state r).context (last_state r).accepted
 
--- A state as it is at each moment: the rows respect what is known; each accepted implication is a member of the basis of the rows as they are, beside what
--- is known, and no two have one premise; no premise of an accepted one is larger than one of a member that waits; and each expert holds one question at
--- most, which it may hold
+-- A state as it is at each moment: the rows respect what is known; each accepted implication is a member of the basis of the rows as they
+-- are, beside what is known, and no two have one premise; no premise of an accepted one is larger than one of a member that waits; and each
+-- expert holds one question at most, which it may hold
 pub record IsOnCourse (s : State) : Type 0 where
   pub valid : IsValid s
-  pub smallest : list_all (λ j. list_all (λ i. nat_le (size i.premise) (size j.premise)) s.accepted) (waiting s.settings.known s.context s.accepted) ≡ true
+  pub smallest : list_all (λ j. list_all (λ i. nat_le (size i.premise) (size j.premise)) s.accepted)
+      (waiting s.settings.known s.context s.accepted) ≡ true
 
 -- in this state expert e is asked the question q: it is open, and of the open ones the first that the fewest others hold
 pub record IsAsked (s : State) (e : ℕ) (q : Rule) : Type 0 where
   pub among : Among (open_in s) q
-  pub fewest : list_all (λ j. nat_le (holders_of q.premise (given_back e s.holds)) (holders_of j.premise (given_back e s.holds))) (open_in s) ≡ true
+  pub fewest : list_all (λ j. nat_le (holders_of q.premise (given_back e s.holds)) (holders_of j.premise (given_back e s.holds)))
+      (open_in s) ≡ true
   pub first : least_held (given_back e s.holds) (open_in s) ≡ Some q
 
--- Its journal is one legal history, and after each front of it the state is on course. A draw was answered Done exactly where no question was open at that
--- moment, and one that was answered by a question was asked one that was open then. Where none is open at the end, the accepted implications are the basis of
--- the recorded context beside what is known: they hold, all that holds follows, and no equivalent list has fewer
+-- Its journal is one legal history, and after each front of it the state is on course. A draw was answered Done exactly where no question
+-- was open at that moment, and one that was answered by a question was asked one that was open then. Where none is open at the end, the
+-- accepted implications are the basis of the recorded context beside what is known: they hold, all that holds follows, and no equivalent
+-- list has fewer
 pub record IsExplored (r : Recorded) : Type 0 where
   pub legal : IsLegal (opening_state r.opening) r.journal
   pub moments : (before after : List SetEntry) → r.journal ≡ before ++ after → IsOnCourse (state_at r before)
-  pub asked : (before after : List SetEntry) (e : ℕ) (q : Rule) → r.journal ≡ before ++ record { event = Draw e; reply = Ask q } ∷ after → IsAsked (state_at r before) e q
-  pub done : (before after : List SetEntry) (e : ℕ) (reply : SetReply) → r.journal ≡ before ++ record { event = Draw e; reply = reply } ∷ after
+  pub asked : (before after : List SetEntry) (e : ℕ) (q : Rule) → r.journal ≡ before ++ record { event = Draw e; reply = Ask q } ∷ after
+      → IsAsked (state_at r before) e q
+  pub done : (before after : List SetEntry) (e : ℕ) (reply : SetReply)
+      → r.journal ≡ before ++ record { event = Draw e; reply = reply } ∷ after
       → (reply ≡ Done) ↔ (open_in (state_at r before) ≡ [])
   pub basis : open_at r ≡ [] → IsBasisBeside r.opening.settings.known (last_state r).context (last_state r).accepted

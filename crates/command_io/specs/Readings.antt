@@ -1,12 +1,12 @@
--- What is read of the outside: whole files and a whole input, each in a form. The outside may not tell what it holds.
+-- What is read of the outside: whole files and the whole input, each in a form. The outside may tell nothing of what it holds.
 use Rattle.std.specs.Prelude.{◌≡◌, ◌⊎◌, ℕ, nat_le, cond, List, [], ◌∷◌, length, Option, Some, None, Result, Ok, Err, ⊤}
 use Rattle.fca_model.specs.Tables.{Text}
 use Rattle.fca_model.specs.declared.TheConstants.{FILE_BYTES}
 use Rattle.fca_io.specs.Faults.{Rose}
 use Rattle.fca_io.specs.Shelves.{Told}
 
--- what reading comes to, where no call of the outside fails and memory is there: it is not told, there is nothing to read, and so a call fails, it is
--- refused, or this is read
+-- What reading comes to, unless a call of the outside fails or memory runs out. `Untold`: the outside does not tell. `Missing`: there is
+-- nothing to read, so a call fails. `Refused`: what was read is refused. `Read x`: x was read
 pub data Reading (X : Type 0) : Type 0 where
   Untold : Reading X
   Missing : Reading X
@@ -24,22 +24,22 @@ abbrev pub formed : {X E : Type 0} → Result X E → Reading X
 formed (Ok x) = Read x
 formed (Err fault) = Refused
 
--- what there is, or a refusal
+-- the value, or a refusal if there is none
 abbrev pub known : {X : Type 0} → Option X → Reading X
 known (Some x) = Read x
 known None = Refused
 
--- bytes that are not too many, read so
+-- bytes that are no more than a file may have, in a form
 abbrev pub bytes_read : {X : Type 0} → (Text → Reading X) → Text → Reading X
 bytes_read form bytes = cond (nat_le (length bytes) FILE_BYTES) (form bytes) Refused
 
--- a file, read so
+-- a file, in a form
 abbrev pub file_read : {X : Type 0} → (Text → Reading X) → Told → Reading X
 file_read form None = Untold
 file_read form (Some None) = Missing
 file_read form (Some (Some bytes)) = bytes_read form bytes
 
--- all that is left of the input, read so
+-- all that is left of the input, in a form
 abbrev pub input_read : {X : Type 0} → (Text → Reading X) → Option Text → Reading X
 input_read form None = Untold
 input_read form (Some bytes) = bytes_read form bytes
@@ -69,7 +69,11 @@ IfRead (Read x) P = P x
 abbrev pub Rises : (Text → ℕ) → (Text → ℕ) → Text → Type 0
 Rises counts counts' file = Rose (counts file) (counts' file)
 
--- the same for one of the files
+-- a count of faults rose for one of the files
 abbrev pub SomeRose : (Text → ℕ) → (Text → ℕ) → List Text → Type 0
 SomeRose counts counts' [] = ⊥
 SomeRose counts counts' (file ∷ files) = Rises counts counts' file ⊎ SomeRose counts counts' files
+
+-- the count of each name is as it was
+abbrev pub SameCounts : (Text → ℕ) → (Text → ℕ) → Type 0
+SameCounts counts counts' = (file : Text) → counts' file ≡ counts file

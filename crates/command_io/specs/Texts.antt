@@ -4,7 +4,7 @@ use Rattle.fca_model.specs.Tables.{Text}
 use Rattle.command_io.specs.declared.text.Layout.{Layout}
 use Rattle.command_io.specs.declared.text.Layout.TheVariants.{Whole, Pieces, Packed}
 
--- the bytes, where they stand so: those of pieces stand one behind the other
+-- the bytes of a text in this layout
 abbrev pub bytes_of : Layout → Text
 bytes_of (Whole bytes) = bytes.items
 bytes_of (Pieces pieces) = flat_map (λ piece. piece.items) pieces.items

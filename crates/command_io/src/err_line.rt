@@ -1,4 +1,4 @@
-//! The line on err that tells why there is no text.
+//! The line on err that says why there is no text.
 
 ghost use Rattle.std.specs.Prelude.{◌≡◌, Some};
 ghost use Rattle.std.specs.List.{flat_map};
@@ -25,17 +25,17 @@ const LISTENER_FAULT: &str = "listener fault";
 
 pub(crate) const TURNS_SPENT: &str = "turns spent";
 
-/// The name under which lines speak of the input.
+/// The name of the input in these lines.
 const INPUT: &str = "input";
 
-/// Tells why there is no text: `file` is the name of the file that is at fault, if one is. What err refuses is lost.
+/// Writes why there is no text. `file` is the name of the file at fault, if there is one. A fault of err is ignored.
 pub fn report<E: Sink>(err: &mut E, file: &[u8], stop: &Stop)
     ensures { GainsLine (Some (stop_line file.now stop.now)) (moment E.held E.faults err.old) (moment E.held E.faults err.new) }
 {
     let _ = write_stop(err, file, stop);
 }
 
-/// Tells in these words what went wrong.
+/// Writes these words as the line. A fault of err is ignored.
 pub(crate) fn report_plain<E: Sink>(err: &mut E, words: &str)
     ensures { GainsLine (Some (plain_line words.now)) (moment E.held E.faults err.old) (moment E.held E.faults err.new) }
 {
@@ -80,7 +80,7 @@ fn write_stop<E: Sink>(err: &mut E, file: &[u8], stop: &Stop) -> Result<(), Put>
     }
 }
 
-/// The name under which the line speaks of what is at fault.
+/// The name of what is at fault.
 fn name_of(file: &[u8], origin: Origin) -> &[u8]
     ensures { result.now ≡ name_of file.now origin }
 {
@@ -90,21 +90,21 @@ fn name_of(file: &[u8], origin: Origin) -> &[u8]
     }
 }
 
-/// A line of these words alone.
+/// Writes a line of these words alone.
 fn write_plain<E: Sink>(err: &mut E, words: &str) -> Result<(), Put>
     ensures { WritesTo E.held E.faults E.beside E.asked_beside err.old err.new (plain_line words.now) result }
 {
     write_parts(err, &[b"fca: ", words.as_bytes(), b"\n"])
 }
 
-/// A line of these words on the whole of what has this name.
+/// Writes a line of these words after the name.
 fn write_whole<E: Sink>(err: &mut E, name: &[u8], words: &str) -> Result<(), Put>
     ensures { WritesTo E.held E.faults E.beside E.asked_beside err.old err.new (placed_line name.now (Whole, words.now)) result }
 {
     write_parts(err, &[b"fca: ", name, b": ", words.as_bytes(), b"\n"])
 }
 
-/// The line of a fault in what has this name.
+/// Writes the line of a fault in what has this name.
 fn write_placed<E: Sink>(err: &mut E, name: &[u8], description: &Description) -> Result<(), Put>
     ensures { WritesTo E.held E.faults E.beside E.asked_beside err.old err.new (placed_line name.now description.now) result }
 {
@@ -117,7 +117,7 @@ fn write_placed<E: Sink>(err: &mut E, name: &[u8], description: &Description) ->
     }
 }
 
-/// A line of these words on the place of this kind, which has this number.
+/// Writes a line of these words after the name and a place: a line, a byte or a record with its number.
 fn write_numbered<'a, E: Sink>(
     err: &mut E,
     name: &'a [u8],
@@ -142,7 +142,7 @@ fn write_numbered<'a, E: Sink>(
     )
 }
 
-/// A line of these words on a field of a record.
+/// Writes a line of these words after the name and a field of a record.
 fn write_field<E: Sink>(
     err: &mut E,
     name: &[u8],
@@ -169,7 +169,7 @@ fn write_field<E: Sink>(
     )
 }
 
-/// A line on the row that breaks one of the known implications, by their places.
+/// Writes the line of a row that breaks a known implication, by the places of both.
 fn write_breaks<E: Sink>(err: &mut E, name: &[u8], row: usize, rule: usize) -> Result<(), Put>
     ensures { WritesTo E.held E.faults E.beside E.asked_beside err.old err.new (breaks_line name.now row rule) result }
 {
@@ -187,7 +187,7 @@ fn write_breaks<E: Sink>(err: &mut E, name: &[u8], row: usize, rule: usize) -> R
     )
 }
 
-/// The parts, one behind the other.
+/// Appends the parts in their order.
 fn write_parts<E: Sink>(err: &mut E, parts: &[&[u8]]) -> Result<(), Put>
     ensures { WritesTo E.held E.faults E.beside E.asked_beside err.old err.new (flat_map (λ part. part.now) parts.now) result }
 {
@@ -197,7 +197,7 @@ fn write_parts<E: Sink>(err: &mut E, parts: &[&[u8]]) -> Result<(), Put>
     Ok(())
 }
 
-/// Appends the part to a stream, as err. After an `Err` the stream holds a front of it.
+/// Appends the part to a stream. After an `Err`, the stream holds a front of it.
 pub(crate) fn write_part<E: Sink>(err: &mut E, part: &[u8]) -> Result<(), Put>
     ensures { WritesTo E.held E.faults E.beside E.asked_beside err.old err.new part.now result }
 {

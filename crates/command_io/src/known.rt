@@ -1,4 +1,4 @@
-//! What is known of a table beforehand: implications in a file, which every row of the table respects.
+//! Implications that are known of a table beforehand: those of a file, which every row of the table respects.
 
 ghost use Rattle.std.specs.Prelude.{◌≡◌, ◌≤◌, ℕ, List, IfOk, IfErr, OnOk, Some, None, option_copied, length};
 ghost use Rattle.fca_model.specs.declared.TheConstants.{MAX_ATTRIBUTES, FILE_BYTES};
@@ -6,11 +6,13 @@ ghost use Rattle.fca_io.specs.Faults.{Rose};
 ghost use Rattle.implication_closure.specs.Closing.{HaveWidth};
 ghost use Rattle.explore_state.specs.Faults.{first_break};
 ghost use Rattle.expert_scripts.specs.Known.{known_form};
-ghost use Rattle.command_io.specs.Readings.{formed, MayRead, MayRefuse, Rises};
-ghost use Rattle.command_io.specs.Known.{known_said, known_in, known_read, start_of, start_read, IsBreakStop, IsKnownSaidStop, IsKnownFileStop, IsKnownStop, IsStartStop};
+ghost use Rattle.command_io.specs.Readings.{formed, MayRead, MayRefuse, Rises, SameCounts};
+ghost use Rattle.command_io.specs.Causes.{UnlessFault};
+ghost use Rattle.command_io.specs.Known.{implications_read, known_file_read, known_read, start_of, start_read, IsBreakStop};
+ghost use Rattle.command_io.specs.Known.{IsKnownSaidStop, IsKnownFileStop, IsKnownStop, IsStartStop};
 ghost use Rattle.command_io.specs.Endings.{IsRefusal};
 
-use crate::readings::{not_taken, table_under};
+use crate::readings::{fetch_stop, load_table};
 use crate::stop::{Origin, Stop};
 use context_table::Table;
 use expert_scripts::{KnownFault, read_known};
@@ -20,15 +22,15 @@ use fca_model::{FILE_BYTES, Word};
 use implication_closure::ImplicationList;
 use std::alloc::Global;
 
-/// What an exploration starts from: a table, and what is known of it.
+/// What an exploration starts from: a table, and the implications that are known of it.
 #[derive(Drop)]
 pub struct Start {
     pub table: Table,
     pub known: ImplicationList,
 }
 
-/// The table in the file, and what is known of it by another file, where there is one.
-pub fn start_under<H: Shelf>(
+/// Reads the table in the file, and the implications of the known file, if one is given.
+pub fn load_start<H: Shelf>(
     alloc: Global,
     shelf: &mut H,
     file: &Word,
@@ -40,16 +42,17 @@ pub fn start_under<H: Shelf>(
     ensures respected { IfOk result (λ start. first_break start.known.members 0 start.table.context.rows ≡ None) }
     ensures refused { IfErr result (λ stop. IsRefusal stop → MayRefuse (start_read file.now (option_copied known.entry) (H.tells shelf.old))) }
     ensures cause { IfErr result (IsStartStop file.now (option_copied known.entry) (H.tells shelf.old) (Rises (H.faults shelf.old) (H.faults shelf.new))) }
+    ensures quiet { UnlessFault result (SameCounts (H.faults shelf.old) (H.faults shelf.new)) }
     ensures kept { (other : List ℕ) → H.tells shelf.new other ≡ H.tells shelf.old other }
     ensures later { (other : List ℕ) → H.faults shelf.old other ≤ H.faults shelf.new other }
 {
-    let table = table_under(alloc, shelf, file, Origin::File)?;
-    let known = known_under(alloc, shelf, known, &table)?;
+    let table = load_table(alloc, shelf, file, Origin::File)?;
+    let known = load_known(alloc, shelf, known, &table)?;
     Ok(Start { table, known })
 }
 
-/// What is known of the table: the implications of the file of this name, where there is one. Every row of the table respects them.
-pub fn known_under<H: Shelf>(
+/// Reads the implications of the known file, if one is given, and checks that every row of the table respects them.
+pub fn load_known<H: Shelf>(
     alloc: Global,
     shelf: &mut H,
     known: Option<&Word>,
@@ -61,63 +64,66 @@ pub fn known_under<H: Shelf>(
     ensures respected { IfOk result (λ list. first_break list.members 0 table.now.context.rows ≡ None) }
     ensures refused { IfErr result (λ stop. IsRefusal stop → MayRefuse (known_read (option_copied known.entry) table.now (H.tells shelf.old))) }
     ensures cause { IfErr result (IsKnownStop (option_copied known.entry) table.now (H.tells shelf.old) (Rises (H.faults shelf.old) (H.faults shelf.new))) }
+    ensures quiet { UnlessFault result (SameCounts (H.faults shelf.old) (H.faults shelf.new)) }
     ensures kept { (other : List ℕ) → H.tells shelf.new other ≡ H.tells shelf.old other }
     ensures later { (other : List ℕ) → H.faults shelf.old other ≤ H.faults shelf.new other }
 {
     match known {
-        Some(file) => known_in(alloc, shelf, file, table),
+        Some(file) => load_known_file(alloc, shelf, file, table),
         None => Ok(ImplicationList::new(alloc, table.rows().width())?),
     }
 }
 
-/// What the file of this name says is known of the table. Every row of the table respects it.
-fn known_in<H: Shelf>(
+/// Reads the implications of the file, and checks that every row of the table respects them.
+fn load_known_file<H: Shelf>(
     alloc: Global,
     shelf: &mut H,
     file: &Word,
     table: &Table,
 ) -> Result<ImplicationList, Stop>
-    ensures known { IfOk result (λ list. MayRead (known_in table.now (H.tells shelf.old file.now)) list.members) }
+    ensures known { IfOk result (λ list. MayRead (known_file_read table.now (H.tells shelf.old file.now)) list.members) }
     ensures width { IfOk result (λ list. list.width ≡ table.now.context.width) }
     ensures even { IfOk result (λ list. HaveWidth table.now.context.width list.members) }
     ensures respected { IfOk result (λ list. first_break list.members 0 table.now.context.rows ≡ None) }
-    ensures refused { IfErr result (λ stop. IsRefusal stop → MayRefuse (known_in table.now (H.tells shelf.old file.now))) }
+    ensures refused { IfErr result (λ stop. IsRefusal stop → MayRefuse (known_file_read table.now (H.tells shelf.old file.now))) }
     ensures cause { IfErr result (IsKnownFileStop table.now (H.tells shelf.old file.now)
         (Rose (H.faults shelf.old file.now) (H.faults shelf.new file.now))) }
+    ensures quiet { UnlessFault result (SameCounts (H.faults shelf.old) (H.faults shelf.new)) }
     ensures kept { (other : List ℕ) → H.tells shelf.new other ≡ H.tells shelf.old other }
     ensures later { (other : List ℕ) → H.faults shelf.old other ≤ H.faults shelf.new other }
 {
-    let list = known_said(alloc, shelf, file, table.rows().width())?;
+    let list = load_implications(alloc, shelf, file, table.rows().width())?;
     check_known(table, &list, Origin::File)?;
     let _members = list.as_slice();
     Ok(list)
 }
 
-/// The implications between sets of width n that the file of this name says.
-fn known_said<H: Shelf>(
+/// Reads the implications of the file, between sets of width n.
+fn load_implications<H: Shelf>(
     alloc: Global,
     shelf: &mut H,
     file: &Word,
     n: u32,
 ) -> Result<ImplicationList, Stop>
     requires { n ≤ MAX_ATTRIBUTES }
-    ensures known { IfOk result (λ list. MayRead (known_said n (H.tells shelf.old file.now)) list.members) }
+    ensures known { IfOk result (λ list. MayRead (implications_read n (H.tells shelf.old file.now)) list.members) }
     ensures width { IfOk result (λ list. list.width ≡ n) }
-    ensures refused { IfErr result (λ stop. IsRefusal stop → MayRefuse (known_said n (H.tells shelf.old file.now))) }
+    ensures refused { IfErr result (λ stop. IsRefusal stop → MayRefuse (implications_read n (H.tells shelf.old file.now))) }
     ensures cause { IfErr result (IsKnownSaidStop n (H.tells shelf.old file.now)
         (Rose (H.faults shelf.old file.now) (H.faults shelf.new file.now))) }
+    ensures quiet { UnlessFault result (SameCounts (H.faults shelf.old) (H.faults shelf.new)) }
     ensures kept { (other : List ℕ) → H.tells shelf.new other ≡ H.tells shelf.old other }
     ensures later { (other : List ℕ) → H.faults shelf.old other ≤ H.faults shelf.new other }
 {
     let bytes = match shelf.fetch(alloc, file.bytes(), FILE_BYTES) {
         Ok(bytes) => bytes,
-        Err(taken) => return Err(not_taken(taken, Origin::Known)),
+        Err(taken) => return Err(fetch_stop(taken, Origin::Known)),
     };
-    known_of(alloc, &bytes, n)
+    implications_of(alloc, &bytes, n)
 }
 
-/// The implications between sets of width n that the bytes say.
-fn known_of(alloc: Global, bytes: &[u8], n: u32) -> Result<ImplicationList, Stop>
+/// Reads the implications of the bytes, between sets of width n.
+fn implications_of(alloc: Global, bytes: &[u8], n: u32) -> Result<ImplicationList, Stop>
     requires width { n ≤ MAX_ATTRIBUTES }
     requires within { length bytes.now ≤ FILE_BYTES }
     ensures known { IfOk result (λ list. MayRead (formed (known_form bytes.now n)) list.members) }
@@ -132,7 +138,7 @@ fn known_of(alloc: Global, bytes: &[u8], n: u32) -> Result<ImplicationList, Stop
     }
 }
 
-/// Whether every row of the table respects what is known of it by what comes from the origin.
+/// Checks that every row of the table respects the known implications. A stop names the origin.
 pub fn check_known(table: &Table, known: &ImplicationList, origin: Origin) -> Result<(), Stop>
     ensures respected { OnOk result (first_break known.now.members 0 table.now.context.rows ≡ None) }
     ensures broken { IfErr result (IsBreakStop known.now.members table.now origin) }

@@ -1,20 +1,20 @@
-//! What all commands share: tables, tables of values and plans in files, scripts on the input, a whole text on out, and the line on err where there is none.
+//! What all commands share: they read tables, tables of values and plans from files and scripts from the input, and write a text to out or a line to err.
 #![tactic(auto)]
 
-mod answer;
 mod err_line;
 mod known;
 mod narrow;
+mod output;
 mod readings;
 mod scalings;
 mod stop;
 mod text;
 
-pub use answer::{Answer, Ending, conclude};
 pub use err_line::report;
-pub use known::{Start, check_known, known_under, start_under};
+pub use known::{Start, check_known, load_known, load_start};
 pub use narrow::load_narrow_table;
-pub use readings::{script_on, table_under};
-pub use scalings::{plan_under, values_under};
+pub use output::{Ending, Output, conclude};
+pub use readings::{load_script, load_table};
+pub use scalings::{load_plan, load_values};
 pub use stop::{Origin, Stop, file_at_fault};
 pub use text::Text;

@@ -4,13 +4,13 @@ ghost use Rattle.std.specs.Prelude.{◌≡◌, ◌≤◌, ℕ, List, IfOk, IfErr
 ghost use Rattle.fca_io.specs.Faults.{Rose};
 ghost use Rattle.cxt_format.specs.Form.{cxt_form};
 ghost use Rattle.csv_context.specs.Form.{csv_form};
-ghost use Rattle.command_io.specs.Readings.{formed, MayRead, MayRefuse};
+ghost use Rattle.command_io.specs.Readings.{formed, MayRead, MayRefuse, SameCounts};
 ghost use Rattle.command_io.specs.Forms.{is_csv, table_formed, table_read};
 ghost use Rattle.command_io.specs.Narrow.{untitled_reading};
-ghost use Rattle.command_io.specs.Causes.{IsFormStop, IsFileStop};
+ghost use Rattle.command_io.specs.Causes.{UnlessFault, IsFormStop, IsFileStop};
 ghost use Rattle.command_io.specs.Endings.{IsRefusal};
 
-use crate::readings::{csv_table, is_csv, not_taken};
+use crate::readings::{csv_table, fetch_stop, is_csv};
 use crate::stop::{Origin, Stop};
 use context_table::NarrowTable;
 use cxt_format::{CxtFault, read_narrow_cxt};
@@ -18,8 +18,7 @@ use fca_io::Shelf;
 use fca_model::{FILE_BYTES, Word};
 use std::alloc::Global;
 
-/// Loads the table in the file of the name, which comes from the origin, without its title. The refusals are those of
-/// [`table_under`](crate::table_under).
+/// Reads the table in the file without its title. A stop names the origin, and the refusals are those of [`load_table`](crate::load_table).
 pub fn load_narrow_table<H: Shelf>(
     alloc: Global,
     shelf: &mut H,
@@ -30,12 +29,13 @@ pub fn load_narrow_table<H: Shelf>(
     ensures refused { IfErr result (λ stop. IsRefusal stop → MayRefuse (table_read file.now (H.tells shelf.old file.now))) }
     ensures cause { IfErr result (IsFileStop file.now (H.tells shelf.old file.now)
         (Rose (H.faults shelf.old file.now) (H.faults shelf.new file.now)) origin) }
+    ensures quiet { UnlessFault result (SameCounts (H.faults shelf.old) (H.faults shelf.new)) }
     ensures kept { (other : List ℕ) → H.tells shelf.new other ≡ H.tells shelf.old other }
     ensures later { (other : List ℕ) → H.faults shelf.old other ≤ H.faults shelf.new other }
 {
     let bytes = match shelf.fetch(alloc, file.bytes(), FILE_BYTES) {
         Ok(bytes) => bytes,
-        Err(taken) => return Err(not_taken(taken, origin)),
+        Err(taken) => return Err(fetch_stop(taken, origin)),
     };
     narrow_table(alloc, &bytes, file.bytes(), origin)
 }

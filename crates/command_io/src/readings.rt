@@ -1,4 +1,4 @@
-//! A file as a table, and the input as a script.
+//! Reads a file as a table, and the input as a script.
 
 ghost use Rattle.std.specs.Prelude.{◌≡◌, ◌≤◌, ℕ, List, IfOk, IfErr, OnOk, length, true, false, Some, Result};
 ghost use Rattle.std.specs.List.{list_all};
@@ -10,9 +10,9 @@ ghost use Rattle.expert_scripts.specs.Scripts.{content_of, script_form, may_appl
 ghost use Rattle.expert_scripts.specs.Transcripts.{SettingsCanBeWritten};
 ghost use Rattle.cxt_format.specs.Form.{cxt_form};
 ghost use Rattle.csv_context.specs.Form.{csv_form};
-ghost use Rattle.command_io.specs.Readings.{formed, MayRead, MayRefuse};
+ghost use Rattle.command_io.specs.Readings.{formed, MayRead, MayRefuse, SameCounts};
 ghost use Rattle.command_io.specs.Forms.{is_csv, table_formed, table_read, script_read};
-ghost use Rattle.command_io.specs.Causes.{taken_stop, IsFormStop, IsFileStop, IsScriptStop};
+ghost use Rattle.command_io.specs.Causes.{UnlessFault, taken_stop, IsFormStop, IsFileStop, IsScriptStop};
 ghost use Rattle.command_io.specs.Endings.{IsRefusal};
 
 use crate::stop::{Origin, Stop};
@@ -24,8 +24,8 @@ use fca_io::{Shelf, Source, Taken, read_all};
 use fca_model::{FILE_BYTES, Word};
 use std::alloc::Global;
 
-/// Why bytes of this origin were not taken.
-pub(crate) fn not_taken(taken: Taken, origin: Origin) -> Stop
+/// The stop for bytes of this origin that could not be read.
+pub(crate) fn fetch_stop(taken: Taken, origin: Origin) -> Stop
     ensures { result ≡ taken_stop taken origin }
 {
     match taken {
@@ -35,8 +35,8 @@ pub(crate) fn not_taken(taken: Taken, origin: Origin) -> Stop
     }
 }
 
-/// The table in the file of the name, which comes from the origin.
-pub fn table_under<H: Shelf>(
+/// Reads the table in the file. A stop names the origin.
+pub fn load_table<H: Shelf>(
     alloc: Global,
     shelf: &mut H,
     file: &Word,
@@ -46,17 +46,18 @@ pub fn table_under<H: Shelf>(
     ensures refused { IfErr result (λ stop. IsRefusal stop → MayRefuse (table_read file.now (H.tells shelf.old file.now))) }
     ensures cause { IfErr result (IsFileStop file.now (H.tells shelf.old file.now)
         (Rose (H.faults shelf.old file.now) (H.faults shelf.new file.now)) origin) }
+    ensures quiet { UnlessFault result (SameCounts (H.faults shelf.old) (H.faults shelf.new)) }
     ensures kept { (other : List ℕ) → H.tells shelf.new other ≡ H.tells shelf.old other }
     ensures later { (other : List ℕ) → H.faults shelf.old other ≤ H.faults shelf.new other }
 {
     let bytes = match shelf.fetch(alloc, file.bytes(), FILE_BYTES) {
         Ok(bytes) => bytes,
-        Err(taken) => return Err(not_taken(taken, origin)),
+        Err(taken) => return Err(fetch_stop(taken, origin)),
     };
     table_of(alloc, &bytes, file.bytes(), origin)
 }
 
-/// The table whose form the bytes are, by the name of their file.
+/// Reads the table in the bytes, in the form that the file's name says.
 fn table_of(alloc: Global, bytes: &[u8], name: &[u8], origin: Origin) -> Result<Table, Stop>
     ensures table { IfOk result (λ table. MayRead (table_formed name.now bytes.now) table) }
     ensures refused { IfErr result (λ stop. IsRefusal stop → MayRefuse (table_formed name.now bytes.now)) }
@@ -76,7 +77,7 @@ pub(crate) fn is_csv(name: &[u8]) -> bool
     name.ends_with(b".csv")
 }
 
-/// The table that the bytes are in the CSV form.
+/// Reads the table in the bytes, in the CSV form.
 pub(crate) fn csv_table(alloc: Global, bytes: &[u8], origin: Origin) -> Result<Table, Stop>
     ensures table { IfOk result (λ table. MayRead (formed (csv_form bytes.now)) table) }
     ensures refused { IfErr result (λ stop. IsRefusal stop → MayRefuse (formed (csv_form bytes.now))) }
@@ -101,8 +102,8 @@ fn cxt_table(alloc: Global, bytes: &[u8], origin: Origin) -> Result<Table, Stop>
     }
 }
 
-/// What the script on the input says, whose rows and patterns have width n.
-pub fn script_on<S: Source>(alloc: Global, input: &mut S, n: u32) -> Result<Script, Stop>
+/// Reads the script on the input, of a table of width n.
+pub fn load_script<S: Source>(alloc: Global, input: &mut S, n: u32) -> Result<Script, Stop>
     requires { n ≤ MAX_ATTRIBUTES }
     ensures script { IfOk result (λ script. MayRead (script_read n (S.left input.old)) (content_of script)) }
     ensures width { IfOk result (λ script. script.settings.known.width ≡ n) }
@@ -111,15 +112,16 @@ pub fn script_on<S: Source>(alloc: Global, input: &mut S, n: u32) -> Result<Scri
     ensures end { OnOk result (IsAtEnd (S.left input.new)) }
     ensures refused { IfErr result (λ stop. IsRefusal stop → MayRefuse (script_read n (S.left input.old))) }
     ensures cause { IfErr result (IsScriptStop n (S.left input.old) (Rose (S.faults input.old) (S.faults input.new))) }
+    ensures quiet { UnlessFault result (S.faults input.new ≡ S.faults input.old) }
 {
     let bytes = match read_all(alloc, input, FILE_BYTES) {
         Ok(bytes) => bytes,
-        Err(taken) => return Err(not_taken(taken, Origin::Input)),
+        Err(taken) => return Err(fetch_stop(taken, Origin::Input)),
     };
     script_of(alloc, &bytes, n)
 }
 
-/// What the script that the bytes are says.
+/// Reads the script in the bytes.
 fn script_of(alloc: Global, bytes: &[u8], n: u32) -> Result<Script, Stop>
     requires width { n ≤ MAX_ATTRIBUTES }
     requires within { length bytes.now ≤ FILE_BYTES }

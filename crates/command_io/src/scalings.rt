@@ -1,4 +1,4 @@
-//! A file as a table of values, and one as a plan for it.
+//! Reads a file as a table of values, and another as a plan for it.
 
 ghost use Rattle.std.specs.Prelude.{◌≡◌, ◌≤◌, ℕ, List, IfOk, IfErr, Some, length};
 ghost use Rattle.fca_model.specs.declared.TheConstants.{FILE_BYTES};
@@ -6,12 +6,12 @@ ghost use Rattle.fca_io.specs.Faults.{Rose};
 ghost use Rattle.value_tables.specs.Form.{values_form};
 ghost use Rattle.context_scaling.specs.PlanForm.{plan_form};
 ghost use Rattle.context_scaling.specs.Scaling.{Fits};
-ghost use Rattle.command_io.specs.Readings.{formed, MayRead, MayRefuse};
+ghost use Rattle.command_io.specs.Readings.{formed, MayRead, MayRefuse, SameCounts};
 ghost use Rattle.command_io.specs.Forms.{values_read, plan_read};
-ghost use Rattle.command_io.specs.Causes.{IsValuesStop, IsPlanStop};
+ghost use Rattle.command_io.specs.Causes.{UnlessFault, IsValuesStop, IsPlanStop};
 ghost use Rattle.command_io.specs.Endings.{IsRefusal};
 
-use crate::readings::not_taken;
+use crate::readings::fetch_stop;
 use crate::stop::{Origin, Stop};
 use context_scaling::{Plan, PlanFault, read_plan};
 use fca_io::Shelf;
@@ -19,8 +19,8 @@ use fca_model::{FILE_BYTES, Word};
 use std::alloc::Global;
 use value_tables::{Values, ValuesFault, read_values};
 
-/// The table of values in the file of the name, which comes from the origin.
-pub fn values_under<H: Shelf>(
+/// Reads the table of values in the file. A stop names the origin.
+pub fn load_values<H: Shelf>(
     alloc: Global,
     shelf: &mut H,
     file: &Word,
@@ -30,17 +30,18 @@ pub fn values_under<H: Shelf>(
     ensures refused { IfErr result (λ stop. IsRefusal stop → MayRefuse (values_read (H.tells shelf.old file.now))) }
     ensures cause { IfErr result (IsValuesStop (H.tells shelf.old file.now)
         (Rose (H.faults shelf.old file.now) (H.faults shelf.new file.now)) origin) }
+    ensures quiet { UnlessFault result (SameCounts (H.faults shelf.old) (H.faults shelf.new)) }
     ensures kept { (other : List ℕ) → H.tells shelf.new other ≡ H.tells shelf.old other }
     ensures later { (other : List ℕ) → H.faults shelf.old other ≤ H.faults shelf.new other }
 {
     let bytes = match shelf.fetch(alloc, file.bytes(), FILE_BYTES) {
         Ok(bytes) => bytes,
-        Err(taken) => return Err(not_taken(taken, origin)),
+        Err(taken) => return Err(fetch_stop(taken, origin)),
     };
     values_of(alloc, &bytes, origin)
 }
 
-/// The table of values whose form the bytes are.
+/// Reads the table of values in the bytes.
 fn values_of(alloc: Global, bytes: &[u8], origin: Origin) -> Result<Values, Stop>
     requires { length bytes.now ≤ FILE_BYTES }
     ensures values { IfOk result (λ values. MayRead (formed (values_form bytes.now)) values) }
@@ -54,8 +55,8 @@ fn values_of(alloc: Global, bytes: &[u8], origin: Origin) -> Result<Values, Stop
     }
 }
 
-/// The plan for the values in the file of the name, which comes from the origin.
-pub fn plan_under<H: Shelf>(
+/// Reads the plan for the values in the file. A stop names the origin.
+pub fn load_plan<H: Shelf>(
     alloc: Global,
     shelf: &mut H,
     file: &Word,
@@ -67,17 +68,18 @@ pub fn plan_under<H: Shelf>(
     ensures refused { IfErr result (λ stop. IsRefusal stop → MayRefuse (plan_read values.now (H.tells shelf.old file.now))) }
     ensures cause { IfErr result (IsPlanStop values.now (H.tells shelf.old file.now)
         (Rose (H.faults shelf.old file.now) (H.faults shelf.new file.now)) origin) }
+    ensures quiet { UnlessFault result (SameCounts (H.faults shelf.old) (H.faults shelf.new)) }
     ensures kept { (other : List ℕ) → H.tells shelf.new other ≡ H.tells shelf.old other }
     ensures later { (other : List ℕ) → H.faults shelf.old other ≤ H.faults shelf.new other }
 {
     let bytes = match shelf.fetch(alloc, file.bytes(), FILE_BYTES) {
         Ok(bytes) => bytes,
-        Err(taken) => return Err(not_taken(taken, origin)),
+        Err(taken) => return Err(fetch_stop(taken, origin)),
     };
     plan_of(alloc, &bytes, origin, values)
 }
 
-/// The plan for the values whose form the bytes are.
+/// Reads the plan for the values in the bytes.
 fn plan_of(alloc: Global, bytes: &[u8], origin: Origin, values: &Values) -> Result<Plan, Stop>
     requires { length bytes.now ≤ FILE_BYTES }
     ensures plan { IfOk result (λ plan. MayRead (formed (plan_form values.now bytes.now)) plan) }

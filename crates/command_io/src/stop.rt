@@ -1,4 +1,4 @@
-//! Why a command stops before it has a text to write.
+//! Why a command stops and writes no text.
 
 ghost use Rattle.std.specs.Prelude.{◌≡◌, option_copied, unwrap_or};
 ghost use Rattle.command_io.specs.Endings.{stop_status};
@@ -12,19 +12,19 @@ use fca_model::{Memory, Word};
 use std::alloc::{AllocError, AllocFailed};
 use value_tables::ValuesFault;
 
-/// What a command reads.
+/// Where bytes come from that a command reads.
 #[derive(Clone, Copy)]
 pub enum Origin {
-    /// The file that its words name first.
+    /// The first file that its words name.
     File,
-    /// The file of what is known.
+    /// The known file.
     Known,
-    /// The file that they name at this place behind these.
+    /// A file that they name after these, by its place among those.
     Later(usize),
     Input,
 }
 
-/// Why there is no text to write.
+/// Why a command writes no text.
 #[derive(Drop)]
 pub enum Stop {
     NoCommand,
@@ -34,11 +34,11 @@ pub enum Stop {
     BadValues(Origin, ValuesFault),
     BadPlan(Origin, PlanFault),
     NoKnown(KnownFault),
-    /// The row at the one place breaks the known implication at the other, which is of this origin.
+    /// The row at the first place breaks the known implication at the second, which comes from the origin.
     RowBreaks(Origin, usize, usize),
     NoScript(ScriptFault),
     UnknownAttribute,
-    /// The table of an expert has other attributes.
+    /// An expert's table has other attributes than the table that is explored.
     OtherAttributes(Origin),
     Fault(Origin),
     Listener,
@@ -76,7 +76,7 @@ impl<T: Drop> From<AllocFailed<T>> for Stop {
 }
 
 impl Stop {
-    /// What is at fault, which is the first file where it is nothing else.
+    /// What is at fault. If a stop names nothing, it is the first file.
     pub fn origin(&self) -> Origin
         ensures { result ≡ stop_origin self.now }
     {
@@ -117,7 +117,7 @@ impl Stop {
     }
 }
 
-/// The name of the file at fault, where the first file, that of what is known and those behind it are named so.
+/// The name of the file at fault, of the first file, the known file and the later ones.
 pub fn file_at_fault<'a>(
     stop: &Stop,
     file: &'a Word,
@@ -133,7 +133,7 @@ pub fn file_at_fault<'a>(
     }
 }
 
-/// The one name where there is one, or the other.
+/// The first name, if there is one, or else the other.
 fn name_or<'a>(name: Option<&'a Word>, other: &'a Word) -> &'a [u8]
     ensures { result.now ≡ unwrap_or (option_copied name.entry) other.now }
 {

@@ -1,4 +1,4 @@
-//! A text to be written: whole, in pieces, or packed.
+//! The text that a command writes: whole, in pieces, or packed.
 
 ghost use Rattle.std.specs.Prelude.{◌≡◌};
 ghost use Rattle.std.specs.List.{flat_map};
@@ -9,7 +9,7 @@ use fca_io::{Put, Sink};
 use packed_concepts::ConceptsText;
 use std::marker::Model;
 
-/// How the bytes of a text stand.
+/// How the bytes of a text are stored.
 #[derive(Drop)]
 enum Layout {
     Whole(Vec<u8>),
@@ -17,7 +17,7 @@ enum Layout {
     Packed(ConceptsText),
 }
 
-/// A text, as one list of bytes, as pieces that stand one behind the other, or packed.
+/// A text: one list of bytes, a list of pieces in their order, or packed concepts.
 #[derive(Drop)]
 pub struct Text {
     layout: Layout,
@@ -33,7 +33,7 @@ impl Model for Text {
 }
 
 impl Text {
-    /// The text of these bytes.
+    /// Makes the text of these bytes.
     pub fn whole(bytes: Vec<u8>) -> Text
         ensures { result ≡ bytes.items }
     {
@@ -42,7 +42,7 @@ impl Text {
         }
     }
 
-    /// The text of these pieces, one behind the other.
+    /// Makes the text of these pieces in their order.
     pub fn in_pieces(pieces: Vec<Vec<u8>>) -> Text
         ensures { result ≡ flat_map (λ piece. piece.items) pieces.items }
     {
@@ -51,7 +51,7 @@ impl Text {
         }
     }
 
-    /// The text of these concepts. Its bytes are put down as it is written, which takes no memory.
+    /// Makes the text of these concepts. Writing it produces its bytes and takes no memory.
     pub fn packed(text: ConceptsText) -> Text
         ensures { result ≡ text }
     {
@@ -60,7 +60,7 @@ impl Text {
         }
     }
 
-    /// Appends the whole text to out. After an `Err` out holds a front of it.
+    /// Appends the whole text to out. After an `Err`, out holds a front of it.
     pub(crate) fn write<K: Sink>(self, out: &mut K) -> Result<(), Put>
         ensures { WritesTo K.held K.faults K.beside K.asked_beside out.old out.new self result }
     {
@@ -72,7 +72,7 @@ impl Text {
     }
 }
 
-/// The pieces, one behind the other.
+/// Appends the pieces in their order.
 fn write_pieces<K: Sink>(out: &mut K, pieces: &[Vec<u8>]) -> Result<(), Put>
     ensures { WritesTo K.held K.faults K.beside K.asked_beside out.old out.new (flat_map (λ piece. piece.items) pieces.now) result }
 {

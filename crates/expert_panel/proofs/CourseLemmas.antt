@@ -25,14 +25,16 @@ use Rattle.oracle_expert.specs.Oracles.{Recall, no_conflict}
 use Rattle.oracle_expert.specs.Runs.{IsOracleFront, ends_done, conflicts_of}
 use Rattle.oracle_expert.proofs.CountLemmas.{oracle_turns, call_turns, oracle_few}
 use Rattle.oracle_expert.proofs.DrawLemmas.{draws_apart}
-use Rattle.oracle_expert.proofs.SameLemmas.{nothing_dropped, one_basis, one_accepted}
+use Rattle.oracle_expert.specs.Intents.{HasIntentsOf, are_intents}
+use Rattle.oracle_expert.proofs.IntentLemmas.{of_intents, intents_among, known-intents, one_basis-intents}
+use Rattle.oracle_expert.proofs.LikeLemmas.{IsLike, like_itself, like_intents, nothing_dropped, one_basis, one_accepted}
 use Rattle.oracle_expert.proofs.RunLemmas.{IsOracles, oracle_runs}
 use Rattle.turn_lock.specs.Passes.{Badge}
 use Rattle.expert_panel.specs.declared.seat.Seat.{Seat}
 use Rattle.expert_panel.specs.declared.end.SeatEnd.{SeatEnd}
 use Rattle.expert_panel.specs.declared.end.SeatEnd.TheVariants.{Done, Spent, Memory}
 use Rattle.expert_panel.specs.Seats.{IsEnd}
-use Rattle.expert_panel.specs.Explorations.{IsOraclesShare, EachNumbered, HasFewRows, most_turns, most_turns_between, IsWithinTurns, HasMadeAtMost, SeatsTurns, HasAgreed, is_part}
+use Rattle.expert_panel.specs.Explorations.{IsOraclesShare, EachNumbered, HasFewRows, most_turns, most_turns_between, IsWithinTurns, HasMadeAtMost, SeatsTurns, HasAgreed, HasEvenRows}
 use Rattle.expert_panel.proofs.ShareLemmas.{Run}
 
 -- there is an expert, and no more than there may be
@@ -104,14 +106,18 @@ module _ (o : Opening) (H : List SetEntry) (turns : ℕ) (oracles : List Recall)
           (small k (record { table = o.table; conflicts = []; given = None }) (omega arith)) many narrow in
           false≢true (sym h ∙ subst (λ (n : ℕ). ends_done (own H n) ≡ true) next done)
 
-  -- ---- tables of one context
+  -- ---- tables with the intents of one context
 
-  module _ (C : Context) (wide : C.width ≡ K.width) (part : is_part K C ≡ true) (known : list_all (holds C) o.settings.known ≡ true)
-      (same : All (λ (oracle : Recall). oracle.table.context ≡ C) oracles)
+  module _ (C : Context) (wide : C.width ≡ K.width) (part : are_intents C K.rows ≡ true)
+      (known : list_all (holds C) o.settings.known ≡ true)
+      (same : All (λ (oracle : Recall). HasIntentsOf C oracle.table.context) oracles) (even : All HasEvenRows oracles)
       (others : (e : ℕ) → (e ≡ 0) ⊎ (length oracles < e) → own H e ≡ []) where
-    -- an oracle of C that knows no names
+    abbrev all : Context
+    all = of_intents C
+
+    -- an oracle of all intents that knows no names
     abbrev bare : Recall
-    bare = record { table = record { title = None; objects = []; attributes = []; context = C }; conflicts = []; given = None }
+    bare = record { table = record { title = None; objects = []; attributes = []; context = all }; conflicts = []; given = None }
 
     abbrev oracle_of : ℕ → Recall
     oracle_of zero = bare
@@ -120,11 +126,11 @@ module _ (o : Opening) (H : List SetEntry) (turns : ℕ) (oracles : List Recall)
     abbrev table_of : ℕ → NamedContext
     table_of e = (oracle_of e).table
 
-    one_context : (e : ℕ) → (table_of e).context ≡ C
-    one_context zero = refl
-    one_context (suc k) = elim (cases_lt k (length oracles)) [
-      | inl lt ↦ same k bare lt
-      | inr ge ↦ ap (λ (r : Recall). r.table.context) (get_or_past oracles k bare ge)
+    alike : (e : ℕ) → IsLike all (table_of e).context
+    alike zero = like_itself all
+    alike (suc k) = elim (cases_lt k (length oracles)) [
+      | inl lt ↦ like_intents C (get_or oracles k bare).table.context (same k bare lt) (even k bare lt)
+      | inr ge ↦ subst (λ (r : Recall). IsLike all r.table.context) (sym (get_or_past oracles k bare ge)) (like_itself all)
     ]
 
     no_entries : (e : ℕ) → own H e ≡ [] → IsOracleFront (table_of e) e (own H e)
@@ -148,7 +154,8 @@ module _ (o : Opening) (H : List SetEntry) (turns : ℕ) (oracles : List Recall)
         let mine : get_or oracles k bare ≡ oracle = get_or_from_slice_get oracles k oracle bare at in
         (shares k oracle at).conflicts ∙ ap (λ (n : ℕ). conflicts_of oracle.table (own H n)) next
         ∙ ap (λ (r : Recall). conflicts_of r.table (own H (suc k))) (sym mine)
-        ∙ nothing_dropped C table_of one_context K o.table.objects o.settings H respecting most known legal wide part fronts (suc k)
+        ∙ nothing_dropped all table_of alike K o.table.objects o.settings H respecting most
+        (known-intents C o.settings.known known) legal wide (intents_among C K.rows part) fronts (suc k)
         ∙ ap (λ (r : Recall). no_conflict r.table) mine
 
     pub agreed : (explore : History) (spent : Bool) → explore.opening ≡ o → explore.journal ≡ H → (spent ≡ false → open_of explore ≡ [])
@@ -165,13 +172,16 @@ module _ (o : Opening) (H : List SetEntry) (turns : ℕ) (oracles : List Recall)
           kept = none_dropped;
           accepted = λ h.
               subst (λ (S : Settings). SameMembers (state_of explore).accepted (basis_known S.known C)) (sym settings)
-              (subst (λ (t : State). SameMembers t.accepted (basis_known o.settings.known C)) (sym is)
-              (one_accepted C table_of one_context K o.table.objects o.settings H respecting most known legal wide part fronts
-              (done h)));
+              (subst (λ (t : State). SameMembers t.accepted (basis_known o.settings.known C)) (sym is) (λ p.
+              one_accepted all table_of alike K o.table.objects o.settings H respecting most
+              (known-intents C o.settings.known known) legal wide (intents_among C K.rows part) fronts (done h) p
+              ∙ ap (list_all p) (one_basis-intents o.settings.known C)));
           basis = λ h.
               subst (λ (S : Settings). basis_known S.known (state_of explore).context ≡ basis_known S.known C) (sym settings)
               (ap (λ (t : State). basis_known o.settings.known t.context) is
-              ∙ one_basis C table_of one_context K o.table.objects o.settings H respecting most known legal wide part fronts (done h));
+              ∙ one_basis all table_of alike K o.table.objects o.settings H respecting most
+              (known-intents C o.settings.known known) legal wide (intents_among C K.rows part) fronts (done h)
+              ∙ one_basis-intents o.settings.known C);
         }
 
 -- ---- one seat

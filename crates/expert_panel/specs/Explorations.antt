@@ -1,8 +1,6 @@
 -- Explorations by oracles: what each did in the one history.
 use Rattle.std.specs.Prelude.{◌≡◌, ℕ, ◌+◌, ◌-◌, ◌*◌, ◌≤◌, ◌<◌, ◌⊎◌, ◌↔◌, Bool, true, false, Option, Some, List, [], All, map, length, slice_get}
-use Rattle.std.specs.List.{list_all, list_any}
 use Rattle.fca_model.specs.declared.TheConstants.{MAX_OBJECTS}
-use Rattle.fca_model.specs.Sets.{same}
 use Rattle.fca_model.specs.Context.{Context}
 use Rattle.fca_model.specs.Pseudo.{basis_known}
 use Rattle.fca_model.specs.Invariant.{SameMembers}
@@ -74,12 +72,13 @@ SeatsTurns H old new = HasMadeAtMost (most_turns H new.expert) old new
 abbrev pub most_turns_between : List SetEntry → Recall → Recall → ℕ
 most_turns_between H old new = 2 * recorded_in H + (dropped new.conflicts - dropped old.conflicts) + 1
 
--- each row of K is a row of C
-abbrev pub is_part : Context → Context → Bool
-is_part K C = list_all (λ row. list_any (same row) C.rows) K.rows
+-- all rows of the oracle's table have one width
+abbrev pub HasEvenRows : Recall → Type 0
+HasEvenRows oracle = All (λ row. length row ≡ oracle.table.context.width) oracle.table.context.rows
 
--- What comes of oracles of one context C: none dropped a row; and if none was spent, what was accepted is the basis of C beside what is
--- known, and so is the basis of the recorded rows
+-- What comes of oracles of tables with the intents of one context C: none dropped a row; and if none was spent, what was accepted is the
+-- basis of C beside what
+-- is known, and so is the basis of the recorded rows
 pub record HasAgreed (C : Context) (explore : History) (oracles : List Recall) (spent : Bool) : Type 0 where
   pub kept : All (λ oracle. oracle.conflicts ≡ no_conflict oracle.table) oracles
   pub accepted : spent ≡ false → SameMembers (state_of explore).accepted (basis_known explore.opening.settings.known C)

@@ -9,8 +9,9 @@ ghost use Rattle.fca_model.specs.Invariant.{rows_respect};
 ghost use Rattle.explore_state.specs.History.{opening_state, open_of};
 ghost use Rattle.turn_lock.specs.Passes.{badge, roll, IsFresh};
 ghost use Rattle.oracle_expert.specs.Oracles.{untold, no_conflict};
+ghost use Rattle.oracle_expert.specs.Intents.{HasIntentsOf, are_intents};
 ghost use Rattle.oracle_expert.specs.Runs.{ends_done};
-ghost use Rattle.expert_panel.specs.Explorations.{IsOraclesShare, EachNumbered, HasEnded, HasFewRows, IsWithinTurns, HasAgreed, is_part, is_spent, is_out_of_memory};
+ghost use Rattle.expert_panel.specs.Explorations.{IsOraclesShare, EachNumbered, HasEnded, HasFewRows, IsWithinTurns, HasAgreed, HasEvenRows, is_spent, is_out_of_memory};
 
 use crate::end::SeatEnd;
 use crate::panel::run_panel;
@@ -70,8 +71,8 @@ pub fn explore_with_oracles<R: Threads + Wait + Sync>(
     ensures finished { IfOk result (λ r. r.spent ≡ false → open_of r.explore ≡ []) }
     ensures turns { IfOk result (λ r. EachNumbered (IsWithinTurns r.explore.journal) r.oracles.items) }
     ensures unspent { IfOk result (λ r. turns ≡ MAX_TURNS → explore.opening.table.context.width ≤ MAX_SURVEYED → r.spent ≡ false) }
-    ensures agreed { IfOk result (λ r. (C : Context) → All (λ expert. expert.context ≡ C) experts.items
-        → is_part explore.opening.table.context C ≡ true → rows_respect explore.opening.settings.known C ≡ true
+    ensures agreed { IfOk result (λ r. (C : Context) → All (λ expert. HasIntentsOf C expert.context) experts.items
+        → are_intents C explore.opening.table.context.rows ≡ true → rows_respect explore.opening.settings.known C ≡ true
         → HasAgreed C r.explore r.oracles.items r.spent) }
 {
     let _experts = explore.experts();
@@ -86,6 +87,7 @@ pub fn explore_with_oracles<R: Threads + Wait + Sync>(
 fn oracles_of(alloc: Global, tables: Vec<Table>) -> Result<Vec<Oracle>, Memory>
     ensures untold { IfOk result (λ oracles. oracles.items ≡ map untold tables.items) }
     ensures few { IfOk result (λ oracles. All HasFewRows oracles.items) }
+    ensures even { IfOk result (λ oracles. All HasEvenRows oracles.items) }
 {
     let mut oracles = Vec::with_capacity(alloc, tables.len())?;
     for table in tables {

@@ -10,8 +10,9 @@ use Rattle.fca_model.specs.Exploration.{Settings, plain}
 use Rattle.context_table.specs.Generated.{made_table}
 use Rattle.explore_state.specs.History.{History, state_of, open_of}
 use Rattle.explore_state.specs.Basis.{IsBasisBeside}
+use Rattle.oracle_expert.specs.Intents.{are_intents}
 use Rattle.oracle_expert.specs.Oracles.{Recall}
-use Rattle.expert_panel.specs.Explorations.{HasAgreed, is_part}
+use Rattle.expert_panel.specs.Explorations.{HasAgreed}
 use Rattle.basis_report.specs.Surveys.{survey_text}
 use Rattle.context_table.specs.Recipes.{recipe_table}
 use Rattle.context_table.specs.declared.recipe.Recipe.{Recipe}
@@ -21,22 +22,27 @@ pub recipe_width : (r : Recipe) → (recipe_table r).context.width ≡ r.attribu
 unfolding made_table
 recipe_width r = refl
 
--- a table without objects has no row that another lacks
-pub is_part-none : (s m d : ℕ) (C : Context) → is_part (recipe_table (record { seed = s; objects = 0; attributes = m; density = d })).context C ≡ true
+-- a table without objects has no row that is no intent
+pub are_intents-none : (s m d : ℕ) (C : Context)
+    → are_intents C (recipe_table (record { seed = s; objects = 0; attributes = m; density = d })).context.rows ≡ true
 unfolding made_table
-is_part-none s m d C = refl
+are_intents-none s m d C = refl
 
-pub length-agreed : (C : Context) (explore : History) (accepted : List Rule) (oracles : List Recall) (spent : Bool) → explore.opening.settings ≡ plain
-    → (open_of explore ≡ [] → IsBasisBeside explore.opening.settings.known (state_of explore).context accepted) → (spent ≡ false → open_of explore ≡ [])
+pub length-agreed : (C : Context) (explore : History) (accepted : List Rule) (oracles : List Recall) (spent : Bool)
+    → explore.opening.settings ≡ plain
+    → (open_of explore ≡ [] → IsBasisBeside explore.opening.settings.known (state_of explore).context accepted)
+    → (spent ≡ false → open_of explore ≡ [])
     → HasAgreed C explore oracles spent → spent ≡ false → length accepted ≡ length (basis C)
 length-agreed C explore accepted oracles spent plainly is finished agreed unspent =
     (is (finished unspent)).once ∙ ap length (agreed.basis unspent) ∙ ap (λ (t : Settings). length (basis_known t.known C)) plainly
 
 -- with nothing known, each row respects it
 pub respecting_plain : (s : Settings) (C : Context) → s ≡ plain → rows_respect s.known C ≡ true
-respecting_plain s C plainly = subst (λ (t : Settings). rows_respect t.known C ≡ true) (sym plainly) (list_all_from (respects_all []) (λ row. refl) C.rows)
+respecting_plain s C plainly = subst (λ (t : Settings). rows_respect t.known C ≡ true) (sym plainly)
+    (list_all_from (respects_all []) (λ row. refl) C.rows)
 
-pub survey_text-counts : (t : NamedContext) (n m k : ℕ) → n ≡ length (intents t.context) → m ≡ length (basis t.context) → k ≡ length (basis t.context)
+pub survey_text-counts : (t : NamedContext) (n m k : ℕ) → n ≡ length (intents t.context) → m ≡ length (basis t.context)
+    → k ≡ length (basis t.context)
     → survey_text t n m k ≡ surveyed_text t
 survey_text-counts t n m k concepts members explored =
     ap (λ a. survey_text t a m k) concepts ∙ ap (λ a. survey_text t (length (intents t.context)) a k) members

@@ -1,5 +1,5 @@
--- What `explore` reads: a table, what is known of it, and of each expert a table that has the same attributes in the same order. Where experts are named,
--- each has the word of its file as its name, if that is one.
+-- What `explore` reads: a table, what is known of it, and for each expert a table with the same attributes in the same order. If experts
+-- are named, each has the word of its file as its name, if that is a name.
 --
 -- Of the files `A` and, with a line break in its name, a second, expert 1 alone has a name, which is A.
 use Rattle.std.specs.Prelude.{◌≡◌, ℕ, ◌+◌, ◌⊎◌, Bool, true, false, ◌&&◌, cond, Option, List, [], ◌∷◌, bytes_eq}
@@ -28,7 +28,7 @@ pub record Panel : Type 0 where
   pub settings : Settings
   pub experts : List NamedContext
 
--- settings that a script can tell, which ask of the table's rows what they have, and under which all experts may hold one question
+-- settings that a text can spell, whose known implications the table's rows respect, and under which all experts may hold one question
 pub record MayExplore (table : NamedContext) (s : Settings) : Type 0 where
   pub writable : SettingsCanBeWritten table.context.width s
   pub respected : rows_respect s.known table.context ≡ true
@@ -45,13 +45,13 @@ abbrev pub names_from : ℕ → List Text → List (ℕ × RowName)
 names_from e [] = []
 names_from e (file ∷ files) = cond (is_named file) ((e, file) ∷ names_from (e + 1) files) (names_from (e + 1) files)
 
--- the same from the first expert on, where experts are named
-abbrev pub names_told : Bool → List Text → List (ℕ × RowName)
-names_told names files = cond names (names_from 1 files) []
+-- the names of all experts by their files, or none if experts are not named
+abbrev pub names_by_files : Bool → List Text → List (ℕ × RowName)
+names_by_files names files = cond names (names_from 1 files) []
 
--- the settings under which this is known, of experts who have these files
+-- the settings with these known implications, of experts who have these files
 abbrev pub settings_by : List Rule → Bool → List Text → Settings
-settings_by S names files = record { known = S; holders = MAX_EXPERTS; expert_names = names_told names files }
+settings_by S names files = record { known = S; holders = MAX_EXPERTS; expert_names = names_by_files names files }
 
 -- ---- the tables of experts
 
@@ -61,15 +61,15 @@ same_names [] (name ∷ names) = false
 same_names (name ∷ names) [] = false
 same_names (name ∷ names) (other ∷ others) = bytes_eq name other && same_names names others
 
--- an expert's table, where its attributes are those of the table
-abbrev pub agreeing : NamedContext → NamedContext → Reading NamedContext
-agreeing table D = cond (same_names D.attributes table.attributes) (Read D) Refused
+-- an expert's table, if its attributes are those of the table
+abbrev pub if_agreeing : NamedContext → NamedContext → Reading NamedContext
+if_agreeing table D = cond (same_names D.attributes table.attributes) (Read D) Refused
 
 -- the table of an expert in the file
 abbrev pub expert_read : NamedContext → Text → (Text → Told) → Reading NamedContext
-expert_read table file files = then (table_read file (files file)) (agreeing table)
+expert_read table file files = then (table_read file (files file)) (if_agreeing table)
 
--- the tables of the experts in the files, one after the other
+-- the tables of the experts in the files, in their order
 abbrev pub experts_read : NamedContext → List Text → (Text → Told) → Reading (List NamedContext)
 experts_read table [] files = Read []
 experts_read table (file ∷ rest) files =
@@ -84,19 +84,18 @@ panel_read file known names experts files =
 
 -- ---- why they are not read
 
--- the stop of the file of an expert, or, where a table was read of it, that this has other attributes
+-- the stop for the file of an expert, or, if its table was read, that it has other attributes
 abbrev pub IsExpertStop : NamedContext → Text → (Text → Told) → (Text → Type 0) → Origin → Stop → Type 0
 IsExpertStop table file files rises origin stop = IsFileStop file (files file) (rises file) origin stop
-    ⊎ ((stop ≡ OtherAttributes origin) × (D : NamedContext) × MayRead (table_read file (files file)) D × (agreeing table D ≡ Refused))
+    ⊎ ((stop ≡ OtherAttributes origin) × (D : NamedContext) × MayRead (table_read file (files file)) D × (if_agreeing table D ≡ Refused))
 
--- The stop of the files of experts, of which the first has this place behind the others that the words name: of the first file, or, where an expert's
--- table was read of it, of those behind it. Or memory is wanting
+-- The stop for the files of experts, from this place on: for the first of them, or, if that was read, for a later one; or memory ran out
 abbrev pub IsExpertsStop : NamedContext → ℕ → List Text → (Text → Told) → (Text → Type 0) → Stop → Type 0
 IsExpertsStop table place [] files rises stop = stop ≡ Memory
 IsExpertsStop table place (file ∷ later) files rises stop = IsExpertStop table file files rises (Later place) stop
     ⊎ ((D : NamedContext) × MayRead (expert_read table file files) D × IsExpertsStop table (place + 1) later files rises stop)
 
--- the stop of the first file or of what is known, or, where both were read, of the files of the experts
+-- the stop for the first file or the known file, or, if both were read, for the files of the experts
 abbrev pub IsPanelStop : Text → Option Text → List Text → (Text → Told) → (Text → Type 0) → Stop → Type 0
 IsPanelStop file known experts files rises stop = IsStartStop file known files rises stop
     ⊎ ((start : Start) × MayRead (start_read file known files) start × IsExpertsStop start.table 0 experts files rises stop)

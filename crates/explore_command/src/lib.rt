@@ -6,6 +6,6 @@ mod panel;
 mod play;
 mod surveys;
 
-pub use panel::{Panel, panel_under};
+pub use panel::{Panel, load_panel};
 pub use play::explore;
 pub use surveys::survey;

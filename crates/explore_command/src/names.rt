@@ -8,17 +8,21 @@ ghost use Rattle.fca_model.specs.declared.TheConstants.{MAX_EXPERTS};
 ghost use Rattle.fca_model.specs.Exploration.{is_expert};
 ghost use Rattle.exploration_terms.specs.Settings.{name_of};
 ghost use Rattle.expert_wire.specs.Words.{is_name};
-ghost use Rattle.explore_command.specs.Panels.{is_named, names_told};
+ghost use Rattle.explore_command.specs.Panels.{is_named, names_by_files};
 
 use expert_wire::text_of;
 use explore_state::ExpertNames;
 use fca_model::{Memory, Name, NameFault, Word};
 use std::alloc::Global;
 
-/// The names of the experts who have these files, where experts are named.
-pub(crate) fn names_told(alloc: Global, names: bool, files: &[Word]) -> Result<ExpertNames, Memory>
+/// The names of the experts by their files, or no names if experts are not named.
+pub(crate) fn names_by_files(
+    alloc: Global,
+    names: bool,
+    files: &[Word],
+) -> Result<ExpertNames, Memory>
     requires { length files.now ≤ MAX_EXPERTS }
-    ensures { IfOk result (λ list. list ≡ names_told names files.now) }
+    ensures { IfOk result (λ list. list ≡ names_by_files names files.now) }
 {
     let mut list = ExpertNames::new(alloc);
     if !names {
@@ -32,7 +36,7 @@ pub(crate) fn names_told(alloc: Global, names: bool, files: &[Word]) -> Result<E
     Ok(list)
 }
 
-/// Names the expert, who has no name yet, by the word of its file, if that is a name.
+/// Names the expert by the word of its file, if the word is a name.
 fn add_name(alloc: Global, list: &mut ExpertNames, expert: u8, file: &Word) -> Result<(), Memory>
     requires expert { is_expert expert ≡ true }
     requires unnamed { name_of expert list.old ≡ None }

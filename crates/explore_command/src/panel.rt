@@ -1,14 +1,16 @@
-//! The tables that `explore` reads: the one that is explored, and those of the experts.
+//! The tables that `explore` reads: the one to explore, and those of the experts.
 
 ghost use Rattle.std.specs.Prelude.{◌≡◌, ◌≤◌, ℕ, List, All, Bool, true, IfOk, IfErr, OnOk, vec_len, length, option_copied};
 ghost use Rattle.fca_model.specs.Exploration.{is_expert};
-ghost use Rattle.command_io.specs.Readings.{MayRead, MayRefuse, Rises};
+ghost use Rattle.command_io.specs.Readings.{MayRead, MayRefuse, Rises, SameCounts};
+ghost use Rattle.command_io.specs.Causes.{UnlessFault};
 ghost use Rattle.command_io.specs.Endings.{IsRefusal};
 ghost use Rattle.fca_model.specs.declared.TheConstants.{MAX_EXPERTS};
-ghost use Rattle.explore_command.specs.Panels.{MayExplore, agreeing, expert_read, experts_read, panel_read, IsExpertStop, IsExpertsStop, IsPanelStop};
+ghost use Rattle.explore_command.specs.Panels.{MayExplore, if_agreeing, expert_read, experts_read, panel_read, IsExpertStop, IsExpertsStop};
+ghost use Rattle.explore_command.specs.Panels.{IsPanelStop};
 
-use crate::names::names_told;
-use command_io::{Origin, Start, Stop, start_under, table_under};
+use crate::names::names_by_files;
+use command_io::{Origin, Start, Stop, load_start, load_table};
 use context_table::Table;
 use explore_state::{ExpertNames, Settings};
 use fca_io::Shelf;
@@ -39,9 +41,9 @@ impl Model for Panel {
     } };
 }
 
-/// The table in the file, what is known of it, and the tables of the experts in the others; `names` says whether experts are named by
-/// the words of their files.
-pub fn panel_under<H: Shelf>(
+/// Reads the table in the file, the known file if one is given, and the experts' tables. With `names`, each expert is named by the word of
+/// its file.
+pub fn load_panel<H: Shelf>(
     alloc: Global,
     shelf: &mut H,
     file: &Word,
@@ -56,15 +58,16 @@ pub fn panel_under<H: Shelf>(
     ensures refused { IfErr result (λ stop. IsRefusal stop → MayRefuse (panel_read file.now (option_copied known.entry) names experts.now (H.tells shelf.old))) }
     ensures cause { IfErr result (IsPanelStop file.now (option_copied known.entry) experts.now (H.tells shelf.old)
         (Rises (H.faults shelf.old) (H.faults shelf.new))) }
+    ensures quiet { UnlessFault result (SameCounts (H.faults shelf.old) (H.faults shelf.new)) }
 {
-    let names = names_told(alloc, names, experts)?;
-    let start = start_under(alloc, shelf, file, known)?;
-    let tables = experts_under(alloc, shelf, &start.table, experts)?;
-    Ok(seated(start, names, tables))
+    let names = names_by_files(alloc, names, experts)?;
+    let start = load_start(alloc, shelf, file, known)?;
+    let tables = load_experts(alloc, shelf, &start.table, experts)?;
+    Ok(panel_of(start, names, tables))
 }
 
-/// The panel of these experts, all of whom may hold one question.
-fn seated(start: Start, names: ExpertNames, experts: Vec<Table>) -> Panel
+/// The panel of these tables. All experts may hold one question.
+fn panel_of(start: Start, names: ExpertNames, experts: Vec<Table>) -> Panel
     requires wide { start.known.width ≡ start.table.context.width }
     requires may { MayExplore start.table (record { known = start.known.members; holders = MAX_EXPERTS; expert_names = names }) }
     ensures { result ≡ record {
@@ -84,8 +87,8 @@ fn seated(start: Start, names: ExpertNames, experts: Vec<Table>) -> Panel
     }
 }
 
-/// The tables in the files of experts who know the attributes of the table.
-fn experts_under<H: Shelf>(
+/// Reads the tables of the experts, and checks that they have the attributes of the table.
+fn load_experts<H: Shelf>(
     alloc: Global,
     shelf: &mut H,
     table: &Table,
@@ -97,18 +100,19 @@ fn experts_under<H: Shelf>(
     ensures refused { IfErr result (λ stop. IsRefusal stop → MayRefuse (experts_read table.now files.now (H.tells shelf.old))) }
     ensures cause { IfErr result (IsExpertsStop table.now 0 files.now (H.tells shelf.old)
         (Rises (H.faults shelf.old) (H.faults shelf.new))) }
+    ensures quiet { UnlessFault result (SameCounts (H.faults shelf.old) (H.faults shelf.new)) }
     ensures later { (other : List ℕ) → H.faults shelf.old other ≤ H.faults shelf.new other }
 {
     let mut tables = Vec::new(alloc);
     for (place, file) in files.iter().enumerate() {
-        let expert = expert_under(alloc, shelf, table, file, Origin::Later(place))?;
+        let expert = load_expert(alloc, shelf, table, file, Origin::Later(place))?;
         tables.push(expert)?;
     }
     Ok(tables)
 }
 
-/// The table in the file of an expert who knows the attributes of the table.
-fn expert_under<H: Shelf>(
+/// Reads the table of an expert, and checks that it has the attributes of the table.
+fn load_expert<H: Shelf>(
     alloc: Global,
     shelf: &mut H,
     table: &Table,
@@ -120,19 +124,20 @@ fn expert_under<H: Shelf>(
     ensures refused { IfErr result (λ stop. IsRefusal stop → MayRefuse (expert_read table.now file.now (H.tells shelf.old))) }
     ensures cause { IfErr result (IsExpertStop table.now file.now (H.tells shelf.old)
         (Rises (H.faults shelf.old) (H.faults shelf.new)) origin) }
+    ensures quiet { UnlessFault result (SameCounts (H.faults shelf.old) (H.faults shelf.new)) }
     ensures kept { (other : List ℕ) → H.tells shelf.new other ≡ H.tells shelf.old other }
     ensures later { (other : List ℕ) → H.faults shelf.old other ≤ H.faults shelf.new other }
 {
-    let expert = table_under(alloc, shelf, file, origin)?;
-    agreeing(table, expert, origin)
+    let expert = load_table(alloc, shelf, file, origin)?;
+    check_attributes(table, expert, origin)
 }
 
-/// The expert's table, where its attributes are those of the table.
-fn agreeing(table: &Table, expert: Table, origin: Origin) -> Result<Table, Stop>
-    ensures expert { IfOk result (λ r. MayRead (agreeing table.now expert) r) }
+/// Checks that the expert's table has the attributes of the table, and gives it back.
+fn check_attributes(table: &Table, expert: Table, origin: Origin) -> Result<Table, Stop>
+    ensures expert { IfOk result (λ r. MayRead (if_agreeing table.now expert) r) }
     ensures same { IfOk result (λ r. r ≡ expert) }
     ensures wide { IfOk result (λ r. r.context.width ≡ table.now.context.width) }
-    ensures refused { IfErr result (λ _. MayRefuse (agreeing table.now expert)) }
+    ensures refused { IfErr result (λ _. MayRefuse (if_agreeing table.now expert)) }
     ensures cause { IfErr result (λ stop. stop ≡ Stop.OtherAttributes origin) }
 {
     if expert.rows().width() == table.rows().width() && expert.same_attributes(table) {

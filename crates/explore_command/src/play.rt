@@ -1,34 +1,32 @@
-//! The exploration by the oracles of the panel, and its text.
+//! The exploration of a panel's table by its oracles, and the text of it.
 
 ghost use Rattle.std.specs.Prelude.{◌≡◌, ◌≤◌, true, [], All, Bool, IfOk, IfErr, length, option_copied, vec_len};
 ghost use Rattle.fca_model.specs.Exploration.{is_expert};
 ghost use Rattle.exploration_terms.specs.Settings.{settings_of};
 ghost use Rattle.basis_report.specs.Explorations.{Spells};
 ghost use Rattle.expert_scripts.specs.Transcripts.{SettingsCanBeWritten};
-ghost use Rattle.command_io.specs.Readings.{MayRefuse, Rises};
+ghost use Rattle.command_io.specs.Readings.{MayRefuse, Rises, SameCounts};
+ghost use Rattle.command_io.specs.Causes.{UnlessFault};
 ghost use Rattle.command_io.specs.Readings.Reading.{Read};
 ghost use Rattle.command_io.specs.Explorations.{opening_of};
 ghost use Rattle.command_io.specs.Endings.{IsRefusal};
 ghost use Rattle.explore_command.specs.Panels.{panel_read, IsPanelStop};
 ghost use Rattle.explore_command.specs.Played.{panel_ending, text_with_conflicts, IsPlay, MayPlay};
 
-use crate::panel::{Panel, panel_under};
+use crate::panel::{Panel, load_panel};
 use basis_report::{conflicts_text, explore_pieces, explore_text};
-use command_io::{Answer, Ending, Stop, Text};
+use command_io::{Ending, Output, Stop, Text};
 use context_table::Table;
 use expert_panel::{Explored, explore_with_oracles};
 use explore_state::{Explore, Settings};
 use fca_io::Shelf;
-use fca_model::{Memory, Word};
+use fca_model::{MAX_TURNS, Memory, Word};
 use std::alloc::Global;
 use std::sync::Wait;
 use std::thread::Threads;
 
-/// The most turns that an expert may take.
-pub(crate) const TURNS: u64 = 1 << 48;
-
-/// What the exploration of the table in the file comes to, beside what is known of it, by the oracles of the experts' files; `names` says
-/// whether experts are named by the words of their files.
+/// Explores the table in the file by the oracles of the experts' files, and gives the text. A known file may be given. With `names`, each
+/// expert is named by the word of its file.
 pub fn explore<R: Threads + Wait + Sync, H: Shelf>(
     rt: &R,
     alloc: Global,
@@ -37,31 +35,32 @@ pub fn explore<R: Threads + Wait + Sync, H: Shelf>(
     known: Option<&Word>,
     names: bool,
     experts: &[Word],
-) -> Result<Answer, Stop>
+) -> Result<Output, Stop>
     requires { is_expert (length experts.now) ≡ true }
-    ensures answer { IfOk result (MayPlay (panel_read file.now (option_copied known.entry) names experts.now (H.tells shelf.old))) }
+    ensures output { IfOk result (MayPlay (panel_read file.now (option_copied known.entry) names experts.now (H.tells shelf.old))) }
     ensures refused { IfErr result (λ stop. IsRefusal stop → MayRefuse (panel_read file.now (option_copied known.entry) names experts.now (H.tells shelf.old))) }
     ensures cause { IfErr result (IsPanelStop file.now (option_copied known.entry) experts.now (H.tells shelf.old)
         (Rises (H.faults shelf.old) (H.faults shelf.new))) }
+    ensures quiet { UnlessFault result (SameCounts (H.faults shelf.old) (H.faults shelf.new)) }
 {
-    let panel = panel_under(alloc, shelf, file, known, names, experts)?;
+    let panel = load_panel(alloc, shelf, file, known, names, experts)?;
     Ok(play(rt, alloc, panel)?)
 }
 
-/// The text of the exploration of the panel's table by its oracles.
-fn play<R: Threads + Wait + Sync>(rt: &R, alloc: Global, panel: Panel) -> Result<Answer, Memory>
+/// Explores the panel's table by its oracles, and gives the text.
+fn play<R: Threads + Wait + Sync>(rt: &R, alloc: Global, panel: Panel) -> Result<Output, Memory>
     requires count { is_expert (length panel.experts) ≡ true }
     requires wide { All (λ expert. expert.context.width ≡ panel.table.context.width) panel.experts }
     ensures { IfOk result (MayPlay (Read panel)) }
 {
-    let explored = explored(rt, alloc, panel)?;
-    let answer = answer_of(rt, alloc, &explored);
+    let explored = explore_panel(rt, alloc, panel)?;
+    let output = output_of(rt, alloc, &explored);
     drop(explored);
-    answer
+    output
 }
 
-/// The exploration of the panel's table by its oracles, as it ended.
-fn explored<R: Threads + Wait + Sync>(
+/// Explores the panel's table by its oracles.
+fn explore_panel<R: Threads + Wait + Sync>(
     rt: &R,
     alloc: Global,
     panel: Panel,
@@ -71,30 +70,30 @@ fn explored<R: Threads + Wait + Sync>(
     ensures { IfOk result (λ r. IsPlay panel r.explore r.oracles.items r.spent) }
 {
     let count = panel.experts.len() as u8;
-    let explore = opened(alloc, panel.table, count, panel.settings)?;
-    explore_with_oracles(rt, alloc, explore, panel.experts, TURNS)
+    let explore = open_exploration(alloc, panel.table, count, panel.settings)?;
+    explore_with_oracles(rt, alloc, explore, panel.experts, MAX_TURNS)
 }
 
-/// The text of the exploration, the conflicts of its oracles, and how it ended.
-fn answer_of<R: Threads>(rt: &R, alloc: Global, explored: &Explored) -> Result<Answer, Memory>
+/// The text of the exploration with the conflicts of its oracles, and its ending.
+fn output_of<R: Threads>(rt: &R, alloc: Global, explored: &Explored) -> Result<Output, Memory>
     requires count { vec_len explored.now.oracles ≤ explored.now.explore.opening.experts }
     requires writable { SettingsCanBeWritten explored.now.explore.opening.table.context.width explored.now.explore.opening.settings }
-    ensures text { IfOk result (λ answer. answer.text ≡ text_with_conflicts explored.now.explore explored.now.oracles.items) }
-    ensures spells { IfOk result (λ answer. Spells explored.now.explore.opening.table explored.now.explore.opening.settings explored.now.explore.journal answer.text) }
-    ensures ending { IfOk result (λ answer. answer.ending ≡ panel_ending explored.now.spent) }
+    ensures text { IfOk result (λ output. output.text ≡ text_with_conflicts explored.now.explore explored.now.oracles.items) }
+    ensures spells { IfOk result (λ output. Spells explored.now.explore.opening.table explored.now.explore.opening.settings explored.now.explore.journal output.text) }
+    ensures ending { IfOk result (λ output. output.ending ≡ panel_ending explored.now.spent) }
 {
     let text = if explored.oracles.len() > 1 {
         text_in_pieces(rt, alloc, explored)?
     } else {
         whole_text(alloc, explored)?
     };
-    Ok(Answer {
+    Ok(Output {
         text,
         ending: ending_of(explored.spent),
     })
 }
 
-/// The text of the exploration, whose pieces are written side by side, and the conflicts of its oracles.
+/// The text of the exploration in pieces, which several threads make, and the conflicts of its oracles.
 fn text_in_pieces<R: Threads>(rt: &R, alloc: Global, explored: &Explored) -> Result<Text, Memory>
     requires count { vec_len explored.now.oracles ≤ explored.now.explore.opening.experts }
     requires writable { SettingsCanBeWritten explored.now.explore.opening.table.context.width explored.now.explore.opening.settings }
@@ -107,7 +106,7 @@ fn text_in_pieces<R: Threads>(rt: &R, alloc: Global, explored: &Explored) -> Res
     Ok(Text::in_pieces(pieces))
 }
 
-/// The text of the exploration and the conflicts of its oracles, in one list.
+/// The text of the exploration and the conflicts of its oracles, in one piece.
 fn whole_text(alloc: Global, explored: &Explored) -> Result<Text, Memory>
     requires count { vec_len explored.now.oracles ≤ explored.now.explore.opening.experts }
     requires writable { SettingsCanBeWritten explored.now.explore.opening.table.context.width explored.now.explore.opening.settings }
@@ -120,7 +119,7 @@ fn whole_text(alloc: Global, explored: &Explored) -> Result<Text, Memory>
     Ok(Text::whole(text))
 }
 
-/// How the text ends, where an expert took all its turns or none did.
+/// The ending of the text. `spent` says whether an expert used up its turns.
 fn ending_of(spent: bool) -> Ending
     ensures { result ≡ panel_ending spent }
 {
@@ -131,8 +130,13 @@ fn ending_of(spent: bool) -> Ending
     }
 }
 
-/// The exploration of the table by so many experts, which no row forbids.
-fn opened(alloc: Global, table: Table, experts: u8, settings: Settings) -> Result<Explore, Memory>
+/// Opens an exploration of the table, whose rows respect the known implications.
+fn open_exploration(
+    alloc: Global,
+    table: Table,
+    experts: u8,
+    settings: Settings,
+) -> Result<Explore, Memory>
     requires { settings.known.width ≡ table.context.width }
     ensures opening { IfOk result (λ explore. explore.opening ≡ opening_of table experts (settings_of settings)) }
     ensures journal { IfOk result (λ explore. explore.journal ≡ []) }

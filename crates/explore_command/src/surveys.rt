@@ -1,4 +1,4 @@
-//! The command `survey`: a table that is made, its concepts, its basis, and an exploration by oracles of it.
+//! The command `survey`: it makes a table, and counts its concepts, its basis, and what oracles of it accept.
 
 ghost use Rattle.std.specs.Prelude.{◌≡◌, ◌≤◌, true, [], All, IfOk, length, replicate, vec_len};
 ghost use Rattle.fca_model.specs.Exploration.{is_expert, plain};
@@ -7,21 +7,20 @@ ghost use Rattle.fca_model.specs.declared.TheConstants.{MAX_SURVEYED};
 ghost use Rattle.context_table.specs.Recipes.{KeepsLimits, recipe_table};
 ghost use Rattle.explore_command.specs.Surveyed.{surveyed_text};
 
-use crate::play::TURNS;
 use basis_report::survey_text;
 use canonical_basis::basis;
 use context_table::Table;
 use expert_panel::explore_with_oracles;
 use explore_state::Explore;
 use fca_command::Recipe;
-use fca_model::Memory;
+use fca_model::{MAX_TURNS, Memory};
 use lectic_concepts::all_intents;
 use std::alloc::Global;
 use std::sync::Wait;
 use std::thread::Threads;
 
-/// Makes the table, and counts its concepts, the implications of its basis, and those that so many oracles of it accept where they
-/// explore its attributes.
+/// Makes the table of the recipe. Counts its concepts, the implications of its basis, and the implications that oracles of it accept when
+/// they explore its attributes.
 pub fn survey<R: Threads + Wait + Sync>(
     rt: &R,
     alloc: Global,
@@ -36,7 +35,7 @@ pub fn survey<R: Threads + Wait + Sync>(
     survey_of(rt, alloc, recipe, &table, experts)
 }
 
-/// What is counted of the recipe's table.
+/// The text of what is counted of the recipe's table.
 fn survey_of<R: Threads + Wait + Sync>(
     rt: &R,
     alloc: Global,
@@ -51,11 +50,11 @@ fn survey_of<R: Threads + Wait + Sync>(
 {
     let concepts = concepts_of(alloc, table)?;
     let members = members_of(rt, alloc, table)?;
-    let explored = explored(rt, alloc, recipe, table, experts)?;
+    let explored = accepted_of(rt, alloc, recipe, table, experts)?;
     survey_text(alloc, table, concepts, members, explored)
 }
 
-/// How many concepts the table has.
+/// The number of concepts of the table.
 fn concepts_of(alloc: Global, table: &Table) -> Result<usize, Memory>
     ensures { IfOk result (λ count. count ≡ length (intents table.now.context)) }
 {
@@ -63,7 +62,7 @@ fn concepts_of(alloc: Global, table: &Table) -> Result<usize, Memory>
     Ok(intents.len())
 }
 
-/// How many implications the basis of the table has.
+/// The number of implications in the basis of the table.
 fn members_of<R: Threads + Sync>(rt: &R, alloc: Global, table: &Table) -> Result<usize, Memory>
     ensures { IfOk result (λ count. count ≡ length (basis table.now.context)) }
 {
@@ -71,8 +70,8 @@ fn members_of<R: Threads + Sync>(rt: &R, alloc: Global, table: &Table) -> Result
     Ok(list.as_slice().len())
 }
 
-/// How many implications so many oracles of the table accept, where they explore its attributes from no object on.
-fn explored<R: Threads + Wait + Sync>(
+/// The number of implications that oracles of the table accept when they explore its attributes, beginning with no object.
+fn accepted_of<R: Threads + Wait + Sync>(
     rt: &R,
     alloc: Global,
     recipe: &Recipe,
@@ -85,15 +84,15 @@ fn explored<R: Threads + Wait + Sync>(
     ensures { IfOk result (λ count. count ≡ length (basis table.now.context)) }
 {
     let oracles = copies(alloc, table, experts)?;
-    let explore = opened(alloc, recipe, experts)?;
-    let explored = explore_with_oracles(rt, alloc, explore, oracles, TURNS)?;
+    let explore = open_bare(alloc, recipe, experts)?;
+    let explored = explore_with_oracles(rt, alloc, explore, oracles, MAX_TURNS)?;
     let accepted = explored.explore.accepted().len();
     drop(explored);
     Ok(accepted)
 }
 
-/// The exploration of the recipe's attributes by so many experts, from no object on.
-fn opened(alloc: Global, recipe: &Recipe, experts: u8) -> Result<Explore, Memory>
+/// Opens an exploration of the recipe's attributes without objects.
+fn open_bare(alloc: Global, recipe: &Recipe, experts: u8) -> Result<Explore, Memory>
     requires { KeepsLimits MAX_SURVEYED recipe.now }
     ensures opening { IfOk result (λ explore. explore.opening ≡ record {
       table = recipe_table (record { seed = recipe.now.seed; objects = 0; attributes = recipe.now.attributes; density = recipe.now.density });
@@ -113,7 +112,7 @@ fn opened(alloc: Global, recipe: &Recipe, experts: u8) -> Result<Explore, Memory
     }
 }
 
-/// The table so many times.
+/// Copies the table `count` times.
 fn copies(alloc: Global, table: &Table, count: u8) -> Result<Vec<Table>, Memory>
     ensures count { IfOk result (λ tables. vec_len tables ≡ count) }
     ensures same { IfOk result (λ tables. All (λ copy. copy ≡ table.now) tables.items) }

@@ -38,7 +38,7 @@ fn main(rt: HostRuntime) -> ExitCode {
     ExitCode::from(status)
 }
 
-/// Why the system's words are not to be had: one of them is no text, or memory is wanting.
+/// Why there are no words: one of them is no text, or memory ran out.
 fn wordless(error: &Error) -> Stop
     ensures text { (result ≡ Stop.NoCommand) ↔ (error_kind error.now ≡ InvalidData) }
     ensures memory { (result ≡ Stop.NoCommand) ⊎ (result ≡ Stop.Memory) }

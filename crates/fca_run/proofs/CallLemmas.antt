@@ -1,5 +1,7 @@
--- What a command comes to is that of the crate that runs it, and what is touched besides is nothing; and a call writes what its command came to.
-use Rattle.std.proofs.Common.{◌≡◌, ◌⊎◌, ◌∙◌, ◌++◌, [], ℕ, List, ◌∷◌, Bool, true, false, map, Option, Some, None, Result, Ok, Err, inl, inr, refl, sym, ap, subst, append-nil, arith}
+-- What a command comes to is that of the crate that runs it, and what is touched besides is nothing; and a call writes what its command
+-- came to.
+use Rattle.std.proofs.Common.{◌≡◌, ◌⊎◌, ◌∙◌, ◌++◌, [], ℕ, List, ◌∷◌, Bool, true, false, map, Option, Some, None, Result, Ok, Err, inl, inr}
+use Rattle.std.proofs.Common.{refl, sym, ap, subst, append-nil, arith}
 use Rattle.std.specs.Prelude.{IfOk, IfErr, OnOk}
 use Rattle.std.specs.Io.KnownBytes.{IsAtEnd}
 use Rattle.std.proofs.lemmas.Result.{IfOk-weaker, IfErr-weaker}
@@ -10,10 +12,12 @@ use Rattle.fca_io.specs.Links.{Ends, MayListenAt}
 use Rattle.fca_io.specs.Shelves.{Told}
 use Rattle.fca_command.specs.Commands.{report_file, files_of, first_file_of, reads_input, may_end_open, is_plain}
 use Rattle.fca_command.specs.declared.command.Command.{Command}
-use Rattle.fca_command.specs.declared.command.Command.TheVariants.{Concepts, Lattice, Basis, Direct, Follows, Convert, Reduce, Arrows, Scale, Replay, Explore, Serve, Make, Survey}
+use Rattle.fca_command.specs.declared.command.Command.TheVariants.{Concepts, Lattice, Basis, Direct, Follows, Convert, Reduce, Arrows}
+use Rattle.fca_command.specs.declared.command.Command.TheVariants.{Scale, Replay, Explore, Serve, Make, Survey}
 use Rattle.context_table.specs.declared.recipe.Recipe.{Recipe}
-use Rattle.command_io.specs.Readings.{Reading, then, MayRead, MayRefuse, Rises}
+use Rattle.command_io.specs.Readings.{Reading, then, MayRead, MayRefuse, Rises, SameCounts}
 use Rattle.command_io.specs.Readings.Reading.{Read}
+use Rattle.command_io.specs.Causes.{UnlessFault, UnlessListener}
 use Rattle.command_io.specs.Known.{Start, start_read}
 use Rattle.command_io.specs.Endings.{Output, Outcome, finished, ending_of, IsRefusal, IsUnread, IsOfFile, MayBecome}
 use Rattle.command_io.specs.Endings.Outcome.{Written, CutOff, Stopped}
@@ -22,20 +26,22 @@ use Rattle.command_io.specs.declared.stop.Origin.{Origin}
 use Rattle.command_io.specs.declared.stop.Origin.TheVariants.{File, Known, Later, Input}
 use Rattle.command_io.specs.Explorations.{Recorded, open_at}
 use Rattle.command_io.specs.Streams.{Moment, GainsLine, HasConcluded}
-use Rattle.command_io.specs.declared.answer.Ending.{Ending}
-use Rattle.command_io.specs.declared.answer.Ending.TheVariants.{Finished, Open, Spent}
+use Rattle.command_io.specs.declared.output.Ending.{Ending}
+use Rattle.command_io.specs.declared.output.Ending.TheVariants.{Finished, Open, Spent}
 use Rattle.command_io.specs.declared.stop.Stop.{Stop}
 use Rattle.command_io.specs.declared.stop.Stop.TheVariants.{Listener, Memory}
 use Rattle.command_io.proofs.ReadingLemmas.{refused_then}
-use Rattle.replay_command.specs.Replayed.{replayed, exploration_output, MayReplay}
+use Rattle.command_io.proofs.QuietLemmas.{unless_fault, unless_listener}
+use Rattle.replay_command.specs.Replayed.{replay_read, exploration_output, MayReplay}
 use Rattle.explore_command.specs.Panels.{Panel, panel_read, IsPanelStop}
 use Rattle.explore_command.specs.Played.{panel_ending, MayPlay}
-use Rattle.serve_command.specs.Openings.{opened_by}
-use Rattle.serve_command.specs.Served.{served, MayServe, IsServeStop, GaveAllBack}
+use Rattle.serve_command.specs.Openings.{opening_by}
+use Rattle.serve_command.specs.Served.{serving_record, MayServe, IsServeStop, GaveAllBack}
 use Rattle.serve_command.proofs.AcceptedLemmas.{TookAndGave-none}
 use Rattle.fca_run.specs.Causes.{fault_file}
-use Rattle.fca_run.specs.Outputs.{output, survey_output}
-use Rattle.fca_run.specs.Calls.{ShelfMoment, LinkMoment, Sides, Outside, outside, unlinked, no_sides, MayEnd, read_by, IsGiven, IsBlamed, FaultRose, LinkFaultRose, IsCommandStop, HasGivenBack, MayListen, ComesTo, CallComesTo}
+use Rattle.fca_run.specs.Outputs.{output_read, survey_output}
+use Rattle.fca_run.specs.Calls.{ShelfMoment, LinkMoment, Sides, Outside, outside, unlinked, no_input, no_sides, MayEnd, read_by, IsGiven}
+use Rattle.fca_run.specs.Calls.{IsBlamed, FaultRose, LinkFaultRose, IsQuiet, IsCommandStop, HasGivenBack, MayListen, ComesTo, CallComesTo}
 use Rattle.fca_run.specs.Courses.{HasCourse}
 use Rattle.fca_run.proofs.CourseLemmas.{play-tells, serve-tells}
 use Rattle.fca_run.proofs.BlameLemmas.{stop-blamed, given-comes}
@@ -50,9 +56,27 @@ pub any-ok : {X F : Type 0} (r : Result X F) (P : Type 0) → P → OnOk r P
 any-ok (Ok x) P p = p
 any-ok (Err e) P p = tt
 
+-- ---- counts of faults
+
+module _ {H S L E : Type 0} (output : Result Output Stop) where
+  quiet_with : (old new : Outside H S L E) → UnlessFault output (SameCounts old.shelf.faults new.shelf.faults)
+      → UnlessFault output (new.input.faults ≡ old.input.faults)
+      → UnlessListener output (SameCounts old.link.open_faults new.link.open_faults)
+      → UnlessListener output (new.link.accept_faults ≡ old.link.accept_faults)
+      → IsQuiet output old new
+  quiet_with old new files input addresses accepting = record { files = files; input = input; addresses = addresses; accepting = accepting }
+
+  quiet_same : (old : Outside H S L E) → IsQuiet output old old
+  quiet_same old = quiet_with old old
+      (unless_fault output (SameCounts old.shelf.faults old.shelf.faults) (λ _. refl))
+      (unless_fault output (old.input.faults ≡ old.input.faults) refl)
+      (unless_listener output (SameCounts old.link.open_faults old.link.open_faults) (λ _. refl))
+      (unless_listener output (old.link.accept_faults ≡ old.link.accept_faults) refl)
+
 -- ---- how texts end
 
-panel-ends : (file : Text) (known : Option Text) (names : Bool) (experts : List Text) (spent : Bool) → MayEnd (Explore file known names experts) (panel_ending spent)
+panel-ends : (file : Text) (known : Option Text) (names : Bool) (experts : List Text) (spent : Bool)
+    → MayEnd (Explore file known names experts) (panel_ending spent)
 panel-ends file known names experts true = tt
 panel-ends file known names experts false = tt
 
@@ -63,60 +87,74 @@ questions-end command (question ∷ later) may = may
 pub finished-ends : (command : Command) (ending : Ending) → ending ≡ Finished → MayEnd command ending
 finished-ends command ending e = subst (MayEnd command) (sym e) tt
 
-pub replay-ends : (file : Text) (known : Option Text) (reading : Reading Recorded) (answer : Output) → MayReplay reading answer → MayEnd (Replay file known) answer.ending
-replay-ends file known reading answer replay =
-    subst (MayEnd (Replay file known)) (sym (ap (λ (o : Output). o.ending) replay.output)) (questions-end (Replay file known) (open_at replay.made) refl)
+pub replay-ends : (file : Text) (known : Option Text) (reading : Reading Recorded) (output : Output) → MayReplay reading output
+    → MayEnd (Replay file known) output.ending
+replay-ends file known reading output replay =
+    subst (MayEnd (Replay file known)) (sym (ap (λ (o : Output). o.ending) replay.whole))
+    (questions-end (Replay file known) (open_at replay.made) refl)
 
 -- ---- explorations by oracles
 
 module _ {H S D E : Type 0} (talk : Sides E) (s s' : ShelfMoment H) (input : Moment S) (link : LinkMoment D E) where
-  pub explore-comes : (file : Text) (known : Option Text) (names : Bool) (experts : List Text) (came : Result Output Stop)
-      → IfOk came (MayPlay (panel_read file known names experts s.tells))
-      → IfErr came (λ stop. (IsRefusal stop → MayRefuse (panel_read file known names experts s.tells)))
-      → IfErr came (IsPanelStop file known experts s.tells (Rises s.faults s'.faults))
-      → ComesTo talk (Explore file known names experts) (outside s input link) (outside s' input link) came
-  explore-comes file known names experts came answers refuses causes =
+  pub explore-comes : (file : Text) (known : Option Text) (names : Bool) (experts : List Text) (output : Result Output Stop)
+      → IfOk output (MayPlay (panel_read file known names experts s.tells))
+      → IfErr output (λ stop. (IsRefusal stop → MayRefuse (panel_read file known names experts s.tells)))
+      → IfErr output (IsPanelStop file known experts s.tells (Rises s.faults s'.faults))
+      → UnlessFault output (SameCounts s.faults s'.faults)
+      → ComesTo talk (Explore file known names experts) (outside s input link) (outside s' input link) output
+  explore-comes file known names experts output answers refuses causes quiet =
       let command : Command = Explore file known names experts in
       let old : Outside H S D E = outside s input link in
       let new : Outside H S D E = outside s' input link in
       let reading : Reading Panel = panel_read file known names experts s.tells in
       let Refuses : Stop → Type 0 = λ stop. (IsRefusal stop → MayRefuse (read_by command old)) in
-      let refusals : IfErr came Refuses =
-      IfErr-weaker came (λ stop. (IsRefusal stop → MayRefuse reading)) Refuses (λ stop may. λ refusal. refused_then reading (λ _. Read tt) (may refusal)) refuses in
-      let blames : IfErr came (IsBlamed (FaultRose command old new) (LinkFaultRose command old new)) =
-      IfErr-weaker came (IsCommandStop command old new) (IsBlamed (FaultRose command old new) (LinkFaultRose command old new)) (λ stop is. stop-blamed command old new stop is) causes in
+      let refusals : IfErr output Refuses =
+      IfErr-weaker output (λ stop. (IsRefusal stop → MayRefuse reading)) Refuses
+      (λ stop may. λ refusal. refused_then reading (λ _. Read tt) (may refusal)) refuses in
+      let blames : IfErr output (IsBlamed (FaultRose command old new) (LinkFaultRose command old new)) =
+      IfErr-weaker output (IsCommandStop command old new) (IsBlamed (FaultRose command old new) (LinkFaultRose command old new))
+      (λ stop is. stop-blamed command old new stop is) causes in
       record {
-        answer = answers;
-        ending = IfOk-weaker came (MayPlay reading) (λ answer. MayEnd command answer.ending)
-            (λ answer play. subst (MayEnd command) (sym play.ending) (panel-ends file known names experts play.spent)) answers;
-        course = IfOk-weaker came (MayPlay reading) (λ answer. HasCourse command s.tells input.bytes answer.text) (λ answer play. play-tells reading answer play) answers;
+        allowed = answers;
+        ending = IfOk-weaker output (MayPlay reading) (λ output. MayEnd command output.ending)
+            (λ output play. subst (MayEnd command) (sym play.ending) (panel-ends file known names experts play.spent)) answers;
+        course = IfOk-weaker output (MayPlay reading) (λ output. HasCourse command s.tells input.bytes output.text)
+            (λ output play. play-tells reading output play) answers;
         cause = causes;
         refused = refusals;
         blamed = blames;
-        complete = λ given. given-comes (read_by command old) (FaultRose command old new) (LinkFaultRose command old new) came blames refusals given;
+        quiet = quiet_with output (outside s input link) (outside s' input link) quiet
+            (unless_fault output (input.faults ≡ input.faults) refl)
+            (unless_listener output (SameCounts link.open_faults link.open_faults) (λ _. refl))
+            (unless_listener output (link.accept_faults ≡ link.accept_faults) refl);
+        complete = λ given. given-comes (read_by command old) (FaultRose command old new)
+            (LinkFaultRose command old new) output blames refusals given;
         read_to_end = λ reads. cc;
         input_kept = λ _. refl;
         link_kept = λ _. refl;
-        unheard = any-err came (λ stop. (IsUnread stop → link ≡ link) × (IsOfFile stop → input ≡ input)) (λ stop. (λ _. refl, λ _. refl));
-        listens = any-ok came (MayListen command link) tt;
+        unheard = any-err output (λ stop. (IsUnread stop → link ≡ link) × (IsOfFile stop → input ≡ input)) (λ stop. (λ _. refl, λ _. refl));
+        listens = any-ok output (MayListen command link) tt;
         given_back = tt;
       }
 
 -- ---- sessions of experts
 
 module _ {E : Type 0} (talk : Sides E) where
-  serve-ends : (file : Text) (known : Option Text) (listen : Text) (reading : Reading Start) (experts holders : ℕ) (old new : Option (Ends E)) (answer : Output)
-      → MayServe talk.left talk.held talk.calls talk.reads talk.writes reading experts holders old new answer → MayEnd (Serve file known experts holders listen) answer.ending
-  serve-ends file known listen reading experts holders old new answer serve =
+  serve-ends : (file : Text) (known : Option Text) (listen : Text) (reading : Reading Start) (experts holders : ℕ)
+      (old new : Option (Ends E)) (output : Output)
+      → MayServe talk.left talk.held talk.calls talk.reads talk.writes reading experts holders old new output
+      → MayEnd (Serve file known experts holders listen) output.ending
+  serve-ends file known listen reading experts holders old new output serve =
       let command : Command = Serve file known experts holders listen in
       let is = serve.2.is in
-      subst (MayEnd command) (sym is.ending) (questions-end command (open_at (served (opened_by experts holders serve.0) is.history)) refl)
+      subst (MayEnd command) (sym is.ending) (questions-end command
+      (open_at (serving_record (opening_by experts holders serve.0) is.history)) refl)
 
-  serve-back : (reading : Reading Start) (experts holders : ℕ) (old new : Option (Ends E)) (came : Result Output Stop)
-      → IfOk came (MayServe talk.left talk.held talk.calls talk.reads talk.writes reading experts holders old new)
-      → IfErr came (λ stop. GaveAllBack talk.left talk.held talk.calls talk.reads talk.writes experts old new (stop ≡ Listener))
-      → GaveAllBack talk.left talk.held talk.calls talk.reads talk.writes experts old new (came ≡ Err Listener)
-  serve-back reading experts holders old new (Ok answer) serve back =
+  serve-back : (reading : Reading Start) (experts holders : ℕ) (old new : Option (Ends E)) (output : Result Output Stop)
+      → IfOk output (MayServe talk.left talk.held talk.calls talk.reads talk.writes reading experts holders old new)
+      → IfErr output (λ stop. GaveAllBack talk.left talk.held talk.calls talk.reads talk.writes experts old new (stop ≡ Listener))
+      → GaveAllBack talk.left talk.held talk.calls talk.reads talk.writes experts old new (output ≡ Err Listener)
+  serve-back reading experts holders old new (Ok output) serve back =
       let is = serve.2 in
       let many = is.count in
       record {
@@ -137,75 +175,136 @@ module _ {E : Type 0} (talk : Sides E) where
   }
 
 module _ {H S D E : Type 0} (talk : Sides E) (s s' : ShelfMoment H) (input : Moment S) (link link' : LinkMoment D E) where
-  pub serve-comes : (file : Text) (known : Option Text) (experts holders : ℕ) (listen : Text) (came : Result Output Stop)
-      → IfOk came (MayServe talk.left talk.held talk.calls talk.reads talk.writes (start_read file known s.tells) experts holders link.ends link'.ends)
-      → OnOk came ((link'.listens ≡ true) × MayListenAt link'.listens_at listen)
-      → IfErr came (λ stop. (IsRefusal stop → MayRefuse (start_read file known s.tells)))
-      → IfErr came (IsServeStop file known s.tells (Rises s.faults s'.faults) (Rises link.open_faults link'.open_faults listen ⊎ Rose link.accept_faults link'.accept_faults))
-      → IfErr came (λ stop. (IsUnread stop → link' ≡ link))
-      → IfErr came (λ stop. GaveAllBack talk.left talk.held talk.calls talk.reads talk.writes experts link.ends link'.ends (stop ≡ Listener))
-      → ComesTo talk (Serve file known experts holders listen) (outside s input link) (outside s' input link') came
-  serve-comes file known experts holders listen came answers listening refuses causes unread back =
+  pub serve-comes : (file : Text) (known : Option Text) (experts holders : ℕ) (listen : Text) (output : Result Output Stop)
+      → IfOk output (MayServe talk.left talk.held talk.calls talk.reads talk.writes
+      (start_read file known s.tells) experts holders link.ends link'.ends)
+      → OnOk output ((link'.listens ≡ true) × MayListenAt link'.listens_at listen)
+      → IfErr output (λ stop. (IsRefusal stop → MayRefuse (start_read file known s.tells)))
+      → IfErr output (IsServeStop file known s.tells (Rises s.faults s'.faults)
+      (Rises link.open_faults link'.open_faults listen ⊎ Rose link.accept_faults link'.accept_faults))
+      → IfErr output (λ stop. (IsUnread stop → link' ≡ link))
+      → IfErr output (λ stop. GaveAllBack talk.left talk.held talk.calls talk.reads talk.writes experts link.ends link'.ends
+      (stop ≡ Listener))
+      → UnlessFault output (SameCounts s.faults s'.faults)
+      → UnlessListener output (SameCounts link.open_faults link'.open_faults)
+      → UnlessListener output (link'.accept_faults ≡ link.accept_faults)
+      → ComesTo talk (Serve file known experts holders listen) (outside s input link) (outside s' input link') output
+  serve-comes file known experts holders listen output answers listening refuses causes unread back quiet quiet_open quiet_accept =
       let command : Command = Serve file known experts holders listen in
       let old : Outside H S D E = outside s input link in
       let new : Outside H S D E = outside s' input link' in
       let reading : Reading Start = start_read file known s.tells in
       let Refuses : Stop → Type 0 = λ stop. (IsRefusal stop → MayRefuse (read_by command old)) in
-      let refusals : IfErr came Refuses =
-      IfErr-weaker came (λ stop. (IsRefusal stop → MayRefuse reading)) Refuses (λ stop may. λ refusal. refused_then reading (λ _. Read tt) (may refusal)) refuses in
-      let blames : IfErr came (IsBlamed (FaultRose command old new) (LinkFaultRose command old new)) =
-      IfErr-weaker came (IsCommandStop command old new) (IsBlamed (FaultRose command old new) (LinkFaultRose command old new)) (λ stop is. stop-blamed command old new stop is) causes in
-      let Serves : Output → Type 0 = MayServe talk.left talk.held talk.calls talk.reads talk.writes reading experts holders link.ends link'.ends in
+      let refusals : IfErr output Refuses =
+      IfErr-weaker output (λ stop. (IsRefusal stop → MayRefuse reading)) Refuses
+      (λ stop may. λ refusal. refused_then reading (λ _. Read tt) (may refusal)) refuses in
+      let blames : IfErr output (IsBlamed (FaultRose command old new) (LinkFaultRose command old new)) =
+      IfErr-weaker output (IsCommandStop command old new) (IsBlamed (FaultRose command old new) (LinkFaultRose command old new))
+      (λ stop is. stop-blamed command old new stop is) causes in
+      let Serves : Output → Type 0 = MayServe talk.left talk.held talk.calls talk.reads talk.writes reading experts holders link.ends
+      link'.ends in
       record {
-        answer = answers;
-        ending = IfOk-weaker came Serves (λ answer. MayEnd command answer.ending)
-            (λ answer serve. serve-ends talk file known listen reading experts holders link.ends link'.ends answer serve) answers;
-        course = IfOk-weaker came Serves (λ answer. HasCourse command s.tells input.bytes answer.text)
-            (λ answer serve. serve-tells talk reading experts holders link.ends link'.ends answer serve) answers;
+        allowed = answers;
+        ending = IfOk-weaker output Serves (λ output. MayEnd command output.ending)
+            (λ output serve. serve-ends talk file known listen reading experts holders link.ends link'.ends output serve) answers;
+        course = IfOk-weaker output Serves (λ output. HasCourse command s.tells input.bytes output.text)
+            (λ output serve. serve-tells talk reading experts holders link.ends link'.ends output serve) answers;
         cause = causes;
         refused = refusals;
         blamed = blames;
-        complete = λ given. given-comes (read_by command old) (FaultRose command old new) (LinkFaultRose command old new) came blames refusals given;
+        quiet = quiet_with output old new quiet (unless_fault output (input.faults ≡ input.faults) refl) quiet_open quiet_accept;
+        complete = λ given. given-comes (read_by command old) (FaultRose command old new)
+            (LinkFaultRose command old new) output blames refusals given;
         read_to_end = λ reads. cc;
         input_kept = λ _. refl;
         link_kept = λ unused. cc;
-        unheard = IfErr-weaker came (λ stop. (IsUnread stop → link' ≡ link)) (λ stop. (IsUnread stop → link' ≡ link) × (IsOfFile stop → input ≡ input)) (λ stop same. (same, λ _. refl)) unread;
+        unheard = IfErr-weaker output (λ stop. (IsUnread stop → link' ≡ link))
+            (λ stop. (IsUnread stop → link' ≡ link) × (IsOfFile stop → input ≡ input)) (λ stop same. (same, λ _. refl)) unread;
         listens = listening;
-        given_back = serve-back talk reading experts holders link.ends link'.ends came answers back;
+        given_back = serve-back talk reading experts holders link.ends link'.ends output answers back;
       }
 
 -- ---- a survey
 
 module _ {H S D E : Type 0} (talk : Sides E) (s : ShelfMoment H) (input : Moment S) (link : LinkMoment D E) where
-  pub survey-comes : (r : Recipe) (experts : ℕ) (came : Result Output Stop) → IfOk came (λ answer. answer ≡ survey_output r) → IfErr came (λ stop. stop ≡ Memory)
-      → ComesTo talk (Survey r.seed r.objects r.attributes r.density experts) (outside s input link) (outside s input link) came
-  survey-comes r experts came answers causes =
+  pub survey-comes : (r : Recipe) (experts : ℕ) (output : Result Output Stop) → IfOk output (λ output. output ≡ survey_output r)
+      → IfErr output (λ stop. stop ≡ Memory)
+      → ComesTo talk (Survey r.seed r.objects r.attributes r.density experts) (outside s input link) (outside s input link) output
+  survey-comes r experts output answers causes =
       let command : Command = Survey r.seed r.objects r.attributes r.density experts in
       let old : Outside H S D E = outside s input link in
       let Refuses : Stop → Type 0 = λ stop. (IsRefusal stop → MayRefuse (read_by command old)) in
-      let refusals : IfErr came Refuses = IfErr-weaker came (λ stop. stop ≡ Memory) Refuses (λ stop memory. λ refusal. absurd (subst IsRefusal memory refusal)) causes in
-      let blames : IfErr came (IsBlamed (FaultRose command old old) (LinkFaultRose command old old)) =
-      IfErr-weaker came (λ stop. stop ≡ Memory) (IsBlamed (FaultRose command old old) (LinkFaultRose command old old)) (λ stop is. stop-blamed command old old stop is) causes in
+      let refusals : IfErr output Refuses = IfErr-weaker output (λ stop. stop ≡ Memory) Refuses
+      (λ stop memory. λ refusal. absurd (subst IsRefusal memory refusal)) causes in
+      let blames : IfErr output (IsBlamed (FaultRose command old old) (LinkFaultRose command old old)) =
+      IfErr-weaker output (λ stop. stop ≡ Memory) (IsBlamed (FaultRose command old old) (LinkFaultRose command old old))
+      (λ stop is. stop-blamed command old old stop is) causes in
       record {
-        answer = answers;
-        ending = IfOk-weaker came (λ answer. answer ≡ survey_output r) (λ answer. MayEnd command answer.ending)
-            (λ answer is. finished-ends command answer.ending (ap (λ (o : Output). o.ending) is)) answers;
-        course = any-ok came (Unit {0}) tt;
+        allowed = answers;
+        ending = IfOk-weaker output (λ output. output ≡ survey_output r) (λ output. MayEnd command output.ending)
+            (λ output is. finished-ends command output.ending (ap (λ (o : Output). o.ending) is)) answers;
+        course = any-ok output (Unit {0}) tt;
         cause = causes;
         refused = refusals;
         blamed = blames;
-        complete = λ given. given-comes (read_by command old) (FaultRose command old old) (LinkFaultRose command old old) came blames refusals given;
+        quiet = quiet_same output old;
+        complete = λ given. given-comes (read_by command old) (FaultRose command old old)
+            (LinkFaultRose command old old) output blames refusals given;
         read_to_end = λ reads. cc;
         input_kept = λ _. refl;
         link_kept = λ _. refl;
-        unheard = any-err came (λ stop. (IsUnread stop → link ≡ link) × (IsOfFile stop → input ≡ input)) (λ stop. (λ _. refl, λ _. refl));
-        listens = any-ok came (Unit {0}) tt;
+        unheard = any-err output (λ stop. (IsUnread stop → link ≡ link) × (IsOfFile stop → input ≡ input)) (λ stop. (λ _. refl, λ _. refl));
+        listens = any-ok output (Unit {0}) tt;
         given_back = tt;
+      }
+
+-- ---- an input that is not read
+
+module _ {H S D E : Type 0} (talk : Sides E) (s s' : ShelfMoment H) (input : Moment S) (link link' : LinkMoment D E)
+    (output : Result Output Stop) where
+  -- a command that waits does not read it
+  pub unread-input : (command : Command) → is_plain command ≡ false
+      → ComesTo talk command (outside s no_input link) (outside s' no_input link') output
+      → ComesTo talk command (outside s input link) (outside s' input link') output
+  unread-input (Concepts file json) waits comes = cc
+  unread-input (Lattice file) waits comes = cc
+  unread-input (Basis file json) waits comes = cc
+  unread-input (Direct file) waits comes = cc
+  unread-input (Follows file premise conclusion) waits comes = cc
+  unread-input (Convert file to) waits comes = cc
+  unread-input (Reduce file) waits comes = cc
+  unread-input (Arrows file) waits comes = cc
+  unread-input (Scale values plan) waits comes = cc
+  unread-input (Replay file known) waits comes = cc
+  unread-input (Make seed objects attributes density) waits comes = cc
+  unread-input command waits comes =
+      let old : Outside H S D E = outside s input link in
+      let new : Outside H S D E = outside s' input link' in
+      let blames : IfErr output (IsBlamed (FaultRose command old new) (LinkFaultRose command old new)) =
+      IfErr-weaker output (IsCommandStop command old new) (IsBlamed (FaultRose command old new) (LinkFaultRose command old new))
+      (λ stop is. stop-blamed command old new stop is) comes.cause in
+      record {
+        allowed = comes.allowed;
+        ending = comes.ending;
+        course = comes.course;
+        cause = comes.cause;
+        refused = comes.refused;
+        blamed = blames;
+        quiet = quiet_with output old new comes.quiet.files (unless_fault output (input.faults ≡ input.faults) refl)
+            comes.quiet.addresses comes.quiet.accepting;
+        complete = λ given. given-comes (read_by command old) (FaultRose command old new)
+            (LinkFaultRose command old new) output blames comes.refused given;
+        read_to_end = λ reads. cc;
+        input_kept = λ _. refl;
+        link_kept = comes.link_kept;
+        unheard = IfErr-weaker output _ _ (λ stop same. (same.0, λ _. refl)) comes.unheard;
+        listens = comes.listens;
+        given_back = comes.given_back;
       }
 
 -- ---- commands that wait for nobody
 
-module _ {H S : Type 0} (s s' : ShelfMoment H) (input input' : Moment S) (came : Result Output Stop) where
+module _ {H S : Type 0} (s s' : ShelfMoment H) (input input' : Moment S) (output : Result Output Stop) where
   -- what there is without a link
   abbrev before : Outside H S (Unit {0}) (Unit {0})
   before = outside s input unlinked
@@ -215,83 +314,98 @@ module _ {H S : Type 0} (s s' : ShelfMoment H) (input input' : Moment S) (came :
 
   -- the same of each of them
   plainly : (command : Command) → is_plain command ≡ true
-      → IfOk came (MayRead (output command s.tells input.bytes))
-      → IfOk came (λ answer. MayEnd command answer.ending)
-      → IfOk came (λ answer. HasCourse command s.tells input.bytes answer.text)
-      → IfErr came (IsCommandStop command before behind)
-      → IfErr came (λ stop. (IsRefusal stop → MayRefuse (then {Y = Unit {0}} (output command s.tells input.bytes) (λ _. Read tt))))
-      → IfErr came (IsBlamed (FaultRose command before behind) ⊥)
-      → (IsGiven (then {Y = Unit {0}} (output command s.tells input.bytes) (λ _. Read tt)) → IfErr came (λ stop. (stop ≡ Memory) ⊎ (FaultRose command before behind ⊎ ⊥)))
-      → (reads_input command ≡ true → OnOk came (IsAtEnd input'.bytes))
+      → IfOk output (MayRead (output_read command s.tells input.bytes))
+      → IfOk output (λ output. MayEnd command output.ending)
+      → IfOk output (λ output. HasCourse command s.tells input.bytes output.text)
+      → IfErr output (IsCommandStop command before behind)
+      → IfErr output (λ stop. (IsRefusal stop → MayRefuse (then {Y = Unit {0}} (output_read command s.tells input.bytes) (λ _. Read tt))))
+      → IfErr output (IsBlamed (FaultRose command before behind) ⊥)
+      → (IsGiven (then {Y = Unit {0}} (output_read command s.tells input.bytes) (λ _. Read tt))
+      → IfErr output (λ stop. (stop ≡ Memory) ⊎ (FaultRose command before behind ⊎ ⊥)))
+      → (reads_input command ≡ true → OnOk output (IsAtEnd input'.bytes))
       → (reads_input command ≡ false → input' ≡ input)
-      → IfErr came (λ stop. (IsOfFile stop → input' ≡ input))
-      → ComesTo no_sides command before behind came
-  plainly (Explore file known names experts) plain answers ends courses causes refuses blames completes at_end kept unread = cc
-  plainly (Serve file known experts holders listen) plain answers ends courses causes refuses blames completes at_end kept unread = cc
-  plainly (Survey seed objects attributes density experts) plain answers ends courses causes refuses blames completes at_end kept unread = cc
-  plainly _ plain answers ends courses causes refuses blames completes at_end kept unread = record {
-    answer = answers;
+      → IfErr output (λ stop. (IsOfFile stop → input' ≡ input))
+      → IsQuiet output before behind
+      → ComesTo no_sides command before behind output
+  plainly (Explore file known names experts) plain answers ends courses causes refuses blames completes at_end kept unread quiet = cc
+  plainly (Serve file known experts holders listen) plain answers ends courses causes refuses blames completes at_end kept unread quiet = cc
+  plainly (Survey seed objects attributes density experts) plain answers ends courses causes refuses blames completes at_end kept unread
+      quiet = cc
+  plainly _ plain answers ends courses causes refuses blames completes at_end kept unread quiet = record {
+    allowed = answers;
     ending = ends;
     course = courses;
     cause = causes;
     refused = refuses;
     blamed = blames;
+    quiet = quiet;
     complete = completes;
     read_to_end = at_end;
     input_kept = kept;
     link_kept = λ _. refl;
-    unheard = IfErr-weaker came (λ stop. (IsOfFile stop → input' ≡ input)) _ (λ stop same. (λ _. refl, same)) unread;
-    listens = any-ok came (Unit {0}) tt;
+    unheard = IfErr-weaker output (λ stop. (IsOfFile stop → input' ≡ input)) _ (λ stop same. (λ _. refl, same)) unread;
+    listens = any-ok output (Unit {0}) tt;
     given_back = tt;
   }
 
-  plain-unlinked : (command : Command) (R : Type 0) (stop : Stop) → is_plain command ≡ true → IsBlamed R (LinkFaultRose command before behind) stop → IsBlamed R ⊥ stop
+  plain-unlinked : (command : Command) (R : Type 0) (stop : Stop) → is_plain command ≡ true
+      → IsBlamed R (LinkFaultRose command before behind) stop → IsBlamed R ⊥ stop
   plain-unlinked (Explore file known names experts) R stop plain blamed = cc
   plain-unlinked (Serve file known experts holders listen) R stop plain blamed = cc
   plain-unlinked (Survey seed objects attributes density experts) R stop plain blamed = cc
   plain-unlinked _ R stop plain blamed = blamed
 
   pub plain-comes : (command : Command) → is_plain command ≡ true
-      → IfOk came (MayRead (output command s.tells input.bytes))
-      → IfOk came (λ answer. MayEnd command answer.ending)
-      → IfOk came (λ answer. HasCourse command s.tells input.bytes answer.text)
-      → IfErr came (IsCommandStop command before behind)
-      → IfErr came (λ stop. (IsRefusal stop → MayRefuse (output command s.tells input.bytes)))
-      → (reads_input command ≡ true → OnOk came (IsAtEnd input'.bytes))
+      → IfOk output (MayRead (output_read command s.tells input.bytes))
+      → IfOk output (λ output. MayEnd command output.ending)
+      → IfOk output (λ output. HasCourse command s.tells input.bytes output.text)
+      → IfErr output (IsCommandStop command before behind)
+      → IfErr output (λ stop. (IsRefusal stop → MayRefuse (output_read command s.tells input.bytes)))
+      → (reads_input command ≡ true → OnOk output (IsAtEnd input'.bytes))
       → (reads_input command ≡ false → input' ≡ input)
-      → IfErr came (λ stop. (IsOfFile stop → input' ≡ input))
-      → ComesTo no_sides command before behind came
-  plain-comes command plain answers ends courses causes refuses at_end kept unread =
+      → IfErr output (λ stop. (IsOfFile stop → input' ≡ input))
+      → UnlessFault output (SameCounts s.faults s'.faults)
+      → UnlessFault output (input'.faults ≡ input.faults)
+      → ComesTo no_sides command before behind output
+  plain-comes command plain answers ends courses causes refuses at_end kept unread quiet quiet_input =
       let R : Type 0 = FaultRose command before behind in
-      let reading : Reading (Unit {0}) = then (output command s.tells input.bytes) (λ _. Read tt) in
+      let reading : Reading (Unit {0}) = then (output_read command s.tells input.bytes) (λ _. Read tt) in
       let Refuses : Stop → Type 0 = λ stop. (IsRefusal stop → MayRefuse reading) in
-      let refusals : IfErr came Refuses =
-      IfErr-weaker came (λ stop. (IsRefusal stop → MayRefuse (output command s.tells input.bytes))) Refuses
-      (λ stop may. λ refusal. refused_then (output command s.tells input.bytes) (λ _. Read tt) (may refusal)) refuses in
-      let blames : IfErr came (IsBlamed R ⊥) =
-      IfErr-weaker came (IsCommandStop command before behind) (IsBlamed R ⊥) (λ stop is. plain-unlinked command R stop plain (stop-blamed command before behind stop is)) causes in
-      plainly command plain answers ends courses causes refusals blames (λ given. given-comes reading R ⊥ came blames refusals given) at_end kept unread
+      let refusals : IfErr output Refuses =
+      IfErr-weaker output (λ stop. (IsRefusal stop → MayRefuse (output_read command s.tells input.bytes))) Refuses
+      (λ stop may. λ refusal. refused_then (output_read command s.tells input.bytes) (λ _. Read tt) (may refusal)) refuses in
+      let blames : IfErr output (IsBlamed R ⊥) =
+      IfErr-weaker output (IsCommandStop command before behind) (IsBlamed R ⊥)
+      (λ stop is. plain-unlinked command R stop plain (stop-blamed command before behind stop is)) causes in
+      plainly command plain answers ends courses causes refusals blames
+      (λ given. given-comes reading R ⊥ output blames refusals given) at_end kept unread
+      (quiet_with output before behind quiet quiet_input
+      (unless_listener output (SameCounts before.link.open_faults behind.link.open_faults) (λ _. refl))
+      (unless_listener output (behind.link.accept_faults ≡ before.link.accept_faults) refl))
 
   -- a link that is there is left as it was
   module _ {D E : Type 0} (talk : Sides E) (link : LinkMoment D E) where
-    pub plain-linked : (command : Command) → is_plain command ≡ true → ComesTo no_sides command before behind came
-        → ComesTo talk command (outside s input link) (outside s' input' link) came
+    pub plain-linked : (command : Command) → is_plain command ≡ true → ComesTo no_sides command before behind output
+        → ComesTo talk command (outside s input link) (outside s' input' link) output
     plain-linked (Explore file known names experts) plain comes = cc
     plain-linked (Serve file known experts holders listen) plain comes = cc
     plain-linked (Survey seed objects attributes density experts) plain comes = cc
     plain-linked _ plain comes = record {
-      answer = comes.answer;
+      allowed = comes.allowed;
       ending = comes.ending;
       course = comes.course;
       cause = comes.cause;
       refused = comes.refused;
       blamed = comes.blamed;
+      quiet = quiet_with output (outside s input link) (outside s' input' link) comes.quiet.files comes.quiet.input
+          (unless_listener output (SameCounts link.open_faults link.open_faults) (λ _. refl))
+          (unless_listener output (link.accept_faults ≡ link.accept_faults) refl);
       complete = comes.complete;
       read_to_end = comes.read_to_end;
       input_kept = comes.input_kept;
       link_kept = λ _. refl;
-      unheard = IfErr-weaker came _ _ (λ stop same. (λ _. refl, same.1)) comes.unheard;
-      listens = any-ok came (Unit {0}) tt;
+      unheard = IfErr-weaker output _ _ (λ stop same. (λ _. refl, same.1)) comes.unheard;
+      listens = any-ok output (Unit {0}) tt;
       given_back = tt;
     }
 
@@ -321,12 +435,13 @@ module _ {H S D E : Type 0} (talk : Sides E) (old : Outside H S D E) where
 
   memory-comes : (command : Command) → ComesTo talk command old old (Err Memory)
   memory-comes command = record {
-    answer = tt;
+    allowed = tt;
     ending = tt;
     course = tt;
     cause = memory-causes command;
     refused = λ refusal. absurd refusal;
     blamed = tt;
+    quiet = quiet_same (Err Memory) old;
     complete = λ given. inl refl;
     read_to_end = λ reads. tt;
     input_kept = λ _. refl;
@@ -343,24 +458,26 @@ module _ {H S D E : Type 0} (talk : Sides E) (old : Outside H S D E) where
 -- ---- what is done with it
 
 -- two streams, of which the second got the line of what became of this
-module _ {K F : Type 0} (came : Result Output Stop) (out out' : Moment K) (err err' : Moment F) (result : ℕ) where
+module _ {K F : Type 0} (output : Result Output Stop) (out out' : Moment K) (err err' : Moment F) (result : ℕ) where
   -- names that agree on what came
-  relined : (f g : Stop → Text) → ((outcome : Outcome) → MayBecome came outcome → line_of f outcome ≡ line_of g outcome)
-      → HasConcluded came f out out' err err' result → HasConcluded came g out out' err err' result
+  relined : (f g : Stop → Text) → ((outcome : Outcome) → MayBecome output outcome → line_of f outcome ≡ line_of g outcome)
+      → HasConcluded output f out out' err err' result → HasConcluded output g out out' err err' result
   relined f g same concluded = record {
     outcome = concluded.outcome;
     became = concluded.became;
     status = concluded.status;
     text = concluded.text;
-    line = (let Gains : Option Text → Type 0 = λ line. GainsLine line err err' in subst Gains (same concluded.outcome concluded.became) concluded.line);
+    line = (let Gains : Option Text → Type 0 = λ line. GainsLine line err err' in
+        subst Gains (same concluded.outcome concluded.became) concluded.line);
   }
 
-line-named : (name : Text) (file : Stop → Text) (came : Result Output Stop) (outcome : Outcome) → IfErr came (λ stop. name ≡ file stop) → MayBecome came outcome
+line-named : (name : Text) (file : Stop → Text) (output : Result Output Stop) (outcome : Outcome) → IfErr output (λ stop. name ≡ file stop)
+    → MayBecome output outcome
     → line_of (λ _. name) outcome ≡ line_of file outcome
-line-named name file came (Written answer) named became = refl
-line-named name file came (CutOff answer) named became = refl
-line-named name file (Ok answer) (Stopped stop) named (inl became) = cc
-line-named name file (Ok answer) (Stopped stop) named (inr became) = cc
+line-named name file output (Written output) named became = refl
+line-named name file output (CutOff output) named became = refl
+line-named name file (Ok output) (Stopped stop) named (inl became) = cc
+line-named name file (Ok output) (Stopped stop) named (inr became) = cc
 line-named name file (Err other) (Stopped stop) named became =
     let same : other ≡ stop = cc in
     let P : Stop → Type 0 = λ t. name ≡ file t in
@@ -371,18 +488,22 @@ line-memory f g outcome e = ap (line_of f) e ∙ sym (ap (line_of g) e)
 
 module _ {K F : Type 0} (out out' : Moment K) (err err' : Moment F) (result : ℕ) where
   -- the name of the file at fault, if one is
-  pub concluded-named : (name : Text) (file : Stop → Text) (came : Result Output Stop) → IfErr came (λ stop. name ≡ file stop)
-      → HasConcluded came (λ _. name) out out' err err' result → HasConcluded came file out out' err err' result
-  concluded-named name file came named concluded =
-      relined came out out' err err' result (λ _. name) file (λ outcome became. line-named name file came outcome named became) concluded
+  pub concluded-named : (name : Text) (file : Stop → Text) (output : Result Output Stop) → IfErr output (λ stop. name ≡ file stop)
+      → HasConcluded output (λ _. name) out out' err err' result → HasConcluded output file out out' err err' result
+  concluded-named name file output named concluded =
+      relined output out out' err err' result (λ _. name) file
+      (λ outcome became. line-named name file output outcome named became) concluded
 
   -- the line of want of memory has no name
-  pub concluded-memory : (f g : Stop → Text) → HasConcluded (Err Memory) f out out' err err' result → HasConcluded (Err Memory) g out out' err err' result
-  concluded-memory f g concluded = relined (Err Memory) out out' err err' result f g (λ outcome became. line-memory f g outcome became) concluded
+  pub concluded-memory : (f g : Stop → Text) → HasConcluded (Err Memory) f out out' err err' result
+      → HasConcluded (Err Memory) g out out' err err' result
+  concluded-memory f g concluded = relined (Err Memory) out out' err err' result f g
+      (λ outcome became. line-memory f g outcome became) concluded
 
 -- ---- commands that report on the table in a file do not explore, and do not read the input
 
-pub course-report_file : (command : Command) (files : Text → Told) (input : Option Text) (file text : Text) → report_file command ≡ Some file → HasCourse command files input text
+pub course-report_file : (command : Command) (files : Text → Told) (input : Option Text) (file text : Text)
+    → report_file command ≡ Some file → HasCourse command files input text
 course-report_file (Replay f known) files input file text e = cc
 course-report_file (Explore f known names experts) files input file text e = cc
 course-report_file (Serve f known experts holders listen) files input file text e = cc
@@ -409,7 +530,8 @@ reads_more (Serve file known experts holders listen) = true
 reads_more _ = false
 
 -- where it reads no other, the file at fault is its first
-pub fault_file-one : (command : Command) → reads_more command ≡ false → (stop : Stop) → fault_file (Some command) stop ≡ first_file_of (files_of command)
+pub fault_file-one : (command : Command) → reads_more command ≡ false → (stop : Stop)
+    → fault_file (Some command) stop ≡ first_file_of (files_of command)
 fault_file-one (Scale values plan) one stop = cc
 fault_file-one (Replay file known) one stop = cc
 fault_file-one (Explore file known names experts) one stop = cc

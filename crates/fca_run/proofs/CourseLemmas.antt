@@ -1,5 +1,5 @@
--- The text of a command that explores tells of the exploration of the command's table: the crate of the command says which exploration it is and what its
--- text spells, and the laws of texts and of replays say the rest.
+-- The text of a command that explores tells of the exploration of the command's table: the crate of the command says which exploration it
+-- is and what its text spells, and the laws of texts and of replays say the rest.
 use Rattle.std.proofs.Common.{◌≡◌, ◌∙◌, ◌++◌, [], ℕ, List, Option, map, length, refl, sym, ap, subst, append_assoc, append-nil}
 use Rattle.fca_model.specs.Tables.{Text, NamedContext}
 use Rattle.fca_model.specs.Implications.{Rule}
@@ -21,25 +21,28 @@ use Rattle.command_io.proofs.ReadingLemmas.{read_after}
 use Rattle.replay_command.specs.Replayed.{MayReplay}
 use Rattle.replay_command.proofs.FedBackLemmas.{opened-respecting, fed_back}
 use Rattle.explore_command.specs.Panels.{Panel}
-use Rattle.explore_command.specs.Played.{dropped_in, played, MayPlay}
-use Rattle.serve_command.specs.Openings.{opened_by}
-use Rattle.serve_command.specs.Served.{served, words_of, MayServe}
+use Rattle.explore_command.specs.Played.{dropped_in, play_record, MayPlay}
+use Rattle.serve_command.specs.Openings.{opening_by}
+use Rattle.serve_command.specs.Served.{serving_record, words_of, MayServe}
 use Rattle.fca_run.specs.Courses.{basis_of, TellsExploration}
 use Rattle.fca_run.specs.Calls.{Sides}
 
 -- where no question is open at its end, the text ends with the basis, and then come the lines behind
-ends-with-basis : (r : Recorded) (later text : Text) → IsExplored r → text ≡ explore_text r.opening.table r.opening.settings r.journal ++ later → open_at r ≡ []
+ends-with-basis : (r : Recorded) (later text : Text) → IsExplored r
+    → text ≡ explore_text r.opening.table r.opening.settings r.journal ++ later → open_at r ≡ []
     → text ≡ text_before_basis r.opening.table r.opening.settings r.journal ++ (basis_of r ++ later)
 ends-with-basis r later text explored printed none =
     let t : NamedContext = r.opening.table in
     let s : Settings = r.opening.settings in
     let now : State = state_of_text t s r.journal in
-    let settled : now.settings.known ≡ s.known = ap (λ (x : Settings). x.known) (run_settings (opening t.context t.objects s) (events_of r.journal)) in
+    let settled : now.settings.known ≡ s.known = ap (λ (x : Settings). x.known)
+    (run_settings (opening t.context t.objects s) (events_of r.journal)) in
     let done : open_in now ≡ [] = ap (λ S. open_questions S now.context now.accepted) settled ∙ none in
     printed ∙ ap (λ l. l ++ later) (finished_text t s r.journal (opened-respecting r explored) explored.legal done)
     ∙ append_assoc (text_before_basis t s r.journal) (basis_of r) later
 
-tells : (opened : Reading Opening) (r : Recorded) (later text : Text) → MayRead opened r.opening → text ≡ explore_text r.opening.table r.opening.settings r.journal ++ later
+tells : (opened : Reading Opening) (r : Recorded) (later text : Text) → MayRead opened r.opening
+    → text ≡ explore_text r.opening.table r.opening.settings r.journal ++ later
     → Spells r.opening.table r.opening.settings r.journal text → IsExplored r → TellsExploration opened text
 tells opened r later text may printed spells explored = record {
   told = r;
@@ -55,31 +58,35 @@ tells opened r later text may printed spells explored = record {
 -- ---- each command
 
 -- by the oracles of a panel
-pub play-tells : (reading : Reading Panel) (answer : Output) → MayPlay reading answer
-    → TellsExploration (then reading (λ p. Read (opening_of p.table (length p.experts) p.settings))) answer.text
-play-tells reading answer play =
+pub play-tells : (reading : Reading Panel) (output : Output) → MayPlay reading output
+    → TellsExploration (then reading (λ p. Read (opening_of p.table (length p.experts) p.settings))) output.text
+play-tells reading output play =
     let p = play.panel in
     let is = play.is in
-    tells (then reading (λ q. Read (opening_of q.table (length q.experts) q.settings))) (played p is.history)
-    (conflicts_text p.table.attributes (rules_of (last_state (played p is.history))) (dropped_in is.history 1 p.experts)) answer.text
-    (read_after reading p (λ q. Read (opening_of q.table (length q.experts) q.settings)) (opening_of p.table (length p.experts) p.settings) play.read refl) is.whole is.spells is.course
+    tells (then reading (λ q. Read (opening_of q.table (length q.experts) q.settings))) (play_record p is.history)
+    (conflicts_text p.table.attributes (rules_of (last_state (play_record p is.history))) (dropped_in is.history 1 p.experts)) output.text
+    (read_after reading p (λ q. Read (opening_of q.table (length q.experts) q.settings))
+    (opening_of p.table (length p.experts) p.settings) play.read refl) is.whole is.spells is.course
 
 -- by a script
-pub replay-tells : (reading : Reading Recorded) (answer : Output) → MayReplay reading answer → TellsExploration (then reading (λ r. Read r.opening)) answer.text
-replay-tells reading answer replay =
+pub replay-tells : (reading : Reading Recorded) (output : Output) → MayReplay reading output
+    → TellsExploration (then reading (λ r. Read r.opening)) output.text
+replay-tells reading output replay =
     let r = replay.made in
     let text : Text = explore_text r.opening.table r.opening.settings r.journal in
-    let is : answer.text ≡ text = ap (λ (o : Output). o.text) replay.output in
-    tells (then reading (λ q. Read q.opening)) r [] answer.text (read_after reading r (λ q. Read q.opening) r.opening replay.read refl) (is ∙ sym (append-nil text))
+    let is : output.text ≡ text = ap (λ (o : Output). o.text) replay.whole in
+    tells (then reading (λ q. Read q.opening)) r [] output.text (read_after reading r (λ q. Read q.opening) r.opening replay.read refl)
+    (is ∙ sym (append-nil text))
     (subst (Spells r.opening.table r.opening.settings r.journal) (sym is) replay.is.spells) replay.is.course
 
 -- by experts at the ends of a link
 module _ {E : Type 0} (talk : Sides E) where
-  pub serve-tells : (reading : Reading Start) (experts holders : ℕ) (old new : Option (Ends E)) (answer : Output)
-      → MayServe talk.left talk.held talk.calls talk.reads talk.writes reading experts holders old new answer
-      → TellsExploration (then reading (λ start. Read (opened_by experts holders start))) answer.text
-  serve-tells reading experts holders old new answer serve =
-      let o : Opening = opened_by experts holders serve.0 in
+  pub serve-tells : (reading : Reading Start) (experts holders : ℕ) (old new : Option (Ends E)) (output : Output)
+      → MayServe talk.left talk.held talk.calls talk.reads talk.writes reading experts holders old new output
+      → TellsExploration (then reading (λ start. Read (opening_by experts holders start))) output.text
+  serve-tells reading experts holders old new output serve =
+      let o : Opening = opening_by experts holders serve.0 in
       let is = serve.2.is in
-      tells (then reading (λ start. Read (opened_by experts holders start))) (served o is.history) (sessions_text (map words_of is.endings)) answer.text
-      (read_after reading serve.0 (λ start. Read (opened_by experts holders start)) o serve.1 refl) is.text is.spells is.course
+      tells (then reading (λ start. Read (opening_by experts holders start))) (serving_record o is.history)
+      (sessions_text (map words_of is.endings)) output.text
+      (read_after reading serve.0 (λ start. Read (opening_by experts holders start)) o serve.1 refl) is.text is.spells is.course

@@ -15,18 +15,18 @@ use Rattle.command_io.specs.declared.stop.Stop.{Stop}
 use Rattle.command_io.specs.declared.stop.Stop.TheVariants.{UnknownAttribute}
 use Rattle.fca_run.specs.Reports.{table_report}
 
--- the stop of the file of values, or, where that was read, of the plan for them
+-- the stop for the file of values, or, if that was read, for the plan
 abbrev pub IsScaleStop : Text → Text → (Text → Told) → (Text → Type 0) → Stop → Type 0
 IsScaleStop values plan files rises stop = IsValuesStop (files values) (rises values) File stop
     ⊎ ((t : ValueTable) × MayRead (values_read (files values)) t × IsPlanStop t (files plan) (rises plan) (Later 0) stop)
 
--- The stop of a report on the table in the file: that of the file, or, where it was read, that words name what is no attribute of the table,
--- and so the command has nothing to report
+-- The stop for a report on the table in the file: that of the file, or, if it was read, that a word names what is no attribute of the
+-- table, so that the command has nothing to report
 abbrev pub IsReportStop : Command → Text → Told → Type 0 → Stop → Type 0
 IsReportStop command file told rose stop = IsFileStop file told rose File stop
     ⊎ ((stop ≡ UnknownAttribute) × ((table : NamedContext) × MayRead (table_read file told) table × (table_report command table ≡ Refused)))
 
--- the name of the file at fault where the command stops, or none where there is no command
+-- the name of the file at fault if the command stops, or an empty name without a command
 abbrev pub fault_file : Option Command → Stop → Text
 fault_file None stop = []
 fault_file (Some command) stop = file_at_fault (first_file_of (files_of command)) (known_file_of command) (later_files_of command) stop

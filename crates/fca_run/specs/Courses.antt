@@ -1,7 +1,8 @@
 -- The course of a command that explores: which exploration its text tells of, and what is promised of it.
 --
--- Where the file T has no object over a and b and the input says `draw 1`, the text of `replay T` tells of the exploration of T by 64 experts, of whom all
--- may hold one question and to whom nothing is known, and of a history of one entry: expert 1 draws and is asked {} -> {a, b}, which is open.
+-- If the file T has no object over a and b and the input says `draw 1`, the text of `replay T` tells of the exploration of T by 64 experts.
+-- All of them may hold one question, and nothing is known. The history has one entry: expert 1 draws and is asked {} -> {a, b}, which is
+-- open.
 use Rattle.std.specs.Prelude.{◌≡◌, ◌≤◌, ◌++◌, ⊤, Option, List, [], length}
 use Rattle.fca_model.specs.Tables.{Text}
 use Rattle.fca_model.specs.Pseudo.{basis_known}
@@ -15,18 +16,19 @@ use Rattle.command_io.specs.Readings.{Reading, then, MayRead}
 use Rattle.command_io.specs.Readings.Reading.{Refused, Read}
 use Rattle.command_io.specs.Known.{start_read}
 use Rattle.command_io.specs.Explorations.{Recorded, opening_of, last_state, open_at, IsExplored}
-use Rattle.replay_command.specs.Replayed.{replayed, IsFedBack}
+use Rattle.replay_command.specs.Replayed.{replay_read, IsFedBack}
 use Rattle.explore_command.specs.Panels.{panel_read}
-use Rattle.serve_command.specs.Openings.{opened_by}
+use Rattle.serve_command.specs.Openings.{opening_by}
 
--- What the exploration of a command is opened with: the table in its file, how many experts, and its settings. Those of `replay` are what the script says, or
--- just what the known file says; those of `explore`, what is known and the names of the experts; those of `serve`, what is known and how many may hold one
--- question
+-- What the exploration of a command is opened with: the table in its file, how many experts, and its settings. Those of `replay` are what
+-- the script says, or just what the known file says; those of `explore`, what is known and the names of the experts; those of `serve`, what
+-- is known and how many may hold one question
 abbrev pub opening_read : Command → (Text → Told) → Option Text → Reading Opening
-opening_read (Replay file known) files input = then (replayed file known files input) (λ r. Read r.opening)
+opening_read (Replay file known) files input = then (replay_read file known files input) (λ r. Read r.opening)
 opening_read (Explore file known names experts) files input =
     then (panel_read file known names experts files) (λ p. Read (opening_of p.table (length p.experts) p.settings))
-opening_read (Serve file known experts holders listen) files input = then (start_read file known files) (λ start. Read (opened_by experts holders start))
+opening_read (Serve file known experts holders listen) files input =
+    then (start_read file known files) (λ start. Read (opening_by experts holders start))
 opening_read _ files input = Refused
 
 -- the lines of the basis of what is recorded, beside what is known
@@ -42,17 +44,19 @@ pub record TellsExploration (opened : Reading Opening) (text : Text) : Type 0 wh
   pub later : Text
   pub printed : text ≡ explore_text told.opening.table told.opening.settings told.journal ++ later
   pub spells : Spells told.opening.table told.opening.settings told.journal text
-  -- the history is legal; at each step of it the accepted implications are members of the basis beside what is known, and what is asked is open; and where no
-  -- question is open at its end, they are that basis
+  -- the history is legal; at each step the accepted implications are members of the basis beside what is known, and what is asked is open;
+  -- if no question is open at the end, they are that basis
   pub explored : IsExplored told
-  -- where none is, the section of the basis is the basis of all recorded rows from scratch, in lectic order
+  -- if no question is open, the section of the basis is the basis of all recorded rows from scratch, in lectic order
   pub basis : open_at told ≡ [] → text ≡ text_before_basis told.opening.table told.opening.settings told.journal ++ (basis_of told ++ later)
-  -- where the text is no longer than a file may be, its replay comes to just this exploration
+  -- if the text is no longer than a file may be, its replay is exactly this exploration
   pub fed_back : length text ≤ FILE_BYTES → IsFedBack told text
 
--- where the command explores, the text tells of the exploration of its table, as its words, these files and this input say
+-- if the command explores, the text tells of the exploration of its table, as its words, these files and this input say
 abbrev pub HasCourse : Command → (Text → Told) → Option Text → Text → Type 0
 HasCourse (Replay file known) files input text = TellsExploration (opening_read (Replay file known) files input) text
-HasCourse (Explore file known names experts) files input text = TellsExploration (opening_read (Explore file known names experts) files input) text
-HasCourse (Serve file known experts holders listen) files input text = TellsExploration (opening_read (Serve file known experts holders listen) files input) text
+HasCourse (Explore file known names experts) files input text =
+    TellsExploration (opening_read (Explore file known names experts) files input) text
+HasCourse (Serve file known experts holders listen) files input text =
+    TellsExploration (opening_read (Serve file known experts holders listen) files input) text
 HasCourse _ files input text = ⊤

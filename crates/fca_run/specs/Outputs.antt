@@ -29,8 +29,8 @@ scale_output values plan files =
 -- ---- tables that are made
 
 -- the table of a recipe, in the Burmeister form
-abbrev pub made_output : Recipe → Output
-made_output recipe = finished (cxt_text (recipe_table recipe))
+abbrev pub make_output : Recipe → Output
+make_output recipe = finished (cxt_text (recipe_table recipe))
 
 -- what is counted of it and of an exploration by its oracles
 abbrev pub survey_output : Recipe → Output
@@ -38,20 +38,19 @@ survey_output recipe = finished (surveyed_text (recipe_table recipe))
 
 -- ---- all commands
 
--- What a command that reports on no table writes. `explore` and `serve` write what experts did together, of which the files alone
--- tell nothing
+-- What a command that reports on no table writes. `explore` and `serve` write what experts did together, and the files do not say that
 abbrev pub other_output : Command → (Text → Told) → Option Text → Reading Output
 other_output (Scale values plan) files input = scale_output values plan files
 other_output (Replay file known) files input = replay_output file known files input
-other_output (Make s o m d) files input = Read (made_output (record { seed = s; objects = o; attributes = m; density = d }))
+other_output (Make s o m d) files input = Read (make_output (record { seed = s; objects = o; attributes = m; density = d }))
 other_output (Survey s o m d experts) files input = Read (survey_output (record { seed = s; objects = o; attributes = m; density = d }))
 other_output _ files input = Untold
 
--- what the command writes, where it reports on the table in this file or on none
+-- what the command writes, by the file that it reports on, if there is one
 abbrev pub output_by : Option Text → Command → (Text → Told) → Option Text → Reading Output
 output_by (Some file) command files input = report_read command file files
 output_by None command files input = other_output command files input
 
--- what the command writes, where the files and the input hold this
-abbrev pub output : Command → (Text → Told) → Option Text → Reading Output
-output command files input = output_by (report_file command) command files input
+-- what the command writes, if the files and the input hold this
+abbrev pub output_read : Command → (Text → Told) → Option Text → Reading Output
+output_read command files input = output_by (report_file command) command files input

@@ -1,4 +1,4 @@
--- What a command reports of one table: a text, and where its words name attributes, none if some name is no attribute's.
+-- What a command reports of one table: a text, or a refusal if a word of the command names what is no attribute.
 use Rattle.std.specs.Prelude.{Bool, false, not, cond}
 use Rattle.fca_model.specs.Sets.{Set}
 use Rattle.fca_model.specs.Tables.{Text, NamedContext}
@@ -54,13 +54,13 @@ verdict_read premise conclusion table =
     then (attributes_read table conclusion) (λ C.
     Read (table_verdict P C table)))
 
-abbrev pub table_written : Form → NamedContext → Text
-table_written Cxt table = cxt_text table
-table_written Csv table = csv_text table
+abbrev pub table_text : Form → NamedContext → Text
+table_text Cxt table = cxt_text table
+table_text Csv table = csv_text table
 
 -- the table of the irreducible objects and attributes
-abbrev pub table_reduced : NamedContext → Text
-table_reduced table = cxt_text (table_part table (irreducible_objects table.context) (irreducible_attributes table.context))
+abbrev pub reduced_text : NamedContext → Text
+reduced_text table = cxt_text (table_part table (irreducible_objects table.context) (irreducible_attributes table.context))
 
 -- the arrows between its objects and attributes
 abbrev pub table_arrows : NamedContext → Text
@@ -71,15 +71,15 @@ abbrev pub reads_narrow : Command → Bool
 reads_narrow (Basis file json) = not json
 reads_narrow _ = false
 
--- what the command reports of the table, where it is one that reports on a table
+-- what the command reports of the table, if it reports on a table
 abbrev pub table_report : Command → NamedContext → Reading Text
 table_report (Concepts file json) table = Read (table_concepts json table)
 table_report (Lattice file) table = Read (table_lattice table)
 table_report (Basis file json) table = Read (table_basis json table)
 table_report (Direct file) table = Read (table_direct table)
 table_report (Follows file premise conclusion) table = verdict_read premise conclusion table
-table_report (Convert file to) table = Read (table_written to table)
-table_report (Reduce file) table = Read (table_reduced table)
+table_report (Convert file to) table = Read (table_text to table)
+table_report (Reduce file) table = Read (reduced_text table)
 table_report (Arrows file) table = Read (table_arrows table)
 table_report _ table = Refused
 

@@ -3,18 +3,20 @@
 ghost use Rattle.std.specs.Prelude.{◌≡◌, true, false, None, Some, IfOk, IfErr, OnOk};
 ghost use Rattle.std.specs.Io.KnownBytes.{IsAtEnd};
 ghost use Rattle.fca_command.specs.Commands.{command_form, report_file, reads_input, is_plain, IsWithinLimits};
-ghost use Rattle.command_io.specs.Readings.{MayRead, MayRefuse};
+ghost use Rattle.command_io.specs.Readings.{MayRead, MayRefuse, SameCounts};
+ghost use Rattle.command_io.specs.Causes.{UnlessFault};
 ghost use Rattle.command_io.specs.Endings.{IsRefusal, IsOfFile};
 ghost use Rattle.command_io.specs.Streams.{moment, HasConcluded};
-ghost use Rattle.fca_run.specs.Outputs.{output, other_output};
+ghost use Rattle.fca_run.specs.Outputs.{output_read, other_output};
 ghost use Rattle.fca_run.specs.Courses.{HasCourse};
 ghost use Rattle.fca_run.specs.Causes.{fault_file};
-ghost use Rattle.fca_run.specs.Calls.{shelf_moment, link_moment, unlinked, sides, no_sides, outside, MayEnd, IsOtherStop, IsCommandStop, HasRun};
+ghost use Rattle.fca_run.specs.Calls.{shelf_moment, link_moment, unlinked, no_input, sides, no_sides, outside, MayEnd, IsOtherStop};
+ghost use Rattle.fca_run.specs.Calls.{IsCommandStop, ComesTo, HasRun};
 
-use crate::made::{made_answer, survey_answer};
-use crate::reports::report_answer;
-use crate::scaling::scale_answer;
-use command_io::{Answer, Origin, Stop, conclude, file_at_fault};
+use crate::made::{make_output, survey_output};
+use crate::reports::report_output;
+use crate::scaling::scale_output;
+use command_io::{Origin, Output, Stop, conclude, file_at_fault};
 use explore_command::explore;
 use fca_command::{Command, Recipe, command_of};
 use fca_io::{Listener, Shelf, Sink, Source};
@@ -25,7 +27,7 @@ use std::alloc::Global;
 use std::sync::Wait;
 use std::thread::Threads;
 
-/// Runs the command that the words are, and gives the status of the program.
+/// Runs the command that the words are, and returns the status of the program.
 pub fn run<R: Threads + Wait + Sync, H: Shelf, S: Source, K: Sink, E: Sink, L: Listener>(
     rt: &R,
     alloc: Global,
@@ -47,35 +49,33 @@ pub fn run<R: Threads + Wait + Sync, H: Shelf, S: Source, K: Sink, E: Sink, L: L
 {
     match command_of(alloc, words) {
         Ok(Some(command)) => {
-            let status = run_command(rt, alloc, &command, shelf, input, out, err, link);
-            drop(command);
-            status
+            if command.is_plain() {
+                return run_plain(rt, alloc, &command, shelf, input, out, err);
+            }
+            let output = waiting_output(rt, alloc, &command, shelf, link);
+            finish(&command, output, out, err)
         }
         Ok(None) => conclude(Err(Stop::NoCommand), b"", out, err),
         Err(Memory) => conclude(Err(Stop::Memory), b"", out, err),
     }
 }
 
-/// Runs the command, and gives the status of the program.
-fn run_command<R: Threads + Wait + Sync, H: Shelf, S: Source, K: Sink, E: Sink, L: Listener>(
+/// The output of a command that waits for experts. It does not read the input.
+fn waiting_output<R: Threads + Wait + Sync, H: Shelf, L: Listener>(
     rt: &R,
     alloc: Global,
     command: &Command,
     shelf: &mut H,
-    input: &mut S,
-    out: &mut K,
-    err: &mut E,
     link: &mut L,
-) -> u8
+) -> Result<Output, Stop>
+    requires waits { is_plain command.now ≡ false }
     requires limits { IsWithinLimits command.now }
     requires closed { L.listens link.old ≡ false }
-    ensures { HasRun (sides L.End.Source.left L.End.Sink.held L.End.Source.reads L.End.Source.faults L.End.Sink.faults) (Some command.now)
-        (outside (shelf_moment H.tells H.faults shelf.old) (moment S.left S.faults input.old)
+    ensures { ComesTo (sides L.End.Source.left L.End.Sink.held L.End.Source.reads L.End.Source.faults L.End.Sink.faults) command.now
+        (outside (shelf_moment H.tells H.faults shelf.old) no_input
         (link_moment L.listens L.listens_at L.ends L.open_faults L.accept_faults link.old))
-        (outside (shelf_moment H.tells H.faults shelf.new) (moment S.left S.faults input.new)
-        (link_moment L.listens L.listens_at L.ends L.open_faults L.accept_faults link.new))
-        (moment K.held K.faults out.old) (moment K.held K.faults out.new)
-        (moment E.held E.faults err.old) (moment E.held E.faults err.new) result }
+        (outside (shelf_moment H.tells H.faults shelf.new) no_input
+        (link_moment L.listens L.listens_at L.ends L.open_faults L.accept_faults link.new)) result }
 {
     match command {
         Command::Explore {
@@ -85,8 +85,7 @@ fn run_command<R: Threads + Wait + Sync, H: Shelf, S: Source, K: Sink, E: Sink, 
             experts,
         } => {
             let known = known.as_ref();
-            let answer = explore(rt, alloc, shelf, file, known, *names, experts.as_slice());
-            finish(command, answer, out, err)
+            explore(rt, alloc, shelf, file, known, *names, experts.as_slice())
         }
         Command::Serve {
             file,
@@ -96,10 +95,9 @@ fn run_command<R: Threads + Wait + Sync, H: Shelf, S: Source, K: Sink, E: Sink, 
             listen,
         } => {
             let known = known.as_ref();
-            let answer = serve(
+            serve(
                 rt, alloc, shelf, file, known, *experts, *holders, listen, link,
-            );
-            finish(command, answer, out, err)
+            )
         }
         Command::Survey {
             seed,
@@ -114,14 +112,13 @@ fn run_command<R: Threads + Wait + Sync, H: Shelf, S: Source, K: Sink, E: Sink, 
                 attributes: *attributes,
                 density: *density,
             };
-            let answer = survey_answer(rt, alloc, &recipe, *experts);
-            finish(command, answer, out, err)
+            survey_output(rt, alloc, &recipe, *experts)
         }
-        _ => run_plain(rt, alloc, command, shelf, input, out, err),
+        _ => unreachable!(),
     }
 }
 
-/// Runs a command that waits for nobody.
+/// Runs a command that waits for nobody, and returns the status of the program.
 pub fn run_plain<R: Threads + Sync, H: Shelf, S: Source, K: Sink, E: Sink>(
     rt: &R,
     alloc: Global,
@@ -139,35 +136,35 @@ pub fn run_plain<R: Threads + Sync, H: Shelf, S: Source, K: Sink, E: Sink>(
         (moment K.held K.faults out.old) (moment K.held K.faults out.new)
         (moment E.held E.faults err.old) (moment E.held E.faults err.new) result }
 {
-    let answer = plain_answer(rt, alloc, command, shelf, input);
-    finish(command, answer, out, err)
+    let output = plain_output(rt, alloc, command, shelf, input);
+    finish(command, output, out, err)
 }
 
-/// Writes the answer of the command to out, or why there is none to err, by the name of the file at fault, and gives the status.
+/// Writes the output of the command to out, or the cause of its stop to err, and returns the status.
 fn finish<K: Sink, E: Sink>(
     command: &Command,
-    answer: Result<Answer, Stop>,
+    output: Result<Output, Stop>,
     out: &mut K,
     err: &mut E,
 ) -> u8
-    ensures { HasConcluded answer (fault_file (Some command.now)) (moment K.held K.faults out.old) (moment K.held K.faults out.new)
+    ensures { HasConcluded output (fault_file (Some command.now)) (moment K.held K.faults out.old) (moment K.held K.faults out.new)
         (moment E.held E.faults err.old) (moment E.held E.faults err.new) result }
 {
-    let file = name_at_fault(command, &answer);
-    conclude(answer, file, out, err)
+    let file = name_at_fault(command, &output);
+    conclude(output, file, out, err)
 }
 
-/// The name of the file at fault where there is no answer, or no byte.
-fn name_at_fault<'a>(command: &'a Command, answer: &Result<Answer, Stop>) -> &'a [u8]
-    ensures { IfErr answer.now (λ stop. result.now ≡ fault_file (Some command.now) stop) }
+/// The name of the file at fault if the command stopped, or else an empty name.
+fn name_at_fault<'a>(command: &'a Command, output: &Result<Output, Stop>) -> &'a [u8]
+    ensures { IfErr output.now (λ stop. result.now ≡ fault_file (Some command.now) stop) }
 {
-    match answer {
+    match output {
         Ok(_) => b"",
         Err(stop) => file_of(command, stop),
     }
 }
 
-/// The name of the file of the command that is at fault, if one is.
+/// The name of the command's file that is at fault, if one is.
 fn file_of<'a>(command: &'a Command, stop: &Stop) -> &'a [u8]
     ensures { result.now ≡ fault_file (Some command.now) stop.now }
 {
@@ -189,56 +186,60 @@ fn file_of<'a>(command: &'a Command, stop: &Stop) -> &'a [u8]
     }
 }
 
-/// What a command comes to that waits for nobody.
-fn plain_answer<R: Threads + Sync, H: Shelf, S: Source>(
+/// The output of a command that waits for nobody.
+fn plain_output<R: Threads + Sync, H: Shelf, S: Source>(
     rt: &R,
     alloc: Global,
     command: &Command,
     shelf: &mut H,
     input: &mut S,
-) -> Result<Answer, Stop>
+) -> Result<Output, Stop>
     requires plain { is_plain command.now ≡ true }
     requires limits { IsWithinLimits command.now }
-    ensures output { IfOk result (λ answer. MayRead (output command.now (H.tells shelf.old) (S.left input.old)) answer) }
-    ensures ending { IfOk result (λ answer. MayEnd command.now answer.ending) }
-    ensures course { IfOk result (λ answer. HasCourse command.now (H.tells shelf.old) (S.left input.old) answer.text) }
+    ensures output { IfOk result (λ output. MayRead (output_read command.now (H.tells shelf.old) (S.left input.old)) output) }
+    ensures ending { IfOk result (λ output. MayEnd command.now output.ending) }
+    ensures course { IfOk result (λ output. HasCourse command.now (H.tells shelf.old) (S.left input.old) output.text) }
     ensures cause { IfErr result (IsCommandStop command.now
         (outside (shelf_moment H.tells H.faults shelf.old) (moment S.left S.faults input.old) unlinked)
         (outside (shelf_moment H.tells H.faults shelf.new) (moment S.left S.faults input.new) unlinked)) }
-    ensures refused { IfErr result (λ stop. IsRefusal stop → MayRefuse (output command.now (H.tells shelf.old) (S.left input.old))) }
+    ensures quiet { UnlessFault result (SameCounts (H.faults shelf.old) (H.faults shelf.new)) }
+    ensures quiet_input { UnlessFault result (S.faults input.new ≡ S.faults input.old) }
+    ensures refused { IfErr result (λ stop. IsRefusal stop → MayRefuse (output_read command.now (H.tells shelf.old) (S.left input.old))) }
     ensures read_to_end { reads_input command.now ≡ true → OnOk result (IsAtEnd (S.left input.new)) }
     ensures input_kept { reads_input command.now ≡ false → input.new ≡ input.old }
     ensures unread { IfErr result (λ stop. IsOfFile stop → input.new ≡ input.old) }
 {
     match command.report_file() {
-        Some(file) => report_answer(rt, alloc, command, shelf, file),
-        None => other_answer(alloc, command, shelf, input),
+        Some(file) => report_output(rt, alloc, command, shelf, file),
+        None => other_output(alloc, command, shelf, input),
     }
 }
 
-/// What such a command comes to that reports on no table.
-fn other_answer<H: Shelf, S: Source>(
+/// The output of such a command that reports on no table.
+fn other_output<H: Shelf, S: Source>(
     alloc: Global,
     command: &Command,
     shelf: &mut H,
     input: &mut S,
-) -> Result<Answer, Stop>
+) -> Result<Output, Stop>
     requires plain { is_plain command.now ≡ true }
     requires limits { IsWithinLimits command.now }
     requires other { report_file command.now ≡ None }
-    ensures output { IfOk result (λ answer. MayRead (other_output command.now (H.tells shelf.old) (S.left input.old)) answer) }
-    ensures ending { IfOk result (λ answer. MayEnd command.now answer.ending) }
-    ensures course { IfOk result (λ answer. HasCourse command.now (H.tells shelf.old) (S.left input.old) answer.text) }
+    ensures output { IfOk result (λ output. MayRead (other_output command.now (H.tells shelf.old) (S.left input.old)) output) }
+    ensures ending { IfOk result (λ output. MayEnd command.now output.ending) }
+    ensures course { IfOk result (λ output. HasCourse command.now (H.tells shelf.old) (S.left input.old) output.text) }
     ensures cause { IfErr result (IsOtherStop command.now
         (outside (shelf_moment H.tells H.faults shelf.old) (moment S.left S.faults input.old) unlinked)
         (outside (shelf_moment H.tells H.faults shelf.new) (moment S.left S.faults input.new) unlinked)) }
+    ensures quiet { UnlessFault result (SameCounts (H.faults shelf.old) (H.faults shelf.new)) }
+    ensures quiet_input { UnlessFault result (S.faults input.new ≡ S.faults input.old) }
     ensures refused { IfErr result (λ stop. IsRefusal stop → MayRefuse (other_output command.now (H.tells shelf.old) (S.left input.old))) }
     ensures read_to_end { reads_input command.now ≡ true → OnOk result (IsAtEnd (S.left input.new)) }
     ensures input_kept { reads_input command.now ≡ false → input.new ≡ input.old }
     ensures unread { IfErr result (λ stop. IsOfFile stop → input.new ≡ input.old) }
 {
     match command {
-        Command::Scale { values, plan } => scale_answer(alloc, shelf, values, plan),
+        Command::Scale { values, plan } => scale_output(alloc, shelf, values, plan),
         Command::Replay { file, known } => replay(alloc, shelf, input, file, known.as_ref()),
         Command::Make {
             seed,
@@ -252,7 +253,7 @@ fn other_answer<H: Shelf, S: Source>(
                 attributes: *attributes,
                 density: *density,
             };
-            Ok(made_answer(alloc, &recipe)?)
+            Ok(make_output(alloc, &recipe)?)
         }
         _ => unreachable!(),
     }

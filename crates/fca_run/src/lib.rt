@@ -1,4 +1,4 @@
-//! The top call: which command the words are, what it reads, does and writes, and its status.
+//! The top call: it finds the command that the words are, runs it over the outside, and gives the status.
 #![tactic(auto)]
 
 mod call;

@@ -5,9 +5,9 @@ ghost use Rattle.fca_model.specs.Exploration.{is_expert};
 ghost use Rattle.fca_model.specs.declared.TheConstants.{MAX_ATTRIBUTES, MAX_SURVEYED};
 ghost use Rattle.context_table.specs.Recipes.{KeepsLimits};
 ghost use Rattle.command_io.specs.Endings.{finished};
-ghost use Rattle.fca_run.specs.Outputs.{made_output, survey_output};
+ghost use Rattle.fca_run.specs.Outputs.{make_output, survey_output};
 
-use command_io::{Answer, Stop};
+use command_io::{Output, Stop};
 use cxt_format::write_cxt;
 use explore_command::survey;
 use fca_command::Recipe;
@@ -17,33 +17,33 @@ use std::sync::Wait;
 use std::thread::Threads;
 
 /// The table of the recipe, in the Burmeister form.
-pub fn made_answer(alloc: Global, recipe: &Recipe) -> Result<Answer, Memory>
+pub fn make_output(alloc: Global, recipe: &Recipe) -> Result<Output, Memory>
     requires { KeepsLimits MAX_ATTRIBUTES recipe.now }
-    ensures { IfOk result (λ answer. answer ≡ made_output recipe.now) }
+    ensures { IfOk result (λ output. output ≡ make_output recipe.now) }
 {
-    Ok(Answer::finished(made_text(alloc, recipe)?))
+    Ok(Output::finished(make_text(alloc, recipe)?))
 }
 
 /// The recipe's table in the Burmeister form.
-fn made_text(alloc: Global, recipe: &Recipe) -> Result<Vec<u8>, Memory>
+fn make_text(alloc: Global, recipe: &Recipe) -> Result<Vec<u8>, Memory>
     requires { KeepsLimits MAX_ATTRIBUTES recipe.now }
-    ensures { IfOk result (λ text. finished text.items ≡ made_output recipe.now) }
+    ensures { IfOk result (λ text. finished text.items ≡ make_output recipe.now) }
 {
     let table = recipe.table(alloc)?;
     write_cxt(alloc, &table)
 }
 
 /// What is counted of the table and of the exploration by its oracles.
-pub fn survey_answer<R: Threads + Wait + Sync>(
+pub fn survey_output<R: Threads + Wait + Sync>(
     rt: &R,
     alloc: Global,
     recipe: &Recipe,
     experts: u8,
-) -> Result<Answer, Stop>
+) -> Result<Output, Stop>
     requires recipe { KeepsLimits MAX_SURVEYED recipe.now }
     requires experts { is_expert experts ≡ true }
-    ensures output { IfOk result (λ answer. answer ≡ survey_output recipe.now) }
+    ensures output { IfOk result (λ output. output ≡ survey_output recipe.now) }
     ensures cause { IfErr result (λ stop. stop ≡ Stop.Memory) }
 {
-    Ok(Answer::finished(survey(rt, alloc, recipe, experts)?))
+    Ok(Output::finished(survey(rt, alloc, recipe, experts)?))
 }

@@ -1,21 +1,22 @@
-//! What the commands report of one table: its concepts, its lattice, its bases, whether an implication holds in it, its arrows, and the
-//! table itself, whole or reduced.
+//! The commands that report on one table: its concepts, its lattice, its bases, whether an implication holds, its arrows, and the table
+//! itself, whole or reduced.
 
 ghost use Rattle.std.specs.Prelude.{◌≡◌, ◌⊎◌, true, false, Some, IfOk, IfErr, length, is_some};
 ghost use Rattle.fca_command.specs.Commands.{report_file};
-ghost use Rattle.command_io.specs.Readings.{then, MayRead, MayRefuse, Rises};
+ghost use Rattle.command_io.specs.Readings.{then, MayRead, MayRefuse, Rises, SameCounts};
 ghost use Rattle.command_io.specs.Readings.Reading.{Refused, Read};
 ghost use Rattle.fca_io.specs.Faults.{Rose};
-ghost use Rattle.command_io.specs.Causes.{IsFileStop};
+ghost use Rattle.command_io.specs.Causes.{UnlessFault, IsFileStop};
 ghost use Rattle.command_io.specs.Forms.{table_read};
 ghost use Rattle.command_io.specs.Endings.{finished, IsRefusal};
-ghost use Rattle.fca_run.specs.Reports.{attributes_read, table_concepts, table_basis, table_direct, table_verdict, verdict_read, table_written, table_reduced, table_arrows, table_report, reads_narrow, report_read};
+ghost use Rattle.fca_run.specs.Reports.{attributes_read, table_concepts, table_basis, table_direct, table_verdict, verdict_read};
+ghost use Rattle.fca_run.specs.Reports.{table_text, reduced_text, table_arrows, table_report, reads_narrow, report_read};
 ghost use Rattle.fca_run.specs.Causes.{IsReportStop};
 
 use attr_bits::Attrs;
 use basis_report::{direct_text, verdict_text};
 use canonical_basis::basis;
-use command_io::{Answer, Ending, Origin, Stop, load_narrow_table, table_under};
+use command_io::{Ending, Origin, Output, Stop, load_narrow_table, load_table};
 use context_reduce::{arrows, arrows_text, irreducible, part};
 use context_table::Table;
 use csv_context::write_csv;
@@ -30,86 +31,89 @@ use std::alloc::Global;
 use std::thread::Threads;
 use table_texts::{narrow_basis_text, packed_table_concepts, table_lattice_text};
 
-/// What the command reports of the table in the file.
-pub fn report_answer<R: Threads + Sync, H: Shelf>(
+/// Reads the table in the file, and makes the text that the command reports of it.
+pub fn report_output<R: Threads + Sync, H: Shelf>(
     rt: &R,
     alloc: Global,
     command: &Command,
     shelf: &mut H,
     file: &Word,
-) -> Result<Answer, Stop>
+) -> Result<Output, Stop>
     requires { report_file command.now ≡ Some file.now }
-    ensures output { IfOk result (λ answer. MayRead (report_read command.now file.now (H.tells shelf.old)) answer) }
-    ensures finished { IfOk result (λ answer. answer.ending ≡ Ending.Finished) }
+    ensures output { IfOk result (λ output. MayRead (report_read command.now file.now (H.tells shelf.old)) output) }
+    ensures finished { IfOk result (λ output. output.ending ≡ Ending.Finished) }
     ensures refused { IfErr result (λ stop. IsRefusal stop → MayRefuse (report_read command.now file.now (H.tells shelf.old))) }
     ensures cause { IfErr result (IsReportStop command.now file.now (H.tells shelf.old file.now)
         (Rises (H.faults shelf.old) (H.faults shelf.new) file.now)) }
+    ensures quiet { UnlessFault result (SameCounts (H.faults shelf.old) (H.faults shelf.new)) }
 {
     match command {
         Command::Basis { json: false, .. } => basis_lines(alloc, shelf, file),
-        _ => table_answer(rt, alloc, command, shelf, file),
+        _ => table_output(rt, alloc, command, shelf, file),
     }
 }
 
-/// The basis of the table in the file, one member a line. The bytes of the file and the names of the objects are dropped before the basis is found.
-fn basis_lines<H: Shelf>(alloc: Global, shelf: &mut H, file: &Word) -> Result<Answer, Stop>
-    ensures output { IfOk result (λ answer. MayRead (then (table_read file.now (H.tells shelf.old file.now)) (λ table. Read (finished (table_basis false table)))) answer) }
-    ensures finished { IfOk result (λ answer. answer.ending ≡ Ending.Finished) }
+/// Reads the table in the file, and makes the text of its basis, one implication a line.
+fn basis_lines<H: Shelf>(alloc: Global, shelf: &mut H, file: &Word) -> Result<Output, Stop>
+    ensures output { IfOk result (λ output. MayRead (then (table_read file.now (H.tells shelf.old file.now)) (λ table. Read (finished (table_basis false table)))) output) }
+    ensures finished { IfOk result (λ output. output.ending ≡ Ending.Finished) }
     ensures refused { IfErr result (λ stop. IsRefusal stop → MayRefuse (table_read file.now (H.tells shelf.old file.now))) }
     ensures cause { IfErr result (IsFileStop file.now (H.tells shelf.old file.now)
         (Rose (H.faults shelf.old file.now) (H.faults shelf.new file.now)) Origin.File) }
+    ensures quiet { UnlessFault result (SameCounts (H.faults shelf.old) (H.faults shelf.new)) }
 {
     let table = load_narrow_table(alloc, shelf, file, Origin::File)?;
-    Ok(Answer::finished(narrow_basis_text(alloc, table)?))
+    Ok(Output::finished(narrow_basis_text(alloc, table)?))
 }
 
-/// What the command reports of the table in the file, which is read whole.
-fn table_answer<R: Threads + Sync, H: Shelf>(
+/// Reads the whole table in the file, and makes the text that the command reports of it.
+fn table_output<R: Threads + Sync, H: Shelf>(
     rt: &R,
     alloc: Global,
     command: &Command,
     shelf: &mut H,
     file: &Word,
-) -> Result<Answer, Stop>
+) -> Result<Output, Stop>
     requires reports { is_some (report_file command.now) ≡ true }
     requires whole { reads_narrow command.now ≡ false }
-    ensures output { IfOk result (λ answer. MayRead (report_read command.now file.now (H.tells shelf.old)) answer) }
-    ensures finished { IfOk result (λ answer. answer.ending ≡ Ending.Finished) }
+    ensures output { IfOk result (λ output. MayRead (report_read command.now file.now (H.tells shelf.old)) output) }
+    ensures finished { IfOk result (λ output. output.ending ≡ Ending.Finished) }
     ensures refused { IfErr result (λ stop. IsRefusal stop → MayRefuse (report_read command.now file.now (H.tells shelf.old))) }
     ensures cause { IfErr result (IsReportStop command.now file.now (H.tells shelf.old file.now)
         (Rises (H.faults shelf.old) (H.faults shelf.new) file.now)) }
+    ensures quiet { UnlessFault result (SameCounts (H.faults shelf.old) (H.faults shelf.new)) }
 {
-    let table = table_under(alloc, shelf, file, Origin::File)?;
+    let table = load_table(alloc, shelf, file, Origin::File)?;
     report_on(rt, alloc, command, &table)
 }
 
-/// What the command reports of the table.
+/// Makes the text that the command reports of the table.
 fn report_on<R: Threads + Sync>(
     rt: &R,
     alloc: Global,
     command: &Command,
     table: &Table,
-) -> Result<Answer, Stop>
+) -> Result<Output, Stop>
     requires reports { is_some (report_file command.now) ≡ true }
     requires whole { reads_narrow command.now ≡ false }
-    ensures output { IfOk result (λ answer. MayRead (then (table_report command.now table.now) (λ text. Read (finished text))) answer) }
-    ensures finished { IfOk result (λ answer. answer.ending ≡ Ending.Finished) }
+    ensures output { IfOk result (λ output. MayRead (then (table_report command.now table.now) (λ text. Read (finished text))) output) }
+    ensures finished { IfOk result (λ output. output.ending ≡ Ending.Finished) }
     ensures refused { IfErr result (λ stop. IsRefusal stop → MayRefuse (table_report command.now table.now)) }
     ensures cause { IfErr result (λ stop. (stop ≡ Stop.Memory) ⊎ ((stop ≡ Stop.UnknownAttribute) × (table_report command.now table.now ≡ Refused))) }
 {
     match command {
         Command::Concepts { json, .. } => Ok(table_concepts(rt, alloc, *json, table)?),
-        Command::Lattice { .. } => Ok(Answer::finished(table_lattice_text(alloc, table)?)),
-        Command::Basis { json: true, .. } => { Ok(Answer::finished(json_basis(rt, alloc, table)?)) }
-        Command::Direct { .. } => Ok(Answer::finished(table_direct(alloc, table)?)),
+        Command::Lattice { .. } => Ok(Output::finished(table_lattice_text(alloc, table)?)),
+        Command::Basis { json: true, .. } => { Ok(Output::finished(json_basis(rt, alloc, table)?)) }
+        Command::Direct { .. } => Ok(Output::finished(table_direct(alloc, table)?)),
         Command::Follows {
             premise,
             conclusion,
             ..
-        } => Ok(Answer::finished(verdict(rt, alloc, table, premise, conclusion)?)),
-        Command::Convert { to, .. } => Ok(Answer::finished(table_written(alloc, *to, table)?)),
-        Command::Reduce { .. } => Ok(Answer::finished(table_reduced(alloc, table)?)),
-        Command::Arrows { .. } => Ok(Answer::finished(table_arrows(alloc, table)?)),
+        } => Ok(Output::finished(verdict(rt, alloc, table, premise, conclusion)?)),
+        Command::Convert { to, .. } => Ok(Output::finished(write_table(alloc, *to, table)?)),
+        Command::Reduce { .. } => Ok(Output::finished(reduce_table(alloc, table)?)),
+        Command::Arrows { .. } => Ok(Output::finished(table_arrows(alloc, table)?)),
         _ => unreachable!(),
     }
 }
@@ -120,14 +124,14 @@ fn table_concepts<R: Threads + Sync>(
     alloc: Global,
     json: bool,
     table: &Table,
-) -> Result<Answer, Memory>
-    ensures { IfOk result (λ answer. answer ≡ finished (table_concepts json table.now)) }
+) -> Result<Output, Memory>
+    ensures { IfOk result (λ output. output ≡ finished (table_concepts json table.now)) }
 {
     if json {
         let concepts = all_concepts(alloc, table.rows())?;
-        return Ok(Answer::finished(concepts_json(alloc, table, &concepts)?));
+        return Ok(Output::finished(concepts_json(alloc, table, &concepts)?));
     }
-    Ok(Answer::packed(packed_table_concepts(rt, alloc, table)?))
+    Ok(Output::packed(packed_table_concepts(rt, alloc, table)?))
 }
 
 /// The basis of the table, as JSON.
@@ -146,7 +150,7 @@ fn table_direct(alloc: Global, table: &Table) -> Result<Vec<u8>, Memory>
     direct_text(alloc, table, &list)
 }
 
-/// Whether the implication between the attributes that the words name holds in the table.
+/// The text that says whether the implication between the attributes of the two words holds.
 fn verdict<R: Threads + Sync>(
     rt: &R,
     alloc: Global,
@@ -176,7 +180,7 @@ fn attributes_in(table: &Table, word: &Word) -> Result<Attrs, Stop>
     }
 }
 
-/// Whether the implication holds in the table.
+/// The text that says whether the implication holds.
 fn table_verdict<R: Threads + Sync>(
     rt: &R,
     alloc: Global,
@@ -191,9 +195,9 @@ fn table_verdict<R: Threads + Sync>(
     verdict_text(rt, alloc, table, premise, conclusion)
 }
 
-/// The table in this form.
-fn table_written(alloc: Global, to: Form, table: &Table) -> Result<Vec<u8>, Memory>
-    ensures { IfOk result (λ text. text.items ≡ table_written to table.now) }
+/// The text of the table in this form.
+fn write_table(alloc: Global, to: Form, table: &Table) -> Result<Vec<u8>, Memory>
+    ensures { IfOk result (λ text. text.items ≡ table_text to table.now) }
 {
     match to {
         Form::Cxt => write_cxt(alloc, table),
@@ -201,9 +205,9 @@ fn table_written(alloc: Global, to: Form, table: &Table) -> Result<Vec<u8>, Memo
     }
 }
 
-/// The table of its irreducible objects and attributes, in the Burmeister form.
-fn table_reduced(alloc: Global, table: &Table) -> Result<Vec<u8>, Memory>
-    ensures { IfOk result (λ text. text.items ≡ table_reduced table.now) }
+/// The text of the table of the irreducible objects and attributes, in the Burmeister form.
+fn reduce_table(alloc: Global, table: &Table) -> Result<Vec<u8>, Memory>
+    ensures { IfOk result (λ text. text.items ≡ reduced_text table.now) }
 {
     let kept = irreducible(alloc, table)?;
     let reduced = part(alloc, table, &kept)?;

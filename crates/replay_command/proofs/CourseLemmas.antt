@@ -14,9 +14,10 @@ use Rattle.explore_state.proofs.OpenLemmas.{unbroken_rows}
 use Rattle.expert_scripts.specs.Scripts.{may_apply}
 use Rattle.command_io.specs.Explorations.{IsExplored}
 use Rattle.command_io.proofs.CourseLemmas.{legal-course}
-use Rattle.replay_command.specs.Replayed.{replay_opening, explored}
+use Rattle.replay_command.specs.Replayed.{replay_opening, exploration_by}
 
-both-all : {X : Type 0} (p q : X → Bool) (xs : List X) → list_all (λ x. p x && q x) xs ≡ true → (list_all p xs ≡ true) × (list_all q xs ≡ true)
+both-all : {X : Type 0} (p q : X → Bool) (xs : List X) → list_all (λ x. p x && q x) xs ≡ true
+    → (list_all p xs ≡ true) × (list_all q xs ≡ true)
 both-all p q [] h = (refl, refl)
 both-all p q (x ∷ xs) h =
     let parts = and_parts (p x && q x) (list_all (λ y. p y && q y) xs) h in
@@ -24,9 +25,12 @@ both-all p q (x ∷ xs) h =
     let rest = both-all p q xs parts.1 in
     (rw here.0 rest.0, rw here.1 rest.1)
 
-pub explored-course : (table : NamedContext) (settings : Settings) (events : List SetEvent) → first_break settings.known 0 table.context.rows ≡ None
-    → HaveWidth table.context.width settings.known → list_all (may_apply table.context.width) events ≡ true → IsExplored (explored table settings events)
+pub explored-course : (table : NamedContext) (settings : Settings) (events : List SetEvent)
+    → first_break settings.known 0 table.context.rows ≡ None
+    → HaveWidth table.context.width settings.known → list_all (may_apply table.context.width) events ≡ true
+    → IsExplored (exploration_by table settings events)
 explored-course table settings events unbroken wide may =
     let s : State = opening_state (replay_opening table settings) in
     let parts = both-all (λ event. is_expert (expert_of event)) (has_width table.context.width) events may in
-    legal-course table MAX_EXPERTS settings (journal_of s events) refl (unbroken_rows settings.known 0 table.context.rows unbroken) wide (legal_journal s events parts.0 parts.1)
+    legal-course table MAX_EXPERTS settings (journal_of s events) refl (unbroken_rows settings.known 0 table.context.rows unbroken) wide
+    (legal_journal s events parts.0 parts.1)

@@ -1,6 +1,7 @@
--- A text that spells an exploration is read as a script of its settings and its history, and every row of the table respects what these settings say is
--- known; so its replay has the same journal.
-use Rattle.std.proofs.Common.{◌≡◌, ◌∙◌, ◌+◌, ◌≤◌, [], ◌∷◌, ℕ, List, Option, Some, None, Bool, true, false, not, cond, Ok, length, get_or, nat_le, le-leb, refl, sym, ap, subst}
+-- A text that spells an exploration is read as a script of its settings and its history, and every row of the table respects what these
+-- settings say is known; so its replay has the same journal.
+use Rattle.std.proofs.Common.{◌≡◌, ◌∙◌, ◌+◌, ◌≤◌, [], ◌∷◌, ℕ, List, Option, Some, None, Bool, true, false, not, cond, Ok, length, get_or}
+use Rattle.std.proofs.Common.{nat_le, le-leb, refl, sym, ap, subst}
 use Rattle.std.specs.List.{list_all}
 use Rattle.std.proofs.lemmas.Bool.{and_parts}
 use Rattle.std.proofs.lemmas.List.Quantifiers.{position-Some}
@@ -19,11 +20,11 @@ use Rattle.basis_report.specs.Explorations.{content_of_text, Spells}
 use Rattle.command_io.specs.Readings.{Reading, then, formed}
 use Rattle.command_io.specs.Readings.Reading.{Refused, Read}
 use Rattle.command_io.specs.Forms.{table_read, script_read}
-use Rattle.command_io.specs.Known.{Start, known_read, respected}
+use Rattle.command_io.specs.Known.{Start, known_read}
 use Rattle.command_io.specs.Endings.{Output}
 use Rattle.command_io.specs.Explorations.{Recorded, opening_of, state_at, IsOnCourse, IsExplored}
-use Rattle.command_io.proofs.KnownLemmas.{respected-unbroken}
-use Rattle.replay_command.specs.Replayed.{settings_read, explored, explored_by, exploration_output, IsFedBack}
+use Rattle.command_io.proofs.KnownLemmas.{if_respected-unbroken}
+use Rattle.replay_command.specs.Replayed.{settings_read, exploration_by, exploration_read, exploration_output, IsFedBack}
 
 -- ---- rows that break nothing
 
@@ -55,19 +56,25 @@ opened-respecting r explored = (explored.moments [] r.journal refl).valid.known
 -- ---- what is read
 
 -- a text that is not too long is read as what it says
-script-read : (n : ℕ) (text : Text) (said : ScriptContent) → length text ≤ FILE_BYTES → script_form text n ≡ Ok said → script_read n (Some text) ≡ Read said
-script-read n text said short is = ap (λ b. cond b (formed (script_form text n)) Refused) (le-leb (length text) FILE_BYTES short) ∙ ap formed is
+script-read : (n : ℕ) (text : Text) (said : ScriptContent) → length text ≤ FILE_BYTES → script_form text n ≡ Ok said
+    → script_read n (Some text) ≡ Read said
+script-read n text said short is = ap (λ b. cond b (formed (script_form text n)) Refused) (le-leb (length text) FILE_BYTES short)
+    ∙ ap formed is
 
-settings-read : (t : NamedContext) (said : ScriptContent) → rows_respect said.settings.known t.context ≡ true → settings_read None [] t said ≡ Read said.settings
+settings-read : (t : NamedContext) (said : ScriptContent) → rows_respect said.settings.known t.context ≡ true
+    → settings_read None [] t said ≡ Read said.settings
 settings-read t said respecting =
-    ap (λ (R : Reading (List Rule)). then R (λ _. Read said.settings)) (respected-unbroken t said.settings.known (unbroken said.settings.known 0 t.context.rows respecting))
+    ap (λ (R : Reading (List Rule)). then R (λ _. Read said.settings))
+    (if_respected-unbroken t said.settings.known (unbroken said.settings.known 0 t.context.rows respecting))
 
 -- the exploration by a text that says this
-explored-said : (t : NamedContext) (text : Text) (said : ScriptContent) → length text ≤ FILE_BYTES → script_form text t.context.width ≡ Ok said → rows_respect said.settings.known t.context ≡ true
-    → explored_by None (Some text) (record { table = t; known = [] }) ≡ Read (explored t said.settings said.events)
+explored-said : (t : NamedContext) (text : Text) (said : ScriptContent) → length text ≤ FILE_BYTES → script_form text t.context.width ≡ Ok said
+    → rows_respect said.settings.known t.context ≡ true
+    → exploration_read None (Some text) (record { table = t; known = [] }) ≡ Read (exploration_by t said.settings said.events)
 explored-said t text said short is respecting =
-    ap (λ (R : Reading ScriptContent). then R (λ x. then (settings_read None [] t x) (λ settings. Read (explored t settings x.events)))) (script-read t.context.width text said short is)
-    ∙ ap (λ (R : Reading Settings). then R (λ settings. Read (explored t settings said.events))) (settings-read t said respecting)
+    ap (λ (R : Reading ScriptContent). then R (λ x. then (settings_read None [] t x) (λ settings. Read (exploration_by t settings x.events))))
+    (script-read t.context.width text said short is)
+    ∙ ap (λ (R : Reading Settings). then R (λ settings. Read (exploration_by t settings said.events))) (settings-read t said respecting)
 
 -- ---- what comes of it
 
@@ -76,17 +83,20 @@ abbrev told : NamedContext → Settings → List SetEntry → Output
 told t settings H = exploration_output (record { opening = opening_of t MAX_EXPERTS settings; journal = H })
 
 told-said : (t : NamedContext) (settings : Settings) (H : List SetEntry) (text : Text) → Spells t settings H text
-    → exploration_output (explored t (content_of_text t text).settings (content_of_text t text).events) ≡ told t settings H
-told-said t settings H text spells = ap (told t (content_of_text t text).settings) spells.history ∙ ap (λ (s : Settings). told t s H) spells.settings
+    → exploration_output (exploration_by t (content_of_text t text).settings (content_of_text t text).events) ≡ told t settings H
+told-said t settings H text spells = ap (told t (content_of_text t text).settings) spells.history
+    ∙ ap (λ (s : Settings). told t s H) spells.settings
 
-pub fed_back : (r : Recorded) (text : Text) → IsExplored r → Spells r.opening.table r.opening.settings r.journal text → length text ≤ FILE_BYTES → IsFedBack r text
+pub fed_back : (r : Recorded) (text : Text) → IsExplored r → Spells r.opening.table r.opening.settings r.journal text
+    → length text ≤ FILE_BYTES → IsFedBack r text
 fed_back r text explored spells short = λ file files read.
     let t : NamedContext = r.opening.table in
     let said : ScriptContent = content_of_text t text in
     let Respecting : Settings → Type 0 = λ s. rows_respect s.known t.context ≡ true in
     let respecting = subst Respecting (sym spells.settings) (opened-respecting r explored) in
     let From : Reading NamedContext → Reading Output = λ R.
-    then (then (then R (λ table. then (known_read None table files) (λ S. Read (record { table = table; known = S })))) (explored_by None (Some text))) (λ x. Read (exploration_output x)) in
+    then (then (then R (λ table. then (known_read None table files) (λ S. Read (record { table = table; known = S }))))
+    (exploration_read None (Some text))) (λ x. Read (exploration_output x)) in
     ap From read
     ∙ ap (λ (R : Reading Recorded). then R (λ x. Read (exploration_output x))) (explored-said t text said short spells.script respecting)
     ∙ ap Read (told-said t r.opening.settings r.journal text spells)

@@ -1,10 +1,12 @@
 -- One event more on the journal of an exploration that was opened with a table.
-use Rattle.std.proofs.Common.{◌≡◌, ◌++◌, ◌∷◌, [], List, ℕ, Option, Some, None, Result, Ok, Err, inl, inr, true, nat_le, length, refl, sym, ap, ◌∙◌, subst, arith}
+use Rattle.std.proofs.Common.{◌≡◌, ◌++◌, ◌∷◌, [], List, ℕ, Option, Some, None, Result, Ok, Err, inl, inr, true, nat_le, length, refl, sym}
+use Rattle.std.proofs.Common.{ap, ◌∙◌, subst, arith}
 use Rattle.std.proofs.lemmas.Bool.{and_parts, leb-true}
 use Rattle.std.specs.Prelude.{IfOk, OnOk}
 use Rattle.fca_model.specs.Tables.{Text, NamedContext}
 use Rattle.fca_model.specs.declared.TheConstants.{MAX_EXPERTS}
-use Rattle.fca_model.specs.Exploration.{State, Settings, SetEvent, SetReply, SetEntry, is_expert, expert_of, has_width, reply_to, state_after, journal_of, events_of}
+use Rattle.fca_model.specs.Exploration.{State, Settings, SetEvent, SetReply, SetEntry, is_expert, expert_of, has_width, reply_to}
+use Rattle.fca_model.specs.Exploration.{state_after, journal_of, events_of}
 use Rattle.fca_model.proofs.RunLemmas.{journal_of-push, events_of-journal_of}
 use Rattle.explore_state.specs.History.{Opening, History, opening_state, state_of, Admits, IsStep}
 use Rattle.expert_scripts.specs.Scripts.{ScriptContent, may_apply}
@@ -14,41 +16,52 @@ use Rattle.command_io.specs.Endings.{Output, IsFile, IsOfFile}
 use Rattle.command_io.specs.Explorations.{Recorded, recorded, IsExplored}
 use Rattle.command_io.specs.declared.stop.Stop.{Stop}
 use Rattle.command_io.specs.declared.stop.Stop.TheVariants.{TooLong, NoScript, Fault, Memory}
-use Rattle.replay_command.specs.Replayed.{replay_opening, explored, exploration_output, SpellsItself, MayReplay, IsSettingsStop, IsInputStop}
+use Rattle.replay_command.specs.Replayed.{replay_opening, exploration_by, exploration_output, SpellsItself, MayReplay, IsSettingsStop}
+use Rattle.replay_command.specs.Replayed.{IsInputStop}
 
 -- the parts of an exploration that is as far as these events
-opened : (table : NamedContext) (settings : Settings) (events : List SetEvent) (h : History) → recorded h ≡ explored table settings events → h.opening ≡ replay_opening table settings
+opened : (table : NamedContext) (settings : Settings) (events : List SetEvent) (h : History)
+    → recorded h ≡ exploration_by table settings events → h.opening ≡ replay_opening table settings
 opened table settings events h e = ap (λ (r : Recorded). r.opening) e
 
-logged : (table : NamedContext) (settings : Settings) (events : List SetEvent) (h : History) → recorded h ≡ explored table settings events
+logged : (table : NamedContext) (settings : Settings) (events : List SetEvent) (h : History)
+    → recorded h ≡ exploration_by table settings events
     → h.journal ≡ journal_of (opening_state (replay_opening table settings)) events
 logged table settings events h e = ap (λ (r : Recorded). r.journal) e
 
-state_of-explored : (table : NamedContext) (settings : Settings) (events : List SetEvent) (h : History) → recorded h ≡ explored table settings events
+state_of-explored : (table : NamedContext) (settings : Settings) (events : List SetEvent) (h : History)
+    → recorded h ≡ exploration_by table settings events
     → state_of h ≡ state_after (opening_state (replay_opening table settings)) events
 state_of-explored table settings events h e =
     ap (λ (r : Recorded). state_after (opening_state r.opening) (events_of r.journal)) e
-    ∙ ap (state_after (opening_state (replay_opening table settings))) (events_of-journal_of (opening_state (replay_opening table settings)) events)
+    ∙ ap (state_after (opening_state (replay_opening table settings)))
+    (events_of-journal_of (opening_state (replay_opening table settings)) events)
 
-recorded-parts : (h : History) (o : Opening) (H : List SetEntry) → h.opening ≡ o → h.journal ≡ H → recorded h ≡ record { opening = o; journal = H }
+recorded-parts : (h : History) (o : Opening) (H : List SetEntry) → h.opening ≡ o → h.journal ≡ H
+    → recorded h ≡ record { opening = o; journal = H }
 recorded-parts h o H opening journal = cc
 
-pub recorded-start : (table : NamedContext) (settings : Settings) (h : History) → h.opening ≡ replay_opening table settings → h.journal ≡ [] → recorded h ≡ explored table settings []
+pub recorded-start : (table : NamedContext) (settings : Settings) (h : History) → h.opening ≡ replay_opening table settings → h.journal ≡ []
+    → recorded h ≡ exploration_by table settings []
 unfolding journal_of
 recorded-start table settings h opening journal = recorded-parts h (replay_opening table settings) [] opening journal
 
-pub recorded-push : (table : NamedContext) (settings : Settings) (events : List SetEvent) (old new : History) (event : SetEvent) (reply : SetReply)
-    → recorded old ≡ explored table settings events → IsStep old new event reply → recorded new ≡ explored table settings (events ++ event ∷ [])
+pub recorded-push : (table : NamedContext) (settings : Settings) (events : List SetEvent) (old new : History) (event : SetEvent)
+    (reply : SetReply)
+    → recorded old ≡ exploration_by table settings events → IsStep old new event reply
+    → recorded new ≡ exploration_by table settings (events ++ event ∷ [])
 recorded-push table settings events old new event reply e step =
     let s : State = opening_state (replay_opening table settings) in
-    let answer : reply ≡ reply_to (state_after s events) event = step.reply ∙ ap (λ (t : State). reply_to t event) (state_of-explored table settings events old e) in
-    let entry : List SetEntry → SetReply → List SetEntry = λ H answer. H ++ record { event = event; reply = answer } ∷ [] in
+    let right : reply ≡ reply_to (state_after s events) event = step.reply
+    ∙ ap (λ (t : State). reply_to t event) (state_of-explored table settings events old e) in
+    let entry : List SetEntry → SetReply → List SetEntry = λ H r. H ++ record { event = event; reply = r } ∷ [] in
     recorded-parts new (replay_opening table settings) (journal_of s (events ++ event ∷ []))
     (step.opening ∙ opened table settings events old e)
-    (step.journal ∙ ap (λ H. entry H reply) (logged table settings events old e) ∙ ap (λ a. entry (journal_of s events) a) answer ∙ sym (journal_of-push s events event))
+    (step.journal ∙ ap (λ H. entry H reply) (logged table settings events old e) ∙ ap (λ r. entry (journal_of s events) r) right
+    ∙ sym (journal_of-push s events event))
 
 pub recorded-admits : (table : NamedContext) (settings : Settings) (events : List SetEvent) (h : History) (event : SetEvent)
-    → recorded h ≡ explored table settings events → may_apply table.context.width event ≡ true → Admits h.opening event
+    → recorded h ≡ exploration_by table settings events → may_apply table.context.width event ≡ true → Admits h.opening event
 recorded-admits table settings events h event e may =
     let parts = and_parts (is_expert (expert_of event)) (has_width table.context.width event) may in
     let range = and_parts (nat_le 1 (expert_of event)) (nat_le (expert_of event) MAX_EXPERTS) parts.0 in
@@ -59,12 +72,13 @@ pub no_items : {X : Type 0} (l : List X) → length l ≡ 0 → l ≡ []
 no_items [] h = refl
 no_items (x ∷ xs) h = absurd (omega arith)
 
--- ---- the answer
+-- ---- the output
 
 pub MayReplay-made : (reading : Reading Recorded) (made : Recorded) (r : Result Output Stop) → MayRead reading made → IsExplored made
-    → IfOk r (λ answer. answer ≡ exploration_output made) → OnOk r (SpellsItself made) → IfOk r (MayReplay reading)
-MayReplay-made reading made (Ok answer) may course output spells = record { made = made; read = may; is = record { course = course; spells = spells }; output = output }
-MayReplay-made reading made (Err stop) may course output spells = tt
+    → IfOk r (λ output. output ≡ exploration_output made) → OnOk r (SpellsItself made) → IfOk r (MayReplay reading)
+MayReplay-made reading made (Ok output) may course whole spells =
+    record { made = made; read = may; is = record { course = course; spells = spells }; whole = whole }
+MayReplay-made reading made (Err stop) may course whole spells = tt
 
 -- ---- the stop of an input is of no file
 
@@ -75,10 +89,12 @@ script-of_input n input rose (NoScript fault) is file = file
 script-of_input n input rose Memory is file = file
 script-of_input n input rose _ is file = is
 
-settings-of_input : (known : Option Text) (table : NamedContext) (said : ScriptContent) (s : Stop) → IsSettingsStop known table said s → IsOfFile s → ⊥
+settings-of_input : (known : Option Text) (table : NamedContext) (said : ScriptContent) (s : Stop) → IsSettingsStop known table said s → IsOfFile s
+    → ⊥
 settings-of_input None table said s is file = subst IsOfFile is.2 file
 settings-of_input (Some known) table said s is file = subst IsOfFile is.2 file
 
-pub stop-of_input : (known : Option Text) (table : NamedContext) (input : Option Text) (rose : Type 0) (s : Stop) → IsInputStop known table input rose s → IsOfFile s → ⊥
+pub stop-of_input : (known : Option Text) (table : NamedContext) (input : Option Text) (rose : Type 0) (s : Stop)
+    → IsInputStop known table input rose s → IsOfFile s → ⊥
 stop-of_input known table input rose s (inl is) file = script-of_input table.context.width input rose s is file
 stop-of_input known table input rose s (inr later) file = settings-of_input known table later.0 s later.2 file

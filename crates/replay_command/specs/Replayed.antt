@@ -1,7 +1,8 @@
--- What `replay` records: the exploration of a table by the events of a script, under the script's settings or beside what a file says is known.
+-- What `replay` records: the exploration of a table by the events of a script, under the script's settings or beside what a file says is
+-- known.
 --
--- Over a and b, of which a file says that a implies b, the script `draw 1` records one draw, whose reply asks {} -> {a, b}. The script `exploration 2` is
--- refused there, since it may set something.
+-- Over a and b, of which a file says that a implies b, the script `draw 1` records one draw, whose reply asks {} -> {a, b}. The script
+-- `exploration 2` is refused there, since it may set something.
 use Rattle.std.specs.Prelude.{◌≡◌, ◌⊎◌, ℕ, Option, Some, None, List}
 use Rattle.fca_model.specs.Tables.{Text, NamedContext}
 use Rattle.fca_model.specs.declared.TheConstants.{MAX_EXPERTS}
@@ -20,7 +21,7 @@ use Rattle.command_io.specs.Readings.{Reading, then, MayRead}
 use Rattle.command_io.specs.Readings.Reading.{Refused, Read}
 use Rattle.command_io.specs.Forms.{table_read, script_read}
 use Rattle.command_io.specs.Causes.{IsScriptStop}
-use Rattle.command_io.specs.Known.{Start, respected, start_read, IsBreakStop, IsStartStop}
+use Rattle.command_io.specs.Known.{Start, if_respected, start_read, IsBreakStop, IsStartStop}
 use Rattle.command_io.specs.Endings.{Output, ending_of}
 use Rattle.command_io.specs.Explorations.{Recorded, opening_of, open_at, IsExplored}
 use Rattle.command_io.specs.declared.stop.Origin.TheVariants.{Input}
@@ -29,18 +30,19 @@ use Rattle.command_io.specs.declared.stop.Stop.TheVariants.{NoScript}
 
 -- ---- what is read
 
--- the script, where it has no line `exploration 2`
+-- the script, if it has no line `exploration 2`
 abbrev pub of_first_version : Option ℕ → ScriptContent → Reading ScriptContent
 of_first_version None said = Read said
 of_first_version (Some line) said = Refused
 
--- The settings of a replay that has this known file, of which S was read, and this script. Beside a known file the script is of the first version, and S is
--- all that is set; without one it is what the script says, where every row of the table respects what it says is known.
+-- The settings of a replay with this known file, from which S was read, and this script. With a known file the script is of the first
+-- version, and S is all that is set. Without one they are the script's, if every row of the table respects the implications in them.
 abbrev pub settings_read : Option Text → List Rule → NamedContext → ScriptContent → Reading Settings
-settings_read None S table said = then (respected table said.settings.known) (λ _. Read said.settings)
+settings_read None S table said = then (if_respected table said.settings.known) (λ _. Read said.settings)
 settings_read (Some file) S table said = then (of_first_version said.second said) (λ _. Read (record plain { known = S }))
 
--- an exploration of the table may be opened with these settings, and they can be told: what is known has the table's width, and every row respects it
+-- An exploration of the table may be opened with these settings, and a text can spell them: what is known has the table's width, and every
+-- row respects it
 pub record MayOpen (table : NamedContext) (s : told.Settings) : Type 0 where
   pub width : s.known.width ≡ table.context.width
   pub respected : first_break s.known.members 0 table.context.rows ≡ None
@@ -51,20 +53,20 @@ abbrev pub replay_opening : NamedContext → Settings → Opening
 replay_opening table settings = opening_of table MAX_EXPERTS settings
 
 -- the exploration of the table under the settings by the events
-abbrev pub explored : NamedContext → Settings → List SetEvent → Recorded
-explored table settings events =
+abbrev pub exploration_by : NamedContext → Settings → List SetEvent → Recorded
+exploration_by table settings events =
     record { opening = replay_opening table settings; journal = journal_of (opening_state (replay_opening table settings)) events }
 
--- the exploration by the script on the input, from this start, of which what is known is of this file, if one there is
-abbrev pub explored_by : Option Text → Option Text → Start → Reading Recorded
-explored_by known input start =
+-- the exploration by the script on the input, from this start, with this known file, if there is one
+abbrev pub exploration_read : Option Text → Option Text → Start → Reading Recorded
+exploration_read known input start =
     then (script_read start.table.context.width input) (λ said.
     then (settings_read known start.known start.table said) (λ settings.
-    Read (explored start.table settings said.events)))
+    Read (exploration_by start.table settings said.events)))
 
 -- the exploration that `replay` records
-abbrev pub replayed : Text → Option Text → (Text → Told) → Option Text → Reading Recorded
-replayed file known files input = then (start_read file known files) (explored_by known input)
+abbrev pub replay_read : Text → Option Text → (Text → Told) → Option Text → Reading Recorded
+replay_read file known files input = then (start_read file known files) (exploration_read known input)
 
 -- the text of an exploration
 abbrev pub exploration_output : Recorded → Output
@@ -72,10 +74,10 @@ exploration_output r = record { text = explore_text r.opening.table r.opening.se
 
 -- what `replay` writes
 abbrev pub replay_output : Text → Option Text → (Text → Told) → Option Text → Reading Output
-replay_output file known files input = then (replayed file known files input) (λ r. Read (exploration_output r))
+replay_output file known files input = then (replay_read file known files input) (λ r. Read (exploration_output r))
 
--- Replayed on the text, the table of the exploration, whatever file has it, comes to just this exploration, where no file says what is known: to its
--- transcript and what came of it, without the lines behind
+-- The replay of the exploration's table on the text is exactly this exploration, whatever file has the table, if there is no known file.
+-- Its text is the transcript and the sections, without the lines after them
 abbrev pub IsFedBack : Recorded → Text → Type 0
 IsFedBack r text = (file : Text) (files : Text → Told) → table_read file (files file) ≡ Read r.opening.table
     → replay_output file None files (Some text) ≡ Read (exploration_output r)
@@ -90,28 +92,27 @@ pub record IsReplayed (r : Recorded) : Type 0 where
   pub course : IsExplored r
   pub spells : SpellsItself r
 
--- the answer of a replay that may have come to this
-pub record MayReplay (reading : Reading Recorded) (answer : Output) : Type 0 where
+-- the output of a replay that may have read this
+pub record MayReplay (reading : Reading Recorded) (output : Output) : Type 0 where
   pub made : Recorded
   pub read : MayRead reading made
   pub is : IsReplayed made
-  pub output : answer ≡ exploration_output made
+  pub whole : output ≡ exploration_output made
 
 -- ---- why it stops
 
--- The stop of a script that was read: beside a known file it is at fault at its line `exploration 2`, and without one where a row of the table breaks what
--- it says is known
+-- The stop for a script that was read: with a known file its line `exploration 2` is at fault, and without one a row of the table that
+-- breaks an implication of its settings
 abbrev pub IsSettingsStop : Option Text → NamedContext → ScriptContent → Stop → Type 0
 IsSettingsStop None table said stop = IsBreakStop said.settings.known table Input stop
 IsSettingsStop (Some file) table said stop = (line : ℕ) × (said.second ≡ Some line) × (stop ≡ NoScript (BadLine line))
 
--- the stop of a script on the input of a replay, or, where that was read, of its settings
+-- the stop for the script on the input, or, if that was read, for its settings
 abbrev pub IsInputStop : Option Text → NamedContext → Option Text → Type 0 → Stop → Type 0
 IsInputStop known table input rose stop = IsScriptStop table.context.width input rose stop
     ⊎ ((said : ScriptContent) × MayRead (script_read table.context.width input) said × IsSettingsStop known table said stop)
 
--- The stop of what a replay starts from, or, where that was read, of its script; for some files a count of faults rose, and for the input where
--- this holds
+-- The stop for the files of a replay, or, if these were read, for its script
 abbrev pub IsReplayStop : Text → Option Text → (Text → Told) → Option Text → (Text → Type 0) → Type 0 → Stop → Type 0
 IsReplayStop file known files input rises rose stop = IsStartStop file known files rises stop
     ⊎ ((start : Start) × MayRead (start_read file known files) start × IsInputStop known start.table input rose stop)

@@ -7,7 +7,7 @@ ghost use Rattle.basis_report.specs.Explorations.{Spells};
 ghost use Rattle.command_io.specs.Explorations.{Recorded, IsExplored};
 ghost use Rattle.replay_command.specs.Replayed.{IsFedBack};
 
-/// A text that spells an exploration is a script for it: where it is no longer than a file may be, its replay comes to just this exploration.
+/// A text that spells an exploration is a script for it. If it is no longer than a file may be, its replay is exactly this exploration.
 pub fn spelled_is_fed_back()
     ensures { (r : Recorded) (text : Text) → IsExplored r → Spells r.opening.table r.opening.settings r.journal text → length text ≤ FILE_BYTES → IsFedBack r text }
 {}

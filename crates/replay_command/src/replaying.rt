@@ -9,43 +9,47 @@ ghost use Rattle.explore_state.specs.Faults.{first_break};
 ghost use Rattle.exploration_terms.specs.Settings.{settings_of};
 ghost use Rattle.expert_scripts.specs.Scripts.{may_apply};
 ghost use Rattle.expert_scripts.specs.Transcripts.{SettingsCanBeWritten};
-ghost use Rattle.command_io.specs.Readings.{MayRead, MayRefuse, Rises};
+ghost use Rattle.command_io.specs.Readings.{MayRead, MayRefuse, Rises, SameCounts};
+ghost use Rattle.command_io.specs.Causes.{UnlessFault};
 ghost use Rattle.command_io.specs.Known.{start_of};
 ghost use Rattle.command_io.specs.Explorations.{IsExplored, recorded};
 ghost use Rattle.command_io.specs.Endings.{IsRefusal, IsOfFile};
-ghost use Rattle.replay_command.specs.Replayed.{explored, explored_by, replayed, replay_output, exploration_output, SpellsItself, MayReplay, IsInputStop, IsReplayStop};
+ghost use Rattle.replay_command.specs.Replayed.{exploration_by, exploration_read, replay_read, replay_output, exploration_output};
+ghost use Rattle.replay_command.specs.Replayed.{SpellsItself, MayReplay, IsInputStop, IsReplayStop};
 
-use crate::settings::settled;
+use crate::settings::choose_settings;
 use basis_report::explore_text;
-use command_io::{Answer, Ending, Start, Stop, Text, script_on, start_under};
+use command_io::{Ending, Output, Start, Stop, Text, load_script, load_start};
 use context_table::Table;
 use explore_state::{Event, Explore, Settings};
 use fca_io::{Shelf, Source};
 use fca_model::{MAX_EXPERTS, Memory, Word};
 use std::alloc::Global;
 
-/// What the exploration of the table in the file comes to, by the script on the input, where there may be a file of what is known. The
-/// input is read once the files were.
+/// Explores the table in the file by the script on the input, and gives the text. A known file may be given. The input is read after the
+/// files.
 pub fn replay<H: Shelf, S: Source>(
     alloc: Global,
     shelf: &mut H,
     input: &mut S,
     file: &Word,
     known: Option<&Word>,
-) -> Result<Answer, Stop>
-    ensures output { IfOk result (λ answer. MayRead (replay_output file.now (option_copied known.entry) (H.tells shelf.old) (S.left input.old)) answer) }
-    ensures replayed { IfOk result (MayReplay (replayed file.now (option_copied known.entry) (H.tells shelf.old) (S.left input.old))) }
+) -> Result<Output, Stop>
+    ensures output { IfOk result (λ output. MayRead (replay_output file.now (option_copied known.entry) (H.tells shelf.old) (S.left input.old)) output) }
+    ensures replayed { IfOk result (MayReplay (replay_read file.now (option_copied known.entry) (H.tells shelf.old) (S.left input.old))) }
     ensures end { OnOk result (IsAtEnd (S.left input.new)) }
     ensures unread { IfErr result (λ stop. IsOfFile stop → input.new ≡ input.old) }
     ensures refused { IfErr result (λ stop. IsRefusal stop → MayRefuse (replay_output file.now (option_copied known.entry) (H.tells shelf.old) (S.left input.old))) }
     ensures cause { IfErr result (IsReplayStop file.now (option_copied known.entry) (H.tells shelf.old) (S.left input.old)
         (Rises (H.faults shelf.old) (H.faults shelf.new)) (Rose (S.faults input.old) (S.faults input.new))) }
+    ensures quiet { UnlessFault result (SameCounts (H.faults shelf.old) (H.faults shelf.new)) }
+    ensures quiet_input { UnlessFault result (S.faults input.new ≡ S.faults input.old) }
 {
     let explore = exploration(alloc, shelf, input, file, known)?;
-    exploration_answer(alloc, &explore)
+    exploration_output(alloc, &explore)
 }
 
-/// The exploration of the table in the file by the script on the input.
+/// Reads the files and then the input, and explores the table by the script.
 fn exploration<H: Shelf, S: Source>(
     alloc: Global,
     shelf: &mut H,
@@ -53,21 +57,23 @@ fn exploration<H: Shelf, S: Source>(
     file: &Word,
     known: Option<&Word>,
 ) -> Result<Explore, Stop>
-    ensures exploration { IfOk result (λ explore. MayRead (replayed file.now (option_copied known.entry) (H.tells shelf.old) (S.left input.old)) (recorded explore)) }
+    ensures exploration { IfOk result (λ explore. MayRead (replay_read file.now (option_copied known.entry) (H.tells shelf.old) (S.left input.old)) (recorded explore)) }
     ensures course { IfOk result (λ explore. IsExplored (recorded explore)) }
     ensures writable { IfOk result (λ explore. SettingsCanBeWritten explore.opening.table.context.width explore.opening.settings) }
     ensures end { OnOk result (IsAtEnd (S.left input.new)) }
     ensures unread { IfErr result (λ stop. IsOfFile stop → input.new ≡ input.old) }
-    ensures refused { IfErr result (λ stop. IsRefusal stop → MayRefuse (replayed file.now (option_copied known.entry) (H.tells shelf.old) (S.left input.old))) }
+    ensures refused { IfErr result (λ stop. IsRefusal stop → MayRefuse (replay_read file.now (option_copied known.entry) (H.tells shelf.old) (S.left input.old))) }
     ensures cause { IfErr result (IsReplayStop file.now (option_copied known.entry) (H.tells shelf.old) (S.left input.old)
         (Rises (H.faults shelf.old) (H.faults shelf.new)) (Rose (S.faults input.old) (S.faults input.new))) }
+    ensures quiet { UnlessFault result (SameCounts (H.faults shelf.old) (H.faults shelf.new)) }
+    ensures quiet_input { UnlessFault result (S.faults input.new ≡ S.faults input.old) }
 {
-    let start = start_under(alloc, shelf, file, known)?;
-    explored_by(alloc, input, known, start)
+    let start = load_start(alloc, shelf, file, known)?;
+    explore_by_script(alloc, input, known, start)
 }
 
-/// The exploration by the script on the input, which begins with the start; what is known there is of a file, if one is given.
-fn explored_by<S: Source>(
+/// Explores the table of the start by the script on the input. The known implications of the start are those of the known file, if one is given.
+fn explore_by_script<S: Source>(
     alloc: Global,
     input: &mut S,
     known: Option<&Word>,
@@ -76,22 +82,23 @@ fn explored_by<S: Source>(
     requires width { start.known.width ≡ start.table.context.width }
     requires even { HaveWidth start.table.context.width start.known.members }
     requires respected { first_break start.known.members 0 start.table.context.rows ≡ None }
-    ensures exploration { IfOk result (λ explore. MayRead (explored_by (option_copied known.entry) (S.left input.old) (start_of start)) (recorded explore)) }
+    ensures exploration { IfOk result (λ explore. MayRead (exploration_read (option_copied known.entry) (S.left input.old) (start_of start)) (recorded explore)) }
     ensures course { IfOk result (λ explore. IsExplored (recorded explore)) }
     ensures writable { IfOk result (λ explore. SettingsCanBeWritten explore.opening.table.context.width explore.opening.settings) }
     ensures end { OnOk result (IsAtEnd (S.left input.new)) }
-    ensures refused { IfErr result (λ stop. IsRefusal stop → MayRefuse (explored_by (option_copied known.entry) (S.left input.old) (start_of start))) }
+    ensures refused { IfErr result (λ stop. IsRefusal stop → MayRefuse (exploration_read (option_copied known.entry) (S.left input.old) (start_of start))) }
     ensures cause { IfErr result (IsInputStop (option_copied known.entry) start.table (S.left input.old)
         (Rose (S.faults input.old) (S.faults input.new))) }
+    ensures quiet { UnlessFault result (S.faults input.new ≡ S.faults input.old) }
 {
     let Start { table, known: list } = start;
-    let script = script_on(alloc, input, table.rows().width())?;
-    let (settings, events) = settled(alloc, known, list, &table, script)?;
-    Ok(explored(alloc, table, settings, events.into_vec())?)
+    let script = load_script(alloc, input, table.rows().width())?;
+    let (settings, events) = choose_settings(alloc, known, list, &table, script)?;
+    Ok(apply_events(alloc, table, settings, events.into_vec())?)
 }
 
-/// The exploration of the table under the settings after the events.
-fn explored(
+/// Opens an exploration of the table under the settings, and applies the events.
+fn apply_events(
     alloc: Global,
     table: Table,
     settings: Settings,
@@ -99,7 +106,7 @@ fn explored(
 ) -> Result<Explore, Memory>
     requires width { settings.known.width ≡ table.context.width }
     requires may { list_all (may_apply table.context.width) events.items ≡ true }
-    ensures { IfOk result (λ explore. recorded explore ≡ explored table (settings_of settings) events.items) }
+    ensures { IfOk result (λ explore. recorded explore ≡ exploration_by table (settings_of settings) events.items) }
 {
     let Ok(mut explore) = Explore::open_with(alloc, table, MAX_EXPERTS, settings) else {
         return Err(Memory);
@@ -111,13 +118,13 @@ fn explored(
 }
 
 /// The text of an exploration.
-fn exploration_answer(alloc: Global, explore: &Explore) -> Result<Answer, Stop>
+fn exploration_output(alloc: Global, explore: &Explore) -> Result<Output, Stop>
     requires { SettingsCanBeWritten explore.now.opening.table.context.width explore.now.opening.settings }
-    ensures text { IfOk result (λ answer. answer ≡ exploration_output (recorded explore.now)) }
+    ensures text { IfOk result (λ output. output ≡ exploration_output (recorded explore.now)) }
     ensures spells { OnOk result (SpellsItself (recorded explore.now)) }
     ensures cause { IfErr result (λ stop. stop ≡ Stop.Memory) }
 {
-    Ok(Answer {
+    Ok(Output {
         text: Text::whole(explore_text(alloc, explore)?),
         ending: Ending::of(explore),
     })

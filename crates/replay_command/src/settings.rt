@@ -1,4 +1,4 @@
-//! The settings of a replay: those of the script, or what a file says is known.
+//! The settings of a replay: those of the script, or those of a known file.
 
 ghost use Rattle.std.specs.Prelude.{◌≡◌, [], ℕ, IfOk, IfErr, OnOk, Some, None, option_copied};
 ghost use Rattle.fca_model.specs.declared.TheConstants.{MAX_EXPERTS};
@@ -21,8 +21,8 @@ use fca_model::{MAX_EXPERTS, Word};
 use implication_closure::ImplicationList;
 use std::alloc::Global;
 
-/// The settings of a replay and its events: those of the script, or beside a known file just what that says.
-pub fn settled(
+/// Chooses the settings of a replay: those of the script, or with a known file just its implications. The events are the script's.
+pub fn choose_settings(
     alloc: Global,
     known: Option<&Word>,
     list: ImplicationList,
@@ -47,11 +47,11 @@ pub fn settled(
     } = script;
     match known {
         Some(_) => Ok((known_alone(alloc, list, second)?, events)),
-        None => Ok((respected(table, settings)?, events)),
+        None => Ok((check_settings(table, settings)?, events)),
     }
 }
 
-/// Just what is known is set, unless the script has a line `exploration 2`.
+/// The settings of a known file: its implications, and nothing else. A script with a line `exploration 2` is refused.
 fn known_alone(
     alloc: Global,
     known: ImplicationList,
@@ -71,8 +71,8 @@ fn known_alone(
     }
 }
 
-/// The settings, where every row of the table respects what they say is known.
-fn respected(table: &Table, settings: Settings) -> Result<Settings, Stop>
+/// Checks that every row of the table respects the implications of the settings, and gives the settings back.
+fn check_settings(table: &Table, settings: Settings) -> Result<Settings, Stop>
     ensures settings { IfOk result (λ s. s ≡ settings) }
     ensures respected { OnOk result (first_break settings.known.members 0 table.now.context.rows ≡ None) }
     ensures cause { IfErr result (IsBreakStop settings.known.members table.now Input) }

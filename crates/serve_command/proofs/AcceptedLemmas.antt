@@ -1,6 +1,7 @@
 -- Ends are taken and given back one by one: each end taken is the first to come behind those taken before, and each end given back
 -- stands behind those given back before, since there is room for as many as were taken.
-use Rattle.std.proofs.Common.{◌≡◌, ◌∙◌, ◌<◌, ◌≤◌, ◌+◌, ◌++◌, ◌∷◌, [], ℕ, List, Option, Some, None, inl, inr, length, length-append, refl, sym, ap, subst, append_assoc, append-nil, arith}
+use Rattle.std.proofs.Common.{◌≡◌, ◌∙◌, ◌<◌, ◌≤◌, ◌+◌, ◌++◌, ◌∷◌, [], ℕ, List, Option, Some, None, inl, inr, length, length-append, refl}
+use Rattle.std.proofs.Common.{sym, ap, subst, append_assoc, append-nil, arith}
 use Rattle.std.specs.Prelude.{option_map}
 use Rattle.std.proofs.lemmas.Bool.{lt-ltb}
 use Rattle.fca_io.specs.Links.{Ends, GivesFirst, with_given, IsWithinRoom}
@@ -13,7 +14,8 @@ module _ {E : Type 0} where
   TookFirst-none None = tt
   TookFirst-none (Some old) = (old.to_come, refl, refl)
 
-  pub TookFirst-more : (a b c : Option (Ends E)) (taken : List E) (end : E) → TookFirst a b taken → GivesFirst b c end → TookFirst a c (taken ++ end ∷ [])
+  pub TookFirst-more : (a b c : Option (Ends E)) (taken : List E) (end : E) → TookFirst a b taken → GivesFirst b c end
+      → TookFirst a c (taken ++ end ∷ [])
   TookFirst-more None b c taken end took gives = tt
   TookFirst-more (Some old) b c taken end took gives =
       let P : Option (Ends E) → Type 0 = λ x. GivesFirst x c end in
@@ -24,7 +26,8 @@ module _ {E : Type 0} where
   GaveBack-none None = tt
   GaveBack-none (Some old) = ap (λ l. Some (record old { given = l })) (sym (append-nil old.given))
 
-  with_given-room : (end : E) (ends : Ends E) → length ends.given + length ends.to_come < ends.room → with_given end ends ≡ record ends { given = ends.given ++ end ∷ [] }
+  with_given-room : (end : E) (ends : Ends E) → length ends.given + length ends.to_come < ends.room
+      → with_given end ends ≡ record ends { given = ends.given ++ end ∷ [] }
   with_given-room end ends room = rw (lt-ltb _ _ room) refl
 
   pub GaveBack-more : (a b c : Option (Ends E)) (given : List E) (end : E) (n : ℕ) → HasRoomFor a n → length given < n → GaveBack a b given
@@ -37,7 +40,8 @@ module _ {E : Type 0} where
       is ∙ ap (option_map (with_given end)) gave ∙ ap Some (with_given-room end now fits)
       ∙ ap (λ l. Some (record old { given = l })) (append_assoc old.given given (end ∷ []))
 
-  pub TookAndGave-both : (a b c : Option (Ends E)) (taken given : List E) → IsWithinRoom a → length given ≡ length taken → TookFirst a b taken
+  pub TookAndGave-both : (a b c : Option (Ends E)) (taken given : List E) → IsWithinRoom a → length given ≡ length taken
+      → TookFirst a b taken
       → (HasRoomFor b (length given) → GaveBack b c given) → TookAndGave a c taken given
   TookAndGave-both None b c taken given within same took gave = tt
   TookAndGave-both (Some old) b c taken given within same took gave =
@@ -62,7 +66,8 @@ module _ {E : Type 0} where
     cause = inr memory;
   }
 
-  pub short-some : (count : ℕ) (a c : Option (Ends E)) (taken : List E) (rose : Type 0) (s : Stop) → TookAndGave a c taken taken → length taken < count → rose → s ≡ Listener
+  pub short-some : (count : ℕ) (a c : Option (Ends E)) (taken : List E) (rose : Type 0) (s : Stop) → TookAndGave a c taken taken
+      → length taken < count → rose → s ≡ Listener
       → FallsShort count a c rose s
   short-some count a c taken rose s served fewer risen listener = record {
     taken = taken;
@@ -73,13 +78,15 @@ module _ {E : Type 0} where
     cause = inl listener;
   }
 
-  pub short-none : (count : ℕ) (a b : Option (Ends E)) (rose : Type 0) (s : Stop) → b ≡ a → 1 ≤ count → rose → s ≡ Listener → FallsShort count a b rose s
+  pub short-none : (count : ℕ) (a b : Option (Ends E)) (rose : Type 0) (s : Stop) → b ≡ a → 1 ≤ count → rose → s ≡ Listener
+      → FallsShort count a b rose s
   short-none count a b rose s same some risen listener =
       let P : Option (Ends E) → Type 0 = λ x. TookAndGave a x [] [] in
       short-some count a b [] rose s (subst P (sym same) (TookAndGave-none a)) (omega arith) risen listener
 
   -- another fault rose where this one did, and nothing changed before
-  pub short-behind : (count : ℕ) (a b c : Option (Ends E)) (rose rose' : Type 0) (s : Stop) → b ≡ a → (rose → rose') → FallsShort count b c rose s → FallsShort count a c rose' s
+  pub short-behind : (count : ℕ) (a b c : Option (Ends E)) (rose rose' : Type 0) (s : Stop) → b ≡ a → (rose → rose')
+      → FallsShort count b c rose s → FallsShort count a c rose' s
   short-behind count a b c rose rose' s same more short =
       let P : Option (Ends E) → Type 0 = λ x. TookAndGave x c short.taken short.taken in
       record {

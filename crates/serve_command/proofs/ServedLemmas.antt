@@ -1,9 +1,11 @@
--- The text of sessions: the words for endings stand in one line each, so they change nothing of what the text spells; and what is promised of the
--- sessions is said of the text.
-use Rattle.std.proofs.Common.{◌≡◌, ◌⊎◌, ◌<◌, ◌∙◌, ◌++◌, ◌∷◌, [], ℕ, suc, List, Option, true, map, length, inl, inr, refl, sym, ap, subst, arith}
+-- The text of sessions: the words for endings stand in one line each, so they change nothing of what the text spells; and what is promised
+-- of the sessions is said of the text.
+use Rattle.std.proofs.Common.{◌≡◌, ◌⊎◌, ◌<◌, ◌∙◌, ◌++◌, ◌∷◌, [], ℕ, suc, List, Option, true, map, length, inl, inr, refl, sym, ap, subst}
+use Rattle.std.proofs.Common.{arith}
 use Rattle.fca_model.specs.Tables.{Text, NamedContext}
 use Rattle.fca_model.specs.Exploration.{SetEntry, own, is_expert, IsLegal}
 use Rattle.fca_model.specs.Invariant.{rows_respect}
+use Rattle.fca_model.specs.declared.TheConstants.{MAX_LINES}
 use Rattle.fca_io.specs.Links.{Ends}
 use Rattle.expert_gate.specs.Histories.{IsHistory}
 use Rattle.expert_sessions.specs.Serving.{EachTalks}
@@ -14,14 +16,14 @@ use Rattle.basis_report.specs.Comments.{are_lines, AreComments}
 use Rattle.basis_report.specs.Explorations.{explore_text, Spells, SpellsBefore}
 use Rattle.basis_report.specs.Sessions.{sessions_text}
 use Rattle.command_io.specs.Endings.{Output, ending_of}
-use Rattle.command_io.specs.declared.answer.Ending.{Ending}
+use Rattle.command_io.specs.declared.output.Ending.{Ending}
 use Rattle.implication_closure.specs.Closing.{HaveWidth}
 use Rattle.expert_scripts.specs.Transcripts.{SettingsCanBeWritten}
 use Rattle.command_io.specs.Known.{Start}
 use Rattle.command_io.proofs.CourseLemmas.{legal-course}
 use Rattle.serve_command.specs.Accepted.{GaveBack, HasRoomFor}
-use Rattle.serve_command.specs.Openings.{opened_by, IsNew}
-use Rattle.serve_command.specs.Served.{lines, words_of, IsServedText, HasSat, HasRisen}
+use Rattle.serve_command.specs.Openings.{opening_by, IsNew}
+use Rattle.serve_command.specs.Served.{words_of, IsServedText, HasSat, HasRisen}
 
 -- ---- words
 
@@ -38,17 +40,20 @@ words_are_lines (Memory ∷ endings) = words_are_lines endings
 
 -- lines behind the text of an exploration change nothing of what it spells
 pub spelled-sessions : (sessions text : Text) (explore : History) → SettingsCanBeWritten explore.opening.table.context.width explore.opening.settings
-    → ((more : List Text) → are_lines more ≡ true → SettingsCanBeWritten explore.opening.table.context.width explore.opening.settings → SpellsBefore explore.opening.table explore.opening.settings explore.journal more)
+    → ((more : List Text) → are_lines more ≡ true → SettingsCanBeWritten explore.opening.table.context.width explore.opening.settings
+    → SpellsBefore explore.opening.table explore.opening.settings explore.journal more)
     → AreComments sessions → text ≡ explore_text explore.opening.table explore.opening.settings explore.journal ++ sessions
     → Spells explore.opening.table explore.opening.settings explore.journal text
 spelled-sessions sessions text explore told spells skipped joined =
     let first = explore_text explore.opening.table explore.opening.settings explore.journal in
-    subst (Spells explore.opening.table explore.opening.settings explore.journal) (sym (joined ∙ ap (λ l. first ++ l) skipped.text_is)) (spells skipped.lines skipped.whole told)
+    subst (Spells explore.opening.table explore.opening.settings explore.journal) (sym (joined ∙ ap (λ l. first ++ l) skipped.text_is))
+    (spells skipped.lines skipped.whole told)
 
 -- ---- openings
 
 -- an exploration that was opened so is new
-pub new-opened : (experts holders : ℕ) (start : Start) (h : History) → h.opening ≡ opened_by experts holders start → h.journal ≡ [] → is_expert experts ≡ true → is_expert holders ≡ true
+pub new-opened : (experts holders : ℕ) (start : Start) (h : History) → h.opening ≡ opening_by experts holders start → h.journal ≡ []
+    → is_expert experts ≡ true → is_expert holders ≡ true
     → rows_respect start.known start.table.context ≡ true → HaveWidth start.table.context.width start.known → IsNew h
 new-opened experts holders start h is none expert most respecting even = record {
   none = none;
@@ -77,7 +82,7 @@ module _ {E : Type 0} (left held : E → Option Text) (calls : E → Option ℕ)
   pub record IsOver (o : Opening) (before after : List E) (explore : History) (endings : List Ended) : Type 0 where
     pub opening : explore.opening ≡ o
     pub history : IsHistory explore.opening explore.journal
-    pub talks : EachTalks left held calls reads writes o.table lines explore.journal 1 before after endings
+    pub talks : EachTalks left held calls reads writes o.table MAX_LINES explore.journal 1 before after endings
     pub others : (e : ℕ) → (e ≡ 0) ⊎ (length before < e) → own explore.journal e ≡ []
 
   -- the text that was made of it
@@ -87,11 +92,13 @@ module _ {E : Type 0} (left held : E → Option Text) (calls : E → Option ℕ)
     pub ending : end ≡ ending_of (open_of explore)
 
   pub served-text : (o : Opening) (before after : List E) (explore : History) (endings : List Ended) (text : Text) (ending : Ending)
-      → is_expert o.experts ≡ true → rows_respect o.settings.known o.table.context ≡ true → HaveWidth o.table.context.width o.settings.known → IsOver o before after explore endings → IsTextOf explore endings text ending
+      → is_expert o.experts ≡ true → rows_respect o.settings.known o.table.context ≡ true → HaveWidth o.table.context.width o.settings.known
+      → IsOver o before after explore endings → IsTextOf explore endings text ending
       → IsServedText left held calls reads writes o before after text ending
   served-text o before after explore endings text ending expert known even over made =
       let H = explore.journal in
-      let legal : IsLegal (opening_state o) H = let P : Opening → Type 0 = λ x. IsLegal (opening_state x) H in subst P over.opening over.history.legal in
+      let legal : IsLegal (opening_state o) H = let P : Opening → Type 0 = λ x. IsLegal (opening_state x) H in
+      subst P over.opening over.history.legal in
       let Joined : Opening → Type 0 = λ x. text ≡ explore_text x.table x.settings H ++ sessions_text (map words_of endings) in
       let Spelled : Opening → Type 0 = λ x. Spells x.table x.settings H text in
       let EndsSo : Opening → Type 0 = λ x. ending ≡ ending_of (open_of (record { opening = x; journal = H; spare = 0 })) in
@@ -106,25 +113,29 @@ module _ {E : Type 0} (left held : E → Option Text) (calls : E → Option ℕ)
         ending = subst EndsSo over.opening made.ending;
       }
 
-  pub has-sat : (o : Opening) (before after : List E) (old new : Option (Ends E)) (explore : History) (endings : List Ended) (answer : Output)
-      → is_expert o.experts ≡ true → rows_respect o.settings.known o.table.context ≡ true → HaveWidth o.table.context.width o.settings.known → IsOver o before after explore endings
-      → (HasRoomFor old (length after) → GaveBack old new after) → IsTextOf explore endings answer.text answer.ending
-      → HasSat left held calls reads writes o before old new answer
-  has-sat o before after old new explore endings answer expert known even over gave made =
-      let long = talks-long o.table lines explore.journal 1 before after endings over.talks in
+  pub has-sat : (o : Opening) (before after : List E) (old new : Option (Ends E)) (explore : History) (endings : List Ended)
+      (output : Output)
+      → is_expert o.experts ≡ true → rows_respect o.settings.known o.table.context ≡ true → HaveWidth o.table.context.width o.settings.known
+      → IsOver o before after explore endings
+      → (HasRoomFor old (length after) → GaveBack old new after) → IsTextOf explore endings output.text output.ending
+      → HasSat left held calls reads writes o before old new output
+  has-sat o before after old new explore endings output expert known even over gave made =
+      let long = talks-long o.table MAX_LINES explore.journal 1 before after endings over.talks in
       record {
         after = after;
         gave = gave;
         long = long;
-        is = served-text o before after explore endings answer.text answer.ending expert known even over made;
+        is = served-text o before after explore endings output.text output.ending expert known even over made;
       }
 
   pub risen-talks : (table : NamedContext) (H : List SetEntry) (before after : List E) (old new : Option (Ends E)) (endings : List Ended)
-      → EachTalks left held calls reads writes table lines H 1 before after endings → (HasRoomFor old (length after) → GaveBack old new after)
+      → EachTalks left held calls reads writes table MAX_LINES H 1 before after endings
+      → (HasRoomFor old (length after) → GaveBack old new after)
       → HasRisen left held calls reads writes before old new
   risen-talks table H before after old new endings talks gave =
-      let long = talks-long table lines H 1 before after endings talks in
+      let long = talks-long table MAX_LINES H 1 before after endings talks in
       record { after = after; gave = gave; long = long; talked = inr (table, H, endings, talks) }
 
-  pub risen-same : (before after : List E) (old new : Option (Ends E)) → after ≡ before → (HasRoomFor old (length after) → GaveBack old new after) → HasRisen left held calls reads writes before old new
+  pub risen-same : (before after : List E) (old new : Option (Ends E)) → after ≡ before
+      → (HasRoomFor old (length after) → GaveBack old new after) → HasRisen left held calls reads writes before old new
   risen-same before after old new same gave = record { after = after; gave = gave; long = ap length same; talked = inl same }

@@ -1,5 +1,5 @@
--- The steps of a call, one after the other: a call stops where its table is not read, where its ends fall short, or for memory, and each time it says
--- which ends came and went; ends that have gone through their sessions make an answer.
+-- The steps of a call, one after the other: a call stops where its table is not read, where its ends fall short, or for memory, and each
+-- time it says which ends came and went; ends that have gone through their sessions make an answer.
 use Rattle.std.proofs.Common.{◌≡◌, ◌≤◌, ◌⊎◌, [], ℕ, nat_le, true, List, length, Option, Result, Ok, Err, inl, inr, refl, sym, subst, arith}
 use Rattle.std.proofs.lemmas.Bool.{and_parts, leb-true}
 use Rattle.std.specs.Prelude.{IfOk, IfErr}
@@ -16,7 +16,7 @@ use Rattle.command_io.specs.Endings.{Output, IsRefusal, IsUnread}
 use Rattle.command_io.specs.declared.stop.Stop.{Stop}
 use Rattle.command_io.specs.declared.stop.Stop.TheVariants.{Listener, Memory}
 use Rattle.serve_command.specs.Accepted.{TookFirst, FallsShort}
-use Rattle.serve_command.specs.Served.{IsServeStop, IsAnswer, GaveAllBack, HasSat, HasRisen}
+use Rattle.serve_command.specs.Served.{IsServeStop, IsOutput, GaveAllBack, HasSat, HasRisen}
 use Rattle.serve_command.proofs.AcceptedLemmas.{TookAndGave-none, TookAndGave-both}
 
 pub expert-range : (n : ℕ) → is_expert n ≡ true → (1 ≤ n) × (n ≤ MAX_EXPERTS)
@@ -28,17 +28,16 @@ pub any-err : {X F : Type 0} (r : Result X F) (P : F → Type 0) → ((e : F) �
 any-err (Ok x) P all = tt
 any-err (Err e) P all = all e
 
-pub ok-from-three : {X F : Type 0} (r : Result X F) (P Q R S : X → Type 0) → IfOk r P → IfOk r Q → IfOk r R → ((x : X) → P x → Q x → R x → S x) → IfOk r S
+pub ok-from-three : {X F : Type 0} (r : Result X F) (P Q R S : X → Type 0) → IfOk r P → IfOk r Q → IfOk r R
+    → ((x : X) → P x → Q x → R x → S x) → IfOk r S
 ok-from-three (Ok x) P Q R S p q r' all = all x p q r'
 ok-from-three (Err e) P Q R S p q r' all = tt
 
 -- ---- counts of faults
 
-pub Rose-before : (a b c : ℕ) → Rose a b → b ≤ c → Rose a c
-Rose-before a b c rose after = omega arith
-
-pub Rose-behind : (a b c : ℕ) → a ≤ b → Rose b c → Rose a c
-Rose-behind a b c before rose = omega arith
+-- nothing was counted before and behind
+pub Rose-between : (a b c d : ℕ) → b ≡ a → Rose b c → d ≡ c → Rose a d
+Rose-between a b c d before rose behind = omega arith
 
 -- ---- stops
 
@@ -54,7 +53,8 @@ heard s Same (inr e) unread = absurd (subst IsUnread e unread)
 -- ---- ends
 
 module _ {E : Type 0} where
-  pub early-back : (left held : E → Option Text) (calls : E → Option ℕ) (reads writes : E → ℕ) (count : ℕ) (a : Option (Ends E)) (failed : Type 0) → 1 ≤ count → GaveAllBack left held calls reads writes count a a failed
+  pub early-back : (left held : E → Option Text) (calls : E → Option ℕ) (reads writes : E → ℕ) (count : ℕ) (a : Option (Ends E))
+      (failed : Type 0) → 1 ≤ count → GaveAllBack left held calls reads writes count a a failed
   early-back left held calls reads writes count a failed some = record {
     before = [];
     after = [];
@@ -64,7 +64,8 @@ module _ {E : Type 0} where
     fewer = λ _. (omega arith, refl);
   }
 
-  pub short-back : (left held : E → Option Text) (calls : E → Option ℕ) (reads writes : E → ℕ) (count : ℕ) (a b : Option (Ends E)) (link_rose : Type 0) (s : Stop) → FallsShort count a b link_rose s
+  pub short-back : (left held : E → Option Text) (calls : E → Option ℕ) (reads writes : E → ℕ) (count : ℕ) (a b : Option (Ends E))
+      (link_rose : Type 0) (s : Stop) → FallsShort count a b link_rose s
       → GaveAllBack left held calls reads writes count a b (s ≡ Listener)
   short-back left held calls reads writes count a b link_rose s short = record {
     before = short.taken;
@@ -75,8 +76,10 @@ module _ {E : Type 0} where
     fewer = λ listener. (short.fewer listener, refl);
   }
 
-  risen-back : (left held : E → Option Text) (calls : E → Option ℕ) (reads writes : E → ℕ) (count : ℕ) (a b c : Option (Ends E)) (before : List E) (s : Stop) → IsWithinRoom a → TookFirst a b before
-      → length before ≡ count → HasRisen left held calls reads writes before b c → s ≡ Memory → GaveAllBack left held calls reads writes count a c (s ≡ Listener)
+  risen-back : (left held : E → Option Text) (calls : E → Option ℕ) (reads writes : E → ℕ) (count : ℕ) (a b c : Option (Ends E))
+      (before : List E) (s : Stop) → IsWithinRoom a → TookFirst a b before
+      → length before ≡ count → HasRisen left held calls reads writes before b c → s ≡ Memory
+      → GaveAllBack left held calls reads writes count a c (s ≡ Listener)
   risen-back left held calls reads writes count a b c before s within took many risen memory = record {
     before = before;
     after = risen.after;
@@ -86,17 +89,20 @@ module _ {E : Type 0} where
     fewer = λ listener. cc;
   }
 
-  pub risen-ends : (left held : E → Option Text) (calls : E → Option ℕ) (reads writes : E → ℕ) (count : ℕ) (a b c : Option (Ends E)) (before : List E) (r : Result Output Stop) → IsWithinRoom a
-      → TookFirst a b before → length before ≡ count → IfErr r (λ _. HasRisen left held calls reads writes before b c) → IfErr r (λ stop. stop ≡ Memory)
+  pub risen-ends : (left held : E → Option Text) (calls : E → Option ℕ) (reads writes : E → ℕ) (count : ℕ) (a b c : Option (Ends E))
+      (before : List E) (r : Result Output Stop) → IsWithinRoom a
+      → TookFirst a b before → length before ≡ count → IfErr r (λ _. HasRisen left held calls reads writes before b c)
+      → IfErr r (λ stop. stop ≡ Memory)
       → IfErr r (λ stop. GaveAllBack left held calls reads writes count a c (stop ≡ Listener))
   risen-ends left held calls reads writes count a b c before (Ok o) within took many risen memory = tt
   risen-ends left held calls reads writes count a b c before (Err s) within took many risen memory =
       risen-back left held calls reads writes count a b c before s within took many risen memory
 
-  pub sat-answer : (left held : E → Option Text) (calls : E → Option ℕ) (reads writes : E → ℕ) (o : Opening) (a b c : Option (Ends E)) (before : List E) (answer : Output)
-      → IsWithinRoom a → TookFirst a b before → length before ≡ o.experts → HasSat left held calls reads writes o before b c answer
-      → IsAnswer left held calls reads writes o a c answer
-  sat-answer left held calls reads writes o a b c before answer within took many sat = record {
+  pub sat-output : (left held : E → Option Text) (calls : E → Option ℕ) (reads writes : E → ℕ) (o : Opening) (a b c : Option (Ends E))
+      (before : List E) (output : Output)
+      → IsWithinRoom a → TookFirst a b before → length before ≡ o.experts → HasSat left held calls reads writes o before b c output
+      → IsOutput left held calls reads writes o a c output
+  sat-output left held calls reads writes o a b c before output within took many sat = record {
     before = before;
     after = sat.after;
     count = many;
@@ -106,11 +112,14 @@ module _ {E : Type 0} where
 
 -- ---- which stop it is
 
-pub memory-serve : (file : Text) (known : Option Text) (files : Text → Told) (rises : Text → Type 0) (link_rose : Type 0) (s : Stop) → s ≡ Memory
+pub memory-serve : (file : Text) (known : Option Text) (files : Text → Told) (rises : Text → Type 0) (link_rose : Type 0) (s : Stop)
+    → s ≡ Memory
     → IsServeStop file known files rises link_rose s
-memory-serve file known files rises link_rose s e = let P : Stop → Type 0 = IsServeStop file known files rises link_rose in subst P (sym e) (inl (inl tt))
+memory-serve file known files rises link_rose s e = let P : Stop → Type 0 = IsServeStop file known files rises link_rose in
+    subst P (sym e) (inl (inl tt))
 
-pub link-serve : (file : Text) (known : Option Text) (files : Text → Told) (rises : Text → Type 0) (link_rose : Type 0) (start : Start) (s : Stop) → MayRead (start_read file known files) start
+pub link-serve : (file : Text) (known : Option Text) (files : Text → Told) (rises : Text → Type 0) (link_rose : Type 0) (start : Start)
+    (s : Stop) → MayRead (start_read file known files) start
     → (s ≡ Listener → link_rose) → (s ≡ Listener) ⊎ (s ≡ Memory) → IsServeStop file known files rises link_rose s
 link-serve file known files rises link_rose start s may rose (inl e) = inr (e, start, may, rose e)
 link-serve file known files rises link_rose start s may rose (inr e) = memory-serve file known files rises link_rose s e

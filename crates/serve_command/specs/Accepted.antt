@@ -15,7 +15,7 @@ module _ {E : Type 0} where
   HasRoomFor None n = ⊤
   HasRoomFor (Some ends) n = length ends.given + length ends.to_come + n ≤ ends.room
 
-  -- these ends were put behind those given back before, and nothing else changed
+  -- these ends were given back after those before, and nothing else changed
   abbrev pub GaveBack : Option (Ends E) → Option (Ends E) → List E → Type 0
   GaveBack None new given = ⊤
   GaveBack (Some old) new given = new ≡ Some (record old { given = old.given ++ given })
@@ -24,9 +24,10 @@ module _ {E : Type 0} where
   abbrev pub TookAndGave : Option (Ends E) → Option (Ends E) → List E → List E → Type 0
   TookAndGave None new taken given = ⊤
   TookAndGave (Some old) new taken given =
-      (later : List E) × (old.to_come ≡ taken ++ later) × (new ≡ Some (record { to_come = later; given = old.given ++ given; room = old.room }))
+      (later : List E) × (old.to_come ≡ taken ++ later)
+      × (new ≡ Some (record { to_come = later; given = old.given ++ given; room = old.room }))
 
-  -- the ends fell short of the count: those that came were given back as they were, and where memory was there the listener failed
+  -- fewer ends came than the count: those that came were given back as they were, and the listener failed or memory ran out
   pub record FallsShort (count : ℕ) (old new : Option (Ends E)) (rose : Type 0) (stop : Stop) : Type 0 where
     pub taken : List E
     pub served : TookAndGave old new taken taken

@@ -7,11 +7,11 @@ use Rattle.expert_scripts.specs.Transcripts.{SettingsCanBeWritten}
 use Rattle.command_io.specs.Explorations.{opening_of}
 use Rattle.command_io.specs.Known.{Start}
 
--- the table explored beside what is known, by so many experts, of whom so many may hold one question
-abbrev pub opened_by : ℕ → ℕ → Start → Opening
-opened_by experts holders start = opening_of start.table experts (record { known = start.known; holders = holders; expert_names = [] })
+-- the opening of the start's table beside what is known, by these numbers of experts and of holders
+abbrev pub opening_by : ℕ → ℕ → Start → Opening
+opening_by experts holders start = opening_of start.table experts (record { known = start.known; holders = holders; expert_names = [] })
 
--- nothing was done yet, the rows respect what is known, and a text can tell the settings
+-- nothing was done yet, the rows respect what is known, and a text can spell the settings
 pub record IsNew (h : History) : Type 0 where
   pub none : h.journal ≡ []
   pub experts : is_expert h.opening.experts ≡ true

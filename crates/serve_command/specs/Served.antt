@@ -1,11 +1,11 @@
 -- What `serve` writes: the text of one legal history, which the experts at the ends of a link made, and how their sessions ended.
 --
--- Where the first of two experts quits at once and the second goes at the end of its input, the text ends with the lines `# sessions 2`, `# 1 quit` and
--- `# 2 end of input`.
+-- If the first of two experts quits at once and the second stops at the end of its input, the text ends with the lines `# sessions 2`, `# 1
+-- quit` and `# 2 end of input`.
 use Rattle.std.specs.Prelude.{◌≡◌, ◌⊎◌, ◌<◌, ◌≤◌, ℕ, Option, List, [], ◌++◌, map, length}
 use Rattle.fca_model.specs.Tables.{Text, NamedContext}
 use Rattle.fca_model.specs.Exploration.{SetEntry, own}
-use Rattle.fca_model.specs.declared.TheConstants.{NO_MEMORY}
+use Rattle.fca_model.specs.declared.TheConstants.{MAX_LINES, NO_MEMORY}
 use Rattle.fca_io.specs.declared.outside.TheConstants.{READ_FAULT, WRITE_FAULT}
 use Rattle.fca_io.specs.Links.{Ends}
 use Rattle.expert_sessions.specs.Serving.{EachTalks}
@@ -20,15 +20,11 @@ use Rattle.command_io.specs.Known.{Start, start_read, IsStartStop}
 use Rattle.command_io.specs.declared.stop.Stop.{Stop}
 use Rattle.command_io.specs.declared.stop.Stop.TheVariants.{Listener}
 use Rattle.command_io.specs.Endings.{Output, ending_of}
-use Rattle.command_io.specs.declared.answer.Ending.{Ending}
+use Rattle.command_io.specs.declared.output.Ending.{Ending}
 use Rattle.command_io.specs.Explorations.{Recorded, open_at, IsExplored}
 use Rattle.serve_command.specs.Accepted.{TookAndGave, GaveBack, HasRoomFor}
-use Rattle.serve_command.specs.Openings.{opened_by}
+use Rattle.serve_command.specs.Openings.{opening_by}
 use Rattle.serve_command.specs.declared.endings.TheConstants.{QUIT, END_OF_INPUT, LONG_LINE, LIMIT, SPENT}
-
--- the most lines that a session may have
-abbrev pub lines : ℕ
-lines = 1000000
 
 -- the words for an ending
 abbrev pub words_of : Ended → Text
@@ -42,47 +38,50 @@ words_of Spent = SPENT.now
 words_of Memory = NO_MEMORY.now
 
 -- the exploration that was opened so and has this history
-abbrev pub served : Opening → List SetEntry → Recorded
-served o H = record { opening = o; journal = H }
+abbrev pub serving_record : Opening → List SetEntry → Recorded
+serving_record o H = record { opening = o; journal = H }
 
 -- its text, and how the sessions ended
 abbrev pub served_text : Opening → List SetEntry → List Ended → Text
 served_text o H endings = explore_text o.table o.settings H ++ sessions_text (map words_of endings)
 
--- over ends that show what is left and what is held, how often they were read, where they count that, and their counts of faults
+-- over ends that show what is left and what is held, how often they were read, if they count that, and their counts of faults
 module _ {E : Type 0} (left held : E → Option Text) (calls : E → Option ℕ) (reads writes : E → ℕ) where
-  -- The text spells the settings of the exploration and one legal history, which has no entries but those of the experts at these ends: expert k has
-  -- talked over the k-th of them, which was read only where each whole line was answered, and the text tells how that session ended. It ends open where a question is, after the last entry
+  -- The text spells the settings of the exploration and one legal history, which has no entries but those of the experts at these ends.
+  -- Expert k has talked over the k-th of them, which was read only after each whole line was answered, and the text says how that session
+  -- ended. Its ending says whether a question is open after the last entry
   pub record IsServedText (o : Opening) (before after : List E) (written : Text) (end : Ending) : Type 0 where
     pub history : List SetEntry
     pub endings : List Ended
     pub text : written ≡ served_text o history endings
     pub spells : Spells o.table o.settings history written
-    pub course : IsExplored (served o history)
-    pub talks : EachTalks left held calls reads writes o.table lines history 1 before after endings
+    pub course : IsExplored (serving_record o history)
+    pub talks : EachTalks left held calls reads writes o.table MAX_LINES history 1 before after endings
     pub others : (e : ℕ) → (e ≡ 0) ⊎ (length before < e) → own history e ≡ []
-    pub ending : end ≡ ending_of (open_at (served o history))
+    pub ending : end ≡ ending_of (open_at (serving_record o history))
 
   -- the ends are as they were, or their experts have talked over them
   abbrev pub MayHaveTalked : List E → List E → Type 0
   MayHaveTalked before after =
       (after ≡ before)
-      ⊎ ((table : NamedContext) × (H : List SetEntry) × (endings : List Ended) × EachTalks left held calls reads writes table lines H 1 before after endings)
+      ⊎ ((table : NamedContext) × (H : List SetEntry) × (endings : List Ended)
+      × EachTalks left held calls reads writes table MAX_LINES H 1 before after endings)
 
-  -- an answer: the ends that were accepted, which are as many as there are experts, are given back, and the text is theirs
-  pub record IsAnswer (o : Opening) (old new : Option (Ends E)) (answer : Output) : Type 0 where
+  -- an output: the accepted ends, as many as there are experts, are given back, and the text is that of their sessions
+  pub record IsOutput (o : Opening) (old new : Option (Ends E)) (output : Output) : Type 0 where
     pub before : List E
     pub after : List E
     pub count : length before ≡ o.experts
     pub ends : TookAndGave old new before after
-    pub is : IsServedText o before after answer.text answer.ending
+    pub is : IsServedText o before after output.text output.ending
 
-  -- an answer for what may have been read, by so many experts, of whom so many may hold one question
+  -- an output for the start that may have been read, by these numbers of experts and of holders
   abbrev pub MayServe : Reading Start → ℕ → ℕ → Option (Ends E) → Option (Ends E) → Output → Type 0
-  MayServe reading experts holders old new answer = (start : Start) × MayRead reading start × IsAnswer (opened_by experts holders start) old new answer
+  MayServe reading experts holders old new output = (start : Start) × MayRead reading start
+      × IsOutput (opening_by experts holders start) old new output
 
-  -- At most as many ends as there are experts were accepted, the first to come, and just these were given back in their order.
-  -- Where the listener failed they are fewer, and as they were
+  -- At most as many ends as there are experts were accepted, the first to come, and exactly these were given back in their order. If the
+  -- listener failed, they are fewer, and as they were
   pub record GaveAllBack (experts : ℕ) (old new : Option (Ends E)) (failed : Type 0) : Type 0 where
     pub before : List E
     pub after : List E
@@ -93,21 +92,21 @@ module _ {E : Type 0} (left held : E → Option Text) (calls : E → Option ℕ)
 
   -- ---- the steps of a call
 
-  -- these ends have gone through their sessions and were given back where there was room, and the answer is theirs
-  pub record HasSat (o : Opening) (before : List E) (old new : Option (Ends E)) (answer : Output) : Type 0 where
+  -- these ends went through their sessions and were given back if there was room, and the output is that of their sessions
+  pub record HasSat (o : Opening) (before : List E) (old new : Option (Ends E)) (output : Output) : Type 0 where
     pub after : List E
     pub gave : HasRoomFor old (length after) → GaveBack old new after
     pub long : length after ≡ length before
-    pub is : IsServedText o before after answer.text answer.ending
+    pub is : IsServedText o before after output.text output.ending
 
-  -- these ends were given back where there was room, as they were or after their sessions
+  -- these ends were given back if there was room, as they were or after their sessions
   pub record HasRisen (before : List E) (old new : Option (Ends E)) : Type 0 where
     pub after : List E
     pub gave : HasRoomFor old (length after) → GaveBack old new after
     pub long : length after ≡ length before
     pub talked : MayHaveTalked before after
 
--- the stop of the files, or, where these were read, of the link, of which a count of faults rose
+-- the stop for the files, or, if these were read, for the link, whose count of faults rose
 abbrev pub IsServeStop : Text → Option Text → (Text → Told) → (Text → Type 0) → Type 0 → Stop → Type 0
 IsServeStop file known files rises link_rose stop = IsStartStop file known files rises stop
     ⊎ ((stop ≡ Listener) × (start : Start) × MayRead (start_read file known files) start × link_rose)

@@ -4,15 +4,15 @@ ghost use Rattle.std.specs.Prelude.{◌≡◌, IfOk, None, true};
 ghost use Rattle.fca_model.specs.Exploration.{is_expert};
 ghost use Rattle.explore_state.specs.Faults.{first_break};
 ghost use Rattle.command_io.specs.Known.{start_of};
-ghost use Rattle.serve_command.specs.Openings.{opened_by, IsNew};
+ghost use Rattle.serve_command.specs.Openings.{opening_by, IsNew};
 
 use command_io::Start;
 use explore_state::{ExpertNames, Explore, Settings};
 use fca_model::Memory;
 use std::alloc::Global;
 
-/// The exploration of the table by so many experts, of whom at most `holders` may hold one question.
-pub(crate) fn opened(
+/// Opens an exploration of the table. At most `holders` of the experts may hold one question.
+pub(crate) fn open_exploration(
     alloc: Global,
     start: Start,
     experts: u8,
@@ -22,7 +22,7 @@ pub(crate) fn opened(
     requires holders { is_expert holders ≡ true }
     requires width { start.known.width ≡ start.table.context.width }
     requires respected { first_break start.known.members 0 start.table.context.rows ≡ None }
-    ensures opening { IfOk result (λ explore. explore.opening ≡ opened_by experts holders (start_of start)) }
+    ensures opening { IfOk result (λ explore. explore.opening ≡ opening_by experts holders (start_of start)) }
     ensures new { IfOk result IsNew }
 {
     let _known = start.known.as_slice();

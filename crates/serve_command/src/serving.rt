@@ -1,4 +1,4 @@
-//! The exploration by the experts at a link's ends, and its text.
+//! The exploration by the experts at the ends of a link, and its text.
 
 ghost use Rattle.std.specs.Prelude.{◌≡◌, ◌⊎◌, ◌++◌, true, false, map, IfOk, IfErr, OnOk, option_copied, vec_len};
 ghost use Rattle.fca_model.specs.Exploration.{is_expert};
@@ -8,7 +8,8 @@ ghost use Rattle.explore_state.specs.History.{open_of};
 ghost use Rattle.basis_report.specs.Explorations.{explore_text, Spells};
 ghost use Rattle.basis_report.specs.Sessions.{sessions_text};
 ghost use Rattle.expert_scripts.specs.Transcripts.{SettingsCanBeWritten};
-ghost use Rattle.command_io.specs.Readings.{MayRefuse, Rises};
+ghost use Rattle.command_io.specs.Readings.{MayRefuse, Rises, SameCounts};
+ghost use Rattle.command_io.specs.Causes.{UnlessFault, UnlessListener};
 ghost use Rattle.command_io.specs.Known.{start_read};
 ghost use Rattle.command_io.specs.Endings.{ending_of, IsRefusal, IsUnread};
 ghost use Rattle.serve_command.specs.Openings.{IsNew};
@@ -16,25 +17,19 @@ ghost use Rattle.serve_command.specs.Served.{words_of, IsServeStop, MayServe, Ga
 
 use crate::accepting::{ends_at, give_back};
 use crate::endings::words_of_all;
-use crate::opening::opened;
+use crate::opening::open_exploration;
 use basis_report::{explore_text, sessions_text};
-use command_io::{Answer, Ending, Stop, Text, start_under};
+use command_io::{Ending, Output, Stop, Text, load_start};
 use expert_sessions::{Ended, Served, Unserved, serve_ends};
 use explore_state::Explore;
 use fca_io::{Listener, Shelf};
-use fca_model::Word;
+use fca_model::{MAX_LINES, MAX_TURNS, Word};
 use std::alloc::Global;
 use std::sync::Wait;
 use std::thread::Threads;
 
-/// The most lines that a session may have.
-const LINES: u32 = 1_000_000;
-
-/// The most turns that an expert may take.
-const TURNS: u64 = 1 << 48;
-
-/// What the exploration of the table in the file comes to, beside what the known file says where there is one, by experts at the first
-/// ends that the link accepts. At most `holders` experts may hold one question.
+/// Explores the table in the file with the experts at the first ends that the link accepts, and gives the text. A known file may be given. At
+/// most `holders` experts may hold one question.
 pub fn serve<R: Threads + Wait + Sync, H: Shelf, L: Listener>(
     rt: &R,
     alloc: Global,
@@ -45,48 +40,53 @@ pub fn serve<R: Threads + Wait + Sync, H: Shelf, L: Listener>(
     holders: u8,
     listen: &Word,
     link: &mut L,
-) -> Result<Answer, Stop>
+) -> Result<Output, Stop>
     requires experts { is_expert experts ≡ true }
     requires holders { is_expert holders ≡ true }
     requires closed { L.listens link.old ≡ false }
 
-    ensures answer { IfOk result (MayServe L.End.Source.left L.End.Sink.held L.End.Source.reads L.End.Source.faults L.End.Sink.faults
+    ensures output { IfOk result (MayServe L.End.Source.left L.End.Sink.held L.End.Source.reads L.End.Source.faults L.End.Sink.faults
         (start_read file.now (option_copied known.entry) (H.tells shelf.old)) experts holders (L.ends link.old) (L.ends link.new)) }
     ensures listens { OnOk result ((L.listens link.new ≡ true) × MayListenAt (L.listens_at link.new) listen.now) }
 
-    // Where the files could not be read, the link is as it was.
+    // If the files could not be read, the link is as it was.
     ensures refused { IfErr result (λ stop. IsRefusal stop → MayRefuse (start_read file.now (option_copied known.entry) (H.tells shelf.old))) }
     ensures cause { IfErr result (IsServeStop file.now (option_copied known.entry) (H.tells shelf.old) (Rises (H.faults shelf.old) (H.faults shelf.new))
         (Rises (L.open_faults link.old) (L.open_faults link.new) listen.now ⊎ Rose (L.accept_faults link.old) (L.accept_faults link.new))) }
+    ensures quiet { UnlessFault result (SameCounts (H.faults shelf.old) (H.faults shelf.new)) }
+    ensures quiet_open { UnlessListener result (SameCounts (L.open_faults link.old) (L.open_faults link.new)) }
+    ensures quiet_accept { UnlessListener result (L.accept_faults link.new ≡ L.accept_faults link.old) }
     ensures unheard { IfErr result (λ stop. IsUnread stop → link.new ≡ link.old) }
     ensures ends { IfErr result (λ stop. GaveAllBack L.End.Source.left L.End.Sink.held L.End.Source.reads L.End.Source.faults L.End.Sink.faults
         experts (L.ends link.old) (L.ends link.new) (stop ≡ Stop.Listener)) }
 {
-    let start = start_under(alloc, shelf, file, known)?;
-    let explore = opened(alloc, start, experts, holders)?;
+    let start = load_start(alloc, shelf, file, known)?;
+    let explore = open_exploration(alloc, start, experts, holders)?;
     let ends = ends_at(alloc, link, listen.bytes(), experts)?;
-    explored(rt, alloc, explore, ends, link)
+    explore_over(rt, alloc, explore, ends, link)
 }
 
-/// What the exploration comes to, by the experts at these ends, which are given back.
-fn explored<R: Threads + Wait + Sync, L: Listener>(
+/// Explores with the experts at these ends, gives the ends back, and makes the text.
+fn explore_over<R: Threads + Wait + Sync, L: Listener>(
     rt: &R,
     alloc: Global,
     explore: Explore,
     ends: Vec<L::End>,
     link: &mut L,
-) -> Result<Answer, Stop>
+) -> Result<Output, Stop>
     requires new { IsNew explore }
     requires count { explore.opening.experts ≡ vec_len ends }
 
-    ensures sat { IfOk result (λ answer. HasSat L.End.Source.left L.End.Sink.held L.End.Source.reads L.End.Source.faults L.End.Sink.faults
-        explore.opening ends.items (L.ends link.old) (L.ends link.new) answer) }
+    ensures sat { IfOk result (λ output. HasSat L.End.Source.left L.End.Sink.held L.End.Source.reads L.End.Source.faults L.End.Sink.faults
+        explore.opening ends.items (L.ends link.old) (L.ends link.new) output) }
     ensures risen { IfErr result (λ _. HasRisen L.End.Source.left L.End.Sink.held L.End.Source.reads L.End.Source.faults L.End.Sink.faults
         ends.items (L.ends link.old) (L.ends link.new)) }
     ensures cause { IfErr result (λ stop. stop ≡ Stop.Memory) }
     ensures same { (L.listens link.new ≡ L.listens link.old) × (L.listens_at link.new ≡ L.listens_at link.old) }
+    ensures quiet_open { SameCounts (L.open_faults link.old) (L.open_faults link.new) }
+    ensures quiet_accept { L.accept_faults link.new ≡ L.accept_faults link.old }
 {
-    match serve_ends(rt, alloc, explore, ends, LINES, TURNS) {
+    match serve_ends(rt, alloc, explore, ends, MAX_LINES, MAX_TURNS) {
         Ok(served) => {
             let Served {
                 explore,
@@ -104,19 +104,19 @@ fn explored<R: Threads + Wait + Sync, L: Listener>(
 }
 
 /// The text of the exploration, and how its sessions ended.
-fn text_of(alloc: Global, explore: &Explore, endings: &[Ended]) -> Result<Answer, Stop>
+fn text_of(alloc: Global, explore: &Explore, endings: &[Ended]) -> Result<Output, Stop>
     requires { SettingsCanBeWritten explore.now.opening.table.context.width explore.now.opening.settings }
-    ensures text { IfOk result (λ answer. answer.text ≡ explore_text explore.now.opening.table explore.now.opening.settings explore.now.journal
+    ensures text { IfOk result (λ output. output.text ≡ explore_text explore.now.opening.table explore.now.opening.settings explore.now.journal
         ++ sessions_text (map words_of endings.now)) }
-    ensures spells { IfOk result (λ answer. Spells explore.now.opening.table explore.now.opening.settings explore.now.journal answer.text) }
-    ensures ending { IfOk result (λ answer. answer.ending ≡ ending_of (open_of explore.now)) }
+    ensures spells { IfOk result (λ output. Spells explore.now.opening.table explore.now.opening.settings explore.now.journal output.text) }
+    ensures ending { IfOk result (λ output. output.ending ≡ ending_of (open_of explore.now)) }
     ensures cause { IfErr result (λ stop. stop ≡ Stop.Memory) }
 {
     let words = words_of_all(alloc, endings)?;
     let mut text = explore_text(alloc, explore)?;
     let sessions = sessions_text(alloc, explore.table(), &words)?;
     text.extend_from_slice(&sessions)?;
-    Ok(Answer {
+    Ok(Output {
         text: Text::whole(text),
         ending: Ending::of(explore),
     })

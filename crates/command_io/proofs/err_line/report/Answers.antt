@@ -4,4 +4,5 @@ use Rattle.command_io.proofs.err_line.report.Goals as goal
 
 pub returns : goal.returns
 returns g c =
-    writes-gain (moment g.E.Sink.held g.E.Sink.faults c.args.err.now) (moment g.E.Sink.held g.E.Sink.faults c.write_stop.new.err) c.write_stop.result c.write_stop.ensures
+    writes-gain (moment g.E.Sink.held g.E.Sink.faults c.args.err.now)
+    (moment g.E.Sink.held g.E.Sink.faults c.write_stop.new.err) c.write_stop.result c.write_stop.ensures

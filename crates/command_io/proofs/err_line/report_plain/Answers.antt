@@ -4,4 +4,5 @@ use Rattle.command_io.proofs.err_line.report_plain.Goals as goal
 
 pub returns : goal.returns
 returns g c =
-    writes-gain (moment g.E.Sink.held g.E.Sink.faults c.args.err.now) (moment g.E.Sink.held g.E.Sink.faults c.write_plain.new.err) c.write_plain.result c.write_plain.ensures
+    writes-gain (moment g.E.Sink.held g.E.Sink.faults c.args.err.now)
+    (moment g.E.Sink.held g.E.Sink.faults c.write_plain.new.err) c.write_plain.result c.write_plain.ensures

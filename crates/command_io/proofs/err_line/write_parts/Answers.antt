@@ -7,10 +7,15 @@ use Rattle.command_io.proofs.err_line.write_parts.Goals as goal
 pub returns-in_err-write_part : goal.returns-in_err-write_part
 returns-in_err-write_part g c =
     let p = err_from_is_err_and c.from_residual.result c.from_residual.ensures.1 in
-    rw (p.1, p.2) (Underway-fault _ _ _ (Underway-equal (flat_map-drop_or (λ part. part.now) c.args.parts.now c.loop-part.part-index _ c.loop-part-test.true) c.loop-part.invariant) c.in_err-write_part.ensures)
+    rw (p.1, p.2) (Underway-fault _ _ _ (Underway-equal
+    (flat_map-drop_or (λ part. part.now) c.args.parts.now c.loop-part.part-index _ c.loop-part-test.true) c.loop-part.invariant)
+    c.in_err-write_part.ensures)
 
 pub loop-part-preserved : goal.loop-part-preserved
-loop-part-preserved g c = rw add-one (Underway-more _ _ (Underway-equal (flat_map-drop_or (λ part. part.now) c.args.parts.now c.loop-part.part-index _ c.loop-part-test.true) c.loop-part.invariant) c.in_ok-write_part.ensures)
+loop-part-preserved g c = rw add-one (Underway-more _ _
+    (Underway-equal (flat_map-drop_or (λ part. part.now) c.args.parts.now c.loop-part.part-index _ c.loop-part-test.true)
+    c.loop-part.invariant) c.in_ok-write_part.ensures)
 
 pub returns : goal.returns
-returns g c = Underway-end (Underway-equal (flat_map-past (λ part. part.now) c.args.parts.now c.loop-part.part-index c.loop-part-test.false) c.loop-part.invariant)
+returns g c = Underway-end (Underway-equal (flat_map-past (λ part. part.now) c.args.parts.now c.loop-part.part-index c.loop-part-test.false)
+    c.loop-part.invariant)

@@ -6,12 +6,14 @@ use Rattle.command_io.proofs.text.write_pieces.Goals as goal
 pub returns-in_err-write_part : goal.returns-in_err-write_part
 returns-in_err-write_part g c =
     let p = err_from_is_err_and c.from_residual.result c.from_residual.ensures.1 in
-    let next = flat_map-drop (λ (piece : Vec ℕ Global). piece.items) c.args.pieces.now c.loop-piece.piece-index c.piece-item.result c.loop-piece-test.true c.piece-item.is in
+    let next = flat_map-drop (λ (piece : Vec ℕ Global). piece.items) c.args.pieces.now c.loop-piece.piece-index c.piece-item.result
+    c.loop-piece-test.true c.piece-item.is in
     let piece = Writes-equal {r = Err c.in_err-write_part.field-0.0} c.deref.ensures.value c.in_err-write_part.ensures in
     rw (p.1, p.2) (Underway-fault _ _ _ (Underway-equal next c.loop-piece.invariant) piece)
 
 pub loop-piece-preserved : goal.loop-piece-preserved
 loop-piece-preserved g c =
-    let next = flat_map-drop (λ (piece : Vec ℕ Global). piece.items) c.args.pieces.now c.loop-piece.piece-index c.piece-item.result c.loop-piece-test.true c.piece-item.is in
+    let next = flat_map-drop (λ (piece : Vec ℕ Global). piece.items) c.args.pieces.now c.loop-piece.piece-index c.piece-item.result
+    c.loop-piece-test.true c.piece-item.is in
     let piece = Writes-equal {r = Ok tt} c.deref.ensures.value c.in_ok-write_part.ensures in
     rw add-one (Underway-more _ _ (Underway-equal next c.loop-piece.invariant) piece)

@@ -2,6 +2,7 @@ use Rattle.std.proofs.Common.{◌≡◌, ◌∙◌, ◌<◌, ◌≤◌, ◌⊎�
 use Rattle.std.proofs.lemmas.List.{length-map}
 use Rattle.std.specs.List.{list_all}
 use Rattle.fca_model.specs.declared.TheConstants.{MAX_EXPERTS, MAX_OBJECTS, MAX_SURVEYED, MAX_TURNS}
+use Rattle.fca_model.specs.Sets.{Set}
 use Rattle.fca_model.specs.Context.{Context}
 use Rattle.fca_model.specs.Tables.{NamedContext}
 use Rattle.fca_model.specs.Implications.{Rule, holds}
@@ -11,7 +12,8 @@ use Rattle.implication_closure.specs.Closing.{HaveWidth}
 use Rattle.explore_state.specs.History.{Opening, History}
 use Rattle.oracle_expert.specs.Oracles.{Recall, no_conflict, untold}
 use Rattle.oracle_expert.specs.Runs.{ends_done}
-use Rattle.expert_panel.specs.Explorations.{HasEnded, HasFewRows, IsOraclesShare, EachNumbered, IsWithinTurns, HasAgreed, is_part}
+use Rattle.oracle_expert.specs.Intents.{HasIntentsOf, are_intents}
+use Rattle.expert_panel.specs.Explorations.{HasEnded, HasFewRows, IsOraclesShare, EachNumbered, IsWithinTurns, HasAgreed, HasEvenRows}
 use Rattle.expert_panel.proofs.ShareLemmas.{untold_free}
 use Rattle.expert_panel.proofs.EndingLemmas.{untold_all, untold_tables, tables_all, IfOk-mono}
 use Rattle.expert_panel.proofs.CourseLemmas.{expert_range, respecting_new, known_holds, within_turns, never_spent, agreed}
@@ -21,11 +23,11 @@ as_many : (oracles before : List Recall) → map (λ (r : Recall). r.table) orac
     → length oracles ≡ length before
 as_many oracles before e = sym (length-map oracles (λ (r : Recall). r.table)) ∙ ap length e ∙ length-map before (λ (r : Recall). r.table)
 
-one_width : (Ds : List NamedContext) (C : Context) (n : ℕ) → 1 ≤ length Ds → All (λ (D : NamedContext). D.context ≡ C) Ds
+one_width : (Ds : List NamedContext) (C : Context) (n : ℕ) → 1 ≤ length Ds → All (λ (D : NamedContext). HasIntentsOf C D.context) Ds
     → All (λ (D : NamedContext). D.context.width ≡ n) Ds → C.width ≡ n
 one_width Ds C n some same wide =
     let bare : NamedContext = record { title = None; objects = []; attributes = []; context = C } in
-    sym (ap (λ (K : Context). K.width) (same 0 bare (omega arith))) ∙ wide 0 bare (omega arith)
+    sym (same 0 bare (omega arith)).width ∙ wide 0 bare (omega arith)
 
 -- from the exploration that was handed in to the base of the gate
 based : (h : History) (o : Opening) → o ≡ h.opening → rows_respect h.opening.settings.known h.opening.table.context ≡ true
@@ -164,20 +166,22 @@ returns-clause-agreed g c =
     let number = c.experts-experts.ensures.number in
     let experts = c.requires.experts in
     IfOk-mono (λ r. HasEnded gate before r.explore r.oracles.items r.spent)
-    (λ r. (C : Context) → All (λ (D : NamedContext). D.context ≡ C) c.args.experts.items
-    → is_part c.args.explore.opening.table.context C ≡ true → rows_respect S C ≡ true
+    (λ r. (C : Context) → All (λ (D : NamedContext). HasIntentsOf C D.context) c.args.experts.items
+    → are_intents C c.args.explore.opening.table.context.rows ≡ true → rows_respect S C ≡ true
     → HasAgreed C r.explore r.oracles.items r.spent) c.run_oracles.result
     (λ r ended C same part known.
     let as_long : length r.oracles.items ≡ length before = as_many r.oracles.items before ended.tables in
-    let befores : All (λ (o : Recall). o.table.context ≡ C) before =
-    subst (All (λ (o : Recall). o.table.context ≡ C)) (sym c.in_ok-oracles.ensures.untold)
-    (untold_all (λ (D : NamedContext). D.context ≡ C) c.args.experts.items same) in
+    let befores : All (λ (o : Recall). HasIntentsOf C o.table.context) before =
+    subst (All (λ (o : Recall). HasIntentsOf C o.table.context)) (sym c.in_ok-oracles.ensures.untold)
+    (untold_all (λ (D : NamedContext). HasIntentsOf C D.context) c.args.experts.items same) in
     let wide : C.width ≡ c.args.explore.opening.table.context.width =
     one_width c.args.experts.items C c.args.explore.opening.table.context.width (omega arith) same c.requires.width in
     agreed gate.base r.explore.journal gate.turns r.oracles.items respecting holders ended.is_legal (omega arith) ended.shares C
-    (wide ∙ sym width) (subst (λ (K : NamedContext). is_part K.context C ≡ true) (sym table) part)
+    (wide ∙ sym width) (subst (λ (K : NamedContext). are_intents C K.context.rows ≡ true) (sym table) part)
     (subst (λ (o : Opening). list_all (holds C) o.settings.known ≡ true) (sym c.in_ok-gate.ensures.opening)
     (known_holds S C c.args.explore.opening.table.context.width even wide known))
-    (tables_all (λ (D : NamedContext). D.context ≡ C) r.oracles.items before ended.tables befores)
+    (tables_all (λ (D : NamedContext). HasIntentsOf C D.context) r.oracles.items before ended.tables befores)
+    (tables_all (λ (D : NamedContext). All (λ (row : Set). length row ≡ D.context.width) D.context.rows) r.oracles.items before ended.tables
+    c.in_ok-oracles.ensures.even)
     (subst (λ (n : ℕ). (e : ℕ) → (e ≡ 0) ⊎ (n < e) → own r.explore.journal e ≡ []) (sym as_long) ended.others)
     r.explore r.spent ended.opening refl ended.finished) c.run_oracles.ensures

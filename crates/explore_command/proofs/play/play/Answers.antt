@@ -2,17 +2,18 @@ use Rattle.std.proofs.Common.{◌≡◌, ◌≤◌, arith}
 use Rattle.explore_command.proofs.PlayLemmas.{writable-play, length-play, MayPlay-play}
 use Rattle.explore_command.proofs.play.play.Goals as goal
 
-pub answer_of-answer-requires-clause-count : goal.answer_of-answer-requires-clause-count
-answer_of-answer-requires-clause-count g c =
+pub output_of-output-requires-clause-count : goal.output_of-output-requires-clause-count
+output_of-output-requires-clause-count g c =
     let as_many = length-play _ _ _ _ c.in_ok-explored.ensures in
     let long = c.in_ok-explored.explored.oracles.ok.0 in
     omega arith
 
-pub answer_of-answer-requires-clause-writable : goal.answer_of-answer-requires-clause-writable
-answer_of-answer-requires-clause-writable g c = writable-play _ _ _ _ c.in_ok-explored.ensures
+pub output_of-output-requires-clause-writable : goal.output_of-output-requires-clause-writable
+output_of-output-requires-clause-writable g c = writable-play _ _ _ _ c.in_ok-explored.ensures
 
 pub returns : goal.returns
 returns g c =
     let explored = c.in_ok-explored.explored in
-    let told = c.answer_of-answer.ensures in
-    MayPlay-play c.args.panel explored.explore explored.oracles.items explored.spent c.answer_of-answer.result c.requires.count c.in_ok-explored.ensures told.text told.spells told.ending
+    let told = c.output_of-output.ensures in
+    MayPlay-play c.args.panel explored.explore explored.oracles.items explored.spent c.output_of-output.result c.requires.count
+    c.in_ok-explored.ensures told.text told.spells told.ending

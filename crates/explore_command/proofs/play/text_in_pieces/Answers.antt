@@ -20,5 +20,6 @@ returns-clause-text g c =
 
 pub returns-clause-spells : goal.returns-clause-spells
 returns-clause-spells g c =
-    spelled-conflicts c.args.explored.now.explore c.in_ok-conflicts.conflicts.items _ c.requires.writable c.in_ok-pieces.ensures.reads_back c.in_ok-conflicts.ensures.skipped
+    spelled-conflicts c.args.explored.now.explore c.in_ok-conflicts.conflicts.items _ c.requires.writable c.in_ok-pieces.ensures.reads_back
+    c.in_ok-conflicts.ensures.skipped
     (c.in_pieces.ensures ∙ pieces-more _ _ _ _ c.in_ok-push.ensures.items c.in_ok-pieces.ensures.text)

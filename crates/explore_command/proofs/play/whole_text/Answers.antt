@@ -21,6 +21,7 @@ returns-clause-text c =
 
 pub returns-clause-spells : goal.returns-clause-spells
 returns-clause-spells c =
-    spelled-conflicts c.args.explored.now.explore c.in_ok-conflicts.conflicts.items _ c.requires.writable c.in_ok-text.ensures.reads_back c.in_ok-conflicts.ensures.skipped
+    spelled-conflicts c.args.explored.now.explore c.in_ok-conflicts.conflicts.items _ c.requires.writable c.in_ok-text.ensures.reads_back
+    c.in_ok-conflicts.ensures.skipped
     (c.whole.ensures ∙ c.in_ok-extend_from_slice.ensures.items ∙ ap (λ l. c.in_ok-text.text.items ++ l) c.deref-2.ensures.value
     ∙ ap (λ l. l ++ c.in_ok-conflicts.conflicts.items) c.in_ok-text.ensures.text)

@@ -10,5 +10,6 @@ loop-preserved c =
     let inv = c.loop.invariant in
     let Same : List NamedContext → Type 0 = All (λ (copy : NamedContext). copy ≡ table) in (
       (let longer = c.in_ok-push.ensures.len in let was = inv.0 in omega arith),
-      subst Same (sym c.in_ok-push.ensures.items) (All-push (λ (copy : NamedContext). copy ≡ table) c.loop.tables.items c.in_ok-copy.copy inv.1 c.in_ok-copy.ensures),
+      subst Same (sym c.in_ok-push.ensures.items) (All-push
+          (λ (copy : NamedContext). copy ≡ table) c.loop.tables.items c.in_ok-copy.copy inv.1 c.in_ok-copy.ensures),
     )

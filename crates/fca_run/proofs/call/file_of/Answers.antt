@@ -4,4 +4,5 @@ use Rattle.fca_run.proofs.call.file_of.Goals as goal
 
 pub returns-in_default : goal.returns-in_default
 returns-in_default c =
-    let one : reads_more c.args.command.now ≡ false = search rules in c.first_file.ensures ∙ sym (fault_file-one c.args.command.now one c.args.stop.now)
+    let one : reads_more c.args.command.now ≡ false = search rules in
+    c.first_file.ensures ∙ sym (fault_file-one c.args.command.now one c.args.stop.now)

@@ -2,7 +2,7 @@ use Rattle.std.proofs.Common.{◌<◌, ◌∙◌, length, refl, sym, ap, subst, 
 use Rattle.command_io.specs.declared.stop.Stop.TheVariants.{Listener}
 use Rattle.serve_command.specs.Accepted.{TookFirst, HasRoomFor}
 use Rattle.serve_command.proofs.AcceptedLemmas.{TookFirst-none, TookAndGave-both, short-some}
-use Rattle.serve_command.proofs.StepLemmas.{Rose-before, Rose-behind}
+use Rattle.serve_command.proofs.StepLemmas.{Rose-between}
 use Rattle.serve_command.proofs.accepting.accept_ends.Goals as goal
 
 pub loop-number-init : goal.loop-number-init
@@ -16,8 +16,8 @@ loop-number-init g c =
       omega arith,
       c.requires.listening,
       refl,
-      (λ other. omega arith),
-      omega arith,
+      (λ other. refl),
+      refl,
     )
 
 -- those that came are given back as they are, and the count of faults rose for the one that did not come
@@ -33,6 +33,7 @@ returns-in-Err-clause-short g c =
     let more = c.loop-number-test.true in
     let fewer : length taken < c.args.count = omega (arith, long, many, more) in
     let took : TookFirst a b taken = subst (λ x. TookFirst a x taken) (sym c.in-Err.ensures.none) inv.0 in
-    let served = TookAndGave-both a b after taken taken c.requires.room refl took (λ room. c.give_back.ensures.given (subst (HasRoomFor b) (sym long) room)) in
+    let served = TookAndGave-both a b after taken taken c.requires.room refl took
+    (λ room. c.give_back.ensures.given (subst (HasRoomFor b) (sym long) room)) in
     short-some c.args.count a after taken _ Listener served fewer
-    (Rose-before _ _ _ (Rose-behind _ _ _ inv.6 c.in-Err.ensures.failed) c.give_back.ensures.later_accept) refl
+    (Rose-between _ _ _ _ inv.6 c.in-Err.ensures.failed c.give_back.ensures.quiet_accept) refl

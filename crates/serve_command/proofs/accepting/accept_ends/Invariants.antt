@@ -11,5 +11,5 @@ invariant-loop-number g l =
     × (l.count ≤ vec_capacity l.ends)
     × (g.L.Listener.listens l.link ≡ true)
     × (g.L.Listener.listens_at l.link ≡ g.L.Listener.listens_at l.initial.link)
-    × ((other : List ℕ) → g.L.Listener.open_faults l.initial.link other ≤ g.L.Listener.open_faults l.link other)
-    × (g.L.Listener.accept_faults l.initial.link ≤ g.L.Listener.accept_faults l.link)
+    × ((other : List ℕ) → g.L.Listener.open_faults l.link other ≡ g.L.Listener.open_faults l.initial.link other)
+    × (g.L.Listener.accept_faults l.link ≡ g.L.Listener.accept_faults l.initial.link)

@@ -15,5 +15,7 @@ returns-clause-spells c =
     let behind = c.deref-2.ensures.value in
     let whole = c.whole.ensures in
     let joined : c.whole.result
-    ≡ explore_text c.args.explore.now.opening.table c.args.explore.now.opening.settings c.args.explore.now.journal ++ c.in_ok-sessions.sessions.items = cc in
-    spelled-sessions c.in_ok-sessions.sessions.items c.whole.result c.args.explore.now c.requires c.in_ok-text.ensures.reads_back skipped joined
+    ≡ explore_text c.args.explore.now.opening.table c.args.explore.now.opening.settings c.args.explore.now.journal
+    ++ c.in_ok-sessions.sessions.items = cc in
+    spelled-sessions c.in_ok-sessions.sessions.items c.whole.result c.args.explore.now c.requires c.in_ok-text.ensures.reads_back skipped
+    joined

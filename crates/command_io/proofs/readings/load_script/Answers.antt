@@ -1,0 +1,14 @@
+use Rattle.std.proofs.Common.{◌≡◌}
+use Rattle.command_io.specs.declared.stop.Origin.TheVariants.{Input}
+use Rattle.command_io.proofs.QuietLemmas.{unless_fault, fault-taken}
+use Rattle.command_io.proofs.readings.load_script.Goals as goal
+
+pub returns-in-Err-clause-quiet : goal.returns-in-Err-clause-quiet
+returns-in-Err-clause-quiet g c =
+    fault-taken c.in-Err.taken Input c.fetch_stop.result
+    (g.S.Source.faults c.read_all.new.source ≡ g.S.Source.faults c.args.input.now) c.fetch_stop.ensures c.in-Err.ensures.quiet
+
+pub returns-clause-quiet : goal.returns-clause-quiet
+returns-clause-quiet g c =
+    unless_fault c.script_of.result (g.S.Source.faults c.read_all.new.source ≡ g.S.Source.faults c.args.input.now)
+    (c.in-Ok.ensures.quiet (λ e. cc))

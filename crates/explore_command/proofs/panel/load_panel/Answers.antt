@@ -1,0 +1,95 @@
+use Rattle.std.proofs.Common.{ℕ, List, inr, refl, sym, ap, ◌∙◌, subst}
+use Rattle.std.specs.Prelude.{option_copied}
+use Rattle.fca_model.specs.Exploration.{RowName}
+use Rattle.fca_model.specs.declared.TheConstants.{MAX_EXPERTS}
+use Rattle.command_io.specs.Endings.{IsRefusal}
+use Rattle.command_io.specs.Readings.{MayRead, MayRefuse, Rises, SameCounts}
+use Rattle.command_io.specs.declared.stop.Stop.{Stop}
+use Rattle.command_io.proofs.ErrLemmas.{err-passed}
+use Rattle.command_io.proofs.KnownLemmas.{Rises-before}
+use Rattle.command_io.proofs.QuietLemmas.{unless_fault, fault-later, fault-passed, SameCounts-then}
+use Rattle.command_io.specs.Known.{start_of}
+use Rattle.explore_command.specs.Panels.{Panel, MayExplore, panel_read, IsPanelStop}
+use Rattle.explore_command.proofs.NameLemmas.{may_explore}
+use Rattle.explore_command.proofs.PanelLemmas.{panel-read, refused-panel, IsExpertsStop-same}
+use Rattle.explore_command.proofs.panel.load_panel.Goals as goal
+
+pub returns-in_err-tables-clause-refused : goal.returns-in_err-tables-clause-refused
+returns-in_err-tables-clause-refused g c =
+    let known = option_copied c.args.known in
+    let tells = g.H.Shelf.tells c.args.shelf.now in
+    err-passed c.from_residual-in_err-tables.result c.in_err-tables.field-0.0
+    (λ (s : Stop). (IsRefusal s → MayRefuse (panel_read c.args.file.now known c.args.names c.args.experts.now tells)))
+    c.from_residual-in_err-tables.ensures.1
+    (λ refusal. refused-panel c.args.file.now known c.args.names c.args.experts.now tells (g.H.Shelf.tells c.load_start.new.shelf)
+    (start_of c.in_ok-start.start)
+    c.in_ok-start.ensures.start c.in_ok-start.ensures.kept (c.in_err-tables.ensures.refused refusal))
+
+pub returns-in_err-tables-clause-cause : goal.returns-in_err-tables-clause-cause
+returns-in_err-tables-clause-cause g c =
+    let known = option_copied c.args.known in
+    let tells = g.H.Shelf.tells c.args.shelf.now in
+    let now = g.H.Shelf.tells c.load_start.new.shelf in
+    let counts = g.H.Shelf.faults c.args.shelf.now in
+    let between = g.H.Shelf.faults c.load_start.new.shelf in
+    let after = g.H.Shelf.faults c.load_experts.new.shelf in
+    let start = start_of c.in_ok-start.start in
+    let stop = c.in_err-tables.field-0.0 in
+    err-passed c.from_residual-in_err-tables.result stop
+    (IsPanelStop c.args.file.now known c.args.experts.now tells (Rises counts after)) c.from_residual-in_err-tables.ensures.1
+    (inr (
+      start,
+      c.in_ok-start.ensures.start,
+      IsExpertsStop-same start.table 0 c.args.experts.now tells now (Rises between after)
+          (Rises counts after) stop c.in_ok-start.ensures.kept
+          (λ other. Rises-before counts between after other c.in_ok-start.ensures.later) c.in_err-tables.ensures.cause,
+    ))
+
+pub panel_of-requires-clause-may : goal.panel_of-requires-clause-may
+panel_of-requires-clause-may g c =
+    let table = c.in_ok-start.start.table in
+    let S = c.in_ok-start.start.known.members in
+    let May : List (ℕ × RowName) → Type 0 = λ l. MayExplore table (record { known = S; holders = MAX_EXPERTS; expert_names = l }) in
+    subst May (sym c.in_ok-names.ensures) (may_explore table S c.args.names c.args.experts.now c.requires c.in_ok-start.ensures.even
+    c.in_ok-start.ensures.respected)
+
+pub returns-clause-panel : goal.returns-clause-panel
+returns-clause-panel g c =
+    let table = c.in_ok-start.start.table in
+    let S = c.in_ok-start.start.known.members in
+    let made : List (ℕ × RowName) → Panel = λ l. record {
+      table = table;
+      settings = record { known = S; holders = MAX_EXPERTS; expert_names = l };
+      experts = c.in_ok-tables.tables.items;
+    } in
+    let Read : Panel → Type 0 = MayRead (panel_read c.args.file.now (option_copied c.args.known) c.args.names c.args.experts.now
+    (g.H.Shelf.tells c.args.shelf.now)) in
+    subst Read (sym (c.panel_of.ensures ∙ ap made c.in_ok-names.ensures))
+    (panel-read c.args.file.now (option_copied c.args.known) c.args.names c.args.experts.now (g.H.Shelf.tells c.args.shelf.now)
+    (g.H.Shelf.tells c.load_start.new.shelf) (start_of c.in_ok-start.start)
+    c.in_ok-tables.tables.items c.in_ok-start.ensures.start c.in_ok-start.ensures.kept c.in_ok-tables.ensures.tables)
+
+pub returns-in_err-names-clause-quiet : goal.returns-in_err-names-clause-quiet
+returns-in_err-names-clause-quiet g c =
+    unless_fault c.from_residual.result (SameCounts (g.H.Shelf.faults c.args.shelf.now) (g.H.Shelf.faults c.args.shelf.now)) (λ _. refl)
+
+pub returns-in_err-start-clause-quiet : goal.returns-in_err-start-clause-quiet
+returns-in_err-start-clause-quiet g c =
+    fault-passed c.from_residual-in_err-start.result c.in_err-start.field-0.0
+    (SameCounts (g.H.Shelf.faults c.args.shelf.now) (g.H.Shelf.faults c.load_start.new.shelf))
+    c.from_residual-in_err-start.ensures.1 c.in_err-start.ensures.quiet
+
+pub returns-in_err-tables-clause-quiet : goal.returns-in_err-tables-clause-quiet
+returns-in_err-tables-clause-quiet g c =
+    let counts = g.H.Shelf.faults c.args.shelf.now in
+    let between = g.H.Shelf.faults c.load_start.new.shelf in
+    let after = g.H.Shelf.faults c.load_experts.new.shelf in
+    fault-passed c.from_residual-in_err-tables.result c.in_err-tables.field-0.0
+    (SameCounts counts after) c.from_residual-in_err-tables.ensures.1
+    (fault-later c.in_err-tables.field-0.0 (SameCounts between after) (SameCounts counts after)
+    (SameCounts-then counts between after c.in_ok-start.ensures.quiet) c.in_err-tables.ensures.quiet)
+
+pub returns-clause-quiet : goal.returns-clause-quiet
+returns-clause-quiet g c =
+    SameCounts-then (g.H.Shelf.faults c.args.shelf.now) (g.H.Shelf.faults c.load_start.new.shelf)
+    (g.H.Shelf.faults c.load_experts.new.shelf) c.in_ok-start.ensures.quiet c.in_ok-tables.ensures.quiet

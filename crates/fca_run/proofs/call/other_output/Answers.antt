@@ -1,0 +1,53 @@
+use Rattle.std.proofs.Common.{◌≡◌, Option, refl, sym, subst}
+use Rattle.std.specs.Prelude.{IfOk, option_copied}
+use Rattle.std.proofs.lemmas.Result.{IfOk-weaker}
+use Rattle.fca_model.specs.Tables.{Text}
+use Rattle.fca_command.specs.declared.command.Command.{Command}
+use Rattle.fca_command.specs.declared.command.Command.TheVariants.{Replay}
+use Rattle.command_io.specs.Endings.{Output}
+use Rattle.replay_command.specs.Replayed.{replay_read, MayReplay}
+use Rattle.fca_run.specs.Calls.{MayEnd}
+use Rattle.fca_run.specs.Courses.{HasCourse}
+use Rattle.command_io.specs.Readings.{SameCounts}
+use Rattle.command_io.proofs.QuietLemmas.{unless_fault}
+use Rattle.fca_run.proofs.CourseLemmas.{replay-tells}
+use Rattle.fca_run.proofs.CallLemmas.{finished-ends, replay-ends}
+use Rattle.fca_run.proofs.call.other_output.Goals as goal
+
+pub returns-in-Scale-clause-ending : goal.returns-in-Scale-clause-ending
+returns-in-Scale-clause-ending g c =
+    IfOk-weaker c.scale_output.result _ _ (λ output finished. finished-ends c.args.command.now output.ending finished)
+    c.scale_output.ensures.finished
+
+pub returns-in-Replay-clause-ending : goal.returns-in-Replay-clause-ending
+returns-in-Replay-clause-ending g c =
+    let reading = replayed c.in-Replay.file (option_copied c.as_ref.result) (g.H.Shelf.tells c.args.shelf.now)
+    (g.S.Source.left c.args.input.now) in
+    let Ends : Command → Type 0 = λ command. IfOk c.replay.result (λ (output : Output). MayEnd command output.ending) in
+    subst Ends (sym c.in-Replay.is)
+    (IfOk-weaker c.replay.result (MayReplay reading) (λ (output : Output). MayEnd (Replay c.in-Replay.file c.in-Replay.known) output.ending)
+    (λ output replay. replay-ends c.in-Replay.file c.in-Replay.known reading output replay) c.replay.ensures.replayed)
+
+pub returns-in-Replay-clause-course : goal.returns-in-Replay-clause-course
+returns-in-Replay-clause-course g c =
+    let files = g.H.Shelf.tells c.args.shelf.now in
+    let input = g.S.Source.left c.args.input.now in
+    let known = option_copied c.as_ref.result in
+    let Tells : Command → Type 0 = λ command. IfOk c.replay.result (λ (output : Output). HasCourse command files input output.text) in
+    let Beside : Option Text → Type 0 = λ known. Tells (Replay c.in-Replay.file known) in
+    subst Tells (sym c.in-Replay.is) (subst Beside c.as_ref.ensures.value
+    (IfOk-weaker c.replay.result (MayReplay (replayed c.in-Replay.file known files input))
+    (λ (output : Output). HasCourse (Replay c.in-Replay.file known) files input output.text)
+    (λ output replay. replay-tells (replayed c.in-Replay.file known files input) output replay) c.replay.ensures.replayed))
+
+pub returns-in-Scale-clause-quiet_input : goal.returns-in-Scale-clause-quiet_input
+returns-in-Scale-clause-quiet_input g c = unless_fault c.scale_output.result
+    (g.S.Source.faults c.args.input.now ≡ g.S.Source.faults c.args.input.now) refl
+
+pub returns-in_err-make_output-in-Make-clause-quiet : goal.returns-in_err-make_output-in-Make-clause-quiet
+returns-in_err-make_output-in-Make-clause-quiet g c =
+    unless_fault c.from_residual.result (SameCounts (g.H.Shelf.faults c.args.shelf.now) (g.H.Shelf.faults c.args.shelf.now)) (λ _. refl)
+
+pub returns-in_err-make_output-in-Make-clause-quiet_input : goal.returns-in_err-make_output-in-Make-clause-quiet_input
+returns-in_err-make_output-in-Make-clause-quiet_input g c =
+    unless_fault c.from_residual.result (g.S.Source.faults c.args.input.now ≡ g.S.Source.faults c.args.input.now) refl

@@ -1,0 +1,47 @@
+use Rattle.std.proofs.Common.{◌≡◌, ◌<◌, ◌⊎◌, ◌∙◌, ◌++◌, ℕ, [], map, sym, ap, subst}
+use Rattle.fca_model.specs.Exploration.{own}
+use Rattle.basis_report.specs.Explorations.{explore_text}
+use Rattle.basis_report.specs.Sessions.{sessions_text}
+use Rattle.serve_command.specs.Accepted.{HasRoomFor}
+use Rattle.serve_command.specs.Served.{words_of}
+use Rattle.serve_command.proofs.StepLemmas.{any-err, ok-from-three}
+use Rattle.serve_command.proofs.ServedLemmas.{IsOver, has-sat, risen-talks}
+use Rattle.serve_command.proofs.serving.explore_over.Goals as goal
+
+pub returns-in-Ok-clause-risen : goal.returns-in-Ok-clause-risen
+returns-in-Ok-clause-risen g c =
+    let Room : ℕ → Type 0 = HasRoomFor (g.L.Listener.ends c.args.link.now) in
+    any-err c.text_of.result _ (λ s.
+    risen-talks g.L.End.Source.left g.L.End.Sink.held g.L.End.Source.reads g.L.End.Source.faults g.L.End.Sink.faults
+    c.args.explore.opening.table c.in-Ok.served.explore.journal
+    c.args.ends.items c.in-Ok.served.ends.items _ _ c.in-Ok.served.endings.items c.in-Ok.ensures.talks
+    (λ room. c.give_back.ensures.given (subst Room (sym c.in-Ok.served.ends.ok.0) room)))
+
+pub returns-in-Ok-clause-sat : goal.returns-in-Ok-clause-sat
+returns-in-Ok-clause-sat g c =
+    let Room : ℕ → Type 0 = HasRoomFor (g.L.Listener.ends c.args.link.now) in
+    let explore = c.in-Ok.served.explore in
+    let H = explore.journal in
+    let Others : ℕ → Type 0 = λ n. ((e : ℕ) → (e ≡ 0) ⊎ (n < e) → own H e ≡ []) in
+    let many = c.args.ends.ok.0 in
+    let new = c.requires.new in
+    let told = c.text_of.ensures in
+    let over : IsOver g.L.End.Source.left g.L.End.Sink.held g.L.End.Source.reads g.L.End.Source.faults g.L.End.Sink.faults
+    c.args.explore.opening c.args.ends.items c.in-Ok.served.ends.items
+    explore c.in-Ok.served.endings.items = record {
+      opening = c.in-Ok.ensures.opening;
+      history = c.in-Ok.ensures.history;
+      talks = c.in-Ok.ensures.talks;
+      others = subst Others many c.in-Ok.ensures.others;
+    } in
+    ok-from-three c.text_of.result _ _ _ _ told.text told.spells told.ending (λ output text spells ending.
+    has-sat g.L.End.Source.left g.L.End.Sink.held g.L.End.Source.reads g.L.End.Source.faults g.L.End.Sink.faults c.args.explore.opening
+    c.args.ends.items c.in-Ok.served.ends.items _ _
+    explore c.in-Ok.served.endings.items output new.experts new.respecting new.writable.known over
+    (λ room. c.give_back.ensures.given (subst Room (sym c.in-Ok.served.ends.ok.0) room))
+    (record {
+      joined = text ∙ ap (λ endings. explore_text explore.opening.table explore.opening.settings H ++ sessions_text (map words_of endings))
+          c.deref.ensures.value;
+      spells = spells;
+      ending = ending;
+    }))
