@@ -474,8 +474,8 @@ module _ {K F : Type 0} (output : Result Output Stop) (out out' : Moment K) (err
 line-named : (name : Text) (file : Stop → Text) (output : Result Output Stop) (outcome : Outcome) → IfErr output (λ stop. name ≡ file stop)
     → MayBecome output outcome
     → line_of (λ _. name) outcome ≡ line_of file outcome
-line-named name file output (Written output) named became = refl
-line-named name file output (CutOff output) named became = refl
+line-named name file output (Written written) named became = refl
+line-named name file output (CutOff written) named became = refl
 line-named name file (Ok output) (Stopped stop) named (inl became) = cc
 line-named name file (Ok output) (Stopped stop) named (inr became) = cc
 line-named name file (Err other) (Stopped stop) named became =

@@ -21,7 +21,7 @@ returns-in-Scale-clause-ending g c =
 
 pub returns-in-Replay-clause-ending : goal.returns-in-Replay-clause-ending
 returns-in-Replay-clause-ending g c =
-    let reading = replayed c.in-Replay.file (option_copied c.as_ref.result) (g.H.Shelf.tells c.args.shelf.now)
+    let reading = replay_read c.in-Replay.file (option_copied c.as_ref.result) (g.H.Shelf.tells c.args.shelf.now)
     (g.S.Source.left c.args.input.now) in
     let Ends : Command → Type 0 = λ command. IfOk c.replay.result (λ (output : Output). MayEnd command output.ending) in
     subst Ends (sym c.in-Replay.is)
@@ -36,9 +36,9 @@ returns-in-Replay-clause-course g c =
     let Tells : Command → Type 0 = λ command. IfOk c.replay.result (λ (output : Output). HasCourse command files input output.text) in
     let Beside : Option Text → Type 0 = λ known. Tells (Replay c.in-Replay.file known) in
     subst Tells (sym c.in-Replay.is) (subst Beside c.as_ref.ensures.value
-    (IfOk-weaker c.replay.result (MayReplay (replayed c.in-Replay.file known files input))
+    (IfOk-weaker c.replay.result (MayReplay (replay_read c.in-Replay.file known files input))
     (λ (output : Output). HasCourse (Replay c.in-Replay.file known) files input output.text)
-    (λ output replay. replay-tells (replayed c.in-Replay.file known files input) output replay) c.replay.ensures.replayed))
+    (λ output replay. replay-tells (replay_read c.in-Replay.file known files input) output replay) c.replay.ensures.replayed))
 
 pub returns-in-Scale-clause-quiet_input : goal.returns-in-Scale-clause-quiet_input
 returns-in-Scale-clause-quiet_input g c = unless_fault c.scale_output.result
