@@ -8,8 +8,6 @@ mod basis_report_tests;
 #[cfg(test)]
 mod canonical_basis_tests;
 #[cfg(test)]
-mod table_texts_tests;
-#[cfg(test)]
 mod context_reduce_tests;
 #[cfg(test)]
 mod derivation_tests;
@@ -27,5 +25,7 @@ mod level_queue_tests;
 mod next_level_tests;
 #[cfg(test)]
 mod pseudo_levels_tests;
+#[cfg(test)]
+mod table_texts_tests;
 #[cfg(test)]
 mod tables;
