@@ -138,7 +138,15 @@ fn child_at<const W: usize>(
         return Ok(Some(child));
     }
     begin_notes(crosses, a, node.witnesses, &mut scratch.noted)?;
-    note(rows, a, i, &child.intent, &mut scratch.noted);
+    note(
+        rows,
+        a,
+        i,
+        &child.intent,
+        node.from,
+        crosses.supports(),
+        &mut scratch.noted,
+    );
     Ok(None)
 }
 

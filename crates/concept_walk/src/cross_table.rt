@@ -8,14 +8,16 @@ use attr_bits::Bits;
 use derivation::RowsOf;
 use extent_places::{Columns, places_having};
 use fca_model::{MAX_OBJECTS, Memory};
+use lectic_concepts::supports_of;
 use std::alloc::Global;
 use std::marker::Model;
 
-/// The rows of a context, in W words each, and the objects of each attribute.
+/// The rows of a context, in W words each, and the objects of each attribute with their number.
 #[derive(Drop)]
 pub struct CrossTable<'a, const W: usize> {
     rows: &'a RowsOf<W>,
     columns: Columns,
+    supports: Vec<u32>,
 }
 
 impl<'a, const W: usize> Model for CrossTable<'a, W> {
@@ -44,6 +46,7 @@ impl<'a, const W: usize> CrossTable<'a, W> {
         Ok(CrossTable {
             rows,
             columns: Columns::of(alloc, rows)?,
+            supports: supports_of(alloc, rows)?,
         })
     }
 
@@ -52,6 +55,11 @@ impl<'a, const W: usize> CrossTable<'a, W> {
         ensures { result.now ≡ self.now }
     {
         self.rows
+    }
+
+    /// How many objects have each attribute.
+    pub fn supports(&self) -> &[u32] {
+        &self.supports
     }
 
     /// Puts those of the places whose objects have attribute i into the front of `found`, and gives their number.

@@ -132,6 +132,14 @@ fn below_at<const W: usize>(
         return Ok(Some(below));
     }
     begin_notes(crosses, a, node.witnesses, noted)?;
-    note(rows, a, i, &below.intent, noted);
+    note(
+        rows,
+        a,
+        i,
+        &below.intent,
+        node.from,
+        crosses.supports(),
+        noted,
+    );
     Ok(None)
 }

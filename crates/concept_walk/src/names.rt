@@ -27,9 +27,10 @@ pub fn attribute_pieces(alloc: Global, table: &Table) -> Result<Pieces, Memory>
     let width = table.rows().width();
     let mut blocks = Vec::with_capacity(alloc, width as usize)?;
     let mut tails = Vec::with_capacity(alloc, width as usize)?;
+    let mut text = Vec::new(alloc);
     for attribute in 0..width {
         let name = table.attribute_name(attribute).bytes();
-        add_name(alloc, &mut blocks, &mut tails, name)?;
+        add_name(alloc, &mut text, &mut blocks, &mut tails, name)?;
     }
     Ok(Pieces::new(blocks, tails))
 }
@@ -40,16 +41,18 @@ fn object_pieces(alloc: Global, objects: &[Name]) -> Result<Pieces, Memory>
 {
     let mut blocks = Vec::with_capacity(alloc, objects.len())?;
     let mut tails = Vec::with_capacity(alloc, objects.len())?;
+    let mut text = Vec::new(alloc);
     for object in objects {
         let name = object.bytes();
-        add_name(alloc, &mut blocks, &mut tails, name)?;
+        add_name(alloc, &mut text, &mut blocks, &mut tails, name)?;
     }
     Ok(Pieces::new(blocks, tails))
 }
 
-/// Adds the piece of the name to the blocks and tails.
+/// Adds the piece of the name to the blocks and tails. The name is laid out in the text, whose room serves all names.
 fn add_name(
     alloc: Global,
+    text: &mut Vec<u8>,
     blocks: &mut Vec<Block>,
     tails: &mut Vec<Vec<u8>>,
     name: &[u8],
@@ -60,19 +63,20 @@ fn add_name(
     ensures texts { OnOk result (piece_texts blocks.new.items (map (λ v. v.items) tails.new.items)
         ≡ piece_texts blocks.old.items (map (λ v. v.items) tails.old.items) ++ with_comma name.now ∷ []) }
 {
-    let text = with_comma(alloc, name)?;
-    blocks.push(block_of(&text))?;
-    tails.push(tail_of(alloc, &text)?)?;
+    put_with_comma(text, name)?;
+    blocks.push(block_of(text))?;
+    tails.push(tail_of(alloc, text)?)?;
     Ok(())
 }
 
-/// The name with a comma and a space behind it.
-fn with_comma(alloc: Global, name: &[u8]) -> Result<Vec<u8>, Memory>
-    ensures { IfOk result (λ text. text.items ≡ with_comma name.now) }
+/// Puts the name with a comma and a space behind it into the text, in place of what it had.
+fn put_with_comma(text: &mut Vec<u8>, name: &[u8]) -> Result<(), Memory>
+    ensures { OnOk result (text.new.items ≡ with_comma name.now) }
 {
-    let mut text = Vec::from_slice(alloc, name)?;
+    text.clear();
+    text.extend_from_slice(name)?;
     text.extend_from_slice(b", ")?;
-    Ok(text)
+    Ok(())
 }
 
 /// Puts the names of the attributes in the set at `start` and returns their end.

@@ -53,6 +53,7 @@ pub(crate) fn last_child<const W: usize>(
     a: &Bits<W>,
     from: u32,
     end: u32,
+    supports: &[u32],
     seen: &mut Vec<u32>,
 ) -> Option<Child<W>>
     requires wide { length a.now ≡ rows.now.width }
@@ -65,7 +66,7 @@ pub(crate) fn last_child<const W: usize>(
 {
     let _width = rows.width();
     for i in (from..end).rev() {
-        if let Some(intent) = child_at(rows, a, i, seen) {
+        if let Some(intent) = child_at(rows, a, i, from, supports, seen) {
             return Some(Child {
                 intent,
                 attribute: i,
@@ -75,11 +76,13 @@ pub(crate) fn last_child<const W: usize>(
     None
 }
 
-/// The least intent that contains a and attribute i, if a lacks i and the intent agrees with a before it.
+/// The least intent that contains a and attribute i, if a lacks i and the intent agrees with a before it. No child of a is looked for before attribute `from`.
 pub(crate) fn child_at<const W: usize>(
     rows: &RowsOf<W>,
     a: &Bits<W>,
     i: u32,
+    from: u32,
+    supports: &[u32],
     seen: &mut Vec<u32>,
 ) -> Option<Bits<W>>
     requires wide { length a.now ≡ rows.now.width }
@@ -101,7 +104,7 @@ pub(crate) fn child_at<const W: usize>(
     if is_child(rows, a, i, &closed) {
         return Some(closed);
     }
-    note(rows, a, i, &closed, seen);
+    note(rows, a, i, &closed, from, supports, seen);
     None
 }
 

@@ -8,6 +8,7 @@ ghost use Rattle.fca_model.specs.Sets.{within};
 ghost use Rattle.fca_model.specs.Context.{closure};
 ghost use Rattle.lectic_concepts.specs.Branches.{branch, AreSeen};
 
+use crate::lasting::lasting_member;
 use attr_bits::Bits;
 use derivation::RowsOf;
 use fca_model::Memory;
@@ -57,20 +58,21 @@ pub fn is_child<const W: usize>(rows: &RowsOf<W>, a: &Bits<W>, i: u32, closed: &
     closed.first_missing(a) == Some(i)
 }
 
-/// Notes a witness: the last attribute before i that the closure of a with attribute i has and a lacks. In scales, where an attribute implies those before it,
-/// no other stays outside the intents below for so long.
+/// Notes a witness: a member before i of the closure of a with attribute i that a lacks, and that the intents below lack for long (`lasting_member`).
 pub fn note<const W: usize>(
     rows: &RowsOf<W>,
     a: &Bits<W>,
     i: u32,
     closed: &Bits<W>,
+    from: u32,
+    supports: &[u32],
     seen: &mut Vec<u32>,
 )
     requires closed { closed.now ≡ closure rows.now (slice_set a.now i true) }
     requires seen { AreSeen rows.now a.now seen.old.items }
     ensures { AreSeen rows.now a.now seen.new.items }
 {
-    if let Some(member) = closed.last_missing(a, i) {
+    if let Some(member) = lasting_member(closed, a, i, from, supports) {
         put(seen, i, member);
     }
 }

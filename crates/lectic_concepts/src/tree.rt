@@ -9,6 +9,7 @@ ghost use Rattle.lectic_concepts.specs.Steps.{IsStep, HasDescended};
 
 use crate::children::{Child, Descent, Step, child_at, last_child, step_below};
 use crate::failures::{no_witnesses, own_witnesses};
+use crate::lasting::supports_of;
 use attr_bits::{Attrs, Bits, WordCount};
 use derivation::{Rows, RowsOf};
 use fca_model::Memory;
@@ -75,7 +76,8 @@ pub fn intents_of<const W: usize>(alloc: Global, rows: &RowsOf<W>) -> Result<Vec
         end: width,
     };
     let mut all = Vec::new(alloc);
-    add_branch(alloc, &mut all, first)?;
+    let supports = supports_of(alloc, rows)?;
+    add_branch(alloc, &mut all, first, &supports)?;
     Ok(all)
 }
 
@@ -85,6 +87,7 @@ fn add_branch<const W: usize>(
     alloc: Global,
     all: &mut Vec<Bits<W>>,
     first: Step<W>,
+    supports: &[u32],
 ) -> Result<(), Memory>
     requires step { IsStep first.rows.width first }
     requires whole { first.end ≡ first.rows.width }
@@ -94,7 +97,7 @@ fn add_branch<const W: usize>(
     let mut steps = Vec::with_capacity(alloc, first.rows.width() as usize)?;
     steps.push(first)?;
     while let Some(mut step) = steps.pop() {
-        match next_step(alloc, all, &mut step)? {
+        match next_step(alloc, all, &mut step, supports)? {
             Descent::End => {}
             Descent::Whole => steps.push(step)?,
             Descent::Below(below) => {
@@ -111,6 +114,7 @@ fn next_step<const W: usize>(
     alloc: Global,
     all: &mut Vec<Bits<W>>,
     step: &mut Step<W>,
+    supports: &[u32],
 ) -> Result<Descent<W>, Memory>
     requires { IsStep step.old.rows.width step.old }
     ensures { IfOk result (λ descent. HasDescended step.old.rows.width all.old.items all.new.items step.old step.new descent) }
@@ -121,6 +125,7 @@ fn next_step<const W: usize>(
         &step.intent,
         step.from,
         step.end,
+        supports,
         &mut step.seen,
     ) else {
         return Ok(Descent::End);
@@ -128,7 +133,7 @@ fn next_step<const W: usize>(
     step.end = child.attribute;
     let from = child.attribute + 1;
     if lacks_few(&child.intent, from) {
-        add_few(alloc, all, &step.rows, &child.intent, from)?;
+        add_few(alloc, all, &step.rows, &child.intent, from, supports)?;
         return Ok(Descent::Whole);
     }
     all.push(child.intent)?;
@@ -144,6 +149,7 @@ fn add_few<const W: usize>(
     rows: &RowsOf<W>,
     a: &Bits<W>,
     from: u32,
+    supports: &[u32],
 ) -> Result<(), Memory>
     requires wide { length a.now ≡ rows.now.width }
     requires closed { is_closed rows.now a.now ≡ true }
@@ -153,8 +159,8 @@ fn add_few<const W: usize>(
     all.push(*a)?;
     let mut seen = no_witnesses(alloc, rows, a);
     for i in (from..rows.width()).rev() {
-        if let Some(child) = child_at(rows, a, i, &mut seen) {
-            add_few(alloc, all, rows, &child, i + 1)?;
+        if let Some(child) = child_at(rows, a, i, from, supports, &mut seen) {
+            add_few(alloc, all, rows, &child, i + 1, supports)?;
         }
     }
     Ok(())
