@@ -1,6 +1,6 @@
 -- The row of an object gives its value back (`gives_back`): of a scale of numbers the narrowest bounds that hold (`high_bound`,
 -- `low_bound`), of a nominal scale the scale value that it is.
-use Rattle.std.proofs.Common.{◌≡◌, ◌∙◌, ◌<◌, ◌+◌, ◌++◌, ◌∷◌, [], ℕ, suc, Bool, true, false, cond, List, Option, Some, None, IfSome, ℤ, ◌<ℤ◌}
+use Rattle.std.proofs.Common.{◌≡◌, ◌∙◌, ◌<◌, ◌+◌, ◌++◌, ◌∷◌, [], ℕ, suc, true, false, List, Option, Some, None, IfSome, ℤ}
 use Rattle.std.proofs.Common.{◌≤ℤ◌, int_le, filter, fold, length, take, drop, map, slice_get, refl, sym, ap, ap₂, subst, arith}
 use Rattle.std.proofs.Common.{append_assoc, get_or, get_or-drop, length-append, length-drop, take_at, drop_at}
 use Rattle.std.proofs.lemmas.Int.{ints}
@@ -11,10 +11,8 @@ use Rattle.fca_model.specs.Sets.{Set}
 use Rattle.fca_model.specs.Tables.{Text}
 use Rattle.value_tables.specs.Numbers.{number_of}
 use Rattle.context_scaling.specs.Scaling.{Scaling, each_relation, made_names, mark_name, names_of, stands}
-use Rattle.context_scaling.specs.Back.{AreBounds, GivesBack, NoneBetween, begin_of, scaling_at, TellsBounds, single_place, back_by}
-use Rattle.context_scaling.specs.Back.{back_between, marked_values, is_narrower, narrowest_bound, narrower_bound_of, places_from}
-use Rattle.context_scaling.specs.declared.back.Back.{Back}
-use Rattle.context_scaling.specs.declared.back.Back.TheVariants as back
+use Rattle.context_scaling.specs.Back.{GivesBack, NoneBetween, begin_of, scaling_at, TellsBounds, single_place, back_by}
+use Rattle.context_scaling.specs.Back.{back_between, marked_values, narrower_bound_of, places_from}
 use Rattle.context_scaling.specs.declared.scales.Kind.{Kind}
 use Rattle.context_scaling.specs.declared.scales.Kind.TheVariants as kind
 use Rattle.context_scaling.specs.declared.scales.Relation.{Relation}

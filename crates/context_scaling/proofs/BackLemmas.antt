@@ -1,10 +1,9 @@
 -- What the row of an object gives back. The marks of a record stand together in the row (`row_from`); those of a scale of numbers mark the
 -- bounds that hold of the number (`marked_filter`), and the narrowest of them that is kept holds (`narrowest_holds`) and is narrow narrow
 -- narrow each of them (`narrowest_least`).
-use Rattle.std.proofs.Common.{◌≡◌, ◌∙◌, ◌<◌, ◌≤◌, ◌+◌, ◌++◌, ◌∷◌, [], ℕ, zero, suc, Bool, true, false, cond, List, Option, Some, None}
-use Rattle.std.proofs.Common.{IfSome, ℤ, ◌<ℤ◌, ◌≤ℤ◌, int_le, filter, flat_map, fold, length, take, drop, get_or, map, slice_get, refl, sym}
-use Rattle.std.proofs.Common.{ap, ap₂, subst, inl, inr, arith, length-append, drop-drop, drop_at}
-use Rattle.std.specs.Prelude.{◌⊎◌, ◌↔◌}
+use Rattle.std.proofs.Common.{◌≡◌, ◌∙◌, ◌<◌, ◌+◌, ◌++◌, ◌∷◌, [], ℕ, zero, suc, true, false, cond, List, Option, Some, None}
+use Rattle.std.proofs.Common.{IfSome, ℤ, filter, flat_map, fold, length, take, drop, get_or, map, slice_get, refl, sym}
+use Rattle.std.proofs.Common.{ap, subst, inl, inr, arith, length-append, drop-drop, drop_at}
 use Rattle.std.proofs.lemmas.Bool.{cases_Bool}
 use Rattle.std.proofs.lemmas.Int.{ints}
 use Rattle.fca_model.specs.Sets.{Set}

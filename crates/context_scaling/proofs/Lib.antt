@@ -6,3 +6,5 @@ pub mod NominalLemmas
 pub mod BackLaw
 pub mod Examples
 pub mod RefusalLemmas
+pub mod RefusalLaw
+pub mod PlanLaw

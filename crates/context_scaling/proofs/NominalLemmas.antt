@@ -1,18 +1,17 @@
 -- Nominal scales: a value is marked where it is the scale value (`stands_is`), at one place alone since names differ (`value_once`), and so
 -- the marks tell that place (`nominal_back`).
-use Rattle.std.proofs.Common.{◌≡◌, ◌∙◌, ◌<◌, ◌≤◌, ◌+◌, ◌++◌, ◌∷◌, [], ℕ, zero, suc, Bool, true, false, not, ◌&&◌, ◌==◌, List, Option, Some}
+use Rattle.std.proofs.Common.{◌≡◌, ◌∙◌, ◌<◌, ◌≤◌, ◌+◌, ◌++◌, ◌∷◌, [], ℕ, zero, suc, Bool, true, false, not, ◌==◌, List, Option, Some}
 use Rattle.std.proofs.Common.{None, is_some, length, take, drop, get_or, map, slice_get, bytes_eq, refl, sym, ap, subst, inl, inr, arith}
 use Rattle.std.proofs.Common.{get_or-drop, get_or-take, length-drop, ne_eqb}
-use Rattle.std.specs.Prelude.{◌⊎◌, ◌↔◌}
+use Rattle.std.specs.Prelude.{◌↔◌}
 use Rattle.std.specs.List.{list_any}
 use Rattle.std.proofs.lemmas.Bool.{cases_Bool, cases_order, and_parts, and_from}
 use Rattle.std.proofs.lemmas.List.{append_assoc, drop_more, length-take-le, length_push, get_or_append_left}
-use Rattle.std.proofs.lemmas.Option.{slice_get_within, get_or_from_slice_get}
 use Rattle.std.proofs.lemmas.Slice.Eq.{bytes_eq-Decides}
 use Rattle.fca_model.specs.Sets.{Set}
 use Rattle.fca_model.specs.Tables.{Text}
 use Rattle.context_table.specs.Table.{first_repeat, repeat_from}
-use Rattle.context_scaling.specs.Scaling.{mark_name, stands}
+use Rattle.context_scaling.specs.Scaling.{stands}
 use Rattle.context_scaling.specs.Back.{single_place, places_from}
 use Rattle.context_scaling.specs.declared.back.Back.{Back}
 use Rattle.context_scaling.specs.declared.back.Back.TheVariants as back

@@ -1,6 +1,6 @@
 -- What one field, one value and one record more add to what was read.
 use Rattle.std.proofs.Common.{◌≡◌, ◌∙◌, ◌<◌, ◌≤◌, ◌+◌, ◌++◌, ◌∷◌, [], ℕ, Bool, true, false, not, All, List, Option, Some, None, drop}
-use Rattle.std.proofs.Common.{flat_map, get_or, length, map, slice_get, position, bytes_eq, ltb, inl, inr, refl, sym, ap, subst, arith}
+use Rattle.std.proofs.Common.{get_or, length, map, slice_get, position, bytes_eq, ltb, inl, inr, refl, sym, ap, subst, arith}
 use Rattle.std.proofs.Common.{append-nil, append_assoc}
 use Rattle.std.specs.Prelude.{◌⊎◌, Ok, ℤ, pos, unwrap_or}
 use Rattle.std.specs.List.{position_from, position_or_len}
@@ -15,7 +15,7 @@ use Rattle.context_scaling.specs.declared.scales.Kind.TheVariants as kind
 use Rattle.context_scaling.specs.declared.scales.Relation.{Relation}
 use Rattle.context_scaling.specs.declared.scales.ScaleValue.{ScaleValue}
 use Rattle.context_scaling.specs.declared.scales.ScaleValue.TheVariants as value
-use Rattle.std.proofs.lemmas.List.{drop_more, get_or-map, drop-map, length-map}
+use Rattle.std.proofs.lemmas.List.{drop_more, get_or-map, length-map}
 use Rattle.std.proofs.lemmas.List.Elements.{All-append, All-cons, All-nil, All-push}
 use Rattle.fca_model.specs.Tables.{Text}
 use Rattle.fca_model.specs.Names.{name_fault}

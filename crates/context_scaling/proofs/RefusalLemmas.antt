@@ -1,11 +1,11 @@
--- Why a plan is refused. The form goes through the records, and through what a record is tried for, in their order; so what is refused
--- tells how far it came.
+-- Why a record of a plan is refused. The form goes through what a record is tried for in its order; so what is refused tells how far it
+-- came.
 use Rattle.std.proofs.Common.{◌≡◌, ◌≢◌, ◌∙◌, ◌<◌, ◌≤◌, ◌+◌, ◌-◌, ◌%◌, ◌&&◌, ◌||◌, ◌==◌, ◌++◌, ◌∷◌, [], ℕ, zero, suc, Bool, true, false}
-use Rattle.std.proofs.Common.{not, cond, List, Option, Some, None, Result, Ok, Err, length, take, drop, map, get_or, slice_get, position}
+use Rattle.std.proofs.Common.{not, List, Option, Some, None, Result, Ok, Err, length, take, drop, map, get_or, slice_get, position}
 use Rattle.std.proofs.Common.{bytes_eq}
-use Rattle.std.proofs.Common.{ltb, ltb-true, ltb-false, eqb-true, length-append, length-drop, get_or-drop, append_assoc, inl, inr, refl}
+use Rattle.std.proofs.Common.{ltb, ltb-true, ltb-false, ne_eqb, length-append, length-drop, get_or-drop, append_assoc, inl, inr, refl}
 use Rattle.std.proofs.Common.{sym, ap, subst, arith}
-use Rattle.std.specs.Prelude.{◌⊎◌, ℤ, is_none, is_some, nat_lt}
+use Rattle.std.specs.Prelude.{◌⊎◌, ℤ, is_some, nat_lt}
 use Rattle.std.specs.List.{list_any, position_from, position_or_len}
 use Rattle.std.proofs.Math.Nat.{add-mod_left, mod-eq_of_lt}
 use Rattle.std.proofs.lemmas.Bool.{cases_Bool, cases_lt, false≢true, not-false, not-true, or_parts}
@@ -21,11 +21,11 @@ use Rattle.csv_context.specs.Records.{Record}
 use Rattle.value_tables.specs.Form.{first_bad, is_field, is_name}
 use Rattle.value_tables.specs.Numbers.{number_of}
 use Rattle.value_tables.specs.Telling.{then, unless}
-use Rattle.value_tables.specs.Values.{ObjectValues, ValueTable, column, no_object, object_at, value_of}
+use Rattle.value_tables.specs.Values.{ValueTable, column, no_object, object_at, value_of}
 use Rattle.value_tables.specs.declared.fields.FieldKind.{FieldKind}
 use Rattle.context_scaling.specs.PlanForm.{add_names, few_names, kind_form, kind_of, names_form, or_fault, place_of}
-use Rattle.context_scaling.specs.PlanForm.{record_form, records_form, scale_value, scaling_form, scaling_of, value_kind}
-use Rattle.context_scaling.specs.Refusals.{HasBadName, HasBadScale, HasBadValue, IsAtFault, IsRecordOf, IsRefused, NamesNoAttribute}
+use Rattle.context_scaling.specs.PlanForm.{record_form, scaling_form, scaling_of, value_kind}
+use Rattle.context_scaling.specs.Refusals.{HasBadName, HasBadScale, HasBadValue, IsAtFault, IsRecordOf}
 use Rattle.context_scaling.specs.Refusals.{NamesNoKind, field_at, is_new_name}
 use Rattle.context_scaling.specs.Scaling.{Scaling, is_scalable, made_names, mark_name, names_of}
 use Rattle.context_scaling.specs.declared.scales.Kind.{Kind}
@@ -35,24 +35,24 @@ use Rattle.context_scaling.specs.declared.scales.Relation.TheVariants as relatio
 use Rattle.context_scaling.specs.declared.scales.ScaleValue.{ScaleValue}
 use Rattle.context_scaling.specs.declared.PlanFault.{PlanFault}
 use Rattle.context_scaling.specs.declared.PlanFault.TheVariants as fault
-use Rattle.context_scaling.proofs.ReadLemmas.{names_push, position_at}
+use Rattle.context_scaling.proofs.ReadLemmas.{position_at}
 
 -- ---- answers
 
-ok-err : {X : Type 0} (r : Result X PlanFault) (x : X) (e : PlanFault) → r ≡ Ok x → r ≡ Err e → ⊥
+pub ok-err : {X : Type 0} (r : Result X PlanFault) (x : X) (e : PlanFault) → r ≡ Ok x → r ≡ Err e → ⊥
 ok-err r x e one two = let both : Ok x ≡ Err e = sym one ∙ two in cc
 
-same-fault : {X : Type 0} (r : Result X PlanFault) (e f : PlanFault) → r ≡ Err e → r ≡ Err f → e ≡ f
+pub same-fault : {X : Type 0} (r : Result X PlanFault) (e f : PlanFault) → r ≡ Err e → r ≡ Err f → e ≡ f
 same-fault r e f one two = let both : Err e ≡ Err f = sym one ∙ two in cc
 
-same-ok : {X : Type 0} (r : Result X PlanFault) (x y : X) → r ≡ Ok x → r ≡ Ok y → x ≡ y
+pub same-ok : {X : Type 0} (r : Result X PlanFault) (x y : X) → r ≡ Ok x → r ≡ Ok y → x ≡ y
 same-ok r x y one two = let both : Ok x ≡ Ok y = sym one ∙ two in cc
 
-cases-Result : {X : Type 0} (r : Result X PlanFault) → ((e : PlanFault) × (r ≡ Err e)) ⊎ ((x : X) × (r ≡ Ok x))
+pub cases-Result : {X : Type 0} (r : Result X PlanFault) → ((e : PlanFault) × (r ≡ Err e)) ⊎ ((x : X) × (r ≡ Ok x))
 cases-Result (Ok x) = inr (x, refl)
 cases-Result (Err e) = inl (e, refl)
 
-same-some : {X : Type 0} (o : Option X) (x y : X) → o ≡ Some x → o ≡ Some y → x ≡ y
+pub same-some : {X : Type 0} (o : Option X) (x y : X) → o ≡ Some x → o ≡ Some y → x ≡ y
 same-some o x y one two = let both : Some x ≡ Some y = sym one ∙ two in cc
 
 -- ---- the first that passes a test
@@ -88,6 +88,19 @@ first-Some test i j (text ∷ texts) is = elim (cases_Bool (test text)) [
       }
 ]
 
+first-None : (test : Text → Bool) (i : ℕ) (texts : List Text) → position_from test i texts ≡ None → (k : ℕ) → i ≤ k → k < i + length texts
+    → test (get_or texts (k - i) []) ≡ false
+first-None test i [] is k from below = absurd (omega arith)
+first-None test i (text ∷ texts) is k from below = elim (cases_Bool (test text)) [
+  | inl here ↦ absurd (none-some i (sym (rw here at is)))
+  | inr past ↦ elim (cases_lt i k) [
+    | inl more ↦
+        let back : k - i ≡ suc (k - (i + 1)) = omega arith in
+        rw back (first-None test (i + 1) texts (rw past at is) k (omega arith) (omega arith))
+    | inr first ↦ let none : k - i ≡ 0 = omega arith in rw none past
+  ]
+]
+
 first_bad-position : (kind : FieldKind) (i : ℕ) (fields : List Text)
     → first_bad kind i fields ≡ position_from (λ field. not (is_field kind field)) i fields
 first_bad-position kind i [] = refl
@@ -98,7 +111,7 @@ first_bad-position kind i (field ∷ fields) = elim (cases_Bool (is_field kind f
 
 -- ---- kinds and attributes
 
-kind-fault : (i : ℕ) (fields : Record) (e : PlanFault) → kind_form i fields ≡ Err e → (e ≡ fault.BadKind i) × NamesNoKind fields
+pub kind-fault : (i : ℕ) (fields : Record) (e : PlanFault) → kind_form i fields ≡ Err e → (e ≡ fault.BadKind i) × NamesNoKind fields
 kind-fault i fields e is = elim (cases_Bool (nat_lt (length fields) 3)) [
   | inl short ↦
       (sym (same-fault _ (fault.BadKind i) e refl (rw short at is)), inl (ltb-true (length fields) 3 short))
@@ -110,7 +123,7 @@ kind-fault i fields e is = elim (cases_Bool (nat_lt (length fields) 3)) [
     by None none is = (sym (same-fault _ (fault.BadKind i) e refl is), inr none)
     by (Some kind) some is = absurd (ok-err _ kind e refl is)
 
-kind-Ok : (i : ℕ) (fields : Record) (k : Kind) → kind_form i fields ≡ Ok k → kind_of (get_or fields 0 []) ≡ Some k
+pub kind-Ok : (i : ℕ) (fields : Record) (k : Kind) → kind_form i fields ≡ Ok k → kind_of (get_or fields 0 []) ≡ Some k
 kind-Ok i fields k is = elim (cases_Bool (nat_lt (length fields) 3)) [
   | inl short ↦ absurd (ok-err _ k (fault.BadKind i) (rw short at is) refl)
   | inr long ↦ by (kind_of (get_or fields 0 [])) refl (rw long at is)
@@ -136,15 +149,33 @@ position-None names m name none is = elim (cases_Bool (ltb (position_or_len (byt
       false≢true (sym differs ∙ same)
 ]
 
-place-None : (t : ValueTable) (name : Text) → EachName t.attributes → place_of t name ≡ None → (m : ℕ)
+pub place-None : (t : ValueTable) (name : Text) → EachName t.attributes → place_of t name ≡ None → (m : ℕ)
     → slice_get t.attributes m ≢ Some name
 place-None t name named none m is =
     let faultless = faultless-at t.attributes m name named is in
     position-None t.attributes m name (rw faultless at none) is
 
-place-Some : (t : ValueTable) (name : Text) (place : ℕ) → place_of t name ≡ Some place → slice_get t.attributes place ≡ Some name
+pub place-Some : (t : ValueTable) (name : Text) (place : ℕ) → place_of t name ≡ Some place → slice_get t.attributes place ≡ Some name
 place-Some t name place is = elim (cases_Bool (is_name name)) [
   | inl named ↦ position_at name t.attributes place (rw named at is)
+  | inr unnamed ↦ absurd (none-some place (rw unnamed at is))
+]
+
+position-first : (names : List Text) (place m : ℕ) (name : Text) → position (bytes_eq name) names ≡ Some place → m < place
+    → slice_get names m ≢ Some name
+position-first names place m name is below got = elim (cases_Bool (ltb (position_or_len (bytes_eq name) names) (length names))) [
+  | inl less ↦
+      let at : position_or_len (bytes_eq name) names ≡ place = same-some _ _ place refl (rw less at is) in
+      let differs = fails_before_first (bytes_eq name) names m [] (omega (arith, at, below)) in
+      let same = (bytes_eq-Decides name (get_or names m [])).1 (sym (get_or_from_slice_get names m name [] got)) in
+      false≢true (sym differs ∙ same)
+  | inr past ↦ none-some place (rw past at is)
+]
+
+pub place-first : (t : ValueTable) (name : Text) (place : ℕ) → place_of t name ≡ Some place → (m : ℕ) → m < place
+    → slice_get t.attributes m ≢ Some name
+place-first t name place is m below got = elim (cases_Bool (is_name name)) [
+  | inl named ↦ position-first t.attributes place m name (rw named at is) below got
   | inr unnamed ↦ absurd (none-some place (rw unnamed at is))
 ]
 
@@ -250,13 +281,13 @@ new-right seen (name ∷ lows) highs p =
 
 -- ---- the names of a record
 
-record NamesFault (i : ℕ) (seen : List Text) (s : Scaling) (e : PlanFault) : Type 0 where
-  field : ℕ
-  fault_is : e ≡ fault.BadName i field
-  has : HasBadName seen s field
+pub record NamesFault (i : ℕ) (seen : List Text) (s : Scaling) (e : PlanFault) : Type 0 where
+  pub field : ℕ
+  pub fault_is : e ≡ fault.BadName i field
+  pub has : HasBadName seen s field
 
 module _ (i place : ℕ) (attribute : Text) (values : List ScaleValue) where
-  abbrev of_kind : Kind → Scaling
+  abbrev pub of_kind : Kind → Scaling
   of_kind k = record { kind = k; attribute = attribute; place = place; values = values }
 
   of_one : (r : Relation) (k : Kind) (seen : List Text) (e : PlanFault) → names_of (of_kind k) ≡ map (mark_name attribute r) values
@@ -329,13 +360,13 @@ module _ (i place : ℕ) (attribute : Text) (values : List ScaleValue) where
         };
       }
 
-  names-fault : (k : Kind) (seen : List Text) (e : PlanFault) → names_form i k attribute seen values ≡ Err e
+  pub names-fault : (k : Kind) (seen : List Text) (e : PlanFault) → names_form i k attribute seen values ≡ Err e
       → NamesFault i seen (of_kind k) e
   names-fault kind.Nominal seen e is = of_one relation.Equal kind.Nominal seen e refl is
   names-fault kind.Ordinal seen e is = of_one relation.AtMost kind.Ordinal seen e refl is
   names-fault kind.Interordinal seen e is = of_two seen e (add_names i attribute relation.AtMost 3 seen values) refl is
 
-  names-Ok : (k : Kind) (seen names : List Text) → names_form i k attribute seen values ≡ Ok names → names ≡ seen ++ names_of (of_kind k)
+  pub names-Ok : (k : Kind) (seen names : List Text) → names_form i k attribute seen values ≡ Ok names → names ≡ seen ++ names_of (of_kind k)
   names-Ok kind.Nominal seen names is = (add-Ok i attribute relation.Equal 3 seen values names is).all
   names-Ok kind.Ordinal seen names is = (add-Ok i attribute relation.AtMost 3 seen values names is).all
   names-Ok kind.Interordinal seen names is = by (add_names i attribute relation.AtMost 3 seen values) refl is
@@ -350,9 +381,49 @@ module _ (i place : ℕ) (attribute : Text) (values : List ScaleValue) where
           (add-Ok i attribute relation.AtMost 3 seen values made low).all
           ∙ append_assoc seen (map (mark_name attribute relation.AtMost) values) (map (mark_name attribute relation.AtLeast) values)
 
+  -- after all went well, each name is new
+  pub names-new : (k : Kind) (seen names : List Text) → names_form i k attribute seen values ≡ Ok names → (q : ℕ)
+      → q < length (names_of (of_kind k)) → is_new_name seen (names_of (of_kind k)) q ≡ true
+  names-new kind.Nominal seen names is q below =
+      let size = length-map values (mark_name attribute relation.Equal) in
+      (add-Ok i attribute relation.Equal 3 seen values names is).new q (omega (arith, below, size))
+  names-new kind.Ordinal seen names is q below =
+      let size = length-map values (mark_name attribute relation.AtMost) in
+      (add-Ok i attribute relation.AtMost 3 seen values names is).new q (omega (arith, below, size))
+  names-new kind.Interordinal seen names is q below = by (add_names i attribute relation.AtMost 3 seen values) refl is
+    where
+      lows : List Text
+      lows = map (mark_name attribute relation.AtMost) values
+
+      highs : List Text
+      highs = map (mark_name attribute relation.AtLeast) values
+
+      by : (low : Result (List Text) PlanFault) → add_names i attribute relation.AtMost 3 seen values ≡ low
+          → then low (λ made. add_names i attribute relation.AtLeast 3 made values) ≡ Ok names
+          → is_new_name seen (lows ++ highs) q ≡ true
+      by (Err other) low is = absurd (ok-err _ names other is refl)
+      by (Ok made) low is =
+          let first = add-Ok i attribute relation.AtMost 3 seen values made low in
+          let P : List Text → Type 0 = λ ns. add_names i attribute relation.AtLeast 3 ns values ≡ Ok names in
+          let second = add-Ok i attribute relation.AtLeast 3 (seen ++ lows) values names (subst P first.all is) in
+          let low_size : length lows ≡ length values = length-map values (mark_name attribute relation.AtMost) in
+          let high_size : length highs ≡ length values = length-map values (mark_name attribute relation.AtLeast) in
+          elim (cases_lt q (length lows)) [
+            | inl left ↦ new-left seen lows highs q left ∙ first.new q (omega (arith, left, low_size))
+            | inr right ↦
+                let back : length lows + (q - length lows) ≡ q = omega arith in
+                let inside : q - length lows < length values = omega (arith, below, right, high_size, length-append lows highs) in
+                let R : ℕ → Type 0 = λ k. is_new_name seen (lows ++ highs) k ≡ true in
+                subst R back (new-right seen lows highs (q - length lows) ∙ second.new (q - length lows) inside)
+          ]
+
 -- ---- scale values and values
 
-bad-scale : (k : Kind) (fields : Record) (j : ℕ) → first_bad (value_kind k) 3 (drop 2 fields) ≡ Some j → HasBadScale k fields j
+scale-field : (fields : Record) (q : ℕ) → 3 ≤ q → get_or (drop 2 fields) (q - 3) [] ≡ field_at fields q
+scale-field fields q from =
+    let at : 2 + (q - 3) ≡ q - 1 = omega arith in get_or-drop 2 fields (q - 3) [] ∙ ap (λ (n : ℕ). get_or fields n []) at
+
+pub bad-scale : (k : Kind) (fields : Record) (j : ℕ) → first_bad (value_kind k) 3 (drop 2 fields) ≡ Some j → HasBadScale k fields j
 bad-scale k fields j is =
     let test : Text → Bool = λ field. not (is_field (value_kind k) field) in
     let first = first-Some test 3 j (drop 2 fields) (sym (first_bad-position (value_kind k) 3 (drop 2 fields)) ∙ is) in
@@ -361,12 +432,17 @@ bad-scale k fields j is =
     record {
       behind = behind;
       inside = omega (arith, length-drop 2 fields);
-      bad = ap (is_field (value_kind k)) (sym (field j behind)) ∙ not-true _ first.passes;
-      first = λ q from below. ap (is_field (value_kind k)) (sym (field q from)) ∙ not-false _ (first.fails q from below);
+      bad = ap (is_field (value_kind k)) (sym (scale-field fields j behind)) ∙ not-true _ first.passes;
+      first = λ q from below. ap (is_field (value_kind k)) (sym (scale-field fields q from)) ∙ not-false _ (first.fails q from below);
     }
-  where
-    field : (q : ℕ) → 3 ≤ q → get_or (drop 2 fields) (q - 3) [] ≡ field_at fields q
-    field q from = let at : 2 + (q - 3) ≡ q - 1 = omega arith in get_or-drop 2 fields (q - 3) [] ∙ ap (λ (n : ℕ). get_or fields n []) at
+
+pub no_bad-scale : (k : Kind) (fields : Record) (j : ℕ) → first_bad (value_kind k) 3 (drop 2 fields) ≡ None → HasBadScale k fields j → ⊥
+no_bad-scale k fields j none has =
+    let test : Text → Bool = λ field. not (is_field (value_kind k) field) in
+    let no = sym (first_bad-position (value_kind k) 3 (drop 2 fields)) ∙ none in
+    let below : j < 3 + length (drop 2 fields) = omega (arith, has.behind, has.inside, length-drop 2 fields) in
+    let good = not-false _ (first-None test 3 (drop 2 fields) no j has.behind below) in
+    false≢true (sym has.bad ∙ ap (is_field (value_kind k)) (sym (scale-field fields j has.behind)) ∙ good)
 
 no_number : (text : Text) → ((length text == 0) || is_some (number_of text)) ≡ false → (text ≢ []) × (number_of text ≡ None)
 no_number text bad =
@@ -381,7 +457,7 @@ no_number text bad =
     none None is = refl
     none (Some n) is = absurd (false≢true (sym is))
 
-not-scalable : (k : Kind) (text : Text) → is_scalable k text ≡ false → (k ≢ kind.Nominal) × (text ≢ []) × (number_of text ≡ None)
+pub not-scalable : (k : Kind) (text : Text) → is_scalable k text ≡ false → (k ≢ kind.Nominal) × (text ≢ []) × (number_of text ≡ None)
 not-scalable kind.Nominal text bad = absurd (false≢true (sym bad))
 not-scalable kind.Ordinal text bad =
     let parts = no_number text bad in
@@ -390,24 +466,43 @@ not-scalable kind.Interordinal text bad =
     let parts = no_number text bad in
     (λ is. (let same : kind.Interordinal ≡ kind.Nominal = is in cc), parts.0, parts.1)
 
-bad-value : (t : ValueTable) (s : Scaling) (r : ℕ) → position_from (λ text. not (is_scalable s.kind text)) 0 (column t s.place) ≡ Some r
+object-value : (t : ValueTable) (place q : ℕ) → q < length t.objects → get_or (column t place) (q - 0) [] ≡ value_of place (object_at t q)
+object-value t place q below = let at : q - 0 ≡ q = omega arith in
+    ap (λ (n : ℕ). get_or (column t place) n []) at ∙ get_or-map (value_of place) t.objects q no_object [] below
+
+pub bad-value : (t : ValueTable) (s : Scaling) (r : ℕ) → position_from (λ text. not (is_scalable s.kind text)) 0 (column t s.place) ≡ Some r
     → HasBadValue t s r
 bad-value t s r is =
     let first = first-Some (λ text. not (is_scalable s.kind text)) 0 r (column t s.place) is in
     let inside : r < length t.objects = omega (arith, first.inside, length-map t.objects (value_of s.place)) in
     let bad = not-scalable s.kind (value_of s.place (object_at t r))
-    (ap (is_scalable s.kind) (sym (value r inside)) ∙ not-true _ first.passes) in
+    (ap (is_scalable s.kind) (sym (object-value t s.place r inside)) ∙ not-true _ first.passes) in
     record {
       numbers = bad.0;
       inside = inside;
       some = bad.1;
       bad = bad.2;
-      first = λ q below. ap (is_scalable s.kind) (sym (value q (omega arith))) ∙ not-false _ (first.fails q (omega arith) below);
+      first = λ q below.
+          ap (is_scalable s.kind) (sym (object-value t s.place q (omega arith))) ∙ not-false _ (first.fails q (omega arith) below);
     }
-  where
-    value : (q : ℕ) → q < length t.objects → get_or (column t s.place) (q - 0) [] ≡ value_of s.place (object_at t q)
-    value q below = let at : q - 0 ≡ q = omega arith in
-        ap (λ (n : ℕ). get_or (column t s.place) n []) at ∙ get_or-map (value_of s.place) t.objects q no_object [] below
+
+no_value : (byte : ℕ) (text : Text) → number_of (byte ∷ text) ≡ None
+    → ((length (byte ∷ text) == 0) || is_some (number_of (byte ∷ text))) ≡ false
+no_value byte text none = rw (ne_eqb (length (byte ∷ text)) 0 (λ is. absurd (omega (arith, is))), none) refl
+
+pub unscalable : (k : Kind) (text : Text) → k ≢ kind.Nominal → text ≢ [] → number_of text ≡ None → is_scalable k text ≡ false
+unscalable k [] numbers some none = absurd (some refl)
+unscalable kind.Nominal (byte ∷ text) numbers some none = absurd (numbers refl)
+unscalable kind.Ordinal (byte ∷ text) numbers some none = no_value byte text none
+unscalable kind.Interordinal (byte ∷ text) numbers some none = no_value byte text none
+
+pub no_bad-value : (t : ValueTable) (s : Scaling) (r : ℕ)
+    → position_from (λ text. not (is_scalable s.kind text)) 0 (column t s.place) ≡ None → HasBadValue t s r → ⊥
+no_bad-value t s r none has =
+    let below : r < 0 + length (column t s.place) = omega (arith, has.inside, length-map t.objects (value_of s.place)) in
+    let good = not-false _ (first-None (λ text. not (is_scalable s.kind text)) 0 (column t s.place) none r (omega arith) below) in
+    let bad = unscalable s.kind (value_of s.place (object_at t r)) has.numbers has.some has.bad in
+    false≢true (sym bad ∙ ap (is_scalable s.kind) (sym (object-value t s.place r has.inside)) ∙ good)
 
 -- ---- records
 
@@ -465,6 +560,7 @@ module _ (t : ValueTable) (i : ℕ) (plan : List Scaling) (fields : Record) (e :
         kind = kind_is;
         attribute = refl;
         place = place-Some t (get_or fields 1 []) place found;
+        first = place-first t (get_or fields 1 []) place found;
         values = refl;
       } in
       by_scale s of (first_bad (value_kind k) 3 (drop 2 fields)) refl is
@@ -478,64 +574,5 @@ module _ (t : ValueTable) (i : ℕ) (plan : List Scaling) (fields : Record) (e :
       because (fault.BadKind i) (sym one.0 ∙ same) (refl, one.1)
   by_kind (Ok k) named form is = by_place k (place_of t (get_or fields 1 [])) named (kind-Ok i fields k form) refl is
 
-  record-fault : EachName t.attributes → record_form t i (made_names plan) fields ≡ Err e → At
+  pub record-fault : EachName t.attributes → record_form t i (made_names plan) fields ≡ Err e → At
   record-fault named is = by_kind (kind_form i fields) named refl is
-
--- ---- the first record at fault
-
-record FirstFault (t : ValueTable) (i : ℕ) (before : List Scaling) (all : List Record) (e : PlanFault) : Type 0 where
-  front : List Record
-  fields : Record
-  rest : List Record
-  plan : List Scaling
-  whole : all ≡ front ++ fields ∷ rest
-  made : records_form t i before front ≡ Ok plan
-  faulty : IsAtFault t (i + length front) plan fields e
-
-first-fault : (t : ValueTable) (i : ℕ) (before : List Scaling) (all : List Record) (e : PlanFault) → EachName t.attributes
-    → records_form t i before all ≡ Err e → FirstFault t i before all e
-first-fault t i before [] e named is = absurd (ok-err _ before e refl is)
-first-fault t i before (fields ∷ records) e named is = elim (cases-Result (record_form t i (made_names before) fields)) [
-  | inl bad ↦
-      let same : bad.0 ≡ e = same-fault _ bad.0 e refl (rw bad.1 at is) in
-      let here : i ≡ i + 0 = omega arith in
-      let P : ℕ → Type 0 = λ k. IsAtFault t k before fields e in
-      record {
-        front = [];
-        fields = fields;
-        rest = records;
-        plan = before;
-        whole = refl;
-        made = refl;
-        faulty = subst P here (record-fault t i before fields e named (bad.1 ∙ ap Err same));
-      }
-  | inr good ↦
-      let later = first-fault t (i + 1) (before ++ good.0 ∷ []) records e named (rw good.1 at is) in
-      let next : i + 1 + length later.front ≡ i + length (fields ∷ later.front) = omega arith in
-      let P : ℕ → Type 0 = λ k. IsAtFault t k later.plan later.fields e in
-      record {
-        front = fields ∷ later.front;
-        fields = later.fields;
-        rest = later.rest;
-        plan = later.plan;
-        whole = ap (λ (rs : List Record). fields ∷ rs) later.whole;
-        made = rw good.1 later.made;
-        faulty = subst P next later.faulty;
-      }
-]
-
-pub plan-refused : (t : ValueTable) (all : List Record) (e : PlanFault) → EachName t.attributes → records_form t 1 [] all ≡ Err e
-    → IsRefused t all e
-plan-refused t all e named is =
-    let one = first-fault t 1 [] all e named is in
-    let number : 1 + length one.front ≡ length one.front + 1 = omega arith in
-    let P : ℕ → Type 0 = λ k. IsAtFault t k one.plan one.fields e in
-    record {
-      front = one.front;
-      fields = one.fields;
-      rest = one.rest;
-      plan = one.plan;
-      whole = one.whole;
-      made = one.made;
-      faulty = subst P number one.faulty;
-    }

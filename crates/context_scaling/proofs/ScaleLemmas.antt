@@ -1,17 +1,15 @@
 -- A row has as many places as the plan makes names, and what one record more adds to both.
-use Rattle.std.proofs.Common.{◌≡◌, ◌∙◌, ◌<◌, ◌≤◌, ◌+◌, ◌++◌, ◌∷◌, [], ℕ, zero, suc, List, All, Some, None, length, take, drop, get_or, map}
-use Rattle.std.proofs.Common.{flat_map, slice_get, refl, sym, ap, ap₂, subst, arith, length-append}
+use Rattle.std.proofs.Common.{◌≡◌, ◌∙◌, ◌<◌, ◌≤◌, ◌+◌, ◌++◌, ◌∷◌, [], ℕ, List, length, take, get_or, map}
+use Rattle.std.proofs.Common.{flat_map, refl, sym, ap, ap₂, subst, arith, length-append}
 use Rattle.std.proofs.lemmas.List.{length-map, take_more, flat_map_more}
 use Rattle.std.proofs.lemmas.List.Folds.{length-flat_map-take}
 use Rattle.context_scaling.specs.declared.scales.Relation.TheVariants as relation
-use Rattle.fca_model.specs.Sets.{Set}
 use Rattle.fca_model.specs.Tables.{Text}
 use Rattle.value_tables.specs.Values.{ObjectValues, value_of}
 use Rattle.context_scaling.specs.Scaling.{Scaling, each_relation, made_names, mark_name, names_of, scale_row, object_row, stands}
 use Rattle.context_scaling.specs.declared.scales.Kind.{Kind}
 use Rattle.context_scaling.specs.declared.scales.Kind.TheVariants as kind
 use Rattle.context_scaling.specs.declared.scales.Relation.{Relation}
-use Rattle.context_scaling.specs.declared.scales.ScaleValue.{ScaleValue}
 
 -- two lists by relations have one length if they have for each relation
 each_relation_length : {X Y : Type 0} (k : Kind) (f : Relation → List X) (g : Relation → List Y)

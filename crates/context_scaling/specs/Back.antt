@@ -7,7 +7,7 @@ use Rattle.std.specs.Prelude.{length, take, drop, slice_get, slice_index_or, ⊤
 use Rattle.fca_model.specs.Sets.{Set}
 use Rattle.fca_model.specs.Tables.{Text}
 use Rattle.value_tables.specs.Numbers.{number_of}
-use Rattle.context_scaling.specs.Scaling.{Scaling, names_of, made_names}
+use Rattle.context_scaling.specs.Scaling.{Scaling, made_names}
 use Rattle.context_scaling.specs.declared.scales.Kind.{Kind}
 use Rattle.context_scaling.specs.declared.scales.Kind.TheVariants as kind
 use Rattle.context_scaling.specs.declared.scales.Relation.{Relation}

@@ -1,6 +1,6 @@
 -- The form of a plan: what its records say of a table of values, or the first fault. Records and fields are numbered from 1, objects from
 -- 0.
-use Rattle.std.specs.Prelude.{ℕ, ◌+◌, ◌==◌, ◌&&◌, nat_lt, Bool, not, cond, List, [], ◌∷◌, ◌++◌, Option, Some, None, Result, Ok, Err, codes}
+use Rattle.std.specs.Prelude.{ℕ, ◌+◌, ◌==◌, ◌&&◌, nat_lt, not, cond, List, [], ◌∷◌, ◌++◌, Option, Some, None, Result, Ok, Err, codes}
 use Rattle.std.specs.Prelude.{length, drop, map, position, pos, slice_index_or, unwrap_or, bytes_eq}
 use Rattle.std.specs.List.{list_any, position_from}
 use Rattle.std.specs.Str.Lossy.{utf8_valid_len}

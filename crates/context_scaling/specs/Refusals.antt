@@ -1,8 +1,9 @@
--- Why a plan is refused: each refusal as a property of the plan's records.
+-- What the records of a file make: a plan, or a refusal, each as a property of the records.
 --
--- The first record at fault decides. Records and fields are numbered from 1, and objects from 0.
+-- The first record at fault decides, and of its faults the one that a record is tried for first. Records and fields are numbered from 1,
+-- and objects from 0.
 use Rattle.std.specs.Prelude.{◌≡◌, ◌≢◌, ◌⊎◌, ◌<◌, ◌≤◌, ℕ, ◌+◌, ◌-◌, ◌%◌, ◌&&◌, Bool, true, false, not, List, [], ◌∷◌, ◌++◌}
-use Rattle.std.specs.Prelude.{Some, None, Ok, length, take, drop, map, slice_get, slice_index_or, bytes_eq}
+use Rattle.std.specs.Prelude.{Some, None, length, take, drop, map, slice_get, slice_index_or, bytes_eq}
 use Rattle.std.specs.List.{list_any}
 use Rattle.fca_model.specs.Tables.{Text}
 use Rattle.fca_model.specs.declared.TheConstants.{MAX_ATTRIBUTES}
@@ -10,12 +11,17 @@ use Rattle.csv_context.specs.Records.{Record}
 use Rattle.value_tables.specs.Form.{is_field, is_name}
 use Rattle.value_tables.specs.Numbers.{number_of}
 use Rattle.value_tables.specs.Values.{ValueTable, object_at, value_of}
-use Rattle.context_scaling.specs.PlanForm.{kind_of, records_form, scale_value, value_kind}
+use Rattle.context_scaling.specs.Back.{scaling_at}
+use Rattle.context_scaling.specs.PlanForm.{kind_of, scale_value, value_kind}
 use Rattle.context_scaling.specs.Scaling.{Scaling, is_scalable, made_names, names_of}
 use Rattle.context_scaling.specs.declared.scales.Kind.{Kind}
 use Rattle.context_scaling.specs.declared.scales.Kind.TheVariants as kind
 use Rattle.context_scaling.specs.declared.PlanFault.{PlanFault}
 use Rattle.context_scaling.specs.declared.PlanFault.TheVariants as fault
+
+-- record k, from 0
+abbrev pub record_at : List Record → ℕ → Record
+record_at records k = slice_index_or records k []
 
 -- field j of a record
 abbrev pub field_at : Record → ℕ → Text
@@ -29,11 +35,12 @@ NamesNoKind fields = (length fields < 3) ⊎ (kind_of (field_at fields 1) ≡ No
 abbrev pub NamesNoAttribute : ValueTable → Record → Type 0
 NamesNoAttribute t fields = (m : ℕ) → slice_get t.attributes m ≢ Some (field_at fields 2)
 
--- the record names this kind, this attribute of the table, and these scale values
+-- the record names this kind, the first attribute of the table that has this name, and these scale values
 pub record IsRecordOf (t : ValueTable) (s : Scaling) (fields : Record) : Type 0 where
   pub kind : kind_of (field_at fields 1) ≡ Some s.kind
   pub attribute : s.attribute ≡ field_at fields 2
   pub place : slice_get t.attributes s.place ≡ Some s.attribute
+  pub first : (m : ℕ) → m < s.place → slice_get t.attributes m ≢ Some s.attribute
   pub values : s.values ≡ map (scale_value s.kind) (drop 2 fields)
 
 -- field j is the first in the place of a scale value that is no scale value of this kind
@@ -79,12 +86,38 @@ IsAtFault t i plan fields (fault.BadName k j) = (k ≡ i) × ((s : Scaling) × I
 IsAtFault t i plan fields (fault.TooMany k) = (k ≡ i) × ((s : Scaling) × IsRecordOf t s fields × MakesTooMany (made_names plan) s)
 IsAtFault t i plan fields fault.Memory = ⊥
 
--- the records before the first at fault make a plan, and that one is at fault in this way
+-- which of its faults a record is tried for first
+abbrev pub turn_of : PlanFault → ℕ
+turn_of (fault.NotUtf8 at) = 0
+turn_of (fault.BadKind k) = 1
+turn_of (fault.UnknownAttribute k) = 2
+turn_of (fault.BadScale k j) = 3
+turn_of (fault.BadValue k r) = 4
+turn_of (fault.BadName k j) = 5
+turn_of (fault.TooMany k) = 6
+turn_of fault.Memory = 7
+
+-- record i, behind the records of this plan, is at fault in this way, and in none that it is tried for before
+pub record IsFirstFault (t : ValueTable) (i : ℕ) (plan : List Scaling) (fields : Record) (e : PlanFault) : Type 0 where
+  pub faulty : IsAtFault t i plan fields e
+  pub first : (f : PlanFault) → turn_of f < turn_of e → IsAtFault t i plan fields f → ⊥
+
+-- record i, behind the records of this plan, names this scaling, and is at fault in no way
+pub record IsFaultless (t : ValueTable) (i : ℕ) (plan : List Scaling) (fields : Record) (s : Scaling) : Type 0 where
+  pub named : IsRecordOf t s fields
+  pub faultless : (e : PlanFault) → IsAtFault t i plan fields e → ⊥
+
+-- the records make this plan: each, behind those before it, names its scaling and is at fault in no way
+pub record MakePlan (t : ValueTable) (records : List Record) (plan : List Scaling) : Type 0 where
+  pub size : length plan ≡ length records
+  pub each : (k : ℕ) → k < length records → IsFaultless t (k + 1) (take k plan) (record_at records k) (scaling_at plan k)
+
+-- the records before this one make a plan, and this is the fault that it is refused for
 pub record IsRefused (t : ValueTable) (records : List Record) (e : PlanFault) : Type 0 where
   pub front : List Record
   pub fields : Record
   pub rest : List Record
   pub plan : List Scaling
   pub whole : records ≡ front ++ fields ∷ rest
-  pub made : records_form t 1 [] front ≡ Ok plan
-  pub faulty : IsAtFault t (length front + 1) plan fields e
+  pub made : MakePlan t front plan
+  pub faulty : IsFirstFault t (length front + 1) plan fields e

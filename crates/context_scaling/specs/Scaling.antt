@@ -8,7 +8,7 @@
 --
 -- With the age 21 for tim and 35 for ann, the interordinal scale of 21 and 30 makes the attributes age <= 21, age <= 30, age >= 21 and
 -- age >= 30, and the rows XXX. of tim and ..XX of ann.
-use Rattle.std.specs.Prelude.{◌≡◌, ◌≤◌, ℕ, ◌==◌, ◌||◌, ◌&&◌, not, Bool, true, false, List, [], ◌∷◌, ◌++◌, Option, Some, None, ℤ, int_le}
+use Rattle.std.specs.Prelude.{◌≡◌, ◌≤◌, ℕ, ◌==◌, ◌||◌, ◌&&◌, not, Bool, true, false, List, ◌++◌, Option, Some, None, ℤ, int_le}
 use Rattle.std.specs.Prelude.{All, codes, map, flat_map, length, slice_get, is_some, bytes_eq}
 use Rattle.std.specs.Fmt.{signed_decimal}
 use Rattle.fca_model.specs.Sets.{Set}

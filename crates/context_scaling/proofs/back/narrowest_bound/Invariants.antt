@@ -1,4 +1,4 @@
-use Rattle.std.proofs.Common.{◌≡◌, ◌+◌, None, drop, fold}
+use Rattle.std.proofs.Common.{◌≡◌, ◌+◌, drop, fold}
 use Rattle.context_scaling.specs.Back.{marked_values, narrowest_bound, narrower_bound_of}
 use Rattle.context_scaling.proofs.back.narrowest_bound.Given as goal
 

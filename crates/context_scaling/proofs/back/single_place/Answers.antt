@@ -1,7 +1,5 @@
-use Rattle.std.proofs.Common.{◌≡◌, ◌∙◌, ◌+◌, ℕ, List, Option, Some, None, true, false, is_some, drop, take, sym, ap, subst}
-use Rattle.context_scaling.specs.Back.{single_place, places_from}
-use Rattle.context_scaling.specs.declared.back.Back.{Back}
-use Rattle.context_scaling.specs.declared.back.Back.TheVariants as back
+use Rattle.std.proofs.Common.{◌∙◌, ◌+◌, drop, take, sym, ap}
+use Rattle.context_scaling.specs.Back.{places_from}
 use Rattle.context_scaling.proofs.NominalLemmas.{found_then, found_again, found_first, places_in, places_out}
 use Rattle.context_scaling.proofs.back.single_place.Goals as goal
 use Rattle.context_scaling.proofs.back.single_place.Goals.{then-has+else-is_some, else-has}

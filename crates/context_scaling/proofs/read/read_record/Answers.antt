@@ -1,12 +1,11 @@
-use Rattle.std.proofs.Common.{◌≡◌, ◌∙◌, ◌≤◌, ◌++◌, ℕ, All, List, Option, None, length, map, not, sym, ap, subst, arith, rules}
-use Rattle.std.specs.List.{position_from}
+use Rattle.std.proofs.Common.{◌≡◌, ◌∙◌, ◌++◌, All, List, None, length, map, sym, ap, subst, arith, rules}
 use Rattle.fca_model.specs.Tables.{Text}
 use Rattle.fca_model.specs.Names.{name_fault}
 use Rattle.context_table.specs.Table.{first_repeat}
 use Rattle.value_tables.specs.Values.{column}
-use Rattle.context_scaling.specs.Scaling.{each_relation, is_scalable, mark_name}
+use Rattle.context_scaling.specs.Scaling.{each_relation, mark_name}
 use Rattle.context_scaling.specs.declared.scales.ScaleValue.{ScaleValue}
-use Rattle.context_scaling.proofs.ReadLemmas.{all_scalable, never_some}
+use Rattle.context_scaling.proofs.ReadLemmas.{all_scalable}
 use Rattle.context_scaling.proofs.read.read_record.Goals as goal
 
 pub returns-clause-fits : goal.returns-clause-fits

@@ -1,6 +1,6 @@
-use Rattle.std.proofs.Common.{◌≡◌, ◌∙◌, ◌<◌, ◌≤◌, ◌+◌, List, length, take, get_or, sym, ap, arith, take_all}
+use Rattle.std.proofs.Common.{◌≡◌, ◌∙◌, ◌<◌, ◌≤◌, List, length, take, get_or, sym, ap, arith, take_all}
 use Rattle.value_tables.specs.Values.{object_at}
-use Rattle.context_scaling.specs.Scaling.{Scaling, made_names, names_of}
+use Rattle.context_scaling.specs.Scaling.{Scaling, made_names}
 use Rattle.context_scaling.proofs.ScaleLemmas.{names_within, row_length}
 use Rattle.context_scaling.proofs.scaling.object_row.Goals as goal
 

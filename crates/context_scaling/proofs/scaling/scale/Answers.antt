@@ -1,4 +1,4 @@
-use Rattle.std.proofs.Common.{◌≡◌, ◌∙◌, List, None, ap, ap₂}
+use Rattle.std.proofs.Common.{◌∙◌, List, None, ap, ap₂}
 use Rattle.fca_model.specs.Context.{Context}
 use Rattle.fca_model.specs.Tables.{Text, NamedContext}
 use Rattle.context_scaling.proofs.scaling.scale.Goals as goal
