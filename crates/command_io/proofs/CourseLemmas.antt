@@ -1,12 +1,12 @@
 -- What is promised of an exploration follows from the laws of its steps: each front of a legal history is one too, and so each
 -- reply is the one at its moment.
 use Rattle.std.proofs.Common.{◌≡◌, ◌↔◌, ◌++◌, ◌∷◌, [], ℕ, Bool, List, Option, Some, None, cond, length, eqb, nat_le, true, false, refl, sym}
-use Rattle.std.proofs.Common.{ap, ◌∙◌, subst, append_assoc}
+use Rattle.std.proofs.Common.{◌==◌, ap, ◌∙◌, subst, append_assoc, append-nil}
 use Rattle.std.proofs.lemmas.Bool.{and_parts}
 use Rattle.std.specs.List.{list_all}
 use Rattle.fca_model.specs.Tables.{NamedContext}
 use Rattle.fca_model.specs.Exploration.{State, SetReply, SetEntry, SetHold, Settings, is_expert, open_in, given_back, holders_of, all_held}
-use Rattle.fca_model.specs.Exploration.{least_held, asked, draw_reply, reply_to, state_after, events_of, IsLegal}
+use Rattle.fca_model.specs.Exploration.{least_held, asked, draw_reply, reply_to, state_after, events_of, expert_of, own, IsLegal}
 use Rattle.fca_model.specs.declared.Event.TheVariants.{Draw}
 use Rattle.fca_model.specs.declared.Reply.TheVariants.{Ask, AllHeld, Done}
 use Rattle.fca_model.specs.Context.{Context}
@@ -24,7 +24,7 @@ use Rattle.explore_state.specs.History.{Opening, opening_state}
 use Rattle.explore_state.specs.Kept.{IsKept}
 use Rattle.explore_state.proofs.KeptLemmas.{kept_known, kept_valid}
 use Rattle.explore_state.proofs.CourseLemmas.{basis_is}
-use Rattle.command_io.specs.Explorations.{opening_of, IsOnCourse, IsAsked, IsExplored}
+use Rattle.command_io.specs.Explorations.{Recorded, opening_of, IsOnCourse, IsAsked, SeesLegalHistories, IsExplored}
 
 -- ---- moments
 
@@ -81,6 +81,26 @@ done-then s H before after e reply legal split =
     let law = draw_done (state_after s (events_of before)) e in
     (λ done. law.0 (sym output ∙ done), λ none. output ∙ law.1 none)
 
+-- ---- what an expert has seen
+
+-- between what it has seen and what is left of the journal stand entries of others
+sees-on : (r : Recorded) (e : ℕ) (seen between rest : List SetEntry) → IsLegal (opening_state r.opening) r.journal
+    → r.journal ≡ (seen ++ between) ++ rest
+    → SeesLegalHistories r seen (own rest e)
+sees-on r e seen between [] legal split = (between, split ∙ append-nil (seen ++ between))
+sees-on r e seen between (entry ∷ rest) legal split =
+    let s : State = opening_state r.opening in
+    let next : List SetEntry = (seen ++ between) ++ entry ∷ [] in
+    let joined : r.journal ≡ next ++ rest = split ∙ sym (append_assoc (seen ++ between) (entry ∷ []) rest) in
+    elim (expert_of entry.event == e) as (λ b. SeesLegalHistories r seen (cond b (entry ∷ own rest e) (own rest e))) [
+      | true ↦ (
+        between,
+        legal_front s next rest (subst (IsLegal s) joined legal),
+        sees-on r e next [] rest legal (joined ∙ ap (λ l. l ++ rest) (sym (append-nil next))),
+      )
+      | false ↦ sees-on r e seen (between ++ entry ∷ []) rest legal (joined ∙ ap (λ l. l ++ rest) (append_assoc seen between (entry ∷ [])))
+    ]
+
 -- ---- all that is promised
 
 -- what every row respects, of sets as wide as the rows, holds
@@ -113,6 +133,7 @@ legal-course table experts settings H expert respecting wide legal =
       legal = legal;
       moments = λ before after split. moment-then s H before after
           (opening_valid table.context table.objects settings respecting) legal split;
+      seen = λ e. sees-on (record { opening = o; journal = H }) e [] [] H legal refl;
       asked = λ before after e q split. asked-then s H before after e q legal split;
       done = λ before after e reply split. done-then s H before after e reply legal split;
       basis = λ none. basis_is o H now.context now.accepted now.holds kept known none;

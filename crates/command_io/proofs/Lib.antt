@@ -3,4 +3,5 @@ pub mod ErrLemmas
 pub mod ReadingLemmas
 pub mod KnownLemmas
 pub mod QuietLemmas
+pub mod FetchLemmas
 mod Examples

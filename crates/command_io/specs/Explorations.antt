@@ -7,7 +7,7 @@ use Rattle.fca_model.specs.Implications.{Rule}
 use Rattle.fca_model.specs.Questions.{waiting, open_questions}
 use Rattle.fca_model.specs.Invariant.{Among, IsValid}
 use Rattle.fca_model.specs.Exploration.{SetEntry, SetReply, Settings, State, open_in, given_back, holders_of, least_held, state_after}
-use Rattle.fca_model.specs.Exploration.{events_of, IsLegal}
+use Rattle.fca_model.specs.Exploration.{events_of, own, IsLegal}
 use Rattle.fca_model.specs.declared.Event.TheVariants.{Draw}
 use Rattle.fca_model.specs.declared.Reply.TheVariants.{Ask, Done}
 use Rattle.explore_state.specs.History.{Opening, History, opening_state}
@@ -53,13 +53,22 @@ pub record IsAsked (s : State) (e : ℕ) (q : Rule) : Type 0 where
       (open_in s) ≡ true
   pub first : least_held (given_back e s.holds) (open_in s) ≡ Some q
 
--- Its journal is one legal history, and after each front of it the state is on course. A draw was answered Done exactly where no question
--- was open at that moment, and one that was answered by a question was asked one that was open then. Where none is open at the end, the
--- accepted implications are the basis of the recorded context beside what is known: they hold, all that holds follows, and no equivalent
--- list has fewer
+-- An expert who has seen this front of the journal makes these entries later. At each of them it has seen a legal history, which goes on from
+-- what it had seen before, maybe with entries of others, and ends in the entry. The journal goes on from the last
+abbrev pub SeesLegalHistories : Recorded → List SetEntry → List SetEntry → Type 0
+SeesLegalHistories r seen [] = (later : List SetEntry) × (r.journal ≡ seen ++ later)
+SeesLegalHistories r seen (entry ∷ entries) =
+    (between : List SetEntry) × IsLegal (opening_state r.opening) ((seen ++ between) ++ entry ∷ [])
+    × SeesLegalHistories r ((seen ++ between) ++ entry ∷ []) entries
+
+-- Its journal is one legal history, and after each front of it the state is on course. What each expert has seen grows by legal histories. A
+-- draw was answered Done exactly where no question was open at that moment, and one that was answered by a question was asked one that was
+-- open then. Where none is open at the end, the accepted implications are the basis of the recorded context beside what is known: they hold,
+-- all that holds follows, and no equivalent list has fewer
 pub record IsExplored (r : Recorded) : Type 0 where
   pub legal : IsLegal (opening_state r.opening) r.journal
   pub moments : (before after : List SetEntry) → r.journal ≡ before ++ after → IsOnCourse (state_at r before)
+  pub seen : (e : ℕ) → SeesLegalHistories r [] (own r.journal e)
   pub asked : (before after : List SetEntry) (e : ℕ) (q : Rule) → r.journal ≡ before ++ record { event = Draw e; reply = Ask q } ∷ after
       → IsAsked (state_at r before) e q
   pub done : (before after : List SetEntry) (e : ℕ) (reply : SetReply)

@@ -2,7 +2,8 @@
 
 ghost use Rattle.std.specs.Prelude.{◌≡◌, ◌≤◌, ℕ, List, IfOk, IfErr, Some, length};
 ghost use Rattle.fca_model.specs.declared.TheConstants.{FILE_BYTES};
-ghost use Rattle.fca_io.specs.Faults.{Rose};
+ghost use Rattle.std.specs.Option.{option_map};
+ghost use Rattle.fca_io.specs.Faults.{Rose, one_more};
 ghost use Rattle.value_tables.specs.Form.{values_form};
 ghost use Rattle.context_scaling.specs.PlanForm.{plan_form};
 ghost use Rattle.context_scaling.specs.Scaling.{Fits};
@@ -31,6 +32,7 @@ pub fn load_values<H: Shelf>(
     ensures cause { IfErr result (IsValuesStop (H.tells shelf.old file.now)
         (Rose (H.faults shelf.old file.now) (H.faults shelf.new file.now)) origin) }
     ensures quiet { UnlessFault result (SameCounts (H.faults shelf.old) (H.faults shelf.new)) }
+    ensures counted { H.fetches shelf.new ≡ option_map one_more (H.fetches shelf.old) }
     ensures kept { (other : List ℕ) → H.tells shelf.new other ≡ H.tells shelf.old other }
     ensures later { (other : List ℕ) → H.faults shelf.old other ≤ H.faults shelf.new other }
 {
@@ -69,6 +71,7 @@ pub fn load_plan<H: Shelf>(
     ensures cause { IfErr result (IsPlanStop values.now (H.tells shelf.old file.now)
         (Rose (H.faults shelf.old file.now) (H.faults shelf.new file.now)) origin) }
     ensures quiet { UnlessFault result (SameCounts (H.faults shelf.old) (H.faults shelf.new)) }
+    ensures counted { H.fetches shelf.new ≡ option_map one_more (H.fetches shelf.old) }
     ensures kept { (other : List ℕ) → H.tells shelf.new other ≡ H.tells shelf.old other }
     ensures later { (other : List ℕ) → H.faults shelf.old other ≤ H.faults shelf.new other }
 {

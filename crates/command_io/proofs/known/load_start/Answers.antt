@@ -1,5 +1,5 @@
-use Rattle.std.proofs.Common.{inl, inr}
-use Rattle.std.specs.Prelude.{option_copied}
+use Rattle.std.proofs.Common.{inl, inr, suc, arith}
+use Rattle.std.specs.Prelude.{length, option_copied, option_to_list}
 use Rattle.command_io.specs.Endings.{IsRefusal}
 use Rattle.command_io.specs.Forms.{table_read}
 use Rattle.command_io.specs.Known.{known_read, start_read, IsStartStop}
@@ -10,6 +10,7 @@ use Rattle.command_io.proofs.ErrLemmas.{err-passed}
 use Rattle.command_io.proofs.ReadingLemmas.{refused_then}
 use Rattle.command_io.proofs.KnownLemmas.{Rises-before, IsKnownStop-same, start-read, refused-start}
 use Rattle.command_io.proofs.QuietLemmas.{fault-later, fault-passed, SameCounts-then}
+use Rattle.command_io.proofs.FetchLemmas.{fetched_one, fetched_within, fetched_next}
 use Rattle.command_io.proofs.known.load_start.Goals as goal
 
 pub returns-in_err-table-clause-refused : goal.returns-in_err-table-clause-refused
@@ -83,3 +84,21 @@ pub returns-clause-quiet : goal.returns-clause-quiet
 returns-clause-quiet g c =
     SameCounts-then (g.H.Shelf.faults c.args.shelf.now) (g.H.Shelf.faults c.load_table.new.shelf)
     (g.H.Shelf.faults c.load_known.new.shelf) c.in_ok-table.ensures.quiet c.in_ok-known.ensures.quiet
+
+-- ---- counts of fetches
+
+pub returns-in_err-table-clause-few : goal.returns-in_err-table-clause-few
+returns-in_err-table-clause-few g c =
+    let later = length (option_to_list (option_copied c.args.known)) in
+    fetched_within (g.H.Shelf.fetches c.args.shelf.now) (g.H.Shelf.fetches c.load_table.new.shelf) 1 (suc later) (omega arith)
+    (fetched_one (g.H.Shelf.fetches c.args.shelf.now) (g.H.Shelf.fetches c.load_table.new.shelf) c.in_err-table.ensures.counted)
+
+pub returns-in_err-known-clause-few : goal.returns-in_err-known-clause-few
+returns-in_err-known-clause-few g c =
+    fetched_next (g.H.Shelf.fetches c.args.shelf.now) (g.H.Shelf.fetches c.load_table.new.shelf) (g.H.Shelf.fetches c.load_known.new.shelf)
+    (length (option_to_list (option_copied c.args.known))) c.in_ok-table.ensures.counted c.in_err-known.ensures.few
+
+pub returns-clause-few : goal.returns-clause-few
+returns-clause-few g c =
+    fetched_next (g.H.Shelf.fetches c.args.shelf.now) (g.H.Shelf.fetches c.load_table.new.shelf) (g.H.Shelf.fetches c.load_known.new.shelf)
+    (length (option_to_list (option_copied c.args.known))) c.in_ok-table.ensures.counted c.in_ok-known.ensures.few
