@@ -18,12 +18,13 @@ use Rattle.fca_model.specs.Pseudo.{basis_known}
 use Rattle.fca_model.specs.Questions.{has_premise, open_questions}
 use Rattle.fca_model.specs.Exploration.{State, Settings, SetEntry, IsLegal, opening, open_in, state_after, events_of}
 use Rattle.fca_model.specs.Invariant.{IsAccepted, distinct_premises, rows_respect}
-use Rattle.fca_model.proofs.ListLemmas.{list_all-mono, and_true, and_assoc}
+use Rattle.fca_model.proofs.ListLemmas.{list_all-mono, and_true, and_assoc, or_not}
 use Rattle.fca_model.proofs.SetLemmas.{lectic_equal, same-true, same_refl}
 use Rattle.fca_model.proofs.DoneLemmas.{accepted_sorted, accepted_length}
 use Rattle.fca_model.proofs.RunLemmas.{legal_valid}
 use Rattle.fca_model.proofs.ValidLemmas.{opening_valid}
 use Rattle.fca_model.proofs.CourseLemmas.{run_settings}
+use Rattle.fca_model.proofs.SortedLemmas.{before_trans}
 use Rattle.expert_scripts.specs.Transcripts.{transcript}
 use Rattle.report_texts.specs.Reports.{count_line, arrow_lines}
 use Rattle.basis_report.specs.Explorations.{recorded_section, accepted_section, open_section, in_lectic_order, basis_lines, basis_section}
@@ -47,10 +48,6 @@ swap true b c = refl
 swap false true c = refl
 swap false false c = refl
 
-de_morgan : (a b : Bool) → (a || not b) ≡ not (not a && b)
-de_morgan true b = refl
-de_morgan false b = refl
-
 -- ---- one pair more
 
 -- a new premise is added to those that are there
@@ -70,14 +67,6 @@ list_all-insert_entry p P C (e ∷ Es) h =
     go Greater eq d rest = ap (λ b. p (ruled e) && b) rest ∙ swap (p (rule P C)) (p (ruled e)) (list_all p (map ruled Es))
 
 -- ---- in order
-
-is_less : (o : Ordering) → is_lt o ≡ true → o ≡ Less
-is_less Less h = refl
-is_less Equal h = absurd (false≢true h)
-is_less Greater h = absurd (false≢true h)
-
-before_trans : (A B C : Set) → is_lt (lectic_cmp A B) ≡ true → is_lt (lectic_cmp B C) ≡ true → is_lt (lectic_cmp A C) ≡ true
-before_trans A B C h k = ap is_lt (lectic_total.trans A B C (is_less (lectic_cmp A B) h) (is_less (lectic_cmp B C) k))
 
 is_less_at : (A B : Set) → lectic_cmp A B ≡ Greater → is_lt (lectic_cmp B A) ≡ true
 is_less_at A B e = ap is_lt (lectic_total.antisymm B A ∙ ap ordering_reverse e)
@@ -151,7 +140,7 @@ key-insert_entry Q P C Es new apart none =
     key_any : (Q : Set) (Fs : List (Set × Set)) → has_key Q Fs ≡ not (list_all (λ i. not (same i.premise Q)) (map ruled Fs))
     key_any Q [] = refl
     key_any Q (f ∷ Fs) = ap (λ b. same f.0 Q || b) (key_any Q Fs)
-        ∙ de_morgan (same f.0 Q) (list_all (λ i. not (same i.premise Q)) (map ruled Fs))
+        ∙ or_not (same f.0 Q) (list_all (λ i. not (same i.premise Q)) (map ruled Fs))
 
 still_new : (i : Rule) (Es : List (Set × Set)) (J : List Rule) → has_key i.premise Es ≡ false → has_premise J i.premise ≡ false
     → are_new Es J ≡ true

@@ -1,7 +1,9 @@
 -- Where a derivation is sound, the implication follows: what each step adds lies within each set that contains the premise and
 -- respects the list. And where no member adds anything before the conclusion is reached, the set reached respects the list, so the
 -- implication does not follow.
-use Rattle.std.proofs.Common.{◌≡◌, ℕ, zero, suc, ◌+◌, ◌-◌, ◌<◌, ◌≤◌, Bool, true, false, not, ◌&&◌, ◌||◌, cond, Option, Some, None, List, [], ◌∷◌, ◌++◌, length, get_or, position, refl, sym, ap, ap₂, ◌∙◌, subst, arith, inl, inr, eqb, eqb-true, ltb, lt-ltb, option_map, ◌↔◌, drop, append-nil}
+use Rattle.std.proofs.Common.{◌≡◌, ℕ, zero, suc, ◌+◌, ◌-◌, ◌<◌, ◌≤◌, Bool, true, false, not, ◌&&◌, ◌||◌, cond, Option, Some, None, List, [], ◌∷◌}
+use Rattle.std.proofs.Common.{◌++◌, length, get_or, position, refl, sym, ap, ap₂, ◌∙◌, subst, arith, inl, inr, eqb, eqb-true, ltb, lt-ltb, option_map}
+use Rattle.std.proofs.Common.{◌↔◌, drop, append-nil}
 use Rattle.std.proofs.lemmas.Bool.{false≢true, and_parts, and_from, cases_Bool, ltb-true}
 use Rattle.std.proofs.lemmas.List.{append_assoc, length-append, drop_more, get_or_default}
 use Rattle.std.proofs.lemmas.List.Quantifiers.{position-Some}
@@ -11,7 +13,7 @@ use Rattle.fca_model.specs.Sets.{Set, size, within, join}
 use Rattle.fca_model.specs.Implications.{Rule, rule, respects, respects_all, follows}
 use Rattle.fca_model.proofs.SetLemmas.{within_refl, within_trans, strictly_from, size_strict, size_le, length-join, within-join, within-join_right, join_within, all_sets_at, all_sets_from}
 use Rattle.fca_model.proofs.ClosureLemmas.{respects_at, respects_from}
-use Rattle.fca_model.proofs.ListLemmas.{implies_from, implies_at, list_all-mono}
+use Rattle.fca_model.proofs.ListLemmas.{implies_from, implies_at, list_all-mono, not_not, not_implies-parts}
 use Rattle.implication_closure.specs.Closing.{has_width, HaveWidth}
 use Rattle.implication_closure.proofs.ClosingLemmas.{position_none}
 use Rattle.canonical_basis.specs.Derivations.{premise_at, conclusion_at, is_sound, and_then, derivation_within}
@@ -35,16 +37,6 @@ unfolding follows
 sound_follows n J P C steps h = all_sets_from (λ T. not (respects_all J T) || respects T (rule P C)) n
     (λ T w. implies_from (respects_all J T) (respects T (rule P C))
     (λ r. respects_from T (rule P C) (λ inside. sound_reaches J C T r steps P h inside)))
-
--- not (not a || b) gives both a and not b
-broken_parts : (a b : Bool) → not (not a || b) ≡ true → (a ≡ true) × (b ≡ false)
-broken_parts true true h = absurd (false≢true h)
-broken_parts true false h = (refl, refl)
-broken_parts false b h = absurd (false≢true h)
-
-twice : (b : Bool) → not (not b) ≡ true → b ≡ true
-twice true h = refl
-twice false h = absurd (false≢true h)
 
 -- the derivation is sound
 pub derivation_sound : (J : List Rule) (C : Set) (k : ℕ) (X : Set) (steps : List ℕ) → derivation_within k J X C ≡ Some steps
@@ -78,7 +70,7 @@ derivation_sound J C (suc k) X steps h = go (λ i more e. derivation_sound J C k
         rest None e h = absurd (cc)
         rest (Some more) e h =
             let there = position-Some (λ j. not (respects X j)) J i (rule [] []) p in
-            let broken = broken_parts (within (premise_at J i) X) (within (conclusion_at J i) X) there.1 in
+            let broken = not_implies-parts (within (premise_at J i) X) (within (conclusion_at J i) X) there.1 in
             subst (λ s. is_sound J X C s ≡ true) (inside h)
             (and_from (ltb i (length J)) (within (premise_at J i) X && is_sound J (join X (conclusion_at J i)) C more)
             (lt-ltb i (length J) there.0)
@@ -90,7 +82,7 @@ module _ (n : ℕ) (J : List Rule) (wide : HaveWidth n J) (C : Set) where
       → size X < size (join X (conclusion_at J i))
   step_larger X i e p =
       let there = position-Some (λ j. not (respects X j)) J i (rule [] []) p in
-      let broken = broken_parts (within (premise_at J i) X) (within (conclusion_at J i) X) there.1 in
+      let broken = not_implies-parts (within (premise_at J i) X) (within (conclusion_at J i) X) there.1 in
       let widths = and_parts (eqb (length (premise_at J i)) n) (eqb (length (conclusion_at J i)) n)
       (AllPass-from_list_all (has_width n) J wide i (rule [] []) there.0) in
       let D = conclusion_at J i in
@@ -118,7 +110,7 @@ module _ (n : ℕ) (J : List Rule) (wide : HaveWidth n J) (C : Set) where
         X,
         e,
         within_refl X,
-        list_all-mono (λ i. not (not (respects X i))) (respects X) (λ i t. twice (respects X i) t) J (position_none
+        list_all-mono (λ i. not (not (respects X i))) (respects X) (λ i t. not_not (respects X i) t) J (position_none
             (λ i. not (respects X i)) J p),
         b,
       )

@@ -2,7 +2,8 @@
 -- pseudo-intent within it is a premise, whose implication it respects; and each pseudo-intent is a premise, since it is not closed,
 -- so it breaks an implication, and the premise of that one, were it smaller, would be a pseudo-intent within it, whose closure it contains.
 -- One step of the reduction: the premise grows to its closure under the others, and is dropped where that contains its conclusion.
-use Rattle.std.proofs.Common.{◌≡◌, ℕ, zero, suc, ◌<◌, Bool, true, false, not, ◌&&◌, ◌||◌, List, [], ◌∷◌, ◌++◌, map, length, refl, sym, ap, ap₂, ◌∙◌, subst, arith, inl, inr, eqb, eqb-true, eq-eqb, ltb, lt-ltb, ◌-◌, take, drop}
+use Rattle.std.proofs.Common.{◌≡◌, ℕ, zero, suc, ◌<◌, Bool, true, false, not, ◌&&◌, ◌||◌, List, [], ◌∷◌, ◌++◌, map, length, refl, sym, ap, ap₂, ◌∙◌}
+use Rattle.std.proofs.Common.{subst, arith, inl, inr, eqb, eqb-true, eq-eqb, ltb, lt-ltb, ◌-◌, take, drop}
 use Rattle.std.proofs.lemmas.Bool.{false≢true, and_parts, and_from, cases_Bool, or_cases, or_left, or_right, not-true, ltb-true}
 use Rattle.std.proofs.lemmas.List.{take_all, length-drop}
 use Rattle.std.proofs.lemmas.List.Folds.{list_all-append, list_all-map}

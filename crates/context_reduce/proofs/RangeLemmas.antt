@@ -1,31 +1,13 @@
 -- Tests of neighbouring numbers, of all elements of a list, and of filters of neighbouring numbers.
-use Rattle.std.proofs.Common.{◌≡◌, ℕ, zero, suc, ◌+◌, ◌<◌, ◌≤◌, Bool, true, false, not, ◌||◌, List, [], ◌∷◌, ◌++◌, cond, take, filter}
-use Rattle.std.proofs.Common.{length, get_or, refl, sym, ap, ◌∙◌, arith, inl, inr, add-one, All, eqb, eq-eqb}
-use Rattle.std.proofs.lemmas.Bool.{false≢true, and_parts, and_from, cases_Bool, cases_lt, not-false, or_cases, or_left, or_right}
+use Rattle.std.proofs.Common.{◌≡◌, ℕ, zero, suc, ◌+◌, ◌<◌, Bool, true, false, not, ◌||◌, List, [], ◌∷◌, ◌++◌, cond, take, filter}
+use Rattle.std.proofs.Common.{length, get_or, refl, sym, ap, ◌∙◌, arith, inl, inr, All, eqb, eq-eqb}
+use Rattle.std.proofs.lemmas.Bool.{false≢true, and_parts, and_from, cases_Bool, not-false, or_cases, or_left, or_right}
 use Rattle.std.proofs.lemmas.List.Elements.{All-get_or}
 use Rattle.std.specs.List.{list_all, list_any, range_with_len}
 use Rattle.fca_model.specs.Sets.{Set, same}
 use Rattle.fca_model.proofs.ListLemmas.{list_all-filter, list_any-not, implies_at}
 use Rattle.fca_model.proofs.SetLemmas.{same_refl, same-true}
-
-pub range_all_from : (p : ℕ → Bool) (a n : ℕ) → ((i : ℕ) → a ≤ i → i < a + n → p i ≡ true) → list_all p (range_with_len a n) ≡ true
-range_all_from p a zero h = refl
-range_all_from p a (suc n) h = and_from (p a) (list_all p (range_with_len (a + 1) n)) (h a (omega arith) (omega arith))
-    (range_all_from p (a + 1) n (λ i l u. h i (omega arith) (omega arith)))
-
-pub range_all_at : (p : ℕ → Bool) (a n : ℕ) → list_all p (range_with_len a n) ≡ true → (i : ℕ) → a ≤ i → i < a + n → p i ≡ true
-range_all_at p a zero h i l u = absurd (omega arith)
-range_all_at p a (suc n) h i l u =
-    let parts = and_parts (p a) (list_all p (range_with_len (a + 1) n)) h in
-    elim (cases_lt a i) [
-      | inl lt ↦ range_all_at p (a + 1) n parts.1 i (omega arith) (omega arith)
-      | inr le ↦ let e : i ≡ a = omega arith in ap p e ∙ parts.0
-    ]
-
-pub range_more : (a n j : ℕ) → a + n ≡ j → range_with_len a (n + 1) ≡ range_with_len a n ++ j ∷ []
-range_more a zero j e = let h : a ≡ j = omega arith in ap (λ x. x ∷ []) h
-range_more a (suc n) j e = ap (range_with_len a) (add-one (suc n))
-    ∙ ap (λ xs. a ∷ xs) (ap (range_with_len (a + 1)) (sym (add-one n)) ∙ range_more (a + 1) n j (omega arith))
+use Rattle.fca_model.proofs.RangeLemmas.{range_all_at, range_more}
 
 -- a number that passes both tests is found among those that pass the first
 pub range_any : (p q : ℕ → Bool) (n i : ℕ) → i < n → q i ≡ true → p i ≡ true → list_any p (filter q (range_with_len 0 n)) ≡ true

@@ -9,7 +9,7 @@ use Rattle.fca_model.specs.declared.TheConstants.{MAX_ATTRIBUTES}
 use Rattle.text_pieces.specs.Lists.{EachName}
 use Rattle.csv_context.specs.Records.{Record}
 use Rattle.value_tables.specs.Form.{first_bad, is_field}
-use Rattle.value_tables.specs.Telling.{then, unless}
+use Rattle.text_pieces.specs.Telling.{then, unless}
 use Rattle.value_tables.specs.Values.{ValueTable, column, object_at, value_of}
 use Rattle.context_scaling.specs.PlanForm.{few_names, kind_form, kind_of, names_form, or_fault, place_of, record_form}
 use Rattle.context_scaling.specs.PlanForm.{scale_value, scaling_form, scaling_of, value_kind}

@@ -20,7 +20,7 @@ use Rattle.text_pieces.specs.Lists.{EachName}
 use Rattle.csv_context.specs.Records.{Record}
 use Rattle.value_tables.specs.Form.{first_bad, is_field, is_name}
 use Rattle.value_tables.specs.Numbers.{number_of}
-use Rattle.value_tables.specs.Telling.{then, unless}
+use Rattle.text_pieces.specs.Telling.{then, unless}
 use Rattle.value_tables.specs.Values.{ValueTable, column, no_object, object_at, value_of}
 use Rattle.value_tables.specs.declared.fields.FieldKind.{FieldKind}
 use Rattle.context_scaling.specs.PlanForm.{add_names, few_names, kind_form, kind_of, names_form, or_fault, place_of}

@@ -7,7 +7,7 @@ use Rattle.std.specs.Str.Lossy.{utf8_valid_len}
 use Rattle.fca_model.specs.Tables.{Text}
 use Rattle.fca_model.specs.declared.TheConstants.{MAX_ATTRIBUTES}
 use Rattle.csv_context.specs.Records.{Record, csv_records}
-use Rattle.value_tables.specs.Telling.{then, unless}
+use Rattle.text_pieces.specs.Telling.{then, unless}
 use Rattle.value_tables.specs.Numbers.{number_of}
 use Rattle.value_tables.specs.Values.{ValueTable, column}
 use Rattle.value_tables.specs.Form.{first_bad, is_name}

@@ -5,7 +5,7 @@ ghost use Rattle.std.specs.Str.Lossy.{utf8_valid_len};
 ghost use Rattle.text_pieces.specs.Lists.{EachName};
 ghost use Rattle.csv_context.specs.Records.{csv_records};
 ghost use Rattle.value_tables.specs.Values.{ValueTable};
-ghost use Rattle.value_tables.specs.Telling.{Tells};
+ghost use Rattle.text_pieces.specs.Telling.{Tells};
 ghost use Rattle.context_scaling.specs.Scaling.{Scaling};
 ghost use Rattle.context_scaling.specs.PlanForm.{plan_form};
 ghost use Rattle.context_scaling.specs.Refusals.{IsRefused, MakePlan};

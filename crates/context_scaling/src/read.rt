@@ -7,7 +7,7 @@ ghost use Rattle.context_table.specs.Table.{first_repeat};
 ghost use Rattle.fca_model.specs.Names.{name_fault};
 ghost use Rattle.csv.specs.Records.{AllText, fields_of};
 ghost use Rattle.csv_context.specs.Records.{IsOpen, csv_records, records_left};
-ghost use Rattle.value_tables.specs.Telling.{Tells, TellsBy};
+ghost use Rattle.text_pieces.specs.Telling.{Tells, TellsBy};
 ghost use Rattle.value_tables.specs.Values.{column};
 ghost use Rattle.value_tables.specs.Form.{first_bad, is_field};
 ghost use Rattle.context_scaling.specs.Scaling.{Fits, FitsBehind, each_relation, is_scalable, mark_name, names_of, sign};

@@ -10,16 +10,12 @@ use Rattle.std.proofs.lemmas.Nat.Bits.{bit_at-zero, bit_at-pow_same, bit_at-pow_
 use Rattle.std.proofs.Math.Bool.{or-false, or_comm, and-false}
 use Rattle.fca_model.specs.Sets.{Set}
 use Rattle.fca_model.specs.Tables.{Text}
+use Rattle.csv_context.proofs.Texts.{both-true}
 use Rattle.text_pieces.specs.Blanks.{trim}
 use Rattle.csv_context.specs.Lines.{is_comma}
 use Rattle.csv_context.specs.Form.{mark_of}
 use Rattle.csv_context.specs.Cells.{TakesCell, is_cross, is_short}
 use Rattle.csv_context.proofs.LineLemmas.{next_field-none, next_field-one}
-
--- if both hold, each does
-pub both : (a b : Bool) → (a && b) ≡ true → (a ≡ true) × (b ≡ true)
-both true b h = (refl, h)
-both false b h = cc h
 
 -- ---- the first cell
 

@@ -13,7 +13,8 @@ use Rattle.std.specs.List.{list_any}
 use Rattle.context_table.specs.Table.{first_repeat, repeat_from}
 use Rattle.text_pieces.proofs.ItemLemmas.{drop-item}
 use Rattle.csv_context.specs.Records.{Record}
-use Rattle.csv_context.specs.Form.{TellsBy, then, attribute_form, attributes_form, cell_form, row_form, object_form, objects_form}
+use Rattle.text_pieces.specs.Telling.{TellsBy, then}
+use Rattle.csv_context.specs.Form.{attribute_form, attributes_form, cell_form, row_form, object_form, objects_form}
 use Rattle.csv_context.specs.Cells.{ReadTo}
 use Rattle.csv_context.specs.declared.read.Object.{Object}
 use Rattle.csv_context.specs.declared.CsvFault.{CsvFault}
@@ -26,7 +27,7 @@ Err-passed (Ok x) e passed = cc passed.0
 Err-passed (Err f) e passed = ap Err passed.1
 
 pub TellsBy-passed : {X Y : Type 0} (view : X → Y) (told : Result X CsvFault) (form : Result Y CsvFault) (e : CsvFault)
-    → IsErr told × IsErrAnd told (λ passed. passed ≡ e) → (e ≡ fault.Memory) ⊎ (form ≡ Err e) → TellsBy view told form
+    → IsErr told × IsErrAnd told (λ passed. passed ≡ e) → (e ≡ fault.Memory) ⊎ (form ≡ Err e) → TellsBy fault.Memory view told form
 TellsBy-passed view (Ok x) form e passed why = cc passed.0
 TellsBy-passed view (Err f) form e passed why = rw passed.1 why
 

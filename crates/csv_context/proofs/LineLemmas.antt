@@ -78,7 +78,7 @@ fields_in-whole (c ∷ line) before = elim (cases_Bool (is_comma c)) [
   | inr isnt ↦ rw (isnt, fields_in-whole line (λ j low lt. before (suc j) (omega arith) (omega arith))) refl
 ]
 
-fields_in-some : (line : Text) → 0 < length (fields_in line)
+pub fields_in-some : (line : Text) → 0 < length (fields_in line)
 fields_in-some [] = omega arith
 fields_in-some (b ∷ line) = elim (cases_Bool (is_comma b)) [
   | inl is ↦ rw is (omega arith)

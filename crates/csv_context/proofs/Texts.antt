@@ -176,7 +176,7 @@ encode-high c h = by-size (ltb c 128) (ltb c 2048) (ltb c 65536) _ _ _ _ (le-ltb
     (omega arith, (omega arith, tt)) (omega arith, (omega arith, (omega arith, tt)))
     (omega arith, (omega arith, (omega arith, (omega arith, tt))))
 
-both-true : (x y : Bool) → (x && y) ≡ true → (x ≡ true) × (y ≡ true)
+pub both-true : (x y : Bool) → (x && y) ≡ true → (x ≡ true) × (y ≡ true)
 both-true true y e = (refl, e)
 both-true false y e = cc e
 

@@ -10,23 +10,11 @@ use Rattle.fca_model.specs.declared.TheConstants.{MAX_ATTRIBUTES, MAX_OBJECTS}
 use Rattle.fca_model.specs.declared.names.NameFault.{NameFault}
 use Rattle.fca_model.specs.declared.names.NameFault.TheVariants as name
 use Rattle.text_pieces.specs.Blanks.{trim}
+use Rattle.text_pieces.specs.Telling.{then}
 use Rattle.csv_context.specs.Records.{Record, csv_records}
 use Rattle.csv_context.specs.declared.read.Object.{Object}
 use Rattle.csv_context.specs.declared.CsvFault.{CsvFault}
 use Rattle.csv_context.specs.declared.CsvFault.TheVariants as fault
-
--- the answer of the code is what the form says, seen in this way, unless memory ran out
-abbrev pub TellsBy : {X Y : Type 0} → (X → Y) → Result X CsvFault → Result Y CsvFault → Type 0
-TellsBy view told form = MatchResult told (λ x. form ≡ Ok (view x)) (λ e. (e ≡ fault.Memory) ⊎ (form ≡ Err e))
-
--- the answer of the code is what the form says, unless memory ran out
-abbrev pub Tells : {X : Type 0} → Result X CsvFault → Result X CsvFault → Type 0
-Tells told form = TellsBy (λ x. x) told form
-
--- goes on with what was read
-abbrev pub then : {X Y : Type 0} → Result X CsvFault → (X → Result Y CsvFault) → Result Y CsvFault
-then (Ok x) next = next x
-then (Err e) next = Err e
 
 -- ---- names
 

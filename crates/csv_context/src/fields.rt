@@ -5,7 +5,7 @@ ghost use Rattle.std.specs.List.{list_any};
 ghost use Rattle.csv.specs.Records.{AllText, fields_of};
 ghost use Rattle.csv_context.specs.Lines.{fields_in};
 ghost use Rattle.csv_context.specs.Form as form;
-ghost use Rattle.csv_context.specs.Form.{Tells};
+ghost use Rattle.text_pieces.specs.Telling.{Tells};
 
 use crate::CsvFault;
 use crate::cells::{begin_row, put_mark};
@@ -42,7 +42,7 @@ pub fn text_of(field: &[u8]) -> &str
 /// The name in field `j` of record `i`.
 pub fn name_of(alloc: Global, i: usize, j: usize, field: &[u8]) -> Result<Name, CsvFault>
     requires { IsUtf8 field.now }
-    ensures { Tells result (form.name_form i j field.now) }
+    ensures { Tells CsvFault.Memory result (form.name_form i j field.now) }
 {
     match Name::new(alloc, text_of(field)) {
         Ok(name) => Ok(name),
@@ -61,7 +61,7 @@ pub fn attribute_of(
     field: &[u8],
 ) -> Result<Name, CsvFault>
     requires { IsUtf8 field.now }
-    ensures form { Tells result (form.attribute_form seen.now.keys j field.now) }
+    ensures form { Tells CsvFault.Memory result (form.attribute_form seen.now.keys j field.now) }
     ensures new { IfOk result (λ name. list_any (bytes_eq name) seen.now.keys ≡ false) }
 {
     let name = name_of(alloc, 1, j, field)?;

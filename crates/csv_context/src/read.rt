@@ -6,7 +6,7 @@ ghost use Rattle.csv_context.specs.Records.{IsOpen, csv_records, records_left};
 ghost use Rattle.context_table.specs.Table.{first_repeat};
 ghost use Rattle.csv_context.specs.Lines.{IsUnquoted, fields_in, records_in};
 ghost use Rattle.csv_context.specs.Form as form;
-ghost use Rattle.csv_context.specs.Form.{Tells, TellsBy};
+ghost use Rattle.text_pieces.specs.Telling.{Tells, TellsBy};
 
 use crate::CsvFault;
 use crate::fields::{attribute_of, field_at, name_of, row_in, row_of};
@@ -36,7 +36,7 @@ pub struct Objects {
 
 /// Reads the table that the bytes of a file write.
 pub fn read_csv(alloc: Global, bytes: &[u8]) -> Result<Table, CsvFault>
-    ensures { Tells result (form.csv_form bytes.now) }
+    ensures { Tells CsvFault.Memory result (form.csv_form bytes.now) }
 {
     match str::from_utf8(bytes) {
         Ok(text) => read_text(alloc, text),
@@ -45,7 +45,7 @@ pub fn read_csv(alloc: Global, bytes: &[u8]) -> Result<Table, CsvFault>
 }
 
 fn read_text(alloc: Global, text: &str) -> Result<Table, CsvFault>
-    ensures { Tells result (form.table_form (csv_records text.now)) }
+    ensures { Tells CsvFault.Memory result (form.table_form (csv_records text.now)) }
 {
     match unquoted_bytes(text) {
         Some(bytes) => read_lines(alloc, bytes),
@@ -56,7 +56,7 @@ fn read_text(alloc: Global, text: &str) -> Result<Table, CsvFault>
 /// Reads the table whose records are lines.
 fn read_lines(alloc: Global, bytes: &[u8]) -> Result<Table, CsvFault>
     requires { IsUnquoted bytes.now }
-    ensures { Tells result (form.table_form (records_in bytes.now)) }
+    ensures { Tells CsvFault.Memory result (form.table_form (records_in bytes.now)) }
 {
     let Some((header, rest)) = next_line(bytes) else {
         return Err(CsvFault::NoHeader);
@@ -69,7 +69,7 @@ fn read_lines(alloc: Global, bytes: &[u8]) -> Result<Table, CsvFault>
 }
 
 fn read_records(alloc: Global, text: &str) -> Result<Table, CsvFault>
-    ensures { Tells result (form.table_form (csv_records text.now)) }
+    ensures { Tells CsvFault.Memory result (form.table_form (csv_records text.now)) }
 {
     let mut reader = open(alloc, text);
     read_left(alloc, &mut reader)
@@ -78,7 +78,7 @@ fn read_records(alloc: Global, text: &str) -> Result<Table, CsvFault>
 /// Reads the table of the records that the reader has left.
 fn read_left(alloc: Global, reader: &mut Reader<&[u8]>) -> Result<Table, CsvFault>
     requires { IsOpen reader.old }
-    ensures { Tells result (form.table_form (records_left reader.old)) }
+    ensures { Tells CsvFault.Memory result (form.table_form (records_left reader.old)) }
 {
     let mut record = ByteRecord::new(alloc);
     if !next_record(reader, &mut record)? {
@@ -96,7 +96,7 @@ fn table_of(alloc: Global, attributes: Vec<Name>, objects: Objects) -> Result<Ta
     requires few_objects { vec_len objects.names ≤ MAX_OBJECTS }
     requires counted { vec_len objects.names ≡ length objects.rows.rows }
     requires width { objects.rows.width ≡ vec_len attributes }
-    ensures { Tells result (Ok (record { title = None; objects = objects.names.items; attributes = attributes.items; context = objects.rows })) }
+    ensures { Tells CsvFault.Memory result (Ok (record { title = None; objects = objects.names.items; attributes = attributes.items; context = objects.rows })) }
 {
     match Table::new(alloc, None, objects.names, attributes, objects.rows) {
         Ok(table) => Ok(table),
@@ -108,7 +108,7 @@ fn table_of(alloc: Global, attributes: Vec<Name>, objects: Objects) -> Result<Ta
 /// Reads the names of the attributes.
 fn read_header(alloc: Global, fields: &ByteRecord) -> Result<Vec<Name>, CsvFault>
     requires { AllText (fields_of fields.now) }
-    ensures form { TellsBy (λ names. names.items) result (form.header_form (fields_of fields.now)) }
+    ensures form { TellsBy CsvFault.Memory (λ names. names.items) result (form.header_form (fields_of fields.now)) }
     ensures few { IfOk result (λ names. vec_len names ≤ MAX_ATTRIBUTES) }
     ensures differing { IfOk result (λ names. first_repeat names.items ≡ None) }
 {
@@ -126,7 +126,7 @@ fn read_header(alloc: Global, fields: &ByteRecord) -> Result<Vec<Name>, CsvFault
 fn read_attributes(alloc: Global, fields: &ByteRecord) -> Result<IndexSet<Name>, CsvFault>
     requires text { AllText (fields_of fields.now) }
     requires some { 0 < length (fields_of fields.now) }
-    ensures form { TellsBy (λ names. names.keys) result (form.attributes_form [] 2 (drop 1 (fields_of fields.now))) }
+    ensures form { TellsBy CsvFault.Memory (λ names. names.keys) result (form.attributes_form [] 2 (drop 1 (fields_of fields.now))) }
     ensures counted { IfOk result (λ names. length names.keys + 1 ≡ length (fields_of fields.now)) }
     ensures differing { IfOk result (λ names. first_repeat names.keys ≡ None) }
 {
@@ -141,7 +141,7 @@ fn read_attributes(alloc: Global, fields: &ByteRecord) -> Result<IndexSet<Name>,
 fn read_objects(alloc: Global, width: u32, reader: &mut Reader<&[u8]>) -> Result<Objects, CsvFault>
     requires open { IsOpen reader.old }
     requires few { width ≤ MAX_ATTRIBUTES }
-    ensures form { TellsBy (λ objects. (objects.names.items, objects.rows.rows)) result (form.objects_form width 2 ([], []) (records_left reader.old)) }
+    ensures form { TellsBy CsvFault.Memory (λ objects. (objects.names.items, objects.rows.rows)) result (form.objects_form width 2 ([], []) (records_left reader.old)) }
     ensures few { IfOk result (λ objects. vec_len objects.names ≤ MAX_OBJECTS) }
     ensures counted { IfOk result (λ objects. vec_len objects.names ≡ length objects.rows.rows) }
     ensures width { IfOk result (λ objects. objects.rows.width ≡ width) }
@@ -161,7 +161,7 @@ fn read_objects(alloc: Global, width: u32, reader: &mut Reader<&[u8]>) -> Result
 fn read_object_lines(alloc: Global, width: u32, bytes: &[u8]) -> Result<Objects, CsvFault>
     requires unquoted { IsUnquoted bytes.now }
     requires few { width ≤ MAX_ATTRIBUTES }
-    ensures form { TellsBy (λ objects. (objects.names.items, objects.rows.rows)) result (form.objects_form width 2 ([], []) (records_in bytes.now)) }
+    ensures form { TellsBy CsvFault.Memory (λ objects. (objects.names.items, objects.rows.rows)) result (form.objects_form width 2 ([], []) (records_in bytes.now)) }
     ensures few { IfOk result (λ objects. vec_len objects.names ≤ MAX_OBJECTS) }
     ensures counted { IfOk result (λ objects. vec_len objects.names ≡ length objects.rows.rows) }
     ensures width { IfOk result (λ objects. objects.rows.width ≡ width) }
@@ -182,7 +182,7 @@ fn read_object_lines(alloc: Global, width: u32, bytes: &[u8]) -> Result<Objects,
 fn read_line(alloc: Global, width: u32, i: usize, line: &[u8]) -> Result<Object, CsvFault>
     requires few { width ≤ MAX_ATTRIBUTES }
     requires text { AllText (fields_in line.now) }
-    ensures form { Tells result (form.object_form width i (fields_in line.now)) }
+    ensures form { Tells CsvFault.Memory result (form.object_form width i (fields_in line.now)) }
     ensures wide { IfOk result (λ object. length object.row ≡ width) }
     ensures within { OnOk result (i ≤ MAX_OBJECTS + 1) }
 {
@@ -202,7 +202,7 @@ fn read_line(alloc: Global, width: u32, i: usize, line: &[u8]) -> Result<Object,
 fn read_object(alloc: Global, width: u32, i: usize, fields: &ByteRecord) -> Result<Object, CsvFault>
     requires few { width ≤ MAX_ATTRIBUTES }
     requires text { AllText (fields_of fields.now) }
-    ensures form { Tells result (form.object_form width i (fields_of fields.now)) }
+    ensures form { Tells CsvFault.Memory result (form.object_form width i (fields_of fields.now)) }
     ensures wide { IfOk result (λ object. length object.row ≡ width) }
     ensures within { OnOk result (i ≤ MAX_OBJECTS + 1) }
 {

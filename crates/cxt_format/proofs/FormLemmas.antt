@@ -9,7 +9,8 @@ use Rattle.fca_model.specs.Tables.{Text}
 use Rattle.text_pieces.specs.Left.{Left}
 use Rattle.text_pieces.specs.Lines.{Line}
 use Rattle.cxt_format.specs.Words.{name_form, new_name, attribute_form}
-use Rattle.cxt_format.specs.Form.{Taken, Takes, more, then, next, next_of, without_mark}
+use Rattle.text_pieces.specs.Telling.{then}
+use Rattle.cxt_format.specs.Form.{Taken, Takes, more, next, next_of, without_mark}
 use Rattle.cxt_format.specs.declared.CxtFault.{CxtFault}
 use Rattle.cxt_format.specs.declared.CxtFault.TheVariants as fault
 use lib.Utf8.{encode}

@@ -6,14 +6,11 @@ use Rattle.fca_model.specs.Tables.{Text, NamedContext}
 use Rattle.fca_model.specs.declared.TheConstants.{MAX_ATTRIBUTES, MAX_OBJECTS}
 use Rattle.text_pieces.specs.Left.{Left, after_blank, after_blanks}
 use Rattle.text_pieces.specs.Lines.{Line, lines}
+use Rattle.text_pieces.specs.Telling.{then}
 use Rattle.cxt_format.specs.Words.{mark_form, title_form, count_form, name_form, attribute_form, row_form}
 use Rattle.cxt_format.specs.declared.read.Head.{Head}
 use Rattle.cxt_format.specs.declared.CxtFault.{CxtFault}
 use Rattle.cxt_format.specs.declared.CxtFault.TheVariants as fault
-
--- the answer of the code is what the form says, unless memory ran out
-abbrev pub Tells : {X : Type 0} → Result X CxtFault → Result X CxtFault → Type 0
-Tells told form = MatchResult told (λ x. form ≡ Ok x) (λ e. (e ≡ fault.Memory) ⊎ (form ≡ Err e))
 
 -- what was read, with what is left, or the first fault
 abbrev pub Taken : Type 0 → Type 0
@@ -22,11 +19,6 @@ Taken X = Result (X × Left) CxtFault
 -- the code took what the form takes, seen in this way, and left these lines, unless memory ran out
 abbrev pub Takes : {X Y : Type 0} → (X → Y) → Result X CxtFault → Taken Y → Left → Type 0
 Takes view told form left = MatchResult told (λ x. form ≡ Ok (view x, left)) (λ e. (e ≡ fault.Memory) ⊎ (form ≡ Err e))
-
--- goes on with what was read
-abbrev pub then : {X Y : Type 0} → Result X CxtFault → (X → Result Y CxtFault) → Result Y CxtFault
-then (Ok x) next = next x
-then (Err e) next = Err e
 
 abbrev pub next_of : {X : Type 0} → (ℕ → Line → Result X CxtFault) → ℕ → List Line → Taken X
 next_of form k [] = Err (fault.Ended k)

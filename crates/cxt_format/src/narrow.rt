@@ -4,7 +4,8 @@ ghost use Rattle.std.specs.Prelude.{◌≡◌, ◌<◌, ◌≤◌, ◌^◌, [], 
 ghost use Rattle.text_pieces.specs.Lines.{lines};
 ghost use Rattle.context_table.specs.Narrow.{context_in};
 ghost use Rattle.cxt_format.specs.Form as form;
-ghost use Rattle.cxt_format.specs.Form.{Tells, Takes};
+ghost use Rattle.text_pieces.specs.Telling.{Tells};
+ghost use Rattle.cxt_format.specs.Form.{Takes};
 ghost use Rattle.cxt_format.specs.Narrow.{untitled_form};
 
 use crate::CxtFault;
@@ -19,7 +20,7 @@ use text_pieces::Lines;
 
 /// Reads the table that the bytes of a file write, without its title. Each row goes at once into as few words as have room for it.
 pub fn read_narrow_cxt(alloc: Global, bytes: &[u8]) -> Result<NarrowTable, CxtFault>
-    ensures { Tells result (untitled_form (form.cxt_form bytes.now)) }
+    ensures { Tells CxtFault.Memory result (untitled_form (form.cxt_form bytes.now)) }
 {
     match str::from_utf8(bytes) {
         Ok(text) => read_text(alloc, text),
@@ -29,7 +30,7 @@ pub fn read_narrow_cxt(alloc: Global, bytes: &[u8]) -> Result<NarrowTable, CxtFa
 
 fn read_text(alloc: Global, text: &str) -> Result<NarrowTable, CxtFault>
     requires { length text.now < 2 ^ 63 }
-    ensures { Tells result (untitled_form (form.table_form (lines (form.without_mark text.now)))) }
+    ensures { Tells CxtFault.Memory result (untitled_form (form.table_form (lines (form.without_mark text.now)))) }
 {
     let mut lines = Lines::new(without_mark(text));
     let head = read_head(alloc, &mut lines)?;
@@ -40,7 +41,7 @@ fn read_text(alloc: Global, text: &str) -> Result<NarrowTable, CxtFault>
 fn read_body(alloc: Global, head: Head, lines: &mut Lines<'_>) -> Result<NarrowTable, CxtFault>
     requires objects { head.objects ≤ MAX_OBJECTS }
     requires attributes { head.attributes ≤ MAX_ATTRIBUTES }
-    ensures { Tells result (untitled_form (form.body_form head lines.old)) }
+    ensures { Tells CxtFault.Memory result (untitled_form (form.body_form head lines.old)) }
 {
     let objects = read_objects(alloc, head.objects, lines)?;
     let attributes = read_attributes(alloc, head.attributes, lines)?;

@@ -5,7 +5,8 @@ ghost use Rattle.std.specs.List.{list_any};
 ghost use Rattle.text_pieces.specs.Lines.{lines};
 ghost use Rattle.cxt_format.specs.Words as word;
 ghost use Rattle.cxt_format.specs.Form as form;
-ghost use Rattle.cxt_format.specs.Form.{Tells, Takes};
+ghost use Rattle.text_pieces.specs.Telling.{Tells};
+ghost use Rattle.cxt_format.specs.Form.{Takes};
 
 use crate::CxtFault;
 use crate::words::{count_of, is_b_line, name_of, row_of, title_of};
@@ -27,7 +28,7 @@ pub struct Head {
 
 /// Reads the table that the bytes of a file write.
 pub fn read_cxt(alloc: Global, bytes: &[u8]) -> Result<Table, CxtFault>
-    ensures { Tells result (form.cxt_form bytes.now) }
+    ensures { Tells CxtFault.Memory result (form.cxt_form bytes.now) }
 {
     match str::from_utf8(bytes) {
         Ok(text) => read_text(alloc, text),
@@ -37,7 +38,7 @@ pub fn read_cxt(alloc: Global, bytes: &[u8]) -> Result<Table, CxtFault>
 
 fn read_text(alloc: Global, text: &str) -> Result<Table, CxtFault>
     requires { length text.now < 2 ^ 63 }
-    ensures { Tells result (form.table_form (lines (form.without_mark text.now))) }
+    ensures { Tells CxtFault.Memory result (form.table_form (lines (form.without_mark text.now))) }
 {
     let mut lines = Lines::new(without_mark(text));
     let head = read_head(alloc, &mut lines)?;
@@ -71,7 +72,7 @@ pub(crate) fn read_head(alloc: Global, lines: &mut Lines<'_>) -> Result<Head, Cx
 fn read_body(alloc: Global, head: Head, lines: &mut Lines<'_>) -> Result<Table, CxtFault>
     requires objects { head.objects ≤ MAX_OBJECTS }
     requires attributes { head.attributes ≤ MAX_ATTRIBUTES }
-    ensures { Tells result (form.body_form head lines.old) }
+    ensures { Tells CxtFault.Memory result (form.body_form head lines.old) }
 {
     let objects = read_objects(alloc, head.objects, lines)?;
     let attributes = read_attributes(alloc, head.attributes, lines)?;

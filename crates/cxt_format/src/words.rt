@@ -2,7 +2,7 @@
 
 ghost use Rattle.std.specs.Prelude.{◌≡◌, ◌≤◌};
 ghost use Rattle.cxt_format.specs.Words as form;
-ghost use Rattle.cxt_format.specs.Form.{Tells};
+ghost use Rattle.text_pieces.specs.Telling.{Tells};
 
 use crate::CxtFault;
 use attr_bits::Attrs;
@@ -33,7 +33,7 @@ pub fn count_of(most: usize, number: usize, line: &[u8]) -> Result<usize, CxtFau
 
 /// The title on line `number`.
 pub fn title_of(alloc: Global, number: usize, line: &str) -> Result<Option<Name>, CxtFault>
-    ensures { Tells result (form.title_form number line.now) }
+    ensures { Tells CxtFault.Memory result (form.title_form number line.now) }
 {
     match Name::new(alloc, line) {
         Ok(name) => Ok(Some(name)),
@@ -46,7 +46,7 @@ pub fn title_of(alloc: Global, number: usize, line: &str) -> Result<Option<Name>
 
 /// The name on line `number`.
 pub fn name_of(alloc: Global, number: usize, line: &str) -> Result<Name, CxtFault>
-    ensures { Tells result (form.name_form number line.now) }
+    ensures { Tells CxtFault.Memory result (form.name_form number line.now) }
 {
     match Name::new(alloc, line) {
         Ok(name) => Ok(name),

@@ -2,29 +2,29 @@
 -- was visited; and its first member comes before all of those. So each free set is visited, by induction on its size, and each proper
 -- premise is free. Put in their places, the proper ones are a list in lectic order with the same members as the definition's, so the same
 -- list.
-use Rattle.std.proofs.Common.{◌≡◌, ℕ, zero, suc, ◌+◌, ◌<◌, Bool, true, false, ◌&&◌, ◌||◌, List, [], ◌∷◌, ◌++◌, take, map, filter, length}
+use Rattle.std.proofs.Common.{◌≡◌, ℕ, zero, suc, ◌+◌, ◌<◌, Bool, true, false, ◌&&◌, ◌||◌, List, [], ◌∷◌, ◌++◌, map, filter, length}
 use Rattle.std.proofs.Common.{replicate, get_or, set, All, refl, sym, ap, ◌∙◌, arith, eqb, eqb-true, eq-eqb, add-one, Ordering, Less, Equal}
 use Rattle.std.proofs.Common.{Greater}
 use Rattle.std.proofs.Math.Bool.{or-false, or_assoc, or_comm}
 use Rattle.std.proofs.lemmas.Bool.{false≢true, and_parts, and_from, or_left}
 use Rattle.std.proofs.lemmas.Grind.{flat_map-append}
-use Rattle.std.proofs.lemmas.List.{length-set, length-replicate, append_assoc, append-nil, take_more}
+use Rattle.std.proofs.lemmas.List.{length-set, length-replicate, append_assoc, append-nil}
 use Rattle.std.proofs.lemmas.List.Elements.{All-cons, All-nil, filter-append}
 use Rattle.std.proofs.lemmas.List.Folds.{list_all-map, list_all-append, list_any-append}
 use Rattle.std.proofs.lemmas.List.Sums.{fold-append}
 use Rattle.std.specs.BTreeSet.{insert_key}
-use Rattle.std.specs.List.{list_all, list_any, range_with_len, flat_map, AllByRecursion}
-use Rattle.std.specs.List.Sorted.{IsStrictlySortedBy}
-use Rattle.std.specs.Ordering.{is_lt, match_ordering}
+use Rattle.std.specs.List.{list_all, list_any, range_with_len, flat_map}
+use Rattle.std.specs.Ordering.{match_ordering}
 use Rattle.fca_model.specs.Sets.{Set, size, same, all_sets, increasing, lectic_cmp}
 use Rattle.fca_model.specs.Context.{Context, closure}
 use Rattle.fca_model.specs.Implications.{rule}
 use Rattle.fca_model.proofs.ListLemmas.{list_all-filter_kept, list_all_from, list_all-mono, list_any-map, list_any-mono}
 use Rattle.fca_model.proofs.SetLemmas.{same-true, same_from, size_le, lectic_equal, all_sets_increasing, all_sets_widths}
 use Rattle.fca_model.proofs.SortedLemmas.{at_member, same_members, increasing-filter, in_filter, of_filter, in_all_sets}
+use Rattle.fca_model.proofs.RangeLemmas.{range_more}
 use Rattle.direct_basis.specs.Direct.{proper, direct}
 use Rattle.direct_basis.specs.Levels.{free, first_place, larger, visited, placed}
-use Rattle.direct_basis.proofs.MemberLemmas.{range_any_from, range_more}
+use Rattle.direct_basis.proofs.MemberLemmas.{range_any_from}
 use Rattle.direct_basis.proofs.DirectLemmas.{size-without, within-without}
 use Rattle.direct_basis.proofs.FreeLemmas.{proper_free, free_within}
 
@@ -84,15 +84,6 @@ all_wide n (X ∷ Xs) h =
     All-cons (λ X. length X ≡ n) X Xs (eqb-true (length X) n parts.0) (all_wide n Xs parts.1)
 
 -- ---- sets put in their places
-
-pub increasing_keys : (Xs : List Set) → IsStrictlySortedBy lectic_cmp Xs → increasing Xs ≡ true
-unfolding IsStrictlySortedBy
-increasing_keys [] h = refl
-increasing_keys (X ∷ Xs) h = and_from (list_all (λ B. is_lt (lectic_cmp X B)) Xs) (increasing Xs) (below Xs h.0) (increasing_keys Xs h.1)
-  where
-    below : (Ys : List Set) → AllByRecursion (λ Y. lectic_cmp X Y ≡ Less) Ys → list_all (λ B. is_lt (lectic_cmp X B)) Ys ≡ true
-    below [] h = refl
-    below (Y ∷ Ys) h = and_from (is_lt (lectic_cmp X Y)) (list_all (λ B. is_lt (lectic_cmp X B)) Ys) (ap is_lt h.0) (below Ys h.1)
 
 same-insert_key : (A B : Set) (Xs : List Set) → list_any (same A) (insert_key lectic_cmp Xs B) ≡ (list_any (same A) Xs || same A B)
 same-insert_key A B [] = or-false (same A B)
@@ -222,12 +213,6 @@ more_placed p first old new Xs Ys Zs z o n =
     n ∙ ap (λ Ws. placed Ws (filter p Ys)) o ∙ sym
     (ap (λ Ws. placed first (filter p Ws)) z ∙ ap (placed first) (filter-append p Xs Ys)
     ∙ fold-append (insert_key lectic_cmp) first (filter p Xs) (filter p Ys))
-
-pub flat_map-take : {X Y : Type 0} (f : X → List Y) (xs : List X) (k : ℕ) (x : X) → k < length xs → x ≡ get_or xs k x
-    → flat_map f (take (k + 1) xs) ≡ flat_map f (take k xs) ++ f x
-flat_map-take f xs k x l is =
-    ap (flat_map f) (take_more xs k x l ∙ ap (λ y. take k xs ++ y ∷ []) (sym is)) ∙ flat_map-append f (take k xs) (x ∷ [])
-    ∙ ap (λ ys. flat_map f (take k xs) ++ ys) (append-nil (f x))
 
 pub flat_map-range : {Y : Type 0} (f : ℕ → List Y) (n : ℕ) → flat_map f (range_with_len 0 (n + 1)) ≡ flat_map f (range_with_len 0 n) ++ f n
 flat_map-range f n = ap (flat_map f) (range_more 0 n n (omega arith)) ∙ flat_map-append f (range_with_len 0 n) (n ∷ [])

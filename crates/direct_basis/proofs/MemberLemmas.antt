@@ -1,26 +1,18 @@
 -- Tests of the members of a set. The members are the places at which the list of Booleans has true; so all of them pass a test where each
 -- such place does.
-use Rattle.std.proofs.Common.{◌≡◌, ℕ, zero, suc, ◌+◌, ◌<◌, ◌≤◌, Bool, true, false, not, ◌&&◌, ◌||◌, List, [], ◌∷◌, ◌++◌, add-one, filter}
+use Rattle.std.proofs.Common.{◌≡◌, ℕ, zero, suc, ◌+◌, ◌<◌, ◌≤◌, Bool, true, false, not, ◌&&◌, ◌||◌, List, [], ◌∷◌, ◌++◌, filter}
 use Rattle.std.proofs.Common.{length, get_or, refl, sym, ap, ◌∙◌, arith, inl, inr}
-use Rattle.std.proofs.lemmas.Bool.{and_parts, and_from, cases_lt, or_left, or_right}
+use Rattle.std.proofs.lemmas.Bool.{and_from, cases_lt, or_left, or_right}
 use Rattle.std.proofs.lemmas.List.Folds.{list_all-append}
 use Rattle.std.specs.List.{list_all, list_any, range_with_len}
 use Rattle.fca_model.specs.Sets.{Set}
 use Rattle.fca_model.proofs.ListLemmas.{list_all-filter, filter_passes, implies_from, implies_at}
 use Rattle.fca_model.proofs.InvariantLemmas.{each}
+use Rattle.fca_model.proofs.RangeLemmas.{range_all_at}
 use Rattle.attr_bits.proofs.PlaceLemmas.{member_below}
 use Rattle.direct_basis.specs.Direct.{members}
 
 -- ---- neighbouring numbers
-
-pub range_all_at : (p : ℕ → Bool) (a n : ℕ) → list_all p (range_with_len a n) ≡ true → (i : ℕ) → a ≤ i → i < a + n → p i ≡ true
-range_all_at p a zero h i l u = absurd (omega arith)
-range_all_at p a (suc n) h i l u =
-    let parts = and_parts (p a) (list_all p (range_with_len (a + 1) n)) h in
-    elim (cases_lt a i) [
-      | inl lt ↦ range_all_at p (a + 1) n parts.1 i (omega arith) (omega arith)
-      | inr le ↦ let e : i ≡ a = omega arith in ap p e ∙ parts.0
-    ]
 
 pub range_any_from : (p : ℕ → Bool) (a n i : ℕ) → a ≤ i → i < a + n → p i ≡ true → list_any p (range_with_len a n) ≡ true
 range_any_from p a zero i l u t = absurd (omega arith)
@@ -28,11 +20,6 @@ range_any_from p a (suc n) i l u t = elim (cases_lt a i) [
   | inl lt ↦ or_right (p a) (list_any p (range_with_len (a + 1) n)) (range_any_from p (a + 1) n i (omega arith) (omega arith) t)
   | inr le ↦ let e : a ≡ i = omega arith in or_left (p a) (list_any p (range_with_len (a + 1) n)) (ap p e ∙ t)
 ]
-
-pub range_more : (a n j : ℕ) → a + n ≡ j → range_with_len a (n + 1) ≡ range_with_len a n ++ j ∷ []
-range_more a zero j e = let h : a ≡ j = omega arith in ap (λ x. x ∷ []) h
-range_more a (suc n) j e = ap (range_with_len a) (add-one (suc n))
-    ∙ ap (λ xs. a ∷ xs) (ap (range_with_len (a + 1)) (sym (add-one n)) ∙ range_more (a + 1) n j (omega arith))
 
 -- ---- members
 

@@ -1,7 +1,8 @@
 -- What the laws of oracles say of an exploration at a gate. Each oracle's share in the history is its own entries, so they are few; and
 -- with few attributes they are fewer than its turns. Where all tables have one context, a number of no expert has no entry, and stands
 -- for an expert of any such table.
-use Rattle.std.proofs.Common.{◌≡◌, ℕ, zero, suc, ◌+◌, ◌-◌, ◌*◌, ◌<◌, ◌≤◌, ◌⊎◌, ◌↔◌, Bool, true, false, Option, Some, None, List, [], ◌∷◌, ◌++◌, length, get_or, slice_get, All, inl, inr, refl, sym, ap, ◌∙◌, subst, arith, le-leb, leb}
+use Rattle.std.proofs.Common.{◌≡◌, ℕ, zero, suc, ◌+◌, ◌-◌, ◌*◌, ◌<◌, ◌≤◌, ◌⊎◌, ◌↔◌, Bool, true, false, Option, Some, None, List, [], ◌∷◌, ◌++◌}
+use Rattle.std.proofs.Common.{length, get_or, slice_get, All, inl, inr, refl, sym, ap, ◌∙◌, subst, arith, le-leb, leb}
 use Rattle.std.proofs.lemmas.Bool.{cases_Bool, cases_lt, and_from, and_parts, leb-true, false≢true}
 use Rattle.std.proofs.lemmas.List.{get_or_past}
 use Rattle.std.proofs.lemmas.Option.{get_or_from_slice_get, slice_get_within, slice_get-get_or}
@@ -36,10 +37,6 @@ use Rattle.expert_panel.specs.declared.end.SeatEnd.TheVariants.{Done, Spent, Mem
 use Rattle.expert_panel.specs.Seats.{IsEnd}
 use Rattle.expert_panel.specs.Explorations.{IsOraclesShare, EachNumbered, HasFewRows, most_turns, most_turns_between, IsWithinTurns, HasMadeAtMost, SeatsTurns, HasAgreed, HasEvenRows}
 use Rattle.expert_panel.proofs.ShareLemmas.{Run}
-
--- there is an expert, and no more than there may be
-pub expert_range : (n : ℕ) → is_expert n ≡ true → (1 ≤ n) × (n ≤ MAX_EXPERTS)
-expert_range n is = let parts = and_parts (leb 1 n) (leb n MAX_EXPERTS) is in (leb-true 1 n parts.0, leb-true n MAX_EXPERTS parts.1)
 
 -- the rows of a new exploration respect what is known
 pub respecting_new : (h : History) → h.journal ≡ [] → IsValid (state_of h)

@@ -7,7 +7,9 @@ use Rattle.fca_model.specs.declared.Event.TheVariants.{Draw, Confirm, Row, Leave
 use Rattle.fca_model.specs.declared.Reply.TheVariants.{Done}
 use Rattle.fca_model.specs.Sets.{Set, within, same}
 use Rattle.fca_model.specs.Implications.{Rule, respects, refutes}
-use Rattle.fca_model.specs.Exploration.{State, SetEvent, SetReply, SetEntry, rules_of, open_in, held_by, first_with, first_missing, confirm_unheard, confirm_unrefuted, confirm_reply, row_new, row_unbroken, row_refuting, row_fitting, row_reply, reply_to, next, state_after, journal_of, events_of, expert_of, is_expert, has_width, IsLegal, own}
+use Rattle.fca_model.specs.Exploration.{State, SetEvent, SetReply, SetEntry, rules_of, open_in, held_by, first_with, first_missing, confirm_unheard}
+use Rattle.fca_model.specs.Exploration.{confirm_unrefuted, confirm_reply, row_new, row_unbroken, row_refuting, row_fitting, row_reply, reply_to, next}
+use Rattle.fca_model.specs.Exploration.{state_after, journal_of, events_of, expert_of, is_expert, has_width, IsLegal, own}
 use Rattle.fca_model.specs.Invariant.{IsValid}
 use Rattle.fca_model.proofs.ListLemmas.{list_any-not, list_all-filter_kept}
 use Rattle.fca_model.proofs.ValidLemmas.{next_valid}

@@ -1,6 +1,7 @@
 -- A session goes line by line. `Goes` says what stands after k lines that were served and are not `quit`; one more such line keeps it;
 -- and where no line is served any more, what stands is what the session has served.
-use Rattle.std.proofs.Common.{◌≡◌, ◌≢◌, ◌≤◌, ◌<◌, ℕ, ◌+◌, List, [], ◌∷◌, ◌++◌, take, drop, length, Some, Result, refl, sym, ap, ◌∙◌, subst, append_assoc, append-nil, length-append, arith, inl, inr, ◌⊎◌}
+use Rattle.std.proofs.Common.{◌≡◌, ◌≢◌, ◌≤◌, ◌<◌, ℕ, ◌+◌, List, [], ◌∷◌, ◌++◌, take, drop, length, Some, Result, refl, sym, ap, ◌∙◌, subst}
+use Rattle.std.proofs.Common.{append_assoc, append-nil, length-append, arith, inl, inr, ◌⊎◌}
 use Rattle.std.specs.Prelude.{All, is_err, false, true, Ok, Err, IfOk, IfErr, OnErr, IsErrOf}
 use Rattle.std.proofs.lemmas.List.Elements.{All-nil, All-append}
 use Rattle.std.proofs.lemmas.List.{length-take}
@@ -9,6 +10,7 @@ use Rattle.fca_io.specs.declared.outside.Put.{Put}
 use Rattle.fca_model.specs.Tables.{Text, NamedContext}
 use Rattle.fca_model.specs.declared.TheConstants.{LINE_BYTES}
 use Rattle.fca_model.specs.Exploration.{SetEvent, SetReply, SetEntry}
+use Rattle.expert_wire.proofs.WriteLemmas.{Rose-later}
 use Rattle.turn_lock.specs.declared.fault.TurnFault.{TurnFault}
 use Rattle.turn_lock.specs.declared.fault.TurnFault.TheVariants.{Spent as NoTurn, Memory as NoTurnMemory}
 use Rattle.expert_wire.specs.Texts.{line_end}
@@ -25,8 +27,9 @@ use Rattle.expert_sessions.specs.Lines.{Asks, Answers, BeginsWithEvent, Exchange
 use Rattle.expert_sessions.specs.Talks.{GoesOn, HasQuit, LacksLastAnswer}
 use Rattle.expert_sessions.specs.Moves.{Wire, Moves, IsQuiet, Place, Enters}
 use Rattle.expert_sessions.specs.Courses.{said_of, Writes, Reads, HasFeedAt, LacksLine, Serves, HaltsAt, Halts, Goes, Closes, HasServed}
-use Rattle.expert_sessions.proofs.MoveLemmas.{Rose-later, Moves-trans, Moves-equal, IsQuiet-trans, Enters-nil, Enters-trans, Enters-equal, one_less-taken, one_less-none}
-use Rattle.expert_sessions.proofs.LineLemmas.{not_bye, bye_quits, is-exchange, lines_of-append, replies_of-append, entries_of-append, turns_of-append, before_last-snoc, before_last-All, All-one, sent_whole, sent_quiet, write_rose}
+use Rattle.expert_sessions.proofs.MoveLemmas.{Moves-trans, Moves-equal, IsQuiet-trans, Enters-nil, Enters-trans, Enters-equal, one_less-taken, one_less-none}
+use Rattle.expert_sessions.proofs.LineLemmas.{not_bye, bye_quits, is-exchange, lines_of-append, replies_of-append, entries_of-append, turns_of-append}
+use Rattle.expert_sessions.proofs.LineLemmas.{before_last-snoc, before_last-All, All-one, sent_whole, sent_quiet, write_rose}
 
 -- ---- one line
 

@@ -11,13 +11,6 @@ use Rattle.expert_gate.specs.Desks.{one_less}
 use Rattle.expert_sessions.specs.Moves.{Wire, Moves, IsQuiet, Place, Enters, Takes, TakesAtMost}
 use Rattle.expert_sessions.specs.Courses.{Reads}
 
-pub Rose-later : (a b c : ℕ) → a ≤ b → Rose b c → Rose a c
-Rose-later a b c h r =
-    let low = min-le_left (a + 1) (2 ^ 64 - 1) in
-    let high = min-le_right (a + 1) (2 ^ 64 - 1) in
-    let both : one_more a ≤ one_more b = le-min (omega arith) high in
-    omega arith
-
 pub Moves-nil : (a : Wire) → Moves a a [] []
 Moves-nil a = record { lost = Consumes-nil a.left; gained = Appends-nil a.held; reads = omega arith; writes = omega arith }
 

@@ -27,7 +27,7 @@ Writes-nothing held faults other aside = record {
   same_beside = refl;
 }
 
-Rose-later : (a b c : ℕ) → a ≤ b → Rose b c → Rose a c
+pub Rose-later : (a b c : ℕ) → a ≤ b → Rose b c → Rose a c
 Rose-later a b c h r =
     let low = min-le_left (a + 1) (2 ^ 64 - 1) in
     let high = min-le_right (a + 1) (2 ^ 64 - 1) in

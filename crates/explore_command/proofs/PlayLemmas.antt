@@ -28,7 +28,7 @@ use Rattle.oracle_expert.specs.Intents.{HasIntentsOf, are_intents}
 use Rattle.oracle_expert.specs.Oracles.{Recall, Conflicts, no_conflict}
 use Rattle.oracle_expert.specs.Runs.{Moment, start, moment_after, moment_at, OracleRunsFrom, IsOracleFront, ends_done, conflicts_of}
 use Rattle.oracle_expert.proofs.CountLemmas.{oracle_turns}
-use Rattle.oracle_expert.proofs.DrawLemmas.{recorded_between}
+use Rattle.oracle_expert.proofs.DrawLemmas.{recorded_between, runs_on}
 use Rattle.fca_model.specs.declared.Memory.{Memory}
 use Rattle.expert_panel.specs.declared.explored.Explored.{Explored}
 use Rattle.expert_panel.specs.Explorations.{IsOraclesShare, EachNumbered, HasAgreed}
@@ -82,12 +82,6 @@ is_number experts few k x at =
     let within = slice_get_within experts k x at in
     and_from (nat_le 1 (k + 1)) (nat_le (k + 1) MAX_EXPERTS) (le-leb 1 (k + 1) (omega arith)) (le-leb (k + 1) MAX_EXPERTS (omega arith))
 
--- of the run of an oracle what is behind some entries is one
-runs-on : (D : NamedContext) (e : ℕ) (m : Moment) (xs ys : List SetEntry) → OracleRunsFrom D e m (xs ++ ys)
-    → OracleRunsFrom D e (moment_at D m xs) ys
-runs-on D e m [] ys run = run
-runs-on D e m (x ∷ xs) ys run = runs-on D e (moment_after D m x.reply) xs ys run.2
-
 -- of a legal history from the table under these settings, where all experts may hold one question
 module _ (T : NamedContext) (G : Settings) (H : List SetEntry) (respecting : rows_respect G.known T.context ≡ true)
     (most : G.holders ≡ MAX_EXPERTS) (legal : IsLegal (opening T.context T.objects G) H) where
@@ -97,7 +91,7 @@ module _ (T : NamedContext) (G : Settings) (H : List SetEntry) (respecting : row
   drawn-apart D e expert front before between after first second cut draw again =
       let from : List SetEntry = first ∷ between ++ second ∷ after in
       let parted : own H e ≡ own before e ++ own from e = ap (λ J. own J e) cut ∙ own-append before from e in
-      let on = runs-on D e (start D) (own before e) (own from e) (subst (OracleRunsFrom D e (start D)) parted front) in
+      let on = runs_on D e (start D) (own before e) (own from e) (subst (OracleRunsFrom D e (start D)) parted front) in
       recorded_between D e expert (events_of H) (opening T.context T.objects G) (opening_valid T.context T.objects G respecting) most
       (legal_events (opening T.context T.objects G) H legal).0
       (moment_at D (start D) (own before e)) before between after first second (legal.replayed ∙ cut) draw again on

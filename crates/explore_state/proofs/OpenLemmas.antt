@@ -1,6 +1,7 @@
 -- Why an exploration is opened: where no cause of a refusal is found, there are so many experts and holders as there may be, and each
 -- row respects what is known. With nothing known a row breaks nothing.
-use Rattle.std.proofs.Common.{◌≡◌, ◌+◌, ◌⊎◌, ℕ, Bool, true, false, not, cond, Option, Some, None, List, [], ◌∷◌, Result, Ok, Err, refl, ap, ◌∙◌, inl, inr, eqb, eqb-true, get_or, drop, length, All, ◌<◌}
+use Rattle.std.proofs.Common.{◌≡◌, ◌+◌, ◌⊎◌, ℕ, Bool, true, false, not, cond, Option, Some, None, List, [], ◌∷◌, Result, Ok, Err, refl, ap, ◌∙◌, inl}
+use Rattle.std.proofs.Common.{inr, eqb, eqb-true, get_or, drop, length, All, ◌<◌}
 use Rattle.std.specs.Prelude.{IfErr}
 use Rattle.std.proofs.lemmas.Bool.{and_from, and_parts}
 use Rattle.std.proofs.lemmas.List.{drop_more}
@@ -12,7 +13,7 @@ use Rattle.fca_model.specs.Implications.{Rule, respects, respects_all}
 use Rattle.fca_model.specs.Invariant.{rows_respect}
 use Rattle.fca_model.specs.Widths.{IsWide}
 use Rattle.fca_model.specs.Exploration.{Settings, plain, is_expert}
-use Rattle.fca_model.proofs.ListLemmas.{list_all-mono}
+use Rattle.fca_model.proofs.ListLemmas.{list_all-mono, not_not}
 use Rattle.implication_closure.proofs.ClosingLemmas.{position_none}
 use Rattle.implication_closure.specs.Closing.{has_width, HaveWidth}
 use Rattle.explore_state.specs.declared.fault.OpenFault.{OpenFault}
@@ -20,10 +21,6 @@ use Rattle.explore_state.specs.declared.fault.OpenFault.TheVariants.{BadExperts,
 use Rattle.explore_state.specs.Faults.{broken_by, break_at, first_break, settings_fault, open_fault}
 
 -- ---- rows that break nothing
-
-not_not : (b : Bool) → not (not b) ≡ true → b ≡ true
-not_not true e = refl
-not_not false e = absurd (cc)
 
 unbroken_row : (S : List Rule) (row : Set) → broken_by S row ≡ None → respects_all S row ≡ true
 unbroken_row S row e = list_all-mono (λ i. not (not (respects row i))) (respects row) (λ i t. not_not (respects row i) t) S

@@ -10,7 +10,8 @@ use Rattle.fca_model.specs.Context.{Context}
 use Rattle.fca_model.specs.Implications.{Rule, rule, respects, respects_all, refutes, holds}
 use Rattle.fca_model.specs.Questions.{has_premise}
 use Rattle.fca_model.specs.Invariant.{IsHeld}
-use Rattle.fca_model.specs.Exploration.{State, RowName, SetHold, SetReply, rules_of, held_by, given_back, first_with, first_missing, confirm_reply, confirm_unrefuted, confirm_unheard, row_reply, row_fitting, row_refuting, row_unbroken, reply_to}
+use Rattle.fca_model.specs.Exploration.{State, RowName, SetHold, SetReply, rules_of, held_by, given_back, first_with, first_missing, confirm_reply}
+use Rattle.fca_model.specs.Exploration.{confirm_unrefuted, confirm_unheard, row_reply, row_fitting, row_refuting, row_unbroken, reply_to}
 use Rattle.fca_model.proofs.ListLemmas.{list_all-from_none}
 use Rattle.fca_model.proofs.StepLemmas.{first_with_none}
 use Rattle.fca_model.proofs.ValidLemmas.{held_valid, unrefuted_holds, others_fewer}

@@ -7,6 +7,7 @@ use Rattle.std.specs.Io.KnownBytes.{IsAtEnd}
 use Rattle.std.proofs.lemmas.Result.{IfOk-weaker, IfErr-weaker}
 use Rattle.fca_model.specs.Tables.{Text}
 use Rattle.fca_model.specs.Implications.{Rule}
+use Rattle.fca_model.proofs.ListLemmas.{IfErr-any}
 use Rattle.fca_io.specs.Faults.{Rose}
 use Rattle.fca_io.specs.Links.{Ends, MayListenAt}
 use Rattle.fca_io.specs.Shelves.{Told}
@@ -47,10 +48,6 @@ use Rattle.fca_run.proofs.CourseLemmas.{play-tells, serve-tells}
 use Rattle.fca_run.proofs.BlameLemmas.{stop-blamed, given-comes}
 
 -- ---- results
-
-any-err : {X F : Type 0} (r : Result X F) (P : F → Type 0) → ((e : F) → P e) → IfErr r P
-any-err (Ok x) P all = tt
-any-err (Err e) P all = all e
 
 pub any-ok : {X F : Type 0} (r : Result X F) (P : Type 0) → P → OnOk r P
 any-ok (Ok x) P p = p
@@ -132,7 +129,7 @@ module _ {H S D E : Type 0} (talk : Sides E) (s s' : ShelfMoment H) (input : Mom
         read_to_end = λ reads. cc;
         input_kept = λ _. refl;
         link_kept = λ _. refl;
-        unheard = any-err output (λ stop. (IsUnread stop → link ≡ link) × (IsOfFile stop → input ≡ input)) (λ stop. (λ _. refl, λ _. refl));
+        unheard = IfErr-any output (λ stop. (IsUnread stop → link ≡ link) × (IsOfFile stop → input ≡ input)) (λ stop. (λ _. refl, λ _. refl));
         listens = any-ok output (MayListen command link) tt;
         given_back = tt;
       }
@@ -253,7 +250,7 @@ module _ {H S D E : Type 0} (talk : Sides E) (s : ShelfMoment H) (input : Moment
         read_to_end = λ reads. cc;
         input_kept = λ _. refl;
         link_kept = λ _. refl;
-        unheard = any-err output (λ stop. (IsUnread stop → link ≡ link) × (IsOfFile stop → input ≡ input)) (λ stop. (λ _. refl, λ _. refl));
+        unheard = IfErr-any output (λ stop. (IsUnread stop → link ≡ link) × (IsOfFile stop → input ≡ input)) (λ stop. (λ _. refl, λ _. refl));
         listens = any-ok output (Unit {0}) tt;
         given_back = tt;
       }

@@ -14,6 +14,7 @@ use Rattle.fca_model.specs.Context.{Context, closure, is_closed}
 use Rattle.fca_model.specs.Implications.{Rule, rule, respects, respects_all, holds}
 use Rattle.fca_model.proofs.SetLemmas.{same-true, same_from, within_refl, within_trans, within_at_place, within_set}
 use Rattle.fca_model.proofs.ClosureLemmas.{length-closure, closure_extensive}
+use Rattle.fca_model.proofs.ListLemmas.{MatchOption-weaker}
 use Rattle.implication_closure.specs.Closing.{RuleList, IsClosure}
 use Rattle.extent_blocks.specs.Blocks.{Part, IsExtent, IsExtentWith}
 use Rattle.extent_blocks.proofs.ExtentLemmas.{extent_larger, extent_shared}
@@ -180,15 +181,10 @@ found_longer {S = S} {K = K} {A = A} {j = j} {i = i} x y le T r =
 
 -- ---- what is told
 
-match_weaker : {T A A' : Type 0} {B B' : T → Type 0} (o : Option T) → (A → A') → ((x : T) → B x → B' x) → MatchOption o A B
-    → MatchOption o A' B'
-match_weaker None f h m = f m
-match_weaker (Some x) f h m = h x m
-
 told_weaker : {T E A A' : Type 0} {B B' : T → Type 0} (r : Result (Option T) E) → (A → A') → ((x : T) → B x → B' x)
     → IfOk r (λ o. MatchOption o A B) → IfOk r (λ o. MatchOption o A' B')
 told_weaker {A = A} {A' = A'} {B = B} {B' = B'} r f h m =
-    IfOk-weaker r (λ o. MatchOption o A B) (λ o. MatchOption o A' B') (λ o. match_weaker o f h) m
+    IfOk-weaker r (λ o. MatchOption o A B) (λ o. MatchOption o A' B') (λ o. MatchOption-weaker o f h) m
 
 -- what is forced below holds behind the intent that is told
 pub told_forced : {E : Type 0} (J M : List Rule) (A C : Set) (ws : List ℕ) (r : Result (Option Set) E) → AreForced J A ws

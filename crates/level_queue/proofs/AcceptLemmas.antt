@@ -1,5 +1,6 @@
 -- An accepted question keeps the queue.
-use Rattle.std.proofs.Common.{◌≡◌, ℕ, zero, suc, ◌<◌, Bool, true, false, not, ◌&&◌, ◌||◌, cond, Some, List, [], ◌∷◌, ◌++◌, length, filter, get_or, remove, refl, sym, ap, ◌∙◌, subst, arith, eqb, eqb-true, eq-eqb, leb, le-leb}
+use Rattle.std.proofs.Common.{◌≡◌, ℕ, zero, suc, ◌<◌, Bool, true, false, not, ◌&&◌, ◌||◌, cond, Some, List, [], ◌∷◌, ◌++◌, length, filter, get_or}
+use Rattle.std.proofs.Common.{remove, refl, sym, ap, ◌∙◌, subst, arith, eqb, eqb-true, eq-eqb, leb, le-leb}
 use Rattle.std.proofs.lemmas.Bool.{false≢true, and_parts, and_from, not-true, false_from_ne_true}
 use Rattle.std.proofs.lemmas.List.Folds.{list_all-append, list_any-append}
 use Rattle.std.proofs.lemmas.List.Sums.{AllPass-from_list_all}
@@ -16,7 +17,7 @@ use Rattle.fca_model.specs.Invariant.{Among}
 use Rattle.fca_model.proofs.ListLemmas.{list_all_from, list_all-filter_kept, filter-filter, filter_passes, filter_agree_on, filter_all}
 use Rattle.fca_model.proofs.SetLemmas.{same_refl, same-true, same_from, lectic_refl}
 use Rattle.fca_model.proofs.ClosureLemmas.{length-closure}
-use Rattle.next_level.proofs.NextLevelLemmas.{level_all}
+use Rattle.fca_model.proofs.LevelLemmas.{level_all}
 use Rattle.level_queue.specs.Queue.{Base, HasPart, IsQueue}
 use Rattle.level_queue.specs.Rules.{RuleParts}
 use Rattle.level_queue.proofs.RowLemmas.{questions_all}

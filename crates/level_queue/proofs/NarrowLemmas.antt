@@ -9,7 +9,7 @@ use Rattle.fca_model.specs.Sets.{Set, within, meet, full, same}
 use Rattle.fca_model.specs.Context.{Context, closure, with_row}
 use Rattle.fca_model.specs.Implications.{Rule, rule}
 use Rattle.fca_model.proofs.SetLemmas.{same_refl, same-true}
-use Rattle.next_level.proofs.NextLevelLemmas.{level_all}
+use Rattle.fca_model.proofs.LevelLemmas.{level_all}
 use Rattle.level_queue.specs.Queue.{IsQueue, narrowed, renewed, still_open, is_left}
 use Rattle.level_queue.proofs.RowLemmas.{questions_all}
 

@@ -1,7 +1,8 @@
 -- The questions of the queue are the open ones: none that waits is smaller than the level, since each smaller member is accepted, so those
 -- of the level that were not accepted are the smallest, if there are any. Where there are none, each member up to the level is accepted,
 -- and the next level can be opened.
-use Rattle.std.proofs.Common.{◌≡◌, ◌≢◌, ℕ, suc, ◌+◌, ◌<◌, ◌≤◌, Bool, true, false, not, ◌||◌, cond, List, [], ◌∷◌, ◌++◌, map, length, filter, get_or, refl, sym, ap, ◌∙◌, subst, arith, inl, inr, eqb, eqb-true, eq-eqb, leb, le-leb, leb-true, ltb, lt-ltb}
+use Rattle.std.proofs.Common.{◌≡◌, ◌≢◌, ℕ, suc, ◌+◌, ◌<◌, ◌≤◌, Bool, true, false, not, ◌||◌, cond, List, [], ◌∷◌, ◌++◌, map, length, filter, get_or}
+use Rattle.std.proofs.Common.{refl, sym, ap, ◌∙◌, subst, arith, inl, inr, eqb, eqb-true, eq-eqb, leb, le-leb, leb-true, ltb, lt-ltb}
 use Rattle.std.proofs.lemmas.Bool.{false≢true, and_parts, and_from, cases_Bool, cases_lt, or_cases, or_left, or_right, lt-leb, ltb-true, eqb-false}
 use Rattle.std.proofs.lemmas.List.{get_or_default}
 use Rattle.std.proofs.lemmas.List.Edits.{length-remove}
@@ -21,9 +22,8 @@ use Rattle.fca_model.proofs.InvariantLemmas.{member_from, member_parts, distinct
 use Rattle.fca_model.proofs.SortedLemmas.{increasing-filter}
 use Rattle.fca_model.proofs.DoneLemmas.{basis_increasing}
 use Rattle.fca_model.proofs.QuestionLemmas.{open_none}
-use Rattle.fca_model.proofs.LevelLemmas.{level_waiting, none_waits, smallest_is}
+use Rattle.fca_model.proofs.LevelLemmas.{level_waiting, none_waits, smallest_is, level_all}
 use Rattle.next_level.specs.NextLevel.{IsNextLevel}
-use Rattle.next_level.proofs.NextLevelLemmas.{level_all}
 use Rattle.level_queue.specs.Queue.{HasPart, IsQueue, IsKept, narrowed, is_unclosed, still_open}
 use Rattle.level_queue.proofs.RowLemmas.{questions_all, row_keeps_queue}
 use Rattle.level_queue.proofs.NarrowLemmas.{closure-with_row, narrowed_in}

@@ -1,9 +1,13 @@
 -- Places in the list of open questions: the one that a search finds, what is left where one is taken out, and what stands in front while
 -- the list is met with a row.
-use Rattle.std.proofs.Common.{◌≡◌, ℕ, zero, suc, ◌+◌, ◌<◌, ◌≤◌, ◌-◌, Bool, true, false, not, ◌&&◌, cond, Some, List, [], ◌∷◌, ◌++◌, map, length, get_or, set, take, drop, refl, sym, ap, ap₂, ◌∙◌, subst, arith, inl, inr, ltb, lt-ltb, ltb-true, Ordering, Less, Equal, Greater}
+use Rattle.std.proofs.Common.{◌≡◌, ℕ, zero, suc, ◌+◌, ◌<◌, ◌≤◌, ◌-◌, Bool, true, false, not, ◌&&◌, cond, Some, List, [], ◌∷◌, ◌++◌, map, length}
+use Rattle.std.proofs.Common.{get_or, set, take, drop, refl, sym, ap, ap₂, ◌∙◌, subst, arith, inl, inr, ltb, lt-ltb, ltb-true, Ordering, Less, Equal}
+use Rattle.std.proofs.Common.{Greater}
 use Rattle.std.proofs.lemmas.Bool.{false≢true, and_parts, and_from, cases_Bool, cases_lt, cases_eq, not-true, false_from_ne_true}
 use Rattle.std.proofs.Math.ListN.{get_or-map}
-use Rattle.std.proofs.lemmas.List.{length-map, take-take, take-set-le, take-append-le, take-append-drop, get_or-take, get_or-drop, drop_more, drop_all, drop-drop, drop_at, drop-set, drop-set-lt, length-take-le, length-set, length-drop, append_assoc, get_or_default}
+use Rattle.std.proofs.lemmas.List.{length-map, take-take, take-set-le, take-append-le, take-append-drop, get_or-take, get_or-drop, drop_more}
+use Rattle.std.proofs.lemmas.List.{drop_all, drop-drop, drop_at, drop-set, drop-set-lt, length-take-le, length-set, length-drop, append_assoc}
+use Rattle.std.proofs.lemmas.List.{get_or_default}
 use Rattle.std.proofs.lemmas.List.Sums.{AllPass-from_list_all, list_all-from_AllPass}
 use Rattle.std.proofs.lemmas.Option.{slice_get-get_or}
 use Rattle.std.specs.List.{list_all, list_any, slice_get, remove, copy_within, AllWithin}
@@ -14,19 +18,12 @@ use Rattle.fca_model.specs.Sets.{Set, same, increasing, lectic_cmp}
 use Rattle.fca_model.specs.Implications.{Rule, rule, premises}
 use Rattle.fca_model.specs.Invariant.{Among}
 use Rattle.fca_model.proofs.SetLemmas.{same_refl, same-true, lectic_refl}
+use Rattle.fca_model.proofs.SortedLemmas.{is_less, before_trans, not_before_itself}
 use Rattle.level_queue.specs.Queue.{narrowed, still_open, is_unclosed, is_left, is_rule}
 use Rattle.level_queue.specs.QuestionLists.{IsPlaceFor}
 use Rattle.level_queue.proofs.NarrowLemmas.{left_some, left_none}
 
 -- ---- a search
-
-is_less : (o : Ordering) → is_lt o ≡ true → o ≡ Less
-is_less Less h = refl
-is_less Equal h = absurd (false≢true h)
-is_less Greater h = absurd (false≢true h)
-
-before_trans : (A B C : Set) → is_lt (lectic_cmp A B) ≡ true → is_lt (lectic_cmp B C) ≡ true → is_lt (lectic_cmp A C) ≡ true
-before_trans A B C h k = ap is_lt (lectic_total.trans A B C (is_less (lectic_cmp A B) h) (is_less (lectic_cmp B C) k))
 
 -- the premise comes before P
 abbrev pub comes_before : Set → Rule → Bool
@@ -82,10 +79,6 @@ place_for P qs n l before behind = let long = length-map qs (λ (q : Rule). q.pr
   behind = subst (λ m. AllWithin (λ A. is_lt (lectic_cmp A P) ≡ false) (premises qs) n m) (sym long)
       (of_premises (λ A. is_lt (lectic_cmp A P)) false qs n (length qs) behind);
 }
-
--- a set does not come before itself
-not_before_itself : (A : Set) → is_lt (lectic_cmp A A) ≡ true → ⊥
-not_before_itself A h = false≢true (ap is_lt (sym (lectic_refl A)) ∙ h)
 
 is_rule-true : (q i : Rule) → is_rule q i ≡ true → i ≡ q
 is_rule-true q i h =

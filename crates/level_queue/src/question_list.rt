@@ -86,7 +86,7 @@ impl QuestionList {
     }
 
     /// Narrows the question at the place, which is not closed, by a row. Whether it is still not closed. Most questions stay as they are, and are not looked at.
-    pub(crate) fn meet_at(&mut self, place: usize, row: &Row) -> bool
+    pub(crate) fn narrow_at(&mut self, place: usize, row: &Row) -> bool
         requires inside { place < length self.old }
         requires unclosed { (question : Rule) → question ≡ slice_index_or self.old place question → is_unclosed question ≡ true }
         ensures met { (question : Rule) → question ≡ slice_index_or self.old place question → self.new ≡ slice_set self.old place (narrowed row.now question) }
@@ -96,7 +96,7 @@ impl QuestionList {
         if !self.is_premise_within(place, row) {
             return true;
         }
-        let met = narrowed(&row.whole, &self.questions[place]);
+        let met = question_after(&row.whole, &self.questions[place]);
         self.questions[place] = met;
         met.premise != met.conclusion
     }
@@ -162,7 +162,7 @@ fn fit_one_word(questions: &[Question]) -> bool
 }
 
 /// The question after this row. If the row has the premise, the conclusion loses what the row lacks.
-fn narrowed(row: &Attrs, question: &Question) -> Question
+fn question_after(row: &Attrs, question: &Question) -> Question
     ensures { result ≡ narrowed row.now question.now }
 {
     if question.premise.within(row) {

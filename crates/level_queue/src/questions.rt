@@ -102,7 +102,7 @@ fn narrow_from(list: &mut QuestionList, first: usize, row: &Row) -> usize
     let mut kept = list.as_slice().len();
     let mut end = list.as_slice().len();
     for place in (first..list.as_slice().len()).rev() {
-        if !list.meet_at(place, row) {
+        if !list.narrow_at(place, row) {
             kept = move_up(list, place + 1, end, kept);
             end = place;
         }

@@ -1,5 +1,6 @@
 -- The branches of a walk, and what they have together.
-use Rattle.std.proofs.Common.{◌≡◌, ℕ, zero, suc, min, ◌+◌, ◌-◌, ◌<◌, ◌≤◌, Bool, true, false, not, ◌&&◌, List, [], ◌∷◌, ◌++◌, length, filter, replicate, get_or, get_or-set_same, set, refl, sym, ap, ap₂, ◌∙◌, subst, arith, inl, inr, leb, Less}
+use Rattle.std.proofs.Common.{◌≡◌, ℕ, zero, suc, min, ◌+◌, ◌-◌, ◌<◌, ◌≤◌, Bool, true, false, not, ◌&&◌, List, [], ◌∷◌, ◌++◌, length, filter}
+use Rattle.std.proofs.Common.{replicate, get_or, get_or-set_same, set, refl, sym, ap, ap₂, ◌∙◌, subst, arith, inl, inr, leb, Less}
 use Rattle.std.proofs.lemmas.Bool.{false≢true, and_parts, and_from, cases_Bool, cases_lt, or_cases}
 use Rattle.std.proofs.lemmas.List.Folds.{list_all-append}
 use Rattle.std.proofs.lemmas.Simd.{length-replicate}
@@ -13,7 +14,8 @@ use Rattle.fca_model.proofs.ClosureLemmas.{respects_at, respects_from}
 use Rattle.implication_closure.specs.Closing.{RuleList, IsClosure}
 use Rattle.lectic_basis.specs.Trees.{before, up_to}
 use Rattle.lectic_basis.specs.Watches.{Watched, IsFiled, IsGood, IsPutBefore, Differs}
-use Rattle.lectic_basis.proofs.PlaceLemmas.{agree_less, agree_more, agree_same, agree_with, agree_not_before, agree_up_to, up_to_agree, up_to_member, before_same, before_comes_first, child_before, child_up_to, within_not_before}
+use Rattle.lectic_basis.proofs.PlaceLemmas.{agree_less, agree_more, agree_same, agree_with, agree_not_before, agree_up_to, up_to_agree, up_to_member}
+use Rattle.lectic_basis.proofs.PlaceLemmas.{before_same, before_comes_first, child_before, child_up_to, within_not_before}
 use Rattle.lectic_basis.proofs.ListingLemmas.{no_more, only}
 use Rattle.lectic_basis.proofs.WaitLemmas.{push_filed, push_covers}
 use Rattle.next_level.specs.NextLevel.{IsOpen, everything, open_where}

@@ -1,6 +1,7 @@
 -- The steps of the walk for the next level. A set that is as large as the bound has nothing below it that is looked for; one that is not
 -- closed joins the list; below each set the attributes that it lacks are tried, the last first.
-use Rattle.std.proofs.Common.{◌≡◌, ℕ, suc, ◌+◌, ◌<◌, ◌≤◌, Bool, true, false, not, ◌&&◌, List, [], ◌∷◌, ◌++◌, length, filter, get_or, get_or-set_same, set, replicate, length-set, refl, sym, ap, ◌∙◌, subst, arith, inl, inr, eq-eqb}
+use Rattle.std.proofs.Common.{◌≡◌, ℕ, suc, ◌+◌, ◌<◌, ◌≤◌, Bool, true, false, not, ◌&&◌, List, [], ◌∷◌, ◌++◌, length, filter, get_or, get_or-set_same}
+use Rattle.std.proofs.Common.{set, replicate, length-set, refl, sym, ap, ◌∙◌, subst, arith, inl, inr, eq-eqb}
 use Rattle.std.specs.List.{list_any}
 use Rattle.fca_model.specs.Exploration.{first_missing}
 use Rattle.fca_model.proofs.SortedLemmas.{in_filter}

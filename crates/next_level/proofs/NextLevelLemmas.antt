@@ -1,6 +1,8 @@
 -- The next level by one walk: an equation at each place of the tree for the sets that respect the list, are not closed and are no larger
 -- than a bound; at the end those of the least size are the members of the next level.
-use Rattle.std.proofs.Common.{◌≡◌, ℕ, suc, cond, ap₂, ◌<◌, ◌≤◌, ◌+◌, Bool, true, false, not, ◌&&◌, ◌||◌, List, [], ◌∷◌, ◌++◌, length, get_or, set, map, filter, refl, sym, ap, ◌∙◌, subst, arith, inl, inr, ◌⊎◌, eqb, eqb-true, eq-eqb, leb, le-leb, leb-true, ltb, get_or-set_same, length-set}
+use Rattle.std.proofs.Common.{◌≡◌, ℕ, suc, cond, ap₂, ◌<◌, ◌≤◌, ◌+◌, Bool, true, false, not, ◌&&◌, ◌||◌, List, [], ◌∷◌, ◌++◌, length, get_or, set}
+use Rattle.std.proofs.Common.{map, filter, refl, sym, ap, ◌∙◌, subst, arith, inl, inr, ◌⊎◌, eqb, eqb-true, eq-eqb, leb, le-leb, leb-true, ltb}
+use Rattle.std.proofs.Common.{get_or-set_same, length-set}
 use Rattle.std.proofs.lemmas.Bool.{false≢true, and_parts, and_from, cases_Bool, cases_lt, or_cases, or_left, or_right, not-true, lt-leb, ltb-true, lt-ltb}
 use Rattle.std.proofs.lemmas.List.{map-append}
 use Rattle.std.proofs.lemmas.List.Folds.{list_all-append, list_all-map}
@@ -11,23 +13,21 @@ use Rattle.fca_model.specs.Context.{Context, closure, is_closed}
 use Rattle.fca_model.specs.Implications.{Rule, rule, respects, respects_all}
 use Rattle.fca_model.specs.Pseudo.{pseudo_known, basis_known}
 use Rattle.fca_model.specs.Levels.{level_of, HasBelow}
-use Rattle.fca_model.proofs.SetLemmas.{within_refl, set_within, within_at_place, same-true, same_from, size_mono, same_by_size, size_le, size_strict, strictly-parts, within_antisymm, all_sets_widths, all_sets_increasing, agree_at}
-use Rattle.fca_model.proofs.ListLemmas.{bool_iff, list_all-mono, list_all-and, list_any_at, list_any-map, filter-map, filter-filter, filter_passes, filter_none, filter_agree_on, list_all-filter, list_all-filter_kept, implies_from}
+use Rattle.fca_model.proofs.SetLemmas.{within_refl, set_within, within_at_place, same-true, same_from, size_mono, same_by_size, size_le, size_strict}
+use Rattle.fca_model.proofs.SetLemmas.{strictly-parts, within_antisymm, all_sets_widths, all_sets_increasing, agree_at}
+use Rattle.fca_model.proofs.ListLemmas.{bool_iff, list_all-mono, list_all-and, list_any_at, list_any-map, filter-map, filter-filter, filter_passes}
+use Rattle.fca_model.proofs.ListLemmas.{filter_none, filter_agree_on, list_all-filter, list_all-filter_kept, implies_from}
 use Rattle.fca_model.proofs.ClosureLemmas.{respects_at, length-closure, closure_extensive}
 use Rattle.fca_model.proofs.PseudoLemmas.{pseudo_parts, pseudo_from, basis_all, basis_at}
-use Rattle.fca_model.proofs.LevelLemmas.{respects_found, level_is}
-use Rattle.fca_model.proofs.SortedLemmas.{in_filter, in_all_sets, increasing-filter}
+use Rattle.fca_model.proofs.LevelLemmas.{respects_found, level_is, level_all}
+use Rattle.fca_model.proofs.SortedLemmas.{in_filter, in_all_sets, increasing-filter, split_filter}
 use Rattle.implication_closure.specs.Closing.{IsClosure, HaveWidth, has_width}
 use Rattle.lectic_basis.specs.Trees.{before, up_to}
 use Rattle.next_level.specs.NextLevel.{is_open, opens_at, open_where, everything, IsOpen, IsLeastUnder, IsLeastLevel, IsNextLevel}
 use Rattle.next_level.specs.Among.{AllAmong, IsAhead, IsRest, may_be_open}
 use Rattle.next_level.specs.LevelWalks.{IsLeastSize}
 use Rattle.lectic_basis.proofs.PlaceLemmas as places
-use Rattle.lectic_basis.proofs.ListingLemmas.{same_listed, listed_push, split_filter}
-
-none_pass : (Xs : List Set) → filter (λ X. false) Xs ≡ []
-none_pass [] = refl
-none_pass (X ∷ Xs) = none_pass Xs
+use Rattle.lectic_basis.proofs.ListingLemmas.{same_listed, listed_push, filter_nothing}
 
 -- ---- the closure of a set with one attribute more
 
@@ -192,15 +192,6 @@ module _ (J : List Rule) (K : Context) where
           | inl first ↦ or_left (before from A X) (same A X) first
           | inr one ↦ or_right (before from A X) (same A X) (same_from A X one)
         ]))
-
--- what the implication of each pseudo-intent of the size passes, all members of the level pass
-pub level_all : (S : List Rule) (K : Context) (k : ℕ) (p : Rule → Bool)
-    → ((P : Set) → length P ≡ K.width → pseudo_known S K P ≡ true → size P ≡ k → p (rule P (closure K P)) ≡ true)
-    → list_all p (level_of S K k) ≡ true
-unfolding level_of
-level_all S K k p h = list_all-filter p (λ i. eqb (size i.premise) k) (basis_known S K)
-    ∙ basis_all S K (λ i. not (eqb (size i.premise) k) || p i)
-    (λ P e q. implies_from (eqb (size P) k) (p (rule P (closure K P))) (λ t. h P e q (eqb-true (size P) k t)))
 
 -- ---- the level
 
@@ -502,7 +493,7 @@ module _ (S : List Rule) (K : Context) (k : ℕ) (found J : List Rule) (is : J �
 -- before anything was seen
 pub nothing_seen : (J : List Rule) (K : Context) (A : Set) (L : List Rule) (b : ℕ) → L ≡ [] → L ≡ open_where J K b (before 0 A)
 unfolding open_where
-nothing_seen J K A L b e = e ∙ sym (ap (map (λ P. rule P (closure K P))) (none_pass (filter (is_open J K b) (all_sets K.width))))
+nothing_seen J K A L b e = e ∙ sym (ap (map (λ P. rule P (closure K P))) (filter_nothing (filter (is_open J K b) (all_sets K.width))))
 
 -- where no open set passes the test
 pub nothing_open : (J : List Rule) (K : Context) (b : ℕ) (p : Set → Bool) (L : List Rule)
@@ -513,7 +504,7 @@ nothing_open J K b p L none e = same_where J K b (before 0 []) p L
 -- and the other way round, where no set passes it
 pub none_listed : (J : List Rule) (K : Context) (b : ℕ) (L : List Rule) → L ≡ open_where J K b (λ X. false) → L ≡ []
 unfolding open_where
-none_listed J K b L l = l ∙ ap (map (λ P. rule P (closure K P))) (none_pass (filter (is_open J K b) (all_sets K.width)))
+none_listed J K b L l = l ∙ ap (map (λ P. rule P (closure K P))) (filter_nothing (filter (is_open J K b) (all_sets K.width)))
 
 -- lists and tests that pass the same sets
 pub other_where : (I J : List Rule) (K : Context) (b : ℕ) (p q : Set → Bool) (L : List Rule)

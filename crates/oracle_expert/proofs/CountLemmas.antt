@@ -3,7 +3,9 @@
 -- turn more for each row that was dropped, is an upper bound of the turns that were taken when a draw is due. While a question is due the
 -- bound has one turn less, and two more where the question is still fresh, for then what is recorded for it is yet to come. The last
 -- draw, which is answered Done, is one turn more.
-use Rattle.std.proofs.Common.{◌≡◌, append-nil, append_assoc, ℕ, suc, ◌+◌, ◌*◌, ◌-◌, ◌^◌, ◌<◌, ◌≤◌, ◌⊎◌, Bool, true, false, not, ◌&&◌, ◌||◌, cond, eqb, eq-eqb, option_map, find, get_or, zero, Option, Some, None, List, [], ◌∷◌, ◌++◌, length, map, filter, slice_get, slice_set, refl, inl, inr, sym, ap, ◌∙◌, subst, arith, length-append}
+use Rattle.std.proofs.Common.{◌≡◌, append-nil, append_assoc, ℕ, suc, ◌+◌, ◌*◌, ◌-◌, ◌^◌, ◌<◌, ◌≤◌, ◌⊎◌, Bool, true, false, not, ◌&&◌, ◌||◌, cond, eqb}
+use Rattle.std.proofs.Common.{eq-eqb, option_map, find, get_or, zero, Option, Some, None, List, [], ◌∷◌, ◌++◌, length, map, filter, slice_get}
+use Rattle.std.proofs.Common.{slice_set, refl, inl, inr, sym, ap, ◌∙◌, subst, arith, length-append}
 use Rattle.std.proofs.Math.Pow.{pow_mono}
 use Rattle.std.proofs.lemmas.List.{length-map, length-set}
 use Rattle.std.proofs.lemmas.Bool.{and_parts, or_from, false≢true, not-true, eqb-true}
@@ -20,7 +22,10 @@ use Rattle.fca_model.specs.Implications.{Rule, holds, respects, refutes}
 use Rattle.fca_model.specs.Questions.{has_premise, waiting, open_questions, least_size}
 use Rattle.fca_model.specs.Pseudo.{basis_known}
 use Rattle.fca_model.specs.Invariant.{Among, IsValid, rows_respect}
-use Rattle.fca_model.specs.Exploration.{State, Settings, RowName, opening, SetHold, SetEvent, SetReply, SetEntry, rules_of, open_in, held_by, given_back, first_with, first_missing, draw_reply, confirm_unheard, confirm_unrefuted, confirm_reply, row_new, row_unbroken, row_refuting, row_fitting, row_reply, release, accept, after, after_draw, after_confirm, after_row, reply_to, next, state_after, journal_of, events_of, expert_of, is_expert, IsLegal, own}
+use Rattle.fca_model.specs.Exploration.{State, Settings, RowName, opening, SetHold, SetEvent, SetReply, SetEntry, rules_of, open_in, held_by}
+use Rattle.fca_model.specs.Exploration.{given_back, first_with, first_missing, draw_reply, confirm_unheard, confirm_unrefuted, confirm_reply, row_new}
+use Rattle.fca_model.specs.Exploration.{row_unbroken, row_refuting, row_fitting, row_reply, release, accept, after, after_draw, after_confirm}
+use Rattle.fca_model.specs.Exploration.{after_row, reply_to, next, state_after, journal_of, events_of, expert_of, is_expert, IsLegal, own}
 use Rattle.fca_model.proofs.ListLemmas.{list_all-filter_kept, filter_passes}
 use Rattle.fca_model.proofs.ClosureLemmas.{holds_by_rows}
 use Rattle.fca_model.proofs.PseudoLemmas.{basis_holds}

@@ -1,7 +1,8 @@
 -- Between two draws of an oracle an answer is recorded. The question by which the first draw is answered is open, so it is not stale.
 -- While it is not stale, the oracle's answer to it is recorded, or breaks a rule and leaves the question due; and it becomes stale only
 -- where an answer of another is recorded. So a draw, which is due where no question is, comes after a recorded answer.
-use Rattle.std.proofs.Common.{◌≡◌, ℕ, ◌≤◌, ◌⊎◌, Bool, true, false, not, cond, eqb, eq-eqb, get_or, Option, Some, None, List, [], ◌∷◌, ◌++◌, length, filter, refl, inl, inr, sym, ap, ◌∙◌, subst, arith, length-append}
+use Rattle.std.proofs.Common.{◌≡◌, ℕ, ◌≤◌, ◌⊎◌, Bool, true, false, not, cond, eqb, eq-eqb, get_or, Option, Some, None, List, [], ◌∷◌, ◌++◌, length}
+use Rattle.std.proofs.Common.{filter, refl, inl, inr, sym, ap, ◌∙◌, subst, arith, length-append}
 use Rattle.std.proofs.lemmas.Bool.{cases_Bool, and_parts, false≢true, not-true}
 use Rattle.std.specs.List.{list_all}
 use Rattle.fca_model.specs.declared.Event.TheVariants.{Draw}
@@ -206,7 +207,7 @@ module _ (D : NamedContext) (e : ℕ) where
 -- ---- in a history
 
 -- of a run the entries behind some of them are a run
-runs_on : (D : NamedContext) (e : ℕ) (m : Moment) (xs ys : List SetEntry) → OracleRunsFrom D e m (xs ++ ys)
+pub runs_on : (D : NamedContext) (e : ℕ) (m : Moment) (xs ys : List SetEntry) → OracleRunsFrom D e m (xs ++ ys)
     → OracleRunsFrom D e (moment_at D m xs) ys
 runs_on D e m [] ys run = run
 runs_on D e m (x ∷ xs) ys run = runs_on D e (moment_after D m x.reply) xs ys run.2

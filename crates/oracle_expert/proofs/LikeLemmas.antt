@@ -3,7 +3,8 @@
 -- that is accepted holds in the context, its rows respect it, and none breaks it. Once no question is open the accepted implications are
 -- the basis of the recorded rows. They hold in the context and the recorded rows are rows of it, so both have one basis. For tables with
 -- the same intents it is the context of all these.
-use Rattle.std.proofs.Common.{◌≡◌, ℕ, zero, suc, ◌+◌, ◌<◌, Bool, true, false, not, ◌&&◌, ◌||◌, cond, eqb, eq-eqb, Option, Some, None, List, [], ◌∷◌, ◌++◌, All, length, map, get_or, refl, sym, ap, ◌∙◌, subst, arith}
+use Rattle.std.proofs.Common.{◌≡◌, ℕ, zero, suc, ◌+◌, ◌<◌, Bool, true, false, not, ◌&&◌, ◌||◌, cond, eqb, eq-eqb, Option, Some, None, List, [], ◌∷◌}
+use Rattle.std.proofs.Common.{◌++◌, All, length, map, get_or, refl, sym, ap, ◌∙◌, subst, arith}
 use Rattle.std.proofs.lemmas.Bool.{and_parts, and_from, or_left, or_right, false≢true, not-true, eqb-true}
 use Rattle.std.proofs.lemmas.List.Folds.{list_all-append}
 use Rattle.std.proofs.lemmas.Iterator.Adapters.{position_from-zero}
@@ -15,7 +16,8 @@ use Rattle.fca_model.specs.Tables.{NamedContext}
 use Rattle.fca_model.specs.Implications.{Rule, rule, holds, respects, respects_all, refutes}
 use Rattle.fca_model.specs.Pseudo.{basis_known}
 use Rattle.fca_model.specs.Invariant.{IsValid, SameMembers, rows_respect}
-use Rattle.fca_model.specs.Exploration.{State, Settings, RowName, SetEvent, SetReply, SetEntry, rules_of, open_in, reply_to, next, opening, state_after, journal_of, events_of, expert_of, is_expert, IsLegal, own}
+use Rattle.fca_model.specs.Exploration.{State, Settings, RowName, SetEvent, SetReply, SetEntry, rules_of, open_in, reply_to, next, opening}
+use Rattle.fca_model.specs.Exploration.{state_after, journal_of, events_of, expert_of, is_expert, IsLegal, own}
 use Rattle.fca_model.proofs.ListLemmas.{and_true, list_all-mono}
 use Rattle.fca_model.proofs.SetLemmas.{within_trans, same_refl}
 use Rattle.fca_model.proofs.SortedLemmas.{at_member}

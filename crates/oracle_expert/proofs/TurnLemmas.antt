@@ -13,7 +13,10 @@ use Rattle.fca_model.specs.Tables.{NamedContext}
 use Rattle.fca_model.specs.Implications.{Rule, respects, respects_all, refutes}
 use Rattle.fca_model.specs.Questions.{has_premise}
 use Rattle.fca_model.specs.Invariant.{Among, IsValid}
-use Rattle.fca_model.specs.Exploration.{State, SetHold, SetReply, RowName, rules_of, open_in, held_by, given_back, least_held, all_held, asked, draw_reply, first_with, first_missing, confirm_unheard, confirm_unrefuted, confirm_reply, row_new, row_unbroken, row_refuting, row_fitting, row_reply, reply_to, release, accept, record_row, after_draw, after_confirm, after_row, after, next, is_expert}
+use Rattle.fca_model.specs.Exploration.{State, SetHold, SetReply, RowName, rules_of, open_in, held_by, given_back, least_held, all_held, asked}
+use Rattle.fca_model.specs.Exploration.{draw_reply, first_with, first_missing, confirm_unheard, confirm_unrefuted, confirm_reply, row_new}
+use Rattle.fca_model.specs.Exploration.{row_unbroken, row_refuting, row_fitting, row_reply, reply_to, release, accept, record_row, after_draw}
+use Rattle.fca_model.specs.Exploration.{after_confirm, after_row, after, next, is_expert}
 use Rattle.fca_model.proofs.ListLemmas.{list_any-not}
 use Rattle.fca_model.proofs.StepLemmas.{first_with_none, draw_asks}
 use Rattle.fca_model.proofs.ListLemmas.{list_all-from_none}

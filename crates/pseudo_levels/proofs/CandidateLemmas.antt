@@ -16,15 +16,6 @@ use Rattle.pseudo_levels.specs.Search.{Has, HasLarger, HaveLarger, AreWide, Grow
 
 -- ---- the keys of a tree
 
-pub increasing_keys : (Xs : List Set) → IsStrictlySortedBy lectic_cmp Xs → increasing Xs ≡ true
-unfolding IsStrictlySortedBy
-increasing_keys [] h = refl
-increasing_keys (X ∷ Xs) h = and_from (list_all (λ B. is_lt (lectic_cmp X B)) Xs) (increasing Xs) (below Xs h.0) (increasing_keys Xs h.1)
-  where
-    below : (Ys : List Set) → AllByRecursion (λ Y. lectic_cmp X Y ≡ Less) Ys → list_all (λ B. is_lt (lectic_cmp X B)) Ys ≡ true
-    below [] h = refl
-    below (Y ∷ Ys) h = and_from (is_lt (lectic_cmp X Y)) (list_all (λ B. is_lt (lectic_cmp X B)) Ys) (ap is_lt h.0) (below Ys h.1)
-
 list_any-insert_key : (p : Set → Bool) (A : Set) (Xs : List Set) → list_any p Xs ≡ true → list_any p (insert_key lectic_cmp Xs A) ≡ true
 list_any-insert_key p A [] h = absurd (false≢true h)
 list_any-insert_key p A (X ∷ Xs) h = elim (lectic_cmp A X) as (λ o. list_any p

@@ -17,11 +17,11 @@ use Rattle.fca_model.specs.Pseudo.{basis_known, pseudo_known}
 use Rattle.fca_model.specs.Levels.{level_of, levels_below, by_size, absorbs_all, HasBelow}
 use Rattle.fca_model.proofs.ListLemmas.{implies_from, list_all-mono, list_all-filter, list_all-filter_kept, list_all-and, list_any-mono₂}
 use Rattle.fca_model.proofs.ListLemmas.{list_any_at, filter_passes}
-use Rattle.fca_model.proofs.SetLemmas.{same_refl, same_from, same_by_size, size_mono, all_sets_increasing, all_sets_widths}
+use Rattle.fca_model.proofs.SetLemmas.{same_refl, same_from, same_by_size, size_mono, all_sets_increasing, all_sets_widths, within-empty}
 use Rattle.fca_model.proofs.SortedLemmas.{at_member, same_members, increasing-filter, in_filter, of_filter, in_all_sets}
 use Rattle.fca_model.proofs.ClosureLemmas.{length-closure, closure_extensive, closure_idempotent, respects_at}
 use Rattle.fca_model.proofs.PseudoLemmas.{pseudo_parts, basis_all}
-use Rattle.fca_model.proofs.LevelLemmas.{pseudo_by_found, respects_found, level_is, has_below}
+use Rattle.fca_model.proofs.LevelLemmas.{pseudo_by_found, respects_found, level_is, has_below, level_all}
 use Rattle.implication_closure.specs.Closing.{has_width, HaveWidth}
 use Rattle.pseudo_levels.specs.Search.{judged, members_of, AreWide, Has, HasLarger, HaveLarger, Grows, leads, LeadsAll, LeadsOn, IsSettled}
 use Rattle.pseudo_levels.specs.Search.{IsOpened}
@@ -62,15 +62,6 @@ each_image f (x ∷ xs) = and_from (list_any (same (f x)) (f x ∷ map f xs)) (l
     (or_left (same (f x) (f x)) (list_any (same (f x)) (map f xs)) (same_refl (f x)))
     (list_all-mono (λ y. list_any (same (f y)) (map f xs)) (λ y. list_any (same (f y)) (f x ∷ map f xs))
     (λ y h. or_right (same (f y) (f x)) (list_any (same (f y)) (map f xs)) h) xs (each_image f xs))
-
--- what the implication of each pseudo-intent of the size passes, all members of the level pass
-pub level_all : (S : List Rule) (K : Context) (k : ℕ) (p : Rule → Bool)
-    → ((P : Set) → length P ≡ K.width → pseudo_known S K P ≡ true → size P ≡ k → p (rule P (closure K P)) ≡ true)
-    → list_all p (level_of S K k) ≡ true
-unfolding level_of
-level_all S K k p h = list_all-filter p (λ i. eqb (size i.premise) k) (basis_known S K)
-    ∙ basis_all S K (λ i. not (eqb (size i.premise) k) || p i)
-    (λ P e q. implies_from (eqb (size P) k) (p (rule P (closure K P))) (λ t. h P e q (eqb-true (size P) k t)))
 
 module _ (S : List Rule) (K : Context) (k : ℕ) (found : List Rule) (below : HasBelow S K k found) where
   -- the answers for sets of the size are their implications where they are pseudo-intents
@@ -194,16 +185,11 @@ module _ (S : List Rule) (K : Context) (k : ℕ) (found : List Rule) (below : Ha
 
 -- ---- the first candidate
 
-pub within-none : (n : ℕ) (P : Set) → within (replicate n false) P ≡ true
-within-none zero P = refl
-within-none (suc n) [] = within-none n []
-within-none (suc n) (y ∷ P) = within-none n P
-
 pub leads_first : (S : List Rule) (K : Context) (found : List Rule) (Xs : List Set) → Xs ≡ replicate K.width false ∷ []
     → LeadsAll S K 0 found Xs
 leads_first S K found Xs is P e _ _ _ le =
     let E : Set = replicate K.width false in
-    leads_by 0 E P Xs (subst (λ Zs. Has E Zs) (sym is) (or_left (same E E) false (same_refl E))) (omega arith) (within-none K.width P)
+    leads_by 0 E P Xs (subst (λ Zs. Has E Zs) (sym is) (or_left (same E E) false (same_refl E))) (omega arith) (within-empty K.width P)
 
 pub first_wide : (K : Context) (Xs : List Set) → Xs ≡ replicate K.width false ∷ [] → AreWide K.width Xs
 first_wide K Xs is =

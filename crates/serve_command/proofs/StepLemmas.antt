@@ -19,14 +19,7 @@ use Rattle.serve_command.specs.Accepted.{TookFirst, FallsShort}
 use Rattle.serve_command.specs.Served.{IsServeStop, IsOutput, GaveAllBack, HasSat, HasRisen}
 use Rattle.serve_command.proofs.AcceptedLemmas.{TookAndGave-none, TookAndGave-both}
 
-pub expert-range : (n : ℕ) → is_expert n ≡ true → (1 ≤ n) × (n ≤ MAX_EXPERTS)
-expert-range n expert = let range = and_parts (nat_le 1 n) (nat_le n MAX_EXPERTS) expert in (leb-true _ _ range.0, leb-true _ _ range.1)
-
 -- ---- results
-
-pub any-err : {X F : Type 0} (r : Result X F) (P : F → Type 0) → ((e : F) → P e) → IfErr r P
-any-err (Ok x) P all = tt
-any-err (Err e) P all = all e
 
 pub ok-from-three : {X F : Type 0} (r : Result X F) (P Q R S : X → Type 0) → IfOk r P → IfOk r Q → IfOk r R
     → ((x : X) → P x → Q x → R x → S x) → IfOk r S

@@ -5,3 +5,4 @@ pub mod LineLemmas
 pub mod NumeralLemmas
 pub mod MarkLemmas
 pub mod ItemLemmas
+pub mod TellingLemmas

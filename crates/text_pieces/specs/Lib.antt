@@ -6,3 +6,4 @@ pub mod Numerals
 pub mod Marks
 pub mod Faults
 pub mod Lists
+pub mod Telling

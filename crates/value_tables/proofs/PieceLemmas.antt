@@ -6,6 +6,7 @@ use Rattle.std.proofs.lemmas.List.{drop-append-le, drop_all, length-take-le, tak
 use Rattle.std.proofs.lemmas.List.{take_more_set}
 use Rattle.std.proofs.lemmas.List.Sums.{sum_by-append, sum_by-cons}
 use Rattle.fca_model.specs.Tables.{Text}
+use Rattle.csv_context.proofs.LineLemmas.{fields_in-some}
 use Rattle.csv_context.specs.Lines.{fields_in, add_byte, is_comma}
 use Rattle.csv_context.specs.Records.{Record}
 use Rattle.value_tables.specs.Cells.{cut}
@@ -37,11 +38,6 @@ joined-some : (b : ℕ) (pieces : Record) → 0 < length (add_byte b pieces)
 joined-some b [] = omega arith
 joined-some b (piece ∷ pieces) = omega arith
 
-pub fields_in-some : (line : Text) → 0 < length (fields_in line)
-fields_in-some [] = omega arith
-fields_in-some (b ∷ line) = elim (cases_Bool (is_comma b)) [
-  | inl is ↦ rw is (omega arith)
-  | inr isnt ↦ rw isnt (joined-some b (fields_in line))
 ]
 
 joined-append : (b : ℕ) (pieces more : Record) → 0 < length pieces → add_byte b (pieces ++ more) ≡ add_byte b pieces ++ more

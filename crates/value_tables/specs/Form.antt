@@ -7,7 +7,7 @@ use Rattle.fca_model.specs.Names.{name_fault}
 use Rattle.fca_model.specs.declared.TheConstants.{MAX_ATTRIBUTES, MAX_OBJECTS}
 use Rattle.context_table.specs.Table.{first_repeat}
 use Rattle.csv_context.specs.Records.{Record, csv_records}
-use Rattle.value_tables.specs.Telling.{then, unless}
+use Rattle.text_pieces.specs.Telling.{then, unless}
 use Rattle.value_tables.specs.Numbers.{number_of}
 use Rattle.value_tables.specs.Values.{ObjectValues, ValueTable}
 use Rattle.value_tables.specs.declared.fields.FieldKind.{FieldKind}

@@ -1,4 +1,3 @@
-pub mod Telling
 pub mod Numbers
 pub mod Values
 pub mod Cells

@@ -2,7 +2,7 @@
 
 ghost use Rattle.std.specs.Prelude.{◌≡◌, ◌≢◌, ℕ, List, Result, Ok, Err};
 ghost use Rattle.value_tables.specs.Values.{ValueTable};
-ghost use Rattle.value_tables.specs.Telling.{Tells};
+ghost use Rattle.text_pieces.specs.Telling.{Tells};
 ghost use Rattle.value_tables.specs.Form.{values_form};
 ghost use Rattle.value_tables.specs.Written.{IsValueTable, values_text};
 ghost use Rattle.value_tables.specs.declared.ValuesFault.{ValuesFault};

@@ -10,7 +10,7 @@ ghost use Rattle.fca_model.specs.Names.{is_line_break, name_fault};
 ghost use Rattle.std.specs.List.{list_any};
 ghost use Rattle.value_tables.specs.Cells.{AreCells, PutsObject, cut, objects_of, texts};
 ghost use Rattle.value_tables.specs.Form as form;
-ghost use Rattle.value_tables.specs.Telling.{Tells, TellsBy};
+ghost use Rattle.text_pieces.specs.Telling.{Tells, TellsBy};
 
 use crate::ValuesFault;
 use crate::cells::Cells;

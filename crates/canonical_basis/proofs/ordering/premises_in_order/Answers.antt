@@ -1,6 +1,6 @@
 use Rattle.std.proofs.Common.{◌∙◌, ap}
 use Rattle.fca_model.specs.Sets.{increasing}
-use Rattle.pseudo_levels.proofs.CandidateLemmas.{increasing_keys}
+use Rattle.fca_model.proofs.SortedLemmas.{increasing_keys}
 use Rattle.canonical_basis.proofs.ordering.premises_in_order.Goals as goal
 
 pub returns-clause-ordered : goal.returns-clause-ordered

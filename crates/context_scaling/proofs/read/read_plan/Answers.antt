@@ -4,7 +4,7 @@ use Rattle.std.specs.Str.Lossy.{utf8_valid_len}
 use Rattle.std.proofs.lemmas.Str.{utf8_valid_len-IsUtf8}
 use Rattle.context_scaling.specs.Scaling.{Scaling}
 use Rattle.csv_context.specs.Records.{csv_records}
-use Rattle.value_tables.specs.Telling.{Tells}
+use Rattle.text_pieces.specs.Telling.{Tells}
 use Rattle.context_scaling.specs.PlanForm.{records_form, plan_form}
 use Rattle.context_scaling.specs.declared.PlanFault.{PlanFault}
 use Rattle.context_scaling.specs.declared.PlanFault.TheVariants as fault

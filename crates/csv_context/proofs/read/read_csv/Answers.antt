@@ -4,7 +4,8 @@ use Rattle.std.specs.Str.Lossy.{utf8_valid_len}
 use Rattle.std.proofs.lemmas.Str.{utf8_valid_len-IsUtf8}
 use Rattle.fca_model.specs.Tables.{NamedContext}
 use Rattle.csv_context.specs.Records.{csv_records}
-use Rattle.csv_context.specs.Form.{Tells, table_form, csv_form}
+use Rattle.text_pieces.specs.Telling.{Tells}
+use Rattle.csv_context.specs.Form.{table_form, csv_form}
 use Rattle.csv_context.specs.declared.CsvFault.{CsvFault}
 use Rattle.csv_context.specs.declared.CsvFault.TheVariants as fault
 use Rattle.csv_context.proofs.read.read_csv.Goals as goal
@@ -15,7 +16,7 @@ returns-in-Ok c =
     let text = c.in-Ok.ensures.cases in
     let whole : utf8_valid_len c.args.bytes.now == length c.args.bytes.now ≡ true =
     eq-eqb _ _ (utf8_valid_len-IsUtf8 c.args.bytes.now text.1) in
-    let P : List ℕ → Type 0 = λ bytes. Tells c.read_text.result (table_form (csv_records bytes)) in
+    let P : List ℕ → Type 0 = λ bytes. Tells fault.Memory c.read_text.result (table_form (csv_records bytes)) in
     rw whole (subst P text.0 c.read_text.ensures)
 
 pub returns-in-Err : goal.returns-in-Err

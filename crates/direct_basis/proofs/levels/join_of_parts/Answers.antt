@@ -4,11 +4,12 @@ use Rattle.std.specs.List.{list_all, range_with_len}
 use Rattle.fca_model.specs.Sets.{Set, join}
 use Rattle.fca_model.specs.Context.{closure}
 use Rattle.fca_model.proofs.ClosureLemmas.{length-closure}
+use Rattle.fca_model.proofs.RangeLemmas.{range_more}
 use Rattle.direct_basis.specs.Direct.{without}
 use Rattle.direct_basis.specs.Levels.{free}
 use Rattle.direct_basis.proofs.FreeLemmas.{free_at}
 use Rattle.direct_basis.proofs.JoinLemmas.{length-joins, joins_more}
-use Rattle.direct_basis.proofs.MemberLemmas.{range_more, list_all-filter_more}
+use Rattle.direct_basis.proofs.MemberLemmas.{list_all-filter_more}
 use Rattle.direct_basis.proofs.levels.join_of_parts.Goals as goal
 use Rattle.direct_basis.proofs.levels.join_of_parts.Goals.{then-has+else-has-2, else-has}
 

@@ -1,9 +1,10 @@
 use Rattle.std.proofs.Common.{◌+◌, [], ℕ, List, take}
 use Rattle.std.specs.List.{flat_map}
 use Rattle.fca_model.specs.Sets.{Set}
+use Rattle.fca_model.proofs.ListLemmas.{flat_map-take_more}
 use Rattle.direct_basis.specs.Direct.{proper}
 use Rattle.direct_basis.specs.Levels.{free, larger}
-use Rattle.direct_basis.proofs.LevelLemmas.{flat_map-take, more_kept, more_placed}
+use Rattle.direct_basis.proofs.LevelLemmas.{more_kept, more_placed}
 use Rattle.direct_basis.proofs.levels.next_level.Goals as goal
 
 pub loop-set-preserved : goal.loop-set-preserved
@@ -14,7 +15,7 @@ loop-set-preserved c =
     let S : Set = c.set-item.result in
     let before : List Set = flat_map larger (take k Ls) in
     let after : List Set = flat_map larger (take (k + 1) Ls) in
-    let one_more = flat_map-take larger Ls k S c.loop-set-test.true c.set-item.is in
+    let one_more = flat_map-take_more larger Ls k S c.loop-set-test.true c.set-item.is in
     record {
       level = more_kept (free K) [] c.loop-set.next.items c.grow.new.level.items before
           (larger S) after one_more c.loop-set.invariant.level c.in_ok-grow.ensures.level;

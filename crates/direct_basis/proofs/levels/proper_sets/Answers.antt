@@ -1,6 +1,7 @@
 use Rattle.std.proofs.Common.{◌≡◌, ◌∙◌, rules}
-use Rattle.direct_basis.proofs.LevelLemmas.{increasing_keys, found_is}
+use Rattle.direct_basis.proofs.LevelLemmas.{found_is}
 use Rattle.direct_basis.proofs.levels.proper_sets.Goals as goal
+use Rattle.fca_model.proofs.SortedLemmas.{increasing_keys}
 
 pub returns : goal.returns
 returns c =

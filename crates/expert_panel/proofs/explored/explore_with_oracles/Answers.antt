@@ -8,6 +8,7 @@ use Rattle.fca_model.specs.Tables.{NamedContext}
 use Rattle.fca_model.specs.Implications.{Rule, holds}
 use Rattle.fca_model.specs.Invariant.{rows_respect}
 use Rattle.fca_model.specs.Exploration.{Settings, own, is_expert}
+use Rattle.fca_model.proofs.RunLemmas.{expert_range}
 use Rattle.implication_closure.specs.Closing.{HaveWidth}
 use Rattle.explore_state.specs.History.{Opening, History}
 use Rattle.oracle_expert.specs.Oracles.{Recall, no_conflict, untold}
@@ -16,7 +17,7 @@ use Rattle.oracle_expert.specs.Intents.{HasIntentsOf, are_intents}
 use Rattle.expert_panel.specs.Explorations.{HasEnded, HasFewRows, IsOraclesShare, EachNumbered, IsWithinTurns, HasAgreed, HasEvenRows}
 use Rattle.expert_panel.proofs.ShareLemmas.{untold_free}
 use Rattle.expert_panel.proofs.EndingLemmas.{untold_all, untold_tables, tables_all, IfOk-mono}
-use Rattle.expert_panel.proofs.CourseLemmas.{expert_range, respecting_new, known_holds, within_turns, never_spent, agreed}
+use Rattle.expert_panel.proofs.CourseLemmas.{respecting_new, known_holds, within_turns, never_spent, agreed}
 use Rattle.expert_panel.proofs.explored.explore_with_oracles.Goals as goal
 
 as_many : (oracles before : List Recall) → map (λ (r : Recall). r.table) oracles ≡ map (λ (r : Recall). r.table) before

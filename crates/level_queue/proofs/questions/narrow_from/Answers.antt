@@ -5,8 +5,8 @@ use Rattle.level_queue.specs.Queue.{narrowed, still_open}
 use Rattle.level_queue.proofs.PlaceLemmas.{IsNarrowing, was, unclosed_at, narrowing_keeps, narrowing_drops}
 use Rattle.level_queue.proofs.questions.narrow_from.Goals as goal
 
-pub meet_at-requires-clause-unclosed : goal.meet_at-requires-clause-unclosed
-meet_at-requires-clause-unclosed c q at =
+pub narrow_at-requires-clause-unclosed : goal.narrow_at-requires-clause-unclosed
+narrow_at-requires-clause-unclosed c q at =
     let n = c.loop-place.invariant.narrowing in
     let i = c.loop-place.place - 1 in
     let next : c.loop-place.place ≡ suc i = omega arith in
@@ -14,8 +14,8 @@ meet_at-requires-clause-unclosed c q at =
     unclosed_at c.args.list.now c.args.first i q c.requires.unclosed (omega arith) (let e = n.long in omega (arith, e, inside))
     (was n i next inside q at)
 
-pub loop-place-preserved-then-not-meet_at : goal.loop-place-preserved-then-not-meet_at
-loop-place-preserved-then-not-meet_at c =
+pub loop-place-preserved-then-not-narrow_at : goal.loop-place-preserved-then-not-narrow_at
+loop-place-preserved-then-not-narrow_at c =
     let n = c.loop-place.invariant.narrowing in
     let i = c.loop-place.place - 1 in
     let next : c.loop-place.place ≡ suc i = omega arith in
@@ -26,9 +26,9 @@ loop-place-preserved-then-not-meet_at c =
     record {
       from_on = omega arith;
       narrowing = narrowing_drops n i next inside q at
-          (sym (c.meet_at.ensures.left q at) ∙ c.if-not-meet_at.true) c.meet_at.new.self c.move_up-kept.new.list
+          (sym (c.narrow_at.ensures.left q at) ∙ c.if-not-narrow_at.true) c.narrow_at.new.self c.move_up-kept.new.list
           (i + 1) c.move_up-kept.result
-          (c.meet_at.ensures.met q at) (omega arith) c.move_up-kept.ensures.place c.move_up-kept.ensures.moved c.move_up-kept.ensures.rest
+          (c.narrow_at.ensures.met q at) (omega arith) c.move_up-kept.ensures.place c.move_up-kept.ensures.moved c.move_up-kept.ensures.rest
           c.move_up-kept.ensures.long;
     }
 
@@ -44,8 +44,8 @@ loop-place-preserved c =
     record {
       from_on = omega arith;
       narrowing = subst (λ qs. IsNarrowing c.args.row.now c.args.list.now qs c.loop-place.kept c.loop-place.end i)
-          (sym (c.meet_at.ensures.met q at))
-          (narrowing_keeps n i next inside q at (sym (c.meet_at.ensures.left q at) ∙ c.if-not-meet_at.false));
+          (sym (c.narrow_at.ensures.met q at))
+          (narrowing_keeps n i next inside q at (sym (c.narrow_at.ensures.left q at) ∙ c.if-not-narrow_at.false));
     }
 
 pub returns-clause-narrowed : goal.returns-clause-narrowed

@@ -1,7 +1,7 @@
 use Rattle.std.proofs.Common.{◌≡◌, ◌∙◌, ap, true}
 use Rattle.std.proofs.lemmas.Result.{IfOk-weaker}
 use Rattle.fca_model.specs.Sets.{increasing}
-use Rattle.pseudo_levels.proofs.CandidateLemmas.{increasing_keys}
+use Rattle.fca_model.proofs.SortedLemmas.{increasing_keys}
 use Rattle.pseudo_levels.proofs.candidates.in_order.Goals as goal
 
 pub returns-clause-ordered : goal.returns-clause-ordered

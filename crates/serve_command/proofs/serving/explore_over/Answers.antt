@@ -1,17 +1,18 @@
 use Rattle.std.proofs.Common.{◌≡◌, ◌<◌, ◌⊎◌, ◌∙◌, ◌++◌, ℕ, [], map, sym, ap, subst}
 use Rattle.fca_model.specs.Exploration.{own}
+use Rattle.fca_model.proofs.ListLemmas.{IfErr-any}
 use Rattle.basis_report.specs.Explorations.{explore_text}
 use Rattle.basis_report.specs.Sessions.{sessions_text}
 use Rattle.serve_command.specs.Accepted.{HasRoomFor}
 use Rattle.serve_command.specs.Served.{words_of}
-use Rattle.serve_command.proofs.StepLemmas.{any-err, ok-from-three}
+use Rattle.serve_command.proofs.StepLemmas.{ok-from-three}
 use Rattle.serve_command.proofs.ServedLemmas.{IsOver, has-sat, risen-talks}
 use Rattle.serve_command.proofs.serving.explore_over.Goals as goal
 
 pub returns-in-Ok-clause-risen : goal.returns-in-Ok-clause-risen
 returns-in-Ok-clause-risen g c =
     let Room : ℕ → Type 0 = HasRoomFor (g.L.Listener.ends c.args.link.now) in
-    any-err c.text_of.result _ (λ s.
+    IfErr-any c.text_of.result _ (λ s.
     risen-talks g.L.End.Source.left g.L.End.Sink.held g.L.End.Source.reads g.L.End.Source.faults g.L.End.Sink.faults
     c.args.explore.opening.table c.in-Ok.served.explore.journal
     c.args.ends.items c.in-Ok.served.ends.items _ _ c.in-Ok.served.endings.items c.in-Ok.ensures.talks

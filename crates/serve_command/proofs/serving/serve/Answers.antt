@@ -2,6 +2,8 @@ use Rattle.std.proofs.Common.{◌≡◌, ◌∙◌, ◌⊎◌, inr, refl, sym, a
 use Rattle.std.proofs.lemmas.Result.{IfOk-weaker, IfErr-weaker}
 use Rattle.std.specs.Prelude.{option_copied}
 use Rattle.fca_model.specs.Tables.{Text}
+use Rattle.fca_model.proofs.ListLemmas.{IfErr-any}
+use Rattle.fca_model.proofs.RunLemmas.{expert_range}
 use Rattle.fca_io.specs.Faults.{Rose}
 use Rattle.explore_state.specs.History.{Opening}
 use Rattle.command_io.specs.Readings.{Rises, SameCounts}
@@ -9,22 +11,22 @@ use Rattle.command_io.proofs.ErrLemmas.{err-passed}
 use Rattle.command_io.proofs.QuietLemmas.{unless_fault, unless_listener, fault-passed, listener-passed, SameCounts-then}
 use Rattle.command_io.specs.Known.{start_of}
 use Rattle.serve_command.specs.Served.{IsOutput}
-use Rattle.serve_command.proofs.StepLemmas.{expert-range, any-err, early-back, short-back, risen-ends, sat-output, memory-serve, link-serve}
+use Rattle.serve_command.proofs.StepLemmas.{early-back, short-back, risen-ends, sat-output, memory-serve, link-serve}
 use Rattle.serve_command.proofs.StepLemmas.{heard, heard-refused}
 use Rattle.serve_command.proofs.serving.serve.Goals as goal
 
 pub returns-in_err-start-clause-ends : goal.returns-in_err-start-clause-ends
 returns-in_err-start-clause-ends g c =
-    let range = expert-range c.args.experts c.requires.experts in
-    any-err c.from_residual.result _ (λ s. early-back _ _ _ _ _ c.args.experts _ _ range.0)
+    let range = expert_range c.args.experts c.requires.experts in
+    IfErr-any c.from_residual.result _ (λ s. early-back _ _ _ _ _ c.args.experts _ _ range.0)
 
 pub returns-in_err-explore-clause-ends : goal.returns-in_err-explore-clause-ends
 returns-in_err-explore-clause-ends g c =
-    let range = expert-range c.args.experts c.requires.experts in
-    any-err c.from_residual-in_err-explore.result _ (λ s. early-back _ _ _ _ _ c.args.experts _ _ range.0)
+    let range = expert_range c.args.experts c.requires.experts in
+    IfErr-any c.from_residual-in_err-explore.result _ (λ s. early-back _ _ _ _ _ c.args.experts _ _ range.0)
 
 pub ends_at-requires-clause-some : goal.ends_at-requires-clause-some
-ends_at-requires-clause-some g c κs within = (expert-range c.args.experts c.requires.experts).0
+ends_at-requires-clause-some g c κs within = (expert_range c.args.experts c.requires.experts).0
 
 pub returns-in_err-ends-clause-refused : goal.returns-in_err-ends-clause-refused
 returns-in_err-ends-clause-refused g c =

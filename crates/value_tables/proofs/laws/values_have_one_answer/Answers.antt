@@ -1,6 +1,6 @@
 use Rattle.value_tables.specs.Form.{values_form}
 use Rattle.value_tables.specs.declared.ValuesFault.TheVariants as fault
-use Rattle.value_tables.proofs.TellingLemmas.{one_answer}
+use Rattle.text_pieces.proofs.TellingLemmas.{one_answer}
 use Rattle.value_tables.proofs.laws.values_have_one_answer.Goals as goal
 
 pub returns : goal.returns

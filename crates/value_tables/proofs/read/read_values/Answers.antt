@@ -4,7 +4,7 @@ use Rattle.std.specs.Str.Lossy.{utf8_valid_len}
 use Rattle.std.proofs.lemmas.Str.{utf8_valid_len-IsUtf8}
 use Rattle.value_tables.specs.Values.{ValueTable}
 use Rattle.csv_context.specs.Records.{csv_records}
-use Rattle.value_tables.specs.Telling.{Tells}
+use Rattle.text_pieces.specs.Telling.{Tells}
 use Rattle.value_tables.specs.Form.{table_form, values_form}
 use Rattle.value_tables.specs.declared.ValuesFault.{ValuesFault}
 use Rattle.value_tables.specs.declared.ValuesFault.TheVariants as fault

@@ -1,6 +1,6 @@
 -- What a form says is one answer.
 use Rattle.std.proofs.Common.{◌≡◌, ◌≢◌, ◌∙◌, Result, Ok, Err, inl, inr, sym, ap}
-use Rattle.value_tables.specs.Telling.{Tells}
+use Rattle.text_pieces.specs.Telling.{Tells}
 
 pub one_answer : {X E : Type 0} (memory : E) (form a b : Result X E) → Tells memory a form → Tells memory b form → a ≢ Err memory
     → b ≢ Err memory → a ≡ b
