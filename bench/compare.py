@@ -34,7 +34,7 @@ def line(job, name, program, times, mine=None, differs=False):
 
 
 def report(job, name, path, folder):
-    """A line for the program, and one for each algorithm that comes to an end."""
+    """A line for the program, and one for each algorithm that comes to an end. Whether all wrote the same bytes."""
     commands = [("fca", [measure.FCA, job, path])]
     commands += [(algorithm, [os.path.join(folder, job), algorithm, "print", path]) for algorithm in ALGORITHMS[job]] if folder else []
     digests = [measure.written(words) for _, words in commands]
@@ -45,6 +45,7 @@ def report(job, name, path, folder):
         line(job, name, commands[place][0], one, mine if place else None, digests[place] != digests[0])
     for place in set(range(len(commands))) - set(ended):
         print("%-10s %-18s %-10s %8s" % (job, name, commands[place][0], ">%d" % measure.LIMIT), flush=True)
+    return len({digests[place] for place in ended}) < 2
 
 
 def main():

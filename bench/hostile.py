@@ -9,7 +9,8 @@
     memory     every command with each of its allocations refused in turn (bench/refused_memory.py, which wants cc)
     calls      every command with each call that asks the system for memory, and each that begins a thread, refused in turn (wants strace)
     streams    every command with closed and full streams
-    endless    tables whose concepts, or whose direct basis, no machine can list, within 256 MB of addresses
+    endless    answers that are longer than the 256 MB of addresses that a command may have
+    machine    the same by the limit that `fca` sets, on a machine that says it has 256 MB left (wants unshare, and the right to mount)
     replies    replies to lines that were sent at once, with bytes behind `quit` or a line that is too long; and a client too many
     listen     addresses that are none
 
@@ -61,21 +62,13 @@ THREADED = ("explore", "survey", "concepts")
 Ran = collections.namedtuple("Ran", "status out err")
 
 
-def found_program():
-    """The program itself; `fca` is asked first, which builds it where that is needed."""
-    if "BENCH_FCA" in os.environ:
-        return os.path.abspath(measure.FCA)
-    subprocess.run([measure.FCA], stderr=subprocess.DEVNULL)
-    return os.path.join(measure.TOP, "crates", "fca_program", "out", "fca_program")
-
-
 class Place:
     """A folder with the program and the files of the commands, which every user may read."""
 
     def __init__(self, folder):
         self.folder, self.program = folder, os.path.join(folder, "program")
         os.chmod(folder, 0o755)
-        shutil.copy(found_program(), self.program)
+        shutil.copy(measure.built_program(), self.program)
         os.chmod(self.program, 0o755)
         for name, text in FILES.items():
             self.write(name, text)
@@ -483,12 +476,55 @@ def table_of(width, rows):
     return "".join(line + "\n" for line in ["B", "", str(len(rows)), str(width), ""] + names + rows)
 
 
-def endless(place, report, is_quick):
+def nominal(count):
+    """Each object has an attribute of its own: two of them imply all others."""
+    return table_of(count, ["." * i + "X" + "." * (count - i - 1) for i in range(count)])
+
+
+SMALL_MEMORY = 256 * 1024  # in KB
+ENDLESS = [
+    ("concepts sets.cxt", ""),
+    ("concepts sets.cxt --json", ""),
+    ("lattice sets.cxt", ""),
+    ("direct pairs.cxt", ""),
+    ("basis alone.cxt", ""),
+    ("basis alone.cxt --json", ""),
+    ("explore bare-alone.cxt --expert alone.cxt", ""),
+    ("replay empty.cxt", "draw 1\n" * 2000000),
+]
+
+
+def run_endless(place, report, **how):
+    """Each command on a table or a script whose answer is longer than the memory that it may have."""
     place.write("sets.cxt", without_one(48))
     place.write("pairs.cxt", without_pairs(40))
-    for words in ("concepts sets.cxt", "concepts sets.cxt --json", "lattice sets.cxt", "direct pairs.cxt"):
-        ran = place.run(words, limit="-v %d" % (256 * 1024))
+    place.write("alone.cxt", nominal(512))
+    place.write("bare-alone.cxt", table_of(512, []))
+    for words, stdin in ENDLESS:
+        ran = place.run(words, stdin, **how)
         report.add("refused" if ran == Ran(5, b"", NO_MEMORY) else "wrong", words, ran)
+
+
+def endless(place, report, is_quick):
+    run_endless(place, report, limit="-v %d" % SMALL_MEMORY)
+
+
+def machine(place, report, is_quick):
+    begin = ["unshare", "--mount", "sh", "-c", 'mount --bind meminfo /proc/meminfo && exec sh limited "$@"', "sh"]
+    write_limited(place)
+    if shutil.which("unshare") is None or place.run("concepts beings.cxt", begin=begin) != place.run("concepts beings.cxt"):
+        report.skip("it wants unshare, and the right to mount")
+        return
+    run_endless(place, report, begin=begin)
+
+
+def write_limited(place):
+    """What `fca` does before it runs the program, as a script of its own, and what a machine of little memory says of itself."""
+    with open(os.path.join(measure.TOP, "fca")) as script:
+        lines = script.read().split("\n")
+    first = next(at for at, line in enumerate(lines) if line.startswith("# What stands from here"))
+    place.write("limited", "\n".join(["program=$1", "shift"] + lines[first : lines.index("# ----")] + ['run "$@"', ""]))
+    place.write("meminfo", "MemAvailable: %d kB\n" % SMALL_MEMORY)
 
 
 # ---- the door
@@ -581,7 +617,7 @@ def listen(place, report, is_quick):
 
 
 PARTS = {
-    part.__name__: part for part in (stacks, addresses, growth, files, threads, memory, calls, streams, endless, replies, listen)
+    part.__name__: part for part in (stacks, addresses, growth, files, threads, memory, calls, streams, endless, machine, replies, listen)
 }
 
 

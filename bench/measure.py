@@ -1,6 +1,7 @@
 """Runs a command of the program and tells its seconds, its peak of memory and its status. A peak below that of this script itself, some 20 MB,
-is not seen, since a child begins as its copy.
+is not seen, since a child begins as its copy; `usage_alone` sees it.
 """
+import ctypes
 import hashlib
 import os
 import random
@@ -25,6 +26,14 @@ def set_tunables(command):
 
 
 set_tunables(None)
+
+
+def built_program():
+    """The program itself, and not the script `fca`, which is asked first and builds it where that is needed."""
+    if "BENCH_FCA" in os.environ:
+        return os.path.abspath(FCA)
+    subprocess.run([FCA], stderr=subprocess.DEVNULL)
+    return os.path.join(TOP, "crates", "fca_program", "out", "fca_program")
 
 
 def tables_folder():
@@ -64,6 +73,20 @@ def run(words, stdin=b"", repeat=3):
             out.seek(0)
             text = out.read()
     return least, peak, status, text
+
+
+SUBREAPER = 36  # of prctl: a process whose parent has ended becomes a child of this one
+
+
+def usage_alone(words):
+    """What the system tells of a run into the null device. A shell begins it and ends at once, so its peak of memory is its own, however small."""
+    ctypes.CDLL(None).prctl(SUBREAPER, 1, 0, 0, 0)
+    with open(os.devnull, "wb") as out:
+        subprocess.run(["sh", "-c", '"$@" &', "sh"] + words, stdout=out, stderr=out, check=True)
+    _, ended, usage = os.wait4(-1, 0)
+    if ended:
+        raise subprocess.CalledProcessError(os.waitstatus_to_exitcode(ended), words)
+    return usage
 
 
 def written(words):

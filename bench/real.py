@@ -6,10 +6,14 @@ real.py --make: only writes the tables and prints their paths.
 ONLY=WORD ..: only the tables whose names have one of the words. BENCH_JOBS names some of the commands.
 
 The tables are the tags of the packages of this system's distribution (`apt-cache dumpavail`: an object for each package, an attribute for each
-of the most frequent tags), the scales of Ganter and Wille's book in several orders of their attributes, and, if `Rscript` and its packages
-`datasets` and `mlbench` are installed, their tables with a nominal scale for each column of up to twelve values.
+of the most frequent tags), the scales of Ganter and Wille's book in several orders of their attributes, the tables of examples/raw and, if the
+package `weka` is installed, its examples, by the plans that examples/plan.py makes of them, and, if `Rscript` and its packages `datasets` and
+`mlbench` are installed, their tables with a nominal scale for each column of up to twelve values. The status is 1 where a program wrote other
+bytes.
 """
 import csv
+import glob
+import gzip
 import io
 import os
 import random
@@ -22,6 +26,8 @@ import compare
 import measure
 
 TAGS = [30, 60, 120, 240, 500]
+WEKA = "/usr/share/doc/weka/examples"
+PLAN = os.path.join(measure.TOP, "examples", "plan.py")
 OF_R = {
     "votes": "data(HouseVotes84, package='mlbench'); write.csv(HouseVotes84, row.names=FALSE)",
     "zoo": "data(Zoo, package='mlbench'); write.csv(Zoo, row.names=FALSE)",
@@ -131,6 +137,31 @@ def tables_of_r():
         yield name, ["g%d" % (row + 1) for row in range(len(rows))], ["%s=%s" % (head[at], value) for at, value in attributes], rows
 
 
+def raw_files():
+    """Names and paths of tables of values: those of this repository, and the examples of weka, unpacked."""
+    for path in sorted(glob.glob(os.path.join(measure.TOP, "examples", "raw", "*.csv"))):
+        yield "plan-" + os.path.basename(path).split(".")[0], path
+    for packed in sorted(glob.glob(os.path.join(WEKA, "*.arff*"))):
+        name = "weka-" + os.path.basename(packed).split(".arff")[0]
+        path = os.path.join(measure.tables_folder(), name + ".arff")
+        with (gzip.open if packed.endswith(".gz") else open)(packed, "rb") as file, open(path, "wb") as out:
+            shutil.copyfileobj(file, out)
+        yield name, path
+
+
+def scaled(name, path):
+    """The path of the table that a plan makes of a table of values; None where the values come to no plan."""
+    to, table = os.path.join(measure.tables_folder(), name), path_of(name)
+    if not os.path.exists(table):
+        said = subprocess.run([sys.executable, PLAN, "make", path, "--to", to, "--force"], stdout=subprocess.DEVNULL)
+        if said.returncode:
+            return None
+        with open(table + ".part", "wb") as out:
+            subprocess.run([measure.FCA, "scale", to + "-values.csv", to + "-plan.csv"], stdout=out, check=True)
+        os.rename(table + ".part", table)
+    return table
+
+
 def jobs_of(name):
     """The commands that are timed: the lattice only of tables with few concepts a program keeps at once."""
     every = ["concepts", "basis"] + ([] if name.startswith("tags-") and name not in ("tags-30", "tags-60") else ["lattice"])
@@ -139,11 +170,15 @@ def jobs_of(name):
 
 def made_tables():
     """The names and paths of the tables, which are made if they are not there yet."""
-    only = os.environ.get("ONLY", "").split()
+    only = os.environ.get("ONLY", "").split() or [""]
     for source in (tag_tables, scale_tables, tables_of_r):
         for name, objects, attributes, rows in source():
-            if not only or any(word in name for word in only):
+            if any(word in name for word in only):
                 yield name, write(name, objects, attributes, rows)
+    for name, path in raw_files():
+        table = scaled(name, path) if any(word in name for word in only) else None
+        if table:
+            yield name, table
 
 
 def main():
@@ -154,10 +189,12 @@ def main():
         return
     # a process of its own makes them: what a child is seen to hold is never less than what its parent holds
     said = subprocess.run([sys.executable, os.path.abspath(__file__), "--make"], stdout=subprocess.PIPE, check=True)
+    are_same = True
     for name, path in (line.split(" ", 1) for line in said.stdout.decode().splitlines()):
         for job in jobs_of(name):
             measure.set_tunables(job)
-            compare.report(job, name, path, words[0] if words else None)
+            are_same &= compare.report(job, name, path, words[0] if words else None)
+    sys.exit(0 if are_same else 1)
 
 
 if __name__ == "__main__":
