@@ -1,15 +1,15 @@
 -- Columns, place by place.
-use Rattle.std.proofs.Common.{◌≡◌, ◌≢◌, ℕ, zero, suc, ◌+◌, ◌/◌, ◌%◌, ◌<◌, Bool, true, false, ◌&&◌, List, [], ◌∷◌, ◌++◌, All, length, get_or}
+use Rattle.std.proofs.Common.{◌≡◌, ◌≢◌, ℕ, zero, suc, ◌+◌, ◌/◌, ◌%◌, ◌<◌, ◌≤◌, Bool, true, false, ◌&&◌, List, [], ◌∷◌, ◌++◌, All, length, get_or}
 use Rattle.std.proofs.Common.{set, map, replicate, sym, ap, ◌∙◌, subst, arith, ltb, inl, inr}
 use Rattle.std.proofs.lemmas.Bool.{false≢true, and_parts, and_from, cases_eq, cases_lt, lt-ltb, ltb-true}
-use Rattle.std.proofs.lemmas.List.{get_or_past, get_or-set_same, get_or-set_other, length-replicate, length-map, get_or_push}
+use Rattle.std.proofs.lemmas.List.{get_or_past, get_or-set_same, get_or-set_other, length-map, get_or_push}
 use Rattle.std.proofs.lemmas.List.{get_or_append_left, map-append, length-set}
 use Rattle.std.proofs.lemmas.List.Elements.{All-get_or, All-from_get_or}
-use Rattle.fca_model.specs.Sets.{Set, within}
+use Rattle.fca_model.specs.Sets.{Set}
 use Rattle.fca_model.specs.Context.{Context}
 use Rattle.fca_model.proofs.ListLemmas.{bool_iff}
-use Rattle.fca_model.proofs.SetLemmas.{within_at_place, set_within, within_from_places, get_or-empty}
-use Rattle.extent_blocks.specs.Blocks.{in_column, row_at, contains_at, has_at}
+use Rattle.fca_model.proofs.SetLemmas.{get_or-empty}
+use Rattle.extent_blocks.specs.Blocks.{in_column, has_at}
 
 -- ---- no places
 
@@ -99,13 +99,8 @@ has_row K i g t = elim (cases_lt g (length K.rows)) [
   | inr le ↦ absurd (false≢true (sym (ap (λ X. get_or X i false) (get_or_past K.rows g [] le) ∙ get_or_past [] i false (omega arith)) ∙ t))
 ]
 
--- a row contains {i} exactly where it has i
-pub has_one : (K : Context) (i : ℕ) (A : Set) → i < K.width → A ≡ set (replicate K.width false) i true → (g : ℕ)
-    → contains_at K A g ≡ has_at K i g
-has_one K i A l a g = bool_iff (contains_at K A g) (has_at K i g)
-    (λ t. within_at_place A (row_at K g) (and_parts (ltb g (length K.rows)) (within A (row_at K g)) t).1 i
-    (ap (λ X. get_or X i false) a ∙ get_or-set_same (replicate K.width false) i true false
-    (omega (arith, length-replicate K.width false, l))))
-    (λ t. and_from (ltb g (length K.rows)) (within A (row_at K g)) (lt-ltb g (length K.rows) (has_row K i g t))
-    (ap (λ X. within X (row_at K g)) a ∙ set_within (replicate K.width false) (row_at K g) i
-    (within_from_places (replicate K.width false) (row_at K g) (λ j m u. absurd (false≢true (sym (get_or-empty K.width j) ∙ u)))) t))
+-- places that were looked at to the end
+pub all_places : (K : Context) (i n g : ℕ) → length K.rows ≤ n → (ltb g n && has_at K i g) ≡ has_at K i g
+all_places K i n g l = bool_iff (ltb g n && has_at K i g) (has_at K i g)
+    (λ t. (and_parts (ltb g n) (has_at K i g) t).1)
+    (λ t. let inside : g < length K.rows = has_row K i g t in and_from (ltb g n) (has_at K i g) (lt-ltb g n (omega (arith, inside, l))) t)

@@ -31,6 +31,10 @@ module _ (K : Context) (A : Set) where
         (subst (λ X. within (closure K A) X ≡ true) (sym r) (row_above K A g t));
   }
 
+  -- one of these rows alone
+  pub meeting_one : (R : Set) (g : ℕ) → contains_at K A g ≡ true → R ≡ row_at K g → length R ≡ K.width → IsMeeting K A R
+  meeting_one R g t r wide = record { wide = wide; above = subst (λ X. within (closure K A) X ≡ true) (sym r) (row_above K A g t) }
+
   -- a row that contains A contains what lies within A
   pub contains_within : (M : Set) (g : ℕ) → contains_at K A g ≡ true → within M A ≡ true → within M (row_at K g) ≡ true
   contains_within M g t w = within_trans M A (row_at K g) w (and_parts (ltb g (length K.rows)) (within A (row_at K g)) t).1
@@ -44,6 +48,15 @@ module _ (K : Context) (A : Set) where
       within_antisymm M (closure K A) (v.wide ∙ sym (length-closure K A)) (below_rows K A M v.wide (λ g t. met g (all g ∙ t))) v.above
 
 -- ---- the rows of a block, place by place
+
+-- a member is the next one from its own place on
+pub member_next : (L : Set) (m : ℕ) → get_or L m false ≡ true → IsNextMember L m m
+member_next L m t = record {
+  at_least = omega arith;
+  in_range = member_below L m t;
+  member = t;
+  least = λ i on before. absurd (omega (arith, on, before));
+}
 
 -- the rows before place j of the block are met
 pub record HasMet (K : Context) (A S : Set) (p : ℕ → Bool) (j : ℕ) (M : Set) : Type 0 where

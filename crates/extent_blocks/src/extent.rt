@@ -189,6 +189,22 @@ impl Block {
         self.objects.meet(with).first_missing(&lacking[self.number])
     }
 
+    /// The row at the last of the places that are in the column, or the full set if there is none. These rows contain a.
+    fn last_row<const W: usize>(&self, column: &[Objects], rows: &RowsOf<W>, a: &Bits<W>) -> Bits<W>
+        requires containing { (g : ℕ) → (in_block self.now.number self.now.objects g && in_column column.now g) ≡ true → contains_at rows.now a.now g ≡ true }
+        ensures { IsMeeting rows.now a.now result }
+    {
+        let _places = (self.objects.width(), rows.len(), a.width());
+        let Some(having) = column.get(self.number) else {
+            return Bits::full(rows.width());
+        };
+        let left = self.objects.meet(having);
+        match left.last_missing(&Bits::empty(BLOCK as u32), BLOCK as u32) {
+            None => Bits::full(rows.width()),
+            Some(j) => rows.as_slice()[self.number * BLOCK + j as usize],
+        }
+    }
+
     /// The meet of the set and the rows at the places that are in the column. All these rows contain a, so once the meet lies within a, the rows that are left
     /// change nothing.
     fn meet_rows<const W: usize>(
@@ -233,11 +249,29 @@ fn meet_of_rows<const W: usize>(
     requires extent { (g : ℕ) → (list_any (λ x. in_block x.number x.objects g) blocks.now && in_column column.now g) ≡ contains_at rows.now a.now g }
     ensures { result ≡ closure rows.now a.now }
 {
-    let mut met = Bits::full(rows.width());
+    let _width = rows.width();
+    let mut met = last_row(blocks, column, rows, a);
     for block in blocks {
         met = block.meet_rows(column, rows, a, &met);
     }
     met
+}
+
+/// The row at the last of the places of the blocks that are in the column, or the full set if the last block has none of these. The meet begins with it: where
+/// the rows are sorted, it and the first one differ the most.
+fn last_row<const W: usize>(
+    blocks: &[Block],
+    column: &[Objects],
+    rows: &RowsOf<W>,
+    a: &Bits<W>,
+) -> Bits<W>
+    requires extent { (g : ℕ) → (list_any (λ x. in_block x.number x.objects g) blocks.now && in_column column.now g) ≡ contains_at rows.now a.now g }
+    ensures { IsMeeting rows.now a.now result }
+{
+    match blocks.last() {
+        None => Bits::full(rows.width()),
+        Some(block) => block.last_row(column, rows, a),
+    }
 }
 
 /// Numbers the blocks of a column.

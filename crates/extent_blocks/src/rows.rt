@@ -68,12 +68,30 @@ fn columns_of<const W: usize>(alloc: Global, rows: &RowsOf<W>) -> Result<Vec<Vec
     ensures room { IfOk result (λ columns. length columns.items ≡ rows.now.width) }
     ensures columns { IfOk result (λ columns. AreColumns rows.now (map (λ v. v.items) columns.items)) }
 {
-    let none = Bits::empty(rows.width());
     let mut columns = Vec::new(alloc);
     for i in 0..rows.width() {
-        columns.push(places_above(alloc, rows, &none.with(i))?)?;
+        columns.push(column_of(alloc, rows, i)?)?;
     }
     Ok(columns)
+}
+
+/// The places of the rows that have attribute i, block by block.
+fn column_of<const W: usize>(
+    alloc: Global,
+    rows: &RowsOf<W>,
+    i: u32,
+) -> Result<Vec<Objects>, Memory>
+    requires { i < rows.now.width }
+    ensures { IfOk result (λ column. IsColumn rows.now i column.items) }
+{
+    let _width = rows.width();
+    let mut column = empty_blocks(alloc, rows.len().div_ceil(BLOCK))?;
+    for (place, row) in rows.as_slice().iter().enumerate() {
+        if row.has(i) {
+            column[place / BLOCK].insert((place % BLOCK) as u32);
+        }
+    }
+    Ok(column)
 }
 
 /// The places of the rows that contain a, block by block.

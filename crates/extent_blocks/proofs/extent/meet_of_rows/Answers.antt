@@ -3,12 +3,12 @@ use Rattle.std.proofs.lemmas.Bool.{false≢true}
 use Rattle.std.proofs.lemmas.List.{take_all}
 use Rattle.std.specs.List.{list_any}
 use Rattle.extent_blocks.specs.Blocks.{in_block, in_column, contains_at}
-use Rattle.extent_blocks.proofs.RowLemmas.{meeting_full, meeting_ends, blocks_met, block_contained}
+use Rattle.extent_blocks.proofs.RowLemmas.{meeting_ends, blocks_met, block_contained}
 use Rattle.extent_blocks.proofs.extent.meet_of_rows.Goals as goal
 
 pub loop-block-init : goal.loop-block-init
 loop-block-init g c = record {
-  meeting = meeting_full c.args.rows.now c.args.a.now c.full-met.result c.width.result c.full-met.ensures c.width.ensures.width;
+  meeting = c.last_row-met.ensures;
   met = λ p e. absurd (false≢true e);
 }
 
@@ -16,7 +16,7 @@ pub meet_rows-met-requires : goal.meet_rows-met-requires
 meet_rows-met-requires g c = (
   omega arith,
   (
-    omega (arith, c.width.ensures.words),
+    omega (arith, c.width-width.ensures.words),
     (
       c.loop-block.invariant.meeting,
       λ p t. block_contained (λ x q. in_block x.number x.objects q)
