@@ -2,19 +2,20 @@
 use Rattle.std.proofs.Common.{◌≡◌, ℕ, zero, suc, ◌+◌, ◌<◌, Bool, true, false, cond, Some, None, List, [], ◌∷◌, ◌++◌, All, Option, length}
 use Rattle.std.proofs.Common.{map, filter, drop, get_or, set, slice_get, refl, sym, ap, ap₂, ◌∙◌, subst, arith, append_assoc, inl, inr}
 use Rattle.std.proofs.Common.{get_or-set_same, get_or-set_other, length-set}
-use Rattle.std.proofs.lemmas.Bool.{false≢true, and_parts, cases_eq}
+use Rattle.std.proofs.lemmas.Bool.{false≢true, and_parts, and_from, cases_eq}
 use Rattle.std.proofs.lemmas.Option.{get_or_from_slice_get}
-use Rattle.std.proofs.lemmas.List.{get_or_at, length_push, get_or_read, at_drop_more, drop-map, get_or-map}
+use Rattle.std.proofs.lemmas.List.{get_or_at, length-map, length_push, get_or_read, at_drop_more, drop-map, get_or-map}
 use Rattle.std.specs.Prelude.{fold}
 use Rattle.std.proofs.lemmas.List.Elements.{All-nil, All-cons, All-head, All-tail}
+use Rattle.std.proofs.lemmas.List.Sums.{AllPass-from_list_all}
 use Rattle.std.specs.List.{list_all}
-use Rattle.fca_model.specs.Sets.{Set, meet, within}
+use Rattle.fca_model.specs.Sets.{Set, meet, full, within}
 use Rattle.fca_model.specs.Context.{Context, closure, extent, extent_from}
 use Rattle.fca_model.specs.Implications.{rule, respects}
-use Rattle.fca_model.proofs.SetLemmas.{within_refl, within_trans, within_from_places, within_at_place, set_within}
+use Rattle.fca_model.proofs.SetLemmas.{within_refl, within_trans, within_from_places, within_at_place, set_within, within_antisymm, within_full}
 use Rattle.fca_model.proofs.ListLemmas.{bool_iff, filter_agree_on, filter_passes, filter_all}
 use Rattle.attr_bits.proofs.LargerLemmas.{met_all}
-use Rattle.fca_model.proofs.ClosureLemmas.{closure_extensive, closure_in_rows, respects_at}
+use Rattle.fca_model.proofs.ClosureLemmas.{closure_extensive, closure_in_rows, respects_at, length-closure, length-meets, within-meets}
 use Rattle.lectic_concepts.specs.Concepts.{is_above}
 use Rattle.lectic_concepts.proofs.ExtentLemmas.{filter-extent}
 use Rattle.extent_places.specs.Places.{row_at, has_at, rows_at, column}
@@ -113,6 +114,29 @@ met_more Rs places k M N X total more inside is met h =
     let rest : List Set = rows_at Rs (drop (k + 1) places) in
     ap (λ Z. fold meet Z rest) (met ∙ ap (meet M) (get_or_read Rs (get_or places k 0) X inside is []))
     ∙ sym (at_drop_more (λ ps. fold meet M (rows_at Rs ps)) places k 0 more) ∙ h
+
+-- a meet that begins with one of the rows
+pub met_from_row : (K : Context) (A : Set) (places : List ℕ) (k : ℕ) (R : Set) → places ≡ extent K A → k < length places
+    → R ≡ row_at K.rows (get_or places k 0) → length R ≡ K.width → fold meet R (rows_at K.rows places) ≡ closure K A
+met_from_row K A places k R is inside row wide =
+    let Fs : List Set = filter (within A) K.rows in
+    let C : Set = closure K A in
+    let F : Set = fold meet R Fs in
+    let whole : rows_at K.rows places ≡ Fs = ap (rows_at K.rows) is ∙ rows_at-extent K A in
+    let long : length (rows_at K.rows places) ≡ length places = length-map places (row_at K.rows) in
+    let here : R ≡ get_or Fs k [] = row ∙ sym (get_or-map (row_at K.rows) places k 0 [] inside) ∙ ap (λ Qs. get_or Qs k []) whole in
+    let above : list_all (within C) Fs ≡ true =
+    (and_parts (within C (full K.width)) (list_all (within C) Fs) (sym (within-meets C (full K.width) Fs) ∙ within_refl C)).1 in
+    let first : within C R ≡ true =
+    subst (λ X. within C X ≡ true) (sym here)
+    (AllPass-from_list_all (within C) Fs above k [] (omega (arith, inside, long, ap length whole))) in
+    let parts = and_parts (within F R) (list_all (within F) Fs) (sym (within-meets F R Fs) ∙ within_refl F) in
+    let size : length F ≡ K.width = length-meets R Fs ∙ wide in
+    ap (fold meet R) whole
+    ∙ within_antisymm F C (size ∙ sym (length-closure K A))
+    (within-meets F (full K.width) Fs
+    ∙ and_from (within F (full K.width)) (list_all (within F) Fs) (within_full K.width F size) parts.1)
+    (within-meets C R Fs ∙ and_from (within C R) (list_all (within C) Fs) first above)
 
 -- rows that contain A change nothing of what lies within A
 pub met_enough : (K : Context) (A : Set) (places : List ℕ) (k : ℕ) (N total : Set) → places ≡ extent K A → within N A ≡ true

@@ -61,9 +61,10 @@ fn column_of<const W: usize>(
 {
     let _width = rows.width();
     let all = rows.as_slice();
-    let mut having = Vec::with_capacity(alloc, all.len())?;
-    for row in all {
-        having.push(row.has(attribute))?;
+    let mut having = Vec::new(alloc);
+    having.resize(all.len(), false)?;
+    for (place, row) in all.iter().enumerate() {
+        having[place] = row.has(attribute);
     }
     Ok(having)
 }

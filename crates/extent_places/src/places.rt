@@ -1,12 +1,17 @@
 //! Extents as places in the table: the places that have one attribute more, and closures by the rows at places.
 
-ghost use Rattle.std.specs.Prelude.{◌≡◌, ◌≤◌, ◌<◌, false, All, IfOk, length, take, filter, slice_index_or};
+ghost use Rattle.std.specs.Prelude.{◌≡◌, ◌≤◌, ◌<◌, false, All, IfOk, length, take, filter, fold, slice_index_or};
+ghost use Rattle.fca_model.specs.Sets.{meet};
 ghost use Rattle.fca_model.specs.Context.{closure, extent};
+ghost use Rattle.extent_places.specs.Places.{rows_at};
 
 use attr_bits::Bits;
 use derivation::RowsOf;
 use fca_model::{MAX_OBJECTS, Memory};
 use std::alloc::Global;
+
+/// A meet of no more rows than this begins with the first one.
+const FEW_ROWS: usize = 8;
 
 /// The places of the objects that have all of the set.
 pub fn places_having<const W: usize>(
@@ -43,13 +48,14 @@ pub fn keep_having(column: &[bool], places: &[u16], found: &mut [u16]) -> usize
     count
 }
 
-/// The closure of `least`, whose extent is given by places: the meet of their rows. Once the meet is `least`, the rows that are left change nothing.
+/// The closure of `least`, whose extent is given by places: the meet of their rows. That of many begins with the last row, since in a sorted table the first and
+/// the last one differ the most. Once the meet is `least`, the rows that are left change nothing.
 pub fn closure_at<const W: usize>(rows: &RowsOf<W>, places: &[u16], least: &Bits<W>) -> Bits<W>
     requires { places.now ≡ extent rows.now least.now }
     ensures { result ≡ closure rows.now least.now }
 {
-    let mut met = Bits::full(rows.width());
     let all = rows.as_slice();
+    let mut met = last_row(rows, places, least);
     for place in places {
         met = met.meet(&all[*place as usize]);
         if met == *least {
@@ -57,4 +63,18 @@ pub fn closure_at<const W: usize>(rows: &RowsOf<W>, places: &[u16], least: &Bits
         }
     }
     met
+}
+
+/// The row at the last of the places, or the full set if there are few.
+fn last_row<const W: usize>(rows: &RowsOf<W>, places: &[u16], least: &Bits<W>) -> Bits<W>
+    requires { places.now ≡ extent rows.now least.now }
+    ensures { fold meet result (rows_at rows.now.rows places.now) ≡ closure rows.now least.now }
+{
+    if places.len() <= FEW_ROWS {
+        return Bits::full(rows.width());
+    }
+    match places.last() {
+        None => Bits::full(rows.width()),
+        Some(place) => rows.as_slice()[*place as usize],
+    }
 }

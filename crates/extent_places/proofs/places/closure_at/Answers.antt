@@ -1,17 +1,12 @@
-use Rattle.std.proofs.Common.{◌≡◌, ◌<◌, ◌+◌, ℕ, true, All, List, length, get_or, sym, ap, ap₂, ◌∙◌, subst, arith}
-use Rattle.std.specs.Prelude.{fold}
-use Rattle.fca_model.specs.Sets.{Set, meet, full, within}
+use Rattle.std.proofs.Common.{◌≡◌, ◌<◌, ◌+◌, ℕ, true, All, List, length, get_or, sym, ap, ◌∙◌, subst, arith}
+use Rattle.fca_model.specs.Sets.{Set, within}
 use Rattle.fca_model.specs.Context.{Context, closure, extent}
 use Rattle.fca_model.proofs.SetLemmas.{same-true, within_refl}
-use Rattle.extent_places.specs.Places.{rows_at}
-use Rattle.extent_places.proofs.PlaceLemmas.{extent_inside, rows_at-extent, met_more, met_enough}
+use Rattle.extent_places.proofs.PlaceLemmas.{extent_inside, met_more, met_enough}
 use Rattle.extent_places.proofs.places.closure_at.Goals as goal
 
 pub loop-place-init : goal.loop-place-init
-loop-place-init g c =
-    let K : Context = c.args.rows.now in
-    ap₂ (λ (M : Set) (Rs : List Set). fold meet M Rs) (c.full-met.ensures ∙ ap full c.width.ensures.width)
-    (ap (rows_at K.rows) c.requires ∙ rows_at-extent K c.args.least.now)
+loop-place-init g c = c.last_row-met.ensures
 
 -- a place of an extent is that of a row
 placed : (K : Context) (A : Set) (places : List ℕ) (k : ℕ) → places ≡ extent K A → k < length places → get_or places k 0 < length K.rows
