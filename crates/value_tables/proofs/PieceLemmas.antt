@@ -38,8 +38,6 @@ joined-some : (b : ℕ) (pieces : Record) → 0 < length (add_byte b pieces)
 joined-some b [] = omega arith
 joined-some b (piece ∷ pieces) = omega arith
 
-]
-
 joined-append : (b : ℕ) (pieces more : Record) → 0 < length pieces → add_byte b (pieces ++ more) ≡ add_byte b pieces ++ more
 joined-append b [] more some = absurd (omega arith)
 joined-append b (piece ∷ pieces) more some = refl
