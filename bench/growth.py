@@ -23,6 +23,7 @@ import measure
 
 SEED = 1
 MOST = [65536, 1024]  # objects and attributes of a table
+LONG = 0.05  # seconds of a run of which a line's cost is told
 LARGEST = [(65536, 248), (16260, 1024), (65536, 1024)]  # the first two have room in a file
 WAYS = ["objects", "attributes", "density", "answer"]
 # objects, attributes, density
@@ -154,11 +155,14 @@ def print_fits(command, runs, least):
 # ---- past what was measured
 
 
-def duration(value):
-    """Seconds, in the largest unit that they fill twice."""
-    for unit, length in (("years", 31557600), ("days", 86400), ("hours", 3600), ("minutes", 60), ("seconds", 1)):
-        if value >= 2 * length or length == 1:
-            return "%s %s" % (rounded(value / length), unit)
+TIMES = [("years", 31557600), ("days", 86400), ("hours", 3600), ("minutes", 60), ("seconds", 1)]
+BYTES = [("TB", 2**40), ("GB", 2**30), ("MB", 2**20)]
+
+
+def in_units(units, value):
+    """In the largest unit that the value fills twice."""
+    unit, size = next((one for one in units if value >= 2 * one[1]), units[-1])
+    return "%s %s" % (rounded(value / size), unit)
 
 
 def rounded(value):
@@ -174,8 +178,9 @@ def print_beyond(command, runs, least):
             continue
         by = [(most / last.size) ** one.exponent for one in fits(runs[way], least)]
         case = [number(most) if at == place else number(part) for at, part in enumerate(last.case)]
-        cells = ["`%s`" % command, " x ".join([str(SEED)] + case), rounded(last.lines * by[0]), duration(last.seconds * by[1])]
-        print("| " + " | ".join(cells + [rounded(last.memory * by[2] / 2**20)]) + " |")
+        cells = ["`%s`" % command, " x ".join([str(SEED)] + case), rounded(last.lines * by[0])]
+        cells += [in_units(TIMES, last.seconds * by[1]), in_units(BYTES, last.memory * by[2])]
+        print("| " + " | ".join(cells) + " |")
 
 
 def sum_of_logs(logs):
@@ -206,22 +211,25 @@ def choices(many, some):
 
 
 def print_expected(runs):
-    """The concepts of the largest tables, expected, and the seconds and the memory if each costs what it did in the largest answer that was measured."""
-    ratios = [one.lines / math.exp(concepts_expected(*one.case)) for some in runs.values() for one in some]
+    """The concepts of the largest tables, expected, with seconds and memory if each takes as little, or as much, as in the runs that were measured."""
+    every = [one for some in runs.values() for one in some]
+    ratios = [one.lines / math.exp(concepts_expected(*one.case)) for one in every]
     print("\nConcepts of the runs above by those expected: %.2f to %.2f" % (min(ratios), max(ratios)))
-    print("\n| table | concepts expected | at %.2g microseconds each | MB at %.0f bytes each |" % (1e6 * cost(runs).seconds, cost(runs).memory))
+    long = [one for one in every if one.seconds > LONG]
+    times, sizes = ends([one.seconds / one.lines for one in long]), ends([one.memory / one.lines for one in long])
+    heads = span(lambda it: "%.2g" % (1e6 * it), times), span(lambda it: "%.0f" % it, sizes)
+    print("\n| table | concepts expected | at %s microseconds each | at %s bytes each |" % heads)
     print("|---|---|---|---|")
-    for density in (1, 2, 4):
+    for density in (1, 2):
         for objects, attributes in LARGEST:
             expected = math.exp(concepts_expected(objects, attributes, density))
             cells = ["%s x %s x %d" % (number(objects), number(attributes), density), rounded(expected)]
-            print("| " + " | ".join(cells + [duration(expected * cost(runs).seconds), rounded(expected * cost(runs).memory / 2**20)]) + " |")
+            cells += [span(lambda it: in_units(TIMES, expected * it), times), span(lambda it: in_units(BYTES, expected * it), sizes)]
+            print("| " + " | ".join(cells) + " |")
 
 
-def cost(runs):
-    """What a line of the largest answer cost."""
-    last = runs["answer"][-1]
-    return last._replace(seconds=last.seconds / last.lines, memory=last.memory / last.lines)
+def ends(values):
+    return min(values), max(values)
 
 
 # ---- the picture
@@ -259,7 +267,7 @@ def main():
         least = run(program, command, (1, 1, 4), 1)
         every[command] = runs_of(program, command), least
         print_fits(command, *every[command])
-    print("\n| command | table | lines of the answer | of the processor | MB |")
+    print("\n| command | table | lines of the answer | of the processor | memory |")
     print("|---|---|---|---|---|")
     for command, (runs, least) in every.items():
         print_beyond(command, runs, least)
