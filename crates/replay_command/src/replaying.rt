@@ -1,9 +1,9 @@
 //! The exploration that a script records.
 
-ghost use Rattle.std.specs.Prelude.{◌≡◌, IfOk, IfErr, OnOk, true, None, option_copied};
+ghost use Rattle.std.specs.Prelude.{◌≡◌, ◌∷◌, IfOk, IfErr, OnOk, true, None, option_copied, option_to_list, length};
 ghost use Rattle.std.specs.List.{list_all};
 ghost use Rattle.std.specs.Io.KnownBytes.{IsAtEnd};
-ghost use Rattle.fca_io.specs.Faults.{Rose};
+ghost use Rattle.fca_io.specs.Faults.{Rose, RoseAtMost};
 ghost use Rattle.implication_closure.specs.Closing.{HaveWidth};
 ghost use Rattle.explore_state.specs.Faults.{first_break};
 ghost use Rattle.exploration_terms.specs.Settings.{settings_of};
@@ -43,6 +43,7 @@ pub fn replay<H: Shelf, S: Source>(
     ensures cause { IfErr result (IsReplayStop file.now (option_copied known.entry) (H.tells shelf.old) (S.left input.old)
         (Rises (H.faults shelf.old) (H.faults shelf.new)) (Rose (S.faults input.old) (S.faults input.new))) }
     ensures quiet { UnlessFault result (SameCounts (H.faults shelf.old) (H.faults shelf.new)) }
+    ensures few { RoseAtMost (H.fetches shelf.old) (H.fetches shelf.new) (length (file.now ∷ option_to_list (option_copied known.entry))) }
     ensures quiet_input { UnlessFault result (S.faults input.new ≡ S.faults input.old) }
 {
     let explore = exploration(alloc, shelf, input, file, known)?;
@@ -66,6 +67,7 @@ fn exploration<H: Shelf, S: Source>(
     ensures cause { IfErr result (IsReplayStop file.now (option_copied known.entry) (H.tells shelf.old) (S.left input.old)
         (Rises (H.faults shelf.old) (H.faults shelf.new)) (Rose (S.faults input.old) (S.faults input.new))) }
     ensures quiet { UnlessFault result (SameCounts (H.faults shelf.old) (H.faults shelf.new)) }
+    ensures few { RoseAtMost (H.fetches shelf.old) (H.fetches shelf.new) (length (file.now ∷ option_to_list (option_copied known.entry))) }
     ensures quiet_input { UnlessFault result (S.faults input.new ≡ S.faults input.old) }
 {
     let start = load_start(alloc, shelf, file, known)?;

@@ -46,13 +46,13 @@ pub fn choose_settings(
         second,
     } = script;
     match known {
-        Some(_) => Ok((known_alone(alloc, list, second)?, events)),
+        Some(_) => Ok((settings_of_known(alloc, list, second)?, events)),
         None => Ok((check_settings(table, settings)?, events)),
     }
 }
 
 /// The settings of a known file: its implications, and nothing else. A script with a line `exploration 2` is refused.
-fn known_alone(
+fn settings_of_known(
     alloc: Global,
     known: ImplicationList,
     second: Option<usize>,
