@@ -2,3 +2,4 @@ pub mod BlameLemmas
 pub mod CourseLemmas
 pub mod CallLemmas
 pub mod ScalingLemmas
+pub mod NarrowLemmas

@@ -1,5 +1,5 @@
 -- What a command reports of one table: a text, or a refusal if a word of the command names what is no attribute.
-use Rattle.std.specs.Prelude.{Bool, false, not, cond}
+use Rattle.std.specs.Prelude.{Bool, true, false, not, cond}
 use Rattle.fca_model.specs.Sets.{Set}
 use Rattle.fca_model.specs.Tables.{Text, NamedContext}
 use Rattle.fca_model.specs.Pseudo.{basis, covers}
@@ -66,8 +66,10 @@ reduced_text table = cxt_text (table_part table (irreducible_objects table.conte
 abbrev pub table_arrows : NamedContext → Text
 table_arrows table = arrows_text table (arrow_table table.context)
 
--- whether the command reads its table without the names of the objects
+-- whether the command reads its table with rows as narrow as it is
 abbrev pub reads_narrow : Command → Bool
+reads_narrow (Concepts file json) = not json
+reads_narrow (Lattice file) = true
 reads_narrow (Basis file json) = not json
 reads_narrow _ = false
 

@@ -18,7 +18,7 @@ use basis_report::{direct_text, verdict_text};
 use canonical_basis::basis;
 use command_io::{Ending, Origin, Output, Stop, load_narrow_table, load_table};
 use context_reduce::{arrows, arrows_text, irreducible, part};
-use context_table::Table;
+use context_table::{NarrowTable, Table};
 use csv_context::write_csv;
 use cxt_format::write_cxt;
 use direct_basis::proper_premises;
@@ -29,7 +29,7 @@ use json_reports::{basis_json, concepts_json};
 use lectic_concepts::all_concepts;
 use std::alloc::Global;
 use std::thread::Threads;
-use table_texts::{narrow_basis_text, packed_table_concepts, table_lattice_text};
+use table_texts::{narrow_basis_text, narrow_concepts_text, narrow_lattice_text};
 
 /// Reads the table in the file, and makes the text that the command reports of it.
 pub fn report_output<R: Threads + Sync, H: Shelf>(
@@ -48,14 +48,23 @@ pub fn report_output<R: Threads + Sync, H: Shelf>(
     ensures quiet { UnlessFault result (SameCounts (H.faults shelf.old) (H.faults shelf.new)) }
 {
     match command {
-        Command::Basis { json: false, .. } => basis_lines(alloc, shelf, file),
+        Command::Concepts { json: false, .. }
+        | Command::Lattice { .. }
+        | Command::Basis { json: false, .. } => narrow_output(rt, alloc, command, shelf, file),
         _ => table_output(rt, alloc, command, shelf, file),
     }
 }
 
-/// Reads the table in the file, and makes the text of its basis, one implication a line.
-fn basis_lines<H: Shelf>(alloc: Global, shelf: &mut H, file: &Word) -> Result<Output, Stop>
-    ensures output { IfOk result (λ output. MayRead (then (table_read file.now (H.tells shelf.old file.now)) (λ table. Read (finished (table_basis false table)))) output) }
+/// Reads the table in the file with rows as narrow as it is, and makes the text that the command reports of it.
+fn narrow_output<R: Threads + Sync, H: Shelf>(
+    rt: &R,
+    alloc: Global,
+    command: &Command,
+    shelf: &mut H,
+    file: &Word,
+) -> Result<Output, Stop>
+    requires { reads_narrow command.now ≡ true }
+    ensures output { IfOk result (λ output. MayRead (report_read command.now file.now (H.tells shelf.old)) output) }
     ensures finished { IfOk result (λ output. output.ending ≡ Ending.Finished) }
     ensures refused { IfErr result (λ stop. IsRefusal stop → MayRefuse (table_read file.now (H.tells shelf.old file.now))) }
     ensures cause { IfErr result (IsFileStop file.now (H.tells shelf.old file.now)
@@ -63,7 +72,26 @@ fn basis_lines<H: Shelf>(alloc: Global, shelf: &mut H, file: &Word) -> Result<Ou
     ensures quiet { UnlessFault result (SameCounts (H.faults shelf.old) (H.faults shelf.new)) }
 {
     let table = load_narrow_table(alloc, shelf, file, Origin::File)?;
-    Ok(Output::finished(narrow_basis_text(alloc, table)?))
+    Ok(narrow_report(rt, alloc, command, table)?)
+}
+
+/// Makes the text that the command reports of the narrow table.
+fn narrow_report<R: Threads + Sync>(
+    rt: &R,
+    alloc: Global,
+    command: &Command,
+    table: NarrowTable,
+) -> Result<Output, Memory>
+    requires { reads_narrow command.now ≡ true }
+    ensures output { IfOk result (λ output. MayRead (then (table_report command.now table) (λ text. Read (finished text))) output) }
+    ensures finished { IfOk result (λ output. output.ending ≡ Ending.Finished) }
+{
+    match command {
+        Command::Concepts { .. } => Ok(Output::packed(narrow_concepts_text(rt, alloc, table)?)),
+        Command::Lattice { .. } => Ok(Output::finished(narrow_lattice_text(alloc, table)?)),
+        Command::Basis { .. } => Ok(Output::finished(narrow_basis_text(alloc, table)?)),
+        _ => unreachable!(),
+    }
 }
 
 /// Reads the whole table in the file, and makes the text that the command reports of it.
@@ -102,9 +130,8 @@ fn report_on<R: Threads + Sync>(
     ensures cause { IfErr result (λ stop. (stop ≡ Stop.Memory) ⊎ ((stop ≡ Stop.UnknownAttribute) × (table_report command.now table.now ≡ Refused))) }
 {
     match command {
-        Command::Concepts { json, .. } => Ok(table_concepts(rt, alloc, *json, table)?),
-        Command::Lattice { .. } => Ok(Output::finished(table_lattice_text(alloc, table)?)),
-        Command::Basis { json: true, .. } => { Ok(Output::finished(json_basis(rt, alloc, table)?)) }
+        Command::Concepts { json: true, .. } => Ok(Output::finished(json_concepts(alloc, table)?)),
+        Command::Basis { json: true, .. } => Ok(Output::finished(json_basis(rt, alloc, table)?)),
         Command::Direct { .. } => Ok(Output::finished(table_direct(alloc, table)?)),
         Command::Follows {
             premise,
@@ -118,20 +145,12 @@ fn report_on<R: Threads + Sync>(
     }
 }
 
-/// The concepts of the table, in lectic order of their intents.
-fn table_concepts<R: Threads + Sync>(
-    rt: &R,
-    alloc: Global,
-    json: bool,
-    table: &Table,
-) -> Result<Output, Memory>
-    ensures { IfOk result (λ output. output ≡ finished (table_concepts json table.now)) }
+/// The concepts of the table, as JSON.
+fn json_concepts(alloc: Global, table: &Table) -> Result<Vec<u8>, Memory>
+    ensures { IfOk result (λ text. text.items ≡ table_concepts true table.now) }
 {
-    if json {
-        let concepts = all_concepts(alloc, table.rows())?;
-        return Ok(Output::finished(concepts_json(alloc, table, &concepts)?));
-    }
-    Ok(Output::packed(packed_table_concepts(rt, alloc, table)?))
+    let concepts = all_concepts(alloc, table.rows())?;
+    concepts_json(alloc, table, &concepts)
 }
 
 /// The basis of the table, as JSON.
