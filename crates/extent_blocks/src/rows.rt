@@ -21,6 +21,7 @@ pub(crate) type Objects = Bits<4>;
 pub struct IndexedRows<const W: usize> {
     rows: RowsOf<W>,
     columns: Vec<Vec<Objects>>,
+    supports: Vec<u32>,
 }
 
 impl<const W: usize> Model for IndexedRows<W> {
@@ -44,7 +45,12 @@ impl<const W: usize> IndexedRows<W> {
         ensures { IfOk result (λ indexed. indexed ≡ rows.entry) }
     {
         let columns = columns_of(alloc, &rows)?;
-        Ok(IndexedRows { rows, columns })
+        let supports = supports_of(alloc, &columns)?;
+        Ok(IndexedRows {
+            rows,
+            columns,
+            supports,
+        })
     }
 
     /// The rows.
@@ -52,6 +58,11 @@ impl<const W: usize> IndexedRows<W> {
         ensures { result.now ≡ self.now }
     {
         &self.rows
+    }
+
+    /// How many rows have each attribute. The counts only guide a walk, and what it finds is the same with others, so no contract speaks of them.
+    pub fn supports(&self) -> &[u32] {
+        &self.supports
     }
 
     /// The column of attribute i.
@@ -92,6 +103,24 @@ fn column_of<const W: usize>(
         }
     }
     Ok(column)
+}
+
+/// The number of places in each column.
+fn supports_of(alloc: Global, columns: &[Vec<Objects>]) -> Result<Vec<u32>, Memory> {
+    let mut supports = Vec::with_capacity(alloc, columns.len())?;
+    for column in columns {
+        supports.push(count_places(column))?;
+    }
+    Ok(supports)
+}
+
+/// The number of places in the blocks.
+fn count_places(column: &[Objects]) -> u32 {
+    let mut count = 0u32;
+    for objects in column {
+        count = count.saturating_add(objects.size());
+    }
+    count
 }
 
 /// The places of the rows that contain a, block by block.

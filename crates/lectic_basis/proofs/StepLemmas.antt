@@ -1,6 +1,6 @@
 -- The steps that are not done: what is visited once they are.
 use Rattle.std.proofs.Common.{◌≡◌, ◌<◌, ◌≤◌, ◌+◌, ◌-◌, ℕ, false, List, [], ◌∷◌, ◌++◌, Some, None, Result, Option, Ok, Err, IfOk}
-use Rattle.std.proofs.Common.{MatchOption, length, get_or, reverse, refl, sym, ap, ap₂, ◌∙◌, subst, arith}
+use Rattle.std.proofs.Common.{MatchOption, length, get_or, reverse, sym, ap, ap₂, ◌∙◌, subst, arith}
 use Rattle.std.proofs.lemmas.List.{reverse-append}
 use Rattle.std.proofs.lemmas.List.Sums.{sum_by_push}
 use Rattle.fca_model.specs.Sets.{Set}

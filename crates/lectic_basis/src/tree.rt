@@ -17,6 +17,7 @@ use attr_bits::Bits;
 use extent_blocks::{BlockExtent, IndexedRows};
 use fca_model::{Implication, Memory};
 use implication_closure::ImplicationList;
+use lectic_concepts::lasting_member;
 use std::alloc::Global;
 
 /// What goes down the tree with an intent: the places of the rows that contain it, and what attributes force. Later steps use the lists of a step again.
@@ -108,12 +109,12 @@ fn next_below<const W: usize>(
     step.end = i;
     let child = child_at(
         indexed,
-        &step.lists.near,
         known,
         found,
         &step.intent,
         i,
-        &mut step.lists.forced,
+        &mut step.lists,
+        step.from,
     )?;
     match child {
         None => Ok(None),
@@ -178,35 +179,37 @@ fn tries<const W: usize>(a: &Bits<W>, forced: &[u32], i: u32) -> bool
 }
 
 /// Visits the least set of the family that contains a and attribute i, which a lacks, if the set agrees with a before i. If more is left there, it is behind the
-/// returned intent.
+/// returned intent. The sets below a agree with it before attribute `from`.
 fn child_at<const W: usize>(
     indexed: &IndexedRows<W>,
-    near: &BlockExtent,
     known: &ImplicationList,
     found: &mut WatchedList<W>,
     a: &Bits<W>,
     i: u32,
-    forced: &mut Vec<u32>,
+    lists: &mut StepLists,
+    from: u32,
 ) -> Result<Option<Bits<W>>, Memory>
     requires trying { IsTrying known.now.members indexed.now indexed.now a.now i found.old }
     requires lacks { slice_index_or a.now i false ≡ false }
-    requires near { IsExtent indexed.now a.now near.now }
-    requires forced { AreForced found.old.list.members a.now forced.old.items }
+    requires near { IsExtent indexed.now a.now lists.old.near }
+    requires forced { AreForced found.old.list.members a.now lists.old.forced.items }
     ensures below { IfOk result (λ child. IfSome child (λ b. IsBelow known.now.members indexed.now indexed.now b (i + 1) found.new)) }
-    ensures near { IfOk result (λ child. IfSome child (λ b. IsExtentWith indexed.now b i near.now)) }
+    ensures same { lists.new.near ≡ lists.old.near }
+    ensures near { IfOk result (λ child. IfSome child (λ b. IsExtentWith indexed.now b i lists.new.near)) }
     ensures done { IfOk result (λ child. MatchOption child
         (HasFound known.now.members indexed.now a.now i (IsPart a.now) found.old found.new)
         (λ b. (new : Watched) → HasFound known.now.members indexed.now b (i + 1) (IsPart b) found.new new → HasFound known.now.members indexed.now a.now i (IsPart a.now) found.old new)) }
-    ensures kept { OnOk result (AreForced found.old.list.members a.now forced.new.items) }
-    ensures passed { IfOk result (λ child. IfSome child (λ b. AreForced found.new.list.members b forced.new.items)) }
+    ensures kept { OnOk result (AreForced found.old.list.members a.now lists.new.forced.items) }
+    ensures passed { IfOk result (λ child. IfSome child (λ b. AreForced found.new.list.members b lists.new.forced.items)) }
 {
     let _width = found.width();
     let mut reached = a.with(i);
     if !close(found, a, &mut reached, i)? {
-        note(forced, a, i, &reached);
+        let supports = indexed.supports();
+        note(&mut lists.forced, a, i, &reached, from, supports);
         return Ok(None);
     }
-    let closed = near.closure_with(indexed, i, &reached);
+    let closed = lists.near.closure_with(indexed, i, &reached);
     visit(indexed, known, found, &reached, &closed, i + 1)
 }
 
@@ -317,12 +320,18 @@ fn initial_forces<const W: usize>(
     Ok(forced)
 }
 
-/// Notes that attribute i forces the last attribute before it that the set has and a lacks. In scales an attribute implies those before it, so no other stays outside
-/// the sets below for so long.
-fn note<const W: usize>(forced: &mut Vec<u32>, a: &Bits<W>, i: u32, closed: &Bits<W>)
+/// Notes that attribute i forces an attribute before it that the set has and a lacks, and that the sets below a lack for long (`lasting_member`).
+fn note<const W: usize>(
+    forced: &mut Vec<u32>,
+    a: &Bits<W>,
+    i: u32,
+    closed: &Bits<W>,
+    from: u32,
+    supports: &[u32],
+)
     ensures { (J : List Rule) → IsBounded J (slice_set a.now i true) closed.now → AreForced J a.now forced.old.items → AreForced J a.now forced.new.items }
 {
-    if let Some(new) = closed.last_missing(a, i) {
+    if let Some(new) = lasting_member(closed, a, i, from, supports) {
         put(forced, i, new);
     }
 }

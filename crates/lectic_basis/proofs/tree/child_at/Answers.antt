@@ -36,7 +36,7 @@ closure_with-closed-requires g c =
           c.requires.trying.inside,
           (
             below_wide c.requires.trying lacks c.with-reached.ensures c.in_ok-close.ensures.moved closed,
-            below_extent c.requires.trying lacks c.with-reached.ensures c.in_ok-close.ensures.moved closed c.args.near.now c.requires.near,
+            below_extent c.requires.trying lacks c.with-reached.ensures c.in_ok-close.ensures.moved closed c.args.lists.now.near c.requires.near,
           ),
         ),
       ),
@@ -62,8 +62,8 @@ pub returns-clause-near : goal.returns-clause-near
 returns-clause-near g c =
     let closed = c.in_ok-close.ensures.closure c.if-not-branch.false in
     let lacks = c.requires.lacks in
-    told_extent c.args.indexed.now c.close.new.closed c.args.i c.args.near.now c.visit.result
-    (below_extent c.requires.trying lacks c.with-reached.ensures c.in_ok-close.ensures.moved closed c.args.near.now c.requires.near)
+    told_extent c.args.indexed.now c.close.new.closed c.args.i c.args.lists.now.near c.visit.result
+    (below_extent c.requires.trying lacks c.with-reached.ensures c.in_ok-close.ensures.moved closed c.args.lists.now.near c.requires.near)
     c.visit.ensures.larger c.visit.ensures.shared
 
 pub returns-clause-done : goal.returns-clause-done
@@ -73,8 +73,8 @@ returns-clause-done g c = below_told c.requires.trying c.requires.lacks c.with-r
 pub returns-clause-passed : goal.returns-clause-passed
 returns-clause-passed g c =
     let closed = c.in_ok-close.ensures.closure c.if-not-branch.false in
-    told_forced c.close.new.found.list.members c.visit.new.found.list.members c.args.a.now c.close.new.closed c.args.forced.now.items
-    c.visit.result (subst (λ (M : RuleList). AreForced M.members c.args.a.now c.args.forced.now.items)
+    told_forced c.close.new.found.list.members c.visit.new.found.list.members c.args.a.now c.close.new.closed c.args.lists.now.forced.items
+    c.visit.result (subst (λ (M : RuleList). AreForced M.members c.args.a.now c.args.lists.now.forced.items)
     (sym c.in_ok-close.ensures.moved.list) c.requires.forced)
     (below_up c.args.a.now c.with-reached.result c.close.new.closed c.args.i c.args.found.now.list.members c.with-reached.ensures
     closed.closure) c.visit.ensures.more c.visit.ensures.larger

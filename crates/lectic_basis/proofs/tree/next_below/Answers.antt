@@ -1,4 +1,5 @@
-use Rattle.std.proofs.Common.{refl}
+use Rattle.std.proofs.Common.{refl, sym, subst}
+use Rattle.extent_blocks.specs.Blocks.{IsExtent}
 use Rattle.lectic_basis.specs.Steps.{IsFurther}
 use Rattle.lectic_basis.specs.declared.tree.Step.{Step}
 use Rattle.lectic_basis.proofs.StepLemmas.{tried_told}
@@ -11,10 +12,16 @@ returns-in-Some g c =
       intent = old.intent;
       from = old.from;
       end = c.args.i;
-      lists = record { near = old.lists.near; forced = c.child_at.new.forced };
+      lists = c.child_at.new.lists;
     } in
     let further : IsFurther c.args.indexed.now c.args.i c.args.found.now old new =
-    record { intent = refl; from = refl; end = refl; near = c.requires.near; forced = c.in_ok-child.ensures.kept } in
+    record {
+      intent = refl;
+      from = refl;
+      end = refl;
+      near = subst (IsExtent c.args.indexed.now old.intent) (sym c.in_ok-child.ensures.same) c.requires.near;
+      forced = c.in_ok-child.ensures.kept;
+    } in
     tried_told {old = old} {new = new} further (rw c.in-Some.is at c.in_ok-child.ensures.below)
     (rw c.in-Some.is at c.in_ok-child.ensures.passed)
     (rw c.in-Some.is at c.in_ok-child.ensures.done) c.step_below.result c.step_below.ensures

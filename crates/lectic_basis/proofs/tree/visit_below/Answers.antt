@@ -1,4 +1,4 @@
-use Rattle.std.proofs.Common.{◌≡◌, ℕ, List, ◌∷◌, ◌++◌, [], ◌∙◌, sym, ap, subst, arith}
+use Rattle.std.proofs.Common.{ℕ, List, ◌∷◌, ◌++◌, [], ◌∙◌, sym, ap, subst, arith}
 use Rattle.fca_model.specs.Context.{Context}
 use Rattle.lectic_basis.specs.Forced.{NoneTried, IsLastTried}
 use Rattle.lectic_basis.specs.Walks.{HasFound, IsPart}
