@@ -1,10 +1,10 @@
-//! What no whole call shows: room that is reserved, and an exploration whose one question is known.
+//! What no whole call shows: turns for which room was reserved, and an exploration whose one question is known.
 
 ghost use Rattle.std.specs.Prelude.{◌≡◌};
 
 use crate::tables::{bare_table, opened};
 use attr_bits::Attrs;
-use explore_state::{Explore, Implication};
+use explore_state::{Explore, Implication, Reply};
 use fca_model::Memory;
 use implication_closure::ImplicationList;
 use std::alloc::Global;
@@ -13,7 +13,11 @@ use std::test::Fail;
 
 #[test]
 fn room_is_reserved(rt: HostRuntime) -> Result<(), Memory> {
-    opened(rt.alloc(), 1)?.reserve(2)
+    let mut explore = opened(rt.alloc(), 1)?;
+    explore.reserve(2)?;
+    let replies = [explore.draw(1)?, explore.confirm(1)?];
+    assert!(rt; matches!(replies, [Reply::Ask(_), Reply::Accepted(0)]));
+    Ok(())
 }
 
 /// The exploration of the table by one expert, who knows that every object has all attributes.

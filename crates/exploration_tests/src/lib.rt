@@ -16,3 +16,5 @@ mod serve_tests;
 mod tables;
 #[cfg(test)]
 mod turn_lock_tests;
+#[cfg(test)]
+mod two_oracles_tests;

@@ -13,7 +13,7 @@ use std::test::Fail;
 use std::thread::Threads;
 
 /// How often a client looks whether the other was asked, before it quits anyway.
-const LOOKS: u64 = 50_000_000;
+const LOOKS: u64 = 500_000_000;
 
 /// The lines that a client sends.
 const FIRST: &[u8] = b"draw\n";
