@@ -1,3 +1,4 @@
 pub mod TopLemmas
 pub mod PackedLemmas
 pub mod TeamLemmas
+pub mod JoinedLemmas

@@ -1,24 +1,26 @@
 //! The text of the lattice of a table.
 
-ghost use Rattle.std.specs.Prelude.{◌≡◌, ◌≤◌, IfOk, length, map};
+ghost use Rattle.std.specs.Prelude.{◌≡◌, ◌≤◌, ◌++◌, All, IfOk, length, map, codes};
 ghost use Rattle.std.specs.List.{flat_map};
 ghost use Rattle.fca_model.specs.Pseudo.{covers, intents};
 ghost use Rattle.lectic_concepts.specs.Concepts.{concepts};
-ghost use Rattle.report_texts.specs.Reports.{lattice_text};
+ghost use Rattle.report_texts.specs.Reports.{count_line, cover_line, lattice_text};
 ghost use Rattle.context_table.specs.Narrow.{context_in};
+ghost use Rattle.packed_concepts.specs.Lines.{lines_text};
+ghost use Rattle.packed_concepts.specs.Packing.{IsNamed};
 ghost use Rattle.packed_concepts.specs.Pages.{concepts_on};
 ghost use Rattle.concept_walk.specs.Pages.{concept_at};
 ghost use Rattle.table_texts.specs.Lattices.{IsLattice};
 
 use crate::cover_lines::with_covers;
-use crate::packed::one_page;
+use crate::packed::{names_and_rows, one_page};
 use crate::tops::root_of;
-use concept_walk::{CrossTable, table_names};
+use concept_walk::CrossTable;
 use context_table::{NarrowRows, NarrowTable};
 use derivation::RowsOf;
 use fca_model::{MAX_OBJECTS, Memory};
 use lattice_covers::covers_of;
-use packed_concepts::{ConceptPage, ConceptsText, NarrowPages};
+use packed_concepts::{ConceptPage, ConceptsText, Names, NarrowPages};
 use std::alloc::Global;
 
 /// Concepts and covers.
@@ -32,12 +34,28 @@ struct Lattice {
 pub fn narrow_lattice_text(alloc: Global, table: NarrowTable) -> Result<Vec<u8>, Memory>
     ensures { IfOk result (λ v. v.items ≡ lattice_text table (concepts table.context) (covers table.context)) }
 {
-    let (objects, attributes, rows) = table.into_parts();
-    let _rows = attributes.rows();
-    let names = table_names(alloc, objects, &attributes)?;
+    let (names, rows) = names_and_rows(alloc, table)?;
     let lattice = lattice_of(alloc, rows)?;
-    let text = ConceptsText::new(alloc, names, lattice.pages)?.into_bytes()?;
-    with_covers(alloc, text, &lattice.covers)
+    write_lattice(alloc, names, lattice)
+}
+
+/// The lines of the concepts and then those of the covers.
+fn write_lattice(alloc: Global, names: Names, lattice: Lattice) -> Result<Vec<u8>, Memory>
+    requires { All (IsNamed names) (concepts_on lattice.pages) }
+    ensures { IfOk result (λ v. v.items ≡ lines_text names (concepts_on lattice.pages)
+        ++ (count_line (codes "covers ") (length lattice.covers.items) ++ flat_map cover_line lattice.covers.items)) }
+{
+    let Lattice { pages, covers } = lattice;
+    let text = write_lines(alloc, names, pages)?;
+    with_covers(alloc, text, &covers)
+}
+
+/// The lines of the concepts.
+fn write_lines(alloc: Global, names: Names, pages: NarrowPages) -> Result<Vec<u8>, Memory>
+    requires { All (IsNamed names) (concepts_on pages) }
+    ensures { IfOk result (λ v. v.items ≡ lines_text names (concepts_on pages)) }
+{
+    ConceptsText::new(alloc, names, pages)?.into_bytes()
 }
 
 /// The lattice of the rows.

@@ -15,10 +15,10 @@ use crate::jobs::{density_of, jobs_of};
 use crate::teams::fill_pages;
 use crate::tops::{Top, large_part, lay_out_large, pays, root_of};
 use concept_walk::{CrossTable, Page, table_names};
-use context_table::{NarrowRows, NarrowTable};
+use context_table::{NarrowRows, NarrowTable, Table};
 use derivation::RowsOf;
-use fca_model::{MAX_OBJECTS, Memory};
-use packed_concepts::{ConceptPage, ConceptsText, NarrowPages};
+use fca_model::{MAX_OBJECTS, Memory, Name};
+use packed_concepts::{ConceptPage, ConceptsText, Names, NarrowPages};
 use std::alloc::Global;
 use std::thread::Threads;
 
@@ -30,12 +30,38 @@ pub fn narrow_concepts_text<R: Threads + Sync>(
 ) -> Result<ConceptsText, Memory>
     ensures { IfOk result (λ text. text ≡ concepts_text table (concepts table.context)) }
 {
-    let (objects, attributes, rows) = table.into_parts();
-    let _rows = attributes.rows();
-    let names = table_names(alloc, objects, &attributes)?;
+    let (names, rows) = names_and_rows(alloc, table)?;
     let pages = narrow_pages(rt, alloc, rows)?;
     let text = ConceptsText::new(alloc, names, pages)?;
     Ok(text)
+}
+
+/// The names of the table, each with a comma and a space behind it, and its rows.
+pub(crate) fn names_and_rows(
+    alloc: Global,
+    table: NarrowTable,
+) -> Result<(Names, NarrowRows), Memory>
+    ensures names { IfOk result (λ parts. parts.0 ≡ record { attributes = table.attributes; objects = table.objects }) }
+    ensures rows { IfOk result (λ parts. context_in parts.1 ≡ table.context) }
+    ensures each_attribute { IfOk result (λ parts. length table.attributes ≡ table.context.width) }
+    ensures each_object { IfOk result (λ parts. length table.objects ≡ length table.context.rows) }
+    ensures few_objects { IfOk result (λ parts. length (context_in parts.1).rows ≤ MAX_OBJECTS) }
+{
+    let (objects, attributes, rows) = table.into_parts();
+    match names_of(alloc, objects, attributes) {
+        Ok(names) => Ok((names, rows)),
+        Err(_) => Err(Memory),
+    }
+}
+
+/// The names of the objects and of the table's attributes.
+fn names_of(alloc: Global, objects: Vec<Name>, table: Table) -> Result<Names, Memory>
+    ensures names { IfOk result (λ names. names ≡ record { attributes = table.attributes; objects = objects.items }) }
+    ensures each_attribute { length table.attributes ≡ table.context.width }
+{
+    let _rows = table.rows();
+    let names = table_names(alloc, objects, &table);
+    names
 }
 
 /// The concepts of the rows.

@@ -6,6 +6,6 @@ use Rattle.table_texts.proofs.basis_lines.arrows_text.Given as goal
 abbrev pub invariant-loop-place : goal.invariant-loop-place
 invariant-loop-place g l = record {
   ends : l.end ≤ length l.bytes.items;
-  written : take l.end l.bytes.items ++ flat_map (λ x. arrow_line [] l.table.attributes x.0 x.1)
-      (enumerate_from l.place (drop l.place l.members)) ≡ basis_text l.table.attributes l.members;
+  written : take l.end l.bytes.items ++ flat_map (λ x. arrow_line [] l.names x.0 x.1)
+      (enumerate_from l.place (drop l.place l.members)) ≡ basis_text l.names l.members;
 }
