@@ -5,16 +5,16 @@ mod derivations;
 mod ordering;
 mod reducing;
 
-ghost use Rattle.std.specs.Prelude.{◌≡◌, ◌≤◌, IfOk, true};
+ghost use Rattle.std.specs.Prelude.{◌≡◌, IfOk, true};
 ghost use Rattle.fca_model.specs.Implications.{equivalent};
 ghost use Rattle.fca_model.specs.Pseudo.{basis};
 ghost use Rattle.pseudo_levels.specs.LeastBasis.{IsLeastBasis};
 ghost use Rattle.canonical_basis.specs.Reduced.{context_of};
 
-use derivation::{Rows, RowsOf};
+use derivation::Rows;
 pub use derivations::{Derivation, check, derive};
-use fca_model::{MAX_ATTRIBUTES, Memory};
-use implication_closure::{ImplicationList, ImplicationListOf};
+use fca_model::Memory;
+use implication_closure::ImplicationList;
 use lectic_basis::known_with_basis;
 use ordering::{close_in_list, premises_in_order};
 use reducing::reduce_list;
@@ -32,19 +32,6 @@ pub fn basis<R: Threads + Sync>(
 {
     let nothing = ImplicationList::new(alloc, rows.width())?;
     known_with_basis(alloc, rows, &nothing)
-}
-
-/// The Duquenne-Guigues basis of the context with these rows, in sets of W words.
-pub fn basis_in_words<const W: usize>(
-    alloc: Global,
-    rows: RowsOf<W>,
-) -> Result<ImplicationListOf<W>, Memory>
-    requires { rows.width ≤ MAX_ATTRIBUTES }
-    ensures members { IfOk result (λ list. list ≡ record { width = rows.entry.width; members = basis rows.entry }) }
-    ensures least { IfOk result (λ list. IsLeastBasis rows.entry list.members) }
-{
-    let nothing = ImplicationList::new(alloc, rows.width())?;
-    lectic_basis::basis_in_words(alloc, rows, &nothing)
 }
 
 /// The Duquenne-Guigues basis of the context whose rows are all sets that respect the list, in lectic order of the premises. Nothing lists these sets.
