@@ -119,11 +119,13 @@ module _ {H S D E : Type 0} (talk : Sides E) (s s' : ShelfMoment H) (input : Mom
             (λ output play. play-tells reading output play) answers;
         cause = causes;
         refused = refusals;
-        blamed = blames;
-        quiet = quiet_with output (outside s input link) (outside s' input link) quiet
-            (unless_fault output (input.faults ≡ input.faults) refl)
-            (unless_listener output (SameCounts link.open_faults link.open_faults) (λ _. refl))
-            (unless_listener output (link.accept_faults ≡ link.accept_faults) refl);
+        counts = record {
+          blamed = blames;
+          quiet = quiet_with output (outside s input link) (outside s' input link) quiet
+              (unless_fault output (input.faults ≡ input.faults) refl)
+              (unless_listener output (SameCounts link.open_faults link.open_faults) (λ _. refl))
+              (unless_listener output (link.accept_faults ≡ link.accept_faults) refl);
+        };
         complete = λ given. given-comes (read_by command old) (FaultRose command old new)
             (LinkFaultRose command old new) output blames refusals given;
         read_to_end = λ reads. cc;
@@ -208,8 +210,10 @@ module _ {H S D E : Type 0} (talk : Sides E) (s s' : ShelfMoment H) (input : Mom
             (λ output serve. serve-tells talk reading experts holders link.ends link'.ends output serve) answers;
         cause = causes;
         refused = refusals;
-        blamed = blames;
-        quiet = quiet_with output old new quiet (unless_fault output (input.faults ≡ input.faults) refl) quiet_open quiet_accept;
+        counts = record {
+          blamed = blames;
+          quiet = quiet_with output old new quiet (unless_fault output (input.faults ≡ input.faults) refl) quiet_open quiet_accept;
+        };
         complete = λ given. given-comes (read_by command old) (FaultRose command old new)
             (LinkFaultRose command old new) output blames refusals given;
         read_to_end = λ reads. cc;
@@ -243,8 +247,7 @@ module _ {H S D E : Type 0} (talk : Sides E) (s : ShelfMoment H) (input : Moment
         course = any-ok output (Unit {0}) tt;
         cause = causes;
         refused = refusals;
-        blamed = blames;
-        quiet = quiet_same output old;
+        counts = record { blamed = blames; quiet = quiet_same output old };
         complete = λ given. given-comes (read_by command old) (FaultRose command old old)
             (LinkFaultRose command old old) output blames refusals given;
         read_to_end = λ reads. cc;
@@ -286,9 +289,11 @@ module _ {H S D E : Type 0} (talk : Sides E) (s s' : ShelfMoment H) (input : Mom
         course = comes.course;
         cause = comes.cause;
         refused = comes.refused;
-        blamed = blames;
-        quiet = quiet_with output old new comes.quiet.files (unless_fault output (input.faults ≡ input.faults) refl)
-            comes.quiet.addresses comes.quiet.accepting;
+        counts = record {
+          blamed = blames;
+          quiet = quiet_with output old new comes.counts.quiet.files (unless_fault output (input.faults ≡ input.faults) refl)
+              comes.counts.quiet.addresses comes.counts.quiet.accepting;
+        };
         complete = λ given. given-comes (read_by command old) (FaultRose command old new)
             (LinkFaultRose command old new) output blames comes.refused given;
         read_to_end = λ reads. cc;
@@ -334,8 +339,7 @@ module _ {H S : Type 0} (s s' : ShelfMoment H) (input input' : Moment S) (output
     course = courses;
     cause = causes;
     refused = refuses;
-    blamed = blames;
-    quiet = quiet;
+    counts = record { blamed = blames; quiet = quiet };
     complete = completes;
     read_to_end = at_end;
     input_kept = kept;
@@ -393,10 +397,12 @@ module _ {H S : Type 0} (s s' : ShelfMoment H) (input input' : Moment S) (output
       course = comes.course;
       cause = comes.cause;
       refused = comes.refused;
-      blamed = comes.blamed;
-      quiet = quiet_with output (outside s input link) (outside s' input' link) comes.quiet.files comes.quiet.input
-          (unless_listener output (SameCounts link.open_faults link.open_faults) (λ _. refl))
-          (unless_listener output (link.accept_faults ≡ link.accept_faults) refl);
+      counts = record {
+        blamed = comes.counts.blamed;
+        quiet = quiet_with output (outside s input link) (outside s' input' link) comes.counts.quiet.files comes.counts.quiet.input
+            (unless_listener output (SameCounts link.open_faults link.open_faults) (λ _. refl))
+            (unless_listener output (link.accept_faults ≡ link.accept_faults) refl);
+      };
       complete = comes.complete;
       read_to_end = comes.read_to_end;
       input_kept = comes.input_kept;
@@ -437,8 +443,10 @@ module _ {H S D E : Type 0} (talk : Sides E) (old : Outside H S D E) where
     course = tt;
     cause = memory-causes command;
     refused = λ refusal. absurd refusal;
-    blamed = tt;
-    quiet = quiet_same (Err Memory) old;
+    counts = record {
+      blamed = tt;
+      quiet = quiet_same (Err Memory) old;
+    };
     complete = λ given. inl refl;
     read_to_end = λ reads. tt;
     input_kept = λ _. refl;

@@ -160,6 +160,12 @@ module _ {H S L E : Type 0} where
     pub addresses : UnlessListener output (SameCounts old.link.open_faults new.link.open_faults)
     pub accepting : UnlessListener output (new.link.accept_faults ≡ old.link.accept_faults)
 
+  -- What comes of a command agrees with the counts of the outside. A fault is blamed only if its count rose, and no count of faults changes
+  -- but by such a fault
+  pub record AgreesWithCounts (command : Command) (output : Result Output Stop) (old new : Outside H S L E) : Type 0 where
+    pub blamed : IfErr output (IsBlamed (FaultRose command old new) (LinkFaultRose command old new))
+    pub quiet : IsQuiet output old new
+
   -- ---- why a command stops
 
   -- the stop for a command that reports on no table
@@ -201,12 +207,10 @@ module _ {H S L E : Type 0} where
     pub allowed : IfOk output (MayOutput talk command old new)
     pub ending : IfOk output (λ output. MayEnd command output.ending)
     pub course : IfOk output (λ output. HasCourse command old.shelf.tells old.input.bytes output.text)
-    -- A stop has its cause, and refuses only what may be refused. A fault is blamed only if its count rose, and no count changes but by
-    -- such a fault
+    -- A stop has its cause, and refuses only what may be refused. The counts of the outside agree with what came of it
     pub cause : IfErr output (IsCommandStop command old new)
     pub refused : IfErr output (λ stop. IsRefusal stop → MayRefuse (read_by command old))
-    pub blamed : IfErr output (IsBlamed (FaultRose command old new) (LinkFaultRose command old new))
-    pub quiet : IsQuiet output old new
+    pub counts : AgreesWithCounts command output old new
     -- If all that the command reads is told and has its form, there is an output, or a count rose, or memory ran out
     pub complete : IsGiven (read_by command old) → IfErr output
         (λ stop. (stop ≡ Memory) ⊎ (FaultRose command old new ⊎ LinkFaultRose command old new))
