@@ -1,6 +1,8 @@
 //! The tables that `explore` reads: the one to explore, and those of the experts.
 
-ghost use Rattle.std.specs.Prelude.{◌≡◌, ◌≤◌, ℕ, List, All, Bool, true, IfOk, IfErr, OnOk, vec_len, length, option_copied};
+ghost use Rattle.std.specs.Prelude.{◌≡◌, ◌≤◌, ◌∷◌, ◌++◌, ℕ, List, All, Bool, true, IfOk, IfErr, OnOk, vec_len, length, option_copied, option_to_list};
+ghost use Rattle.std.specs.Option.{option_map};
+ghost use Rattle.fca_io.specs.Faults.{RoseAtMost, one_more};
 ghost use Rattle.fca_model.specs.Exploration.{is_expert};
 ghost use Rattle.command_io.specs.Readings.{MayRead, MayRefuse, Rises, SameCounts};
 ghost use Rattle.command_io.specs.Causes.{UnlessFault};
@@ -59,6 +61,7 @@ pub fn load_panel<H: Shelf>(
     ensures cause { IfErr result (IsPanelStop file.now (option_copied known.entry) experts.now (H.tells shelf.old)
         (Rises (H.faults shelf.old) (H.faults shelf.new))) }
     ensures quiet { UnlessFault result (SameCounts (H.faults shelf.old) (H.faults shelf.new)) }
+    ensures few { RoseAtMost (H.fetches shelf.old) (H.fetches shelf.new) (length (file.now ∷ option_to_list (option_copied known.entry) ++ experts.now)) }
 {
     let names = names_by_files(alloc, names, experts)?;
     let start = load_start(alloc, shelf, file, known)?;
@@ -101,6 +104,7 @@ fn load_experts<H: Shelf>(
     ensures cause { IfErr result (IsExpertsStop table.now 0 files.now (H.tells shelf.old)
         (Rises (H.faults shelf.old) (H.faults shelf.new))) }
     ensures quiet { UnlessFault result (SameCounts (H.faults shelf.old) (H.faults shelf.new)) }
+    ensures few { RoseAtMost (H.fetches shelf.old) (H.fetches shelf.new) (length files.now) }
     ensures later { (other : List ℕ) → H.faults shelf.old other ≤ H.faults shelf.new other }
 {
     let mut tables = Vec::new(alloc);
@@ -125,6 +129,7 @@ fn load_expert<H: Shelf>(
     ensures cause { IfErr result (IsExpertStop table.now file.now (H.tells shelf.old)
         (Rises (H.faults shelf.old) (H.faults shelf.new)) origin) }
     ensures quiet { UnlessFault result (SameCounts (H.faults shelf.old) (H.faults shelf.new)) }
+    ensures counted { H.fetches shelf.new ≡ option_map one_more (H.fetches shelf.old) }
     ensures kept { (other : List ℕ) → H.tells shelf.new other ≡ H.tells shelf.old other }
     ensures later { (other : List ℕ) → H.faults shelf.old other ≤ H.faults shelf.new other }
 {

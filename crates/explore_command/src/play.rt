@@ -1,7 +1,8 @@
 //! The exploration of a panel's table by its oracles, and the text of it.
 
-ghost use Rattle.std.specs.Prelude.{◌≡◌, ◌≤◌, true, [], All, Bool, IfOk, IfErr, length, option_copied, vec_len};
+ghost use Rattle.std.specs.Prelude.{◌≡◌, ◌≤◌, ◌∷◌, ◌++◌, true, [], All, Bool, IfOk, IfErr, length, option_copied, option_to_list, vec_len};
 ghost use Rattle.fca_model.specs.Exploration.{is_expert};
+ghost use Rattle.fca_io.specs.Faults.{RoseAtMost};
 ghost use Rattle.exploration_terms.specs.Settings.{settings_of};
 ghost use Rattle.basis_report.specs.Explorations.{Spells};
 ghost use Rattle.expert_scripts.specs.Transcripts.{SettingsCanBeWritten};
@@ -42,6 +43,7 @@ pub fn explore<R: Threads + Wait + Sync, H: Shelf>(
     ensures cause { IfErr result (IsPanelStop file.now (option_copied known.entry) experts.now (H.tells shelf.old)
         (Rises (H.faults shelf.old) (H.faults shelf.new))) }
     ensures quiet { UnlessFault result (SameCounts (H.faults shelf.old) (H.faults shelf.new)) }
+    ensures few { RoseAtMost (H.fetches shelf.old) (H.fetches shelf.new) (length (file.now ∷ option_to_list (option_copied known.entry) ++ experts.now)) }
 {
     let panel = load_panel(alloc, shelf, file, known, names, experts)?;
     Ok(play(rt, alloc, panel)?)

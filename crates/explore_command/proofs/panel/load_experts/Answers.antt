@@ -8,6 +8,7 @@ use Rattle.command_io.specs.Readings.{MayRefuse, Rises, SameCounts}
 use Rattle.command_io.specs.declared.stop.Stop.{Stop}
 use Rattle.command_io.specs.declared.stop.Stop.TheVariants.{Memory}
 use Rattle.command_io.proofs.ErrLemmas.{err-passed}
+use Rattle.command_io.proofs.FetchLemmas.{fetched_none, fetched_one, fetched_within, fetched_then}
 use Rattle.command_io.proofs.QuietLemmas.{unless_fault, fault-later, fault-passed, SameCounts-then}
 use Rattle.explore_command.specs.Panels.{experts_read, IsExpertsStop}
 use Rattle.explore_command.proofs.PanelLemmas.{ReadsOn, ReadsOn-next, ReadsOn-all, refused-file, experts-stop, memory-experts}
@@ -61,6 +62,9 @@ loop-place-preserved g c =
       (λ other. c.in_ok-expert.ensures.kept other ∙ inv.3 other),
       (λ other. (let before = inv.4 other in let now = c.in_ok-expert.ensures.later other in omega arith)),
       (λ other. c.in_ok-expert.ensures.quiet other ∙ inv.5 other),
+      fetched_then (g.H.Shelf.fetches c.args.shelf.now) (g.H.Shelf.fetches c.loop-place.shelf) (g.H.Shelf.fetches c.load_expert.new.shelf)
+          c.loop-place.place 1 inv.6
+          (fetched_one (g.H.Shelf.fetches c.loop-place.shelf) (g.H.Shelf.fetches c.load_expert.new.shelf) c.in_ok-expert.ensures.counted),
     )
 
 pub returns-clause-tables : goal.returns-clause-tables
@@ -94,3 +98,30 @@ returns-in_err-push-clause-quiet g c =
     let after = g.H.Shelf.faults c.load_expert.new.shelf in
     unless_fault c.from_residual-in_err-push.result (SameCounts counts after)
     (SameCounts-then counts (g.H.Shelf.faults c.loop-place.shelf) after c.loop-place.invariant.5 c.in_ok-expert.ensures.quiet)
+
+-- ---- counts of fetches
+
+pub returns-in_err-expert-clause-few : goal.returns-in_err-expert-clause-few
+returns-in_err-expert-clause-few g c =
+    let inside : c.loop-place.place < length c.args.files.now = omega arith in
+    fetched_within (g.H.Shelf.fetches c.args.shelf.now) (g.H.Shelf.fetches c.load_expert.new.shelf) (c.loop-place.place + 1)
+    (length c.args.files.now) (omega arith)
+    (fetched_then (g.H.Shelf.fetches c.args.shelf.now) (g.H.Shelf.fetches c.loop-place.shelf) (g.H.Shelf.fetches c.load_expert.new.shelf)
+    c.loop-place.place 1 c.loop-place.invariant.6
+    (fetched_one (g.H.Shelf.fetches c.loop-place.shelf) (g.H.Shelf.fetches c.load_expert.new.shelf) c.in_err-expert.ensures.counted))
+
+pub returns-in_err-push-clause-few : goal.returns-in_err-push-clause-few
+returns-in_err-push-clause-few g c =
+    let inside : c.loop-place.place < length c.args.files.now = omega arith in
+    fetched_within (g.H.Shelf.fetches c.args.shelf.now) (g.H.Shelf.fetches c.load_expert.new.shelf) (c.loop-place.place + 1)
+    (length c.args.files.now) (omega arith)
+    (fetched_then (g.H.Shelf.fetches c.args.shelf.now) (g.H.Shelf.fetches c.loop-place.shelf) (g.H.Shelf.fetches c.load_expert.new.shelf)
+    c.loop-place.place 1 c.loop-place.invariant.6
+    (fetched_one (g.H.Shelf.fetches c.loop-place.shelf) (g.H.Shelf.fetches c.load_expert.new.shelf) c.in_ok-expert.ensures.counted))
+
+pub returns-clause-few : goal.returns-clause-few
+returns-clause-few g c =
+    let past = c.loop-place-test.false in
+    let within = c.loop-place.invariant.1 in
+    fetched_within (g.H.Shelf.fetches c.args.shelf.now) (g.H.Shelf.fetches c.loop-place.shelf) c.loop-place.place
+    (length c.args.files.now) (omega arith) c.loop-place.invariant.6

@@ -1,11 +1,14 @@
-use Rattle.std.proofs.Common.{ℕ, List, inr, refl, sym, ap, ◌∙◌, subst}
-use Rattle.std.specs.Prelude.{option_copied}
+use Rattle.std.proofs.Common.{◌≡◌, ◌≤◌, ◌+◌, ◌++◌, ◌∷◌, ℕ, List, length, length-append, inr, refl, sym, ap, ◌∙◌, subst, arith}
+use Rattle.std.specs.Prelude.{option_copied, option_to_list}
 use Rattle.fca_model.specs.Exploration.{RowName}
+use Rattle.fca_model.specs.Tables.{Text}
 use Rattle.fca_model.specs.declared.TheConstants.{MAX_EXPERTS}
+use Rattle.fca_io.specs.Faults.{RoseAtMost}
 use Rattle.command_io.specs.Endings.{IsRefusal}
 use Rattle.command_io.specs.Readings.{MayRead, MayRefuse, Rises, SameCounts}
 use Rattle.command_io.specs.declared.stop.Stop.{Stop}
 use Rattle.command_io.proofs.ErrLemmas.{err-passed}
+use Rattle.command_io.proofs.FetchLemmas.{fetched_none, fetched_within, fetched_then}
 use Rattle.command_io.proofs.KnownLemmas.{Rises-before}
 use Rattle.command_io.proofs.QuietLemmas.{unless_fault, fault-later, fault-passed, SameCounts-then}
 use Rattle.command_io.specs.Known.{start_of}
@@ -93,3 +96,35 @@ pub returns-clause-quiet : goal.returns-clause-quiet
 returns-clause-quiet g c =
     SameCounts-then (g.H.Shelf.faults c.args.shelf.now) (g.H.Shelf.faults c.load_start.new.shelf)
     (g.H.Shelf.faults c.load_experts.new.shelf) c.in_ok-start.ensures.quiet c.in_ok-tables.ensures.quiet
+
+-- ---- counts of fetches
+
+pub returns-in_err-names-clause-few : goal.returns-in_err-names-clause-few
+returns-in_err-names-clause-few g c =
+    fetched_none (g.H.Shelf.fetches c.args.shelf.now)
+    (length (c.args.file.now ∷ option_to_list (option_copied c.args.known) ++ c.args.experts.now))
+
+pub returns-in_err-start-clause-few : goal.returns-in_err-start-clause-few
+returns-in_err-start-clause-few g c =
+    let files : List Text = c.args.file.now ∷ option_to_list (option_copied c.args.known) in
+    let all = length-append files c.args.experts.now in
+    fetched_within (g.H.Shelf.fetches c.args.shelf.now) (g.H.Shelf.fetches c.load_start.new.shelf) (length files)
+    (length (files ++ c.args.experts.now)) (omega (arith, all)) c.in_err-start.ensures.few
+
+pub returns-in_err-tables-clause-few : goal.returns-in_err-tables-clause-few
+returns-in_err-tables-clause-few g c =
+    let files : List Text = c.args.file.now ∷ option_to_list (option_copied c.args.known) in
+    subst (RoseAtMost (g.H.Shelf.fetches c.args.shelf.now) (g.H.Shelf.fetches c.load_experts.new.shelf))
+    (sym (length-append files c.args.experts.now))
+    (fetched_then (g.H.Shelf.fetches c.args.shelf.now) (g.H.Shelf.fetches c.load_start.new.shelf)
+    (g.H.Shelf.fetches c.load_experts.new.shelf) (length files) (length c.args.experts.now) c.in_ok-start.ensures.few
+    c.in_err-tables.ensures.few)
+
+pub returns-clause-few : goal.returns-clause-few
+returns-clause-few g c =
+    let files : List Text = c.args.file.now ∷ option_to_list (option_copied c.args.known) in
+    subst (RoseAtMost (g.H.Shelf.fetches c.args.shelf.now) (g.H.Shelf.fetches c.load_experts.new.shelf))
+    (sym (length-append files c.args.experts.now))
+    (fetched_then (g.H.Shelf.fetches c.args.shelf.now) (g.H.Shelf.fetches c.load_start.new.shelf)
+    (g.H.Shelf.fetches c.load_experts.new.shelf) (length files) (length c.args.experts.now) c.in_ok-start.ensures.few
+    c.in_ok-tables.ensures.few)
