@@ -60,7 +60,7 @@ start_read file known files =
 
 -- ---- why it is not
 
--- the stop for the first row of the table that breaks one of these implications, which come from the origin
+-- the stop for the first row of the table that breaks one of these implications; its message names the origin
 abbrev pub IsBreakStop : List Rule → NamedContext → Origin → Stop → Type 0
 IsBreakStop S table origin stop =
     (found : ℕ × ℕ) × (first_break S 0 table.context.rows ≡ Some found) × (stop ≡ RowBreaks origin found.0 found.1)

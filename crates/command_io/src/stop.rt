@@ -34,7 +34,8 @@ pub enum Stop {
     BadValues(Origin, ValuesFault),
     BadPlan(Origin, PlanFault),
     NoKnown(KnownFault),
-    /// The row at the first place breaks the known implication at the second, which comes from the origin.
+    /// The row at the first place breaks the known implication at the second. The origin says what the message names: the table if a known file has the
+    /// implication, the script if it says it itself.
     RowBreaks(Origin, usize, usize),
     NoScript(ScriptFault),
     UnknownAttribute,

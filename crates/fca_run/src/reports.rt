@@ -199,7 +199,7 @@ fn attributes_in(table: &Table, word: &Word) -> Result<Attrs, Stop>
     }
 }
 
-/// The text that says whether the implication holds.
+/// The text that says whether the implication holds. Its contract speaks of the definition that the contract of `run` has for it.
 fn table_verdict<R: Threads + Sync>(
     rt: &R,
     alloc: Global,

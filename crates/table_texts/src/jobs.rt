@@ -40,7 +40,7 @@ pub(crate) fn density_of<const W: usize>(children: &[Top<W>]) -> Density {
     }
 }
 
-/// Jobs of about the same work, which have the branches in their order.
+/// Jobs of about the same work, which have the branches in their order. `split_tops` says that nothing is lost, and this says what it means for branches.
 pub(crate) fn jobs_of<'a, const W: usize>(
     alloc: Global,
     crosses: &CrossTable<'_, W>,

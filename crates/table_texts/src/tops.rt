@@ -27,7 +27,7 @@ const MANY: usize = 12;
 /// The branches overlap if their pairs share at least so many objects.
 const OVERLAP: usize = 512;
 
-/// The branch of a node of the tree of intents.
+/// The branch of a node of the tree of intents, with what a walk of it begins with. It owns its places and witnesses, which a `Node` borrows.
 #[derive(Drop)]
 pub(crate) struct Top<const W: usize> {
     pub(crate) intent: Bits<W>,
