@@ -13,6 +13,7 @@ use explore_state::Explore;
 use fca_io::{Sink, WRITE_FAULT};
 use packed_concepts::ConceptsText;
 use std::marker::Model;
+use std::thread::Threads;
 
 /// The status if a fault of out cut off the text.
 const CUT_OFF: u8 = 4;
@@ -90,7 +91,8 @@ impl Output {
 }
 
 /// Writes the text to out, or the cause of the stop to err, and returns the status. `file` is the name of the file at fault, if there is one.
-pub fn conclude<K: Sink, E: Sink>(
+pub fn conclude<R: Threads + Sync, K: Sink, E: Sink>(
+    rt: &R,
     output: Result<Output, Stop>,
     file: &[u8],
     out: &mut K,
@@ -102,7 +104,7 @@ pub fn conclude<K: Sink, E: Sink>(
     match output {
         Ok(output) => {
             let ending = output.ending;
-            if output.text.write(out).is_err() {
+            if output.text.write(rt, out).is_err() {
                 report_plain(err, WRITE_FAULT);
                 return CUT_OFF;
             }

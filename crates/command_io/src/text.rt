@@ -8,6 +8,7 @@ use crate::err_line::write_part;
 use fca_io::{Put, Sink};
 use packed_concepts::ConceptsText;
 use std::marker::Model;
+use std::thread::Threads;
 
 /// How the bytes of a text are stored.
 #[derive(Drop)]
@@ -51,7 +52,7 @@ impl Text {
         }
     }
 
-    /// Makes the text of these concepts. Writing it produces its bytes and takes no memory.
+    /// Makes the text of these concepts. Its bytes are produced as it is written.
     pub fn packed(text: ConceptsText) -> Text
         ensures { result ≡ text }
     {
@@ -61,13 +62,13 @@ impl Text {
     }
 
     /// Appends the whole text to out. After an `Err`, out holds a front of it.
-    pub(crate) fn write<K: Sink>(self, out: &mut K) -> Result<(), Put>
+    pub(crate) fn write<R: Threads + Sync, K: Sink>(self, rt: &R, out: &mut K) -> Result<(), Put>
         ensures { WritesTo K.held K.faults K.beside K.asked_beside out.old out.new self result }
     {
         match self.layout {
             Layout::Whole(bytes) => write_part(out, &bytes),
             Layout::Pieces(pieces) => write_pieces(out, &pieces),
-            Layout::Packed(text) => text.write(out),
+            Layout::Packed(text) => text.write(rt, out),
         }
     }
 }

@@ -33,7 +33,7 @@ fn main(rt: HostRuntime) -> ExitCode {
             &mut err,
             &mut link,
         ),
-        Err(stop) => conclude(Err(stop), b"", &mut out, &mut err),
+        Err(stop) => conclude(&rt, Err(stop), b"", &mut out, &mut err),
     };
     ExitCode::from(status)
 }

@@ -53,10 +53,10 @@ pub fn run<R: Threads + Wait + Sync, H: Shelf, S: Source, K: Sink, E: Sink, L: L
                 return run_plain(rt, alloc, &command, shelf, input, out, err);
             }
             let output = waiting_output(rt, alloc, &command, shelf, link);
-            finish(&command, output, out, err)
+            finish(rt, &command, output, out, err)
         }
-        Ok(None) => conclude(Err(Stop::NoCommand), b"", out, err),
-        Err(Memory) => conclude(Err(Stop::Memory), b"", out, err),
+        Ok(None) => conclude(rt, Err(Stop::NoCommand), b"", out, err),
+        Err(Memory) => conclude(rt, Err(Stop::Memory), b"", out, err),
     }
 }
 
@@ -137,11 +137,12 @@ pub fn run_plain<R: Threads + Sync, H: Shelf, S: Source, K: Sink, E: Sink>(
         (moment E.held E.faults err.old) (moment E.held E.faults err.new) result }
 {
     let output = plain_output(rt, alloc, command, shelf, input);
-    finish(command, output, out, err)
+    finish(rt, command, output, out, err)
 }
 
 /// Writes the output of the command to out, or the cause of its stop to err, and returns the status.
-fn finish<K: Sink, E: Sink>(
+fn finish<R: Threads + Sync, K: Sink, E: Sink>(
+    rt: &R,
     command: &Command,
     output: Result<Output, Stop>,
     out: &mut K,
@@ -151,7 +152,7 @@ fn finish<K: Sink, E: Sink>(
         (moment E.held E.faults err.old) (moment E.held E.faults err.new) result }
 {
     let file = name_at_fault(command, &output);
-    conclude(output, file, out, err)
+    conclude(rt, output, file, out, err)
 }
 
 /// The name of the file at fault if the command stopped, or else an empty name.

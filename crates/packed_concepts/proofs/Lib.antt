@@ -4,3 +4,4 @@ pub mod LineLemmas
 pub mod PackingLemmas
 pub mod PageLemmas
 pub mod PassingLemmas
+pub mod StretchLemmas

@@ -1,6 +1,6 @@
 -- Concepts of which the places stand one behind the other, one more and one less.
 use Rattle.std.proofs.Common.{◌≡◌, ℕ, suc, ◌+◌, ◌<◌, ◌≤◌, All, List, [], ◌∷◌, ◌++◌, length, map, take, drop, get_or, refl, sym, ap, ap₂, ◌∙◌, arith}
-use Rattle.std.proofs.lemmas.List.{take_all, take-append-le, drop-append-le, length-drop, length-take, drop_more}
+use Rattle.std.proofs.lemmas.List.{take_all, take-append-le, take-append-drop, drop-append-le, length-drop, length-take, length-take-le, drop_more, take_more}
 use Rattle.std.proofs.lemmas.List.Elements.{All-head, All-tail, All-cons, All-append}
 use Rattle.packed_concepts.specs.Packing.{total, unpacked}
 use Rattle.packed_concepts.specs.declared.page.Packed.{Packed}
@@ -19,6 +19,32 @@ unpacked-more (q ∷ ps) T E p fits long =
     ap₂ (λ F cs. (q.intent, F) ∷ cs) (take-append-le q.count T E (omega (arith, fits)))
     (ap (unpacked (ps ++ p ∷ [])) (drop-append-le q.count T E (omega (arith, fits)))
     ∙ unpacked-more ps (drop q.count T) E p (omega (arith, fits, rest)) long)
+
+-- some concepts, and those behind them
+pub unpacked-append : {W : ℕ} (ps qs : List (Packed W)) (S T : List ℕ) → total ps ≡ length S
+    → unpacked (ps ++ qs) (S ++ T) ≡ unpacked ps S ++ unpacked qs T
+unpacked-append [] qs [] T fits = refl
+unpacked-append [] qs (x ∷ S) T fits = absurd (omega (arith, fits))
+unpacked-append (p ∷ ps) qs S T fits =
+    let rest = length-drop p.count S in
+    ap₂ (λ F cs. (p.intent, F) ∷ cs) (take-append-le p.count S T (omega (arith, fits)))
+    (ap (unpacked (ps ++ qs)) (drop-append-le p.count S T (omega (arith, fits)))
+    ∙ unpacked-append ps qs (drop p.count S) T (omega (arith, fits, rest)))
+
+-- the first so many have no more places than all
+pub total-take : {W : ℕ} (ps : List (Packed W)) (n : ℕ) → total (take n ps) ≤ total ps
+total-take ps n =
+    let both : total ps ≡ total (take n ps) + total (drop n ps) = ap total (sym (take-append-drop n ps)) ∙ total-append (take n ps) (drop n ps) in
+    omega (arith, both)
+
+-- the concepts, cut in two
+pub unpacked-split : {W : ℕ} (ps : List (Packed W)) (T : List ℕ) (n m : ℕ) → total ps ≡ length T → m ≡ total (take n ps)
+    → unpacked ps T ≡ unpacked (take n ps) (take m T) ++ unpacked (drop n ps) (drop m T)
+unpacked-split ps T n m fits at =
+    let low = total-take ps n in
+    let long : length (take m T) ≡ m = length-take-le m T (omega (arith, low, fits, at)) in
+    ap₂ unpacked (sym (take-append-drop n ps)) (sym (take-append-drop m T))
+    ∙ unpacked-append (take n ps) (drop n ps) (take m T) (drop m T) (omega (arith, long, at))
 
 pub length-unpacked : {W : ℕ} (ps : List (Packed W)) (T : List ℕ) → length (unpacked ps T) ≡ length ps
 length-unpacked [] T = refl
@@ -54,3 +80,15 @@ module _ {W : ℕ} (ps : List (Packed W)) (i : ℕ) (p : Packed W) (inside : i <
 
   pub length-left : length (drop i ps) ≡ suc (length (drop (i + 1) ps))
   length-left = ap (λ (qs : List (Packed W)). length qs) left
+
+-- the places of one more
+pub total-next : {W : ℕ} (ps : List (Packed W)) (i : ℕ) (p : Packed W) → i < length ps → p ≡ get_or ps i p
+    → total (take (i + 1) ps) ≡ total (take i ps) + p.count
+total-next ps i p inside is =
+    let more : take (i + 1) ps ≡ take i ps ++ p ∷ [] = take_more ps i p inside ∙ ap (λ q. take i ps ++ q ∷ []) (sym is) in
+    let both = total-append (take i ps) (p ∷ []) in
+    ap total more ∙ both ∙ omega arith
+
+-- the places of those behind the first so many
+pub total-drop : {W : ℕ} (ps : List (Packed W)) (n : ℕ) → total (take n ps) + total (drop n ps) ≡ total ps
+total-drop ps n = sym (total-append (take n ps) (drop n ps)) ∙ ap total (take-append-drop n ps)

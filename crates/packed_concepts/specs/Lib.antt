@@ -4,3 +4,5 @@ pub mod Lines
 pub mod Packing
 pub mod Passing
 pub mod Pages
+pub mod Stretches
+pub mod Sheets

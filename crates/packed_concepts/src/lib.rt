@@ -2,11 +2,16 @@
 #![tactic(auto)]
 
 mod block;
+mod gauge;
+mod jobs;
 mod line;
 mod names;
 mod page;
 mod pages;
 mod pieces;
+mod rounds;
+mod sheet;
+mod stretch;
 mod text;
 mod writing;
 

@@ -12,6 +12,12 @@ use fca_model::Memory;
 /// The most bytes of a line beside its number and its names.
 pub const MARKS: usize = 10;
 
+/// The most digits of a number.
+pub(crate) const DIGITS: usize = 20;
+
+/// The most bytes of a line beside its names.
+pub(crate) const LINE: usize = MARKS + DIGITS;
+
 /// The least number of bytes by which a text grows.
 const STEP: usize = 65_536;
 

@@ -7,6 +7,7 @@ ghost use Rattle.expert_wire.specs.Texts.{comma_list, names_of};
 ghost use Rattle.packed_concepts.specs.Listing.{with_comma, without_comma, HaveCommas};
 ghost use Rattle.packed_concepts.specs.Lines.{names_at};
 
+use crate::gauge::Gauge;
 use crate::pieces::{PIECE_BYTES, PIECE_ROOM, Pieces};
 use attr_bits::Bits;
 use std::marker::Model;
@@ -48,6 +49,14 @@ impl Names {
         ensures { result ≡ length self.now.attributes }
     {
         self.attributes.len()
+    }
+
+    /// About the lengths of names.
+    pub(crate) fn gauge(&self) -> Gauge {
+        Gauge {
+            attribute: self.attributes.mean(),
+            object: self.objects.mean(),
+        }
     }
 
     /// Puts the names of the attributes in the set at `start` and returns their end.

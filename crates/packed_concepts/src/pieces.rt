@@ -49,6 +49,17 @@ impl Pieces {
         self.blocks.len()
     }
 
+    /// About the number of bytes of a text.
+    pub(crate) fn mean(&self) -> usize {
+        let mut bytes = 0usize;
+        for (block, tail) in self.blocks.iter().zip(&self.tails) {
+            bytes = bytes
+                .saturating_add(block.filled as usize)
+                .saturating_add(tail.len());
+        }
+        bytes / self.len().max(1)
+    }
+
     /// Puts text i at `start` and returns its end. The bytes behind it are left undefined.
     pub fn put(&self, i: usize, text: &mut [u8], start: usize) -> usize
         requires inside { i < length self.now }

@@ -1,24 +1,34 @@
 //! The text of packed concepts.
 
-ghost use Rattle.std.specs.Prelude.{◌≡◌, ◌≤◌, All, IfOk, length, take};
+ghost use Rattle.std.specs.Prelude.{◌≡◌, ◌<◌, ◌≤◌, ◌++◌, All, IfOk, IfSome, IfNone, length, take};
 ghost use Rattle.std.specs.List.{flat_map};
 ghost use Rattle.expert_wire.specs.Parts.{WritesTo};
 ghost use Rattle.packed_concepts.specs.Lines.{head_of, lines_text};
 ghost use Rattle.packed_concepts.specs.Packing.{IsNamed, Holds};
 ghost use Rattle.packed_concepts.specs.Pages.{concepts_on};
+ghost use Rattle.packed_concepts.specs.Stretches.{all_lines, IsReady, IsHeld};
 
-use crate::line::room_of;
+use crate::gauge::SHARE;
+use crate::jobs::{MOST_WEIGHT, jobs_of, stretches_of};
+use crate::line::{DIGITS, room_of};
 use crate::names::Names;
 use crate::page::ConceptPage;
 use crate::pages::NarrowPages;
 use crate::pieces::put_bytes;
-use crate::writing::{DIGITS, MANY_BYTES, pass_pages, write_part};
+use crate::rounds::{processors, sheets_of, write_jobs};
+use crate::sheet::Sheet;
+use crate::stretch::Stretch;
+use crate::writing::{MANY_BYTES, pass_pages, write_part};
 use expert_wire::Growing;
 use fca_io::{Put, Sink};
 use fca_model::Memory;
 use itoa::Buffer;
 use std::alloc::Global;
 use std::marker::Model;
+use std::thread::Threads;
+
+/// Fewer jobs than these are not worth several threads.
+const FEW_JOBS: usize = 64;
 
 /// The least number of bytes of the buffer.
 const LEAST_ROOM: usize = MANY_BYTES + (1 << 16);
@@ -70,8 +80,9 @@ impl ConceptsText {
         })
     }
 
-    /// Appends the whole text to the sink. After an `Err` the sink holds a front of it.
-    pub fn write<K: Sink>(self, out: &mut K) -> Result<(), Put>
+    /// Appends the whole text to the sink. After an `Err` the sink holds a front of it. If the text is long, several threads lay out its lines. Memory for
+    /// that is taken before the first byte is written, and if there is none, one thread lays out all.
+    pub fn write<R: Threads + Sync, K: Sink>(self, rt: &R, out: &mut K) -> Result<(), Put>
         ensures { WritesTo K.held K.faults K.beside K.asked_beside out.old out.new self result }
     {
         let ConceptsText {
@@ -81,10 +92,28 @@ impl ConceptsText {
             mut buffer,
         } = self;
         match pages {
-            NarrowPages::One(pages) => write_all(out, &names, &mut buffer, count, &pages),
-            NarrowPages::Two(pages) => write_all(out, &names, &mut buffer, count, &pages),
-            NarrowPages::Four(pages) => write_all(out, &names, &mut buffer, count, &pages),
-            NarrowPages::All(pages) => write_all(out, &names, &mut buffer, count, &pages),
+            NarrowPages::One(pages) => write_all(rt, out, &names, &mut buffer, count, &pages),
+            NarrowPages::Two(pages) => write_all(rt, out, &names, &mut buffer, count, &pages),
+            NarrowPages::Four(pages) => write_all(rt, out, &names, &mut buffer, count, &pages),
+            NarrowPages::All(pages) => write_all(rt, out, &names, &mut buffer, count, &pages),
+        }
+    }
+
+    /// Appends the whole text to the sink, by one thread.
+    fn write_alone<K: Sink>(self, out: &mut K) -> Result<(), Put>
+        ensures { WritesTo K.held K.faults K.beside K.asked_beside out.old out.new self result }
+    {
+        let ConceptsText {
+            names,
+            pages,
+            count,
+            mut buffer,
+        } = self;
+        match pages {
+            NarrowPages::One(pages) => write_through(out, &names, &mut buffer, count, &pages),
+            NarrowPages::Two(pages) => write_through(out, &names, &mut buffer, count, &pages),
+            NarrowPages::Four(pages) => write_through(out, &names, &mut buffer, count, &pages),
+            NarrowPages::All(pages) => write_through(out, &names, &mut buffer, count, &pages),
         }
     }
 
@@ -93,15 +122,102 @@ impl ConceptsText {
         ensures { IfOk result (λ bytes. bytes.items ≡ self) }
     {
         let mut text = Growing::new(*self.buffer.allocator());
-        match self.write(&mut text) {
+        match self.write_alone(&mut text) {
             Ok(()) => Ok(text.bytes),
             Err(_) => Err(Memory),
         }
     }
 }
 
+/// Appends the lines of the pages to the sink, after a line with their number. If they are long, several threads lay them out.
+fn write_all<R: Threads + Sync, K: Sink, const W: usize>(
+    rt: &R,
+    out: &mut K,
+    names: &Names,
+    buffer: &mut Vec<u8>,
+    count: usize,
+    pages: &[ConceptPage<W>],
+) -> Result<(), Put>
+    requires count { count ≡ length (flat_map (λ page. page) pages.now) }
+    requires named { All (IsNamed names.now) (flat_map (λ page. page) pages.now) }
+    requires holds { All (Holds (length buffer.old.items)) (flat_map (λ page. page) pages.now) }
+    requires room { 64 ≤ length buffer.old.items }
+    ensures { WritesTo K.held K.faults K.beside K.asked_beside out.old out.new (lines_text names.now (flat_map (λ page. page) pages.now)) result }
+{
+    match write_side_by_side(rt, out, names, buffer, count, pages) {
+        Some(written) => written,
+        None => write_through(out, names, buffer, count, pages),
+    }
+}
+
+/// Appends the lines of the pages to the sink, after a line with their number. Several threads lay them out. If that does not pay, or there is no memory for it,
+/// nothing is written.
+fn write_side_by_side<R: Threads + Sync, K: Sink, const W: usize>(
+    rt: &R,
+    out: &mut K,
+    names: &Names,
+    buffer: &mut Vec<u8>,
+    count: usize,
+    pages: &[ConceptPage<W>],
+) -> Option<Result<(), Put>>
+    requires count { count ≡ length (flat_map (λ page. page) pages.now) }
+    requires named { All (IsNamed names.now) (flat_map (λ page. page) pages.now) }
+    requires holds { All (Holds (length buffer.old.items)) (flat_map (λ page. page) pages.now) }
+    requires room { 64 ≤ length buffer.old.items }
+    ensures written { IfSome result (λ written. WritesTo K.held K.faults K.beside K.asked_beside out.old out.new
+        (lines_text names.now (flat_map (λ page. page) pages.now)) written) }
+    ensures unwritten { IfNone result ((out.new ≡ out.old) × (buffer.new ≡ buffer.old)) }
+{
+    let alloc = *buffer.allocator();
+    let threads = processors(rt);
+    if threads < 2 {
+        return None;
+    }
+    let Ok(stretches) = stretches_of(alloc, pages, names.gauge()) else {
+        return None;
+    };
+    let Ok(jobs) = jobs_of(alloc, &stretches) else {
+        return None;
+    };
+    if jobs.len() < FEW_JOBS {
+        return None;
+    }
+    let Ok(mut sheets) = sheets_of(alloc, threads, sheet_room(jobs.len(), buffer.len())) else {
+        return None;
+    };
+    Some(write_jobs_counted(rt, out, names, buffer, count, &jobs, &mut sheets))
+}
+
+/// The bytes of a sheet: room for a job, and behind it for a line. All sheets together take a small part of what the concepts take. Lines that are longer go
+/// through the buffer, which has room for each.
+fn sheet_room(jobs: usize, longest: usize) -> usize {
+    let behind = jobs.saturating_mul(SHARE / 256).max(SHARE).min(longest);
+    behind.saturating_add(MOST_WEIGHT)
+}
+
+/// Appends the lines of the jobs to the sink, after a line with their number.
+fn write_jobs_counted<R: Threads + Sync, K: Sink, const W: usize>(
+    rt: &R,
+    out: &mut K,
+    names: &Names,
+    buffer: &mut [u8],
+    count: usize,
+    jobs: &[&[Stretch<'_, W>]],
+    sheets: &mut [Sheet],
+) -> Result<(), Put>
+    requires ready { All (λ job. All (IsReady names.now) job.now) jobs.now }
+    requires held { All (λ job. All (IsHeld (length buffer.old)) job.now) jobs.now }
+    requires room { 64 ≤ length buffer.old }
+    requires some { 0 < length sheets.old }
+    ensures { WritesTo K.held K.faults K.beside K.asked_beside out.old out.new (head_of count ++ all_lines names.now jobs.now) result }
+{
+    let head = put_head(buffer, count);
+    write_part(out, &buffer[..head])?;
+    write_jobs(rt, out, names, buffer, jobs, sheets)
+}
+
 /// Appends the lines of the pages to the sink, through the buffer, after a line with their number.
-fn write_all<K: Sink, const W: usize>(
+fn write_through<K: Sink, const W: usize>(
     out: &mut K,
     names: &Names,
     buffer: &mut [u8],

@@ -7,20 +7,16 @@ ghost use Rattle.expert_wire.specs.Texts.{ordinal};
 ghost use Rattle.packed_concepts.specs.Lines.{line_of, lines_from};
 ghost use Rattle.packed_concepts.specs.Packing.{IsNamed, Holds};
 ghost use Rattle.packed_concepts.specs.Passing.{HasPassed};
+ghost use Rattle.packed_concepts.specs.Stretches.{lines_on, IsReady, IsHeld};
 
-use crate::line::{MARKS, put_line};
+use crate::line::{LINE, put_line};
 use crate::names::Names;
 use crate::page::ConceptPage;
 use crate::pieces::PIECE_ROOM;
+use crate::stretch::Stretch;
 use attr_bits::Bits;
 use fca_io::{Put, Sink, write_text};
 use itoa::Buffer;
-
-/// The most digits of a number.
-pub(crate) const DIGITS: usize = 20;
-
-/// The most bytes of a line beside its names.
-const LINE: usize = MARKS + DIGITS;
 
 /// So many bytes that wait in the buffer are written.
 pub(crate) const MANY_BYTES: usize = 1 << 18;
@@ -80,29 +76,27 @@ fn pass_line<K: Sink, const W: usize>(
     Ok(put_line(buffer, start, names, number, intent, places))
 }
 
-/// Puts the lines of the page, the first of which is at the place, behind the bytes that wait, and returns their end.
-fn pass_page<K: Sink, const W: usize>(
+/// Puts the lines of the stretch behind the bytes that wait, and returns their end.
+pub(crate) fn pass_stretch<K: Sink, const W: usize>(
     out: &mut K,
     names: &Names,
     buffer: &mut [u8],
     end: usize,
-    place: usize,
-    page: &ConceptPage<W>,
+    stretch: &Stretch<'_, W>,
 ) -> Result<usize, Put>
-    requires named { All (IsNamed names.now) page.now }
-    requires holds { All (Holds (length buffer.old)) page.now }
+    requires ready { IsReady names.now stretch.now }
+    requires held { IsHeld (length buffer.old) stretch.now }
     requires end { end ≤ length buffer.old }
-    requires few { place + length page.now < 2 ^ 64 }
     ensures passed { IfOk result (λ new_end. HasPassed (K.held out.old) (K.held out.new) (K.faults out.old) (K.faults out.new) (K.beside out.old) (K.beside out.new)
         (K.asked_beside out.old) (K.asked_beside out.new) (take end buffer.old) (take new_end buffer.new)
-        (lines_from names.now place page.now)) }
+        (lines_on names.now stretch.now)) }
     ensures end { IfOk result (λ new_end. new_end ≤ length buffer.new) }
     ensures failed { IfErr result (λ fault. WritesTo K.held K.faults K.beside K.asked_beside out.old out.new
-        (take end buffer.old ++ lines_from names.now place page.now) (Err fault)) }
+        (take end buffer.old ++ lines_on names.now stretch.now) (Err fault)) }
     ensures room { length buffer.new ≡ length buffer.old }
 {
-    let _count = page.len();
-    let (packed, all) = page.parts();
+    let place = stretch.place();
+    let (packed, all) = stretch.parts();
     let mut rest = all;
     let mut waits = end;
     let mut next = place;
@@ -139,7 +133,7 @@ pub(crate) fn pass_pages<K: Sink, const W: usize>(
     let mut next = 0;
     for page in pages {
         let count = page.len();
-        waits = pass_page(out, names, buffer, waits, next, page)?;
+        waits = pass_stretch(out, names, buffer, waits, &Stretch::of_page(page, next))?;
         next += count;
     }
     Ok(waits)

@@ -4,6 +4,7 @@ use Rattle.std.proofs.lemmas.Result.{err_from_is_err_and}
 use Rattle.fca_model.specs.Sets.{Set}
 use Rattle.packed_concepts.specs.Lines.{Named, lines_from}
 use Rattle.packed_concepts.specs.Packing.{IsNamed, Holds}
+use Rattle.packed_concepts.specs.Stretches.{Placed, lines_on, IsReady, IsHeld}
 use Rattle.packed_concepts.proofs.LineLemmas.{lines_from-append}
 use Rattle.packed_concepts.proofs.PageLemmas.{next_page, of_page}
 use Rattle.packed_concepts.proofs.PassingLemmas.{IsPassing-start, IsPassing-more, IsPassing-fault}
@@ -17,23 +18,26 @@ loop-page-init g c = record {
   passing = IsPassing-start _ _ _ _ (take c.args.end c.args.buffer.now) _ _ refl;
 }
 
-pub pass_page-requires : goal.pass_page-requires
-pass_page-requires g c =
+pub pass_stretch-requires : goal.pass_stretch-requires
+pass_stretch-requires g c =
     let i = c.loop-page.page-index in
     let page : List (Set × List ℕ) = c.page-item.result in
     let next = next_page c.args.pages.now i page c.loop-page-test.true c.page-item.is in
     let count : length (flat_map (λ x. x) (drop i c.args.pages.now)) ≡ length page + length
     (flat_map (λ x. x) (drop (i + 1) c.args.pages.now)) = ap length next
-    ∙ length-append page (flat_map (λ x. x) (drop (i + 1) c.args.pages.now)) in (
-      omega (arith, c.len-count.ensures.words),
+    ∙ length-append page (flat_map (λ x. x) (drop (i + 1) c.args.pages.now)) in
+    let one : Placed = record { place = c.loop-page.next; concepts = page } in
+    let is : c.of_page.result ≡ one = c.of_page.ensures in
+    let ready : IsReady c.args.names.now one = record {
+      named = of_page (All (IsNamed c.args.names.now)) c.args.pages.now i page c.loop-page-test.true c.page-item.is c.requires.named;
+      few = omega (arith, count, c.loop-page.invariant.few);
+    } in
+    let held : IsHeld (length c.loop-page.buffer) one = subst (λ n. All (Holds n) page) (sym c.loop-page.invariant.room)
+    (of_page (All (Holds (length c.args.buffer.now))) c.args.pages.now i page c.loop-page-test.true c.page-item.is c.requires.holds) in (
+      omega arith,
       (
-        of_page (All (IsNamed c.args.names.now)) c.args.pages.now i page c.loop-page-test.true c.page-item.is c.requires.named,
-        (
-          subst (λ n. All (Holds n) page) (sym c.loop-page.invariant.room)
-              (of_page (All (Holds (length c.args.buffer.now))) c.args.pages.now i page c.loop-page-test.true c.page-item.is
-              c.requires.holds),
-          (c.loop-page.invariant.end, omega (arith, count, c.loop-page.invariant.few)),
-        ),
+        subst (IsReady c.args.names.now) (sym is) ready,
+        (subst (IsHeld (length c.loop-page.buffer)) (sym is) held, c.loop-page.invariant.end),
       ),
     )
 
@@ -46,9 +50,11 @@ returns-in_err-waits-clause-failed g c =
     let later : List (Set × List ℕ) = flat_map (λ x. x) (drop (i + 1) c.args.pages.now) in
     let next = next_page c.args.pages.now i page c.loop-page-test.true c.page-item.is in
     let p = err_from_is_err_and c.from_residual.result c.from_residual.ensures.1 in
-    rw (p.1, p.2) (IsPassing-fault _ (take c.loop-page.waits c.loop-page.buffer) _ (lines_from t n page) _
+    rw (p.1, p.2) (IsPassing-fault _ (take c.loop-page.waits c.loop-page.buffer) _ (lines_on t c.of_page.result) _
     (lines_from t (n + length page) later) _
-    (ap (lines_from t n) next ∙ lines_from-append t n page later) c.loop-page.invariant.passing c.in_err-waits.ensures.failed)
+    (ap (lines_from t n) next ∙ lines_from-append t n page later
+    ∙ ap (λ (s : Placed). lines_on t s ++ lines_from t (n + length page) later) (sym c.of_page.ensures))
+    c.loop-page.invariant.passing c.in_err-waits.ensures.failed)
 
 pub loop-page-preserved : goal.loop-page-preserved
 loop-page-preserved g c =
@@ -65,7 +71,8 @@ loop-page-preserved g c =
       end = c.in_ok-waits.ensures.end;
       room = c.in_ok-waits.ensures.room ∙ c.loop-page.invariant.room;
       few = omega (arith, count, c.len-count.ensures.count, c.loop-page.invariant.few);
-      passing = IsPassing-more _ _ _ _ (lines_from t n page) _ _
-          (ap (lines_from t n) next ∙ lines_from-append t n page later ∙ ap (λ k. lines_from t n page ++ lines_from t k later) more)
+      passing = IsPassing-more _ _ _ _ (lines_on t c.of_page.result) _ _
+          (ap (lines_from t n) next ∙ lines_from-append t n page later ∙ ap (λ k. lines_from t n page ++ lines_from t k later) more
+          ∙ ap (λ (s : Placed). lines_on t s ++ lines_from t (n + c.len-count.result) later) (sym c.of_page.ensures))
           c.loop-page.invariant.passing c.in_ok-waits.ensures.passed;
     }

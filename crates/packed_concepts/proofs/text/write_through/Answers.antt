@@ -7,7 +7,7 @@ use Rattle.expert_wire.proofs.WriteLemmas.{Writes-then, Writes-equal}
 use Rattle.packed_concepts.specs.Lines.{lines_from, head_of}
 use Rattle.packed_concepts.specs.Packing.{IsNamed, Holds}
 use Rattle.packed_concepts.proofs.PageLemmas.{All-lists}
-use Rattle.packed_concepts.proofs.text.write_all.Goals as goal
+use Rattle.packed_concepts.proofs.text.write_through.Goals as goal
 
 pub pass_pages-requires : goal.pass_pages-requires
 pass_pages-requires g c = (

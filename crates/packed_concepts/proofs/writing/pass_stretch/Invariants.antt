@@ -1,8 +1,9 @@
 use Rattle.std.proofs.Common.{◌≡◌, ◌+◌, ◌^◌, ◌<◌, ◌≤◌, All, length, take, drop}
 use Rattle.packed_concepts.specs.Lines.{lines_from}
+use Rattle.packed_concepts.specs.Stretches.{lines_on}
 use Rattle.packed_concepts.specs.Packing.{total, unpacked, IsNamed, Holds}
 use Rattle.packed_concepts.proofs.PassingLemmas.{IsPassing}
-use Rattle.packed_concepts.proofs.writing.pass_page.Given as goal
+use Rattle.packed_concepts.proofs.writing.pass_stretch.Given as goal
 
 -- what was passed on, and the lines that are left
 abbrev pub invariant-loop-one : goal.invariant-loop-one
@@ -15,6 +16,6 @@ invariant-loop-one g l = record {
   few : l.next + length (drop l.one-index l.packed) < 2 ^ 64;
   passing : IsPassing (g.K.Sink.held l.fn.out) (g.K.Sink.held l.out) (g.K.Sink.faults l.fn.out) (g.K.Sink.faults l.out)
       (g.K.Sink.beside l.fn.out) (g.K.Sink.beside l.out) (g.K.Sink.asked_beside l.fn.out) (g.K.Sink.asked_beside l.out)
-      (take l.fn.end l.fn.buffer) (take l.waits l.buffer) (lines_from l.names l.fn.place l.page)
+      (take l.fn.end l.fn.buffer) (take l.waits l.buffer) (lines_on l.names l.stretch)
       (lines_from l.names l.next (unpacked (drop l.one-index l.packed) l.rest));
 }

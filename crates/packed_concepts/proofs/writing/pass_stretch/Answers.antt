@@ -11,23 +11,23 @@ use Rattle.packed_concepts.specs.Packing.{unpacked, IsNamed, Holds}
 use Rattle.packed_concepts.specs.declared.page.Packed.{Packed}
 use Rattle.packed_concepts.proofs.PackingLemmas.{length-unpacked, total-left, unpacked-left, length-left}
 use Rattle.packed_concepts.proofs.PassingLemmas.{IsPassing-start, IsPassing-more, IsPassing-fault}
-use Rattle.packed_concepts.proofs.writing.pass_page.Goals as goal
+use Rattle.packed_concepts.proofs.writing.pass_stretch.Goals as goal
 
 pub loop-one-init : goal.loop-one-init
 loop-one-init g c =
     let ps : List (Packed g.row.W) = c.parts.result.0.now in
-    let count : length c.args.page.now ≡ length ps = ap (λ (cs : List (Set × List ℕ)). length cs) (sym c.parts.ensures.concepts)
+    let count : length c.args.stretch.now.concepts ≡ length ps = ap (λ (cs : List (Set × List ℕ)). length cs) (sym c.parts.ensures.concepts)
     ∙ length-unpacked ps c.parts.result.1.now in
     record {
       end = c.requires.end;
       room = refl;
       fits = c.parts.ensures.fits;
-      named = subst (λ (cs : List (Set × List ℕ)). All (IsNamed c.args.names.now) cs) (sym c.parts.ensures.concepts) c.requires.named;
+      named = subst (λ (cs : List (Set × List ℕ)). All (IsNamed c.args.names.now) cs) (sym c.parts.ensures.concepts) c.requires.ready.named;
       holds = subst (λ (cs : List (Set × List ℕ)). All (Holds (length c.args.buffer.now)) cs)
-          (sym c.parts.ensures.concepts) c.requires.holds;
-      few = omega (arith, count, c.requires.few);
+          (sym c.parts.ensures.concepts) c.requires.held;
+      few = omega (arith, count, c.requires.ready.few, c.place-place.ensures.place);
       passing = IsPassing-start _ _ _ _ (take c.args.end c.args.buffer.now) _ _
-          (ap (lines_from c.args.names.now c.args.place) c.parts.ensures.concepts);
+          (ap₂ (λ n (cs : List (Set × List ℕ)). lines_from c.args.names.now n cs) c.place-place.ensures.place c.parts.ensures.concepts);
     }
 
 pub pass_line-requires : goal.pass_line-requires
@@ -46,7 +46,7 @@ pass_line-requires g c =
     (subst (λ (cs : List (Set × List ℕ)). All (IsNamed c.args.names.now) cs) left c.loop-one.invariant.named) in
     let holds = All-head (Holds (length c.args.buffer.now)) (one.intent, take one.count rest) behind
     (subst (λ (cs : List (Set × List ℕ)). All (Holds (length c.args.buffer.now)) cs) left c.loop-one.invariant.holds) in (
-      omega (arith, c.len-count.ensures.words),
+      omega (arith, c.place-place.ensures.words),
       (
         subst (λ (E : List ℕ). IsNamed c.args.names.now (one.intent, E)) (sym front) named,
         (
