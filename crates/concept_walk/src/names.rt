@@ -1,14 +1,12 @@
 //! The names of a table as pieces, each with a comma and a space behind it.
 
-ghost use Rattle.std.specs.Prelude.{◌≡◌, ◌+◌, ◌*◌, ◌≤◌, ◌++◌, ◌∷◌, [], map, take, length, IfOk, OnOk};
-ghost use Rattle.expert_wire.specs.Texts.{comma_list, names_of};
+ghost use Rattle.std.specs.Prelude.{◌≡◌, ◌≤◌, ◌++◌, ◌∷◌, [], map, length, IfOk, OnOk};
 ghost use Rattle.packed_concepts.specs.Listing.{with_comma};
 ghost use Rattle.packed_concepts.specs.Pieces.{ArePieces, piece_texts};
 
-use attr_bits::Bits;
 use context_table::Table;
 use fca_model::{MAX_NAME_BYTES, Memory, Name};
-use packed_concepts::{Block, Names, PIECE_BYTES, PIECE_ROOM, Pieces, block_of, put_set, tail_of};
+use packed_concepts::{Block, Names, Pieces, block_of, tail_of};
 use std::alloc::Global;
 
 /// The names of the objects and of the table's attributes. Those of the objects are dropped once they are in pieces.
@@ -77,22 +75,4 @@ fn put_with_comma(text: &mut Vec<u8>, name: &[u8]) -> Result<(), Memory>
     text.extend_from_slice(name)?;
     text.extend_from_slice(b", ")?;
     Ok(())
-}
-
-/// Puts the names of the attributes in the set at `start` and returns their end.
-pub fn put_attributes<const W: usize>(
-    table: &Table,
-    names: &Pieces,
-    text: &mut [u8],
-    start: usize,
-    set: &Bits<W>,
-) -> usize
-    requires names { names.now ≡ map with_comma table.now.attributes }
-    requires few { length set.now ≤ length table.now.attributes }
-    requires room { start + PIECE_ROOM * length set.now ≤ length text.old }
-    ensures text { take result text.new ≡ take start text.old ++ comma_list (names_of table.now.attributes set.now) }
-    ensures ends { result ≤ start + PIECE_BYTES * length set.now }
-    ensures room { length text.new ≡ length text.old }
-{
-    put_set(names, text, start, set)
 }

@@ -17,7 +17,7 @@ mod writing;
 
 pub use block::{Block, HEAD, put_block};
 pub use line::{MARKS, make_room, room_of};
-pub use names::{Names, put_set};
+pub use names::{Names, end_without_comma, put_set};
 pub use page::{ConceptPage, Packed};
 pub use pages::NarrowPages;
 pub use pieces::{PIECE_BYTES, PIECE_ROOM, Pieces, block_of, put_bytes, tail_of};

@@ -141,7 +141,7 @@ fn put_places(pieces: &Pieces, text: &mut [u8], start: usize, places: &[u16]) ->
 }
 
 /// The end without the last comma and space, if any name stands between.
-fn end_without_comma(start: usize, end: usize) -> usize
+pub fn end_without_comma(start: usize, end: usize) -> usize
     ensures { result ≡ cond (nat_lt start end) (end - 2) end }
 {
     if start < end {

@@ -1,6 +1,6 @@
 //! The names of attributes, laid out once, so that those of a set that lacks few of them are copied in few moves.
 
-ghost use Rattle.std.specs.Prelude.{◌≡◌, ◌+◌, ◌-◌, ◌*◌, ◌≤◌, ◌++◌, ◌∷◌, [], IfOk, OnOk, cond, nat_lt, length, take, drop};
+ghost use Rattle.std.specs.Prelude.{◌≡◌, ◌+◌, ◌-◌, ◌*◌, ◌≤◌, ◌++◌, ◌∷◌, [], IfOk, OnOk, length, take, drop};
 ghost use Rattle.expert_wire.specs.Texts.{comma_list, names_of};
 ghost use Rattle.packed_concepts.specs.Listing.{with_comma};
 ghost use Rattle.table_texts.specs.Joined.{joined, AreJoined};
@@ -8,8 +8,8 @@ ghost use Rattle.table_texts.specs.Joined.{joined, AreJoined};
 use attr_bits::Bits;
 use concept_walk::attribute_pieces;
 use context_table::Table;
-use fca_model::{MAX_NAME_BYTES, Memory};
-use packed_concepts::{PIECE_BYTES, PIECE_ROOM, Pieces, put_bytes, put_set};
+use fca_model::Memory;
+use packed_concepts::{PIECE_BYTES, PIECE_ROOM, Pieces, end_without_comma, put_bytes, put_set};
 use std::alloc::Global;
 use std::marker::Model;
 
@@ -141,15 +141,4 @@ fn join_name(text: &mut Vec<u8>, starts: &mut Vec<usize>, name: &[u8]) -> Result
     text.extend_from_slice(b", ")?;
     starts.push(text.len())?;
     Ok(())
-}
-
-/// The end without the last comma and space, if any name stands between.
-fn end_without_comma(start: usize, end: usize) -> usize
-    ensures { result ≡ cond (nat_lt start end) (end - 2) end }
-{
-    if start < end {
-        end.saturating_sub(2)
-    } else {
-        end
-    }
 }
