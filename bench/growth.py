@@ -4,7 +4,8 @@
 A command runs on generated tables in which one number grows over five sizes: the objects, the attributes, the density, or the lines of the answer
 while the number of cells stays about the same. `explore` is by one oracle, from no object on. Of three runs into the null device the least
 processor seconds and the most memory count. An exponent is the slope of a line that is fitted to the logarithms by least squares: with
-exponent 2, twice the size takes four times as much. Seconds and memory are fitted without what a table of one cell takes.
+exponent 2, twice the size takes four times as much. Seconds and memory are fitted without what a table of one cell
+takes, and without the runs that take less than 1.2 times as much.
 
 Printed are the tables of docs/PERFORMANCE.md in Markdown: the runs with their exponents; what the exponents come to at the most objects and the
 most attributes, which is not measured; and how many concepts are expected of the largest tables at random. --plot FILE draws all runs as an SVG
@@ -109,10 +110,12 @@ def fit(sizes, values):
 
 
 def fits(runs, least):
-    """Of lines, seconds and memory; of the latter without what the least run takes."""
-    sizes = [one.size for one in runs]
-    parts = [one.lines for one in runs], [one.seconds - least.seconds for one in runs], [one.memory - least.memory for one in runs]
-    return [fit(sizes, values) for values in parts]
+    """Of lines, seconds and memory; of the latter without what the least run takes, and without the runs that take hardly more."""
+    found = [fit([one.size for one in runs], [one.lines for one in runs])]
+    for of in (lambda one: one.seconds, lambda one: one.memory):
+        some = [one for one in runs if of(one) > 1.2 * of(least)]
+        found.append(fit([one.size for one in some], [of(one) - of(least) for one in some]))
+    return found
 
 
 # ---- the tables
