@@ -2,13 +2,13 @@
 -- came to.
 use Rattle.std.proofs.Common.{◌≡◌, ◌⊎◌, ◌∙◌, ◌++◌, [], ℕ, List, ◌∷◌, Bool, true, false, map, Option, Some, None, Result, Ok, Err, inl, inr}
 use Rattle.std.proofs.Common.{refl, sym, ap, subst, append-nil, arith}
-use Rattle.std.specs.Prelude.{IfOk, IfErr, OnOk}
+use Rattle.std.specs.Prelude.{IfOk, IfErr, OnOk, length, option_to_list}
 use Rattle.std.specs.Io.KnownBytes.{IsAtEnd}
 use Rattle.std.proofs.lemmas.Result.{IfOk-weaker, IfErr-weaker}
 use Rattle.fca_model.specs.Tables.{Text}
 use Rattle.fca_model.specs.Implications.{Rule}
 use Rattle.fca_model.proofs.ListLemmas.{IfErr-any}
-use Rattle.fca_io.specs.Faults.{Rose}
+use Rattle.fca_io.specs.Faults.{Rose, RoseAtMost}
 use Rattle.fca_io.specs.Links.{Ends, MayListenAt}
 use Rattle.fca_io.specs.Shelves.{Told}
 use Rattle.fca_command.specs.Commands.{report_file, files_of, first_file_of, reads_input, may_end_open, is_plain}
@@ -33,6 +33,7 @@ use Rattle.command_io.specs.declared.stop.Stop.{Stop}
 use Rattle.command_io.specs.declared.stop.Stop.TheVariants.{Listener, Memory}
 use Rattle.command_io.proofs.ReadingLemmas.{refused_then}
 use Rattle.command_io.proofs.QuietLemmas.{unless_fault, unless_listener}
+use Rattle.command_io.proofs.FetchLemmas.{fetched_none}
 use Rattle.replay_command.specs.Replayed.{replay_read, exploration_output, MayReplay}
 use Rattle.explore_command.specs.Panels.{Panel, panel_read, IsPanelStop}
 use Rattle.explore_command.specs.Played.{panel_ending, MayPlay}
@@ -98,8 +99,9 @@ module _ {H S D E : Type 0} (talk : Sides E) (s s' : ShelfMoment H) (input : Mom
       → IfErr output (λ stop. (IsRefusal stop → MayRefuse (panel_read file known names experts s.tells)))
       → IfErr output (IsPanelStop file known experts s.tells (Rises s.faults s'.faults))
       → UnlessFault output (SameCounts s.faults s'.faults)
+      → RoseAtMost s.fetches s'.fetches (length (file ∷ option_to_list known ++ experts))
       → ComesTo talk (Explore file known names experts) (outside s input link) (outside s' input link) output
-  explore-comes file known names experts output answers refuses causes quiet =
+  explore-comes file known names experts output answers refuses causes quiet few =
       let command : Command = Explore file known names experts in
       let old : Outside H S D E = outside s input link in
       let new : Outside H S D E = outside s' input link in
@@ -125,6 +127,7 @@ module _ {H S D E : Type 0} (talk : Sides E) (s s' : ShelfMoment H) (input : Mom
               (unless_fault output (input.faults ≡ input.faults) refl)
               (unless_listener output (SameCounts link.open_faults link.open_faults) (λ _. refl))
               (unless_listener output (link.accept_faults ≡ link.accept_faults) refl);
+          few_fetches = few;
         };
         complete = λ given. given-comes (read_by command old) (FaultRose command old new)
             (LinkFaultRose command old new) output blames refusals given;
@@ -185,10 +188,11 @@ module _ {H S D E : Type 0} (talk : Sides E) (s s' : ShelfMoment H) (input : Mom
       → IfErr output (λ stop. GaveAllBack talk.left talk.held talk.calls talk.reads talk.writes experts link.ends link'.ends
       (stop ≡ Listener))
       → UnlessFault output (SameCounts s.faults s'.faults)
+      → RoseAtMost s.fetches s'.fetches (length (file ∷ option_to_list known))
       → UnlessListener output (SameCounts link.open_faults link'.open_faults)
       → UnlessListener output (link'.accept_faults ≡ link.accept_faults)
       → ComesTo talk (Serve file known experts holders listen) (outside s input link) (outside s' input link') output
-  serve-comes file known experts holders listen output answers listening refuses causes unread back quiet quiet_open quiet_accept =
+  serve-comes file known experts holders listen output answers listening refuses causes unread back quiet few quiet_open quiet_accept =
       let command : Command = Serve file known experts holders listen in
       let old : Outside H S D E = outside s input link in
       let new : Outside H S D E = outside s' input link' in
@@ -213,6 +217,7 @@ module _ {H S D E : Type 0} (talk : Sides E) (s s' : ShelfMoment H) (input : Mom
         counts = record {
           blamed = blames;
           quiet = quiet_with output old new quiet (unless_fault output (input.faults ≡ input.faults) refl) quiet_open quiet_accept;
+          few_fetches = few;
         };
         complete = λ given. given-comes (read_by command old) (FaultRose command old new)
             (LinkFaultRose command old new) output blames refusals given;
@@ -247,7 +252,7 @@ module _ {H S D E : Type 0} (talk : Sides E) (s : ShelfMoment H) (input : Moment
         course = any-ok output (Unit {0}) tt;
         cause = causes;
         refused = refusals;
-        counts = record { blamed = blames; quiet = quiet_same output old };
+        counts = record { blamed = blames; quiet = quiet_same output old; few_fetches = fetched_none s.fetches 0 };
         complete = λ given. given-comes (read_by command old) (FaultRose command old old)
             (LinkFaultRose command old old) output blames refusals given;
         read_to_end = λ reads. cc;
@@ -293,6 +298,7 @@ module _ {H S D E : Type 0} (talk : Sides E) (s s' : ShelfMoment H) (input : Mom
           blamed = blames;
           quiet = quiet_with output old new comes.counts.quiet.files (unless_fault output (input.faults ≡ input.faults) refl)
               comes.counts.quiet.addresses comes.counts.quiet.accepting;
+          few_fetches = comes.counts.few_fetches;
         };
         complete = λ given. given-comes (read_by command old) (FaultRose command old new)
             (LinkFaultRose command old new) output blames comes.refused given;
@@ -328,18 +334,19 @@ module _ {H S : Type 0} (s s' : ShelfMoment H) (input input' : Moment S) (output
       → (reads_input command ≡ false → input' ≡ input)
       → IfErr output (λ stop. (IsOfFile stop → input' ≡ input))
       → IsQuiet output before behind
+      → RoseAtMost s.fetches s'.fetches (length (files_of command))
       → ComesTo no_sides command before behind output
-  plainly (Explore file known names experts) plain answers ends courses causes refuses blames completes at_end kept unread quiet = cc
-  plainly (Serve file known experts holders listen) plain answers ends courses causes refuses blames completes at_end kept unread quiet = cc
+  plainly (Explore file known names experts) plain answers ends courses causes refuses blames completes at_end kept unread quiet few = cc
+  plainly (Serve file known experts holders listen) plain answers ends courses causes refuses blames completes at_end kept unread quiet few = cc
   plainly (Survey seed objects attributes density experts) plain answers ends courses causes refuses blames completes at_end kept unread
-      quiet = cc
-  plainly _ plain answers ends courses causes refuses blames completes at_end kept unread quiet = record {
+      quiet few = cc
+  plainly _ plain answers ends courses causes refuses blames completes at_end kept unread quiet few = record {
     allowed = answers;
     ending = ends;
     course = courses;
     cause = causes;
     refused = refuses;
-    counts = record { blamed = blames; quiet = quiet };
+    counts = record { blamed = blames; quiet = quiet; few_fetches = few };
     complete = completes;
     read_to_end = at_end;
     input_kept = kept;
@@ -367,8 +374,9 @@ module _ {H S : Type 0} (s s' : ShelfMoment H) (input input' : Moment S) (output
       → IfErr output (λ stop. (IsOfFile stop → input' ≡ input))
       → UnlessFault output (SameCounts s.faults s'.faults)
       → UnlessFault output (input'.faults ≡ input.faults)
+      → RoseAtMost s.fetches s'.fetches (length (files_of command))
       → ComesTo no_sides command before behind output
-  plain-comes command plain answers ends courses causes refuses at_end kept unread quiet quiet_input =
+  plain-comes command plain answers ends courses causes refuses at_end kept unread quiet quiet_input few =
       let R : Type 0 = FaultRose command before behind in
       let reading : Reading (Unit {0}) = then (output_read command s.tells input.bytes) (λ _. Read tt) in
       let Refuses : Stop → Type 0 = λ stop. (IsRefusal stop → MayRefuse reading) in
@@ -383,6 +391,7 @@ module _ {H S : Type 0} (s s' : ShelfMoment H) (input input' : Moment S) (output
       (quiet_with output before behind quiet quiet_input
       (unless_listener output (SameCounts before.link.open_faults behind.link.open_faults) (λ _. refl))
       (unless_listener output (behind.link.accept_faults ≡ before.link.accept_faults) refl))
+      few
 
   -- a link that is there is left as it was
   module _ {D E : Type 0} (talk : Sides E) (link : LinkMoment D E) where
@@ -402,6 +411,7 @@ module _ {H S : Type 0} (s s' : ShelfMoment H) (input input' : Moment S) (output
         quiet = quiet_with output (outside s input link) (outside s' input' link) comes.counts.quiet.files comes.counts.quiet.input
             (unless_listener output (SameCounts link.open_faults link.open_faults) (λ _. refl))
             (unless_listener output (link.accept_faults ≡ link.accept_faults) refl);
+        few_fetches = comes.counts.few_fetches;
       };
       complete = comes.complete;
       read_to_end = comes.read_to_end;
@@ -446,6 +456,7 @@ module _ {H S D E : Type 0} (talk : Sides E) (old : Outside H S D E) where
     counts = record {
       blamed = tt;
       quiet = quiet_same (Err Memory) old;
+      few_fetches = fetched_none old.shelf.fetches (length (files_of command));
     };
     complete = λ given. inl refl;
     read_to_end = λ reads. tt;

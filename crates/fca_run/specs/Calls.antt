@@ -1,9 +1,9 @@
 -- What a call of the program does. It has two parts: its command comes to an output or a stop (`ComesTo`), and the call writes that
 -- (`HasConcluded`). Nothing is said of what the outside does not tell.
-use Rattle.std.specs.Prelude.{◌≡◌, ◌⊎◌, ⊤, ℕ, Bool, true, false, Option, None, Some, Result, Err, IfOk, IfErr, OnOk}
+use Rattle.std.specs.Prelude.{◌≡◌, ◌⊎◌, ⊤, ℕ, length, Bool, true, false, Option, None, Some, Result, Err, IfOk, IfErr, OnOk}
 use Rattle.std.specs.Io.KnownBytes.{IsAtEnd}
 use Rattle.fca_model.specs.Tables.{Text}
-use Rattle.fca_io.specs.Faults.{Rose}
+use Rattle.fca_io.specs.Faults.{Rose, RoseAtMost}
 use Rattle.fca_io.specs.Links.{Ends, MayListenAt}
 use Rattle.fca_io.specs.Shelves.{Told}
 use Rattle.fca_command.specs.Commands.{report_file, files_of, reads_input, uses_link, may_end_open}
@@ -29,14 +29,16 @@ use Rattle.fca_run.specs.Causes.{IsScaleStop, IsReportStop, fault_file}
 
 -- ---- the outside at one moment
 
--- a shelf of files: itself, what it tells of each name, and its counts of faults
+-- a shelf of files: itself, what it tells of each name, its counts of faults, and how many files were fetched, if it counts that
 pub record ShelfMoment (H : Type 0) : Type 0 where
   pub it : H
   pub tells : Text → Told
   pub faults : Text → ℕ
+  pub fetches : Option ℕ
 
-abbrev pub shelf_moment : {H : Type 0} → (H → Text → Told) → (H → Text → ℕ) → H → ShelfMoment H
-shelf_moment tells faults shelf = record { it = shelf; tells = tells shelf; faults = faults shelf }
+abbrev pub shelf_moment : {H : Type 0} → (H → Text → Told) → (H → Text → ℕ) → (H → Option ℕ) → H → ShelfMoment H
+shelf_moment tells faults fetches shelf =
+    record { it = shelf; tells = tells shelf; faults = faults shelf; fetches = fetches shelf }
 
 -- a link: itself, whether it listens and at which address, its ends, and its counts of faults
 pub record LinkMoment (L E : Type 0) : Type 0 where
@@ -161,10 +163,11 @@ module _ {H S L E : Type 0} where
     pub accepting : UnlessListener output (new.link.accept_faults ≡ old.link.accept_faults)
 
   -- What comes of a command agrees with the counts of the outside. A fault is blamed only if its count rose, and no count of faults changes
-  -- but by such a fault
+  -- but by such a fault. No more files are fetched than the command names
   pub record AgreesWithCounts (command : Command) (output : Result Output Stop) (old new : Outside H S L E) : Type 0 where
     pub blamed : IfErr output (IsBlamed (FaultRose command old new) (LinkFaultRose command old new))
     pub quiet : IsQuiet output old new
+    pub few_fetches : RoseAtMost old.shelf.fetches new.shelf.fetches (length (files_of command))
 
   -- ---- why a command stops
 
@@ -207,7 +210,7 @@ module _ {H S L E : Type 0} where
     pub allowed : IfOk output (MayOutput talk command old new)
     pub ending : IfOk output (λ output. MayEnd command output.ending)
     pub course : IfOk output (λ output. HasCourse command old.shelf.tells old.input.bytes output.text)
-    -- A stop has its cause, and refuses only what may be refused. The counts of the outside agree with what came of it
+    -- A stop has its cause, and refuses only what may be refused. The counts of the outside say so too, of faults and of fetches
     pub cause : IfErr output (IsCommandStop command old new)
     pub refused : IfErr output (λ stop. IsRefusal stop → MayRefuse (read_by command old))
     pub counts : AgreesWithCounts command output old new

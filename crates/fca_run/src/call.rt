@@ -1,8 +1,9 @@
 //! The top call.
 
-ghost use Rattle.std.specs.Prelude.{◌≡◌, true, false, None, Some, IfOk, IfErr, OnOk};
+ghost use Rattle.std.specs.Prelude.{◌≡◌, true, false, None, Some, IfOk, IfErr, OnOk, length};
 ghost use Rattle.std.specs.Io.KnownBytes.{IsAtEnd};
-ghost use Rattle.fca_command.specs.Commands.{command_form, report_file, reads_input, is_plain, IsWithinLimits};
+ghost use Rattle.fca_io.specs.Faults.{RoseAtMost};
+ghost use Rattle.fca_command.specs.Commands.{command_form, report_file, files_of, reads_input, is_plain, IsWithinLimits};
 ghost use Rattle.command_io.specs.Readings.{MayRead, MayRefuse, SameCounts};
 ghost use Rattle.command_io.specs.Causes.{UnlessFault};
 ghost use Rattle.command_io.specs.Endings.{IsRefusal, IsOfFile};
@@ -22,7 +23,7 @@ use fca_command::{Command, Recipe, command_of};
 use fca_io::{Listener, Shelf, Sink, Source};
 use fca_model::{Memory, Word};
 use replay_command::replay;
-use serve_command::serve;
+use serve_command::{Invitation, serve};
 use std::alloc::Global;
 use std::sync::Wait;
 use std::thread::Threads;
@@ -40,9 +41,9 @@ pub fn run<R: Threads + Wait + Sync, H: Shelf, S: Source, K: Sink, E: Sink, L: L
 ) -> u8
     requires { L.listens link.old ≡ false }
     ensures ran { HasRun (sides L.End.Source.left L.End.Sink.held L.End.Source.reads L.End.Source.faults L.End.Sink.faults) (command_form words.now)
-        (outside (shelf_moment H.tells H.faults shelf.old) (moment S.left S.faults input.old)
+        (outside (shelf_moment H.tells H.faults H.fetches shelf.old) (moment S.left S.faults input.old)
         (link_moment L.listens L.listens_at L.ends L.open_faults L.accept_faults link.old))
-        (outside (shelf_moment H.tells H.faults shelf.new) (moment S.left S.faults input.new)
+        (outside (shelf_moment H.tells H.faults H.fetches shelf.new) (moment S.left S.faults input.new)
         (link_moment L.listens L.listens_at L.ends L.open_faults L.accept_faults link.new))
         (moment K.held K.faults out.old) (moment K.held K.faults out.new)
         (moment E.held E.faults err.old) (moment E.held E.faults err.new) result }
@@ -72,9 +73,9 @@ fn waiting_output<R: Threads + Wait + Sync, H: Shelf, L: Listener>(
     requires limits { IsWithinLimits command.now }
     requires closed { L.listens link.old ≡ false }
     ensures { ComesTo (sides L.End.Source.left L.End.Sink.held L.End.Source.reads L.End.Source.faults L.End.Sink.faults) command.now
-        (outside (shelf_moment H.tells H.faults shelf.old) no_input
+        (outside (shelf_moment H.tells H.faults H.fetches shelf.old) no_input
         (link_moment L.listens L.listens_at L.ends L.open_faults L.accept_faults link.old))
-        (outside (shelf_moment H.tells H.faults shelf.new) no_input
+        (outside (shelf_moment H.tells H.faults H.fetches shelf.new) no_input
         (link_moment L.listens L.listens_at L.ends L.open_faults L.accept_faults link.new)) result }
 {
     match command {
@@ -95,9 +96,12 @@ fn waiting_output<R: Threads + Wait + Sync, H: Shelf, L: Listener>(
             listen,
         } => {
             let known = known.as_ref();
-            serve(
-                rt, alloc, shelf, file, known, *experts, *holders, listen, link,
-            )
+            let invitation = Invitation {
+                experts: *experts,
+                holders: *holders,
+                listen,
+            };
+            serve(rt, alloc, shelf, file, known, &invitation, link)
         }
         Command::Survey {
             seed,
@@ -131,8 +135,8 @@ pub fn run_plain<R: Threads + Sync, H: Shelf, S: Source, K: Sink, E: Sink>(
     requires plain { is_plain command.now ≡ true }
     requires limits { IsWithinLimits command.now }
     ensures ran { HasRun no_sides (Some command.now)
-        (outside (shelf_moment H.tells H.faults shelf.old) (moment S.left S.faults input.old) unlinked)
-        (outside (shelf_moment H.tells H.faults shelf.new) (moment S.left S.faults input.new) unlinked)
+        (outside (shelf_moment H.tells H.faults H.fetches shelf.old) (moment S.left S.faults input.old) unlinked)
+        (outside (shelf_moment H.tells H.faults H.fetches shelf.new) (moment S.left S.faults input.new) unlinked)
         (moment K.held K.faults out.old) (moment K.held K.faults out.new)
         (moment E.held E.faults err.old) (moment E.held E.faults err.new) result }
 {
@@ -201,9 +205,10 @@ fn plain_output<R: Threads + Sync, H: Shelf, S: Source>(
     ensures ending { IfOk result (λ output. MayEnd command.now output.ending) }
     ensures course { IfOk result (λ output. HasCourse command.now (H.tells shelf.old) (S.left input.old) output.text) }
     ensures cause { IfErr result (IsCommandStop command.now
-        (outside (shelf_moment H.tells H.faults shelf.old) (moment S.left S.faults input.old) unlinked)
-        (outside (shelf_moment H.tells H.faults shelf.new) (moment S.left S.faults input.new) unlinked)) }
+        (outside (shelf_moment H.tells H.faults H.fetches shelf.old) (moment S.left S.faults input.old) unlinked)
+        (outside (shelf_moment H.tells H.faults H.fetches shelf.new) (moment S.left S.faults input.new) unlinked)) }
     ensures quiet { UnlessFault result (SameCounts (H.faults shelf.old) (H.faults shelf.new)) }
+    ensures few { RoseAtMost (H.fetches shelf.old) (H.fetches shelf.new) (length (files_of command.now)) }
     ensures quiet_input { UnlessFault result (S.faults input.new ≡ S.faults input.old) }
     ensures refused { IfErr result (λ stop. IsRefusal stop → MayRefuse (output_read command.now (H.tells shelf.old) (S.left input.old))) }
     ensures read_to_end { reads_input command.now ≡ true → OnOk result (IsAtEnd (S.left input.new)) }
@@ -230,9 +235,10 @@ fn other_output<H: Shelf, S: Source>(
     ensures ending { IfOk result (λ output. MayEnd command.now output.ending) }
     ensures course { IfOk result (λ output. HasCourse command.now (H.tells shelf.old) (S.left input.old) output.text) }
     ensures cause { IfErr result (IsOtherStop command.now
-        (outside (shelf_moment H.tells H.faults shelf.old) (moment S.left S.faults input.old) unlinked)
-        (outside (shelf_moment H.tells H.faults shelf.new) (moment S.left S.faults input.new) unlinked)) }
+        (outside (shelf_moment H.tells H.faults H.fetches shelf.old) (moment S.left S.faults input.old) unlinked)
+        (outside (shelf_moment H.tells H.faults H.fetches shelf.new) (moment S.left S.faults input.new) unlinked)) }
     ensures quiet { UnlessFault result (SameCounts (H.faults shelf.old) (H.faults shelf.new)) }
+    ensures few { RoseAtMost (H.fetches shelf.old) (H.fetches shelf.new) (length (files_of command.now)) }
     ensures quiet_input { UnlessFault result (S.faults input.new ≡ S.faults input.old) }
     ensures refused { IfErr result (λ stop. IsRefusal stop → MayRefuse (other_output command.now (H.tells shelf.old) (S.left input.old))) }
     ensures read_to_end { reads_input command.now ≡ true → OnOk result (IsAtEnd (S.left input.new)) }

@@ -2,10 +2,11 @@
 //! itself, whole or reduced.
 
 ghost use Rattle.std.specs.Prelude.{◌≡◌, ◌⊎◌, true, false, Some, IfOk, IfErr, length, is_some};
+ghost use Rattle.std.specs.Option.{option_map};
 ghost use Rattle.fca_command.specs.Commands.{report_file};
 ghost use Rattle.command_io.specs.Readings.{then, MayRead, MayRefuse, Rises, SameCounts};
 ghost use Rattle.command_io.specs.Readings.Reading.{Refused, Read};
-ghost use Rattle.fca_io.specs.Faults.{Rose};
+ghost use Rattle.fca_io.specs.Faults.{Rose, one_more};
 ghost use Rattle.command_io.specs.Causes.{UnlessFault, IsFileStop};
 ghost use Rattle.command_io.specs.Forms.{table_read};
 ghost use Rattle.command_io.specs.Endings.{finished, IsRefusal};
@@ -46,6 +47,7 @@ pub fn report_output<R: Threads + Sync, H: Shelf>(
     ensures cause { IfErr result (IsReportStop command.now file.now (H.tells shelf.old file.now)
         (Rises (H.faults shelf.old) (H.faults shelf.new) file.now)) }
     ensures quiet { UnlessFault result (SameCounts (H.faults shelf.old) (H.faults shelf.new)) }
+    ensures counted { H.fetches shelf.new ≡ option_map one_more (H.fetches shelf.old) }
 {
     match command {
         Command::Concepts { json: false, .. }
@@ -70,6 +72,7 @@ fn narrow_output<R: Threads + Sync, H: Shelf>(
     ensures cause { IfErr result (IsFileStop file.now (H.tells shelf.old file.now)
         (Rose (H.faults shelf.old file.now) (H.faults shelf.new file.now)) Origin.File) }
     ensures quiet { UnlessFault result (SameCounts (H.faults shelf.old) (H.faults shelf.new)) }
+    ensures counted { H.fetches shelf.new ≡ option_map one_more (H.fetches shelf.old) }
 {
     let table = load_narrow_table(alloc, shelf, file, Origin::File)?;
     Ok(narrow_report(rt, alloc, command, table)?)
@@ -110,6 +113,7 @@ fn table_output<R: Threads + Sync, H: Shelf>(
     ensures cause { IfErr result (IsReportStop command.now file.now (H.tells shelf.old file.now)
         (Rises (H.faults shelf.old) (H.faults shelf.new) file.now)) }
     ensures quiet { UnlessFault result (SameCounts (H.faults shelf.old) (H.faults shelf.new)) }
+    ensures counted { H.fetches shelf.new ≡ option_map one_more (H.fetches shelf.old) }
 {
     let table = load_table(alloc, shelf, file, Origin::File)?;
     report_on(rt, alloc, command, &table)

@@ -1,6 +1,7 @@
 //! The command `scale`: the table that a plan makes of a table of values.
 
 ghost use Rattle.std.specs.Prelude.{◌≡◌, IfOk, IfErr};
+ghost use Rattle.fca_io.specs.Faults.{RoseAtMost};
 ghost use Rattle.context_scaling.specs.Scaling.{Fits, scaled};
 ghost use Rattle.cxt_format.specs.Written.{cxt_text};
 ghost use Rattle.command_io.specs.Readings.{MayRead, MayRefuse, Rises, SameCounts};
@@ -29,6 +30,7 @@ pub fn scale_output<H: Shelf>(
     ensures refused { IfErr result (λ stop. IsRefusal stop → MayRefuse (scale_output values.now plan.now (H.tells shelf.old))) }
     ensures cause { IfErr result (IsScaleStop values.now plan.now (H.tells shelf.old) (Rises (H.faults shelf.old) (H.faults shelf.new))) }
     ensures quiet { UnlessFault result (SameCounts (H.faults shelf.old) (H.faults shelf.new)) }
+    ensures few { RoseAtMost (H.fetches shelf.old) (H.fetches shelf.new) 2 }
 {
     let values = load_values(alloc, shelf, values, Origin::File)?;
     let plan = load_plan(alloc, shelf, plan, Origin::Later(0), &values)?;

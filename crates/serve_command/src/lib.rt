@@ -6,4 +6,4 @@ mod endings;
 mod opening;
 mod serving;
 
-pub use serving::serve;
+pub use serving::{Invitation, serve};

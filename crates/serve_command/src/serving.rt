@@ -1,8 +1,8 @@
 //! The exploration by the experts at the ends of a link, and its text.
 
-ghost use Rattle.std.specs.Prelude.{◌≡◌, ◌⊎◌, ◌++◌, true, false, map, IfOk, IfErr, OnOk, option_copied, vec_len};
+ghost use Rattle.std.specs.Prelude.{◌≡◌, ◌⊎◌, ◌∷◌, ◌++◌, true, false, map, IfOk, IfErr, OnOk, option_copied, option_to_list, length, vec_len};
 ghost use Rattle.fca_model.specs.Exploration.{is_expert};
-ghost use Rattle.fca_io.specs.Faults.{Rose};
+ghost use Rattle.fca_io.specs.Faults.{Rose, RoseAtMost};
 ghost use Rattle.fca_io.specs.Links.{MayListenAt};
 ghost use Rattle.explore_state.specs.History.{open_of};
 ghost use Rattle.basis_report.specs.Explorations.{explore_text, Spells};
@@ -28,41 +28,52 @@ use std::alloc::Global;
 use std::sync::Wait;
 use std::thread::Threads;
 
-/// Explores the table in the file with the experts at the first ends that the link accepts, and gives the text. A known file may be given. At
-/// most `holders` experts may hold one question.
+/// Whom an exploration invites, and where.
+#[derive(Drop)]
+pub struct Invitation<'a> {
+    /// How many experts are to come.
+    pub experts: u8,
+    /// How many of them may hold one question.
+    pub holders: u8,
+    /// The address at which they are awaited.
+    pub listen: &'a Word,
+}
+
+/// Explores the table in the file with the experts who come to the first ends that the link accepts, and gives the text. A known file may be
+/// given.
 pub fn serve<R: Threads + Wait + Sync, H: Shelf, L: Listener>(
     rt: &R,
     alloc: Global,
     shelf: &mut H,
     file: &Word,
     known: Option<&Word>,
-    experts: u8,
-    holders: u8,
-    listen: &Word,
+    invitation: &Invitation<'_>,
     link: &mut L,
 ) -> Result<Output, Stop>
-    requires experts { is_expert experts ≡ true }
-    requires holders { is_expert holders ≡ true }
+    requires experts { is_expert invitation.now.experts ≡ true }
+    requires holders { is_expert invitation.now.holders ≡ true }
     requires closed { L.listens link.old ≡ false }
 
     ensures output { IfOk result (MayServe L.End.Source.left L.End.Sink.held L.End.Source.reads L.End.Source.faults L.End.Sink.faults
-        (start_read file.now (option_copied known.entry) (H.tells shelf.old)) experts holders (L.ends link.old) (L.ends link.new)) }
-    ensures listens { OnOk result ((L.listens link.new ≡ true) × MayListenAt (L.listens_at link.new) listen.now) }
+        (start_read file.now (option_copied known.entry) (H.tells shelf.old)) invitation.now.experts invitation.now.holders
+        (L.ends link.old) (L.ends link.new)) }
+    ensures listens { OnOk result ((L.listens link.new ≡ true) × MayListenAt (L.listens_at link.new) invitation.now.listen.now) }
 
     // If the files could not be read, the link is as it was.
     ensures refused { IfErr result (λ stop. IsRefusal stop → MayRefuse (start_read file.now (option_copied known.entry) (H.tells shelf.old))) }
     ensures cause { IfErr result (IsServeStop file.now (option_copied known.entry) (H.tells shelf.old) (Rises (H.faults shelf.old) (H.faults shelf.new))
-        (Rises (L.open_faults link.old) (L.open_faults link.new) listen.now ⊎ Rose (L.accept_faults link.old) (L.accept_faults link.new))) }
+        (Rises (L.open_faults link.old) (L.open_faults link.new) invitation.now.listen.now ⊎ Rose (L.accept_faults link.old) (L.accept_faults link.new))) }
     ensures quiet { UnlessFault result (SameCounts (H.faults shelf.old) (H.faults shelf.new)) }
+    ensures few { RoseAtMost (H.fetches shelf.old) (H.fetches shelf.new) (length (file.now ∷ option_to_list (option_copied known.entry))) }
     ensures quiet_open { UnlessListener result (SameCounts (L.open_faults link.old) (L.open_faults link.new)) }
     ensures quiet_accept { UnlessListener result (L.accept_faults link.new ≡ L.accept_faults link.old) }
     ensures unheard { IfErr result (λ stop. IsUnread stop → link.new ≡ link.old) }
     ensures ends { IfErr result (λ stop. GaveAllBack L.End.Source.left L.End.Sink.held L.End.Source.reads L.End.Source.faults L.End.Sink.faults
-        experts (L.ends link.old) (L.ends link.new) (stop ≡ Stop.Listener)) }
+        invitation.now.experts (L.ends link.old) (L.ends link.new) (stop ≡ Stop.Listener)) }
 {
     let start = load_start(alloc, shelf, file, known)?;
-    let explore = open_exploration(alloc, start, experts, holders)?;
-    let ends = ends_at(alloc, link, listen.bytes(), experts)?;
+    let explore = open_exploration(alloc, start, invitation.experts, invitation.holders)?;
+    let ends = ends_at(alloc, link, invitation.listen.bytes(), invitation.experts)?;
     explore_over(rt, alloc, explore, ends, link)
 }
 

@@ -1,7 +1,9 @@
 use Rattle.std.proofs.Common.{◌≡◌, Option, refl, sym, subst}
-use Rattle.std.specs.Prelude.{IfOk, option_copied}
+use Rattle.std.specs.Prelude.{IfOk, length, option_copied}
 use Rattle.std.proofs.lemmas.Result.{IfOk-weaker}
 use Rattle.fca_model.specs.Tables.{Text}
+use Rattle.fca_io.specs.Faults.{RoseAtMost}
+use Rattle.fca_command.specs.Commands.{files_of}
 use Rattle.fca_command.specs.declared.command.Command.{Command}
 use Rattle.fca_command.specs.declared.command.Command.TheVariants.{Replay}
 use Rattle.command_io.specs.Endings.{Output}
@@ -10,6 +12,7 @@ use Rattle.fca_run.specs.Calls.{MayEnd}
 use Rattle.fca_run.specs.Courses.{HasCourse}
 use Rattle.command_io.specs.Readings.{SameCounts}
 use Rattle.command_io.proofs.QuietLemmas.{unless_fault}
+use Rattle.command_io.proofs.FetchLemmas.{fetched_none}
 use Rattle.fca_run.proofs.CourseLemmas.{replay-tells}
 use Rattle.fca_run.proofs.CallLemmas.{finished-ends, replay-ends}
 use Rattle.fca_run.proofs.call.other_output.Goals as goal
@@ -51,3 +54,26 @@ returns-in_err-make_output-in-Make-clause-quiet g c =
 pub returns-in_err-make_output-in-Make-clause-quiet_input : goal.returns-in_err-make_output-in-Make-clause-quiet_input
 returns-in_err-make_output-in-Make-clause-quiet_input g c =
     unless_fault c.from_residual.result (g.S.Source.faults c.args.input.now ≡ g.S.Source.faults c.args.input.now) refl
+
+-- ---- counts of fetches
+
+pub returns-in-Scale-clause-few : goal.returns-in-Scale-clause-few
+returns-in-Scale-clause-few g c =
+    let Few : Command → Type 0 = λ command. RoseAtMost (g.H.Shelf.fetches c.args.shelf.now) (g.H.Shelf.fetches c.scale_output.new.shelf)
+    (length (files_of command)) in
+    subst Few (sym c.in-Scale.is) c.scale_output.ensures.few
+
+pub returns-in-Replay-clause-few : goal.returns-in-Replay-clause-few
+returns-in-Replay-clause-few g c =
+    let Few : Command → Type 0 = λ command. RoseAtMost (g.H.Shelf.fetches c.args.shelf.now) (g.H.Shelf.fetches c.replay.new.shelf)
+    (length (files_of command)) in
+    let Beside : Option Text → Type 0 = λ known. Few (Replay c.in-Replay.file known) in
+    subst Few (sym c.in-Replay.is) (subst Beside c.as_ref.ensures.value c.replay.ensures.few)
+
+pub returns-in_err-make_output-in-Make-clause-few : goal.returns-in_err-make_output-in-Make-clause-few
+returns-in_err-make_output-in-Make-clause-few g c =
+    fetched_none (g.H.Shelf.fetches c.args.shelf.now) (length (files_of c.args.command.now))
+
+pub returns-in_ok-make_output-in-Make-clause-few : goal.returns-in_ok-make_output-in-Make-clause-few
+returns-in_ok-make_output-in-Make-clause-few g c =
+    fetched_none (g.H.Shelf.fetches c.args.shelf.now) (length (files_of c.args.command.now))

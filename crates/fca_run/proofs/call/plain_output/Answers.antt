@@ -1,14 +1,16 @@
 use Rattle.std.proofs.Common.{◌≡◌, Option, true, false, refl, sym, subst}
-use Rattle.std.specs.Prelude.{IfOk, IfErr}
+use Rattle.std.specs.Prelude.{IfOk, IfErr, length}
 use Rattle.std.proofs.lemmas.Result.{IfOk-weaker}
 use Rattle.fca_model.specs.Tables.{Text}
 use Rattle.command_io.specs.Readings.{MayRead, MayRefuse}
 use Rattle.command_io.specs.Endings.{Output, IsRefusal}
 use Rattle.command_io.specs.Streams.{moment}
-use Rattle.fca_command.specs.Commands.{reads_input}
+use Rattle.fca_io.specs.Faults.{RoseAtMost}
+use Rattle.fca_command.specs.Commands.{files_by, reads_input}
 use Rattle.fca_run.specs.Outputs.{output_by}
 use Rattle.fca_run.specs.Calls.{shelf_moment, unlinked, outside, IsStopBy, MayEnd}
 use Rattle.command_io.proofs.QuietLemmas.{unless_fault}
+use Rattle.command_io.proofs.FetchLemmas.{fetched_one}
 use Rattle.fca_run.proofs.CallLemmas.{any-ok, finished-ends, course-report_file, reads_input-report_file}
 use Rattle.fca_run.proofs.call.plain_output.Goals as goal
 
@@ -31,9 +33,9 @@ returns-in-Some-clause-course g c =
 
 pub returns-in-Some-clause-cause : goal.returns-in-Some-clause-cause
 returns-in-Some-clause-cause g c =
-    let old = outside (shelf_moment g.H.Shelf.tells g.H.Shelf.faults c.args.shelf.now)
+    let old = outside (shelf_moment g.H.Shelf.tells g.H.Shelf.faults g.H.Shelf.fetches c.args.shelf.now)
     (moment g.S.Source.left g.S.Source.faults c.args.input.now) unlinked in
-    let new = outside (shelf_moment g.H.Shelf.tells g.H.Shelf.faults c.report_output.new.shelf)
+    let new = outside (shelf_moment g.H.Shelf.tells g.H.Shelf.faults g.H.Shelf.fetches c.report_output.new.shelf)
     (moment g.S.Source.left g.S.Source.faults c.args.input.now) unlinked in
     let P : Option Text → Type 0 = λ found. IfErr c.report_output.result (IsStopBy found c.args.command.now old new) in
     subst P c.in-Some.ensures c.report_output.ensures.cause
@@ -58,9 +60,9 @@ returns-in-None-clause-output g c =
 
 pub returns-in-None-clause-cause : goal.returns-in-None-clause-cause
 returns-in-None-clause-cause g c =
-    let old = outside (shelf_moment g.H.Shelf.tells g.H.Shelf.faults c.args.shelf.now)
+    let old = outside (shelf_moment g.H.Shelf.tells g.H.Shelf.faults g.H.Shelf.fetches c.args.shelf.now)
     (moment g.S.Source.left g.S.Source.faults c.args.input.now) unlinked in
-    let new = outside (shelf_moment g.H.Shelf.tells g.H.Shelf.faults c.other_output.new.shelf)
+    let new = outside (shelf_moment g.H.Shelf.tells g.H.Shelf.faults g.H.Shelf.fetches c.other_output.new.shelf)
     (moment g.S.Source.left g.S.Source.faults c.other_output.new.input) unlinked in
     let P : Option Text → Type 0 = λ found. IfErr c.other_output.result (IsStopBy found c.args.command.now old new) in
     subst P c.in-None.ensures c.other_output.ensures.cause
@@ -75,3 +77,10 @@ returns-in-None-clause-refused g c =
 pub returns-in-Some-clause-quiet_input : goal.returns-in-Some-clause-quiet_input
 returns-in-Some-clause-quiet_input g c = unless_fault c.report_output.result
     (g.S.Source.faults c.args.input.now ≡ g.S.Source.faults c.args.input.now) refl
+
+pub returns-in-Some-clause-few : goal.returns-in-Some-clause-few
+returns-in-Some-clause-few g c =
+    let Few : Option Text → Type 0 = λ found. RoseAtMost (g.H.Shelf.fetches c.args.shelf.now)
+    (g.H.Shelf.fetches c.report_output.new.shelf) (length (files_by found c.args.command.now)) in
+    subst Few c.in-Some.ensures
+    (fetched_one (g.H.Shelf.fetches c.args.shelf.now) (g.H.Shelf.fetches c.report_output.new.shelf) c.report_output.ensures.counted)

@@ -11,8 +11,8 @@ use Rattle.fca_run.proofs.call.run.Goals as goal
 pub returns-then-is_plain : goal.returns-then-is_plain
 returns-then-is_plain g c =
     let talk = sides g.L.End.Source.left g.L.End.Sink.held g.L.End.Source.reads g.L.End.Source.faults g.L.End.Sink.faults in
-    let s = shelf_moment g.H.Shelf.tells g.H.Shelf.faults c.args.shelf.now in
-    let s' = shelf_moment g.H.Shelf.tells g.H.Shelf.faults c.run_plain.new.shelf in
+    let s = shelf_moment g.H.Shelf.tells g.H.Shelf.faults g.H.Shelf.fetches c.args.shelf.now in
+    let s' = shelf_moment g.H.Shelf.tells g.H.Shelf.faults g.H.Shelf.fetches c.run_plain.new.shelf in
     let input = moment g.S.Source.left g.S.Source.faults c.args.input.now in
     let input' = moment g.S.Source.left g.S.Source.faults c.run_plain.new.input in
     let link = link_moment g.L.Listener.listens g.L.Listener.listens_at g.L.Listener.ends g.L.Listener.open_faults
@@ -35,8 +35,8 @@ returns-then-is_plain g c =
 pub returns-else-is_plain : goal.returns-else-is_plain
 returns-else-is_plain g c =
     let talk = sides g.L.End.Source.left g.L.End.Sink.held g.L.End.Source.reads g.L.End.Source.faults g.L.End.Sink.faults in
-    let s = shelf_moment g.H.Shelf.tells g.H.Shelf.faults c.args.shelf.now in
-    let s' = shelf_moment g.H.Shelf.tells g.H.Shelf.faults c.waiting_output-output.new.shelf in
+    let s = shelf_moment g.H.Shelf.tells g.H.Shelf.faults g.H.Shelf.fetches c.args.shelf.now in
+    let s' = shelf_moment g.H.Shelf.tells g.H.Shelf.faults g.H.Shelf.fetches c.waiting_output-output.new.shelf in
     let input = moment g.S.Source.left g.S.Source.faults c.args.input.now in
     let link = link_moment g.L.Listener.listens g.L.Listener.listens_at g.L.Listener.ends g.L.Listener.open_faults
     g.L.Listener.accept_faults c.args.link.now in
@@ -60,7 +60,7 @@ returns-else-is_plain g c =
 pub returns-in-Ok-None : goal.returns-in-Ok-None
 returns-in-Ok-None g c =
     let talk = sides g.L.End.Source.left g.L.End.Sink.held g.L.End.Source.reads g.L.End.Source.faults g.L.End.Sink.faults in
-    let old = outside (shelf_moment g.H.Shelf.tells g.H.Shelf.faults c.args.shelf.now)
+    let old = outside (shelf_moment g.H.Shelf.tells g.H.Shelf.faults g.H.Shelf.fetches c.args.shelf.now)
     (moment g.S.Source.left g.S.Source.faults c.args.input.now)
     (link_moment g.L.Listener.listens g.L.Listener.listens_at g.L.Listener.ends g.L.Listener.open_faults g.L.Listener.accept_faults
     c.args.link.now) in
@@ -73,7 +73,7 @@ returns-in-Ok-None g c =
 pub returns-in-Err : goal.returns-in-Err
 returns-in-Err g c =
     let talk = sides g.L.End.Source.left g.L.End.Sink.held g.L.End.Source.reads g.L.End.Source.faults g.L.End.Sink.faults in
-    let old = outside (shelf_moment g.H.Shelf.tells g.H.Shelf.faults c.args.shelf.now)
+    let old = outside (shelf_moment g.H.Shelf.tells g.H.Shelf.faults g.H.Shelf.fetches c.args.shelf.now)
     (moment g.S.Source.left g.S.Source.faults c.args.input.now)
     (link_moment g.L.Listener.listens g.L.Listener.listens_at g.L.Listener.ends g.L.Listener.open_faults g.L.Listener.accept_faults
     c.args.link.now) in

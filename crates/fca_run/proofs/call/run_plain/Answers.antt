@@ -7,8 +7,8 @@ use Rattle.fca_run.proofs.call.run_plain.Goals as goal
 
 pub returns : goal.returns
 returns g c =
-    let s = shelf_moment g.H.Shelf.tells g.H.Shelf.faults c.args.shelf.now in
-    let s' = shelf_moment g.H.Shelf.tells g.H.Shelf.faults c.plain_output-output.new.shelf in
+    let s = shelf_moment g.H.Shelf.tells g.H.Shelf.faults g.H.Shelf.fetches c.args.shelf.now in
+    let s' = shelf_moment g.H.Shelf.tells g.H.Shelf.faults g.H.Shelf.fetches c.plain_output-output.new.shelf in
     let input = moment g.S.Source.left g.S.Source.faults c.args.input.now in
     let input' = moment g.S.Source.left g.S.Source.faults c.plain_output-output.new.input in
     let output = c.plain_output-output in
@@ -20,7 +20,7 @@ returns g c =
             output.ensures.course
             output.ensures.cause output.ensures.refused output.ensures.read_to_end (λ kept. ap same (output.ensures.input_kept kept))
             (IfErr-weaker output.result _ _ (λ stop kept. λ file. ap same (kept file)) output.ensures.unread) output.ensures.quiet
-            output.ensures.quiet_input;
+            output.ensures.quiet_input output.ensures.few;
         concluded = c.finish.ensures;
       };
     }

@@ -1,9 +1,10 @@
-use Rattle.std.proofs.Common.{sym, subst}
+use Rattle.std.proofs.Common.{sym, subst, arith}
 use Rattle.std.proofs.lemmas.Result.{IfOk-weaker}
 use Rattle.command_io.specs.Readings.{MayRefuse, Rises, SameCounts}
 use Rattle.command_io.specs.declared.stop.Stop.{Stop}
 use Rattle.command_io.proofs.ErrLemmas.{err-passed}
 use Rattle.command_io.proofs.QuietLemmas.{unless_fault, fault-later, fault-passed, SameCounts-then}
+use Rattle.command_io.proofs.FetchLemmas.{fetched_one, fetched_within, fetched_next}
 use Rattle.command_io.specs.Readings.{MayRead}
 use Rattle.command_io.specs.Endings.{Output, IsRefusal}
 use Rattle.fca_run.specs.Causes.{IsScaleStop}
@@ -65,3 +66,22 @@ returns-clause-quiet g c =
     let after = g.H.Shelf.faults c.load_plan.new.shelf in
     unless_fault c.scaling_output.result (SameCounts counts after)
     (SameCounts-then counts between after c.in_ok-values.ensures.quiet c.in_ok-plan.ensures.quiet)
+
+-- ---- counts of fetches
+
+pub returns-in_err-values-clause-few : goal.returns-in_err-values-clause-few
+returns-in_err-values-clause-few g c =
+    fetched_within (g.H.Shelf.fetches c.args.shelf.now) (g.H.Shelf.fetches c.load_values.new.shelf) 1 2 (omega arith)
+    (fetched_one (g.H.Shelf.fetches c.args.shelf.now) (g.H.Shelf.fetches c.load_values.new.shelf) c.in_err-values.ensures.counted)
+
+pub returns-in_err-plan-clause-few : goal.returns-in_err-plan-clause-few
+returns-in_err-plan-clause-few g c =
+    fetched_next (g.H.Shelf.fetches c.args.shelf.now) (g.H.Shelf.fetches c.load_values.new.shelf) (g.H.Shelf.fetches c.load_plan.new.shelf)
+    1 c.in_ok-values.ensures.counted
+    (fetched_one (g.H.Shelf.fetches c.load_values.new.shelf) (g.H.Shelf.fetches c.load_plan.new.shelf) c.in_err-plan.ensures.counted)
+
+pub returns-clause-few : goal.returns-clause-few
+returns-clause-few g c =
+    fetched_next (g.H.Shelf.fetches c.args.shelf.now) (g.H.Shelf.fetches c.load_values.new.shelf) (g.H.Shelf.fetches c.load_plan.new.shelf)
+    1 c.in_ok-values.ensures.counted
+    (fetched_one (g.H.Shelf.fetches c.load_values.new.shelf) (g.H.Shelf.fetches c.load_plan.new.shelf) c.in_ok-plan.ensures.counted)

@@ -17,16 +17,16 @@ use Rattle.serve_command.proofs.serving.serve.Goals as goal
 
 pub returns-in_err-start-clause-ends : goal.returns-in_err-start-clause-ends
 returns-in_err-start-clause-ends g c =
-    let range = expert_range c.args.experts c.requires.experts in
-    IfErr-any c.from_residual.result _ (λ s. early-back _ _ _ _ _ c.args.experts _ _ range.0)
+    let range = expert_range c.args.invitation.now.experts c.requires.experts in
+    IfErr-any c.from_residual.result _ (λ s. early-back _ _ _ _ _ c.args.invitation.now.experts _ _ range.0)
 
 pub returns-in_err-explore-clause-ends : goal.returns-in_err-explore-clause-ends
 returns-in_err-explore-clause-ends g c =
-    let range = expert_range c.args.experts c.requires.experts in
-    IfErr-any c.from_residual-in_err-explore.result _ (λ s. early-back _ _ _ _ _ c.args.experts _ _ range.0)
+    let range = expert_range c.args.invitation.now.experts c.requires.experts in
+    IfErr-any c.from_residual-in_err-explore.result _ (λ s. early-back _ _ _ _ _ c.args.invitation.now.experts _ _ range.0)
 
 pub ends_at-requires-clause-some : goal.ends_at-requires-clause-some
-ends_at-requires-clause-some g c κs within = (expert_range c.args.experts c.requires.experts).0
+ends_at-requires-clause-some g c κs within = (expert_range c.args.invitation.now.experts c.requires.experts).0
 
 pub returns-in_err-ends-clause-refused : goal.returns-in_err-ends-clause-refused
 returns-in_err-ends-clause-refused g c =
