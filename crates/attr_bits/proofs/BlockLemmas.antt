@@ -1,5 +1,7 @@
 -- Up to 64 attributes added together, from a multiple of 64 on: one word is changed, by the bits below the width.
-use Rattle.std.proofs.Common.{◌≡◌, ◌≢◌, ℕ, ◌-◌, ◌/◌, ◌%◌, ◌^◌, ◌<◌, ◌≤◌, true, false, ◌&&◌, ◌||◌, eqb, nat_le, List, length, get_or, set, sym, ap, ap₂, ◌∙◌, arith, inl, inr, bit_and, bit_or, min, pow_mono, get_or-set_same, get_or-set_other, length-set}
+use Rattle.std.proofs.Common.{◌≡◌, ◌≢◌, ℕ, ◌-◌, ◌/◌, ◌%◌, ◌^◌, ◌<◌, ◌≤◌, true, false, ◌&&◌, ◌||◌, eqb, nat_le, List, length, get_or, set}
+use Rattle.std.proofs.Common.{sym, ap, ap₂, ◌∙◌, arith, inl, inr, bit_and, bit_or, min, pow_mono, get_or-set_same, get_or-set_other}
+use Rattle.std.proofs.Common.{length-set}
 use Rattle.std.proofs.Math.Bool.{or-false, and-true, and-false}
 use Rattle.std.proofs.lemmas.Bool.{cases_eq, cases_lt, le-leb, lt-leb}
 use Rattle.std.proofs.lemmas.Nat.Bits.{bit_at_above, bit_at_ones, bit_at_ones_above}

@@ -1,5 +1,6 @@
 -- Sets of at most 64 attributes. All words but the first are 0, so meets and inclusions are those of the first words.
-use Rattle.std.proofs.Common.{◌≡◌, ℕ, ◌<◌, ◌≤◌, true, eqb, List, get_or, set, sym, ap, ◌∙◌, arith, inl, inr, bit_and, eq-eqb, ne_eqb, get_or-set_same, get_or-set_other, length-set}
+use Rattle.std.proofs.Common.{◌≡◌, ℕ, ◌<◌, ◌≤◌, true, eqb, List, get_or, set, sym, ap, ◌∙◌, arith, inl, inr, bit_and, eq-eqb, ne_eqb}
+use Rattle.std.proofs.Common.{get_or-set_same, get_or-set_other, length-set}
 use Rattle.std.proofs.lemmas.Bool.{cases_eq}
 use Rattle.fca_model.specs.Sets.{Set, within, meet}
 use Rattle.fca_model.proofs.SetLemmas.{within_refl}

@@ -1,8 +1,10 @@
 -- Where a derivation is sound, the implication follows: what each step adds lies within each set that contains the premise and
 -- respects the list. And where no member adds anything before the conclusion is reached, the set reached respects the list, so the
 -- implication does not follow.
-use Rattle.std.proofs.Common.{◌≡◌, ℕ, zero, suc, ◌+◌, ◌-◌, ◌<◌, ◌≤◌, Bool, true, false, not, ◌&&◌, ◌||◌, cond, Option, Some, None, List, [], ◌∷◌}
-use Rattle.std.proofs.Common.{◌++◌, length, get_or, position, refl, sym, ap, ap₂, ◌∙◌, subst, arith, inl, inr, eqb, eqb-true, ltb, lt-ltb, option_map}
+use Rattle.std.proofs.Common.{◌≡◌, ℕ, zero, suc, ◌+◌, ◌-◌, ◌<◌, ◌≤◌, Bool, true, false, not, ◌&&◌, ◌||◌, cond, Option, Some, None, List, []}
+use Rattle.std.proofs.Common.{◌∷◌}
+use Rattle.std.proofs.Common.{◌++◌, length, get_or, position, refl, sym, ap, ap₂, ◌∙◌, subst, arith, inl, inr, eqb, eqb-true, ltb, lt-ltb}
+use Rattle.std.proofs.Common.{option_map}
 use Rattle.std.proofs.Common.{◌↔◌, drop, append-nil}
 use Rattle.std.proofs.lemmas.Bool.{false≢true, and_parts, and_from, cases_Bool, ltb-true}
 use Rattle.std.proofs.lemmas.List.{append_assoc, length-append, drop_more, get_or_default}
@@ -11,7 +13,8 @@ use Rattle.std.proofs.lemmas.List.Sums.{AllPass-from_list_all}
 use Rattle.std.specs.Option.{is_some}
 use Rattle.fca_model.specs.Sets.{Set, size, within, join}
 use Rattle.fca_model.specs.Implications.{Rule, rule, respects, respects_all, follows}
-use Rattle.fca_model.proofs.SetLemmas.{within_refl, within_trans, strictly_from, size_strict, size_le, length-join, within-join, within-join_right, join_within, all_sets_at, all_sets_from}
+use Rattle.fca_model.proofs.SetLemmas.{within_refl, within_trans, strictly_from, size_strict, size_le, length-join, within-join}
+use Rattle.fca_model.proofs.SetLemmas.{within-join_right, join_within, all_sets_at, all_sets_from}
 use Rattle.fca_model.proofs.ClosureLemmas.{respects_at, respects_from}
 use Rattle.fca_model.proofs.ListLemmas.{implies_from, implies_at, list_all-mono, not_not, not_implies-parts}
 use Rattle.implication_closure.specs.Closing.{has_width, HaveWidth}

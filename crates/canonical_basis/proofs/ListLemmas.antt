@@ -11,7 +11,8 @@ use Rattle.fca_model.specs.Implications.{Rule, rule, premises, respects, respect
 use Rattle.fca_model.specs.Pseudo.{basis_known}
 use Rattle.fca_model.proofs.ListLemmas.{bool_iff, implies_from, implies_at, list_all_from, list_all-mono, list_all-filter}
 use Rattle.fca_model.proofs.SetLemmas.{within_refl, within_antisymm, same-true, same_from, all_sets_at, all_sets_from}
-use Rattle.fca_model.proofs.ClosureLemmas.{length-closure, closure_extensive, closure_monotone, closure_idempotent, closure_in_rows, holds_by_rows, respects_at}
+use Rattle.fca_model.proofs.ClosureLemmas.{length-closure, closure_extensive, closure_monotone, closure_idempotent, closure_in_rows}
+use Rattle.fca_model.proofs.ClosureLemmas.{holds_by_rows, respects_at}
 use Rattle.fca_model.proofs.PseudoLemmas.{closed_respects, respecting_closed, holds_respected}
 use Rattle.fca_model.proofs.InvariantLemmas.{each}
 use Rattle.implication_closure.specs.Closing.{RuleList, has_width, HaveWidth, IsClosure}

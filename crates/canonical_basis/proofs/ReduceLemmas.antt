@@ -2,7 +2,8 @@
 -- pseudo-intent within it is a premise, whose implication it respects; and each pseudo-intent is a premise, since it is not closed,
 -- so it breaks an implication, and the premise of that one, were it smaller, would be a pseudo-intent within it, whose closure it contains.
 -- One step of the reduction: the premise grows to its closure under the others, and is dropped where that contains its conclusion.
-use Rattle.std.proofs.Common.{◌≡◌, ℕ, zero, suc, ◌<◌, Bool, true, false, not, ◌&&◌, ◌||◌, List, [], ◌∷◌, ◌++◌, map, length, refl, sym, ap, ap₂, ◌∙◌}
+use Rattle.std.proofs.Common.{◌≡◌, ℕ, zero, suc, ◌<◌, Bool, true, false, not, ◌&&◌, ◌||◌, List, [], ◌∷◌, ◌++◌, map, length, refl, sym, ap}
+use Rattle.std.proofs.Common.{ap₂, ◌∙◌}
 use Rattle.std.proofs.Common.{subst, arith, inl, inr, eqb, eqb-true, eq-eqb, ltb, lt-ltb, ◌-◌, take, drop}
 use Rattle.std.proofs.lemmas.Bool.{false≢true, and_parts, and_from, cases_Bool, or_cases, or_left, or_right, not-true, ltb-true}
 use Rattle.std.proofs.lemmas.List.{take_all, length-drop}
@@ -14,9 +15,12 @@ use Rattle.fca_model.specs.Implications.{Rule, rule, premises, respects, respect
 use Rattle.fca_model.specs.Pseudo.{pseudo_known, basis_known}
 use Rattle.fca_model.specs.Questions.{has_premise}
 use Rattle.fca_model.specs.Invariant.{SameMembers}
-use Rattle.fca_model.proofs.ListLemmas.{bool_iff, implies_from, implies_at, list_all-mono, list_all-mono₂, list_all-and, list_any_at, list_any-not}
-use Rattle.fca_model.proofs.SetLemmas.{within_refl, within_trans, within_antisymm, same_refl, same-true, same_from, strictly_from, strictly-parts, size_strict, size_le}
-use Rattle.fca_model.proofs.ClosureLemmas.{length-closure, closure_extensive, closure_monotone, closure_idempotent, respects_at, respects_from}
+use Rattle.fca_model.proofs.ListLemmas.{bool_iff, implies_from, implies_at, list_all-mono, list_all-mono₂, list_all-and, list_any_at}
+use Rattle.fca_model.proofs.ListLemmas.{list_any-not}
+use Rattle.fca_model.proofs.SetLemmas.{within_refl, within_trans, within_antisymm, same_refl, same-true, same_from, strictly_from}
+use Rattle.fca_model.proofs.SetLemmas.{strictly-parts, size_strict, size_le}
+use Rattle.fca_model.proofs.ClosureLemmas.{length-closure, closure_extensive, closure_monotone, closure_idempotent, respects_at}
+use Rattle.fca_model.proofs.ClosureLemmas.{respects_from}
 use Rattle.fca_model.proofs.PseudoLemmas.{pseudo_parts, pseudo_from, basis_all, basis_at}
 use Rattle.fca_model.proofs.InvariantLemmas.{each}
 use Rattle.implication_closure.specs.Closing.{RuleList, has_width, HaveWidth, IsClosure}

@@ -3,7 +3,8 @@
 --
 -- From the list {a} -> {b}, {b} -> {c}, {a} -> {c} the derivation of {a} -> {c} is 0, 1, by the first member that adds something
 -- each time; and 2 alone is a sound one too.
-use Rattle.std.specs.Prelude.{ℕ, zero, suc, Bool, not, cond, ◌&&◌, Option, Some, None, List, [], ◌∷◌, length, position, nat_lt, slice_index_or, option_map}
+use Rattle.std.specs.Prelude.{ℕ, zero, suc, Bool, not, cond, ◌&&◌, Option, Some, None, List, [], ◌∷◌, length, position, nat_lt}
+use Rattle.std.specs.Prelude.{slice_index_or, option_map}
 use Rattle.fca_model.specs.Sets.{Set, within, join}
 use Rattle.fca_model.specs.Implications.{Rule, rule, respects}
 use Rattle.implication_closure.specs.Closing.{RuleList}

@@ -1,6 +1,7 @@
 //! The concepts of a branch of the tree of intents. The extent goes down the tree, as places in the table.
 
-ghost use Rattle.std.specs.Prelude.{◌≡◌, ◌≤◌, ◌<◌, ◌+◌, ◌++◌, [], true, false, OnOk, IfOk, IfSome, MatchOption, length, take, slice_index_or, slice_set};
+ghost use Rattle.std.specs.Prelude.{◌≡◌, ◌≤◌, ◌<◌, ◌+◌, ◌++◌, [], true, false, OnOk, IfOk, IfSome, MatchOption, length, take};
+ghost use Rattle.std.specs.Prelude.{slice_index_or, slice_set};
 ghost use Rattle.fca_model.specs.Sets.{within};
 ghost use Rattle.fca_model.specs.Context.{closure, extent, is_closed};
 ghost use Rattle.lectic_concepts.specs.Branches.{branch, AreSeen};

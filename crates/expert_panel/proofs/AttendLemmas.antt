@@ -1,6 +1,7 @@
 -- The run of one expert. What is known between two turns is the way on: whatever run goes on from here makes, behind the entries so far,
 -- a run from the start. A turn moves this by one entry, and a run that stops here is the whole one.
-use Rattle.std.proofs.Common.{◌≡◌, ℕ, ◌+◌, ◌<◌, true, false, Option, Some, None, IfSome, List, [], ◌∷◌, ◌++◌, length, append_assoc, inl, inr, sym, ap, ◌∙◌, refl, subst, arith, length-append}
+use Rattle.std.proofs.Common.{◌≡◌, ℕ, ◌+◌, ◌<◌, true, false, Option, Some, None, IfSome, List, [], ◌∷◌, ◌++◌, length, append_assoc, inl}
+use Rattle.std.proofs.Common.{inr, sym, ap, ◌∙◌, refl, subst, arith, length-append}
 use Rattle.std.proofs.lemmas.List.{append-nil}
 use Rattle.std.specs.Prelude.{Result, Ok, Err, IfOk, IfErr}
 use Rattle.fca_model.specs.declared.Event.TheVariants.{Draw}

@@ -1,7 +1,8 @@
 -- What the laws of oracles say of an exploration at a gate. Each oracle's share in the history is its own entries, so they are few; and
 -- with few attributes they are fewer than its turns. Where all tables have one context, a number of no expert has no entry, and stands
 -- for an expert of any such table.
-use Rattle.std.proofs.Common.{◌≡◌, ℕ, zero, suc, ◌+◌, ◌-◌, ◌*◌, ◌<◌, ◌≤◌, ◌⊎◌, ◌↔◌, Bool, true, false, Option, Some, None, List, [], ◌∷◌, ◌++◌}
+use Rattle.std.proofs.Common.{◌≡◌, ℕ, zero, suc, ◌+◌, ◌-◌, ◌*◌, ◌<◌, ◌≤◌, ◌⊎◌, ◌↔◌, Bool, true, false, Option, Some, None, List, [], ◌∷◌}
+use Rattle.std.proofs.Common.{◌++◌}
 use Rattle.std.proofs.Common.{length, get_or, slice_get, All, inl, inr, refl, sym, ap, ◌∙◌, subst, arith, le-leb, leb}
 use Rattle.std.proofs.lemmas.Bool.{cases_Bool, cases_lt, and_from, and_parts, leb-true, false≢true}
 use Rattle.std.proofs.lemmas.List.{get_or_past}
@@ -35,7 +36,8 @@ use Rattle.expert_panel.specs.declared.seat.Seat.{Seat}
 use Rattle.expert_panel.specs.declared.end.SeatEnd.{SeatEnd}
 use Rattle.expert_panel.specs.declared.end.SeatEnd.TheVariants.{Done, Spent, Memory}
 use Rattle.expert_panel.specs.Seats.{IsEnd}
-use Rattle.expert_panel.specs.Explorations.{IsOraclesShare, EachNumbered, HasFewRows, most_turns, most_turns_between, IsWithinTurns, HasMadeAtMost, SeatsTurns, HasAgreed, HasEvenRows}
+use Rattle.expert_panel.specs.Explorations.{IsOraclesShare, EachNumbered, HasFewRows, most_turns, most_turns_between, IsWithinTurns}
+use Rattle.expert_panel.specs.Explorations.{HasMadeAtMost, SeatsTurns, HasAgreed, HasEvenRows}
 use Rattle.expert_panel.proofs.ShareLemmas.{Run}
 
 -- the rows of a new exploration respect what is known

@@ -1,14 +1,17 @@
 -- Done is answered to draws alone, and only where no question is open; and from then on none is. So where an expert's last reply is Done,
 -- no question is open after the whole history.
-use Rattle.std.proofs.Common.{◌≡◌, ℕ, Bool, true, false, not, ◌||◌, Option, Some, None, List, [], ◌∷◌, ◌==◌, filter, length, inl, inr, refl, sym, ap, ◌∙◌, subst}
+use Rattle.std.proofs.Common.{◌≡◌, ℕ, Bool, true, false, not, ◌||◌, Option, Some, None, List, [], ◌∷◌, ◌==◌, filter, length, inl, inr, refl}
+use Rattle.std.proofs.Common.{sym, ap, ◌∙◌, subst}
 use Rattle.std.proofs.lemmas.Bool.{cases_Bool, and_parts, or_left, or_right, false≢true}
 use Rattle.std.specs.List.{list_any, list_all}
 use Rattle.fca_model.specs.declared.Event.TheVariants.{Draw, Confirm, Row, Leave}
 use Rattle.fca_model.specs.declared.Reply.TheVariants.{Done}
 use Rattle.fca_model.specs.Sets.{Set, within, same}
 use Rattle.fca_model.specs.Implications.{Rule, respects, refutes}
-use Rattle.fca_model.specs.Exploration.{State, SetEvent, SetReply, SetEntry, rules_of, open_in, held_by, first_with, first_missing, confirm_unheard}
-use Rattle.fca_model.specs.Exploration.{confirm_unrefuted, confirm_reply, row_new, row_unbroken, row_refuting, row_fitting, row_reply, reply_to, next}
+use Rattle.fca_model.specs.Exploration.{State, SetEvent, SetReply, SetEntry, rules_of, open_in, held_by, first_with, first_missing}
+use Rattle.fca_model.specs.Exploration.{confirm_unheard}
+use Rattle.fca_model.specs.Exploration.{confirm_unrefuted, confirm_reply, row_new, row_unbroken, row_refuting, row_fitting, row_reply}
+use Rattle.fca_model.specs.Exploration.{reply_to, next}
 use Rattle.fca_model.specs.Exploration.{state_after, journal_of, events_of, expert_of, is_expert, has_width, IsLegal, own}
 use Rattle.fca_model.specs.Invariant.{IsValid}
 use Rattle.fca_model.proofs.ListLemmas.{list_any-not, list_all-filter_kept}

@@ -1,7 +1,8 @@
 -- What is left of an exploration by oracles once its gate is closed. The badges of the passes stay, so the seats stand in the order of
 -- their numbers, and what each seat shows of itself becomes a share in the one history. Where none is spent the first was done, and from
 -- then on no question was open.
-use Rattle.std.proofs.Common.{◌≡◌, ℕ, zero, suc, ◌<◌, ◌≤◌, ◌⊎◌, Bool, true, false, List, [], ◌∷◌, ◌++◌, length, map, take, All, Result, Ok, Err, IfOk, inl, inr, refl, sym, ap, ◌∙◌, subst, arith}
+use Rattle.std.proofs.Common.{◌≡◌, ℕ, zero, suc, ◌<◌, ◌≤◌, ◌⊎◌, Bool, true, false, List, [], ◌∷◌, ◌++◌, length, map, take, All, Result, Ok}
+use Rattle.std.proofs.Common.{Err, IfOk, inl, inr, refl, sym, ap, ◌∙◌, subst, arith}
 use Rattle.std.proofs.lemmas.Bool.{cases_Bool, false≢true}
 use Rattle.std.proofs.Math.Seq.{take-append_seam}
 use Rattle.std.proofs.lemmas.List.{length-map}
@@ -24,7 +25,8 @@ use Rattle.expert_gate.specs.Seats.{EachSeat}
 use Rattle.expert_panel.specs.Seats.{IsSeatOf}
 use Rattle.expert_panel.specs.Explorations.{IsOraclesShare, EachNumbered, HasEnded, is_spent, is_out_of_memory}
 use Rattle.expert_panel.proofs.DoneLemmas.{done_leaves_none}
-use Rattle.expert_panel.proofs.ShareLemmas.{count_from, roll-numbers, EachFrom, Tells, each_numbered, Run, passes, experts, tells_all, shares, some_spent, spent_among}
+use Rattle.expert_panel.proofs.ShareLemmas.{count_from, roll-numbers, EachFrom, Tells, each_numbered, Run, passes, experts, tells_all}
+use Rattle.expert_panel.proofs.ShareLemmas.{shares, some_spent, spent_among}
 
 length-count_from : (n k : ℕ) → length (count_from n k) ≡ k
 length-count_from n zero = refl

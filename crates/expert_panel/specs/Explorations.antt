@@ -1,5 +1,6 @@
 -- Explorations by oracles: what each did in the one history.
-use Rattle.std.specs.Prelude.{◌≡◌, ℕ, ◌+◌, ◌-◌, ◌*◌, ◌≤◌, ◌<◌, ◌⊎◌, ◌↔◌, Bool, true, false, Option, Some, List, [], All, map, length, slice_get}
+use Rattle.std.specs.Prelude.{◌≡◌, ℕ, ◌+◌, ◌-◌, ◌*◌, ◌≤◌, ◌<◌, ◌⊎◌, ◌↔◌, Bool, true, false, Option, Some, List, [], All, map, length}
+use Rattle.std.specs.Prelude.{slice_get}
 use Rattle.fca_model.specs.declared.TheConstants.{MAX_OBJECTS}
 use Rattle.fca_model.specs.Context.{Context}
 use Rattle.fca_model.specs.Pseudo.{basis_known}

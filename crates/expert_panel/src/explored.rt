@@ -11,7 +11,8 @@ ghost use Rattle.turn_lock.specs.Passes.{badge, roll, IsFresh};
 ghost use Rattle.oracle_expert.specs.Oracles.{untold, no_conflict};
 ghost use Rattle.oracle_expert.specs.Intents.{HasIntentsOf, are_intents};
 ghost use Rattle.oracle_expert.specs.Runs.{ends_done};
-ghost use Rattle.expert_panel.specs.Explorations.{IsOraclesShare, EachNumbered, HasEnded, HasFewRows, IsWithinTurns, HasAgreed, HasEvenRows, is_spent, is_out_of_memory};
+ghost use Rattle.expert_panel.specs.Explorations.{IsOraclesShare, EachNumbered, HasEnded, HasFewRows, IsWithinTurns, HasAgreed};
+ghost use Rattle.expert_panel.specs.Explorations.{HasEvenRows, is_spent, is_out_of_memory};
 
 use crate::end::SeatEnd;
 use crate::panel::run_panel;

@@ -1,6 +1,7 @@
 -- One line. Up to the first line feed the bytes are a line, if there are few enough. What it asks for decides what it may be
 -- answered: only `quit` gets `bye`, and gets nothing else.
-use Rattle.std.proofs.Common.{inl, inr, ◌≡◌, ◌≢◌, ◌≤◌, ◌+◌, ℕ, List, [], ◌∷◌, ◌++◌, take, length, Result, Ok, Err, refl, sym, ap, ◌∙◌, subst, append_assoc, append-nil, arith}
+use Rattle.std.proofs.Common.{inl, inr, ◌≡◌, ◌≢◌, ◌≤◌, ◌+◌, ℕ, List, [], ◌∷◌, ◌++◌, take, length, Result, Ok, Err, refl, sym, ap, ◌∙◌}
+use Rattle.std.proofs.Common.{subst, append_assoc, append-nil, arith}
 use Rattle.std.specs.Io.KnownBytes.{Appends, Consumes, Keeps}
 use Rattle.std.proofs.KnownBytes.{Consumes-nil, Consumes-kept}
 use Rattle.fca_io.specs.Transfers.{AppendsFront}
@@ -20,7 +21,8 @@ use Rattle.expert_wire.specs.declared.requests.Request.TheVariants.{Quit as Quit
 use Rattle.expert_wire.specs.declared.requests.RequestFault.{RequestFault}
 use Rattle.expert_sessions.specs.declared.said.Said.{Said}
 use Rattle.expert_sessions.specs.declared.said.Said.TheVariants.{Replied, Bye, BadLine, BadWidth, NoMemory}
-use Rattle.expert_sessions.specs.Lines.{Asks, LacksMemory, Answers, Exchange, IsExchange, lines_of, replies_of, entries_of, turns_of, said_line, before_last}
+use Rattle.expert_sessions.specs.Lines.{Asks, LacksMemory, Answers, Exchange, IsExchange, lines_of, replies_of, entries_of, turns_of}
+use Rattle.expert_sessions.specs.Lines.{said_line, before_last}
 use Rattle.expert_sessions.specs.Moves.{Wire, Moves, IsQuiet}
 use Rattle.expert_sessions.specs.Courses.{Writes, HasFeedAt}
 

@@ -9,7 +9,8 @@ use Rattle.expert_wire.specs.Greetings.{greeting}
 use Rattle.expert_sessions.specs.Lines.{HasNoFeed, lines_of, replies_of}
 use Rattle.expert_sessions.specs.Moves.{Place}
 use Rattle.expert_sessions.specs.Courses.{Writes, Reads, Goes}
-use Rattle.expert_sessions.specs.Order.{Reading, wire, ReadsNothing, ReadsOnce, AreReadings, ReadsOnlyWhere, AwaitsLine, ReadsForLine, IsAnswered, ReadsInTurn}
+use Rattle.expert_sessions.specs.Order.{Reading, wire, ReadsNothing, ReadsOnce, AreReadings, ReadsOnlyWhere, AwaitsLine, ReadsForLine}
+use Rattle.expert_sessions.specs.Order.{IsAnswered, ReadsInTurn}
 use Rattle.expert_sessions.proofs.MoveLemmas.{Moves-trans, Moves-equal}
 
 module _ {E : Type 0} (left held : E → Option Text) (calls : E → Option ℕ) (reads writes : E → ℕ) where

@@ -9,7 +9,8 @@ use Rattle.turn_lock.specs.declared.fault.TurnFault.{TurnFault}
 use Rattle.turn_lock.specs.declared.fault.TurnFault.TheVariants.{Spent as NoTurn, Memory as NoTurnMemory}
 use Rattle.expert_wire.specs.Texts.{line_end}
 use Rattle.expert_wire.specs.Greetings.{greeting}
-use Rattle.expert_sessions.specs.Lines.{HasNoFeed, BeginsWithEvent, Exchange, IsExchange, IsQuit, IsNotQuit, lines_of, replies_of, entries_of, turns_of, said_line}
+use Rattle.expert_sessions.specs.Lines.{HasNoFeed, BeginsWithEvent, Exchange, IsExchange, IsQuit, IsNotQuit, lines_of, replies_of}
+use Rattle.expert_sessions.specs.Lines.{entries_of, turns_of, said_line}
 use Rattle.expert_sessions.specs.Talks.{Course, GoesOn, IsPartOfLine, IsTooLong, Stops}
 use Rattle.expert_sessions.specs.Moves.{Wire, Moves, IsQuiet, Place, Enters}
 use Rattle.expert_sessions.specs.declared.said.Said.{Said}

@@ -13,7 +13,8 @@ use Rattle.expert_wire.specs.Replies.{reply_line}
 use Rattle.expert_wire.specs.Requests.{TakesMemory, request_form}
 use Rattle.text_pieces.specs.Lines.{is_line_feed}
 use Rattle.expert_wire.specs.declared.requests.Request.{Request}
-use Rattle.expert_wire.specs.declared.requests.Request.TheVariants.{Draw as DrawAsked, Confirm as ConfirmAsked, Row as RowAsked, Leave as LeaveAsked, Quit}
+use Rattle.expert_wire.specs.declared.requests.Request.TheVariants.{Draw as DrawAsked, Confirm as ConfirmAsked, Row as RowAsked}
+use Rattle.expert_wire.specs.declared.requests.Request.TheVariants.{Leave as LeaveAsked, Quit}
 use Rattle.expert_wire.specs.declared.requests.RequestFault.{RequestFault}
 use Rattle.expert_wire.specs.declared.requests.RequestFault.TheVariants.{Line, Width}
 use Rattle.expert_sessions.specs.declared.said.TheConstants.{BYE, BAD_LINE, BAD_WIDTH, NO_MEMORY}

@@ -1,6 +1,7 @@
 //! The tables that `explore` reads: the one to explore, and those of the experts.
 
-ghost use Rattle.std.specs.Prelude.{◌≡◌, ◌≤◌, ◌∷◌, ◌++◌, ℕ, List, All, Bool, true, IfOk, IfErr, OnOk, vec_len, length, option_copied, option_to_list};
+ghost use Rattle.std.specs.Prelude.{◌≡◌, ◌≤◌, ◌∷◌, ◌++◌, ℕ, List, All, Bool, true, IfOk, IfErr, OnOk, vec_len, length, option_copied};
+ghost use Rattle.std.specs.Prelude.{option_to_list};
 ghost use Rattle.std.specs.Option.{option_map};
 ghost use Rattle.fca_io.specs.Faults.{RoseAtMost, one_more};
 ghost use Rattle.fca_model.specs.Exploration.{is_expert};

@@ -1,6 +1,7 @@
 -- What the course of an exploration shows a caller: the rows of the table stay in front, and where no question
 -- is open the accepted implications are the basis beside what is known.
-use Rattle.std.proofs.Common.{◌≡◌, ◌≢◌, ℕ, Bool, true, false, cond, Option, Some, None, List, [], ◌∷◌, ◌++◌, refl, sym, ap, ◌∙◌, subst, append-nil, ◌↔◌}
+use Rattle.std.proofs.Common.{◌≡◌, ◌≢◌, ℕ, Bool, true, false, cond, Option, Some, None, List, [], ◌∷◌, ◌++◌, refl, sym, ap, ◌∙◌, subst}
+use Rattle.std.proofs.Common.{append-nil, ◌↔◌}
 use Rattle.std.proofs.lemmas.List.{append_assoc}
 use Rattle.std.specs.List.{list_all}
 use Rattle.fca_model.specs.declared.Event.TheVariants.{Draw, Leave}
@@ -11,7 +12,8 @@ use Rattle.fca_model.specs.Context.{Context, closure}
 use Rattle.fca_model.specs.Implications.{Rule, holds}
 use Rattle.fca_model.specs.Questions.{open_questions}
 use Rattle.fca_model.specs.Invariant.{is_member, Among, IsAccepted}
-use Rattle.fca_model.specs.Exploration.{State, Settings, SetHold, SetEvent, SetEntry, open_in, given_back, draw_reply, all_held, least_held, asked, reply_to, next, state_after, events_of}
+use Rattle.fca_model.specs.Exploration.{State, Settings, SetHold, SetEvent, SetEntry, open_in, given_back, draw_reply, all_held, least_held}
+use Rattle.fca_model.specs.Exploration.{asked, reply_to, next, state_after, events_of}
 use Rattle.fca_model.proofs.ListLemmas.{list_all-mono}
 use Rattle.fca_model.proofs.SetLemmas.{within_refl}
 use Rattle.fca_model.proofs.InvariantLemmas.{member_parts}

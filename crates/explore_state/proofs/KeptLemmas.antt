@@ -10,8 +10,10 @@ use Rattle.fca_model.specs.Context.{Context}
 use Rattle.fca_model.specs.Implications.{Rule, respects_all}
 use Rattle.fca_model.specs.Questions.{open_questions}
 use Rattle.fca_model.specs.Invariant.{IsValid, rows_respect}
-use Rattle.fca_model.specs.Exploration.{State, Settings, RowName, rules_of, held_by, confirm_reply, row_reply, SetHold, SetEvent, SetEntry, SetReply}
-use Rattle.fca_model.specs.Exploration.{plain, open_in, given_back, draw_reply, reply_to, after, next, state_after, events_of, expert_of, has_width}
+use Rattle.fca_model.specs.Exploration.{State, Settings, RowName, rules_of, held_by, confirm_reply, row_reply, SetHold, SetEvent, SetEntry}
+use Rattle.fca_model.specs.Exploration.{SetReply}
+use Rattle.fca_model.specs.Exploration.{plain, open_in, given_back, draw_reply, reply_to, after, next, state_after, events_of, expert_of}
+use Rattle.fca_model.specs.Exploration.{has_width}
 use Rattle.fca_model.specs.Exploration.{is_expert, IsLegal}
 use Rattle.fca_model.proofs.ListLemmas.{list_all_from}
 use Rattle.fca_model.proofs.ValidLemmas.{opening_valid}

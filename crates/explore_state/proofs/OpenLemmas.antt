@@ -1,6 +1,7 @@
 -- Why an exploration is opened: where no cause of a refusal is found, there are so many experts and holders as there may be, and each
 -- row respects what is known. With nothing known a row breaks nothing.
-use Rattle.std.proofs.Common.{◌≡◌, ◌+◌, ◌⊎◌, ℕ, Bool, true, false, not, cond, Option, Some, None, List, [], ◌∷◌, Result, Ok, Err, refl, ap, ◌∙◌, inl}
+use Rattle.std.proofs.Common.{◌≡◌, ◌+◌, ◌⊎◌, ℕ, Bool, true, false, not, cond, Option, Some, None, List, [], ◌∷◌, Result, Ok, Err, refl, ap}
+use Rattle.std.proofs.Common.{◌∙◌, inl}
 use Rattle.std.proofs.Common.{inr, eqb, eqb-true, get_or, drop, length, All, ◌<◌}
 use Rattle.std.specs.Prelude.{IfErr}
 use Rattle.std.proofs.lemmas.Bool.{and_from, and_parts}

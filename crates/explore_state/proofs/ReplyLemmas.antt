@@ -1,6 +1,7 @@
 -- What a reply shows of the state. A confirmation is accepted only where no row refutes the question that is held and its premise is
 -- new, and a row is taken only where it respects all rules.
-use Rattle.std.proofs.Common.{◌≡◌, ℕ, ◌<◌, Bool, true, false, not, Option, Some, None, List, [], ◌++◌, length, eqb-true, refl, sym, ap, ◌∙◌, subst}
+use Rattle.std.proofs.Common.{◌≡◌, ℕ, ◌<◌, Bool, true, false, not, Option, Some, None, List, [], ◌++◌, length, eqb-true, refl, sym, ap, ◌∙◌}
+use Rattle.std.proofs.Common.{subst}
 use Rattle.std.specs.List.{list_any}
 use Rattle.fca_model.specs.declared.Event.TheVariants.{Draw, Confirm, Row}
 use Rattle.fca_model.specs.declared.Reply.TheVariants.{Accepted, Taken}
@@ -10,7 +11,8 @@ use Rattle.fca_model.specs.Context.{Context}
 use Rattle.fca_model.specs.Implications.{Rule, rule, respects, respects_all, refutes, holds}
 use Rattle.fca_model.specs.Questions.{has_premise}
 use Rattle.fca_model.specs.Invariant.{IsHeld}
-use Rattle.fca_model.specs.Exploration.{State, RowName, SetHold, SetReply, rules_of, held_by, given_back, first_with, first_missing, confirm_reply}
+use Rattle.fca_model.specs.Exploration.{State, RowName, SetHold, SetReply, rules_of, held_by, given_back, first_with, first_missing}
+use Rattle.fca_model.specs.Exploration.{confirm_reply}
 use Rattle.fca_model.specs.Exploration.{confirm_unrefuted, confirm_unheard, row_reply, row_fitting, row_refuting, row_unbroken, reply_to}
 use Rattle.fca_model.proofs.ListLemmas.{list_all-from_none}
 use Rattle.fca_model.proofs.StepLemmas.{first_with_none}

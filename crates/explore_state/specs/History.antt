@@ -3,7 +3,8 @@ use Rattle.std.specs.Prelude.{◌≡◌, ◌≤◌, ℕ, true, List, [], ◌∷�
 use Rattle.fca_model.specs.Tables.{NamedContext}
 use Rattle.fca_model.specs.Implications.{Rule}
 use Rattle.fca_model.specs.Questions.{open_questions}
-use Rattle.fca_model.specs.Exploration.{State, Settings, SetEvent, SetReply, SetEntry, opening, reply_to, next, state_after, events_of, expert_of, has_width}
+use Rattle.fca_model.specs.Exploration.{State, Settings, SetEvent, SetReply, SetEntry, opening, reply_to, next, state_after, events_of}
+use Rattle.fca_model.specs.Exploration.{expert_of, has_width}
 
 -- what an exploration is opened with
 pub record Opening : Type 0 where

@@ -4,7 +4,8 @@ use Rattle.fca_model.specs.Context.{Context}
 use Rattle.fca_model.specs.Implications.{Rule, holds}
 use Rattle.fca_model.specs.Questions.{has_premise}
 use Rattle.fca_model.specs.Invariant.{IsHeld, IsValid, rows_respect}
-use Rattle.fca_model.specs.Exploration.{State, SetHold, SetEvent, SetReply, SetEntry, reply_to, state_after, events_of, expert_of, has_width, is_expert, IsLegal}
+use Rattle.fca_model.specs.Exploration.{State, SetHold, SetEvent, SetReply, SetEntry, reply_to, state_after, events_of, expert_of}
+use Rattle.fca_model.specs.Exploration.{has_width, is_expert, IsLegal}
 use Rattle.explore_state.specs.History.{Opening, opening_state}
 
 -- the state has these rows, accepted implications and holds

@@ -1,7 +1,8 @@
 //! Explorations: the questions open in a table, what experts draw and answer, and the journal of it.
 #![tactic(auto)]
 
-ghost use Rattle.std.specs.Prelude.{◌≡◌, ◌≢◌, ◌≤◌, ◌<◌, ◌+◌, ◌↔◌, ◌⊎◌, ◌==◌, ℕ, [], None, Some, IsOk, IfOk, OnOk, OnErr, IfErr, IsErrOf, IsNone, IfSome, true, false, vec_len, vec_capacity, All};
+ghost use Rattle.std.specs.Prelude.{◌≡◌, ◌≢◌, ◌≤◌, ◌<◌, ◌+◌, ◌↔◌, ◌⊎◌, ◌==◌, ℕ, [], None, Some, IsOk, IfOk, OnOk, OnErr, IfErr, IsErrOf};
+ghost use Rattle.std.specs.Prelude.{IsNone, IfSome, true, false, vec_len, vec_capacity, All};
 ghost use Rattle.std.specs.List.{list_all};
 ghost use Rattle.fca_model.specs.Sets.{size};
 ghost use Rattle.fca_model.specs.Implications.{Rule, holds};

@@ -12,7 +12,8 @@ use Rattle.std.specs.List.{list_all}
 use Rattle.fca_model.specs.Sets.{Set, meet, full, within}
 use Rattle.fca_model.specs.Context.{Context, closure, extent, extent_from}
 use Rattle.fca_model.specs.Implications.{rule, respects}
-use Rattle.fca_model.proofs.SetLemmas.{within_refl, within_trans, within_from_places, within_at_place, set_within, within_antisymm, within_full}
+use Rattle.fca_model.proofs.SetLemmas.{within_refl, within_trans, within_from_places, within_at_place, set_within, within_antisymm}
+use Rattle.fca_model.proofs.SetLemmas.{within_full}
 use Rattle.fca_model.proofs.ListLemmas.{bool_iff, filter_agree_on, filter_passes, filter_all}
 use Rattle.attr_bits.proofs.LargerLemmas.{met_all}
 use Rattle.fca_model.proofs.ClosureLemmas.{closure_extensive, closure_in_rows, respects_at, length-closure, length-meets, within-meets}

@@ -1,6 +1,7 @@
 -- What a loop of reads, or of writes, has done so far to a stream that may tell what it holds. One more read or write joins
 -- on behind what was moved before, and counts that one call leaves as they were are left so by many.
-use Rattle.std.proofs.Common.{◌≡◌, ◌≤◌, ◌<◌, ◌+◌, ◌-◌, ◌++◌, ℕ, List, [], length, take, drop, sym, ap, ◌∙◌, append_assoc, take-append-drop, length-append, length-take, length-drop, ◌≢◌, subst, refl, arith}
+use Rattle.std.proofs.Common.{◌≡◌, ◌≤◌, ◌<◌, ◌+◌, ◌-◌, ◌++◌, ℕ, List, [], length, take, drop, sym, ap, ◌∙◌, append_assoc, take-append-drop}
+use Rattle.std.proofs.Common.{length-append, length-take, length-drop, ◌≢◌, subst, refl, arith}
 use Rattle.std.proofs.lemmas.List.{take_all}
 use Rattle.std.proofs.lemmas.Bool.{ne_eqb, eq-eqb}
 use Rattle.std.specs.Prelude.{cond, ◌==◌, Option, Result, Err, IsErrAnd}

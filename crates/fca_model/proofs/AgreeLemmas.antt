@@ -2,7 +2,8 @@
 -- larger; and what is
 -- closed by all rows respects the basis of the few, so it is closed by the few. With the closures the pseudo-intents and the bases are the
 -- same.
-use Rattle.std.proofs.Common.{◌≡◌, ℕ, zero, suc, Bool, true, not, ◌&&◌, ◌||◌, List, [], ◌∷◌, map, length, filter, refl, sym, ap, ap₂, ◌∙◌, subst, eqb, eqb-true}
+use Rattle.std.proofs.Common.{◌≡◌, ℕ, zero, suc, Bool, true, not, ◌&&◌, ◌||◌, List, [], ◌∷◌, map, length, filter, refl, sym, ap, ap₂, ◌∙◌}
+use Rattle.std.proofs.Common.{subst, eqb, eqb-true}
 use Rattle.std.proofs.lemmas.Bool.{and_parts}
 use Rattle.std.specs.List.{list_all, list_any}
 use Rattle.fca_model.specs.Sets.{Set, within, size, same, strictly_within, all_sets}
@@ -12,7 +13,8 @@ use Rattle.fca_model.specs.Pseudo.{pseudo_known, pseudo_below, basis_known}
 use Rattle.fca_model.proofs.ListLemmas.{list_all-mono, filter_agree_on, list_all-filter_kept}
 use Rattle.fca_model.proofs.SetLemmas.{within_antisymm, same-true, same_from, all_sets_agree, all_sets_widths}
 use Rattle.fca_model.proofs.SortedLemmas.{at_member}
-use Rattle.fca_model.proofs.ClosureLemmas.{within-closure, length-closure, closure_extensive, closure_monotone, closure_idempotent, closure_in_rows}
+use Rattle.fca_model.proofs.ClosureLemmas.{within-closure, length-closure, closure_extensive, closure_monotone, closure_idempotent}
+use Rattle.fca_model.proofs.ClosureLemmas.{closure_in_rows}
 use Rattle.fca_model.proofs.PseudoLemmas.{holds_respected, respecting_closed}
 
 module _ (n : ℕ) (few all : List Set) (S : List Rule) (part : list_all (λ row. list_any (same row) all) few ≡ true) where

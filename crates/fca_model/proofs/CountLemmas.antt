@@ -3,7 +3,8 @@
 -- all sets. And a row that refutes a question makes a new intent: the closure of the premise in the new rows lies within the new row, but
 -- the old
 -- closure does not, since it holds the conclusion.
-use Rattle.std.proofs.Common.{◌≡◌, ℕ, zero, suc, ◌+◌, ◌^◌, ◌<◌, ◌≤◌, Bool, true, false, not, ◌&&◌, ◌||◌, cond, List, [], ◌∷◌, map, length, filter, refl, sym, ap, ◌∙◌, subst, arith, inl, inr}
+use Rattle.std.proofs.Common.{◌≡◌, ℕ, zero, suc, ◌+◌, ◌^◌, ◌<◌, ◌≤◌, Bool, true, false, not, ◌&&◌, ◌||◌, cond, List, [], ◌∷◌, map, length}
+use Rattle.std.proofs.Common.{filter, refl, sym, ap, ◌∙◌, subst, arith, inl, inr}
 use Rattle.std.proofs.lemmas.Bool.{false≢true, and_parts, and_from, cases_Bool, or_cases, or_parts, not-true}
 use Rattle.std.proofs.lemmas.List.{length-map, length-append}
 use Rattle.std.proofs.lemmas.List.Folds.{list_all-append}
@@ -20,7 +21,8 @@ use Rattle.fca_model.specs.SetLaws.{same_equiv}
 use Rattle.fca_model.proofs.ListLemmas.{list_all-mono}
 use Rattle.fca_model.proofs.SetLemmas.{within_trans, same-true, same_from, all_sets_from}
 use Rattle.fca_model.proofs.SortedLemmas.{in_filter, in_all_sets}
-use Rattle.fca_model.proofs.ClosureLemmas.{length-closure, closure_extensive, closure_monotone, closure_idempotent, closure_in_rows, respects_at}
+use Rattle.fca_model.proofs.ClosureLemmas.{length-closure, closure_extensive, closure_monotone, closure_idempotent, closure_in_rows}
+use Rattle.fca_model.proofs.ClosureLemmas.{respects_at}
 use Rattle.fca_model.proofs.PseudoLemmas.{pseudo_parts}
 use Rattle.fca_model.proofs.SurvivalLemmas.{closed_stays}
 use Rattle.fca_model.proofs.InvariantLemmas.{member_parts}

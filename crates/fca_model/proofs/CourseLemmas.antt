@@ -3,7 +3,8 @@
 -- held question that no row refutes would be a member of the basis, so it is accepted already; and a row that respects the rules is an
 -- intent, so it
 -- refutes nothing that holds. So nothing changes from then on.
-use Rattle.std.proofs.Common.{◌≡◌, ℕ, ◌+◌, ◌^◌, ◌≤◌, Bool, true, false, not, cond, Option, Some, None, List, [], ◌∷◌, ◌++◌, length, refl, sym, ap, ◌∙◌, subst, arith, inl, inr, ◌↔◌, eqb-true, leb, le-leb, leb-true}
+use Rattle.std.proofs.Common.{◌≡◌, ℕ, ◌+◌, ◌^◌, ◌≤◌, Bool, true, false, not, cond, Option, Some, None, List, [], ◌∷◌, ◌++◌, length, refl}
+use Rattle.std.proofs.Common.{sym, ap, ◌∙◌, subst, arith, inl, inr, ◌↔◌, eqb-true, leb, le-leb, leb-true}
 use Rattle.std.proofs.lemmas.Bool.{false≢true, and_parts, and_from, cases_lt, or_left, or_right, not-true}
 use Rattle.std.proofs.lemmas.List.{length-append}
 use Rattle.std.specs.List.{list_all, list_any}
@@ -12,7 +13,8 @@ use Rattle.fca_model.specs.Context.{closure}
 use Rattle.fca_model.specs.Implications.{Rule, respects, respects_all, refutes, holds}
 use Rattle.fca_model.specs.Pseudo.{intents}
 use Rattle.fca_model.specs.Questions.{has_premise, open_questions}
-use Rattle.fca_model.specs.Exploration.{State, SetEvent, SetHold, Settings, rules_of, open_in, held_by, given_back, holders_of, all_held, least_held, asked, draw_reply, reply_to, next, state_after, expert_of, is_expert, has_width}
+use Rattle.fca_model.specs.Exploration.{State, SetEvent, SetHold, Settings, rules_of, open_in, held_by, given_back, holders_of, all_held}
+use Rattle.fca_model.specs.Exploration.{least_held, asked, draw_reply, reply_to, next, state_after, expert_of, is_expert, has_width}
 use Rattle.fca_model.specs.declared.Event.TheVariants.{Draw}
 use Rattle.fca_model.specs.declared.Reply.TheVariants.{AllHeld, Done}
 use Rattle.fca_model.specs.Invariant.{IsValid}

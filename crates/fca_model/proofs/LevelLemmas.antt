@@ -2,8 +2,10 @@
 -- the next level;
 -- past the width no level has a member. And where all that wait have a size of at least k and some have k, the open questions are those of
 -- size k.
-use Rattle.std.proofs.Common.{◌≡◌, ◌≢◌, ℕ, zero, suc, ◌<◌, ◌≤◌, Bool, true, false, not, ◌&&◌, ◌||◌, cond, List, [], ◌∷◌, ◌++◌, map, length, filter, refl, sym, ap, ap₂, ◌∙◌, arith, inl, inr, eqb, eqb-true, eq-eqb, ne_eqb, leb, le-leb, leb-true, ltb}
-use Rattle.std.proofs.lemmas.Bool.{false≢true, and_parts, and_from, cases_Bool, cases_lt, cases_eq, or_cases, or_left, or_right, not-true, lt-leb, lt-ltb, ltb-true, eqb-false}
+use Rattle.std.proofs.Common.{◌≡◌, ◌≢◌, ℕ, zero, suc, ◌<◌, ◌≤◌, Bool, true, false, not, ◌&&◌, ◌||◌, cond, List, [], ◌∷◌, ◌++◌, map, length}
+use Rattle.std.proofs.Common.{filter, refl, sym, ap, ap₂, ◌∙◌, arith, inl, inr, eqb, eqb-true, eq-eqb, ne_eqb, leb, le-leb, leb-true, ltb}
+use Rattle.std.proofs.lemmas.Bool.{false≢true, and_parts, and_from, cases_Bool, cases_lt, cases_eq, or_cases, or_left, or_right, not-true}
+use Rattle.std.proofs.lemmas.Bool.{lt-leb, lt-ltb, ltb-true, eqb-false}
 use Rattle.std.proofs.lemmas.List.Folds.{list_all-append}
 use Rattle.std.specs.List.{list_all}
 use Rattle.fca_model.specs.Sets.{Set, size, within, same, strictly_within, all_sets}
@@ -12,7 +14,8 @@ use Rattle.fca_model.specs.Implications.{Rule, rule, respects, respects_all}
 use Rattle.fca_model.specs.Pseudo.{basis_known, pseudo_known}
 use Rattle.fca_model.specs.Questions.{has_premise, waiting, least_size, smallest}
 use Rattle.fca_model.specs.Levels.{level_of, levels_below, absorbs_all, HasBelow}
-use Rattle.fca_model.proofs.ListLemmas.{implies_from, implies_at, bool_iff, list_all_from, list_all-mono, list_all-mono₂, list_all-filter, list_all-filter_kept, filter-filter, filter-map, filter_passes, cond_nil}
+use Rattle.fca_model.proofs.ListLemmas.{implies_from, implies_at, bool_iff, list_all_from, list_all-mono, list_all-mono₂, list_all-filter}
+use Rattle.fca_model.proofs.ListLemmas.{list_all-filter_kept, filter-filter, filter-map, filter_passes, cond_nil}
 use Rattle.fca_model.proofs.SetLemmas.{same-true, same_from, strictly_from, size_strict, size_le}
 use Rattle.fca_model.proofs.ClosureLemmas.{respects_from}
 use Rattle.fca_model.proofs.PseudoLemmas.{pseudo_parts, pseudo_from, basis_all, basis_at}

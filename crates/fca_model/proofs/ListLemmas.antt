@@ -1,7 +1,8 @@
 -- Tests of lists, and filters. A test of all elements, or of any, goes by cases on the first element; so does a filter, whose `cond` is
 -- opened by
 -- cases on whether the first element passes.
-use Rattle.std.proofs.Common.{◌≡◌, ℕ, ◌+◌, ◌<◌, Bool, true, false, not, ◌&&◌, ◌||◌, cond, Some, None, List, [], ◌∷◌, ◌++◌, length, get_or, take, map, filter, find, refl, sym, ap, ap₂, ◌∙◌, subst, inl, inr, suc, eqb, arith, Option}
+use Rattle.std.proofs.Common.{◌≡◌, ℕ, ◌+◌, ◌<◌, Bool, true, false, not, ◌&&◌, ◌||◌, cond, Some, None, List, [], ◌∷◌, ◌++◌, length, get_or}
+use Rattle.std.proofs.Common.{take, map, filter, find, refl, sym, ap, ap₂, ◌∙◌, subst, inl, inr, suc, eqb, arith, Option}
 use Rattle.std.proofs.lemmas.Bool.{false≢true, and_parts, and_from, or_cases, or_parts, or_left, or_right, not-false}
 use Rattle.std.proofs.lemmas.List.{take_more, append-nil}
 use Rattle.std.proofs.lemmas.List.Elements.{All-head, All-tail}

@@ -1,13 +1,17 @@
 -- What one event can do to a state: leave it as it is, give a hold back, ask an open question, accept a held one that no row refutes, or
 -- record a row
 -- that refutes a held one. A claim of the next state is shown by cases on these five, and on no reply.
-use Rattle.std.proofs.Common.{◌≡◌, ℕ, ◌+◌, Bool, true, false, not, ◌||◌, cond, Option, Some, None, List, [], ◌∷◌, ◌++◌, length, refl, nat_le, sym, ap, ◌∙◌, subst}
+use Rattle.std.proofs.Common.{◌≡◌, ℕ, ◌+◌, Bool, true, false, not, ◌||◌, cond, Option, Some, None, List, [], ◌∷◌, ◌++◌, length, refl}
+use Rattle.std.proofs.Common.{nat_le, sym, ap, ◌∙◌, subst}
 use Rattle.std.proofs.lemmas.Bool.{and_from}
 use Rattle.std.specs.List.{list_all, list_any}
 use Rattle.fca_model.specs.Sets.{Set, within, same}
 use Rattle.fca_model.specs.Implications.{Rule, respects, respects_all, refutes}
 use Rattle.fca_model.specs.Questions.{has_premise}
-use Rattle.fca_model.specs.Exploration.{State, SetEvent, SetReply, RowName, SetHold, rules_of, open_in, held_by, given_back, holders_of, least_held, first_with, first_missing, all_held, asked, draw_reply, confirm_unheard, confirm_unrefuted, confirm_reply, row_new, row_unbroken, row_refuting, row_fitting, row_reply, reply_to, release, accept, record_row, after_draw, after_confirm, after_row, after, next, expert_of}
+use Rattle.fca_model.specs.Exploration.{State, SetEvent, SetReply, RowName, SetHold, rules_of, open_in, held_by, given_back, holders_of}
+use Rattle.fca_model.specs.Exploration.{least_held, first_with, first_missing, all_held, asked, draw_reply, confirm_unheard}
+use Rattle.fca_model.specs.Exploration.{confirm_unrefuted, confirm_reply, row_new, row_unbroken, row_refuting, row_fitting, row_reply}
+use Rattle.fca_model.specs.Exploration.{reply_to, release, accept, record_row, after_draw, after_confirm, after_row, after, next, expert_of}
 use Rattle.fca_model.specs.declared.Event.TheVariants.{Draw, Confirm, Row, Leave}
 use Rattle.fca_model.specs.declared.Reply.TheVariants.{Ask, AllHeld}
 use Rattle.fca_model.specs.Invariant.{Among}

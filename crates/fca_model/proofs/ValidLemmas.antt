@@ -3,7 +3,9 @@
 -- question may be held, and what a confirmation or a row keeps was shown for lists. With as many holders as experts some question is always
 -- free,
 -- since each expert holds one at most.
-use Rattle.std.proofs.Common.{◌≡◌, ◌≢◌, ℕ, zero, suc, ◌+◌, ◌<◌, ◌≤◌, Bool, true, false, not, ◌&&◌, ◌||◌, cond, Option, Some, None, List, [], ◌∷◌, ◌++◌, length, find, option_map, refl, sym, ap, ◌∙◌, subst, arith, inl, inr, eqb, eqb-true, leb, le-leb, leb-true}
+use Rattle.std.proofs.Common.{◌≡◌, ◌≢◌, ℕ, zero, suc, ◌+◌, ◌<◌, ◌≤◌, Bool, true, false, not, ◌&&◌, ◌||◌, cond, Option, Some, None, List, []}
+use Rattle.std.proofs.Common.{◌∷◌, ◌++◌, length, find, option_map, refl, sym, ap, ◌∙◌, subst, arith, inl, inr, eqb, eqb-true, leb, le-leb}
+use Rattle.std.proofs.Common.{leb-true}
 use Rattle.std.proofs.lemmas.Bool.{false≢true, and_parts, and_from, cases_Bool, or_parts, or_from, not-true, eqb-false}
 use Rattle.std.proofs.lemmas.List.Folds.{list_all-append, list_any-append}
 use Rattle.std.proofs.lemmas.List.Elements.{All-append, All-cons, All-head, All-tail, All-nil, All-filter, All-weaker}
@@ -13,13 +15,16 @@ use Rattle.fca_model.specs.Sets.{Set, within, same}
 use Rattle.fca_model.specs.Context.{Context, with_row}
 use Rattle.fca_model.specs.Implications.{Rule, respects, respects_all, refutes, holds}
 use Rattle.fca_model.specs.Questions.{has_premise}
-use Rattle.fca_model.specs.Exploration.{State, SetEvent, SetHold, RowName, Settings, rules_of, open_in, held_by, given_back, holders_of, all_held, least_held, asked, draw_reply, reply_to, release, accept, record_row, next, opening, state_after, expert_of, is_expert}
+use Rattle.fca_model.specs.Exploration.{State, SetEvent, SetHold, RowName, Settings, rules_of, open_in, held_by, given_back, holders_of}
+use Rattle.fca_model.specs.Exploration.{all_held, least_held, asked, draw_reply, reply_to, release, accept, record_row, next, opening}
+use Rattle.fca_model.specs.Exploration.{state_after, expert_of, is_expert}
 use Rattle.fca_model.specs.declared.Event.TheVariants.{Draw}
 use Rattle.fca_model.specs.declared.Reply.TheVariants.{AllHeld}
 use Rattle.fca_model.specs.Invariant.{Among, IsHeld, IsValid, rows_respect, is_holding, distinct_experts}
 use Rattle.fca_model.proofs.ListLemmas.{filter_all}
 use Rattle.fca_model.proofs.ClosureLemmas.{holds_by_rows}
-use Rattle.fca_model.proofs.InvariantLemmas.{row_keeps_accepted, row_keeps_held, confirm_keeps_accepted, confirm_keeps_held, draw_gives_held}
+use Rattle.fca_model.proofs.InvariantLemmas.{row_keeps_accepted, row_keeps_held, confirm_keeps_accepted, confirm_keeps_held}
+use Rattle.fca_model.proofs.InvariantLemmas.{draw_gives_held}
 use Rattle.fca_model.proofs.StepLemmas.{by_change}
 
 -- ---- holds

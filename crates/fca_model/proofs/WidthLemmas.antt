@@ -1,6 +1,7 @@
 -- All sets of a reply have the width of the context. A question has it as a member of the basis or as one that is held, a row
 -- as one of the context, and an implication as a known or an accepted one; and no event changes the width.
-use Rattle.std.proofs.Common.{◌≡◌, ℕ, ◌+◌, ◌<◌, Bool, true, false, not, ◌&&◌, cond, Option, Some, None, List, [], ◌∷◌, length, All, refl, sym, ap, ◌∙◌, subst, arith, eqb, eqb-true, eq-eqb, nat_le}
+use Rattle.std.proofs.Common.{◌≡◌, ℕ, ◌+◌, ◌<◌, Bool, true, false, not, ◌&&◌, cond, Option, Some, None, List, [], ◌∷◌, length, All, refl}
+use Rattle.std.proofs.Common.{sym, ap, ◌∙◌, subst, arith, eqb, eqb-true, eq-eqb, nat_le}
 use Rattle.std.proofs.lemmas.Bool.{and_parts, and_from}
 use Rattle.std.proofs.lemmas.List.Elements.{All-nil, All-cons, All-head, All-tail}
 use Rattle.std.proofs.lemmas.List.Folds.{list_all-append}
@@ -13,7 +14,10 @@ use Rattle.fca_model.specs.Implications.{Rule, respects, refutes}
 use Rattle.fca_model.specs.Pseudo.{basis_known}
 use Rattle.fca_model.specs.Questions.{has_premise, waiting, least_size, open_questions}
 use Rattle.fca_model.specs.Invariant.{is_member, IsValid}
-use Rattle.fca_model.specs.Exploration.{State, SetEvent, SetEntry, SetHold, rules_of, open_in, held_by, given_back, holders_of, all_held, least_held, first_with, first_missing, asked, draw_reply, confirm_unheard, confirm_unrefuted, confirm_reply, row_new, row_unbroken, row_refuting, row_fitting, row_reply, reply_to, next, journal_of, events_of, expert_of, is_expert, has_width, IsLegal}
+use Rattle.fca_model.specs.Exploration.{State, SetEvent, SetEntry, SetHold, rules_of, open_in, held_by, given_back, holders_of, all_held}
+use Rattle.fca_model.specs.Exploration.{least_held, first_with, first_missing, asked, draw_reply, confirm_unheard, confirm_unrefuted}
+use Rattle.fca_model.specs.Exploration.{confirm_reply, row_new, row_unbroken, row_refuting, row_fitting, row_reply, reply_to, next}
+use Rattle.fca_model.specs.Exploration.{journal_of, events_of, expert_of, is_expert, has_width, IsLegal}
 use Rattle.fca_model.specs.Widths.{IsWide, HasWideReply}
 use Rattle.fca_model.proofs.ListLemmas.{list_all-mono, list_all-filter_kept, find_all}
 use Rattle.fca_model.proofs.ClosureLemmas.{length-closure}

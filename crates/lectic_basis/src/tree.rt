@@ -1,7 +1,8 @@
 //! The walk through the tree. Below a set of the family are, for each later attribute that it lacks, the sets that agree with it before that attribute and
 //! have it. Found members that wait for an attribute outside a set still do so after all below it was visited.
 
-ghost use Rattle.std.specs.Prelude.{◌≡◌, ◌<◌, ◌≤◌, ◌+◌, true, false, List, OnOk, IfOk, IfSome, MatchOption, length, slice_index_or, slice_set};
+ghost use Rattle.std.specs.Prelude.{◌≡◌, ◌<◌, ◌≤◌, ◌+◌, true, false, List, OnOk, IfOk, IfSome, MatchOption, length, slice_index_or};
+ghost use Rattle.std.specs.Prelude.{slice_set};
 ghost use Rattle.fca_model.specs.Sets.{within};
 ghost use Rattle.fca_model.specs.Context.{closure};
 ghost use Rattle.fca_model.specs.Implications.{Rule};

@@ -1,9 +1,11 @@
 -- The questions of the queue are the open ones: none that waits is smaller than the level, since each smaller member is accepted, so those
 -- of the level that were not accepted are the smallest, if there are any. Where there are none, each member up to the level is accepted,
 -- and the next level can be opened.
-use Rattle.std.proofs.Common.{◌≡◌, ◌≢◌, ℕ, suc, ◌+◌, ◌<◌, ◌≤◌, Bool, true, false, not, ◌||◌, cond, List, [], ◌∷◌, ◌++◌, map, length, filter, get_or}
+use Rattle.std.proofs.Common.{◌≡◌, ◌≢◌, ℕ, suc, ◌+◌, ◌<◌, ◌≤◌, Bool, true, false, not, ◌||◌, cond, List, [], ◌∷◌, ◌++◌, map, length, filter}
+use Rattle.std.proofs.Common.{get_or}
 use Rattle.std.proofs.Common.{refl, sym, ap, ◌∙◌, subst, arith, inl, inr, eqb, eqb-true, eq-eqb, leb, le-leb, leb-true, ltb, lt-ltb}
-use Rattle.std.proofs.lemmas.Bool.{false≢true, and_parts, and_from, cases_Bool, cases_lt, or_cases, or_left, or_right, lt-leb, ltb-true, eqb-false}
+use Rattle.std.proofs.lemmas.Bool.{false≢true, and_parts, and_from, cases_Bool, cases_lt, or_cases, or_left, or_right, lt-leb, ltb-true}
+use Rattle.std.proofs.lemmas.Bool.{eqb-false}
 use Rattle.std.proofs.lemmas.List.{get_or_default}
 use Rattle.std.proofs.lemmas.List.Edits.{length-remove}
 use Rattle.std.proofs.lemmas.List.Folds.{list_all-append}
@@ -27,7 +29,8 @@ use Rattle.next_level.specs.NextLevel.{IsNextLevel}
 use Rattle.level_queue.specs.Queue.{HasPart, IsQueue, IsKept, narrowed, is_unclosed, still_open}
 use Rattle.level_queue.proofs.RowLemmas.{questions_all, row_keeps_queue}
 use Rattle.level_queue.proofs.NarrowLemmas.{closure-with_row, narrowed_in}
-use Rattle.level_queue.proofs.AcceptLemmas.{question_member, question_size, question_new, question_wide, conclusion_wide, accept_keeps_queue, among_at, others_remove}
+use Rattle.level_queue.proofs.AcceptLemmas.{question_member, question_size, question_new, question_wide, conclusion_wide}
+use Rattle.level_queue.proofs.AcceptLemmas.{accept_keeps_queue, among_at, others_remove}
 
 -- each member of a list has its premise in the list
 pub each_heard : (acc is : List Rule) → ((P : Set) → has_premise is P ≡ true → has_premise acc P ≡ true)

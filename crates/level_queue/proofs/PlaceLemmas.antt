@@ -1,12 +1,16 @@
 -- Places in the list of open questions: the one that a search finds, what is left where one is taken out, and what stands in front while
 -- the list is met with a row.
-use Rattle.std.proofs.Common.{◌≡◌, ℕ, zero, suc, ◌+◌, ◌<◌, ◌≤◌, ◌-◌, Bool, true, false, not, ◌&&◌, cond, Some, List, [], ◌∷◌, ◌++◌, map, length}
-use Rattle.std.proofs.Common.{get_or, set, take, drop, refl, sym, ap, ap₂, ◌∙◌, subst, arith, inl, inr, ltb, lt-ltb, ltb-true, Ordering, Less, Equal}
+use Rattle.std.proofs.Common.{◌≡◌, ℕ, zero, suc, ◌+◌, ◌<◌, ◌≤◌, ◌-◌, Bool, true, false, not, ◌&&◌, cond, Some, List, [], ◌∷◌, ◌++◌, map}
+use Rattle.std.proofs.Common.{length}
+use Rattle.std.proofs.Common.{get_or, set, take, drop, refl, sym, ap, ap₂, ◌∙◌, subst, arith, inl, inr, ltb, lt-ltb, ltb-true, Ordering}
+use Rattle.std.proofs.Common.{Less, Equal}
 use Rattle.std.proofs.Common.{Greater}
 use Rattle.std.proofs.lemmas.Bool.{false≢true, and_parts, and_from, cases_Bool, cases_lt, cases_eq, not-true, false_from_ne_true}
 use Rattle.std.proofs.Math.ListN.{get_or-map}
-use Rattle.std.proofs.lemmas.List.{length-map, take-take, take-set-le, take-append-le, take-append-drop, get_or-take, get_or-drop, drop_more}
-use Rattle.std.proofs.lemmas.List.{drop_all, drop-drop, drop_at, drop-set, drop-set-lt, length-take-le, length-set, length-drop, append_assoc}
+use Rattle.std.proofs.lemmas.List.{length-map, take-take, take-set-le, take-append-le, take-append-drop, get_or-take, get_or-drop}
+use Rattle.std.proofs.lemmas.List.{drop_more}
+use Rattle.std.proofs.lemmas.List.{drop_all, drop-drop, drop_at, drop-set, drop-set-lt, length-take-le, length-set, length-drop}
+use Rattle.std.proofs.lemmas.List.{append_assoc}
 use Rattle.std.proofs.lemmas.List.{get_or_default}
 use Rattle.std.proofs.lemmas.List.Sums.{AllPass-from_list_all, list_all-from_AllPass}
 use Rattle.std.proofs.lemmas.Option.{slice_get-get_or}

@@ -1,8 +1,10 @@
 -- A row that respects what was accepted keeps the queue. Below the level the pseudo-intents and their closures stay, since each is
 -- accepted; so of the level's pseudo-intents those stay that are not closed now, and no set of its size becomes one.
-use Rattle.std.proofs.Common.{◌≡◌, ℕ, suc, ◌<◌, ◌≤◌, Bool, true, false, not, ◌&&◌, ◌||◌, List, [], ◌∷◌, map, length, filter, refl, sym, ap, ap₂, ◌∙◌}
+use Rattle.std.proofs.Common.{◌≡◌, ℕ, suc, ◌<◌, ◌≤◌, Bool, true, false, not, ◌&&◌, ◌||◌, List, [], ◌∷◌, map, length, filter, refl, sym, ap}
+use Rattle.std.proofs.Common.{ap₂, ◌∙◌}
 use Rattle.std.proofs.Common.{subst, arith, inl, inr, eqb, eqb-true, eq-eqb, ne_eqb, leb, le-leb, leb-true}
-use Rattle.std.proofs.lemmas.Bool.{false≢true, and_parts, and_from, cases_Bool, cases_lt, cases_eq, or_cases, or_left, or_right, not-true, lt-leb}
+use Rattle.std.proofs.lemmas.Bool.{false≢true, and_parts, and_from, cases_Bool, cases_lt, cases_eq, or_cases, or_left, or_right, not-true}
+use Rattle.std.proofs.lemmas.Bool.{lt-leb}
 use Rattle.std.specs.List.{list_all}
 use Rattle.fca_model.specs.Sets.{Set, size, within, same, all_sets}
 use Rattle.fca_model.specs.Context.{Context, closure, is_closed}
@@ -10,7 +12,8 @@ use Rattle.fca_model.specs.Implications.{Rule, rule, respects, respects_all}
 use Rattle.fca_model.specs.Pseudo.{pseudo_known}
 use Rattle.fca_model.specs.Questions.{has_premise}
 use Rattle.fca_model.specs.Levels.{level_of}
-use Rattle.fca_model.proofs.ListLemmas.{implies_from, implies_at, bool_iff, list_all-mono₂, list_all-and, list_all_from, list_all-filter_kept, filter-filter, filter-map, filter_agree_on}
+use Rattle.fca_model.proofs.ListLemmas.{implies_from, implies_at, bool_iff, list_all-mono₂, list_all-and, list_all_from}
+use Rattle.fca_model.proofs.ListLemmas.{list_all-filter_kept, filter-filter, filter-map, filter_agree_on}
 use Rattle.fca_model.proofs.SetLemmas.{size_strict, all_sets_widths}
 use Rattle.fca_model.proofs.PseudoLemmas.{pseudo_parts, pseudo_from, basis_all, basis_at}
 use Rattle.fca_model.proofs.SurvivalLemmas.{with_row, same_pseudo, survives, closure_stays, closed_stays}

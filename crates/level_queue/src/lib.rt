@@ -7,7 +7,8 @@ mod question_list;
 mod questions;
 mod rules;
 
-ghost use Rattle.std.specs.Prelude.{◌≡◌, ◌<◌, ◌++◌, ◌∷◌, ◌↔◌, [], OnOk, OnErr, IfOk, IsNone, IsSome, IfSome, length, true, false, ◌==◌, slice_get, Some};
+ghost use Rattle.std.specs.Prelude.{◌≡◌, ◌<◌, ◌++◌, ◌∷◌, ◌↔◌, [], OnOk, OnErr, IfOk, IsNone, IsSome, IfSome, length, true, false, ◌==◌};
+ghost use Rattle.std.specs.Prelude.{slice_get, Some};
 ghost use Rattle.std.specs.List.{list_all};
 ghost use Rattle.fca_model.specs.Sets.{size};
 ghost use Rattle.fca_model.specs.Context.{with_row};

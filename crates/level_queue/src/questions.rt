@@ -1,6 +1,7 @@
 //! The open questions in lectic order. They change in place: one is taken out, or a row narrows all.
 
-ghost use Rattle.std.specs.Prelude.{◌≡◌, ◌<◌, ◌≤◌, ◌-◌, ◌++◌, length, map, take, drop, true, false, slice_get, slice_index_or, slice_set, nat_lt, not, ◌&&◌, Some, IfSome, IsSome, IfOk};
+ghost use Rattle.std.specs.Prelude.{◌≡◌, ◌<◌, ◌≤◌, ◌-◌, ◌++◌, length, map, take, drop, true, false, slice_get, slice_index_or, slice_set};
+ghost use Rattle.std.specs.Prelude.{nat_lt, not, ◌&&◌, Some, IfSome, IsSome, IfOk};
 ghost use Rattle.std.specs.List.{list_all, list_any, remove};
 ghost use Rattle.fca_model.specs.Sets.{increasing};
 ghost use Rattle.fca_model.specs.Implications.{Rule, premises};

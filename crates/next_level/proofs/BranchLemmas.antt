@@ -14,7 +14,8 @@ use Rattle.fca_model.proofs.ClosureLemmas.{respects_at, respects_from}
 use Rattle.implication_closure.specs.Closing.{RuleList, IsClosure}
 use Rattle.lectic_basis.specs.Trees.{before, up_to}
 use Rattle.lectic_basis.specs.Watches.{Watched, IsFiled, IsGood, IsPutBefore, Differs}
-use Rattle.lectic_basis.proofs.PlaceLemmas.{agree_less, agree_more, agree_same, agree_with, agree_not_before, agree_up_to, up_to_agree, up_to_member}
+use Rattle.lectic_basis.proofs.PlaceLemmas.{agree_less, agree_more, agree_same, agree_with, agree_not_before, agree_up_to, up_to_agree}
+use Rattle.lectic_basis.proofs.PlaceLemmas.{up_to_member}
 use Rattle.lectic_basis.proofs.PlaceLemmas.{before_same, before_comes_first, child_before, child_up_to, within_not_before}
 use Rattle.lectic_basis.proofs.ListingLemmas.{no_more, only}
 use Rattle.lectic_basis.proofs.WaitLemmas.{push_filed, push_covers}

@@ -1,5 +1,6 @@
 -- What concerns the sets that agree with the least one before an attribute is enough for these.
-use Rattle.std.proofs.Common.{◌≡◌, ℕ, Bool, true, false, not, ◌&&◌, ◌||◌, List, Option, None, Some, filter, replicate, refl, sym, ◌∙◌, subst, inl, inr}
+use Rattle.std.proofs.Common.{◌≡◌, ℕ, Bool, true, false, not, ◌&&◌, ◌||◌, List, Option, None, Some, filter, replicate, refl, sym, ◌∙◌}
+use Rattle.std.proofs.Common.{subst, inl, inr}
 use Rattle.std.proofs.lemmas.Bool.{false≢true, and_parts, and_from, cases_lt, le-leb}
 use Rattle.fca_model.specs.Sets.{Set, within, meet, agree_before}
 use Rattle.fca_model.specs.Context.{Context}

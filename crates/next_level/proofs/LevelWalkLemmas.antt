@@ -1,6 +1,7 @@
 -- The steps of the walk for the next level. A set that is as large as the bound has nothing below it that is looked for; one that is not
 -- closed joins the list; below each set the attributes that it lacks are tried, the last first.
-use Rattle.std.proofs.Common.{◌≡◌, ℕ, suc, ◌+◌, ◌<◌, ◌≤◌, Bool, true, false, not, ◌&&◌, List, [], ◌∷◌, ◌++◌, length, filter, get_or, get_or-set_same}
+use Rattle.std.proofs.Common.{◌≡◌, ℕ, suc, ◌+◌, ◌<◌, ◌≤◌, Bool, true, false, not, ◌&&◌, List, [], ◌∷◌, ◌++◌, length, filter, get_or}
+use Rattle.std.proofs.Common.{get_or-set_same}
 use Rattle.std.proofs.Common.{set, replicate, length-set, refl, sym, ap, ◌∙◌, subst, arith, inl, inr, eq-eqb}
 use Rattle.std.specs.List.{list_any}
 use Rattle.fca_model.specs.Exploration.{first_missing}
@@ -12,7 +13,8 @@ use Rattle.std.proofs.lemmas.Simd.{length-replicate}
 use Rattle.fca_model.specs.Sets.{Set, same, size, within, agree_before}
 use Rattle.fca_model.specs.Context.{Context, closure, is_closed}
 use Rattle.fca_model.specs.Implications.{Rule, rule, respects_all}
-use Rattle.fca_model.proofs.SetLemmas.{same-true, same_from, within_at_place, within_set, within_refl, within_trans, within_antisymm, agree_at}
+use Rattle.fca_model.proofs.SetLemmas.{same-true, same_from, within_at_place, within_set, within_refl, within_trans, within_antisymm}
+use Rattle.fca_model.proofs.SetLemmas.{agree_at}
 use Rattle.fca_model.proofs.ClosureLemmas.{length-closure, closure_extensive, closure_monotone, closure_idempotent}
 use Rattle.implication_closure.specs.Closing.{RuleList, IsClosure}
 use Rattle.extent_blocks.specs.Blocks.{Part, IsExtent, IsExtentWith, in_parts, has_at}

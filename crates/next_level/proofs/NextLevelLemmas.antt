@@ -1,9 +1,12 @@
 -- The next level by one walk: an equation at each place of the tree for the sets that respect the list, are not closed and are no larger
 -- than a bound; at the end those of the least size are the members of the next level.
-use Rattle.std.proofs.Common.{◌≡◌, ℕ, suc, cond, ap₂, ◌<◌, ◌≤◌, ◌+◌, Bool, true, false, not, ◌&&◌, ◌||◌, List, [], ◌∷◌, ◌++◌, length, get_or, set}
-use Rattle.std.proofs.Common.{map, filter, refl, sym, ap, ◌∙◌, subst, arith, inl, inr, ◌⊎◌, eqb, eqb-true, eq-eqb, leb, le-leb, leb-true, ltb}
+use Rattle.std.proofs.Common.{◌≡◌, ℕ, suc, cond, ap₂, ◌<◌, ◌≤◌, ◌+◌, Bool, true, false, not, ◌&&◌, ◌||◌, List, [], ◌∷◌, ◌++◌, length}
+use Rattle.std.proofs.Common.{get_or, set}
+use Rattle.std.proofs.Common.{map, filter, refl, sym, ap, ◌∙◌, subst, arith, inl, inr, ◌⊎◌, eqb, eqb-true, eq-eqb, leb, le-leb, leb-true}
+use Rattle.std.proofs.Common.{ltb}
 use Rattle.std.proofs.Common.{get_or-set_same, length-set}
-use Rattle.std.proofs.lemmas.Bool.{false≢true, and_parts, and_from, cases_Bool, cases_lt, or_cases, or_left, or_right, not-true, lt-leb, ltb-true, lt-ltb}
+use Rattle.std.proofs.lemmas.Bool.{false≢true, and_parts, and_from, cases_Bool, cases_lt, or_cases, or_left, or_right, not-true, lt-leb}
+use Rattle.std.proofs.lemmas.Bool.{ltb-true, lt-ltb}
 use Rattle.std.proofs.lemmas.List.{map-append}
 use Rattle.std.proofs.lemmas.List.Folds.{list_all-append, list_all-map}
 use Rattle.std.specs.List.{list_all, list_any}
@@ -13,9 +16,11 @@ use Rattle.fca_model.specs.Context.{Context, closure, is_closed}
 use Rattle.fca_model.specs.Implications.{Rule, rule, respects, respects_all}
 use Rattle.fca_model.specs.Pseudo.{pseudo_known, basis_known}
 use Rattle.fca_model.specs.Levels.{level_of, HasBelow}
-use Rattle.fca_model.proofs.SetLemmas.{within_refl, set_within, within_at_place, same-true, same_from, size_mono, same_by_size, size_le, size_strict}
+use Rattle.fca_model.proofs.SetLemmas.{within_refl, set_within, within_at_place, same-true, same_from, size_mono, same_by_size, size_le}
+use Rattle.fca_model.proofs.SetLemmas.{size_strict}
 use Rattle.fca_model.proofs.SetLemmas.{strictly-parts, within_antisymm, all_sets_widths, all_sets_increasing, agree_at}
-use Rattle.fca_model.proofs.ListLemmas.{bool_iff, list_all-mono, list_all-and, list_any_at, list_any-map, filter-map, filter-filter, filter_passes}
+use Rattle.fca_model.proofs.ListLemmas.{bool_iff, list_all-mono, list_all-and, list_any_at, list_any-map, filter-map, filter-filter}
+use Rattle.fca_model.proofs.ListLemmas.{filter_passes}
 use Rattle.fca_model.proofs.ListLemmas.{filter_none, filter_agree_on, list_all-filter, list_all-filter_kept, implies_from}
 use Rattle.fca_model.proofs.ClosureLemmas.{respects_at, length-closure, closure_extensive}
 use Rattle.fca_model.proofs.PseudoLemmas.{pseudo_parts, pseudo_from, basis_all, basis_at}

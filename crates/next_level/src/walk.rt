@@ -1,7 +1,8 @@
 //! The walk through the sets that respect a list, in lectic order. It enters no set that is larger than the bound. If the open sets are known to be among
 //! some, it enters no branch that has none of these.
 
-ghost use Rattle.std.specs.Prelude.{◌≡◌, ◌≤◌, ◌<◌, ◌+◌, ℕ, List, OnOk, IfOk, IfSome, MatchOption, length, slice_index_or, slice_set, true, false};
+ghost use Rattle.std.specs.Prelude.{◌≡◌, ◌≤◌, ◌<◌, ◌+◌, ℕ, List, OnOk, IfOk, IfSome, MatchOption, length, slice_index_or, slice_set, true};
+ghost use Rattle.std.specs.Prelude.{false};
 ghost use Rattle.fca_model.specs.Sets.{size, within, agree_before};
 ghost use Rattle.fca_model.specs.Context.{closure};
 ghost use Rattle.fca_model.specs.Implications.{Rule};

@@ -3,8 +3,10 @@
 -- turn more for each row that was dropped, is an upper bound of the turns that were taken when a draw is due. While a question is due the
 -- bound has one turn less, and two more where the question is still fresh, for then what is recorded for it is yet to come. The last
 -- draw, which is answered Done, is one turn more.
-use Rattle.std.proofs.Common.{◌≡◌, append-nil, append_assoc, ℕ, suc, ◌+◌, ◌*◌, ◌-◌, ◌^◌, ◌<◌, ◌≤◌, ◌⊎◌, Bool, true, false, not, ◌&&◌, ◌||◌, cond, eqb}
-use Rattle.std.proofs.Common.{eq-eqb, option_map, find, get_or, zero, Option, Some, None, List, [], ◌∷◌, ◌++◌, length, map, filter, slice_get}
+use Rattle.std.proofs.Common.{◌≡◌, append-nil, append_assoc, ℕ, suc, ◌+◌, ◌*◌, ◌-◌, ◌^◌, ◌<◌, ◌≤◌, ◌⊎◌, Bool, true, false, not, ◌&&◌, ◌||◌}
+use Rattle.std.proofs.Common.{cond, eqb}
+use Rattle.std.proofs.Common.{eq-eqb, option_map, find, get_or, zero, Option, Some, None, List, [], ◌∷◌, ◌++◌, length, map, filter}
+use Rattle.std.proofs.Common.{slice_get}
 use Rattle.std.proofs.Common.{slice_set, refl, inl, inr, sym, ap, ◌∙◌, subst, arith, length-append}
 use Rattle.std.proofs.Math.Pow.{pow_mono}
 use Rattle.std.proofs.lemmas.List.{length-map, length-set}
@@ -22,9 +24,12 @@ use Rattle.fca_model.specs.Implications.{Rule, holds, respects, refutes}
 use Rattle.fca_model.specs.Questions.{has_premise, waiting, open_questions, least_size}
 use Rattle.fca_model.specs.Pseudo.{basis_known}
 use Rattle.fca_model.specs.Invariant.{Among, IsValid, rows_respect}
-use Rattle.fca_model.specs.Exploration.{State, Settings, RowName, opening, SetHold, SetEvent, SetReply, SetEntry, rules_of, open_in, held_by}
-use Rattle.fca_model.specs.Exploration.{given_back, first_with, first_missing, draw_reply, confirm_unheard, confirm_unrefuted, confirm_reply, row_new}
-use Rattle.fca_model.specs.Exploration.{row_unbroken, row_refuting, row_fitting, row_reply, release, accept, after, after_draw, after_confirm}
+use Rattle.fca_model.specs.Exploration.{State, Settings, RowName, opening, SetHold, SetEvent, SetReply, SetEntry, rules_of, open_in}
+use Rattle.fca_model.specs.Exploration.{held_by}
+use Rattle.fca_model.specs.Exploration.{given_back, first_with, first_missing, draw_reply, confirm_unheard, confirm_unrefuted}
+use Rattle.fca_model.specs.Exploration.{confirm_reply, row_new}
+use Rattle.fca_model.specs.Exploration.{row_unbroken, row_refuting, row_fitting, row_reply, release, accept, after, after_draw}
+use Rattle.fca_model.specs.Exploration.{after_confirm}
 use Rattle.fca_model.specs.Exploration.{after_row, reply_to, next, state_after, journal_of, events_of, expert_of, is_expert, IsLegal, own}
 use Rattle.fca_model.proofs.ListLemmas.{list_all-filter_kept, filter_passes}
 use Rattle.fca_model.proofs.ClosureLemmas.{holds_by_rows}
@@ -37,8 +42,10 @@ use Rattle.fca_model.proofs.RunLemmas.{legal_events}
 use Rattle.exploration_terms.specs.Recorded.{is_recorded}
 use Rattle.exploration_terms.proofs.RecordedLemmas.{draw_not_recorded}
 use Rattle.oracle_expert.specs.Answers.{event_of}
-use Rattle.oracle_expert.specs.Oracles.{Conflicts, Recall, Answers, Learns, no_conflict, conflicts_told, counterexample, answer_with, drop_given, drop_at}
-use Rattle.oracle_expert.specs.Runs.{Moment, SeatRun, IsOracleFront, conflicts_of, row_due, OracleRunsFrom, StopsAtDone, event_due, moment_after, moment_at, is_done}
+use Rattle.oracle_expert.specs.Oracles.{Conflicts, Recall, Answers, Learns, no_conflict, conflicts_told, counterexample, answer_with}
+use Rattle.oracle_expert.specs.Oracles.{drop_given, drop_at}
+use Rattle.oracle_expert.specs.Runs.{Moment, SeatRun, IsOracleFront, conflicts_of, row_due, OracleRunsFrom, StopsAtDone, event_due}
+use Rattle.oracle_expert.specs.Runs.{moment_after, moment_at, is_done}
 use Rattle.oracle_expert.proofs.AnswerLemmas.{counterexample_is}
 use Rattle.oracle_expert.specs.Counts.{recorded_in, dropped}
 use Rattle.oracle_expert.proofs.TurnLemmas.{is_stale, moment, draws, confirms, gives}

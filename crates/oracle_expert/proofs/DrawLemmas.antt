@@ -1,7 +1,8 @@
 -- Between two draws of an oracle an answer is recorded. The question by which the first draw is answered is open, so it is not stale.
 -- While it is not stale, the oracle's answer to it is recorded, or breaks a rule and leaves the question due; and it becomes stale only
 -- where an answer of another is recorded. So a draw, which is due where no question is, comes after a recorded answer.
-use Rattle.std.proofs.Common.{◌≡◌, ℕ, ◌≤◌, ◌⊎◌, Bool, true, false, not, cond, eqb, eq-eqb, get_or, Option, Some, None, List, [], ◌∷◌, ◌++◌, length}
+use Rattle.std.proofs.Common.{◌≡◌, ℕ, ◌≤◌, ◌⊎◌, Bool, true, false, not, cond, eqb, eq-eqb, get_or, Option, Some, None, List, [], ◌∷◌, ◌++◌}
+use Rattle.std.proofs.Common.{length}
 use Rattle.std.proofs.Common.{filter, refl, inl, inr, sym, ap, ◌∙◌, subst, arith, length-append}
 use Rattle.std.proofs.lemmas.Bool.{cases_Bool, and_parts, false≢true, not-true}
 use Rattle.std.specs.List.{list_all}
@@ -12,7 +13,8 @@ use Rattle.fca_model.specs.Tables.{NamedContext}
 use Rattle.fca_model.specs.Context.{Context}
 use Rattle.fca_model.specs.Implications.{Rule}
 use Rattle.fca_model.specs.Invariant.{IsValid, rows_respect}
-use Rattle.fca_model.specs.Exploration.{State, Settings, RowName, SetEvent, SetReply, SetEntry, held_by, reply_to, next, journal_of, events_of, expert_of, is_expert, opening, IsLegal, own}
+use Rattle.fca_model.specs.Exploration.{State, Settings, RowName, SetEvent, SetReply, SetEntry, held_by, reply_to, next, journal_of}
+use Rattle.fca_model.specs.Exploration.{events_of, expert_of, is_expert, opening, IsLegal, own}
 use Rattle.fca_model.proofs.StepLemmas.{by_change}
 use Rattle.fca_model.proofs.ValidLemmas.{next_valid}
 use Rattle.fca_model.proofs.CourseLemmas.{next_settings}

@@ -1,7 +1,8 @@
 -- A context and the context of all its intents have the same closures: a closure is an intent, and an intent contains the closure of each
 -- set that it contains.
 -- So they have one basis, and what holds in the one holds in the other.
-use Rattle.std.proofs.Common.{◌≡◌, ◌∙◌, ℕ, zero, suc, Bool, true, not, ◌&&◌, ◌||◌, List, [], ◌∷◌, All, map, length, filter, eqb, eq-eqb, eqb-true, refl, sym, ap, ap₂, subst}
+use Rattle.std.proofs.Common.{◌≡◌, ◌∙◌, ℕ, zero, suc, Bool, true, not, ◌&&◌, ◌||◌, List, [], ◌∷◌, All, map, length, filter, eqb, eq-eqb}
+use Rattle.std.proofs.Common.{eqb-true, refl, sym, ap, ap₂, subst}
 use Rattle.std.proofs.lemmas.Bool.{and_parts, and_from}
 use Rattle.std.proofs.lemmas.List.Elements.{All-head, All-tail}
 use Rattle.std.specs.List.{list_all, list_any}
@@ -12,7 +13,8 @@ use Rattle.fca_model.specs.Pseudo.{pseudo_known, pseudo_below, basis_known, inte
 use Rattle.fca_model.proofs.ListLemmas.{list_all-mono, list_all-filter_kept, filter_agree_on, filter_passes}
 use Rattle.fca_model.proofs.SetLemmas.{within_refl, within_trans, within_antisymm, same-true, same_from, all_sets_agree, all_sets_widths}
 use Rattle.fca_model.proofs.SortedLemmas.{at_member, in_filter, in_all_sets}
-use Rattle.fca_model.proofs.ClosureLemmas.{within-closure, length-closure, closure_extensive, closure_monotone, closure_idempotent, closure_in_rows, respects_at, respects_from}
+use Rattle.fca_model.proofs.ClosureLemmas.{within-closure, length-closure, closure_extensive, closure_monotone, closure_idempotent}
+use Rattle.fca_model.proofs.ClosureLemmas.{closure_in_rows, respects_at, respects_from}
 use Rattle.fca_model.proofs.InvariantLemmas.{each}
 use Rattle.oracle_expert.specs.Intents.{HasIntentsOf, are_intents}
 

@@ -3,7 +3,8 @@
 -- that is accepted holds in the context, its rows respect it, and none breaks it. Once no question is open the accepted implications are
 -- the basis of the recorded rows. They hold in the context and the recorded rows are rows of it, so both have one basis. For tables with
 -- the same intents it is the context of all these.
-use Rattle.std.proofs.Common.{◌≡◌, ℕ, zero, suc, ◌+◌, ◌<◌, Bool, true, false, not, ◌&&◌, ◌||◌, cond, eqb, eq-eqb, Option, Some, None, List, [], ◌∷◌}
+use Rattle.std.proofs.Common.{◌≡◌, ℕ, zero, suc, ◌+◌, ◌<◌, Bool, true, false, not, ◌&&◌, ◌||◌, cond, eqb, eq-eqb, Option, Some, None, List}
+use Rattle.std.proofs.Common.{[], ◌∷◌}
 use Rattle.std.proofs.Common.{◌++◌, All, length, map, get_or, refl, sym, ap, ◌∙◌, subst, arith}
 use Rattle.std.proofs.lemmas.Bool.{and_parts, and_from, or_left, or_right, false≢true, not-true, eqb-true}
 use Rattle.std.proofs.lemmas.List.Folds.{list_all-append}

@@ -2,7 +2,8 @@
 -- due. Then it confirms where no row of its table is left to refute it: the question is accepted, or it is stale. Or it gives a row that
 -- refutes it: the row is recorded, or the question is stale, or the row breaks a rule and is dropped. A question is stale where a
 -- recorded row refutes it or its premise was accepted.
-use Rattle.std.proofs.Common.{◌≡◌, ℕ, ◌+◌, Bool, true, false, not, ◌&&◌, ◌||◌, cond, Option, Some, None, List, [], ◌∷◌, ◌++◌, length, refl, sym, ap, ◌∙◌, subst}
+use Rattle.std.proofs.Common.{◌≡◌, ℕ, ◌+◌, Bool, true, false, not, ◌&&◌, ◌||◌, cond, Option, Some, None, List, [], ◌∷◌, ◌++◌, length, refl}
+use Rattle.std.proofs.Common.{sym, ap, ◌∙◌, subst}
 use Rattle.std.proofs.lemmas.Bool.{or_left, or_right, false≢true}
 use Rattle.std.specs.List.{list_all, list_any}
 use Rattle.fca_model.specs.declared.Event.TheVariants.{Draw, Confirm, Row}
@@ -13,9 +14,11 @@ use Rattle.fca_model.specs.Tables.{NamedContext}
 use Rattle.fca_model.specs.Implications.{Rule, respects, respects_all, refutes}
 use Rattle.fca_model.specs.Questions.{has_premise}
 use Rattle.fca_model.specs.Invariant.{Among, IsValid}
-use Rattle.fca_model.specs.Exploration.{State, SetHold, SetReply, RowName, rules_of, open_in, held_by, given_back, least_held, all_held, asked}
+use Rattle.fca_model.specs.Exploration.{State, SetHold, SetReply, RowName, rules_of, open_in, held_by, given_back, least_held, all_held}
+use Rattle.fca_model.specs.Exploration.{asked}
 use Rattle.fca_model.specs.Exploration.{draw_reply, first_with, first_missing, confirm_unheard, confirm_unrefuted, confirm_reply, row_new}
-use Rattle.fca_model.specs.Exploration.{row_unbroken, row_refuting, row_fitting, row_reply, reply_to, release, accept, record_row, after_draw}
+use Rattle.fca_model.specs.Exploration.{row_unbroken, row_refuting, row_fitting, row_reply, reply_to, release, accept, record_row}
+use Rattle.fca_model.specs.Exploration.{after_draw}
 use Rattle.fca_model.specs.Exploration.{after_confirm, after_row, after, next, is_expert}
 use Rattle.fca_model.proofs.ListLemmas.{list_any-not}
 use Rattle.fca_model.proofs.StepLemmas.{first_with_none, draw_asks}

@@ -1,6 +1,7 @@
 //! The exploration by the experts at the ends of a link, and its text.
 
-ghost use Rattle.std.specs.Prelude.{◌≡◌, ◌⊎◌, ◌∷◌, ◌++◌, true, false, map, IfOk, IfErr, OnOk, option_copied, option_to_list, length, vec_len};
+ghost use Rattle.std.specs.Prelude.{◌≡◌, ◌⊎◌, ◌∷◌, ◌++◌, true, false, map, IfOk, IfErr, OnOk, option_copied, option_to_list, length};
+ghost use Rattle.std.specs.Prelude.{vec_len};
 ghost use Rattle.fca_model.specs.Exploration.{is_expert};
 ghost use Rattle.fca_io.specs.Faults.{Rose, RoseAtMost};
 ghost use Rattle.fca_io.specs.Links.{MayListenAt};

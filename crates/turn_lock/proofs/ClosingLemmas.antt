@@ -1,7 +1,8 @@
 -- What is left once all passes are joined.
 -- The view of pass 1 stands for all passes then, so no other view has the turn, and the value is at home. Its history has the
 -- entries that were kept of each pass, and goes on from what each has seen.
-use Rattle.std.proofs.Common.{◌≡◌, ℕ, ◌+◌, ◌-◌, ◌<◌, ◌≤◌, ◌⊎◌, false, zero, suc, List, [], ◌∷◌, ◌++◌, length, get_or, take, drop, map, All, sym, refl, ap, ◌∙◌, subst, inl, inr, ⊎_elim, arith}
+use Rattle.std.proofs.Common.{◌≡◌, ℕ, ◌+◌, ◌-◌, ◌<◌, ◌≤◌, ◌⊎◌, false, zero, suc, List, [], ◌∷◌, ◌++◌, length, get_or, take, drop, map, All}
+use Rattle.std.proofs.Common.{sym, refl, ap, ◌∙◌, subst, inl, inr, ⊎_elim, arith}
 use Rattle.std.proofs.Common.{Option, Some, Result, Ok, Err, IfOk}
 use Rattle.std.proofs.lemmas.List.{length-map}
 use mathlib.Core.Option.{some, some-injective}

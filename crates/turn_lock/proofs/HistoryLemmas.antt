@@ -1,7 +1,8 @@
 -- Histories that go on, and whose entries they have.
 -- A pass's own entries of a history that goes on are those of its start and those of the rest. So entries of one pass change
 -- nothing for the others.
-use Rattle.std.proofs.Common.{◌≡◌, ◌≢◌, ℕ, ◌⊎◌, eqb, ltb, ne_eqb, eq-eqb, cond, if◌then◌else◌, Bool, zero, suc, List, [], ◌∷◌, ◌++◌, length, All, sym, refl, ap, ◌∙◌, subst, inl, inr, ⊎_elim, arith, append_assoc}
+use Rattle.std.proofs.Common.{◌≡◌, ◌≢◌, ℕ, ◌⊎◌, eqb, ltb, ne_eqb, eq-eqb, cond, if◌then◌else◌, Bool, zero, suc, List, [], ◌∷◌, ◌++◌, length}
+use Rattle.std.proofs.Common.{All, sym, refl, ap, ◌∙◌, subst, inl, inr, ⊎_elim, arith, append_assoc}
 use Rattle.std.proofs.lemmas.List.{append-nil}
 use Rattle.std.proofs.lemmas.List.Elements.{filter-append}
 use Rattle.std.proofs.lemmas.Bool.{cases_Bool}

@@ -1,6 +1,7 @@
 //! A listener in memory.
 
-ghost use Rattle.std.specs.Prelude.{◌≡◌, ◌≤◌, ◌↔◌, ◌⊎◌, ℕ, true, false, [], List, Some, is_some, Result, vec_len, IfOk, OnOk, OnErr, IsOk, IsErr, IsTrue};
+ghost use Rattle.std.specs.Prelude.{◌≡◌, ◌≤◌, ◌↔◌, ◌⊎◌, ℕ, true, false, [], List, Some, is_some, Result, vec_len, IfOk, OnOk, OnErr, IsOk};
+ghost use Rattle.std.specs.Prelude.{IsErr, IsTrue};
 ghost use Rattle.std.specs.Option.{option_map};
 ghost use Rattle.fca_io.specs.Faults.{Rose};
 ghost use Rattle.fca_io.specs.Forms.{plan_of, fails_next, after_call, with_fault};

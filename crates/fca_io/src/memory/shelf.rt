@@ -1,6 +1,7 @@
 //! A shelf in memory.
 
-ghost use Rattle.std.specs.Prelude.{◌≡◌, ◌≢◌, ◌≤◌, ◌<◌, ◌↔◌, ◌⊎◌, ◌∷◌, [], ℕ, List, length, vec_len, false, Some, None, Result, IfOk, OnOk, OnErr, IsErrOf, IsTrue};
+ghost use Rattle.std.specs.Prelude.{◌≡◌, ◌≢◌, ◌≤◌, ◌<◌, ◌↔◌, ◌⊎◌, ◌∷◌, [], ℕ, List, length, vec_len, false, Some, None, Result, IfOk, OnOk};
+ghost use Rattle.std.specs.Prelude.{OnErr, IsErrOf, IsTrue};
 ghost use Rattle.std.specs.Option.{option_copied, option_map};
 ghost use Rattle.fca_io.specs.Faults.{Rose, one_more};
 ghost use Rattle.fca_io.specs.Shelves.{MayHold, MayExceed, bytes_under};

@@ -4,7 +4,8 @@ use Rattle.fca_model.specs.Sets.{join}
 use Rattle.fca_model.proofs.SetLemmas.{size_le, length-join}
 use Rattle.implication_closure.specs.Closing.{HaveWidth}
 use Rattle.canonical_basis.specs.Derivations.{derivation, derivation_within, conclusion_at}
-use Rattle.canonical_basis.proofs.DerivationLemmas.{broken_in_range, joined_at, derive_measure, derivation_none, derivation_sound, derive_step, derive_done, derive_stuck}
+use Rattle.canonical_basis.proofs.DerivationLemmas.{broken_in_range, joined_at, derive_measure, derivation_none, derivation_sound}
+use Rattle.canonical_basis.proofs.DerivationLemmas.{derive_step, derive_done, derive_stuck}
 use Rattle.canonical_basis.proofs.derivations.derive.Goals as goal
 
 pub loop-members-smaller : goal.loop-members-smaller

@@ -1,7 +1,8 @@
 use Rattle.std.proofs.Common.{◌≡◌, ◌∙◌, [], Ok, Err, refl, sym, ap, subst, inr}
 use Rattle.fca_model.specs.declared.Event.TheVariants.{Draw, Confirm, Row, Leave}
 use Rattle.fca_model.specs.Exploration.{SetEvent}
-use Rattle.expert_wire.specs.declared.requests.Request.TheVariants.{Draw as DrawAsked, Confirm as ConfirmAsked, Row as RowAsked, Leave as LeaveAsked}
+use Rattle.expert_wire.specs.declared.requests.Request.TheVariants.{Draw as DrawAsked, Confirm as ConfirmAsked, Row as RowAsked}
+use Rattle.expert_wire.specs.declared.requests.Request.TheVariants.{Leave as LeaveAsked}
 use Rattle.expert_wire.specs.Requests.{TakesMemory, request_form}
 use Rattle.expert_gate.proofs.DeskLemmas.{plays-works, Works-nil}
 use Rattle.expert_sessions.specs.Lines.{Asks}

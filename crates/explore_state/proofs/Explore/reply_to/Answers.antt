@@ -5,7 +5,8 @@ use Rattle.fca_model.specs.Exploration.{given_back, held_by, draw_reply, reply_t
 use Rattle.implication_closure.specs.Closing.{RuleList}
 use Rattle.explore_state.specs.History.{Opening, state_of}
 use Rattle.exploration_terms.specs.Settings.{settings_of}
-use Rattle.explore_state.proofs.KeptLemmas.{reply_to-draw, reply_to-confirm, reply_to-confirm_none, reply_to-row, reply_to-row_none, reply_to-leave}
+use Rattle.explore_state.proofs.KeptLemmas.{reply_to-draw, reply_to-confirm, reply_to-confirm_none, reply_to-row, reply_to-row_none}
+use Rattle.explore_state.proofs.KeptLemmas.{reply_to-leave}
 use Rattle.explore_state.proofs.Explore.reply_to.Goals as goal
 
 pub returns-in-Draw : goal.returns-in-Draw

@@ -1,4 +1,5 @@
-use Rattle.std.proofs.Common.{rules, ◌≡◌, ◌∙◌, ◌<◌, ◌/◌, ◌%◌, All, List, [], true, false, length, length-set, get_or, set, sym, ap, subst, arith}
+use Rattle.std.proofs.Common.{rules, ◌≡◌, ◌∙◌, ◌<◌, ◌/◌, ◌%◌, All, List, [], true, false, length, length-set, get_or, set, sym, ap, subst}
+use Rattle.std.proofs.Common.{arith}
 use Rattle.std.proofs.lemmas.List.{get_or_read}
 use Rattle.std.proofs.lemmas.Grind.{div_ceil_times}
 use Rattle.fca_model.specs.Sets.{Set}

@@ -1,4 +1,5 @@
-use Rattle.fca_model.proofs.DoneLemmas.{accepted_members, accepted_length, accepted_sorted, accepted_hold, accepted_complete, accepted_least}
+use Rattle.fca_model.proofs.DoneLemmas.{accepted_members, accepted_length, accepted_sorted, accepted_hold, accepted_complete}
+use Rattle.fca_model.proofs.DoneLemmas.{accepted_least}
 use Rattle.fca_model.proofs.laws.finished_is_basis.Goals as goal
 
 pub returns : goal.returns

@@ -10,7 +10,8 @@ use Rattle.level_queue.specs.Rules.{RuleParts}
 use Rattle.next_level.specs.Among.{AllAmong, IsAhead}
 use Rattle.level_queue.proofs.AheadLemmas.{rule_ahead, ahead_all}
 use Rattle.level_queue.proofs.AcceptLemmas.{accepted_base}
-use Rattle.level_queue.proofs.OpenLemmas.{kept_open, accepted_premise, accepted_conclusion, accepted_kept, accepted_distinct, accepted_below, accepted_bounded, opened_kept}
+use Rattle.level_queue.proofs.OpenLemmas.{kept_open, accepted_premise, accepted_conclusion, accepted_kept, accepted_distinct}
+use Rattle.level_queue.proofs.OpenLemmas.{accepted_below, accepted_bounded, opened_kept}
 use Rattle.level_queue.proofs.LevelQueue.accept_by.Goals as goal
 
 pub get-question-requires : goal.get-question-requires

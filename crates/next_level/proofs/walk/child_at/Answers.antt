@@ -1,5 +1,6 @@
 use Rattle.std.proofs.Common.{sym, ◌∙◌, arith}
-use Rattle.next_level.proofs.LevelWalkLemmas.{left_passed, left_member, left_can_close, left_none, left_above, left_wide, left_entered, left_done, enter_larger, steady_same}
+use Rattle.next_level.proofs.LevelWalkLemmas.{left_passed, left_member, left_can_close, left_none, left_above, left_wide, left_entered}
+use Rattle.next_level.proofs.LevelWalkLemmas.{left_done, enter_larger, steady_same}
 use Rattle.next_level.proofs.walk.child_at.Goals as goal
 
 pub returns-then-passes-clause-done : goal.returns-then-passes-clause-done

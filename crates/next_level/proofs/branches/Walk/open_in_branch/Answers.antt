@@ -1,7 +1,8 @@
 use Rattle.std.proofs.Common.{◌∙◌, refl, sym, subst, arith}
 use Rattle.implication_closure.specs.Closing.{IsClosure}
 use Rattle.next_level.proofs.LevelWalkLemmas.{among_start, none_among, left_can_close, left_above, left_entered}
-use Rattle.next_level.proofs.BranchLemmas.{root_wide, branch_parts, branch_taken, branch_none, branch_trying, branch_differs, branch_larger, branch_entered, branch_among, branch_done}
+use Rattle.next_level.proofs.BranchLemmas.{root_wide, branch_parts, branch_taken, branch_none, branch_trying, branch_differs, branch_larger}
+use Rattle.next_level.proofs.BranchLemmas.{branch_entered, branch_among, branch_done}
 use Rattle.next_level.specs.Branches.{in_branch}
 use Rattle.next_level.proofs.ConcernLemmas.{concerning_listed, concerning_among}
 use Rattle.next_level.proofs.branches.Walk.open_in_branch.Goals as goal
