@@ -13,12 +13,12 @@ use std::marker::Model;
 
 /// A growing collection of sets, each once, those of one size together.
 #[derive(Drop)]
-pub struct Candidates {
+pub struct CandidateSets {
     alloc: Global,
     by_size: Vec<BTreeSet<Attrs>>,
 }
 
-impl Model for Candidates {
+impl Model for CandidateSets {
     ghost use Rattle.std.specs.Prelude.{List, map};
     ghost use Rattle.fca_model.specs.Sets.{Set};
     ghost use Rattle.pseudo_levels.specs.BySize.{together, AreBySize};
@@ -30,9 +30,9 @@ impl Model for Candidates {
     ghost invariant = { λ a. AreBySize (map (λ sets. sets.keys) a.by_size.items) };
 }
 
-impl Candidates {
+impl CandidateSets {
     /// The empty set of width n alone.
-    pub fn new(alloc: Global, n: u32) -> Result<Candidates, Memory>
+    pub fn new(alloc: Global, n: u32) -> Result<CandidateSets, Memory>
         requires { n ≤ MAX_ATTRIBUTES }
         ensures { IfOk result (λ candidates. candidates ≡ replicate n false ∷ []) }
     {
@@ -40,7 +40,7 @@ impl Candidates {
         none.insert(Attrs::empty(n))?;
         let mut by_size = Vec::new(alloc);
         by_size.push(none)?;
-        Ok(Candidates { alloc, by_size })
+        Ok(CandidateSets { alloc, by_size })
     }
 
     /// Puts the set among them.

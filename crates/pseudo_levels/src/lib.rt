@@ -14,7 +14,7 @@ ghost use Rattle.pseudo_levels.specs.LeastBasis.{IsLeastBasis};
 ghost use Rattle.pseudo_levels.specs.Search.{AreWide, Grows, HaveLarger, IsOpened, LeadsAll};
 
 use attr_bits::Attrs;
-pub use candidates::Candidates;
+pub use candidates::CandidateSets;
 use derivation::Rows;
 use fca_model::Memory;
 use implication_closure::{Implication, ImplicationList};
@@ -35,7 +35,7 @@ pub fn basis_by_levels<R: Threads + Sync>(
     ensures least { IfOk result (λ basis. IsLeastBasis rows.now basis.members) }
 {
     let mut found = MemberIndex::new(alloc, rows.width())?;
-    let mut candidates = Candidates::new(alloc, rows.width())?;
+    let mut candidates = CandidateSets::new(alloc, rows.width())?;
     for size in 0..rows.width() + 1 {
         let members = next_members(rt, alloc, rows, &found, &mut candidates, size)?;
         grow_by(alloc, &mut candidates, &members)?;
@@ -50,7 +50,7 @@ fn next_members<R: Threads + Sync>(
     alloc: Global,
     rows: &Rows,
     found: &MemberIndex,
-    candidates: &mut Candidates,
+    candidates: &mut CandidateSets,
     size: u32,
 ) -> Result<Vec<Implication>, Memory>
     requires width { found.now.width ≡ rows.now.width }
@@ -67,7 +67,7 @@ fn next_members<R: Threads + Sync>(
 /// Makes each conclusion with one further attribute a candidate.
 fn grow_by(
     alloc: Global,
-    candidates: &mut Candidates,
+    candidates: &mut CandidateSets,
     members: &[Implication],
 ) -> Result<(), Memory>
     ensures grown { OnOk result (HaveLarger (map (λ i. i.conclusion) members.now) candidates.new) }

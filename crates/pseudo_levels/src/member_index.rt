@@ -154,7 +154,8 @@ fn bucket_of_pair(width: u32, first: u32, second: u32) -> usize
 /// An implication that the set breaks, of a bucket of two of its attributes.
 fn search_pairs(buckets: &[Vec<Implication>], width: u32, set: &Attrs) -> Option<Implication>
     ensures { MatchOption result
-        ((a b : ℕ) → a ≤ b → slice_index_or set.now a false ≡ true → slice_index_or set.now b false ≡ true → absorbs_all (bucket (suc (a * width + b)) (map (λ v. v.items) buckets.now)) set.now ≡ true)
+        ((a b : ℕ) → a ≤ b → slice_index_or set.now a false ≡ true → slice_index_or set.now b false ≡ true
+        → absorbs_all (bucket (suc (a * width + b)) (map (λ v. v.items) buckets.now)) set.now ≡ true)
         (λ i. IsBrokenIn (map (λ v. v.items) buckets.now) set.now i) }
 {
     let _width = set.width();
@@ -177,7 +178,8 @@ fn search_first(
 ) -> Option<Implication>
     requires { first < length set.now }
     ensures { MatchOption result
-        ((b : ℕ) → first ≤ b → slice_index_or set.now b false ≡ true → absorbs_all (bucket (suc (first * width + b)) (map (λ v. v.items) buckets.now)) set.now ≡ true)
+        ((b : ℕ) → first ≤ b → slice_index_or set.now b false ≡ true
+        → absorbs_all (bucket (suc (first * width + b)) (map (λ v. v.items) buckets.now)) set.now ≡ true)
         (λ i. IsBrokenIn (map (λ v. v.items) buckets.now) set.now i) }
 {
     let _width = set.width();

@@ -7,7 +7,7 @@ ghost use Rattle.fca_model.specs.Context.{Context};
 ghost use Rattle.fca_model.specs.Levels.{HasBelow};
 ghost use Rattle.pseudo_levels.specs.Search.{judged, members_of, AreWide, Grows, LeadsAll, IsSettled, IsOpened};
 
-use crate::{Candidates, MemberIndex};
+use crate::{CandidateSets, MemberIndex};
 use attr_bits::Attrs;
 use fca_model::Memory;
 use implication_closure::Implication;
@@ -16,7 +16,7 @@ use std::alloc::Global;
 /// The members of the basis among the candidates of size k, by the answers for these. The other candidates of that size add larger ones.
 pub fn open_level(
     alloc: Global,
-    candidates: &mut Candidates,
+    candidates: &mut CandidateSets,
     found: &MemberIndex,
     sets: &[Attrs],
     answers: &[Option<Implication>],
@@ -44,7 +44,7 @@ fn members(alloc: Global, answers: &[Option<Implication>]) -> Result<Vec<Implica
 
 /// Adds the larger candidates that come of the sets of size k which are no members.
 fn settle_all(
-    candidates: &mut Candidates,
+    candidates: &mut CandidateSets,
     found: &MemberIndex,
     sets: &[Attrs],
     answers: &[Option<Implication>],
@@ -68,7 +68,7 @@ fn settle_all(
 
 /// Adds the larger candidates that come of a set which is no member. If it breaks a member found, that is itself with the conclusion of the member. Otherwise it is
 /// closed, and gets each further attribute.
-fn settle(candidates: &mut Candidates, found: &MemberIndex, set: &Attrs) -> Result<(), Memory>
+fn settle(candidates: &mut CandidateSets, found: &MemberIndex, set: &Attrs) -> Result<(), Memory>
     requires wide { length set.now ≡ found.now.width }
     ensures settled { (K : Context) → K.width ≡ found.now.width → judged [] K found.now.members set.now ≡ None
         → OnOk result (IsSettled [] K (size set.now) found.now.members (set.now ∷ []) candidates.new) }

@@ -1,7 +1,7 @@
 use Rattle.std.proofs.Common.{ℕ, take}
 use Rattle.fca_model.specs.Sets.{Set}
 use Rattle.pseudo_levels.specs.Search.{AddsOnly, AreWide, Has, HaveLarger, IsLarger, Grows}
-use Rattle.pseudo_levels.proofs.candidates.Candidates.grow_all.Given as goal
+use Rattle.pseudo_levels.proofs.candidates.CandidateSets.grow_all.Given as goal
 
 abbrev pub invariant-loop-set : goal.invariant-loop-set
 invariant-loop-set l = record {

@@ -4,7 +4,7 @@ use Rattle.fca_model.specs.Sets.{same}
 use Rattle.fca_model.proofs.SetLemmas.{same_refl}
 use Rattle.pseudo_levels.specs.Search.{Grows}
 use Rattle.pseudo_levels.proofs.CandidateLemmas.{grows_trans, larger_one, wide_at}
-use Rattle.pseudo_levels.proofs.candidates.Candidates.grow_all.Goals as goal
+use Rattle.pseudo_levels.proofs.candidates.CandidateSets.grow_all.Goals as goal
 
 pub loop-set-preserved : goal.loop-set-preserved
 loop-set-preserved c =

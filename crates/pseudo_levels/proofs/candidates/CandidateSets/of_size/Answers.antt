@@ -2,7 +2,7 @@ use Rattle.std.proofs.Common.{◌≡◌, ◌∙◌, ap, filter, ◌==◌, arith}
 use Rattle.std.proofs.lemmas.Result.{IfOk-weaker}
 use Rattle.fca_model.specs.Sets.{Set, size}
 use Rattle.pseudo_levels.proofs.BySizeLemmas.{sets_at, sets_past}
-use Rattle.pseudo_levels.proofs.candidates.Candidates.of_size.Goals as goal
+use Rattle.pseudo_levels.proofs.candidates.CandidateSets.of_size.Goals as goal
 
 pub returns-then-place-len-clause-sets : goal.returns-then-place-len-clause-sets
 returns-then-place-len-clause-sets c =

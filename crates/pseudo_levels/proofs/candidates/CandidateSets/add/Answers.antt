@@ -5,8 +5,8 @@ use Rattle.pseudo_levels.specs.BySize.{together, AreBySize}
 use Rattle.pseudo_levels.proofs.CandidateLemmas.{grows_refl}
 use Rattle.pseudo_levels.proofs.BySizeLemmas.{added_at, kept_at, only_at}
 use Rattle.pseudo_levels.proofs.IndexLemmas.{on_err_from}
-use Rattle.pseudo_levels.proofs.candidates.Candidates.add.Goals as goal
-use Rattle.pseudo_levels.proofs.candidates.Candidates.add.Goals.{After-from_residual-in_err-insert}
+use Rattle.pseudo_levels.proofs.candidates.CandidateSets.add.Goals as goal
+use Rattle.pseudo_levels.proofs.candidates.CandidateSets.add.Goals.{After-from_residual-in_err-insert}
 
 pub invariant_of-self-in_err-insert : goal.invariant_of-self-in_err-insert
 invariant_of-self-in_err-insert c =

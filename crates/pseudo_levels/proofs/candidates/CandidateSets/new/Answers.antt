@@ -2,7 +2,7 @@ use Rattle.std.proofs.Common.{◌++◌, ◌∷◌, [], List, map, ◌∙◌, ap,
 use Rattle.std.specs.BTreeSet.{insert_key}
 use Rattle.fca_model.specs.Sets.{Set, size, lectic_cmp}
 use Rattle.pseudo_levels.proofs.BySizeLemmas.{first_by_size, size_none}
-use Rattle.pseudo_levels.proofs.candidates.Candidates.new.Goals as goal
+use Rattle.pseudo_levels.proofs.candidates.CandidateSets.new.Goals as goal
 
 pub invariant_of-result : goal.invariant_of-result
 invariant_of-result c =

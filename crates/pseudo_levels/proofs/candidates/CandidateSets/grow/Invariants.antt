@@ -1,6 +1,6 @@
 use Rattle.std.proofs.Common.{length}
 use Rattle.pseudo_levels.specs.Search.{AddsOnly, HasLarger, IsLarger, Grows}
-use Rattle.pseudo_levels.proofs.candidates.Candidates.grow.Given as goal
+use Rattle.pseudo_levels.proofs.candidates.CandidateSets.grow.Given as goal
 
 abbrev pub invariant-loop-i : goal.invariant-loop-i
 invariant-loop-i l = record {
