@@ -21,56 +21,71 @@ use std::alloc::Global;
 /// A form of tables.
 #[derive(Clone, Copy)]
 pub enum Form {
+    /// The Burmeister form.
     Cxt,
+    /// Comma-separated values.
     Csv,
 }
 
-/// A command, with the values that its words give.
+/// A command, with the values that its words give. It reads its table from `file`, and from `known`, if one is given, what is known of that
+/// table beforehand.
 #[derive(Drop)]
 pub enum Command {
+    /// The concepts of the table, as JSON if that is asked for.
     Concepts {
         file: Word,
         json: bool,
     },
+    /// The concepts of the table and their covers.
     Lattice {
         file: Word,
     },
+    /// The canonical basis of the table, as JSON if that is asked for.
     Basis {
         file: Word,
         json: bool,
     },
+    /// The direct basis of the table.
     Direct {
         file: Word,
     },
+    /// Whether the attributes that `premise` names imply those that `conclusion` names.
     Follows {
         file: Word,
         premise: Word,
         conclusion: Word,
     },
+    /// The table in another form.
     Convert {
         file: Word,
         to: Form,
     },
+    /// The table of its irreducible objects and attributes.
     Reduce {
         file: Word,
     },
+    /// The arrows between the objects and the attributes of the table.
     Arrows {
         file: Word,
     },
+    /// The table that the plan makes of the values.
     Scale {
         values: Word,
         plan: Word,
     },
+    /// The exploration of the table by the script on the input.
     Replay {
         file: Word,
         known: Option<Word>,
     },
+    /// The exploration of the table by oracles of the tables in the files `experts`. With `names`, each is named by the word of its file.
     Explore {
         file: Word,
         known: Option<Word>,
         names: bool,
         experts: Words,
     },
+    /// The exploration of the table by experts who come to the address `listen`. At most `holders` of them may hold one question.
     Serve {
         file: Word,
         known: Option<Word>,
@@ -78,12 +93,14 @@ pub enum Command {
         holders: u8,
         listen: Word,
     },
+    /// The table that a recipe makes.
     Make {
         seed: u64,
         objects: u32,
         attributes: u32,
         density: u8,
     },
+    /// What is counted of the table that a recipe makes, and of its exploration by so many oracles of it.
     Survey {
         seed: u64,
         objects: u32,
