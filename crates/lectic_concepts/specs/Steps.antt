@@ -13,7 +13,7 @@ pub record IsStep (n : ℕ) {W : ℕ} (step : Step W) : Type 0 where
   pub narrow : step.rows.width ≡ n
   pub wide : length step.intent ≡ n
   pub closed : is_closed step.rows step.intent ≡ true
-  pub seen : AreSeen step.rows step.intent step.seen.items
+  pub witnesses : AreSeen step.rows step.intent step.witnesses.items
   pub order : step.from ≤ step.end
   pub inside : step.end ≤ n
 

@@ -19,8 +19,8 @@ pub(crate) struct Step<const W: usize> {
     pub(crate) rows: RowsOf<W>,
     /// The intent.
     pub(crate) intent: Bits<W>,
-    /// For each attribute a witness: a member of the closure with it.
-    pub(crate) seen: Vec<u32>,
+    /// For each attribute a witness: a member of the closure of the intent with it.
+    pub(crate) witnesses: Vec<u32>,
     /// No child is looked for from an attribute before this one.
     pub(crate) from: u32,
     /// All attributes from this one on were tried.
@@ -54,19 +54,19 @@ pub(crate) fn last_child<const W: usize>(
     from: u32,
     end: u32,
     supports: &[u32],
-    seen: &mut Vec<u32>,
+    witnesses: &mut Vec<u32>,
 ) -> Option<Child<W>>
     requires wide { length a.now ≡ rows.now.width }
     requires closed { is_closed rows.now a.now ≡ true }
     requires order { from ≤ end }
     requires inside { end ≤ rows.now.width }
-    requires seen { AreSeen rows.now a.now seen.old.items }
+    requires witnesses { AreSeen rows.now a.now witnesses.old.items }
     ensures child { MatchOption result (branch rows.now a.now from ≡ branch rows.now a.now end) (IsLastChild rows.now a.now from end) }
-    ensures seen { AreSeen rows.now a.now seen.new.items }
+    ensures witnesses { AreSeen rows.now a.now witnesses.new.items }
 {
     let _width = rows.width();
     for i in (from..end).rev() {
-        if let Some(intent) = child_at(rows, a, i, from, supports, seen) {
+        if let Some(intent) = child_at(rows, a, i, from, supports, witnesses) {
             return Some(Child {
                 intent,
                 attribute: i,
@@ -83,33 +83,33 @@ pub(crate) fn child_at<const W: usize>(
     i: u32,
     from: u32,
     supports: &[u32],
-    seen: &mut Vec<u32>,
+    witnesses: &mut Vec<u32>,
 ) -> Option<Bits<W>>
     requires wide { length a.now ≡ rows.now.width }
     requires closed { is_closed rows.now a.now ≡ true }
     requires inside { i < rows.now.width }
-    requires seen { AreSeen rows.now a.now seen.old.items }
+    requires witnesses { AreSeen rows.now a.now witnesses.old.items }
     ensures wide { IfSome result (λ D. length D ≡ rows.now.width) }
     ensures closed { IfSome result (λ D. is_closed rows.now D ≡ true) }
     ensures larger { IfSome result (λ D. within a.now D ≡ true) }
     ensures splits { MatchOption result
         (branch rows.now a.now i ≡ branch rows.now a.now (i + 1))
         (λ D. branch rows.now a.now i ≡ branch rows.now a.now (i + 1) ++ branch rows.now D (i + 1)) }
-    ensures seen { AreSeen rows.now a.now seen.new.items }
+    ensures witnesses { AreSeen rows.now a.now witnesses.new.items }
 {
-    if !is_open(rows, a, i, seen) {
+    if !is_open(rows, a, i, witnesses) {
         return None;
     }
     let closed = rows.closure(&a.with(i));
     if is_child(rows, a, i, &closed) {
         return Some(closed);
     }
-    note(rows, a, i, &closed, from, supports, seen);
+    note(rows, a, i, &closed, from, supports, witnesses);
     None
 }
 
-/// The step at the child, for the attributes behind the one that it comes from. The rows that contain the child are set apart, and what was seen of the closures
-/// of the intent above goes down to it.
+/// The step at the child, for the attributes behind the one that it comes from. The rows that contain the child are set apart, and the
+/// witnesses of the intent above go down to it.
 pub(crate) fn step_below<const W: usize>(
     alloc: Global,
     step: &Step<W>,
@@ -119,17 +119,24 @@ pub(crate) fn step_below<const W: usize>(
     requires closed { is_closed step.now.rows child.now.intent ≡ true }
     requires larger { within step.now.intent child.now.intent ≡ true }
     requires inside { child.now.attribute < step.now.rows.width }
-    requires seen { AreSeen step.now.rows step.now.intent step.now.seen.items }
+    requires witnesses { AreSeen step.now.rows step.now.intent step.now.witnesses.items }
     ensures { IfOk result (IsBegun step.now.rows child.now.intent (child.now.attribute + 1)) }
 {
     let end = step.rows.width();
     let intent = child.intent;
     let rows = rows_above(alloc, &step.rows, &intent)?;
-    let seen = copy_witnesses(alloc, &step.rows, &step.intent, &step.seen, &rows, &intent)?;
+    let witnesses = copy_witnesses(
+        alloc,
+        &step.rows,
+        &step.intent,
+        &step.witnesses,
+        &rows,
+        &intent,
+    )?;
     Ok(Step {
         rows,
         intent,
-        seen,
+        witnesses,
         from: child.attribute + 1,
         end,
     })

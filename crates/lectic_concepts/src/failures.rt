@@ -21,26 +21,26 @@ pub fn own_witnesses<const W: usize>(
     a: &Bits<W>,
 ) -> Result<Vec<u32>, Memory>
     requires { length a.now ≡ rows.now.width }
-    ensures { IfOk result (λ seen. AreSeen rows.now a.now seen.items) }
+    ensures { IfOk result (λ witnesses. AreSeen rows.now a.now witnesses.items) }
 {
-    let mut seen = Vec::new(alloc);
+    let mut witnesses = Vec::new(alloc);
     for i in 0..rows.width() {
-        seen.push(i)?;
+        witnesses.push(i)?;
     }
-    Ok(seen)
+    Ok(witnesses)
 }
 
-/// Whether the closure of a with attribute i is to be computed: a lacks i, and no witness before i that a lacks was seen.
-pub fn is_open<const W: usize>(rows: &RowsOf<W>, a: &Bits<W>, i: u32, seen: &[u32]) -> bool
+/// Whether the closure of a with attribute i is to be computed: a lacks i, and there is no witness for i that stands before i and that a lacks.
+pub fn is_open<const W: usize>(rows: &RowsOf<W>, a: &Bits<W>, i: u32, witnesses: &[u32]) -> bool
     requires wide { length a.now ≡ rows.now.width }
     requires inside { i < rows.now.width }
-    requires seen { AreSeen rows.now a.now seen.now }
+    requires witnesses { AreSeen rows.now a.now witnesses.now }
     ensures { MatchBool result (slice_index_or a.now i false ≡ false) (branch rows.now a.now i ≡ branch rows.now a.now (i + 1)) }
 {
     if a.has(i) {
         return false;
     }
-    let member = seen.get(i as usize).copied().unwrap_or(i);
+    let member = witnesses.get(i as usize).copied().unwrap_or(i);
     member >= i || a.has(member)
 }
 
@@ -66,22 +66,22 @@ pub fn note<const W: usize>(
     closed: &Bits<W>,
     from: u32,
     supports: &[u32],
-    seen: &mut Vec<u32>,
+    witnesses: &mut Vec<u32>,
 )
     requires closed { closed.now ≡ closure rows.now (slice_set a.now i true) }
-    requires seen { AreSeen rows.now a.now seen.old.items }
-    ensures { AreSeen rows.now a.now seen.new.items }
+    requires witnesses { AreSeen rows.now a.now witnesses.old.items }
+    ensures { AreSeen rows.now a.now witnesses.new.items }
 {
     if let Some(member) = lasting_member(closed, a, i, from, supports) {
-        put(seen, i, member);
+        put(witnesses, i, member);
     }
 }
 
 /// Puts a witness for attribute i in the place of the one before.
-fn put(seen: &mut Vec<u32>, i: u32, member: u32)
-    ensures { seen.new.items ≡ slice_set seen.old.items i member }
+fn put(witnesses: &mut Vec<u32>, i: u32, member: u32)
+    ensures { witnesses.new.items ≡ slice_set witnesses.old.items i member }
 {
-    if let Some(kept) = seen.get_mut(i as usize) {
+    if let Some(kept) = witnesses.get_mut(i as usize) {
         *kept = member;
     }
 }
@@ -97,15 +97,15 @@ pub(crate) fn no_witnesses<const W: usize>(alloc: Global, rows: &RowsOf<W>, a: &
 pub fn pass_witnesses<'a, const W: usize>(
     rows: &RowsOf<W>,
     a: &Bits<W>,
-    seen: &'a [u32],
+    witnesses: &'a [u32],
     larger: &Bits<W>,
 ) -> &'a [u32]
-    requires seen { AreSeen rows.now a.now seen.now }
+    requires witnesses { AreSeen rows.now a.now witnesses.now }
     requires larger { within a.now larger.now ≡ true }
     requires wide { length larger.now ≡ rows.now.width }
     ensures { AreSeen rows.now larger.now result.now }
 {
-    seen
+    witnesses
 }
 
 /// Copies the witnesses for a, which are witnesses for a larger set too, among the rows that contain it.
@@ -113,15 +113,15 @@ pub(crate) fn copy_witnesses<const W: usize>(
     alloc: Global,
     rows: &RowsOf<W>,
     a: &Bits<W>,
-    seen: &[u32],
+    witnesses: &[u32],
     above: &RowsOf<W>,
     larger: &Bits<W>,
 ) -> Result<Vec<u32>, Memory>
-    requires seen { AreSeen rows.now a.now seen.now }
+    requires witnesses { AreSeen rows.now a.now witnesses.now }
     requires larger { within a.now larger.now ≡ true }
     requires wide { length larger.now ≡ rows.now.width }
     requires above { above.now ≡ record { width = rows.now.width; rows = filter (within larger.now) rows.now.rows } }
-    ensures { IfOk result (λ seen. AreSeen above.now larger.now seen.items) }
+    ensures { IfOk result (λ copy. AreSeen above.now larger.now copy.items) }
 {
-    Ok(Vec::from_slice(alloc, seen)?)
+    Ok(Vec::from_slice(alloc, witnesses)?)
 }

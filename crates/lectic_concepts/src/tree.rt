@@ -67,11 +67,11 @@ pub fn intents_of<const W: usize>(alloc: Global, rows: &RowsOf<W>) -> Result<Vec
 {
     let width = rows.width();
     let least = rows.closure(&Bits::empty(width));
-    let seen = own_witnesses(alloc, rows, &least)?;
+    let witnesses = own_witnesses(alloc, rows, &least)?;
     let first = Step {
         rows: rows.copy()?,
         intent: least,
-        seen,
+        witnesses,
         from: 0,
         end: width,
     };
@@ -126,7 +126,7 @@ fn next_step<const W: usize>(
         step.from,
         step.end,
         supports,
-        &mut step.seen,
+        &mut step.witnesses,
     ) else {
         return Ok(Descent::End);
     };
@@ -157,9 +157,9 @@ fn add_few<const W: usize>(
     ensures { OnOk result (all.new.items ≡ all.old.items ++ branch rows.now a.now from) }
 {
     all.push(*a)?;
-    let mut seen = no_witnesses(alloc, rows, a);
+    let mut witnesses = no_witnesses(alloc, rows, a);
     for i in (from..rows.width()).rev() {
-        if let Some(child) = child_at(rows, a, i, from, supports, &mut seen) {
+        if let Some(child) = child_at(rows, a, i, from, supports, &mut witnesses) {
             add_few(alloc, all, rows, &child, i + 1, supports)?;
         }
     }

@@ -6,6 +6,6 @@ abbrev pub invariant-loop-i : goal.invariant-loop-i
 invariant-loop-i g l = record {
   from_on : l.from ≤ l.i;
   inside : l.i ≤ l.end;
-  seen : AreSeen l.rows l.a l.seen.items;
+  witnesses : AreSeen l.rows l.a l.witnesses.items;
   none : branch l.rows l.a l.i ≡ branch l.rows l.a l.end;
 }

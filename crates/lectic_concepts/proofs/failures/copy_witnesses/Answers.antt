@@ -7,5 +7,6 @@ use Rattle.lectic_concepts.proofs.failures.copy_witnesses.Goals as goal
 pub returns : goal.returns
 returns g c =
     subst (AreSeen c.args.above.now c.args.larger.now) (sym c.in_ok-from_slice.ensures.items)
-    (subst (λ (X : Context). AreSeen X c.args.larger.now c.args.seen.now) (sym c.requires.above)
-    (seen_among c.args.rows.now c.args.a.now c.args.larger.now c.args.seen.now c.requires.wide c.requires.larger c.requires.seen))
+    (subst (λ (X : Context). AreSeen X c.args.larger.now c.args.witnesses.now) (sym c.requires.above)
+    (seen_among c.args.rows.now c.args.a.now c.args.larger.now c.args.witnesses.now c.requires.wide c.requires.larger
+    c.requires.witnesses))

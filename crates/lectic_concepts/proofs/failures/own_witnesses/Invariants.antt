@@ -3,6 +3,6 @@ use Rattle.lectic_concepts.proofs.failures.own_witnesses.Given as goal
 
 abbrev pub invariant-loop-i : goal.invariant-loop-i
 invariant-loop-i g l = record {
-  long : length l.seen.items ≡ l.i;
-  own : (k : ℕ) → k < l.i → get_or l.seen.items k 0 ≡ k;
+  long : length l.witnesses.items ≡ l.i;
+  own : (k : ℕ) → k < l.i → get_or l.witnesses.items k 0 ≡ k;
 }

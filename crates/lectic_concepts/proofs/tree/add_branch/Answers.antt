@@ -28,7 +28,8 @@ next_step-requires g c =
     let n : ℕ = first.rows.width in
     let All : List Set = c.args.all.now.items ++ branch_of first first.from in
     let steps : List (Step g.row.W) = c.pop.new.self.items in
-    let walk = subst (λ (xs : List (Step g.row.W)). IsWalk n All xs c.loop-step.all.items) c.in-Some.ensures.items c.loop-step.invariant in (
+    let walk = subst (λ (xs : List (Step g.row.W)). IsWalk n All xs c.loop-step.all.items) c.in-Some.ensures.items
+    c.loop-step.invariant in (
       omega (arith, c.width.ensures.words),
       (
         omega (arith, c.width.ensures.words),

@@ -18,7 +18,7 @@ returns g c =
           narrow = refl;
           wide = c.requires.wide;
           closed = c.requires.closed;
-          seen = c.in-Some.ensures.seen;
+          witnesses = c.in-Some.ensures.witnesses;
           order = child.at_least;
           inside = omega (arith, child.in_range, c.requires.inside);
         };
