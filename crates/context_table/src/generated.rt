@@ -25,18 +25,18 @@ const BLOCK: u32 = 64;
 
 /// A linear congruential generator of cells.
 #[derive(Drop)]
-pub struct Cells {
+pub struct CellGenerator {
     state: u64,
     density: u8,
 }
 
-impl Cells {
-    /// The cells from this seed, of which about `density` in eight are crosses.
-    pub fn new(seed: u64, density: u8) -> Cells
+impl CellGenerator {
+    /// A generator that begins at this seed. About `density` in eight of its cells are crosses.
+    pub fn new(seed: u64, density: u8) -> CellGenerator
         ensures state { result.state ≡ seed }
         ensures density { result.density ≡ density }
     {
-        Cells {
+        CellGenerator {
             state: seed,
             density,
         }

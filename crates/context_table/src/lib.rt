@@ -14,7 +14,7 @@ mod rows;
 
 use derivation::Rows;
 use fca_model::{MAX_ATTRIBUTES, MAX_OBJECTS, Memory, NO_MEMORY, Name};
-use generated::{Cells, numbered_names};
+use generated::{CellGenerator, numbered_names};
 use indexmap::IndexSet;
 pub use narrow::NarrowTable;
 pub use recipe::{MAX_DENSITY, Recipe};
@@ -116,7 +116,7 @@ impl Table {
         requires attributes { attributes ≤ MAX_ATTRIBUTES }
         ensures { IfOk result (λ table. table ≡ made_table seed objects attributes density) }
     {
-        let rows = Cells::new(seed, density).into_rows(alloc, objects, attributes)?;
+        let rows = CellGenerator::new(seed, density).into_rows(alloc, objects, attributes)?;
         let objects = numbered_names(alloc, 'g', objects)?;
         let attributes = numbered_names(alloc, 'm', attributes)?;
         match Table::new(alloc, None, objects, attributes, rows) {

@@ -21,7 +21,7 @@ pub struct NarrowTable {
 }
 
 impl Model for NarrowTable {
-    ghost use Rattle.std.specs.Prelude.{◌≡◌, ◌≤◌, None, length, vec_len};
+    ghost use Rattle.std.specs.Prelude.{◌≡◌, ◌≤◌, [], None, length, vec_len};
     ghost use Rattle.fca_model.specs.Tables.{NamedContext};
     ghost use Rattle.fca_model.specs.declared.TheConstants.{MAX_OBJECTS};
     ghost use Rattle.context_table.specs.Narrow.{context_in};
@@ -34,6 +34,9 @@ impl Model for NarrowTable {
       each_object : vec_len t.objects ≡ length (context_in t.rows).rows;
       few_objects : vec_len t.objects ≤ MAX_OBJECTS;
       width : t.attributes.context.width ≡ (context_in t.rows).width;
+      untitled : t.attributes.title ≡ None;
+      no_objects : t.attributes.objects ≡ [];
+      no_rows : t.attributes.context.rows ≡ [];
     } };
 }
 
@@ -86,6 +89,9 @@ impl NarrowTable {
         ensures each_object { vec_len result.0 ≡ length self.context.rows }
         ensures few_objects { vec_len result.0 ≤ MAX_OBJECTS }
         ensures width { result.1.context.width ≡ self.context.width }
+        ensures untitled { result.1.title ≡ None }
+        ensures no_objects { result.1.objects ≡ [] }
+        ensures no_rows { result.1.context.rows ≡ [] }
     {
         (self.objects, self.attributes, self.rows)
     }

@@ -1,7 +1,7 @@
 //! Narrow rows: rows in as few words as have room for them.
 
 ghost use Rattle.std.specs.Prelude.{◌≡◌, IfOk};
-ghost use Rattle.context_table.specs.Narrow.{context_in};
+ghost use Rattle.context_table.specs.Narrow.{context_in, HasFewestWords};
 
 use attr_bits::{WORDS, WordCount};
 use derivation::{Rows, RowsOf};
@@ -19,7 +19,8 @@ pub enum NarrowRows {
 
 /// Copies the rows into as few words as have room for them.
 pub fn narrow_rows(alloc: Global, rows: &Rows) -> Result<NarrowRows, Memory>
-    ensures { IfOk result (λ narrow. context_in narrow ≡ rows.now) }
+    ensures context { IfOk result (λ narrow. context_in narrow ≡ rows.now) }
+    ensures fewest { IfOk result (λ narrow. HasFewestWords narrow) }
 {
     Ok(match WordCount::of(rows.width()) {
         WordCount::One => NarrowRows::One(rows.resize(alloc)?),

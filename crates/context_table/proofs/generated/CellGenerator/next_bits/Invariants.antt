@@ -1,7 +1,7 @@
 use Rattle.std.proofs.Common.{◌≡◌, ◌+◌}
 use Rattle.attr_bits.specs.Words.{number_of}
 use Rattle.context_table.specs.Generated.{is_cross, state_after}
-use Rattle.context_table.proofs.generated.Cells.next_bits.Given as goal
+use Rattle.context_table.proofs.generated.CellGenerator.next_bits.Given as goal
 
 abbrev pub invariant-loop-j : goal.invariant-loop-j
 invariant-loop-j l = record {

@@ -4,7 +4,7 @@ use Rattle.fca_model.specs.Context.{Context}
 use Rattle.fca_model.specs.Sets.{Set}
 use Rattle.context_table.specs.Generated.{state_after, row_from}
 use Rattle.context_table.proofs.CellLemmas.{state_after-row}
-use Rattle.context_table.proofs.generated.Cells.into_rows.Goals as goal
+use Rattle.context_table.proofs.generated.CellGenerator.into_rows.Goals as goal
 
 pub loop-init : goal.loop-init
 unfolding state_after

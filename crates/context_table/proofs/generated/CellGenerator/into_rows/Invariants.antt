@@ -1,6 +1,6 @@
 use Rattle.std.proofs.Common.{◌≡◌, ◌*◌}
 use Rattle.context_table.specs.Generated.{rows_from, state_after}
-use Rattle.context_table.proofs.generated.Cells.into_rows.Given as goal
+use Rattle.context_table.proofs.generated.CellGenerator.into_rows.Given as goal
 
 abbrev pub invariant-loop : goal.invariant-loop
 invariant-loop l = record {

@@ -1,7 +1,7 @@
 use Rattle.std.proofs.Common.{◌≡◌, ◌+◌, ◌*◌, min}
 use Rattle.context_table.specs.Generated.{is_cross, state_after}
 use Rattle.context_table.proofs.CellLemmas.{HasCells}
-use Rattle.context_table.proofs.generated.Cells.next_row.Given as goal
+use Rattle.context_table.proofs.generated.CellGenerator.next_row.Given as goal
 
 abbrev pub invariant-loop-block : goal.invariant-loop-block
 invariant-loop-block l = record {

@@ -3,8 +3,8 @@ use Rattle.attr_bits.specs.Words.{number_of}
 use Rattle.attr_bits.specs.WordLaws.{number_of_small}
 use Rattle.context_table.specs.Generated.{next_state, state_after, is_cross}
 use Rattle.context_table.proofs.CellLemmas.{number_of-more, state_after-more}
-use Rattle.context_table.proofs.generated.Cells.next_bits.Goals as goal
-use Rattle.context_table.proofs.generated.Cells.next_bits.Goals.{then-next_cell, else-next_cell}
+use Rattle.context_table.proofs.generated.CellGenerator.next_bits.Goals as goal
+use Rattle.context_table.proofs.generated.CellGenerator.next_bits.Goals.{then-next_cell, else-next_cell}
 
 pub loop-j-init : goal.loop-j-init
 unfolding state_after number_of

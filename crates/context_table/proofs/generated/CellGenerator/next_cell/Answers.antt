@@ -1,7 +1,7 @@
 use Rattle.std.proofs.Common.{◌*◌, ◌^◌, refl}
 use Rattle.std.proofs.Math.Nat.{mod-add-mod}
 use Rattle.context_table.specs.Generated.{next_state}
-use Rattle.context_table.proofs.generated.Cells.next_cell.Goals as goal
+use Rattle.context_table.proofs.generated.CellGenerator.next_cell.Goals as goal
 
 pub returns-clause-state : goal.returns-clause-state
 unfolding next_state

@@ -1,7 +1,7 @@
 use Rattle.std.proofs.Common.{◌≡◌, ◌<◌, ◌+◌, ◌-◌, ◌*◌, ℕ, Bool, refl, sym, ap, ap₂, ◌∙◌, arith, min, subst}
 use Rattle.context_table.specs.Generated.{state_after, is_cross}
 use Rattle.context_table.proofs.CellLemmas.{HasCells, HasCells-none, HasCells-block, map-cells, state_after-add}
-use Rattle.context_table.proofs.generated.Cells.next_row.Goals as goal
+use Rattle.context_table.proofs.generated.CellGenerator.next_row.Goals as goal
 
 pub loop-block-init : goal.loop-block-init
 unfolding state_after
