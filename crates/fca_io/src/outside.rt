@@ -11,11 +11,13 @@ use fca_model::NO_MEMORY;
 use std::alloc::{AllocError, Global};
 use thiserror::Error;
 
-// The words for faults of the outside.
+/// The words for a read that failed.
 pub const READ_FAULT: &str = "read fault";
 
+/// The words for bytes that are more than the limit.
 pub const TOO_LONG: &str = "too long";
 
+/// The words for a write that failed.
 pub const WRITE_FAULT: &str = "write fault";
 
 /// A call of the outside failed.
@@ -71,6 +73,7 @@ pub trait Source {
     // the bytes left, if the source tells them
     ghost left: { Self → Option (List ℕ) };
 
+    // how many of its reads failed
     ghost faults: { Self → ℕ };
 
     // how many reads were made, if they are counted
@@ -103,6 +106,7 @@ pub trait Sink {
     // the bytes held, if the sink tells them
     ghost held: { Self → Option (List ℕ) };
 
+    // how many of its writes failed
     ghost faults: { Self → ℕ };
 
     // bytes beside the sink, such as those still to come the other way, if it tells them

@@ -22,6 +22,7 @@ pub struct MemoryLink {
     listens: bool,
     to_come: Vec<MemoryEnd>,
     given: Vec<MemoryEnd>,
+    /// The most ends that are to come or were given back.
     room: usize,
     calls: FailingCalls,
 }

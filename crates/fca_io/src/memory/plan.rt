@@ -1,16 +1,20 @@
 //! The list of the calls that fail, and how many calls were made.
 
 ghost use Rattle.std.specs.Prelude.{◌≡◌, ◌≤◌, IfOk};
+ghost use Rattle.fca_io.specs.Faults.{one_more};
 ghost use Rattle.fca_io.specs.Forms.{plan_of, fails_next, after_call, with_fault};
 
 use std::alloc::{AllocError, Global};
 use std::marker::Model;
 
-/// The numbers of the calls that fail, counted from 1, and the counts of calls and of faults.
+/// The list of the calls that fail, and the counts of calls and of faults.
 #[derive(Drop)]
 pub struct FailingCalls {
+    /// The numbers of the calls that fail, counted from 1.
     fails: Vec<usize>,
+    /// How many calls were made.
     made: usize,
+    /// How many of them failed, for whatever cause.
     faults: usize,
 }
 
@@ -43,7 +47,7 @@ impl FailingCalls {
         ensures after { self.new ≡ after_call self.old }
         ensures later { self.old.faults ≤ self.new.faults }
     {
-        self.made = self.made.saturating_add(1);
+        self.made = one_more(self.made);
         let fails = self.fails.contains(&self.made);
         if fails {
             self.count_fault();
@@ -56,6 +60,13 @@ impl FailingCalls {
         ensures after { self.new ≡ with_fault self.old }
         ensures later { self.old.faults ≤ self.new.faults }
     {
-        self.faults = self.faults.saturating_add(1);
+        self.faults = one_more(self.faults);
     }
+}
+
+/// The next value of a count, which stops at its last one.
+pub(super) fn one_more(count: usize) -> usize
+    ensures { result ≡ one_more count }
+{
+    count.saturating_add(1)
 }

@@ -91,8 +91,10 @@ impl Shelf for MemoryShelf {
     ghost fetches = { λ s. Some s.plan.made };
 
     fn fetch(&mut self, alloc: Global, name: &[u8], limit: usize) -> Result<Vec<u8>, Taken>
-        // Which call fails.
+        // Which call fails, and which file is too long.
         ensures fails { IsErrOf result Taken.Failed ↔ (IsTrue (fails_next self.old.plan) ⊎ (bytes_under self.old.files name.now ≡ None)) }
+        ensures exceeds { fails_next self.old.plan ≡ false → (file : List ℕ) → bytes_under self.old.files name.now ≡ Some file → limit < length file
+            → IsErrOf result Taken.Long }
         ensures failing { IsTrue (fails_next self.old.plan) → self.new.plan ≡ after_call self.old.plan }
         ensures missing { fails_next self.old.plan ≡ false → bytes_under self.old.files name.now ≡ None → self.new.plan ≡ with_fault (after_call self.old.plan) }
         ensures found { (file : List ℕ) → bytes_under self.old.files name.now ≡ Some file → self.new.plan ≡ after_call self.old.plan }

@@ -5,7 +5,7 @@ ghost use Rattle.std.specs.Io.KnownBytes.{WriteAppends, Keeps};
 ghost use Rattle.fca_io.specs.Faults.{Rose, counts_whole};
 ghost use Rattle.fca_io.specs.Forms.{plan_of, fails_next, after_call, with_fault, Roomy};
 
-use super::plan::FailingCalls;
+use super::plan::{FailingCalls, one_more};
 use crate::outside::{Failed, Sink};
 use fca_model::Memory;
 use std::alloc::Global;
@@ -15,8 +15,11 @@ use std::marker::Model;
 #[derive(Drop)]
 pub struct MemorySink {
     bytes: Vec<u8>,
+    /// The most bytes that it holds.
     room: usize,
+    /// The most bytes that one call takes.
     most: usize,
+    /// How many calls took all their bytes.
     whole_writes: usize,
     calls: FailingCalls,
 }
@@ -103,7 +106,7 @@ impl Sink for MemorySink {
             return Err(Failed);
         }
         if count == from.len() {
-            self.whole_writes = self.whole_writes.saturating_add(1);
+            self.whole_writes = one_more(self.whole_writes);
         }
         Ok(count)
     }

@@ -1,6 +1,6 @@
 //! Sources in memory.
 
-ghost use Rattle.std.specs.Prelude.{◌≡◌, ◌≤◌, ◌<◌, ◌↔◌, length, take, drop, min, Result, IfOk, IsErr, IsTrue, OnOk, OnErr};
+ghost use Rattle.std.specs.Prelude.{◌≡◌, ◌≤◌, ◌<◌, ◌↔◌, length, take, drop, min, Result, IfOk, IsOk, IsErr, IsTrue, OnOk, OnErr};
 ghost use Rattle.std.specs.Io.{ReadsAtMost};
 ghost use Rattle.std.specs.Io.KnownBytes.{ReadConsumes, Keeps};
 ghost use Rattle.fca_io.specs.Faults.{Rose};
@@ -16,6 +16,7 @@ use std::marker::Model;
 #[derive(Drop)]
 struct Unread {
     bytes: Vec<u8>,
+    /// How many bytes were read.
     at: usize,
 }
 
@@ -43,6 +44,7 @@ impl Unread {
     fn move_into(&mut self, into: &mut [u8], most: usize) -> usize
         ensures count { result ≡ min (min (length into.old) most) (length self.old) }
         ensures moved { take result into.new ≡ take result self.old }
+        ensures beyond { drop result into.new ≡ drop result into.old }
         ensures left { self.new ≡ drop result self.old }
     {
         let rest = &self.bytes[self.at..];
@@ -57,6 +59,7 @@ impl Unread {
 #[derive(Drop)]
 pub struct MemorySource {
     unread: Unread,
+    /// The most bytes that one call moves.
     most: usize,
     calls: FailingCalls,
 }
@@ -113,6 +116,8 @@ impl Source for MemorySource {
         ensures count { IfOk result (λ count. count ≡ min (min (length into.old) self.old.most) (length self.old.bytes)) }
         ensures plan { self.new.plan ≡ after_call self.old.plan }
         ensures most { self.new.most ≡ self.old.most }
+        ensures beyond { IfOk result (λ count. drop count into.new ≡ drop count into.old) }
+        ensures untouched { OnErr result (into.new ≡ into.old) }
 
         ensures bound { ReadsAtMost result into.new }
         ensures bytes { ReadConsumes (Some self.old.bytes) (Some self.new.bytes) result into.new }
@@ -165,7 +170,17 @@ impl Source for SureSource {
 
     ghost faults_beside = { λ _. 0 };
 
-    fn read(&mut self, into: &mut [u8]) -> Result<usize, Failed> {
+    fn read(&mut self, into: &mut [u8]) -> Result<usize, Failed>
+        requires { 0 < length into.old }
+
+        // No call fails, and each moves all that is left and fits.
+        ensures ok { IsOk result }
+        ensures count { IfOk result (λ count. count ≡ min (length into.old) (length self.old)) }
+        ensures beyond { IfOk result (λ count. drop count into.new ≡ drop count into.old) }
+
+        ensures bound { ReadsAtMost result into.new }
+        ensures bytes { ReadConsumes (Some self.old) (Some self.new) result into.new }
+    {
         Ok(self.unread.move_into(into, usize::MAX))
     }
 }
