@@ -1,5 +1,5 @@
--- If no object of A has attribute i, the closure of A with i is the full set. So no child comes from i, unless i is the first attribute that
--- A lacks.
+-- If no object of A has attribute i, the closure of A with i is the full set. So no child comes from i, unless i is the first attribute
+-- that A lacks.
 use Rattle.std.proofs.Common.{◌≡◌, ◌≢◌, ℕ, zero, suc, ◌+◌, ◌-◌, ◌<◌, ◌≤◌, Bool, true, false, not, ◌&&◌, take, Some, List, [], ◌∷◌, All}
 use Rattle.std.proofs.Common.{length, filter, get_or, set, refl, sym, ap, ◌∙◌, subst, arith, inl, inr, get_or-set_same, get_or-set_other}
 use Rattle.std.specs.Prelude.{fold}

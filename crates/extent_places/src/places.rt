@@ -55,7 +55,7 @@ pub fn closure_at<const W: usize>(rows: &RowsOf<W>, places: &[u16], least: &Bits
     ensures { result ≡ closure rows.now least.now }
 {
     let all = rows.as_slice();
-    let mut met = last_row(rows, places, least);
+    let mut met = initial_meet(rows, places, least);
     for place in places {
         met = met.meet(&all[*place as usize]);
         if met == *least {
@@ -65,8 +65,8 @@ pub fn closure_at<const W: usize>(rows: &RowsOf<W>, places: &[u16], least: &Bits
     met
 }
 
-/// The row at the last of the places, or the full set if there are few.
-fn last_row<const W: usize>(rows: &RowsOf<W>, places: &[u16], least: &Bits<W>) -> Bits<W>
+/// The set that the meet of the rows at the places begins with: the row at the last one, or the full set if the places are few.
+fn initial_meet<const W: usize>(rows: &RowsOf<W>, places: &[u16], least: &Bits<W>) -> Bits<W>
     requires { places.now ≡ extent rows.now least.now }
     ensures { fold meet result (rows_at rows.now.rows places.now) ≡ closure rows.now least.now }
 {

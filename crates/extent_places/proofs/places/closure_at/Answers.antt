@@ -6,7 +6,7 @@ use Rattle.extent_places.proofs.PlaceLemmas.{extent_inside, met_more, met_enough
 use Rattle.extent_places.proofs.places.closure_at.Goals as goal
 
 pub loop-place-init : goal.loop-place-init
-loop-place-init g c = c.last_row-met.ensures
+loop-place-init g c = c.initial_meet-met.ensures
 
 -- a place of an extent is that of a row
 placed : (K : Context) (A : Set) (places : List ℕ) (k : ℕ) → places ≡ extent K A → k < length places → get_or places k 0 < length K.rows

@@ -5,7 +5,7 @@ use Rattle.fca_model.specs.Sets.{Set, meet, full}
 use Rattle.fca_model.specs.Context.{Context, closure, extent}
 use Rattle.extent_places.specs.Places.{row_at, rows_at}
 use Rattle.extent_places.proofs.PlaceLemmas.{extent_inside, rows_at-extent, met_from_row}
-use Rattle.extent_places.proofs.places.last_row.Goals as goal
+use Rattle.extent_places.proofs.places.initial_meet.Goals as goal
 
 -- a place of an extent is that of a row
 placed : (K : Context) (A : Set) (places : List ℕ) (k p : ℕ) → places ≡ extent K A → k < length places → p ≡ get_or places k p
