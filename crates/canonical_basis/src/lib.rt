@@ -21,7 +21,8 @@ use reducing::reduce_list;
 use std::alloc::Global;
 use std::thread::Threads;
 
-/// The Duquenne-Guigues basis of the context with these rows, in lectic order of the premises.
+/// The Duquenne-Guigues basis of the context with these rows, in lectic order of the premises. The runtime is a parameter, so that callers stay as they are
+/// whether the basis is found in threads, as `pseudo_levels` does, or, as here, in one.
 pub fn basis<R: Threads + Sync>(
     _rt: &R,
     alloc: Global,
@@ -35,6 +36,7 @@ pub fn basis<R: Threads + Sync>(
 }
 
 /// The Duquenne-Guigues basis of the context whose rows are all sets that respect the list, in lectic order of the premises. Nothing lists these sets.
+/// The runtime is a parameter as it is of `basis`.
 pub fn basis_of_list<R: Threads + Sync>(
     _rt: &R,
     alloc: Global,

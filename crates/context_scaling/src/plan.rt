@@ -11,9 +11,13 @@ use std::marker::Model;
 /// An attribute of a table of values, with a scale for it.
 #[derive(Drop)]
 pub struct PlanRecord {
+    /// The kind of the scale.
     pub(crate) kind: Kind,
+    /// The name of the attribute.
     pub(crate) attribute: Name,
+    /// The place of the attribute in the table of values, from 0.
     pub(crate) place: usize,
+    /// The values of the scale, in the order in which the plan gives them: texts if the scale is nominal, and else numbers.
     pub(crate) values: Vec<ScaleValue>,
 }
 
@@ -28,7 +32,9 @@ impl Model for PlanRecord {
 /// Attributes with their scales. Contracts see the list of them.
 #[derive(Drop)]
 pub struct Plan {
+    /// The records, in the order of the plan.
     records: Vec<PlanRecord>,
+    /// The names of the attributes that the records make, each once, in the order in which they make them.
     names: IndexSet<Name>,
 }
 

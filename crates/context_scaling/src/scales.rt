@@ -20,15 +20,20 @@ pub enum Kind {
 /// How a value may stand to a scale value.
 #[derive(Clone, Copy, Debug, PartialEq, Eq)]
 pub enum Relation {
+    /// The value is the scale value.
     Equal,
+    /// The number is at most the scale value.
     AtMost,
+    /// The number is at least the scale value.
     AtLeast,
 }
 
 /// A value of a scale.
 #[derive(Drop)]
 pub enum ScaleValue {
+    /// A text, of a nominal scale.
     Text(Name),
+    /// A number, of an ordinal or interordinal scale.
     Number(i64),
 }
 
@@ -50,6 +55,7 @@ pub(crate) fn stands(
     }
 }
 
+/// Whether there is a number and it is at most the bound.
 fn is_at_most(number: Option<i64>, bound: i64) -> bool
     ensures { result ≡ holds (λ n. int_le n bound) number }
 {
@@ -59,6 +65,7 @@ fn is_at_most(number: Option<i64>, bound: i64) -> bool
     }
 }
 
+/// Whether there is a number and it is at least the bound.
 fn is_at_least(number: Option<i64>, bound: i64) -> bool
     ensures { result ≡ holds (λ n. int_le bound n) number }
 {

@@ -61,6 +61,8 @@ impl<V: Logged> TurnLock<V> {
         TurnLock::make(alloc, value, passes, turns)
     }
 
+    /// Makes the table with the value, the passes and the queue, and puts them together. That the passes belong to the lock follows from their
+    /// badges, whatever was made, so `new` proves it from the clauses here.
     fn make(
         alloc: Global,
         value: V,
