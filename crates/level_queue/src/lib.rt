@@ -22,20 +22,18 @@ use fca_model::Memory;
 use implication_closure::{ImplicationList, Question};
 use next_level::Ahead;
 pub use next_level::{LevelSearch, OneThread, SideBySide};
-use open_level::open_level;
-use questions::{OpenQuestions, closes_all};
+use open_level::{OpenLevel, open_level};
+use questions::closes_all;
 use rules::Rules;
 use std::alloc::Global;
 use std::marker::Model;
 
-/// The rows, the rules, the open questions, whose premises have one size, and candidates for later questions.
+/// The rows, the rules, and the level whose questions are open.
 pub struct LevelQueue {
     alloc: Global,
     rows: Rows,
     rules: Rules,
-    questions: OpenQuestions,
-    level: u32,
-    ahead: Ahead,
+    level: OpenLevel,
 }
 
 /// Written out, so that dropping a queue is one call, and not the dropping of each list at each place.
@@ -45,9 +43,7 @@ impl Drop for LevelQueue {
             alloc: _,
             rows: _,
             rules: _,
-            questions: _,
             level: _,
-            ahead: _,
         } = self;
     }
 }
@@ -63,9 +59,9 @@ impl Model for LevelQueue {
 
     ghost invariant = { λ a. record {
       wide : a.rules.width ≡ a.rows.width;
-      kept : IsKept a.rules.known a.rows a.level a.rules.accepted a.questions;
-      ahead_wide : a.ahead.sets.width ≡ a.rows.width;
-      ahead : IsAhead (a.rules.known ++ a.rules.accepted) a.rows a.level a.ahead.whole a.ahead.sets.rows;
+      kept : IsKept a.rules.known a.rows a.level.size a.rules.accepted a.level.questions;
+      ahead_wide : a.level.ahead.sets.width ≡ a.rows.width;
+      ahead : IsAhead (a.rules.known ++ a.rules.accepted) a.rows a.level.size a.level.ahead.whole a.level.ahead.sets.rows;
     } };
 }
 
@@ -96,9 +92,7 @@ impl LevelQueue {
             alloc,
             rows,
             rules,
-            questions: first.questions,
-            level: first.size,
-            ahead: first.ahead,
+            level: first,
         })
     }
 
@@ -106,7 +100,7 @@ impl LevelQueue {
     pub fn open_questions(&self) -> &[Question]
         ensures { result.now ≡ open_questions self.now.known self.now.context self.now.accepted }
     {
-        self.questions.as_slice()
+        self.level.questions.as_slice()
     }
 
     /// The accepted implications, in the order in which they were accepted.
@@ -137,10 +131,10 @@ impl LevelQueue {
         ensures none { IsNone result ↔ (open_questions self.now.known self.now.context self.now.accepted ≡ []) }
         ensures size { IfSome result (λ k. list_all (λ q. size q.premise == k) (open_questions self.now.known self.now.context self.now.accepted) ≡ true) }
     {
-        if self.questions.as_slice().is_empty() {
+        if self.level.questions.as_slice().is_empty() {
             None
         } else {
-            Some(self.level)
+            Some(self.level.size)
         }
     }
 
@@ -151,7 +145,7 @@ impl LevelQueue {
         ensures held { IsHeld self.now.known self.now.context self.now.accepted question.now → holds self.now.context question.now ≡ true
             → has_premise self.now.accepted question.now.premise ≡ false → IsSome result }
     {
-        self.questions.place_of(question)
+        self.level.questions.place_of(question)
     }
 
     /// Records a row.
@@ -172,8 +166,8 @@ impl LevelQueue {
         ensures err { OnErr result (self.new ≡ self.old) }
     {
         self.rows.push(row)?;
-        if !closes_all(self.questions.as_slice(), &row) {
-            self.questions.narrow(&row);
+        if !closes_all(self.level.questions.as_slice(), &row) {
+            self.level.questions.narrow(&row);
             return Ok(());
         }
         match open_level(
@@ -181,12 +175,10 @@ impl LevelQueue {
             self.alloc,
             &self.rows,
             self.rules.all(),
-            &self.ahead,
+            &self.level.ahead,
         ) {
             Ok(next) => {
-                self.questions = next.questions;
-                self.level = next.size;
-                self.ahead = next.ahead;
+                self.level = next;
                 Ok(())
             }
             Err(error) => {
@@ -213,10 +205,10 @@ impl LevelQueue {
             → OnOk result (self.new ≡ record { context = self.old.context; known = self.old.known; accepted = self.old.accepted ++ question ∷ [] }) }
         ensures err { OnErr result (self.new ≡ self.old) }
     {
-        let question = self.questions.get(i);
+        let question = self.level.questions.get(i);
         self.rules.push(&question)?;
-        if self.questions.as_slice().len() > 1 {
-            self.questions.take_out(i);
+        if self.level.questions.as_slice().len() > 1 {
+            self.level.questions.take_out(i);
             return Ok(());
         }
         match open_level(
@@ -224,12 +216,10 @@ impl LevelQueue {
             self.alloc,
             &self.rows,
             self.rules.all(),
-            &self.ahead,
+            &self.level.ahead,
         ) {
             Ok(next) => {
-                self.questions = next.questions;
-                self.level = next.size;
-                self.ahead = next.ahead;
+                self.level = next;
                 Ok(())
             }
             Err(error) => {

@@ -10,11 +10,14 @@ use implication_closure::ImplicationList;
 use next_level::{Ahead, LevelSearch};
 use std::alloc::Global;
 
-/// The open questions of a level, their size, and candidates for later levels.
+/// A level whose questions are open. It keeps them in a form that changes in place, where a `Level` of `next_level` has a plain list.
 #[derive(Drop)]
 pub(crate) struct OpenLevel {
+    /// The open questions.
     pub(crate) questions: OpenQuestions,
+    /// The size of their premises.
     pub(crate) size: u32,
+    /// Candidates for later levels.
     pub(crate) ahead: Ahead,
 }
 

@@ -77,7 +77,9 @@ impl Rules {
 
     /// Takes the last accepted implication away, if there is one.
     pub(crate) fn pop(&mut self)
-        ensures { (parts : RuleParts) (i : Rule) → self.old ≡ record { width = parts.width; known = parts.known; accepted = parts.accepted ++ i ∷ [] } → self.new ≡ parts }
+        ensures { (parts : RuleParts) (i : Rule)
+            → self.old ≡ record { width = parts.width; known = parts.known; accepted = parts.accepted ++ i ∷ [] }
+            → self.new ≡ parts }
     {
         if !self.accepted.as_slice().is_empty() {
             self.accepted.pop();

@@ -24,7 +24,7 @@ get-question-requires g c = omega (
 
 pub push-requires-clause-premise : goal.push-requires-clause-premise
 push-requires-clause-premise g c =
-    let l : c.args.i < length c.self.inside.questions =
+    let l : c.args.i < length c.self.inside.level.questions =
     omega (
       arith,
       c.requires,
@@ -35,7 +35,7 @@ push-requires-clause-premise g c =
 
 pub push-requires-clause-conclusion : goal.push-requires-clause-conclusion
 push-requires-clause-conclusion g c =
-    let l : c.args.i < length c.self.inside.questions =
+    let l : c.args.i < length c.self.inside.level.questions =
     omega (
       arith,
       c.requires,
@@ -56,7 +56,7 @@ pub invariant_of-self-then-as_slice-gt1 : goal.invariant_of-self-then-as_slice-g
 invariant_of-self-then-as_slice-gt1 g c =
     let a = c.self.inside in
     let q = c.get-question.result in
-    let l : c.args.i < length c.self.inside.questions =
+    let l : c.args.i < length c.self.inside.level.questions =
     omega (
       arith,
       c.requires,
@@ -66,20 +66,21 @@ invariant_of-self-then-as_slice-gt1 g c =
     let ok = c.in_ok-push.ensures.ok in
     record {
       wide = ap (λ (p : RuleParts). p.width) ok ∙ c.self.invariant.wide;
-      kept = subst (λ qs. IsKept c.push.new.self.known a.rows a.level c.push.new.self.accepted qs) (sym c.take_out.ensures)
-          (subst (λ (p : RuleParts). IsKept p.known a.rows a.level p.accepted (remove a.questions c.args.i)) (sym ok)
+      kept = subst (λ qs. IsKept c.push.new.self.known a.rows a.level.size c.push.new.self.accepted qs) (sym c.take_out.ensures)
+          (subst (λ (p : RuleParts). IsKept p.known a.rows a.level.size p.accepted (remove a.level.questions c.args.i)) (sym ok)
           (accepted_kept c.self.invariant.kept c.args.i q l c.get-question.ensures
           (omega (arith, c.if-as_slice-gt1.true, ap length c.as_slice.ensures))));
       ahead_wide = c.self.invariant.ahead_wide;
-      ahead = subst (λ (p : RuleParts). IsAhead (p.known ++ p.accepted) a.rows a.level a.ahead.whole a.ahead.sets.rows) (sym ok)
-          (rule_ahead a.rules.known a.rules.accepted a.rows a.level a.ahead.whole a.ahead.sets.rows q c.self.invariant.ahead);
+      ahead = subst (λ (p : RuleParts). IsAhead (p.known ++ p.accepted) a.rows a.level.size a.level.ahead.whole a.level.ahead.sets.rows)
+          (sym ok) (rule_ahead a.rules.known a.rules.accepted a.rows a.level.size a.level.ahead.whole a.level.ahead.sets.rows q
+          c.self.invariant.ahead);
     }
 
 pub open_level-requires : goal.open_level-requires
 open_level-requires g c =
     let a = c.self.inside in
     let q = c.get-question.result in
-    let l : c.args.i < length c.self.inside.questions =
+    let l : c.args.i < length c.self.inside.level.questions =
     omega (
       arith,
       c.requires,
@@ -87,28 +88,28 @@ open_level-requires g c =
       ap (λ (b : Base). length (open_questions b.known b.context b.accepted)) c.self.view_is,
     ) in
     let ok = c.in_ok-push.ensures.ok in
-    let last : length a.questions ≤ 1 = omega (arith, c.if-as_slice-gt1.false, ap length c.as_slice.ensures) in
-    let all = ahead_all a.rules.known (a.rules.accepted ++ q ∷ []) a.rows a.level a.ahead.whole a.ahead.sets.rows
+    let last : length a.level.questions ≤ 1 = omega (arith, c.if-as_slice-gt1.false, ap length c.as_slice.ensures) in
+    let all = ahead_all a.rules.known (a.rules.accepted ++ q ∷ []) a.rows a.level.size a.level.ahead.whole a.level.ahead.sets.rows
     (accepted_below c.self.invariant.kept c.args.i q l c.get-question.ensures last)
-    (rule_ahead a.rules.known a.rules.accepted a.rows a.level a.ahead.whole a.ahead.sets.rows q c.self.invariant.ahead) in
+    (rule_ahead a.rules.known a.rules.accepted a.rows a.level.size a.level.ahead.whole a.level.ahead.sets.rows q c.self.invariant.ahead) in
     record {
       wide = ap (λ (J : RuleList). J.width) c.all.ensures ∙ ap (λ (p : RuleParts). p.width) ok ∙ c.self.invariant.wide;
       ahead_wide = c.self.invariant.ahead_wide;
-      among = subst (λ (J : RuleList). AllAmong J.members a.rows a.ahead.whole a.ahead.sets.rows) (sym c.all.ensures)
-          (subst (λ (p : RuleParts). AllAmong (p.known ++ p.accepted) a.rows a.ahead.whole a.ahead.sets.rows) (sym ok) all);
+      among = subst (λ (J : RuleList). AllAmong J.members a.rows a.level.ahead.whole a.level.ahead.sets.rows) (sym c.all.ensures)
+          (subst (λ (p : RuleParts). AllAmong (p.known ++ p.accepted) a.rows a.level.ahead.whole a.level.ahead.sets.rows) (sym ok) all);
     }
 
 pub returns-then-as_slice-gt1-clause-ok : goal.returns-then-as_slice-gt1-clause-ok
 returns-then-as_slice-gt1-clause-ok g c question at =
     let a = c.self.inside in
-    let l : c.args.i < length c.self.inside.questions =
+    let l : c.args.i < length c.self.inside.level.questions =
     omega (
       arith,
       c.requires,
       ap length (kept_open c.self.invariant.kept),
       ap (λ (b : Base). length (open_questions b.known b.context b.accepted)) c.self.view_is,
     ) in
-    accepted_base a.rows a.rules c.push.new.self a.questions c.args.self.now c.args.i c.get-question.result question c.self.view_is
+    accepted_base a.rows a.rules c.push.new.self a.level.questions c.args.self.now c.args.i c.get-question.result question c.self.view_is
     c.in_ok-push.ensures.ok l c.get-question.ensures
     (ap (λ qs. slice_get qs c.args.i) (kept_open c.self.invariant.kept
     ∙ ap (λ (b : Base). open_questions b.known b.context b.accepted) c.self.view_is) ∙ at)
@@ -117,7 +118,7 @@ pub invariant_of-self-in-Ok : goal.invariant_of-self-in-Ok
 invariant_of-self-in-Ok g c =
     let a = c.self.inside in
     let q = c.get-question.result in
-    let l : c.args.i < length c.self.inside.questions =
+    let l : c.args.i < length c.self.inside.level.questions =
     omega (
       arith,
       c.requires,
@@ -125,16 +126,16 @@ invariant_of-self-in-Ok g c =
       ap (λ (b : Base). length (open_questions b.known b.context b.accepted)) c.self.view_is,
     ) in
     let ok = c.in_ok-push.ensures.ok in
-    let last : length a.questions ≤ 1 = omega (arith, c.if-as_slice-gt1.false, ap length c.as_slice.ensures) in
+    let last : length a.level.questions ≤ 1 = omega (arith, c.if-as_slice-gt1.false, ap length c.as_slice.ensures) in
     record {
       wide = ap (λ (p : RuleParts). p.width) ok ∙ c.self.invariant.wide;
       kept = opened_kept
           (subst (λ (p : RuleParts). list_all (holds a.rows) p.known ≡ true) (sym ok) c.self.invariant.kept.hold)
           (subst (λ (p : RuleParts). distinct_premises p.accepted ≡ true) (sym ok)
           (accepted_distinct c.self.invariant.kept c.args.i q l c.get-question.ensures))
-          (c.in-Ok.ensures.next c.push.new.self.known c.push.new.self.accepted (a.level + 1)
+          (c.in-Ok.ensures.next c.push.new.self.known c.push.new.self.accepted (a.level.size + 1)
           (ap (λ (J : RuleList). J.members) c.all.ensures)
-          (subst (λ (p : RuleParts). HasBelow p.known a.rows (a.level + 1) p.accepted) (sym ok)
+          (subst (λ (p : RuleParts). HasBelow p.known a.rows (a.level.size + 1) p.accepted) (sym ok)
           (accepted_below c.self.invariant.kept c.args.i q l c.get-question.ensures last))
           (accepted_bounded c.self.invariant.kept c.args.i q l c.get-question.ensures));
       ahead_wide = c.in-Ok.ensures.ahead_wide;
@@ -145,14 +146,14 @@ invariant_of-self-in-Ok g c =
 pub returns-in-Ok-clause-ok : goal.returns-in-Ok-clause-ok
 returns-in-Ok-clause-ok g c question at =
     let a = c.self.inside in
-    let l : c.args.i < length c.self.inside.questions =
+    let l : c.args.i < length c.self.inside.level.questions =
     omega (
       arith,
       c.requires,
       ap length (kept_open c.self.invariant.kept),
       ap (λ (b : Base). length (open_questions b.known b.context b.accepted)) c.self.view_is,
     ) in
-    accepted_base a.rows a.rules c.push.new.self a.questions c.args.self.now c.args.i c.get-question.result question c.self.view_is
+    accepted_base a.rows a.rules c.push.new.self a.level.questions c.args.self.now c.args.i c.get-question.result question c.self.view_is
     c.in_ok-push.ensures.ok l c.get-question.ensures
     (ap (λ qs. slice_get qs c.args.i) (kept_open c.self.invariant.kept
     ∙ ap (λ (b : Base). open_questions b.known b.context b.accepted) c.self.view_is) ∙ at)

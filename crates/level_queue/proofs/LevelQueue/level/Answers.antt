@@ -27,6 +27,6 @@ returns-else-is_empty-clause-none c =
 pub returns-else-is_empty-clause-size : goal.returns-else-is_empty-clause-size
 returns-else-is_empty-clause-size c =
     let a = c.self.inside in
-    subst (λ (qs : List Rule). list_all (λ (q : Rule). size q.premise == a.level) qs ≡ true)
+    subst (λ (qs : List Rule). list_all (λ (q : Rule). size q.premise == a.level.size) qs ≡ true)
     (kept_open c.self.invariant.kept ∙ ap (λ (b : Base). open_questions b.known b.context b.accepted) c.self.view_is)
-    (questions_size a.rules.known a.rows a.level a.rules.accepted a.questions c.self.invariant.kept.queue)
+    (questions_size a.rules.known a.rows a.level.size a.rules.accepted a.level.questions c.self.invariant.kept.queue)

@@ -32,5 +32,6 @@ returns-clause-held c held_before true_here new =
     let holding = ap (λ (b : Base). holds b.context q) c.self.view_is ∙ true_here in
     let unheard = ap (λ (b : Base). has_premise b.accepted q.premise) c.self.view_is ∙ new in
     c.place_of.ensures.there
-    (held_is_open a.rules.known a.rows a.level a.rules.accepted a.questions c.self.invariant.kept.queue (kept_open c.self.invariant.kept) q
+    (held_is_open a.rules.known a.rows a.level.size a.rules.accepted a.level.questions c.self.invariant.kept.queue
+    (kept_open c.self.invariant.kept) q
     (held_member a.rules.known a.rows a.rules.accepted (kept_accepted c.self.invariant.kept) q held holding) held.smaller unheard)
