@@ -34,6 +34,9 @@ forced_larger J A C ws up f i T c has r = f i T (within_trans A C T up c) has r
 pub forced_more : (J M : List Rule) (A : Set) (ws : List ℕ) → IsLonger J M → AreForced J A ws → AreForced M A ws
 forced_more J M A ws more f i T a has r = f i T a has (more T r)
 
+pub bounded_more : (J M : List Rule) (X Y Z : Set) → IsLonger J M → IsBounded J X Y → IsBounded M Y Z → IsBounded M X Z
+bounded_more J M X Y Z more f g T x r = g T (f T x (more T r)) r
+
 -- an attribute of the closure
 pub forced_set : (J : List Rule) (A X C : Set) (ws : List ℕ) (i w : ℕ) → X ≡ set A i true → IsBounded J X C → get_or C w false ≡ true
     → AreForced J A ws → AreForced J A (set ws i w)

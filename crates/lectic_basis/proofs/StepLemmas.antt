@@ -7,7 +7,7 @@ use Rattle.fca_model.specs.Sets.{Set}
 use Rattle.fca_model.specs.Context.{Context}
 use Rattle.fca_model.specs.Implications.{Rule}
 use Rattle.extent_blocks.specs.Blocks.{IsExtent}
-use Rattle.lectic_basis.specs.Forced.{AreForced, NoneTried, IsLastTried}
+use Rattle.lectic_basis.specs.Forced.{AreForced, IsLonger, NoneTried, IsLastTried}
 use Rattle.lectic_basis.specs.Watches.{Watched}
 use Rattle.lectic_basis.specs.Walks.{IsBelow, IsTrying, HasFound, IsPart}
 use Rattle.lectic_basis.specs.Steps.{IsStep, IsBegun, IsFurther, HasTried, AreLeft, room_left}
@@ -53,16 +53,15 @@ module _ (S : List Rule) (K : Context) (Wanted : Watched → Type 0) {W : ℕ} (
     walk_lacks = tried_lacks step.intent step.lists.forced.items i last.tried
 
     -- the step after all behind attribute i was visited
-    further : (G : Watched) (new : Step W) → IsFurther K i F step new → HasFound S K step.intent i (IsPart step.intent) F G
-        → AreLeft S K Wanted (new ∷ reverse steps) G
-    further G new f done = (
+    further : (G H : Watched) (new : Step W) → IsFurther K i G step new → IsLonger G.list.members H.list.members
+        → HasFound S K step.intent i (IsPart step.intent) F H → AreLeft S K Wanted (new ∷ reverse steps) H
+    further G H new f longer done = (
       left.0,
       record {
         below = rw (f.intent, f.from) walk_step.below;
         found = rw (f.intent, f.end) (found_then found_behind done);
         near = f.near;
-        forced = forced_more F.list.members G.list.members new.intent new.lists.forced.items
-            (found_longer found_behind done (omega arith)) f.forced;
+        forced = forced_more G.list.members H.list.members new.intent new.lists.forced.items longer f.forced;
         order = omega (arith, f.from, f.end, last.at_least);
         inside = omega (arith, f.end, last.in_range, walk_step.inside);
       },
@@ -70,14 +69,15 @@ module _ (S : List Rule) (K : Context) (Wanted : Watched → Type 0) {W : ℕ} (
     )
 
     pub walk_tried : (G : Watched) (new : Step W) → HasTried S K i F G step new None → IsWalk S K Wanted (steps ++ new ∷ []) G
-    walk_tried G new t = subst (λ (xs : List (Step W)). AreLeft S K Wanted xs G) (sym (last_first steps new)) (further G new t.0 t.1)
+    walk_tried G new t = subst (λ (xs : List (Step W)). AreLeft S K Wanted xs G) (sym (last_first steps new))
+        (further G G new t.0 (λ T r. r) t.1)
 
     pub walk_below : (G : Watched) (new below : Step W) → HasTried S K i F G step new (Some below)
         → IsWalk S K Wanted ((steps ++ new ∷ []) ++ below ∷ []) G
     walk_below G new below t =
         subst (λ (xs : List (Step W)). AreLeft S K Wanted xs G)
         (sym (last_first (steps ++ new ∷ []) below ∙ ap (λ (xs : List (Step W)). below ∷ xs) (last_first steps new)))
-        (G, t.1, λ H h. further H new t.0 (t.3 H h))
+        (G, t.1, λ H h. further G H new t.0 (found_longer t.1.found h t.1.order) (t.3 H h))
 
 pub walk_done : (S : List Rule) (K : Context) (Wanted : Watched → Type 0) (F : Watched) {W : ℕ} (steps : List (Step W)) → length steps ≡ 0
     → IsWalk S K Wanted steps F → Wanted F
@@ -85,7 +85,7 @@ walk_done S K Wanted F [] none w = w
 walk_done S K Wanted F (step ∷ steps) none w = absurd (omega (arith, none))
 
 -- the step begun at the child
-module _ {S : List Rule} {K : Context} {A : Set} {i : ℕ} {F G : Watched} {W : ℕ} {old new : Step W} (f : IsFurther K i F old new)
+module _ {S : List Rule} {K : Context} {A : Set} {i : ℕ} {F G : Watched} {W : ℕ} {old new : Step W} (f : IsFurther K i G old new)
     (below : IsBelow S K K A (i + 1) G) (forced : AreForced G.list.members A new.lists.forced.items)
     (done : (H : Watched) → HasFound S K A (i + 1) (IsPart A) G H → HasFound S K old.intent i (IsPart old.intent) F H) where
   pub tried_none : NoneTried A new.lists.forced.items (i + 1) K.width → HasTried S K i F G old new None

@@ -2,31 +2,29 @@
 -- before the attribute by which the set was entered. Below an intent each attribute that it lacks is tried, the last first; what was
 -- found at attribute i is what stands up to place i of the intent.
 use Rattle.std.proofs.Common.{◌≡◌, ℕ, zero, suc, ◌+◌, ◌-◌, ◌<◌, ◌≤◌, Bool, true, false, not, ◌&&◌, ◌||◌, ◌⊎◌, inl, inr, leb, Option, Some}
-use Rattle.std.proofs.Common.{None, MatchOption, IfSome, Result, Ok, Err, IfOk, OnOk, List, [], ◌∷◌, ◌++◌, length, get_or, set, replicate}
+use Rattle.std.proofs.Common.{None, MatchOption, IfSome, List, [], ◌∷◌, ◌++◌, length, get_or, set, replicate}
 use Rattle.std.proofs.Common.{length-set, refl, sym, ap, ◌∙◌, subst, arith}
 use Rattle.std.proofs.lemmas.Bool.{false≢true, and_parts, false_from_ne_true, leb-false}
 use Rattle.std.proofs.lemmas.List.Folds.{list_all-append}
-use Rattle.std.proofs.lemmas.Result.{IfOk-weaker}
 use Rattle.std.specs.List.{list_all}
 use Rattle.std.specs.Option.{is_some}
 use Rattle.fca_model.specs.Sets.{Set, same, within, agree_before}
 use Rattle.fca_model.specs.Context.{Context, closure, is_closed}
 use Rattle.fca_model.specs.Implications.{Rule, rule, respects, respects_all, holds}
 use Rattle.fca_model.proofs.SetLemmas.{same-true, same_from, within_refl, within_trans, within_at_place, within_set}
-use Rattle.fca_model.proofs.ClosureLemmas.{length-closure, closure_extensive}
-use Rattle.fca_model.proofs.ListLemmas.{MatchOption-weaker}
+use Rattle.fca_model.proofs.ClosureLemmas.{length-closure, closure_extensive, respects_at}
 use Rattle.implication_closure.specs.Closing.{RuleList, IsClosure}
 use Rattle.extent_blocks.specs.Blocks.{Part, IsExtent, IsExtentWith}
 use Rattle.extent_blocks.proofs.ExtentLemmas.{extent_larger, extent_shared}
 use Rattle.lectic_basis.specs.Trees.{InFamily, IsLeastBehind, up_to, members_where, found_where}
 use Rattle.lectic_basis.specs.Walks.{IsVisit, IsBelow, IsTrying, HasFound, IsPart, IsPartBefore}
 use Rattle.lectic_basis.specs.Forced.{AreForced, IsLastTried, IsLonger, NoneTried, is_tried}
-use Rattle.lectic_basis.specs.Watches.{Watched, IsFiled, IsGood, CanClose, HasMoved, IsClosedBefore, Differs, IsPutBefore, Covers}
+use Rattle.lectic_basis.specs.Watches.{Watched, IsFiled, IsGood, CanClose, HasMoved, IsClosedBefore, Differs, IsBounded, IsPutBefore, Covers}
 use Rattle.lectic_basis.proofs.PlaceLemmas.{up_to_member, agree_with, agree_less, up_to_less}
 use Rattle.lectic_basis.proofs.FamilyLemmas.{family_of_closed, closed_closure, same_where, where_all, where_at, where_known}
 use Rattle.lectic_basis.proofs.FamilyLemmas.{closed_respects_where}
 use Rattle.lectic_basis.proofs.TreeLemmas as tree
-use Rattle.lectic_basis.proofs.ForcedLemmas.{forced_larger, forced_more, forced_differs}
+use Rattle.lectic_basis.proofs.ForcedLemmas.{forced_larger, forced_differs}
 use Rattle.lectic_basis.proofs.WaitLemmas.{push_filed, push_good, push_covers, kept_good, good_covers, closed_good}
 
 -- ---- the start
@@ -179,20 +177,21 @@ found_longer {S = S} {K = K} {A = A} {j = j} {i = i} x y le T r =
     (where_all S K (up_to j A) (respects T) (where_known S K (up_to i A) (respects T) r')
     (λ P e t first. where_at S K (up_to i A) (respects T) r' P e t (up_to_less i j A P le first)))
 
+-- what respects the list has the conclusion of its last member with the premise
+pub bounded_push : (L M : RuleList) (i : Rule) → M ≡ record { width = L.width; members = L.members ++ i ∷ [] }
+    → IsBounded M.members i.premise i.conclusion
+bounded_push L M i e T has r =
+    let last : list_all (respects T) (i ∷ []) ≡ true = (and_parts (list_all (respects T) L.members) (list_all (respects T) (i ∷ []))
+    (sym (list_all-append (respects T) L.members (i ∷ [])) ∙ subst (λ (N : RuleList). respects_all N.members T ≡ true) e r)).1 in
+    respects_at T i (and_parts (respects T i) true last).0 has
+
 -- ---- what is told
 
-told_weaker : {T E A A' : Type 0} {B B' : T → Type 0} (r : Result (Option T) E) → (A → A') → ((x : T) → B x → B' x)
-    → IfOk r (λ o. MatchOption o A B) → IfOk r (λ o. MatchOption o A' B')
-told_weaker {A = A} {A' = A'} {B = B} {B' = B'} r f h m =
-    IfOk-weaker r (λ o. MatchOption o A B) (λ o. MatchOption o A' B') (λ o. MatchOption-weaker o f h) m
-
 -- what is forced below holds behind the intent that is told
-pub told_forced : {E : Type 0} (J M : List Rule) (A C : Set) (ws : List ℕ) (r : Result (Option Set) E) → AreForced J A ws
-    → within A C ≡ true → OnOk r (IsLonger J M)
-    → IfOk r (λ o. IfSome o (λ b. within C b ≡ true)) → IfOk r (λ o. IfSome o (λ b. AreForced M b ws))
-told_forced J M A C ws (Err e) f up more larger = larger
-told_forced J M A C ws (Ok None) f up more larger = larger
-told_forced J M A C ws (Ok (Some b)) f up more larger = forced_larger M A b ws (within_trans A C b up larger) (forced_more J M A ws more f)
+pub told_forced : (M : List Rule) (A C : Set) (ws : List ℕ) (told : Option Set) → AreForced M A ws → within A C ≡ true
+    → IfSome told (λ b. within C b ≡ true) → IfSome told (λ b. AreForced M b ws)
+told_forced M A C ws None f up larger = larger
+told_forced M A C ws (Some b) f up larger = forced_larger M A b ws (within_trans A C b up larger) f
 
 -- ---- below an intent
 
@@ -311,12 +310,12 @@ module _ {S : List Rule} {K L : Context} {A : Set} {i : ℕ} {G : Watched} (t : 
         }
 
         -- the same of what is left behind an intent
-        pub below_told : {E : Type 0} (I : Watched) (r : Result (Option Set) E)
-            → IfOk r (λ o. MatchOption o (HasFound S K C (i + 1) (IsPartBefore C (i + 1)) H I)
-            (λ b. (J : Watched) → HasFound S K b (i + 1) (IsPart b) I J → HasFound S K C (i + 1) (IsPartBefore C (i + 1)) H J))
-            → IfOk r (λ o. MatchOption o (HasFound S K A i (IsPart A) G I)
-            (λ b. (J : Watched) → HasFound S K b (i + 1) (IsPart b) I J → HasFound S K A i (IsPart A) G J))
-        below_told I r told = told_weaker r below_visited (λ b done J h. below_visited (done J h)) told
+        pub below_told : (I : Watched) (told : Option Set) → MatchOption told (HasFound S K C (i + 1) (IsPartBefore C (i + 1)) H I)
+            (λ b. (J : Watched) → HasFound S K b (i + 1) (IsPart b) I J → HasFound S K C (i + 1) (IsPartBefore C (i + 1)) H J)
+            → MatchOption told (HasFound S K A i (IsPart A) G I)
+            (λ b. (J : Watched) → HasFound S K b (i + 1) (IsPart b) I J → HasFound S K A i (IsPart A) G J)
+        below_told I None done = below_visited done
+        below_told I (Some b) done = λ J h. below_visited (done J h)
 
         -- it lies within the closure of A with i, so both have the same rows
         pub below_shared : within C (closure K (set A i true)) ≡ true
@@ -336,12 +335,10 @@ module _ {S : List Rule} {K L : Context} {A : Set} {i : ℕ} {G : Watched} (t : 
         below_wide = closed.wide ∙ length-set A i true ∙ t.at.family.wide
 
 -- what is told lies within the closure
-pub told_extent : {E : Type 0} (K : Context) (C : Set) (i : ℕ) (Ps : List Part) (r : Result (Option Set) E) → IsExtentWith K C i Ps
-    → IfOk r (λ o. IfSome o (λ b. within C b ≡ true))
-    → IfOk r (λ o. IfSome o (λ b. within b (closure K C) ≡ true)) → IfOk r (λ o. IfSome o (λ b. IsExtentWith K b i Ps))
-told_extent K C i Ps (Err e) extent larger shared = larger
-told_extent K C i Ps (Ok None) extent larger shared = larger
-told_extent K C i Ps (Ok (Some b)) extent larger shared = extent_shared K C b i Ps extent larger shared
+pub told_extent : (K : Context) (C : Set) (i : ℕ) (Ps : List Part) (told : Option Set) → IsExtentWith K C i Ps
+    → IfSome told (λ b. within C b ≡ true) → IfSome told (λ b. within b (closure K C) ≡ true) → IfSome told (λ b. IsExtentWith K b i Ps)
+told_extent K C i Ps None extent larger shared = larger
+told_extent K C i Ps (Some b) extent larger shared = extent_shared K C b i Ps extent larger shared
 
 -- where i is seen to force an attribute before it that A lacks, no member is left out
 pub below_forced : {S : List Rule} {K L : Context} {A : Set} {i : ℕ} {G : Watched} (w : ℕ) (ws : List ℕ) → IsTrying S K L A i G

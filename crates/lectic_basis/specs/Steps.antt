@@ -30,19 +30,19 @@ pub record IsBegun (K : Context) (A : Set) (start : ℕ) (ws : List ℕ) {W : �
   pub inside : step.end ≤ K.width
   pub none : NoneTried A ws step.end K.width
 
--- the step is at the same intent, and attribute i was tried
-pub record IsFurther (K : Context) (i : ℕ) (F : Watched) {W : ℕ} (old new : Step W) : Type 0 where
+-- the step is at the same intent, attribute i was tried, and now G is found
+pub record IsFurther (K : Context) (i : ℕ) (G : Watched) {W : ℕ} (old new : Step W) : Type 0 where
   pub intent : new.intent ≡ old.intent
   pub from : new.from ≡ old.from
   pub end : new.end ≡ i
   pub near : IsExtent K new.intent new.lists.near
-  pub forced : AreForced F.list.members new.intent new.lists.forced.items
+  pub forced : AreForced G.list.members new.intent new.lists.forced.items
 
 -- all below that comes of attribute i was visited, or is once all below the step told is
 abbrev pub HasTried : List Rule → Context → ℕ → Watched → Watched → {W : ℕ} → Step W → Step W → Option (Step W) → Type 0
-HasTried S K i F G old new None = IsFurther K i F old new × HasFound S K old.intent i (IsPart old.intent) F G
+HasTried S K i F G old new None = IsFurther K i G old new × HasFound S K old.intent i (IsPart old.intent) F G
 HasTried S K i F G old new (Some step) =
-    IsFurther K i F old new × IsStep S K step G G × (step.from ≡ i + 1)
+    IsFurther K i G old new × IsStep S K step G G × (step.from ≡ i + 1)
     × ((H : Watched) → HasFound S K step.intent step.from (IsPart step.intent) G H → HasFound S K old.intent i (IsPart old.intent) F H)
 
 -- once the steps are done, of which the first is the deepest, what is found is as wanted

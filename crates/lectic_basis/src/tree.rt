@@ -180,7 +180,7 @@ fn tries<const W: usize>(a: &Bits<W>, forced: &[u32], i: u32) -> bool
 }
 
 /// Visits the least set of the family that contains a and attribute i, which a lacks, if the set agrees with a before i. If more is left there, it is behind the
-/// returned intent. The sets below a agree with it before attribute `from`.
+/// returned intent. The sets below a agree with it before attribute `from`. Where the set does not agree, or its closure does not, what attribute i forces is noted.
 fn child_at<const W: usize>(
     indexed: &IndexedRows<W>,
     known: &ImplicationList,
@@ -200,7 +200,7 @@ fn child_at<const W: usize>(
     ensures done { IfOk result (λ child. MatchOption child
         (HasFound known.now.members indexed.now a.now i (IsPart a.now) found.old found.new)
         (λ b. (new : Watched) → HasFound known.now.members indexed.now b (i + 1) (IsPart b) found.new new → HasFound known.now.members indexed.now a.now i (IsPart a.now) found.old new)) }
-    ensures kept { OnOk result (AreForced found.old.list.members a.now lists.new.forced.items) }
+    ensures kept { OnOk result (AreForced found.new.list.members a.now lists.new.forced.items) }
     ensures passed { IfOk result (λ child. IfSome child (λ b. AreForced found.new.list.members b lists.new.forced.items)) }
 {
     let _width = found.width();
@@ -211,7 +211,9 @@ fn child_at<const W: usize>(
         return Ok(None);
     }
     let closed = lists.near.closure_with(indexed, i, &reached);
-    visit(indexed, known, found, &reached, &closed, i + 1)
+    let child = visit(indexed, known, found, &reached, &closed, i + 1)?;
+    note(&mut lists.forced, a, i, &closed, from, indexed.supports());
+    Ok(child)
 }
 
 /// Visits a alone, whose closure is given. If more is left that agrees with a before attribute `from`, it is behind the returned intent. That is a itself, or its
@@ -233,6 +235,7 @@ fn visit<const W: usize>(
     ensures larger { IfOk result (λ intent. IfSome intent (λ b. within a.now b ≡ true)) }
     ensures shared { IfOk result (λ intent. IfSome intent (λ b. within b (closure indexed.now a.now) ≡ true)) }
     ensures more { OnOk result (IsLonger found.old.list.members found.new.list.members) }
+    ensures bounded { OnOk result (IsBounded found.new.list.members a.now closed.now) }
 {
     let _width = found.width();
     if *closed == *a {

@@ -1,8 +1,8 @@
-use Rattle.std.proofs.Common.{sym, subst, arith}
-use Rattle.std.proofs.lemmas.Result.{on_ok_weaker}
+use Rattle.std.proofs.Common.{◌≡◌, sym, subst, arith}
 use Rattle.implication_closure.specs.Closing.{RuleList}
-use Rattle.lectic_basis.specs.Forced.{AreForced}
+use Rattle.lectic_basis.specs.Forced.{AreForced, IsLonger}
 use Rattle.lectic_basis.specs.Watches.{IsBounded}
+use Rattle.lectic_basis.proofs.ForcedLemmas.{bounded_more, forced_more}
 use Rattle.lectic_basis.proofs.WalkLemmas.{below_can_close, below_none, below_visit, below_told, below_up, told_forced, told_extent}
 use Rattle.lectic_basis.proofs.WalkLemmas.{below_extent, below_wide}
 use Rattle.lectic_basis.proofs.tree.child_at.Goals as goal
@@ -21,9 +21,12 @@ returns-then-not-branch-clause-done g c = below_none c.requires.trying c.require
     (c.in_ok-close.ensures.differs c.if-not-branch.true)
 
 pub returns-then-not-branch-clause-kept : goal.returns-then-not-branch-clause-kept
-returns-then-not-branch-clause-kept g c = c.note.ensures c.args.found.now.list.members
+returns-then-not-branch-clause-kept g c =
+    let list : c.close.new.found.list ≡ c.args.found.now.list = c.in_ok-close.ensures.moved.list in
+    subst (λ (M : RuleList). AreForced M.members c.args.a.now c.note.new.forced.items) (sym list)
+    (c.note.ensures c.args.found.now.list.members
     (subst (λ X. IsBounded c.args.found.now.list.members X c.close.new.closed) c.with-reached.ensures c.in_ok-close.ensures.bounded)
-    c.requires.forced
+    c.requires.forced)
 
 pub closure_with-closed-requires : goal.closure_with-closed-requires
 closure_with-closed-requires g c =
@@ -62,22 +65,29 @@ pub returns-clause-near : goal.returns-clause-near
 returns-clause-near g c =
     let closed = c.in_ok-close.ensures.closure c.if-not-branch.false in
     let lacks = c.requires.lacks in
-    told_extent c.args.indexed.now c.close.new.closed c.args.i c.args.lists.now.near c.visit.result
+    told_extent c.args.indexed.now c.close.new.closed c.args.i c.args.lists.now.near _
     (below_extent c.requires.trying lacks c.with-reached.ensures c.in_ok-close.ensures.moved closed c.args.lists.now.near c.requires.near)
-    c.visit.ensures.larger c.visit.ensures.shared
+    c.in_ok-child.ensures.larger c.in_ok-child.ensures.shared
 
 pub returns-clause-done : goal.returns-clause-done
 returns-clause-done g c = below_told c.requires.trying c.requires.lacks c.with-reached.ensures c.in_ok-close.ensures.moved
-    (c.in_ok-close.ensures.closure c.if-not-branch.false) _ c.visit.result c.visit.ensures.done
+    (c.in_ok-close.ensures.closure c.if-not-branch.false) _ _ c.in_ok-child.ensures.done
+
+-- what attribute i forces, once its set was visited
+
+pub returns-clause-kept : goal.returns-clause-kept
+returns-clause-kept g c =
+    let J = c.args.found.now.list.members in
+    let M = c.visit.new.found.list.members in
+    let list : c.close.new.found.list ≡ c.args.found.now.list = c.in_ok-close.ensures.moved.list in
+    let more : IsLonger J M = subst (λ (L : RuleList). IsLonger L.members M) list c.in_ok-child.ensures.more in
+    let reached = subst (λ X. IsBounded J X c.close.new.closed) c.with-reached.ensures c.in_ok-close.ensures.bounded in
+    c.note-2.ensures M (bounded_more J M _ _ _ more reached c.in_ok-child.ensures.bounded)
+    (forced_more J M c.args.a.now c.args.lists.now.forced.items more c.requires.forced)
 
 pub returns-clause-passed : goal.returns-clause-passed
 returns-clause-passed g c =
     let closed = c.in_ok-close.ensures.closure c.if-not-branch.false in
-    told_forced c.close.new.found.list.members c.visit.new.found.list.members c.args.a.now c.close.new.closed c.args.lists.now.forced.items
-    c.visit.result (subst (λ (M : RuleList). AreForced M.members c.args.a.now c.args.lists.now.forced.items)
-    (sym c.in_ok-close.ensures.moved.list) c.requires.forced)
+    told_forced c.visit.new.found.list.members c.args.a.now c.close.new.closed c.note-2.new.forced.items _ (returns-clause-kept g c)
     (below_up c.args.a.now c.with-reached.result c.close.new.closed c.args.i c.args.found.now.list.members c.with-reached.ensures
-    closed.closure) c.visit.ensures.more c.visit.ensures.larger
-
-pub returns-clause-kept : goal.returns-clause-kept
-returns-clause-kept g c = on_ok_weaker c.visit.result (λ more. c.requires.forced) c.visit.ensures.more
+    closed.closure) c.in_ok-child.ensures.larger

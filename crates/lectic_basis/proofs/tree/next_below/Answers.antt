@@ -14,7 +14,7 @@ returns-in-Some g c =
       end = c.args.i;
       lists = c.child_at.new.lists;
     } in
-    let further : IsFurther c.args.indexed.now c.args.i c.args.found.now old new =
+    let further : IsFurther c.args.indexed.now c.args.i c.child_at.new.found old new =
     record {
       intent = refl;
       from = refl;

@@ -1,9 +1,9 @@
 use Rattle.std.proofs.Common.{◌≡◌, true, sym, ◌∙◌, subst, arith}
 use Rattle.fca_model.specs.Sets.{Set, within}
 use Rattle.fca_model.proofs.ClosureLemmas.{closure_extensive}
-use Rattle.fca_model.proofs.SetLemmas.{within_refl}
+use Rattle.fca_model.proofs.SetLemmas.{same-true, within_refl}
 use Rattle.lectic_basis.proofs.WalkLemmas.{visit_wide, visit_inside, closure_wide, closure_up, visit_closed, visit_ends, visit_can_close}
-use Rattle.lectic_basis.proofs.WalkLemmas.{visit_below, visit_done, part_before, longer_push}
+use Rattle.lectic_basis.proofs.WalkLemmas.{visit_below, visit_done, part_before, longer_push, bounded_push}
 use Rattle.lectic_basis.proofs.tree.visit.Goals as goal
 
 -- an intent
@@ -75,3 +75,15 @@ returns-clause-shared g c = subst (λ (X : Set). within c.args.closed.now X ≡ 
 
 pub returns-then-eq-clause-shared : goal.returns-then-eq-clause-shared
 returns-then-eq-clause-shared g c = closure_extensive c.args.indexed.now c.args.a.now c.requires.visit.at.family.wide
+
+-- each set that contains the premise and respects what was found contains the closure
+
+pub returns-then-eq-clause-bounded : goal.returns-then-eq-clause-bounded
+returns-then-eq-clause-bounded g c = λ T h r. subst (λ (X : Set). within X T ≡ true)
+    (sym (same-true c.args.closed.now c.args.a.now (sym c.eq.ensures ∙ c.if-eq.true))) h
+
+pub returns-then-not-agrees-clause-bounded : goal.returns-then-not-agrees-clause-bounded
+returns-then-not-agrees-clause-bounded g c = bounded_push _ _ _ c.in_ok-push_to_wait.ensures.list
+
+pub returns-clause-bounded : goal.returns-clause-bounded
+returns-clause-bounded g c = bounded_push _ _ _ (c.in_ok-close.ensures.moved.list ∙ c.in_ok-push_to_wait.ensures.list)
