@@ -3,4 +3,4 @@ pub mod Oracles
 pub mod Runs
 pub mod Counts
 pub mod Intents
-pub mod Narrow
+pub mod Indexed

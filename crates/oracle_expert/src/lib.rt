@@ -2,8 +2,8 @@
 #![tactic(auto)]
 
 mod expert;
+mod indexed;
 pub mod laws;
-mod narrow;
 mod oracle;
 
 pub use expert::{Answer, Expert};

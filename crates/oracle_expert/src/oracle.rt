@@ -5,11 +5,11 @@ ghost use Rattle.std.specs.List.{zip};
 ghost use Rattle.fca_model.specs.Implications.{rule, holds};
 ghost use Rattle.fca_model.specs.Widths.{IsWide};
 ghost use Rattle.oracle_expert.specs.Answers.{HasWideAnswer};
-ghost use Rattle.oracle_expert.specs.Narrow.{AreRowsOf};
+ghost use Rattle.oracle_expert.specs.Indexed.{AreRowsOf};
 ghost use Rattle.oracle_expert.specs.Oracles.{untold, is_counterexample, counterexample, answer_with, drop_given};
 
 use crate::expert::{Answer, Expert};
-use crate::narrow::{NarrowRows, narrow_rows};
+use crate::indexed::{IndexedCopy, indexed_copy};
 use attr_bits::{Attrs, Bits};
 use context_table::Table;
 use derivation::RowsOf;
@@ -25,21 +25,21 @@ use std::marker::Model;
 #[derive(Drop)]
 pub struct Oracle {
     table: Table,
-    narrow: NarrowRows,
+    copy: IndexedCopy,
     conflicts: Vec<Option<usize>>,
     given: Option<usize>,
 }
 
 impl Model for Oracle {
     ghost use Rattle.std.specs.Prelude.{◌≡◌, length};
-    ghost use Rattle.oracle_expert.specs.Narrow.{AreRowsOf};
+    ghost use Rattle.oracle_expert.specs.Indexed.{AreRowsOf};
     ghost use Rattle.oracle_expert.specs.Oracles.{Recall};
 
     ghost Value = { Recall };
 
     ghost view = { λ o. record { table = o.table; conflicts = o.conflicts.items; given = o.given } };
 
-    ghost invariant = { λ o. record { rows : AreRowsOf o.table.context o.narrow; conflicts : length o.conflicts.items ≡ length o.table.context.rows } };
+    ghost invariant = { λ o. record { rows : AreRowsOf o.table.context o.copy; conflicts : length o.conflicts.items ≡ length o.table.context.rows } };
 }
 
 impl Oracle {
@@ -47,11 +47,11 @@ impl Oracle {
     pub fn new(alloc: Global, table: Table) -> Result<Oracle, Memory>
         ensures { IfOk result (λ oracle. oracle ≡ untold table) }
     {
-        let narrow = narrow_rows(alloc, table.rows())?;
+        let copy = indexed_copy(alloc, table.rows())?;
         let conflicts = no_conflicts(alloc, table.rows().as_slice())?;
         Ok(Oracle {
             table,
-            narrow,
+            copy,
             conflicts,
             given: None,
         })
@@ -89,7 +89,7 @@ impl Expert for Oracle {
     ghost learns = { Learns };
 
     fn answer(&mut self, alloc: Global, question: &Question) -> Result<Answer, Memory> {
-        let place = counterexample(alloc, &self.table, &self.narrow, &self.conflicts, question);
+        let place = counterexample(alloc, &self.table, &self.copy, &self.conflicts, question);
         let answer = answer_with(&self.table, place)?;
         self.given = place;
         Ok(answer)
@@ -113,59 +113,59 @@ fn no_conflicts(alloc: Global, rows: &[Attrs]) -> Result<Vec<Option<usize>>, All
 fn counterexample(
     alloc: Global,
     table: &Table,
-    narrow: &NarrowRows,
+    copy: &IndexedCopy,
     conflicts: &[Option<usize>],
     question: &Question,
 ) -> Option<usize>
-    requires rows { AreRowsOf table.now.context narrow.now }
+    requires rows { AreRowsOf table.now.context copy.now }
     requires wide { IsWide table.now.context.width question.now }
     ensures { result ≡ counterexample table.now conflicts.now question.now }
 {
-    match narrow {
-        NarrowRows::One(sheet) => counterexample_on(alloc, sheet, conflicts, question),
-        NarrowRows::Two(sheet) => counterexample_on(alloc, sheet, conflicts, question),
-        NarrowRows::Four(sheet) => counterexample_on(alloc, sheet, conflicts, question),
-        NarrowRows::Wide => counterexample_among(table.rows(), conflicts, question),
+    match copy {
+        IndexedCopy::One(indexed) => counterexample_on(alloc, indexed, conflicts, question),
+        IndexedCopy::Two(indexed) => counterexample_on(alloc, indexed, conflicts, question),
+        IndexedCopy::Four(indexed) => counterexample_on(alloc, indexed, conflicts, question),
+        IndexedCopy::Wide => counterexample_among(table.rows(), conflicts, question),
     }
 }
 
-/// Looks for the counterexample on a sheet of W words. If the columns show that no row refutes the question, no row is looked at.
+/// Looks for the counterexample in the copy of W words. If the columns show that no row refutes the question, no row is looked at.
 fn counterexample_on<const W: usize>(
     alloc: Global,
-    sheet: &IndexedRows<W>,
+    indexed: &IndexedRows<W>,
     conflicts: &[Option<usize>],
     question: &Question,
 ) -> Option<usize>
-    requires { IsWide sheet.now.width question.now }
-    ensures { result ≡ position (is_counterexample question.now) (zip sheet.now.rows conflicts.now) }
+    requires { IsWide indexed.now.width question.now }
+    ensures { result ≡ position (is_counterexample question.now) (zip indexed.now.rows conflicts.now) }
 {
-    let _width = sheet.rows().width();
+    let _width = indexed.rows().width();
     let premise = question.premise.resize();
     let conclusion = question.conclusion.resize();
-    if is_seen_to_hold(alloc, sheet, &premise, &conclusion) {
+    if is_seen_to_hold(alloc, indexed, &premise, &conclusion) {
         return None;
     }
-    first_refuting(sheet.rows().as_slice(), conflicts, &premise, &conclusion)
+    first_refuting(indexed.rows().as_slice(), conflicts, &premise, &conclusion)
 }
 
 /// Whether the columns show that the implication holds. It may hold though they do not: if the premise is empty, or memory runs
 /// out.
 fn is_seen_to_hold<const W: usize>(
     alloc: Global,
-    sheet: &IndexedRows<W>,
+    indexed: &IndexedRows<W>,
     premise: &Bits<W>,
     conclusion: &Bits<W>,
 ) -> bool
-    requires premise { length premise.now ≡ sheet.now.width }
-    requires conclusion { length conclusion.now ≡ sheet.now.width }
-    ensures { result ≡ true → holds sheet.now (rule premise.now conclusion.now) ≡ true }
+    requires premise { length premise.now ≡ indexed.now.width }
+    requires conclusion { length conclusion.now ≡ indexed.now.width }
+    ensures { result ≡ true → holds indexed.now (rule premise.now conclusion.now) ≡ true }
 {
-    let _width = sheet.rows().width();
+    let _width = indexed.rows().width();
     let Some(i) = premise.first_missing(&Bits::empty(premise.width())) else {
         return false;
     };
-    match BlockExtent::of(alloc, sheet, premise) {
-        Ok(near) => conclusion.within(&near.closure_with(sheet, i, premise)),
+    match BlockExtent::of(alloc, indexed, premise) {
+        Ok(near) => conclusion.within(&near.closure_with(indexed, i, premise)),
         Err(_) => false,
     }
 }

@@ -16,7 +16,7 @@ closure_with-requires g c =
           omega (arith, below, c.requires.premise),
           (
             c.requires.premise,
-            extent_with_own c.args.sheet.now P c.in-Some.i _ c.requires.premise at.0 c.in-Ok.ensures,
+            extent_with_own c.args.indexed.now P c.in-Some.i _ c.requires.premise at.0 c.in-Ok.ensures,
           ),
         ),
       ),

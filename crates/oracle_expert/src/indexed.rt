@@ -1,7 +1,7 @@
 //! A second copy of the rows of a table, in sets as narrow as the table, with their columns.
 
 ghost use Rattle.std.specs.Prelude.{IfOk};
-ghost use Rattle.oracle_expert.specs.Narrow.{AreRowsOf};
+ghost use Rattle.oracle_expert.specs.Indexed.{AreRowsOf};
 
 use attr_bits::WordCount;
 use derivation::Rows;
@@ -11,7 +11,7 @@ use std::alloc::Global;
 
 /// The rows and columns of a table in the fewest words that have room for its attributes.
 #[derive(Drop)]
-pub(crate) enum NarrowRows {
+pub(crate) enum IndexedCopy {
     One(IndexedRows<1>),
     Two(IndexedRows<2>),
     Four(IndexedRows<4>),
@@ -20,13 +20,13 @@ pub(crate) enum NarrowRows {
 }
 
 /// A copy of the rows in the fewest words that have room for them.
-pub(crate) fn narrow_rows(alloc: Global, rows: &Rows) -> Result<NarrowRows, Memory>
+pub(crate) fn indexed_copy(alloc: Global, rows: &Rows) -> Result<IndexedCopy, Memory>
     ensures { IfOk result (AreRowsOf rows.now) }
 {
     Ok(match WordCount::of(rows.width()) {
-        WordCount::One => NarrowRows::One(IndexedRows::new(alloc, rows.resize(alloc)?)?),
-        WordCount::Two => NarrowRows::Two(IndexedRows::new(alloc, rows.resize(alloc)?)?),
-        WordCount::Four => NarrowRows::Four(IndexedRows::new(alloc, rows.resize(alloc)?)?),
-        WordCount::All => NarrowRows::Wide,
+        WordCount::One => IndexedCopy::One(IndexedRows::new(alloc, rows.resize(alloc)?)?),
+        WordCount::Two => IndexedCopy::Two(IndexedRows::new(alloc, rows.resize(alloc)?)?),
+        WordCount::Four => IndexedCopy::Four(IndexedRows::new(alloc, rows.resize(alloc)?)?),
+        WordCount::All => IndexedCopy::Wide,
     })
 }
