@@ -4,4 +4,5 @@ pub mod ReadingLemmas
 pub mod KnownLemmas
 pub mod QuietLemmas
 pub mod FetchLemmas
+pub mod CauseLemmas
 mod Examples

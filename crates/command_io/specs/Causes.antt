@@ -47,6 +47,13 @@ IfHeld None P = ⊤
 IfHeld (Some None) P = ⊥
 IfHeld (Some (Some bytes)) P = (length bytes ≤ FILE_BYTES) × P bytes
 
+-- the stop for a file that was not fetched: it could not be read, and a count of faults rose; it is too long; or memory ran out
+abbrev pub IsFetchStop : Told → Type 0 → Origin → Stop → Type 0
+IsFetchStop told rose origin (Fault at) = (at ≡ origin) × rose
+IsFetchStop told rose origin (TooLong at) = (at ≡ origin) × MayExceed told FILE_BYTES
+IsFetchStop told rose origin Memory = ⊤
+IsFetchStop told rose origin _ = ⊥
+
 -- The stop for the file of this name: it could not be read, and a count of faults rose; it is too long; or it is not too long, and its
 -- bytes do not have its form
 abbrev pub IsFileStop : Text → Told → Type 0 → Origin → Stop → Type 0

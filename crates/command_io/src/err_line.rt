@@ -28,15 +28,15 @@ pub(crate) const TURNS_SPENT: &str = "turns spent";
 /// The name of the input in these lines.
 const INPUT: &str = "input";
 
-/// Writes why there is no text. `file` is the name of the file at fault, if there is one. A fault of err is ignored.
-pub fn report<E: Sink>(err: &mut E, file: &[u8], stop: &Stop)
+/// Explains on err why there is no text. `file` is the name of the file at fault, if there is one. A fault of err is ignored.
+pub(crate) fn explain_stop<E: Sink>(err: &mut E, file: &[u8], stop: &Stop)
     ensures { GainsLine (Some (stop_line file.now stop.now)) (moment E.held E.faults err.old) (moment E.held E.faults err.new) }
 {
     let _ = write_stop(err, file, stop);
 }
 
-/// Writes these words as the line. A fault of err is ignored.
-pub(crate) fn report_plain<E: Sink>(err: &mut E, words: &str)
+/// Explains it on err in these words alone. A fault of err is ignored.
+pub(crate) fn explain_in_words<E: Sink>(err: &mut E, words: &str)
     ensures { GainsLine (Some (plain_line words.now)) (moment E.held E.faults err.old) (moment E.held E.faults err.new) }
 {
     let _ = write_plain(err, words);

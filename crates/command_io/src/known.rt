@@ -13,13 +13,14 @@ ghost use Rattle.command_io.specs.Known.{implications_read, known_file_read, kno
 ghost use Rattle.command_io.specs.Known.{IsKnownSaidStop, IsKnownFileStop, IsKnownStop, IsStartStop};
 ghost use Rattle.command_io.specs.Endings.{IsRefusal};
 
-use crate::readings::{fetch_stop, load_table};
+use crate::fetch::fetch_file;
+use crate::readings::load_table;
 use crate::stop::{Origin, Stop};
 use context_table::Table;
 use expert_scripts::{KnownFault, read_known};
 use explore_state::first_break;
 use fca_io::Shelf;
-use fca_model::{FILE_BYTES, Word};
+use fca_model::Word;
 use implication_closure::ImplicationList;
 use std::alloc::Global;
 
@@ -120,10 +121,7 @@ fn load_implications<H: Shelf>(
     ensures kept { (other : List ℕ) → H.tells shelf.new other ≡ H.tells shelf.old other }
     ensures later { (other : List ℕ) → H.faults shelf.old other ≤ H.faults shelf.new other }
 {
-    let bytes = match shelf.fetch(alloc, file.bytes(), FILE_BYTES) {
-        Ok(bytes) => bytes,
-        Err(taken) => return Err(fetch_stop(taken, Origin::Known)),
-    };
+    let bytes = fetch_file(alloc, shelf, file, Origin::Known)?;
     implications_of(alloc, &bytes, n)
 }
 

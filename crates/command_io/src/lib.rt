@@ -2,6 +2,7 @@
 #![tactic(auto)]
 
 mod err_line;
+mod fetch;
 mod known;
 mod narrow;
 mod output;
@@ -10,7 +11,6 @@ mod scalings;
 mod stop;
 mod text;
 
-pub use err_line::report;
 pub use known::{Start, check_known, load_known, load_start};
 pub use narrow::load_narrow_table;
 pub use output::{Ending, Output, conclude};

@@ -11,12 +11,13 @@ ghost use Rattle.command_io.specs.Narrow.{untitled_reading};
 ghost use Rattle.command_io.specs.Causes.{UnlessFault, IsFormStop, IsFileStop};
 ghost use Rattle.command_io.specs.Endings.{IsRefusal};
 
-use crate::readings::{csv_table, fetch_stop, is_csv};
+use crate::fetch::fetch_file;
+use crate::readings::{csv_table, is_csv};
 use crate::stop::{Origin, Stop};
 use context_table::NarrowTable;
 use cxt_format::{CxtFault, read_narrow_cxt};
 use fca_io::Shelf;
-use fca_model::{FILE_BYTES, Word};
+use fca_model::Word;
 use std::alloc::Global;
 
 /// Reads the table in the file without its title. A stop names the origin, and the refusals are those of [`load_table`](crate::load_table).
@@ -35,14 +36,11 @@ pub fn load_narrow_table<H: Shelf>(
     ensures kept { (other : List ℕ) → H.tells shelf.new other ≡ H.tells shelf.old other }
     ensures later { (other : List ℕ) → H.faults shelf.old other ≤ H.faults shelf.new other }
 {
-    let bytes = match shelf.fetch(alloc, file.bytes(), FILE_BYTES) {
-        Ok(bytes) => bytes,
-        Err(taken) => return Err(fetch_stop(taken, origin)),
-    };
+    let bytes = fetch_file(alloc, shelf, file, origin)?;
     narrow_table(alloc, &bytes, file.bytes(), origin)
 }
 
-/// The table whose form the bytes are, by the name of their file.
+/// Reads the narrow table in the bytes, in the form that the file's name says.
 fn narrow_table(
     alloc: Global,
     bytes: &[u8],
@@ -60,6 +58,7 @@ fn narrow_table(
     }
 }
 
+/// Reads the narrow table in the bytes, in the CSV form.
 fn narrow_csv_table(alloc: Global, bytes: &[u8], origin: Origin) -> Result<NarrowTable, Stop>
     ensures table { IfOk result (λ table. MayRead (untitled_reading (formed (csv_form bytes.now))) table) }
     ensures refused { IfErr result (λ stop. IsRefusal stop → MayRefuse (formed (csv_form bytes.now))) }
@@ -72,6 +71,7 @@ fn narrow_csv_table(alloc: Global, bytes: &[u8], origin: Origin) -> Result<Narro
     }
 }
 
+/// Reads the narrow table in the bytes, in the Burmeister form.
 fn narrow_cxt_table(alloc: Global, bytes: &[u8], origin: Origin) -> Result<NarrowTable, Stop>
     ensures table { IfOk result (λ table. MayRead (untitled_reading (formed (cxt_form bytes.now))) table) }
     ensures refused { IfErr result (λ stop. IsRefusal stop → MayRefuse (formed (cxt_form bytes.now))) }

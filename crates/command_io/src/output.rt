@@ -6,7 +6,7 @@ ghost use Rattle.command_io.specs.Endings.{finished, ending_of, ending_status};
 ghost use Rattle.command_io.specs.ErrLines.{ending_line};
 ghost use Rattle.command_io.specs.Streams.{moment, GainsLine, HasConcluded};
 
-use crate::err_line::{TURNS_SPENT, report, report_plain};
+use crate::err_line::{TURNS_SPENT, explain_in_words, explain_stop};
 use crate::stop::Stop;
 use crate::text::Text;
 use explore_state::Explore;
@@ -105,25 +105,25 @@ pub fn conclude<R: Threads + Sync, K: Sink, E: Sink>(
         Ok(output) => {
             let ending = output.ending;
             if output.text.write(rt, out).is_err() {
-                report_plain(err, WRITE_FAULT);
+                explain_in_words(err, WRITE_FAULT);
                 return CUT_OFF;
             }
-            report_ending(err, ending);
+            explain_ending(err, ending);
             ending.status()
         }
         Err(stop) => {
-            report(err, file, &stop);
+            explain_stop(err, file, &stop);
             stop.status()
         }
     }
 }
 
 /// Writes the line of turns that are spent, if they are.
-fn report_ending<E: Sink>(err: &mut E, ending: Ending)
+fn explain_ending<E: Sink>(err: &mut E, ending: Ending)
     ensures { GainsLine (ending_line ending) (moment E.held E.faults err.old) (moment E.held E.faults err.new) }
 {
     match ending {
         Ending::Finished | Ending::Open => {}
-        Ending::Spent => report_plain(err, TURNS_SPENT),
+        Ending::Spent => explain_in_words(err, TURNS_SPENT),
     }
 }

@@ -13,28 +13,18 @@ ghost use Rattle.cxt_format.specs.Form.{cxt_form};
 ghost use Rattle.csv_context.specs.Form.{csv_form};
 ghost use Rattle.command_io.specs.Readings.{formed, MayRead, MayRefuse, SameCounts};
 ghost use Rattle.command_io.specs.Forms.{is_csv, table_formed, table_read, script_read};
-ghost use Rattle.command_io.specs.Causes.{UnlessFault, taken_stop, IsFormStop, IsFileStop, IsScriptStop};
+ghost use Rattle.command_io.specs.Causes.{UnlessFault, IsFormStop, IsFileStop, IsScriptStop};
 ghost use Rattle.command_io.specs.Endings.{IsRefusal};
 
+use crate::fetch::{fetch_file, fetch_stop};
 use crate::stop::{Origin, Stop};
 use context_table::Table;
 use csv_context::{CsvFault, read_csv};
 use cxt_format::{CxtFault, read_cxt};
 use expert_scripts::{Script, ScriptFault, read_script};
-use fca_io::{Shelf, Source, Taken, read_all};
+use fca_io::{Shelf, Source, read_all};
 use fca_model::{FILE_BYTES, Word};
 use std::alloc::Global;
-
-/// The stop for bytes of this origin that could not be read.
-pub(crate) fn fetch_stop(taken: Taken, origin: Origin) -> Stop
-    ensures { result ≡ taken_stop taken origin }
-{
-    match taken {
-        Taken::Failed => Stop::Fault(origin),
-        Taken::Long => Stop::TooLong(origin),
-        Taken::Memory => Stop::Memory,
-    }
-}
 
 /// Reads the table in the file. A stop names the origin.
 pub fn load_table<H: Shelf>(
@@ -52,10 +42,7 @@ pub fn load_table<H: Shelf>(
     ensures kept { (other : List ℕ) → H.tells shelf.new other ≡ H.tells shelf.old other }
     ensures later { (other : List ℕ) → H.faults shelf.old other ≤ H.faults shelf.new other }
 {
-    let bytes = match shelf.fetch(alloc, file.bytes(), FILE_BYTES) {
-        Ok(bytes) => bytes,
-        Err(taken) => return Err(fetch_stop(taken, origin)),
-    };
+    let bytes = fetch_file(alloc, shelf, file, origin)?;
     table_of(alloc, &bytes, file.bytes(), origin)
 }
 
@@ -92,6 +79,7 @@ pub(crate) fn csv_table(alloc: Global, bytes: &[u8], origin: Origin) -> Result<T
     }
 }
 
+/// Reads the table in the bytes, in the Burmeister form.
 fn cxt_table(alloc: Global, bytes: &[u8], origin: Origin) -> Result<Table, Stop>
     ensures table { IfOk result (λ table. MayRead (formed (cxt_form bytes.now)) table) }
     ensures refused { IfErr result (λ stop. IsRefusal stop → MayRefuse (formed (cxt_form bytes.now))) }

@@ -12,11 +12,11 @@ ghost use Rattle.command_io.specs.Forms.{values_read, plan_read};
 ghost use Rattle.command_io.specs.Causes.{UnlessFault, IsValuesStop, IsPlanStop};
 ghost use Rattle.command_io.specs.Endings.{IsRefusal};
 
-use crate::readings::fetch_stop;
+use crate::fetch::fetch_file;
 use crate::stop::{Origin, Stop};
 use context_scaling::{Plan, PlanFault, read_plan};
 use fca_io::Shelf;
-use fca_model::{FILE_BYTES, Word};
+use fca_model::Word;
 use std::alloc::Global;
 use value_tables::{Values, ValuesFault, read_values};
 
@@ -36,10 +36,7 @@ pub fn load_values<H: Shelf>(
     ensures kept { (other : List ℕ) → H.tells shelf.new other ≡ H.tells shelf.old other }
     ensures later { (other : List ℕ) → H.faults shelf.old other ≤ H.faults shelf.new other }
 {
-    let bytes = match shelf.fetch(alloc, file.bytes(), FILE_BYTES) {
-        Ok(bytes) => bytes,
-        Err(taken) => return Err(fetch_stop(taken, origin)),
-    };
+    let bytes = fetch_file(alloc, shelf, file, origin)?;
     values_of(alloc, &bytes, origin)
 }
 
@@ -75,10 +72,7 @@ pub fn load_plan<H: Shelf>(
     ensures kept { (other : List ℕ) → H.tells shelf.new other ≡ H.tells shelf.old other }
     ensures later { (other : List ℕ) → H.faults shelf.old other ≤ H.faults shelf.new other }
 {
-    let bytes = match shelf.fetch(alloc, file.bytes(), FILE_BYTES) {
-        Ok(bytes) => bytes,
-        Err(taken) => return Err(fetch_stop(taken, origin)),
-    };
+    let bytes = fetch_file(alloc, shelf, file, origin)?;
     plan_of(alloc, &bytes, origin, values)
 }
 

@@ -20,7 +20,7 @@ returns-then-is_err g c =
       became = subst Becomes (sym c.in-Ok.is) (inr refl);
       status = refl;
       text = (subst Began same c.write.ensures.front, rose);
-      line = c.report_plain.ensures;
+      line = c.explain_in_words.ensures;
     }
 
 pub returns-else-is_err : goal.returns-else-is_err
@@ -47,5 +47,5 @@ returns-in-Err g c =
       became = subst Becomes (sym c.in-Err.is) refl;
       status = c.status-in-Err.ensures;
       text = refl;
-      line = c.report.ensures;
+      line = c.explain_stop.ensures;
     }

@@ -1,6 +1,6 @@
 use Rattle.command_io.specs.Streams.{moment}
 use Rattle.command_io.proofs.ErrLemmas.{writes-gain}
-use Rattle.command_io.proofs.err_line.report_plain.Goals as goal
+use Rattle.command_io.proofs.err_line.explain_in_words.Goals as goal
 
 pub returns : goal.returns
 returns g c =
