@@ -2,11 +2,10 @@
 
 ghost use Rattle.std.specs.Prelude.{◌≡◌, ◌++◌, ℕ, [], length, codes, IfOk, OnOk, slice_get, unwrap_or};
 ghost use Rattle.std.specs.List.{flat_map, enumerate_from};
-ghost use Rattle.expert_wire.specs.Texts.{names_in_braces, braces_text};
+ghost use Rattle.expert_wire.specs.Texts.{names_in_braces};
 ghost use Rattle.report_texts.specs.Reports.{count_line, names_at, concept_line, concepts_text, cover_line, lattice_text};
 
 use crate::count_line::write_count_line;
-use attr_bits::Bits;
 use context_table::Table;
 use expert_wire::{Draft, Part};
 use fca_model::Memory;
@@ -44,13 +43,7 @@ fn write_concepts(draft: &mut Draft, table: &Table, concepts: &[Concept]) -> Res
 {
     write_count_line(draft, table, b"concepts ", concepts.len())?;
     for (place, concept) in concepts.iter().enumerate() {
-        write_line(
-            draft,
-            table,
-            place,
-            &concept.intent,
-            concept.extent.as_slice(),
-        )?;
+        write_line(draft, table, place, concept)?;
     }
     Ok(())
 }
@@ -68,43 +61,26 @@ fn write_covers(draft: &mut Draft, covers: &[(usize, usize)]) -> Result<(), Memo
     Ok(())
 }
 
-/// Appends the line of the concept with this intent and this extent.
-fn write_line<const W: usize>(
+/// Appends the line of the concept at this place.
+fn write_line(
     draft: &mut Draft,
     table: &Table,
     place: usize,
-    intent: &Bits<W>,
-    extent: &[usize],
+    concept: &Concept,
 ) -> Result<(), Memory>
-    ensures { OnOk result (draft.new ≡ draft.old ++ concept_line table.now place (record { intent = intent.now; extent = extent.now })) }
+    ensures { OnOk result (draft.new ≡ draft.old ++ concept_line table.now place concept.now) }
 {
-    draft.append_ordinal(place)?;
-    draft.append_bytes(b" ")?;
-    write_attributes(draft, table, intent)?;
-    draft.append_bytes(b" | ")?;
-    write_objects(draft, table, extent)?;
+    draft.append_parts(
+        table,
+        &[
+            Part::Ordinal(place),
+            Part::Bytes(b" "),
+            Part::Braces(concept.intent),
+            Part::Bytes(b" | "),
+        ],
+    )?;
+    write_objects(draft, table, concept.extent.as_slice())?;
     draft.append_bytes(b"\n")
-}
-
-/// Appends the names of the attributes in the set, in braces.
-fn write_attributes<const W: usize>(
-    draft: &mut Draft,
-    table: &Table,
-    set: &Bits<W>,
-) -> Result<(), Memory>
-    ensures { OnOk result (draft.new ≡ draft.old ++ braces_text table.now.attributes set.now) }
-{
-    draft.append_bytes(b"{")?;
-    let mut between = b"".as_slice();
-    for attribute in 0..set.width().min(table.rows().width()) {
-        if !set.has(attribute) {
-            continue;
-        }
-        draft.append_bytes(between)?;
-        draft.append_bytes(table.attribute_name(attribute).bytes())?;
-        between = b", ".as_slice();
-    }
-    draft.append_bytes(b"}")
 }
 
 /// Appends the names of the objects at these places, in braces.
