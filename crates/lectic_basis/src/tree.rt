@@ -212,8 +212,14 @@ fn child_at<const W: usize>(
     }
     let closed = lists.near.closure_with(indexed, i, &reached);
     let child = visit(indexed, known, found, &reached, &closed, i + 1)?;
-    note(&mut lists.forced, a, i, &closed, from, indexed.supports());
-    Ok(child)
+    match child {
+        None => {
+            let supports = indexed.supports();
+            note(&mut lists.forced, a, i, &closed, from, supports);
+            Ok(None)
+        }
+        Some(intent) => Ok(Some(intent)),
+    }
 }
 
 /// Visits a alone, whose closure is given. If more is left that agrees with a before attribute `from`, it is behind the returned intent. That is a itself, or its

@@ -1,4 +1,4 @@
-use Rattle.std.proofs.Common.{◌≡◌, sym, subst, arith}
+use Rattle.std.proofs.Common.{◌≡◌, Some, None, sym, subst, arith}
 use Rattle.implication_closure.specs.Closing.{RuleList}
 use Rattle.lectic_basis.specs.Forced.{AreForced, IsLonger}
 use Rattle.lectic_basis.specs.Watches.{IsBounded}
@@ -61,33 +61,51 @@ visit-requires g c = (
   ),
 )
 
-pub returns-clause-near : goal.returns-clause-near
-returns-clause-near g c =
-    let closed = c.in_ok-close.ensures.closure c.if-not-branch.false in
-    let lacks = c.requires.lacks in
-    told_extent c.args.indexed.now c.close.new.closed c.args.i c.args.lists.now.near _
-    (below_extent c.requires.trying lacks c.with-reached.ensures c.in_ok-close.ensures.moved closed c.args.lists.now.near c.requires.near)
-    c.in_ok-child.ensures.larger c.in_ok-child.ensures.shared
+-- the least set with attribute i was visited, and nothing is left behind it
 
-pub returns-clause-done : goal.returns-clause-done
-returns-clause-done g c = below_told c.requires.trying c.requires.lacks c.with-reached.ensures c.in_ok-close.ensures.moved
-    (c.in_ok-close.ensures.closure c.if-not-branch.false) _ _ c.in_ok-child.ensures.done
+pub returns-in-None-clause-done : goal.returns-in-None-clause-done
+returns-in-None-clause-done g c = below_told c.requires.trying c.requires.lacks c.with-reached.ensures c.in_ok-close.ensures.moved
+    (c.in_ok-close.ensures.closure c.if-not-branch.false) _ None (rw c.in-None.is at c.in_ok-child.ensures.done)
 
--- what attribute i forces, once its set was visited
-
-pub returns-clause-kept : goal.returns-clause-kept
-returns-clause-kept g c =
+pub returns-in-None-clause-kept : goal.returns-in-None-clause-kept
+returns-in-None-clause-kept g c =
     let J = c.args.found.now.list.members in
     let M = c.visit.new.found.list.members in
     let list : c.close.new.found.list ≡ c.args.found.now.list = c.in_ok-close.ensures.moved.list in
     let more : IsLonger J M = subst (λ (L : RuleList). IsLonger L.members M) list c.in_ok-child.ensures.more in
     let reached = subst (λ X. IsBounded J X c.close.new.closed) c.with-reached.ensures c.in_ok-close.ensures.bounded in
-    c.note-2.ensures M (bounded_more J M _ _ _ more reached c.in_ok-child.ensures.bounded)
+    c.note-in-None.ensures M (bounded_more J M _ _ _ more reached c.in_ok-child.ensures.bounded)
     (forced_more J M c.args.a.now c.args.lists.now.forced.items more c.requires.forced)
 
-pub returns-clause-passed : goal.returns-clause-passed
-returns-clause-passed g c =
+-- more is left behind an intent
+
+pub returns-in-Some-clause-below : goal.returns-in-Some-clause-below
+returns-in-Some-clause-below g c = rw c.in-Some.is at c.in_ok-child.ensures.below
+
+pub returns-in-Some-clause-near : goal.returns-in-Some-clause-near
+returns-in-Some-clause-near g c =
     let closed = c.in_ok-close.ensures.closure c.if-not-branch.false in
-    told_forced c.visit.new.found.list.members c.args.a.now c.close.new.closed c.note-2.new.forced.items _ (returns-clause-kept g c)
+    let lacks = c.requires.lacks in
+    told_extent c.args.indexed.now c.close.new.closed c.args.i c.args.lists.now.near (Some c.in-Some.intent)
+    (below_extent c.requires.trying lacks c.with-reached.ensures c.in_ok-close.ensures.moved closed c.args.lists.now.near c.requires.near)
+    (rw c.in-Some.is at c.in_ok-child.ensures.larger) (rw c.in-Some.is at c.in_ok-child.ensures.shared)
+
+pub returns-in-Some-clause-done : goal.returns-in-Some-clause-done
+returns-in-Some-clause-done g c = below_told c.requires.trying c.requires.lacks c.with-reached.ensures c.in_ok-close.ensures.moved
+    (c.in_ok-close.ensures.closure c.if-not-branch.false) _ (Some c.in-Some.intent) (rw c.in-Some.is at c.in_ok-child.ensures.done)
+
+pub returns-in-Some-clause-kept : goal.returns-in-Some-clause-kept
+returns-in-Some-clause-kept g c =
+    let J = c.args.found.now.list.members in
+    let M = c.visit.new.found.list.members in
+    let list : c.close.new.found.list ≡ c.args.found.now.list = c.in_ok-close.ensures.moved.list in
+    let more : IsLonger J M = subst (λ (L : RuleList). IsLonger L.members M) list c.in_ok-child.ensures.more in
+    forced_more J M c.args.a.now c.args.lists.now.forced.items more c.requires.forced
+
+pub returns-in-Some-clause-passed : goal.returns-in-Some-clause-passed
+returns-in-Some-clause-passed g c =
+    let closed = c.in_ok-close.ensures.closure c.if-not-branch.false in
+    told_forced c.visit.new.found.list.members c.args.a.now c.close.new.closed c.args.lists.now.forced.items (Some c.in-Some.intent)
+    (returns-in-Some-clause-kept g c)
     (below_up c.args.a.now c.with-reached.result c.close.new.closed c.args.i c.args.found.now.list.members c.with-reached.ensures
-    closed.closure) c.in_ok-child.ensures.larger
+    closed.closure) (rw c.in-Some.is at c.in_ok-child.ensures.larger)
