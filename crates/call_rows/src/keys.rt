@@ -2,7 +2,7 @@
 
 /// What a line says.
 #[derive(Clone, Copy)]
-pub enum Key {
+pub enum LineKey {
     Call,
     Word,
     File,
@@ -36,23 +36,23 @@ pub enum End {
     Write,
 }
 
-const KEYS: [(&[u8], Key); 16] = [
-    (b"call", Key::Call),
-    (b"word", Key::Word),
-    (b"file", Key::File),
-    (b"F", Key::FileLine),
-    (b"f", Key::FileLine),
-    (b"fill", Key::Fill),
-    (b"I", Key::InputLine),
-    (b"i", Key::InputLine),
-    (b"client", Key::Client),
-    (b"C", Key::ClientLine),
-    (b"c", Key::ClientLine),
-    (b"fails", Key::Fails),
-    (b"input", Key::Number(Number::Input)),
-    (b"out", Key::Number(Number::Out)),
-    (b"first", Key::Number(Number::First)),
-    (b"last", Key::Number(Number::Last)),
+const KEYS: [(&[u8], LineKey); 16] = [
+    (b"call", LineKey::Call),
+    (b"word", LineKey::Word),
+    (b"file", LineKey::File),
+    (b"F", LineKey::FileLine),
+    (b"f", LineKey::FileLine),
+    (b"fill", LineKey::Fill),
+    (b"I", LineKey::InputLine),
+    (b"i", LineKey::InputLine),
+    (b"client", LineKey::Client),
+    (b"C", LineKey::ClientLine),
+    (b"c", LineKey::ClientLine),
+    (b"fails", LineKey::Fails),
+    (b"input", LineKey::Number(Number::Input)),
+    (b"out", LineKey::Number(Number::Out)),
+    (b"first", LineKey::Number(Number::First)),
+    (b"last", LineKey::Number(Number::Last)),
 ];
 
 const ENDS: [(&[u8], End); 7] = [
@@ -66,7 +66,7 @@ const ENDS: [(&[u8], End); 7] = [
 ];
 
 /// What a line that begins with the word says, if anything.
-pub fn key_of(word: &[u8]) -> Option<Key> {
+pub fn key_of(word: &[u8]) -> Option<LineKey> {
     let (_, key) = KEYS.iter().find(|(text, _)| *text == word)?;
     Some(*key)
 }

@@ -2,7 +2,7 @@
 
 ghost use Rattle.std.specs.Prelude.{◌≡◌, false, IfOk};
 
-use crate::keys::{End, Key, Number, end_of, key_of};
+use crate::keys::{End, LineKey, Number, end_of, key_of};
 use fca_io::{MemoryEnd, MemoryLink, MemoryShelf, MemorySink, MemorySource};
 use fca_model::{Memory, Word};
 use std::alloc::Global;
@@ -88,16 +88,16 @@ impl Row {
     pub fn read(&mut self, line: &[u8]) -> Result<(), Memory> {
         let (word, rest) = split_word(line);
         match key_of(word) {
-            Some(Key::Call) => self.begin(line, rest),
-            Some(Key::Word) => self.push_word(rest),
-            Some(Key::File) => self.begin_file(rest),
-            Some(Key::FileLine) => self.push_to_file(word, rest),
-            Some(Key::Fill) => self.fill(number_of(rest)),
-            Some(Key::InputLine) => push_line(&mut self.input, word, rest),
-            Some(Key::Client) => self.begin_client(),
-            Some(Key::ClientLine) => self.push_to_client(word, rest),
-            Some(Key::Fails) => self.push_failing(rest),
-            Some(Key::Number(number)) => {
+            Some(LineKey::Call) => self.begin(line, rest),
+            Some(LineKey::Word) => self.push_word(rest),
+            Some(LineKey::File) => self.begin_file(rest),
+            Some(LineKey::FileLine) => self.push_to_file(word, rest),
+            Some(LineKey::Fill) => self.fill(number_of(rest)),
+            Some(LineKey::InputLine) => push_line(&mut self.input, word, rest),
+            Some(LineKey::Client) => self.begin_client(),
+            Some(LineKey::ClientLine) => self.push_to_client(word, rest),
+            Some(LineKey::Fails) => self.push_failing(rest),
+            Some(LineKey::Number(number)) => {
                 self.set_number(number, number_of(rest));
                 Ok(())
             }

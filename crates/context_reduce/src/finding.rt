@@ -7,7 +7,7 @@ ghost use Rattle.context_reduce.specs.Blocks.{AreBlocks};
 ghost use Rattle.context_reduce.specs.Arrows.{arrow_of, arrow_at, arrow_table, TellIrreducibles};
 
 use crate::columns::{attributes_above, column_order};
-use crate::larger::{Columns, blocks_of, meet_of_larger};
+use crate::larger::{ColumnBlock, blocks_of, meet_of_larger};
 use crate::marks::{Arrow, Arrows};
 use attr_bits::Attrs;
 use context_table::Table;
@@ -47,7 +47,7 @@ fn all_attributes_above(alloc: Global, rows: &Rows) -> Result<Vec<Attrs>, Memory
 fn arrows_of_object(
     alloc: Global,
     rows: &Rows,
-    blocks: &[Columns],
+    blocks: &[ColumnBlock],
     larger: &[Attrs],
     g: usize,
 ) -> Result<Vec<Arrow>, Memory>

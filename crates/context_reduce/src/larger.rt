@@ -19,13 +19,13 @@ use std::alloc::Global;
 const BLOCK: usize = 256;
 
 /// The columns of a block, each a set of its rows.
-pub(crate) type Columns = RowsOf<4>;
+pub(crate) type ColumnBlock = RowsOf<4>;
 
 /// The columns of each block.
 pub(crate) fn blocks_of<const W: usize>(
     alloc: Global,
     rows: &RowsOf<W>,
-) -> Result<Vec<Columns>, Memory>
+) -> Result<Vec<ColumnBlock>, Memory>
     ensures { IfOk result (λ blocks. AreBlocks rows.now blocks.items) }
 {
     let mut blocks = Vec::new(alloc);
@@ -36,13 +36,13 @@ pub(crate) fn blocks_of<const W: usize>(
 }
 
 /// The columns of block k.
-fn columns_of<const W: usize>(alloc: Global, rows: &RowsOf<W>, k: usize) -> Result<Columns, Memory>
+fn columns_of<const W: usize>(alloc: Global, rows: &RowsOf<W>, k: usize) -> Result<ColumnBlock, Memory>
     requires { k * BLOCK ≤ length rows.now.rows }
     ensures { IfOk result (λ columns. columns ≡ transpose (block rows.now k)) }
 {
     let width = rows.width();
     let part = block(rows, k);
-    let mut columns = Columns::new(alloc, part.len() as u32)?;
+    let mut columns = ColumnBlock::new(alloc, part.len() as u32)?;
     for m in 0..width {
         columns.push(column_of(part, m))?;
     }
@@ -78,7 +78,7 @@ fn block<const W: usize>(rows: &RowsOf<W>, k: usize) -> &[Bits<W>]
 /// The intersection of the rows that strictly contain the set. After it has become the set, the blocks that are left change nothing.
 pub(crate) fn meet_of_larger<const W: usize>(
     rows: &RowsOf<W>,
-    blocks: &[Columns],
+    blocks: &[ColumnBlock],
     set: &Bits<W>,
 ) -> Bits<W>
     requires wide { length set.now ≡ rows.now.width }
@@ -98,7 +98,7 @@ pub(crate) fn meet_of_larger<const W: usize>(
 }
 
 /// Whether a row of these columns may contain the set. If the answer is no, none does.
-fn may_contain<const W: usize>(columns: &Columns, set: &Bits<W>) -> bool
+fn may_contain<const W: usize>(columns: &ColumnBlock, set: &Bits<W>) -> bool
     requires { length set.now ≤ length columns.now.rows }
     ensures { (B : Context) → columns.now ≡ transpose B → result ≡ false → list_any (within set.now) B.rows ≡ false }
 {

@@ -4,7 +4,7 @@ ghost use Rattle.std.specs.Prelude.{◌≡◌, ◌<◌, IfOk, All, not, length, 
 ghost use Rattle.context_reduce.specs.Blocks.{AreBlocks};
 ghost use Rattle.context_reduce.specs.Reduce.{row_at, reducible, distinct_objects, irreducible_objects};
 
-use crate::larger::{Columns, blocks_of, meet_of_larger};
+use crate::larger::{ColumnBlock, blocks_of, meet_of_larger};
 use attr_bits::WordCount;
 use derivation::{Rows, RowsOf};
 use fca_model::{Memory, Places};
@@ -67,7 +67,7 @@ fn irreducible_rows_in<const W: usize>(
 }
 
 /// Whether row g is the intersection of the larger ones.
-fn is_reducible<const W: usize>(rows: &RowsOf<W>, blocks: &[Columns], g: usize) -> bool
+fn is_reducible<const W: usize>(rows: &RowsOf<W>, blocks: &[ColumnBlock], g: usize) -> bool
     requires place { g < length rows.now.rows }
     requires blocks { AreBlocks rows.now blocks.now }
     ensures { result ≡ reducible rows.now (row_at rows.now g) }

@@ -205,6 +205,7 @@ impl Table {
         let rows = self.rows.copy()?;
         match Table::new(alloc, title, objects, attributes, rows) {
             Ok(table) => Ok(table),
+            // (the names were a table's, so no other fault can come)
             Err(_) => Err(Memory),
         }
     }

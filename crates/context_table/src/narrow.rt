@@ -77,6 +77,7 @@ impl NarrowTable {
         let attributes = copy_names(alloc, table.attributes())?;
         match NarrowTable::new(alloc, objects, attributes, rows) {
             Ok(narrow) => Ok(narrow),
+            // (the names are a table's, so no other fault can come)
             Err(_) => Err(Memory),
         }
     }

@@ -21,11 +21,11 @@ const MOST: usize = LINE_BYTES + 1;
 
 /// The bytes that were read ahead.
 #[derive(Drop)]
-pub(crate) struct Ahead {
+pub(crate) struct ReadAhead {
     bytes: Vec<u8>,
 }
 
-impl Model for Ahead {
+impl Model for ReadAhead {
     ghost use Rattle.std.specs.Prelude.{ℕ, List, ◌≤◌, ◌+◌, vec_len, vec_capacity};
     ghost use Rattle.fca_model.specs.declared.TheConstants.{LINE_BYTES};
 
@@ -36,12 +36,12 @@ impl Model for Ahead {
     ghost invariant = { λ a. record { few : vec_len a.bytes ≤ LINE_BYTES + 1; made : LINE_BYTES + 1 ≤ vec_capacity a.bytes } };
 }
 
-impl Ahead {
+impl ReadAhead {
     /// Room for one line, with nothing read.
-    pub(crate) fn new(alloc: Global) -> Result<Ahead, Memory>
+    pub(crate) fn new(alloc: Global) -> Result<ReadAhead, Memory>
         ensures { IfOk result (λ ahead. ahead ≡ []) }
     {
-        Ok(Ahead {
+        Ok(ReadAhead {
             bytes: Vec::with_capacity(alloc, MOST)?,
         })
     }

@@ -8,7 +8,7 @@ ghost use Rattle.expert_sessions.specs.Talks.{HasTalked};
 ghost use Rattle.expert_sessions.specs.Courses.{Serves, Halts, HasServed};
 ghost use Rattle.expert_sessions.specs.Order.{ReadsForLine, ReadsInTurn};
 
-use crate::ahead::Ahead;
+use crate::ahead::ReadAhead;
 use crate::answer::answer;
 use crate::ended::Ended;
 use crate::said::{Said, greet, write_said};
@@ -39,7 +39,7 @@ pub fn session<D: Desk, E: Duplex>(
     ensures desk { Works (D.state desk.old) (D.state desk.new) }
     ensures width { D.attributes desk.new ≡ D.attributes desk.old }
 {
-    let Ok(mut ahead) = Ahead::new(alloc) else {
+    let Ok(mut ahead) = ReadAhead::new(alloc) else {
         return Ended::Memory;
     };
     match serve_lines(alloc, desk, table, expert, end, &mut ahead, lines) {
@@ -59,7 +59,7 @@ fn serve_lines<D: Desk, E: Duplex>(
     table: &Table,
     expert: u8,
     end: &mut E,
-    ahead: &mut Ahead,
+    ahead: &mut ReadAhead,
     lines: u32,
 ) -> Ended
     requires none { ahead.old ≡ [] }
@@ -90,7 +90,7 @@ fn serve_line<D: Desk, E: Duplex>(
     desk: &mut D,
     table: &Table,
     end: &mut E,
-    ahead: &mut Ahead,
+    ahead: &mut ReadAhead,
 ) -> Result<(), Ended>
     requires width { D.attributes desk.old ≡ table.now.context.width }
     ensures served { OnOk result (Serves table.now (D.state desk.old).number

@@ -145,6 +145,7 @@ fn open_exploration(
 {
     match Explore::open_with(alloc, table, experts, settings) {
         Ok(explore) => Ok(explore),
+        // (each row respects what is known)
         Err(_) => Err(Memory),
     }
 }

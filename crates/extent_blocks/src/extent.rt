@@ -6,7 +6,7 @@ ghost use Rattle.fca_model.specs.Sets.{within};
 ghost use Rattle.fca_model.specs.Context.{closure};
 ghost use Rattle.extent_blocks.specs.Blocks.{IsExtent, IsExtentWith, IsMeeting, IsMet, contains_at, has_at, in_block, in_column, in_parts};
 
-use crate::rows::{BLOCK, IndexedRows, Objects, places_above};
+use crate::rows::{BLOCK, IndexedRows, BlockSet, places_above};
 use attr_bits::Bits;
 use derivation::RowsOf;
 use fca_model::Memory;
@@ -22,7 +22,7 @@ struct Block {
     /// The number of the block, from 0.
     number: usize,
     /// The places, counted from the first one of the block.
-    objects: Objects,
+    objects: BlockSet,
 }
 
 /// Some places, as those of an extent. Blocks without places are left out.
@@ -156,7 +156,7 @@ impl BlockExtent {
 
 impl Block {
     /// The places that are in the column, if there are any.
-    fn meet(&self, column: &[Objects]) -> Option<Block>
+    fn meet(&self, column: &[BlockSet]) -> Option<Block>
         ensures { MatchOption result
             ((g : ℕ) → (in_block self.now.number self.now.objects g && in_column column.now g) ≡ false)
             (λ kept. (g : ℕ) → in_block kept.number kept.objects g ≡ (in_block self.now.number self.now.objects g && in_column column.now g)) }
@@ -175,7 +175,7 @@ impl Block {
     }
 
     /// The first place that is in one column and not in the other, counted from the first one of the block.
-    fn first_of(&self, having: &[Objects], lacking: &[Objects]) -> Option<u32>
+    fn first_of(&self, having: &[BlockSet], lacking: &[BlockSet]) -> Option<u32>
         requires { length lacking.now ≡ length having.now }
         ensures { MatchOption result
             ((g : ℕ) → in_block self.now.number self.now.objects g ≡ true → in_column having.now g ≡ true → in_column lacking.now g ≡ true)
@@ -190,7 +190,7 @@ impl Block {
     }
 
     /// The row at the last of the places that are in the column, or the full set if there is none. These rows contain a.
-    fn last_row<const W: usize>(&self, column: &[Objects], rows: &RowsOf<W>, a: &Bits<W>) -> Bits<W>
+    fn last_row<const W: usize>(&self, column: &[BlockSet], rows: &RowsOf<W>, a: &Bits<W>) -> Bits<W>
         requires containing { (g : ℕ) → (in_block self.now.number self.now.objects g && in_column column.now g) ≡ true → contains_at rows.now a.now g ≡ true }
         ensures { IsMeeting rows.now a.now result }
     {
@@ -209,7 +209,7 @@ impl Block {
     /// change nothing.
     fn meet_rows<const W: usize>(
         &self,
-        column: &[Objects],
+        column: &[BlockSet],
         rows: &RowsOf<W>,
         a: &Bits<W>,
         start: &Bits<W>,
@@ -241,7 +241,7 @@ impl Block {
 /// The closure of a, given that the places of the blocks that are in the column are the extent of a: the meet of their rows.
 fn meet_of_rows<const W: usize>(
     blocks: &[Block],
-    column: &[Objects],
+    column: &[BlockSet],
     rows: &RowsOf<W>,
     a: &Bits<W>,
 ) -> Bits<W>
@@ -261,7 +261,7 @@ fn meet_of_rows<const W: usize>(
 /// the rows are sorted, it and the first one differ the most.
 fn last_row<const W: usize>(
     blocks: &[Block],
-    column: &[Objects],
+    column: &[BlockSet],
     rows: &RowsOf<W>,
     a: &Bits<W>,
 ) -> Bits<W>
@@ -275,7 +275,7 @@ fn last_row<const W: usize>(
 }
 
 /// Numbers the blocks of a column.
-fn number_blocks(alloc: Global, column: &[Objects]) -> Result<Vec<Block>, Memory>
+fn number_blocks(alloc: Global, column: &[BlockSet]) -> Result<Vec<Block>, Memory>
     ensures { IfOk result (λ blocks. (g : ℕ) → list_any (λ x. in_block x.number x.objects g) blocks.items ≡ in_column column.now g) }
 {
     let mut blocks = Vec::with_capacity(alloc, column.len())?;
@@ -289,7 +289,7 @@ fn number_blocks(alloc: Global, column: &[Objects]) -> Result<Vec<Block>, Memory
 }
 
 /// Keeps the places of the blocks that are in the column, in place of what was kept before.
-fn keep_in(blocks: &[Block], column: &[Objects], kept: &mut Vec<Block>) -> Result<(), Memory>
+fn keep_in(blocks: &[Block], column: &[BlockSet], kept: &mut Vec<Block>) -> Result<(), Memory>
     ensures { OnOk result ((g : ℕ) → list_any (λ x. in_block x.number x.objects g) kept.new.items
         ≡ (list_any (λ x. in_block x.number x.objects g) blocks.now && in_column column.now g)) }
 {
@@ -303,7 +303,7 @@ fn keep_in(blocks: &[Block], column: &[Objects], kept: &mut Vec<Block>) -> Resul
 }
 
 /// A place of the blocks that is in one column and not in the other, or none if there is no such place.
-fn first_lacking(blocks: &[Block], having: &[Objects], lacking: &[Objects]) -> Option<usize>
+fn first_lacking(blocks: &[Block], having: &[BlockSet], lacking: &[BlockSet]) -> Option<usize>
     requires same { length lacking.now ≡ length having.now }
     requires small { (g : ℕ) → in_column having.now g ≡ true → g < 2 ^ 64 }
     ensures { MatchOption result

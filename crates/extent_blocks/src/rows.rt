@@ -14,13 +14,13 @@ use std::marker::Model;
 pub(crate) const BLOCK: usize = 256;
 
 /// Some places of a block.
-pub(crate) type Objects = Bits<4>;
+pub(crate) type BlockSet = Bits<4>;
 
 /// The rows of a context, with the column of each attribute.
 #[derive(Drop)]
 pub struct IndexedRows<const W: usize> {
     rows: RowsOf<W>,
-    columns: Vec<Vec<Objects>>,
+    columns: Vec<Vec<BlockSet>>,
     supports: Vec<u32>,
 }
 
@@ -66,7 +66,7 @@ impl<const W: usize> IndexedRows<W> {
     }
 
     /// The column of attribute i.
-    pub(crate) fn column(&self, i: u32) -> &[Objects]
+    pub(crate) fn column(&self, i: u32) -> &[BlockSet]
         requires { i < self.now.width }
         ensures { IsColumn self.now i result.now }
     {
@@ -75,7 +75,7 @@ impl<const W: usize> IndexedRows<W> {
 }
 
 /// The column of each attribute.
-fn columns_of<const W: usize>(alloc: Global, rows: &RowsOf<W>) -> Result<Vec<Vec<Objects>>, Memory>
+fn columns_of<const W: usize>(alloc: Global, rows: &RowsOf<W>) -> Result<Vec<Vec<BlockSet>>, Memory>
     ensures room { IfOk result (λ columns. length columns.items ≡ rows.now.width) }
     ensures columns { IfOk result (λ columns. AreColumns rows.now (map (λ v. v.items) columns.items)) }
 {
@@ -91,7 +91,7 @@ fn column_of<const W: usize>(
     alloc: Global,
     rows: &RowsOf<W>,
     i: u32,
-) -> Result<Vec<Objects>, Memory>
+) -> Result<Vec<BlockSet>, Memory>
     requires { i < rows.now.width }
     ensures { IfOk result (λ column. IsColumn rows.now i column.items) }
 {
@@ -106,7 +106,7 @@ fn column_of<const W: usize>(
 }
 
 /// The number of places in each column.
-fn supports_of(alloc: Global, columns: &[Vec<Objects>]) -> Result<Vec<u32>, Memory> {
+fn supports_of(alloc: Global, columns: &[Vec<BlockSet>]) -> Result<Vec<u32>, Memory> {
     let mut supports = Vec::with_capacity(alloc, columns.len())?;
     for column in columns {
         supports.push(count_places(column))?;
@@ -115,7 +115,7 @@ fn supports_of(alloc: Global, columns: &[Vec<Objects>]) -> Result<Vec<u32>, Memo
 }
 
 /// The number of places in the blocks.
-fn count_places(column: &[Objects]) -> u32 {
+fn count_places(column: &[BlockSet]) -> u32 {
     let mut count = 0u32;
     for objects in column {
         count = count.saturating_add(objects.size());
@@ -128,7 +128,7 @@ pub(crate) fn places_above<const W: usize>(
     alloc: Global,
     rows: &RowsOf<W>,
     a: &Bits<W>,
-) -> Result<Vec<Objects>, Memory>
+) -> Result<Vec<BlockSet>, Memory>
     ensures count { IfOk result (λ column. length column.items ≡ div_ceil (length rows.now.rows) 256) }
     ensures places { IfOk result (λ column. (g : ℕ) → in_column column.items g ≡ contains_at rows.now a.now g) }
 {
@@ -142,7 +142,7 @@ pub(crate) fn places_above<const W: usize>(
 }
 
 /// So many blocks, each without places.
-fn empty_blocks(alloc: Global, count: usize) -> Result<Vec<Objects>, Memory>
+fn empty_blocks(alloc: Global, count: usize) -> Result<Vec<BlockSet>, Memory>
     ensures room { IfOk result (λ blocks. length blocks.items ≡ count) }
     ensures wide { IfOk result (λ blocks. All (λ B. length B ≡ 256) blocks.items) }
     ensures empty { IfOk result (λ blocks. (g : ℕ) → in_column blocks.items g ≡ false) }

@@ -94,8 +94,8 @@ serve_command file later =
 -- ---- all commands
 
 -- the command of this name over a file, which reads more than the table
-abbrev pub course_command : Text → Text → List Text → Option Command
-course_command name file later =
+abbrev pub further_files_command : Text → Text → List Text → Option Command
+further_files_command name file later =
     cond (bytes_eq name (codes "scale")) (scale_command file later)
     (cond (bytes_eq name (codes "replay")) (replay_command file later)
     (cond (bytes_eq name (codes "explore")) (explore_command file later)
@@ -107,7 +107,7 @@ table_command name file later =
     cond (bytes_eq name (codes "follows")) (follows_command file later)
     (cond (bytes_eq name (codes "convert")) (convert_command file later)
     (cond (bytes_eq name (codes "reduce")) (reduce_command file later)
-    (cond (bytes_eq name (codes "arrows")) (arrows_command file later) (course_command name file later))))
+    (cond (bytes_eq name (codes "arrows")) (arrows_command file later) (further_files_command name file later))))
 
 -- the command of this name over a file, whose name is not empty
 abbrev pub file_command : Text → Text → List Text → Option Command

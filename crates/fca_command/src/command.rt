@@ -4,7 +4,7 @@ ghost use Rattle.std.specs.Prelude.{◌≡◌, IfOk, IfSome, option_copied};
 ghost use Rattle.std.specs.List.{list_all};
 ghost use Rattle.std.specs.Str.{is_utf8};
 ghost use Rattle.fca_command.specs.Commands.{command_form, text_command, named_command, over_file, file_command, table_command};
-ghost use Rattle.fca_command.specs.Commands.{course_command};
+ghost use Rattle.fca_command.specs.Commands.{further_files_command};
 ghost use Rattle.fca_command.specs.Commands.{concepts_command, lattice_command, basis_command, direct_command, follows_command, wants_json};
 ghost use Rattle.fca_command.specs.Commands.{convert_command, form_of, reduce_command, arrows_command, scale_command, make_command};
 ghost use Rattle.fca_command.specs.Commands.{survey_command};
@@ -299,18 +299,18 @@ fn table_command(
     } else if name == b"arrows".as_slice() {
         Ok(arrows_command(file, later))
     } else {
-        course_command(alloc, name, file, later)
+        further_files_command(alloc, name, file, later)
     }
 }
 
 /// The commands that read more than the table.
-fn course_command(
+fn further_files_command(
     alloc: Global,
     name: &[u8],
     file: Word,
     later: &[Word],
 ) -> Result<Option<Command>, Memory>
-    ensures command { IfOk result (λ command. command ≡ course_command name.now file later.now) }
+    ensures command { IfOk result (λ command. command ≡ further_files_command name.now file later.now) }
     ensures limits { IfOk result (λ command. IfSome command IsWithinLimits) }
 {
     if name == b"scale".as_slice() {

@@ -110,6 +110,7 @@ fn apply_events(
     requires may { list_all (may_apply table.context.width) events.items ≡ true }
     ensures { IfOk result (λ explore. recorded explore ≡ exploration_by table (settings_of settings) events.items) }
 {
+    // (each row respects what is known, so no other fault can come)
     let Ok(mut explore) = Explore::open_with(alloc, table, MAX_EXPERTS, settings) else {
         return Err(Memory);
     };

@@ -31,6 +31,7 @@ pub(crate) fn open_exploration(
         holders,
         names: ExpertNames::new(alloc),
     };
+    // (each row respects what is known, so no other fault can come)
     let Ok(explore) = Explore::open_with(alloc, start.table, experts, settings) else {
         return Err(Memory);
     };

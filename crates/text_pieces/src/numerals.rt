@@ -18,7 +18,8 @@ fn are_digits(word: &[u8]) -> bool
     word.iter().all(|byte| byte.is_ascii_digit())
 }
 
-/// The number that the digits write, if it has no more than 64 bits.
+/// The number that the digits write, if it has no more than 64 bits. No digits write 0. Ask `is_numeral` first: another byte counts as
+/// its code less that of `0`.
 pub fn value_of(digits: &[u8]) -> Option<u64>
     ensures { result ≡ numeral.in_64_bits (numeral.value_of digits.now) }
 {

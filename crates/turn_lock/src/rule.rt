@@ -50,11 +50,11 @@ impl<V: Logged> Play<V, View<V::Base, V::Entry>> for Coming<V> {
 }
 
 /// A turn ends.
-pub struct Ending<V> {
+pub struct TurnEnd<V> {
     of: PhantomData<V>,
 }
 
-impl<V: Logged> Play<V, View<V::Base, V::Entry>> for Ending<V> {
+impl<V: Logged> Play<V, View<V::Base, V::Entry>> for TurnEnd<V> {
     ghost use Rattle.turn_lock.specs.Steps.{Ended};
 
     ghost then = { Ended V.history V.by };

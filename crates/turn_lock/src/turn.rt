@@ -11,7 +11,7 @@ ghost use Rattle.turn_lock.specs.Steps.{Drew, Came, HasTurn, MayEnd, ended_view}
 use crate::applies::Applies;
 use crate::logged::Logged;
 use crate::queue::{LOOKS, NAPS, QUIET_LOOKS, Queue, nap};
-use crate::rule::{Coming, Drawing, Ending, Key, TurnRule};
+use crate::rule::{Coming, Drawing, TurnEnd, Key, TurnRule};
 use crate::view::View;
 use atomic_table::{Seat, Shared};
 use fca_model::Memory;
@@ -136,7 +136,7 @@ fn end<V: Logged>(
     ensures ended { (value : V) → seat.old.me.1 ≡ (0, value) ∷ []
         → (seat.new.me.1 ≡ []) × (seat.new.me.0 ≡ ended_view V.by (V.history value) seat.old.me.0) }
 {
-    let ended = shared.fetch_add::<Ending<V>>(seat, 1, 1);
+    let ended = shared.fetch_add::<TurnEnd<V>>(seat, 1, 1);
     let next = ended.wrapping_add(1);
     if queue.is_shared() && shared.peek(0) > next {
         queue.call(next);

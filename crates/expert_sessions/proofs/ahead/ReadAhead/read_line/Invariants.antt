@@ -5,7 +5,7 @@ use Rattle.fca_model.specs.declared.TheConstants.{LINE_BYTES}
 use Rattle.expert_sessions.specs.Moves.{wire_of}
 use Rattle.expert_sessions.specs.Courses.{Reads}
 use Rattle.expert_sessions.specs.Order.{ReadsForLine}
-use Rattle.expert_sessions.proofs.ahead.Ahead.read_line.Given as goal
+use Rattle.expert_sessions.proofs.ahead.ReadAhead.read_line.Given as goal
 
 abbrev pub invariant-loop-at : goal.invariant-loop-at
 invariant-loop-at g l = record {

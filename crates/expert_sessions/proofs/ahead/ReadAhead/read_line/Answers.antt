@@ -3,7 +3,7 @@ use Rattle.expert_sessions.specs.Moves.{wire_of}
 use Rattle.expert_sessions.specs.Lines.{HasNoFeed}
 use Rattle.expert_sessions.proofs.MoveLemmas.{Reads-nil, Reads-trans}
 use Rattle.expert_sessions.proofs.OrderLemmas.{unread, read_on}
-use Rattle.expert_sessions.proofs.ahead.Ahead.read_line.Goals as goal
+use Rattle.expert_sessions.proofs.ahead.ReadAhead.read_line.Goals as goal
 
 pub loop-at-init : goal.loop-at-init
 loop-at-init g c = record {
