@@ -1,4 +1,5 @@
-//! The lines between an expert and an exploration: requests, rows, greetings and replies.
+//! The lines between an expert and an exploration: requests, rows, greetings and replies. The parts that every text is written of
+//! stand here too.
 #![tactic(auto)]
 
 mod draft;

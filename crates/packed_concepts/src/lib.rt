@@ -1,4 +1,5 @@
 //! The concepts of a table, packed, and the text of their lines. It is written through a buffer that is there before the first byte goes out.
+//! The text of a basis puts its names down by the same pieces.
 #![tactic(auto)]
 
 mod block;
