@@ -1,6 +1,6 @@
 //! The line that heads a list.
 
-ghost use Rattle.std.specs.Prelude.{◌≡◌, ◌++◌, OnOk, IfOk};
+ghost use Rattle.std.specs.Prelude.{◌≡◌, ◌++◌, OnOk, OnErr, IfOk};
 ghost use Rattle.report_texts.specs.Reports.{count_line};
 
 use fca_model::Memory;
@@ -12,16 +12,18 @@ pub fn head_of(alloc: Global, words: &[u8], count: usize) -> Result<Vec<u8>, Mem
     ensures { IfOk result (λ head. head.items ≡ count_line words.now count) }
 {
     let mut head = Vec::new(alloc);
-    add_head(&mut head, words, count)?;
+    head.extend_from_slice(words)?;
+    head.extend_from_slice(Buffer::new().format(count).as_bytes())?;
+    head.extend_from_slice(b"\n")?;
     Ok(head)
 }
 
-/// Appends the line of the words and the number.
+/// Appends the line of the words and the number. After an `Err` the text is as it was.
 pub fn add_head(text: &mut Vec<u8>, words: &[u8], count: usize) -> Result<(), Memory>
-    ensures { OnOk result (text.new.items ≡ text.old.items ++ count_line words.now count) }
+    ensures added { OnOk result (text.new.items ≡ text.old.items ++ count_line words.now count) }
+    ensures unchanged { OnErr result (text.new.items ≡ text.old.items) }
 {
-    text.extend_from_slice(words)?;
-    text.extend_from_slice(Buffer::new().format(count).as_bytes())?;
-    text.extend_from_slice(b"\n")?;
+    let head = head_of(*text.allocator(), words, count)?;
+    text.extend_from_slice(&head)?;
     Ok(())
 }

@@ -1,6 +1,6 @@
 //! The concepts of the intents that were met.
 
-ghost use Rattle.std.specs.Prelude.{◌≡◌, ◌≤◌, ◌∷◌, [], true, OnOk};
+ghost use Rattle.std.specs.Prelude.{◌≡◌, ◌≤◌, ◌∷◌, [], true, OnOk, OnErr};
 ghost use Rattle.fca_model.specs.Context.{extent};
 ghost use Rattle.concept_walk.specs.Pages.{Fills};
 
@@ -32,7 +32,7 @@ impl<const W: usize> Page<W> {
         }
     }
 
-    /// Adds the concept of a, whose objects stand at these places.
+    /// Adds the concept of a, whose objects stand at these places. After an `Err` the page is as it was.
     pub fn add(
         &mut self,
         crosses: &CrossTable<'_, W>,
@@ -40,7 +40,9 @@ impl<const W: usize> Page<W> {
         places: &[u16],
     ) -> Result<(), Memory>
         requires { places.now ≡ extent crosses.now a.now }
-        ensures { OnOk result (Fills crosses.now self.old self.new (a.now ∷ [])) }
+        ensures added { OnOk result (Fills crosses.now self.old self.new (a.now ∷ [])) }
+        ensures unchanged { OnErr result (self.new.concepts ≡ self.old.concepts) }
+        ensures whole { self.new.whole ≡ self.old.whole }
     {
         let _words = crosses.rows().width();
         self.concepts.add(a, places)?;

@@ -1,6 +1,6 @@
 //! Concepts one behind the other: their intents as sets, and the places of their objects in one list.
 
-ghost use Rattle.std.specs.Prelude.{◌≡◌, ◌≤◌, ◌++◌, ◌∷◌, [], All, IfOk, OnOk, length, map};
+ghost use Rattle.std.specs.Prelude.{◌≡◌, ◌≤◌, ◌++◌, ◌∷◌, [], All, IfOk, OnOk, OnErr, length, map};
 ghost use Rattle.packed_concepts.specs.Packing.{total, unpacked};
 
 use attr_bits::Bits;
@@ -57,9 +57,10 @@ impl<const W: usize> ConceptPage<W> {
         }
     }
 
-    /// Adds the concept of this intent, whose objects stand at these places.
+    /// Adds the concept of this intent, whose objects stand at these places. After an `Err` the page is as it was.
     pub fn add(&mut self, intent: &Bits<W>, places: &[u16]) -> Result<(), Memory>
-        ensures { OnOk result (self.new ≡ self.old ++ (intent.now, places.now) ∷ []) }
+        ensures added { OnOk result (self.new ≡ self.old ++ (intent.now, places.now) ∷ []) }
+        ensures unchanged { OnErr result (self.new ≡ self.old) }
     {
         let Ok(count) = u32::try_from(places.len()) else {
             return Err(Memory);

@@ -62,7 +62,7 @@ loop-i-init g t c =
       inside = omega (arith, width);
       noted = seen_none K A c.take_scratch-scratch.result.noted.items c.take_scratch-scratch.ensures;
       filled = subst (Fills c.args.crosses.now c.args.page.now c.add.new.self)
-          (sym (branch_end K A a) ∙ ap (branch K A) (sym width)) c.in_ok-add.ensures;
+          (sym (branch_end K A a) ∙ ap (branch K A) (sym width)) c.in_ok-add.ensures.added;
     }
 
 pub loop-i-preserved-then-not-is_open : goal.loop-i-preserved-then-not-is_open

@@ -20,7 +20,7 @@ returns-in_default g c =
     let alone : branch K A c.args.node.now.from ≡ A ∷ [] =
     branch-between K A c.tries_of-attributes.result c.args.node.now.from c.width-width.result tries
     (omega (arith, width, c.requires.inside)) (omega (arith, width)) c.in_default.ensures ∙ ap (branch K A) width ∙ branch_end K A a in
-    subst (Fills K c.args.page.now c.add.new.self) (sym alone) c.in_ok-add.ensures
+    subst (Fills K c.args.page.now c.add.new.self) (sym alone) c.in_ok-add.ensures.added
 
 pub returns : goal.returns
 returns g c =
@@ -40,5 +40,5 @@ returns g c =
         inside = omega (arith, last.1, width);
       },
       omega (arith, last.0),
-      subst (Fills K c.args.page.now c.add.new.self) (sym alone) c.in_ok-add.ensures,
+      subst (Fills K c.args.page.now c.add.new.self) (sym alone) c.in_ok-add.ensures.added,
     )

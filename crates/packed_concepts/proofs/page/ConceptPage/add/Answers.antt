@@ -27,8 +27,8 @@ invariant_of-self-2 g c =
           (omega (arith, c.max-self-inside.ensures, c.in-Ok.ensures)));
     }
 
-pub returns : goal.returns
-returns g c =
+pub returns-clause-added : goal.returns-clause-added
+returns-clause-added g c =
     let old = c.self.inside in
     let one : Packed g.row.W = record { intent = c.args.intent.now; count = c.in-Ok.count } in
     let T : List ℕ = take old.end old.places.items in
