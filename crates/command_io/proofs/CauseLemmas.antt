@@ -12,7 +12,7 @@ use Rattle.command_io.specs.Endings.{IsRefusal}
 use Rattle.command_io.specs.declared.stop.Origin.{Origin}
 use Rattle.command_io.specs.declared.stop.Origin.TheVariants.{Known}
 use Rattle.command_io.specs.declared.stop.Stop.{Stop}
-use Rattle.command_io.specs.declared.stop.Stop.TheVariants.{TooLong, NoTable, NoCsv, BadValues, BadPlan, NoKnown, Fault, Memory}
+use Rattle.command_io.specs.declared.stop.Stop.TheVariants.{TooLong, NoCxt, NoCsv, BadValues, BadPlan, NoKnown, Fault, Memory}
 
 -- a file that is too long is refused
 exceeding-refused : {X : Type 0} (form : Text → Reading X) (told : Told) → MayExceed told FILE_BYTES → MayRefuse (file_read form told)
@@ -29,7 +29,7 @@ fetch-refused form told rose origin _ is refusal = absurd is
 
 pub fetch-file : (name : Text) (told : Told) (rose : Type 0) (origin : Origin) (s : Stop) → IsFetchStop told rose origin s
     → IsFileStop name told rose origin s
-fetch-file name told rose origin (NoTable at fault) is = absurd is
+fetch-file name told rose origin (NoCxt at fault) is = absurd is
 fetch-file name told rose origin (NoCsv at fault) is = absurd is
 fetch-file name told rose origin _ is = is
 

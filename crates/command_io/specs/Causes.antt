@@ -16,7 +16,7 @@ use Rattle.command_io.specs.Forms.{is_csv}
 use Rattle.command_io.specs.declared.stop.Origin.{Origin}
 use Rattle.command_io.specs.declared.stop.Origin.TheVariants.{Input}
 use Rattle.command_io.specs.declared.stop.Stop.{Stop}
-use Rattle.command_io.specs.declared.stop.Stop.TheVariants.{TooLong, NoTable, NoCsv, BadValues, BadPlan, NoScript, Fault, Listener, Memory}
+use Rattle.command_io.specs.declared.stop.Stop.TheVariants.{TooLong, NoCxt, NoCsv, BadValues, BadPlan, NoScript, Fault, Listener, Memory}
 
 -- P holds unless a file or the input could not be read
 abbrev pub UnlessFault : {X : Type 0} → Result X Stop → Type 0 → Type 0
@@ -36,7 +36,7 @@ taken_stop taken.Memory origin = Memory
 
 -- the stop for bytes of the file of this name that do not have its form
 abbrev pub IsFormStop : Text → Origin → Text → Stop → Type 0
-IsFormStop name origin bytes (NoTable at fault) = (at ≡ origin) × (is_csv name ≡ false) × (cxt_form bytes ≡ Err fault)
+IsFormStop name origin bytes (NoCxt at fault) = (at ≡ origin) × (is_csv name ≡ false) × (cxt_form bytes ≡ Err fault)
 IsFormStop name origin bytes (NoCsv at fault) = (at ≡ origin) × (is_csv name ≡ true) × (csv_form bytes ≡ Err fault)
 IsFormStop name origin bytes Memory = ⊤
 IsFormStop name origin bytes _ = ⊥
@@ -59,7 +59,7 @@ IsFetchStop told rose origin _ = ⊥
 abbrev pub IsFileStop : Text → Told → Type 0 → Origin → Stop → Type 0
 IsFileStop name told rose origin (Fault at) = (at ≡ origin) × rose
 IsFileStop name told rose origin (TooLong at) = (at ≡ origin) × MayExceed told FILE_BYTES
-IsFileStop name told rose origin (NoTable at fault) = (at ≡ origin) × (is_csv name ≡ false)
+IsFileStop name told rose origin (NoCxt at fault) = (at ≡ origin) × (is_csv name ≡ false)
     × IfHeld told (λ bytes. cxt_form bytes ≡ Err fault)
 IsFileStop name told rose origin (NoCsv at fault) = (at ≡ origin) × (is_csv name ≡ true) × IfHeld told (λ bytes. csv_form bytes ≡ Err fault)
 IsFileStop name told rose origin Memory = ⊤

@@ -9,7 +9,7 @@ use Rattle.command_io.specs.declared.output.Ending.TheVariants.{Finished, Open, 
 use Rattle.command_io.specs.declared.stop.Origin.{Origin}
 use Rattle.command_io.specs.declared.stop.Origin.TheVariants.{Input}
 use Rattle.command_io.specs.declared.stop.Stop.{Stop}
-use Rattle.command_io.specs.declared.stop.Stop.TheVariants.{NoCommand, TooLong, NoTable, NoCsv, BadValues, BadPlan, NoKnown}
+use Rattle.command_io.specs.declared.stop.Stop.TheVariants.{NoCommand, TooLong, NoCxt, NoCsv, BadValues, BadPlan, NoKnown}
 use Rattle.command_io.specs.declared.stop.Stop.TheVariants.{RowBreaks, NoScript, UnknownAttribute, OtherAttributes, Fault, Listener, Memory}
 
 -- ---- what a command comes to
@@ -51,7 +51,7 @@ IsFile _ = ⊤
 -- a file of the command was refused, or could not be read
 abbrev pub IsOfFile : Stop → Type 0
 IsOfFile (TooLong origin) = IsFile origin
-IsOfFile (NoTable origin fault) = IsFile origin
+IsOfFile (NoCxt origin fault) = IsFile origin
 IsOfFile (NoCsv origin fault) = IsFile origin
 IsOfFile (BadValues origin fault) = IsFile origin
 IsOfFile (BadPlan origin fault) = IsFile origin
@@ -102,7 +102,7 @@ ending_status Spent = 8
 abbrev pub stop_status : Stop → ℕ
 stop_status NoCommand = 1
 stop_status (TooLong origin) = 2
-stop_status (NoTable origin fault) = 2
+stop_status (NoCxt origin fault) = 2
 stop_status (NoCsv origin fault) = 2
 stop_status (BadValues origin fault) = 2
 stop_status (BadPlan origin fault) = 2

@@ -25,7 +25,7 @@ use Rattle.command_io.specs.Endings.Outcome.{Written, CutOff, Stopped}
 use Rattle.command_io.specs.declared.stop.Origin.{Origin}
 use Rattle.command_io.specs.declared.stop.Origin.TheVariants.{File, Known, Later, Input}
 use Rattle.command_io.specs.declared.stop.Stop.{Stop}
-use Rattle.command_io.specs.declared.stop.Stop.TheVariants.{NoCommand, TooLong, NoTable, NoCsv, BadValues, BadPlan, NoKnown}
+use Rattle.command_io.specs.declared.stop.Stop.TheVariants.{NoCommand, TooLong, NoCxt, NoCsv, BadValues, BadPlan, NoKnown}
 use Rattle.command_io.specs.declared.stop.Stop.TheVariants.{RowBreaks, NoScript, UnknownAttribute, OtherAttributes, Fault, Listener, Memory}
 
 -- ---- the form of a line
@@ -59,7 +59,7 @@ name_of file Input = INPUT.now
 abbrev pub stop_line : Text → Stop → Text
 stop_line file NoCommand = plain_line NO_SUCH_COMMAND.now
 stop_line file (TooLong origin) = placed_line (name_of file origin) (Whole, TOO_LONG.now)
-stop_line file (NoTable origin fault) = placed_line (name_of file origin) (cxt.description fault)
+stop_line file (NoCxt origin fault) = placed_line (name_of file origin) (cxt.description fault)
 stop_line file (NoCsv origin fault) = placed_line (name_of file origin) (csv.description fault)
 stop_line file (BadValues origin fault) = placed_line (name_of file origin) (Whole, BAD_VALUES.now)
 stop_line file (BadPlan origin fault) = placed_line (name_of file origin) (Whole, BAD_PLAN.now)
@@ -83,7 +83,7 @@ turns_spent_line = plain_line TURNS_SPENT.now
 -- what is at fault; if a stop names nothing, it is the first file
 abbrev pub stop_origin : Stop → Origin
 stop_origin (TooLong origin) = origin
-stop_origin (NoTable origin fault) = origin
+stop_origin (NoCxt origin fault) = origin
 stop_origin (NoCsv origin fault) = origin
 stop_origin (BadValues origin fault) = origin
 stop_origin (BadPlan origin fault) = origin

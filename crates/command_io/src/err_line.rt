@@ -48,7 +48,7 @@ fn write_stop<E: Sink>(err: &mut E, file: &[u8], stop: &Stop) -> Result<(), Put>
     match stop {
         Stop::NoCommand => write_plain(err, NO_SUCH_COMMAND),
         Stop::TooLong(origin) => write_whole(err, name_of(file, *origin), TOO_LONG),
-        Stop::NoTable(origin, fault) => write_placed(
+        Stop::NoCxt(origin, fault) => write_placed(
             err,
             name_of(file, *origin),
             &fault.description(),

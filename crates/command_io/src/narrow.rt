@@ -80,6 +80,6 @@ fn narrow_cxt_table(alloc: Global, bytes: &[u8], origin: Origin) -> Result<Narro
     match read_narrow_cxt(alloc, bytes) {
         Ok(table) => Ok(table),
         Err(CxtFault::Memory) => Err(Stop::Memory),
-        Err(fault) => Err(Stop::NoTable(origin, fault)),
+        Err(fault) => Err(Stop::NoCxt(origin, fault)),
     }
 }

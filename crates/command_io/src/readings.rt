@@ -88,7 +88,7 @@ fn cxt_table(alloc: Global, bytes: &[u8], origin: Origin) -> Result<Table, Stop>
     match read_cxt(alloc, bytes) {
         Ok(table) => Ok(table),
         Err(CxtFault::Memory) => Err(Stop::Memory),
-        Err(fault) => Err(Stop::NoTable(origin, fault)),
+        Err(fault) => Err(Stop::NoCxt(origin, fault)),
     }
 }
 

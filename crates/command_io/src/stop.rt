@@ -29,7 +29,7 @@ pub enum Origin {
 pub enum Stop {
     NoCommand,
     TooLong(Origin),
-    NoTable(Origin, CxtFault),
+    NoCxt(Origin, CxtFault),
     NoCsv(Origin, CsvFault),
     BadValues(Origin, ValuesFault),
     BadPlan(Origin, PlanFault),
@@ -83,7 +83,7 @@ impl Stop {
     {
         match self {
             Stop::TooLong(origin)
-            | Stop::NoTable(origin, _)
+            | Stop::NoCxt(origin, _)
             | Stop::NoCsv(origin, _)
             | Stop::BadValues(origin, _)
             | Stop::BadPlan(origin, _)
@@ -102,7 +102,7 @@ impl Stop {
         match self {
             Stop::NoCommand => 1,
             Stop::TooLong(_)
-            | Stop::NoTable(..)
+            | Stop::NoCxt(..)
             | Stop::NoCsv(..)
             | Stop::BadValues(..)
             | Stop::BadPlan(..)

@@ -12,7 +12,7 @@ use crate::cross_table::CrossTable;
 use crate::node::{Candidates, Node};
 use crate::notes::{begin_notes, known_witnesses};
 use crate::page::Page;
-use crate::scratch::{Scratch, ScratchPool};
+use crate::scratch::{StepListPool, StepLists};
 use crate::steps::{Met, enter, first_step, next_step, put_back};
 use attr_bits::Bits;
 use extent_places::{closure_at, last_member};
@@ -38,7 +38,7 @@ pub fn gather_branch<const W: usize>(
     crosses: &CrossTable<'_, W>,
     page: &mut Page<W>,
     node: &Node<'_, W>,
-    pool: &mut ScratchPool<W>,
+    pool: &mut StepListPool<W>,
 ) -> Result<(), Memory>
     requires { IsNode crosses.now node.now }
     ensures { OnOk result (Fills crosses.now page.old page.new (branch crosses.now node.now.intent.now node.now.from)) }
@@ -67,7 +67,7 @@ pub fn next_child<const W: usize>(
     crosses: &CrossTable<'_, W>,
     node: &Node<'_, W>,
     candidates: &Candidates<W>,
-    scratch: &mut Scratch,
+    scratch: &mut StepLists,
 ) -> Result<Option<Child<W>>, Memory>
     requires node { IsNode crosses.now node.now }
     requires candidates { AreCandidates crosses.now node.now.intent.now candidates.now }
@@ -112,7 +112,7 @@ fn child_at<const W: usize>(
     crosses: &CrossTable<'_, W>,
     node: &Node<'_, W>,
     i: u32,
-    scratch: &mut Scratch,
+    scratch: &mut StepLists,
 ) -> Result<Option<Child<W>>, Memory>
     requires node { IsNode crosses.now node.now }
     requires inside { i < crosses.now.width }

@@ -12,7 +12,7 @@ use crate::cross_table::CrossTable;
 use crate::node::Node;
 use crate::notes::{begin_notes, known_witnesses};
 use crate::page::Page;
-use crate::scratch::{Scratch, ScratchPool, take_scratch};
+use crate::scratch::{StepListPool, StepLists, take_lists};
 use attr_bits::Bits;
 use extent_places::{FEW_OBJECTS, FewObjects, ObjectSet, SmallConcept, last_member, tries_of};
 use fca_model::Memory;
@@ -38,7 +38,7 @@ pub(crate) fn gather_apart<const W: usize>(
     crosses: &CrossTable<'_, W>,
     page: &mut Page<W>,
     node: &Node<'_, W>,
-    pool: &mut ScratchPool<W>,
+    pool: &mut StepListPool<W>,
 ) -> Result<(), Memory>
     requires few { length node.now.places.now ≤ FEW_OBJECTS }
     requires node { IsNode crosses.now node.now }
@@ -64,7 +64,7 @@ fn gather_few<const W: usize>(
     few: &FewObjects<W>,
     page: &mut Page<W>,
     node: &FewNode<'_, W>,
-    free: &mut Vec<Scratch>,
+    free: &mut Vec<StepLists>,
 ) -> Result<(), Memory>
     requires { IsFewNode crosses.now few.now node.now }
     ensures { OnOk result (Fills crosses.now page.old page.new (branch crosses.now node.now.intent.now node.now.from)) }
@@ -72,7 +72,7 @@ fn gather_few<const W: usize>(
     let rows = crosses.rows();
     let a = node.intent;
     let mut end = rows.width();
-    let mut scratch = take_scratch(alloc, free);
+    let mut scratch = take_lists(alloc, free);
     few.put_places(rows, a, node.objects, &mut scratch.found)?;
     page.add(crosses, a, &scratch.found)?;
     let tries = tries_of(rows, a, &scratch.found);

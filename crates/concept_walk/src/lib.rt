@@ -14,9 +14,9 @@ mod steps;
 
 pub use branch::{Child, gather_branch, next_child, places_of};
 pub use cross_table::CrossTable;
-pub use heads::{add_head, head_of};
+pub use heads::{add_count_line, count_line_of};
 pub use names::{attribute_pieces, table_names};
 pub use node::{Candidates, Node};
 pub use notes::known_witnesses;
 pub use page::Page;
-pub use scratch::{Scratch, ScratchPool};
+pub use scratch::{StepListPool, StepLists};

@@ -6,7 +6,7 @@ ghost use Rattle.packed_concepts.specs.Pieces.{ArePieces, piece_texts};
 
 use context_table::Table;
 use fca_model::{MAX_NAME_BYTES, Memory, Name};
-use packed_concepts::{Block, Names, Pieces, block_of, tail_of};
+use packed_concepts::{Names, Pieces, TextBlock, block_of, tail_of};
 use std::alloc::Global;
 
 /// The names of the objects and of the table's attributes. Those of the objects are dropped once they are in pieces.
@@ -51,7 +51,7 @@ fn object_pieces(alloc: Global, objects: &[Name]) -> Result<Pieces, Memory>
 fn add_name(
     alloc: Global,
     text: &mut Vec<u8>,
-    blocks: &mut Vec<Block>,
+    blocks: &mut Vec<TextBlock>,
     tails: &mut Vec<Vec<u8>>,
     name: &[u8],
 ) -> Result<(), Memory>

@@ -10,7 +10,7 @@ use std::alloc::Global;
 
 /// Two lists that a step of the walk writes on. Later steps use them again.
 #[derive(Drop)]
-pub struct Scratch {
+pub struct StepLists {
     /// Places, of which the front was found last.
     pub found: Vec<u16>,
     /// For each attribute a member of the closure with it, or nothing.
@@ -19,30 +19,30 @@ pub struct Scratch {
 
 /// The lists that no step writes on at present, and the few objects that were set apart last.
 #[derive(Drop)]
-pub struct ScratchPool<const W: usize> {
-    pub(crate) free: Vec<Scratch>,
+pub struct StepListPool<const W: usize> {
+    pub(crate) free: Vec<StepLists>,
     pub(crate) few: FewObjects<W>,
 }
 
-impl Scratch {
+impl StepLists {
     /// Nothing found and nothing noted.
-    pub fn new(alloc: Global) -> Scratch
+    pub fn new(alloc: Global) -> StepLists
         ensures { result.noted.items ≡ [] }
     {
-        Scratch {
+        StepLists {
             found: Vec::new(alloc),
             noted: Vec::new(alloc),
         }
     }
 }
 
-impl<const W: usize> ScratchPool<W> {
+impl<const W: usize> StepListPool<W> {
     /// An empty pool, for walks over these rows.
-    pub fn new(alloc: Global, rows: &RowsOf<W>) -> Result<ScratchPool<W>, Memory>
+    pub fn new(alloc: Global, rows: &RowsOf<W>) -> Result<StepListPool<W>, Memory>
         ensures free { IfOk result (λ pool. pool.free.items ≡ []) }
         ensures few { IfOk result (λ pool. HasNoObject pool.few) }
     {
-        Ok(ScratchPool {
+        Ok(StepListPool {
             free: Vec::new(alloc),
             few: FewObjects::new(alloc, rows.width())?,
         })
@@ -50,12 +50,12 @@ impl<const W: usize> ScratchPool<W> {
 }
 
 /// Takes free lists, or makes them. Nothing is noted there.
-pub(crate) fn take_scratch(alloc: Global, free: &mut Vec<Scratch>) -> Scratch
+pub(crate) fn take_lists(alloc: Global, free: &mut Vec<StepLists>) -> StepLists
     ensures { result.noted.items ≡ [] }
 {
     if let Some(mut scratch) = free.pop() {
         scratch.noted.clear();
         return scratch;
     }
-    Scratch::new(alloc)
+    StepLists::new(alloc)
 }

@@ -12,7 +12,7 @@ use crate::few_branch::gather_apart;
 use crate::node::{Candidates, Node};
 use crate::notes::known_witnesses;
 use crate::page::Page;
-use crate::scratch::{Scratch, ScratchPool, take_scratch};
+use crate::scratch::{StepListPool, StepLists, take_lists};
 use attr_bits::Bits;
 use extent_places::{last_member, pays_to_set_apart, tries_of};
 use fca_model::Memory;
@@ -36,7 +36,7 @@ pub(crate) struct Step<const W: usize> {
     /// The attributes from which a child may come.
     pub(crate) candidates: Candidates<W>,
     /// The lists to write on while a child is looked for.
-    pub(crate) scratch: Scratch,
+    pub(crate) scratch: StepLists,
 }
 
 /// The outcome of the search for the next child.
@@ -57,7 +57,7 @@ pub(crate) fn enter<const W: usize>(
     crosses: &CrossTable<'_, W>,
     page: &mut Page<W>,
     node: &Node<'_, W>,
-    pool: &mut ScratchPool<W>,
+    pool: &mut StepListPool<W>,
 ) -> Result<Option<Candidates<W>>, Memory>
     requires { IsNode crosses.now node.now }
     ensures { IfOk result (λ left. HasEntered crosses.now page.old page.new node.now left) }
@@ -85,7 +85,7 @@ pub(crate) fn first_step<const W: usize>(
     crosses: &CrossTable<'_, W>,
     node: &Node<'_, W>,
     candidates: Candidates<W>,
-    pool: &mut ScratchPool<W>,
+    pool: &mut StepListPool<W>,
 ) -> Result<Step<W>, Memory>
     requires node { IsNode crosses.now node.now }
     requires candidates { AreCandidates crosses.now node.now.intent.now candidates }
@@ -93,7 +93,7 @@ pub(crate) fn first_step<const W: usize>(
     ensures { IfOk result (λ step. BeginsAt crosses.now node.now.intent.now node.now.from candidates.entry.end step) }
 {
     let _words = crosses.rows().width();
-    let mut spare = take_scratch(alloc, &mut pool.free);
+    let mut spare = take_lists(alloc, &mut pool.free);
     spare.found.clear();
     spare.found.extend_from_slice(node.places)?;
     spare.noted.extend_from_slice(node.witnesses)?;
@@ -104,7 +104,7 @@ pub(crate) fn first_step<const W: usize>(
         from: node.from,
         witnesses: spare.noted,
         candidates,
-        scratch: take_scratch(alloc, &mut pool.free),
+        scratch: take_lists(alloc, &mut pool.free),
     })
 }
 
@@ -114,7 +114,7 @@ pub(crate) fn next_step<const W: usize>(
     crosses: &CrossTable<'_, W>,
     page: &mut Page<W>,
     step: &mut Step<W>,
-    pool: &mut ScratchPool<W>,
+    pool: &mut StepListPool<W>,
 ) -> Result<Met<W>, Memory>
     requires { IsStep crosses.now step.old }
     ensures { IfOk result (λ met. HasMet crosses.now page.old page.new step.old step.new met) }
@@ -142,7 +142,7 @@ pub(crate) fn next_step<const W: usize>(
     let Some(candidates) = enter(alloc, crosses, page, &below, pool)? else {
         return Ok(Met::Whole);
     };
-    let mut spare = take_scratch(alloc, &mut pool.free);
+    let mut spare = take_lists(alloc, &mut pool.free);
     spare.noted.extend_from_slice(passed)?;
     Ok(Met::Below(Step {
         intent: child.intent,
@@ -151,17 +151,17 @@ pub(crate) fn next_step<const W: usize>(
         from: child.attribute + 1,
         witnesses: spare.noted,
         candidates,
-        scratch: take_scratch(alloc, &mut pool.free),
+        scratch: take_lists(alloc, &mut pool.free),
     }))
 }
 
 /// Puts back the lists of the step. Later steps take them again, at the same depth those of the same length.
 pub(crate) fn put_back<const W: usize>(
     step: Step<W>,
-    free: &mut Vec<Scratch>,
+    free: &mut Vec<StepLists>,
 ) -> Result<(), Memory> {
     free.push(step.scratch)?;
-    free.push(Scratch {
+    free.push(StepLists {
         found: step.places,
         noted: step.witnesses,
     })?;

@@ -36,7 +36,11 @@ pub(crate) fn blocks_of<const W: usize>(
 }
 
 /// The columns of block k.
-fn columns_of<const W: usize>(alloc: Global, rows: &RowsOf<W>, k: usize) -> Result<ColumnBlock, Memory>
+fn columns_of<const W: usize>(
+    alloc: Global,
+    rows: &RowsOf<W>,
+    k: usize,
+) -> Result<ColumnBlock, Memory>
     requires { k * BLOCK ≤ length rows.now.rows }
     ensures { IfOk result (λ columns. columns ≡ transpose (block rows.now k)) }
 {

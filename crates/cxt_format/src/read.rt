@@ -57,7 +57,7 @@ pub(crate) fn read_head(alloc: Global, lines: &mut Lines<'_>) -> Result<Head, Cx
     ensures objects { IfOk result (λ head. head.objects ≤ MAX_OBJECTS) }
     ensures attributes { IfOk result (λ head. head.attributes ≤ MAX_ATTRIBUTES) }
 {
-    next_mark(lines)?;
+    next_b_line(lines)?;
     let title = next_title(alloc, lines)?;
     let objects = next_count(MAX_OBJECTS, lines)?;
     let attributes = next_count(MAX_ATTRIBUTES as usize, lines)?;
@@ -84,7 +84,7 @@ fn read_body(alloc: Global, head: Head, lines: &mut Lines<'_>) -> Result<Table, 
     }
 }
 
-fn next_mark(lines: &mut Lines<'_>) -> Result<(), CxtFault>
+fn next_b_line(lines: &mut Lines<'_>) -> Result<(), CxtFault>
     ensures { Takes (λ x. x) result (form.next word.mark_form lines.old) lines.new }
 {
     let number = lines.number();

@@ -6,7 +6,7 @@ ghost use Rattle.fca_model.specs.Sets.{within};
 ghost use Rattle.fca_model.specs.Context.{closure};
 ghost use Rattle.extent_blocks.specs.Blocks.{IsExtent, IsExtentWith, IsMeeting, IsMet, contains_at, has_at, in_block, in_column, in_parts};
 
-use crate::rows::{BLOCK, IndexedRows, BlockSet, places_above};
+use crate::rows::{BLOCK, BlockSet, IndexedRows, places_above};
 use attr_bits::Bits;
 use derivation::RowsOf;
 use fca_model::Memory;
@@ -190,7 +190,12 @@ impl Block {
     }
 
     /// The row at the last of the places that are in the column, or the full set if there is none. These rows contain a.
-    fn last_row<const W: usize>(&self, column: &[BlockSet], rows: &RowsOf<W>, a: &Bits<W>) -> Bits<W>
+    fn last_row<const W: usize>(
+        &self,
+        column: &[BlockSet],
+        rows: &RowsOf<W>,
+        a: &Bits<W>,
+    ) -> Bits<W>
         requires containing { (g : ℕ) → (in_block self.now.number self.now.objects g && in_column column.now g) ≡ true → contains_at rows.now a.now g ≡ true }
         ensures { IsMeeting rows.now a.now result }
     {

@@ -24,9 +24,9 @@ abbrev pub lines_from : Named → ℕ → List (Set × List ℕ) → Text
 lines_from t n cs = flat_map (λ x. line_of t (ordinal x.0) x.1.0 x.1.1) (enumerate_from n cs)
 
 -- the line that says how many there are
-abbrev pub head_of : ℕ → Text
-head_of n = codes "concepts " ++ (decimal n ++ line_end)
+abbrev pub count_line_of : ℕ → Text
+count_line_of n = codes "concepts " ++ (decimal n ++ line_end)
 
 -- the lines of all of them, behind that one
 abbrev pub lines_text : Named → List (Set × List ℕ) → Text
-lines_text t cs = head_of (length cs) ++ lines_from t 0 cs
+lines_text t cs = count_line_of (length cs) ++ lines_from t 0 cs

@@ -34,7 +34,7 @@ pub(crate) fn stretches_of<'a, const W: usize>(
 }
 
 /// The stretches, grouped into jobs. The answer is the same wherever they are split.
-pub(crate) fn jobs_of<'a, 'b, const W: usize>(
+pub(crate) fn line_jobs<'a, 'b, const W: usize>(
     alloc: Global,
     stretches: &'a [Stretch<'b, W>],
 ) -> Result<Vec<&'a [Stretch<'b, W>]>, Memory>

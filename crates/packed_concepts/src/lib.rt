@@ -16,7 +16,7 @@ mod stretch;
 mod text;
 mod writing;
 
-pub use block::{Block, HEAD, put_block};
+pub use block::{BLOCK_BYTES, TextBlock, put_block};
 pub use line::{MARKS, make_room, room_of};
 pub use names::{Names, end_without_comma, put_set};
 pub use page::{ConceptPage, Packed};

@@ -3,7 +3,7 @@
 ghost use Rattle.std.specs.Prelude.{◌≡◌, ◌+◌, ◌<◌, ◌≤◌, ◌++◌, [], min, IfOk, length, map, take, drop, slice_index_or};
 ghost use Rattle.packed_concepts.specs.Pieces.{IsPiece, ArePieces, piece_text, piece_texts};
 
-use crate::block::{Block, HEAD, put_block};
+use crate::block::{BLOCK_BYTES, TextBlock, put_block};
 use fca_model::{MAX_NAME_BYTES, Memory};
 use std::alloc::Global;
 use std::marker::Model;
@@ -12,13 +12,13 @@ use std::marker::Model;
 pub const PIECE_BYTES: usize = MAX_NAME_BYTES + 2;
 
 /// The bytes to be free where a piece is put down.
-pub const PIECE_ROOM: usize = PIECE_BYTES + HEAD;
+pub const PIECE_ROOM: usize = PIECE_BYTES + BLOCK_BYTES;
 
 /// Texts that are put down often: of each a block, and the bytes behind it if the block is full. Blocks and tails stand in lists of their own, so the blocks of
 /// many short texts lie close together.
 #[derive(Drop)]
 pub struct Pieces {
-    blocks: Vec<Block>,
+    blocks: Vec<TextBlock>,
     tails: Vec<Vec<u8>>,
 }
 
@@ -35,7 +35,7 @@ impl Model for Pieces {
 
 impl Pieces {
     /// The texts of these blocks and tails.
-    pub fn new(blocks: Vec<Block>, tails: Vec<Vec<u8>>) -> Pieces
+    pub fn new(blocks: Vec<TextBlock>, tails: Vec<Vec<u8>>) -> Pieces
         requires { ArePieces blocks.items (map (λ v. v.items) tails.items) }
         ensures { result ≡ piece_texts blocks.items (map (λ v. v.items) tails.items) }
     {
@@ -74,7 +74,7 @@ impl Pieces {
 }
 
 /// Puts the text of the block and the tail at `start` and returns its end. The tail is looked at only if the block is full.
-fn put_piece(block: &Block, tail: &Vec<u8>, text: &mut [u8], start: usize) -> usize
+fn put_piece(block: &TextBlock, tail: &Vec<u8>, text: &mut [u8], start: usize) -> usize
     requires piece { IsPiece block.now tail.now.items }
     requires room { start + PIECE_ROOM ≤ length text.old }
     ensures text { take result text.new ≡ take start text.old ++ piece_text block.now tail.now.items }
@@ -83,21 +83,21 @@ fn put_piece(block: &Block, tail: &Vec<u8>, text: &mut [u8], start: usize) -> us
     ensures room { length text.new ≡ length text.old }
 {
     let end = put_block(text, start, block);
-    if (block.filled as usize) < HEAD {
+    if (block.filled as usize) < BLOCK_BYTES {
         return end;
     }
     put_bytes(text, end, tail)
 }
 
 /// The block of the first bytes of the text.
-pub fn block_of(text: &[u8]) -> Block
-    ensures filled { result.filled ≡ min (length text.now) HEAD }
-    ensures bytes { take result.filled result.bytes ≡ take HEAD text.now }
+pub fn block_of(text: &[u8]) -> TextBlock
+    ensures filled { result.filled ≡ min (length text.now) BLOCK_BYTES }
+    ensures bytes { take result.filled result.bytes ≡ take BLOCK_BYTES text.now }
 {
-    let filled = text.len().min(HEAD);
-    let mut bytes = [0; HEAD];
+    let filled = text.len().min(BLOCK_BYTES);
+    let mut bytes = [0; BLOCK_BYTES];
     bytes[..filled].copy_from_slice(&text[..filled]);
-    Block {
+    TextBlock {
         bytes,
         filled: filled as u32,
     }
@@ -105,9 +105,9 @@ pub fn block_of(text: &[u8]) -> Block
 
 /// The bytes of the text behind the block.
 pub fn tail_of(alloc: Global, text: &[u8]) -> Result<Vec<u8>, Memory>
-    ensures { IfOk result (λ tail. tail.items ≡ drop HEAD text.now) }
+    ensures { IfOk result (λ tail. tail.items ≡ drop BLOCK_BYTES text.now) }
 {
-    let filled = text.len().min(HEAD);
+    let filled = text.len().min(BLOCK_BYTES);
     Ok(Vec::from_slice(alloc, &text[filled..])?)
 }
 

@@ -3,13 +3,13 @@
 ghost use Rattle.std.specs.Prelude.{◌≡◌, ◌<◌, ◌≤◌, ◌++◌, All, IfOk, IfSome, IfNone, length, take};
 ghost use Rattle.std.specs.List.{flat_map};
 ghost use Rattle.expert_wire.specs.Parts.{WritesTo};
-ghost use Rattle.packed_concepts.specs.Lines.{head_of, lines_text};
+ghost use Rattle.packed_concepts.specs.Lines.{count_line_of, lines_text};
 ghost use Rattle.packed_concepts.specs.Packing.{IsNamed, Holds};
 ghost use Rattle.packed_concepts.specs.Pages.{concepts_on};
 ghost use Rattle.packed_concepts.specs.Stretches.{all_lines, IsReady, IsHeld};
 
 use crate::gauge::SHARE;
-use crate::jobs::{MOST_WEIGHT, jobs_of, stretches_of};
+use crate::jobs::{MOST_WEIGHT, line_jobs, stretches_of};
 use crate::line::{DIGITS, room_of};
 use crate::names::Names;
 use crate::page::ConceptPage;
@@ -176,7 +176,7 @@ fn write_side_by_side<R: Threads + Sync, K: Sink, const W: usize>(
     let Ok(stretches) = stretches_of(alloc, pages, names.gauge()) else {
         return None;
     };
-    let Ok(jobs) = jobs_of(alloc, &stretches) else {
+    let Ok(jobs) = line_jobs(alloc, &stretches) else {
         return None;
     };
     if jobs.len() < FEW_JOBS {
@@ -209,9 +209,9 @@ fn write_jobs_counted<R: Threads + Sync, K: Sink, const W: usize>(
     requires held { All (λ job. All (IsHeld (length buffer.old)) job.now) jobs.now }
     requires room { 64 ≤ length buffer.old }
     requires some { 0 < length sheets.old }
-    ensures { WritesTo K.held K.faults K.beside K.asked_beside out.old out.new (head_of count ++ all_lines names.now jobs.now) result }
+    ensures { WritesTo K.held K.faults K.beside K.asked_beside out.old out.new (count_line_of count ++ all_lines names.now jobs.now) result }
 {
-    let head = put_head(buffer, count);
+    let head = put_count_line(buffer, count);
     write_part(out, &buffer[..head])?;
     write_jobs(rt, out, names, buffer, jobs, sheets)
 }
@@ -230,15 +230,15 @@ fn write_through<K: Sink, const W: usize>(
     requires room { 64 ≤ length buffer.old }
     ensures { WritesTo K.held K.faults K.beside K.asked_beside out.old out.new (lines_text names.now (flat_map (λ page. page) pages.now)) result }
 {
-    let head = put_head(buffer, count);
+    let head = put_count_line(buffer, count);
     let end = pass_pages(out, names, buffer, head, pages)?;
     write_part(out, &buffer[..end])
 }
 
 /// Puts the line with the number of concepts at the front and returns its end.
-fn put_head(buffer: &mut [u8], count: usize) -> usize
+fn put_count_line(buffer: &mut [u8], count: usize) -> usize
     requires { 64 ≤ length buffer.old }
-    ensures text { take result buffer.new ≡ head_of count }
+    ensures text { take result buffer.new ≡ count_line_of count }
     ensures end { result ≤ length buffer.new }
     ensures room { length buffer.new ≡ length buffer.old }
 {

@@ -6,13 +6,13 @@ ghost use Rattle.report_texts.specs.Reports.{count_line, cover_line};
 ghost use Rattle.table_texts.specs.Numerals.{AreNumerals};
 
 use crate::numerals::count_up_to;
-use concept_walk::add_head;
+use concept_walk::add_count_line;
 use fca_model::Memory;
-use packed_concepts::{Block, HEAD, make_room, put_block, put_bytes};
+use packed_concepts::{BLOCK_BYTES, TextBlock, make_room, put_block, put_bytes};
 use std::alloc::Global;
 
 /// The bytes to be free where a line is put down: two numerals, and a byte behind each.
-const LINE_ROOM: usize = 2 * HEAD + 2;
+const LINE_ROOM: usize = 2 * BLOCK_BYTES + 2;
 
 /// The text, followed by the number of the covers and their lines.
 pub(crate) fn with_covers(
@@ -23,7 +23,7 @@ pub(crate) fn with_covers(
     ensures { IfOk result (λ v. v.items ≡ text.items ++ (count_line (codes "covers ") (length covers.now) ++ flat_map cover_line covers.now)) }
 {
     let mut bytes = text;
-    add_head(&mut bytes, b"covers ", covers.len())?;
+    add_count_line(&mut bytes, b"covers ", covers.len())?;
     let end = add_covers(alloc, &mut bytes, covers)?;
     bytes.truncate(end);
     Ok(bytes)
@@ -50,7 +50,7 @@ fn add_covers(
 fn add_cover(
     bytes: &mut Vec<u8>,
     start: usize,
-    numerals: &mut Vec<Block>,
+    numerals: &mut Vec<TextBlock>,
     upper: usize,
     lower: usize,
 ) -> Result<usize, Memory>
@@ -66,7 +66,7 @@ fn add_cover(
 }
 
 /// Makes the list long enough for the numeral of the place.
-fn count_over(numerals: &mut Vec<Block>, place: usize) -> Result<(), Memory>
+fn count_over(numerals: &mut Vec<TextBlock>, place: usize) -> Result<(), Memory>
     requires { AreNumerals numerals.old.items }
     ensures numerals { AreNumerals numerals.new.items }
     ensures inside { OnOk result (place < length numerals.new.items) }
@@ -81,7 +81,13 @@ fn count_over(numerals: &mut Vec<Block>, place: usize) -> Result<(), Memory>
 }
 
 /// Puts the line of the cover at `start` and returns its end.
-fn put_cover(text: &mut [u8], start: usize, numerals: &[Block], upper: usize, lower: usize) -> usize
+fn put_cover(
+    text: &mut [u8],
+    start: usize,
+    numerals: &[TextBlock],
+    upper: usize,
+    lower: usize,
+) -> usize
     requires numerals { AreNumerals numerals.now }
     requires upper { upper < length numerals.now }
     requires lower { lower < length numerals.now }

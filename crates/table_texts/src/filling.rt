@@ -5,7 +5,7 @@ ghost use Rattle.concept_walk.specs.Pages.{Fills};
 ghost use Rattle.table_texts.specs.Tops.{IsTop, branches, Wrote};
 
 use crate::tops::Top;
-use concept_walk::{CrossTable, Page, ScratchPool, gather_branch};
+use concept_walk::{CrossTable, Page, StepListPool, gather_branch};
 use fca_model::Memory;
 use std::alloc::Global;
 
@@ -35,7 +35,7 @@ pub(crate) fn gather_tops<const W: usize>(
     ensures { OnOk result (Fills crosses.now page.old page.new (branches crosses.now job.now)) }
 {
     let _words = crosses.rows().width();
-    let mut pool = ScratchPool::new(alloc, crosses.rows())?;
+    let mut pool = StepListPool::new(alloc, crosses.rows())?;
     for top in job {
         gather_branch(alloc, crosses, page, &top.node(crosses), &mut pool)?;
     }

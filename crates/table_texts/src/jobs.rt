@@ -41,7 +41,7 @@ pub(crate) fn density_of<const W: usize>(children: &[Top<W>]) -> Density {
 }
 
 /// Jobs of about the same work, which have the branches in their order. `split_tops` says that nothing is lost, and this says what it means for branches.
-pub(crate) fn jobs_of<'a, const W: usize>(
+pub(crate) fn branch_jobs<'a, const W: usize>(
     alloc: Global,
     crosses: &CrossTable<'_, W>,
     tops: &'a [Top<W>],
@@ -68,7 +68,7 @@ fn split_tops<const W: usize>(
     let mut jobs = Vec::new(alloc);
     let mut rest = tops;
     while !rest.is_empty() {
-        let (job, behind) = rest.split_at(first_job(rest, density, share));
+        let (job, behind) = rest.split_at(first_branch_job(rest, density, share));
         jobs.push(job)?;
         rest = behind;
     }
@@ -76,7 +76,7 @@ fn split_tops<const W: usize>(
 }
 
 /// The number of branches of the first job: at least one.
-fn first_job<const W: usize>(tops: &[Top<W>], density: Density, share: usize) -> usize
+fn first_branch_job<const W: usize>(tops: &[Top<W>], density: Density, share: usize) -> usize
     requires { 0 < length tops.now }
     ensures some { 0 < result }
     ensures inside { result ≤ length tops.now }

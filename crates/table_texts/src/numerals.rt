@@ -5,10 +5,10 @@ ghost use Rattle.table_texts.specs.Numerals.{IsNumeral, AreNumerals};
 
 use fca_model::Memory;
 use itoa::Buffer;
-use packed_concepts::{Block, HEAD, block_of};
+use packed_concepts::{BLOCK_BYTES, TextBlock, block_of};
 
 /// Makes the list at least so long.
-pub(crate) fn count_up_to(numerals: &mut Vec<Block>, len: usize) -> Result<(), Memory>
+pub(crate) fn count_up_to(numerals: &mut Vec<TextBlock>, len: usize) -> Result<(), Memory>
     requires { AreNumerals numerals.old.items }
     ensures numerals { AreNumerals numerals.new.items }
     ensures long { OnOk result (len ≤ length numerals.new.items) }
@@ -20,7 +20,7 @@ pub(crate) fn count_up_to(numerals: &mut Vec<Block>, len: usize) -> Result<(), M
 }
 
 /// The numeral of the place.
-fn numeral_of(place: usize) -> Result<Block, Memory>
+fn numeral_of(place: usize) -> Result<TextBlock, Memory>
     ensures { IfOk result (λ block. IsNumeral place block) }
 {
     let Some(number) = place.checked_add(1) else {
@@ -28,7 +28,7 @@ fn numeral_of(place: usize) -> Result<Block, Memory>
     };
     let mut buffer = Buffer::new();
     let digits = buffer.format(number).as_bytes();
-    if HEAD < digits.len() {
+    if BLOCK_BYTES < digits.len() {
         return Err(Memory);
     }
     Ok(block_of(digits))

@@ -11,9 +11,9 @@ ghost use Rattle.concept_walk.specs.Pages.{concept_at};
 ghost use Rattle.table_texts.specs.Tops.{IsTop, branches};
 
 use crate::filling::gather_tops;
-use crate::jobs::{density_of, jobs_of};
+use crate::jobs::{branch_jobs, density_of};
 use crate::teams::fill_pages;
-use crate::tops::{Top, large_part, lay_out_large, pays, root_of};
+use crate::tops::{Top, large_part, pays, root_of, split_large};
 use concept_walk::{CrossTable, Page, table_names};
 use context_table::{NarrowRows, NarrowTable, Table};
 use derivation::RowsOf;
@@ -93,7 +93,7 @@ fn pages_of<R: Threads + Sync, const W: usize>(
     let _width = rows.width();
     let crosses = CrossTable::new(alloc, rows)?;
     let root = root_of(alloc, &crosses)?;
-    let children = lay_out_large(alloc, &crosses, &root, 0)?;
+    let children = split_large(alloc, &crosses, &root, 0)?;
     if pays(&children) {
         let pages = many_pages(rt, alloc, &crosses, &children)?;
         return Ok(pages);
@@ -132,9 +132,9 @@ fn many_pages<R: Threads + Sync, const W: usize>(
     ensures { IfOk result (λ pages. flat_map (λ page. page) pages.items ≡ map (concept_at crosses.now) (intents crosses.now)) }
 {
     let _words = crosses.rows().width();
-    let more = lay_out_large(alloc, crosses, tops, 0)?;
-    let finer = lay_out_large(alloc, crosses, &more, large_part(&more))?;
-    let jobs = jobs_of(alloc, crosses, &finer, density_of(tops))?;
+    let more = split_large(alloc, crosses, tops, 0)?;
+    let finer = split_large(alloc, crosses, &more, large_part(&more))?;
+    let jobs = branch_jobs(alloc, crosses, &finer, density_of(tops))?;
     let pages = fill_pages(rt, alloc, crosses, &jobs)?;
     let pages = whole_pages(alloc, pages)?;
     Ok(pages)

@@ -9,7 +9,9 @@ ghost use Rattle.concept_walk.specs.Nodes.{IsNode};
 ghost use Rattle.table_texts.specs.Tops.{IsTop, branches};
 
 use attr_bits::Bits;
-use concept_walk::{Candidates, CrossTable, Node, Scratch, known_witnesses, next_child, places_of};
+use concept_walk::{
+    Candidates, CrossTable, Node, StepLists, known_witnesses, next_child, places_of,
+};
 use extent_places::tries_of;
 use fca_model::Memory;
 use lectic_concepts::{own_witnesses, pass_witnesses};
@@ -129,7 +131,7 @@ fn least_intent<const W: usize>(crosses: &CrossTable<'_, W>) -> Bits<W>
 }
 
 /// The branches. Each that seems at least so large is laid out as its intent alone and the branches of its children, until these are enough.
-pub(crate) fn lay_out_large<const W: usize>(
+pub(crate) fn split_large<const W: usize>(
     alloc: Global,
     crosses: &CrossTable<'_, W>,
     tops: &[Top<W>],
@@ -142,13 +144,13 @@ pub(crate) fn lay_out_large<const W: usize>(
     let _words = crosses.rows().width();
     let mut more = Vec::new(alloc);
     for top in tops {
-        lay_out_if_large(alloc, crosses, top, least, &mut more)?;
+        split_if_large(alloc, crosses, top, least, &mut more)?;
     }
     Ok(more)
 }
 
 /// Puts the branch last. It is laid out if it seems at least so large and the branches are not enough yet.
-fn lay_out_if_large<const W: usize>(
+fn split_if_large<const W: usize>(
     alloc: Global,
     crosses: &CrossTable<'_, W>,
     top: &Top<W>,
@@ -163,14 +165,14 @@ fn lay_out_if_large<const W: usize>(
 {
     let _words = crosses.rows().width();
     if least <= top.size() && more.len() < ENOUGH {
-        return lay_out(alloc, crosses, top, more);
+        return split_branch(alloc, crosses, top, more);
     }
     add_top(alloc, crosses, &top.node(crosses), more)?;
     Ok(())
 }
 
 /// Puts the intent alone and the branches of its children last.
-fn lay_out<const W: usize>(
+fn split_branch<const W: usize>(
     alloc: Global,
     crosses: &CrossTable<'_, W>,
     top: &Top<W>,
@@ -195,7 +197,7 @@ fn lay_out<const W: usize>(
         witnesses: node.witnesses,
     };
     add_top(alloc, crosses, &alone, more)?;
-    let mut scratch = Scratch::new(alloc);
+    let mut scratch = StepLists::new(alloc);
     while node.from < candidates.end {
         let met = next_child(crosses, &node, &candidates, &mut scratch)?;
         let Some(child) = met else {

@@ -11,7 +11,7 @@ ghost use Rattle.turn_lock.specs.Steps.{Drew, Came, HasTurn, MayEnd, ended_view}
 use crate::applies::Applies;
 use crate::logged::Logged;
 use crate::queue::{LOOKS, NAPS, QUIET_LOOKS, Queue, nap};
-use crate::rule::{Coming, Drawing, TurnEnd, Key, TurnRule};
+use crate::rule::{Coming, Drawing, Key, TurnEnd, TurnRule};
 use crate::view::View;
 use atomic_table::{Seat, Shared};
 use fca_model::Memory;

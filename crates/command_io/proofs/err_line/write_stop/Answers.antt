@@ -20,9 +20,9 @@ pub returns-in-TooLong : goal.returns-in-TooLong
 returns-in-TooLong g c = Writes-equal (ap (λ (name : Text). placed_line name (Whole, TOO_LONG.now)) c.name_of.ensures
     ∙ ap (stop_line c.args.file.now) (sym c.in-TooLong.is)) c.write_whole.ensures
 
-pub returns-in-NoTable : goal.returns-in-NoTable
-returns-in-NoTable g c = Writes-equal (same_placed _ _ _ _ c.name_of-in-NoTable.ensures c.description.ensures
-    ∙ ap (stop_line c.args.file.now) (sym c.in-NoTable.is)) c.write_placed.ensures
+pub returns-in-NoCxt : goal.returns-in-NoCxt
+returns-in-NoCxt g c = Writes-equal (same_placed _ _ _ _ c.name_of-in-NoCxt.ensures c.description.ensures
+    ∙ ap (stop_line c.args.file.now) (sym c.in-NoCxt.is)) c.write_placed.ensures
 
 pub returns-in-NoCsv : goal.returns-in-NoCsv
 returns-in-NoCsv g c = Writes-equal (same_placed _ _ _ _ c.name_of-in-NoCsv.ensures c.description-in-NoCsv.ensures

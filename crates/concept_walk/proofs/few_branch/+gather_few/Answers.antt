@@ -60,7 +60,7 @@ loop-i-init g t c =
     record {
       from_on = omega (arith, width, c.requires.inside);
       inside = omega (arith, width);
-      noted = seen_none K A c.take_scratch-scratch.result.noted.items c.take_scratch-scratch.ensures;
+      noted = seen_none K A c.take_lists-scratch.result.noted.items c.take_lists-scratch.ensures;
       filled = subst (Fills c.args.crosses.now c.args.page.now c.add.new.self)
           (sym (branch_end K A a) ∙ ap (branch K A) (sym width)) c.in_ok-add.ensures.added;
     }

@@ -13,7 +13,7 @@ returns g c =
     let entered = rw c.in-Some-2.is at c.in_ok-candidates.ensures in
     let passed : List ℕ = c.pass_witnesses-passed.result.now in
     let copied : c.extend_from_slice.new.self.items ≡ passed =
-    c.in_ok-extend_from_slice.ensures.items ∙ ap (λ (xs : List ℕ). xs ++ passed) c.take_scratch-spare.ensures in (
+    c.in_ok-extend_from_slice.ensures.items ∙ ap (λ (xs : List ℕ). xs ++ passed) c.take_lists-spare.ensures in (
       record {
         step = record {
           wide = c.requires.wide;
@@ -40,7 +40,7 @@ returns g c =
         few = rw c.replace.ensures.value (rw c.in-Some.is at c.in_ok-met.ensures.few);
         witnesses = subst (AreSeen K B) (sym copied)
             (subst (λ (J : Context). AreSeen J B passed) c.rows-2.ensures c.pass_witnesses-passed.ensures);
-        noted = seen_none K B c.take_scratch.result.noted.items c.take_scratch.ensures;
+        noted = seen_none K B c.take_lists.result.noted.items c.take_lists.ensures;
         candidates = entered.0;
         order = entered.1;
       },

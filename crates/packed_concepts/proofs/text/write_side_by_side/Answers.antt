@@ -3,7 +3,7 @@ use Rattle.std.specs.List.{flat_map}
 use denote.Ref.{Bor}
 use Rattle.fca_model.specs.Tables.{Text}
 use Rattle.expert_wire.proofs.WriteLemmas.{Writes-equal}
-use Rattle.packed_concepts.specs.Lines.{Named, lines_from, head_of}
+use Rattle.packed_concepts.specs.Lines.{Named, lines_from, count_line_of}
 use Rattle.packed_concepts.specs.Packing.{IsNamed, Holds}
 use Rattle.packed_concepts.specs.Stretches.{Placed, job_lines, all_lines, concepts_of, IsReady, IsHeld}
 use Rattle.packed_concepts.proofs.StretchLemmas.{All-parts, ready-all, lines-jobs}
@@ -14,13 +14,13 @@ write_jobs_counted-requires-after_bounds g c κs within =
     let t : Named = c.args.names.now in
     let n : ℕ = length c.deref_mut.result.now in
     let made : List Placed = c.in-Ok.stretches.items in
-    let jobs : List (Bor (List Placed)) = c.in-Ok-jobs_of.jobs.items in
+    let jobs : List (Bor (List Placed)) = c.in-Ok-line_jobs.jobs.items in
     let named : All (IsNamed t) (concepts_of made) = subst (All (IsNamed t)) (sym c.in-Ok.ensures.concepts) c.requires.named in
     let small : length (concepts_of made) < 2 ^ 64 = omega (arith, ap length c.in-Ok.ensures.concepts, c.requires.count, c.ranges.count.fits) in
     let room : n ≡ length c.args.buffer.now.items = ap length c.deref_mut.ensures.value in
     let holds : All (Holds n) (concepts_of made) = subst (All (Holds n)) (sym c.in-Ok.ensures.concepts)
     (subst (λ m. All (Holds m) (flat_map (λ x. x) c.args.pages.now)) (sym room) c.requires.holds) in
-    let grouped : flat_map (λ (job : Bor (List Placed)). job.now) jobs ≡ made = c.in-Ok-jobs_of.ensures ∙ c.deref.ensures.value in (
+    let grouped : flat_map (λ (job : Bor (List Placed)). job.now) jobs ≡ made = c.in-Ok-line_jobs.ensures ∙ c.deref.ensures.value in (
       omega arith,
       (
         subst (λ (js : List (Bor (List Placed))). All (λ job. All (IsReady t) job.now) js) (sym c.deref-2.ensures.value)
@@ -42,9 +42,9 @@ pub returns-clause-written : goal.returns-clause-written
 returns-clause-written g c =
     let t : Named = c.args.names.now in
     let made : List Placed = c.in-Ok.stretches.items in
-    let jobs : List (Bor (List Placed)) = c.in-Ok-jobs_of.jobs.items in
-    let grouped : flat_map (λ (job : Bor (List Placed)). job.now) jobs ≡ made = c.in-Ok-jobs_of.ensures ∙ c.deref.ensures.value in
+    let jobs : List (Bor (List Placed)) = c.in-Ok-line_jobs.jobs.items in
+    let grouped : flat_map (λ (job : Bor (List Placed)). job.now) jobs ≡ made = c.in-Ok-line_jobs.ensures ∙ c.deref.ensures.value in
     let lines : all_lines t c.deref-2.result.now ≡ lines_from t 0 (flat_map (λ x. x) c.args.pages.now) =
     ap (all_lines t) c.deref-2.ensures.value ∙ lines-jobs t jobs ∙ ap (job_lines t) grouped ∙ c.in-Ok.ensures.follow.lines t
     ∙ ap (lines_from t 0) c.in-Ok.ensures.concepts in
-    Writes-equal (ap₂ (λ n (z : Text). head_of n ++ z) c.requires.count lines) c.write_jobs_counted.ensures
+    Writes-equal (ap₂ (λ n (z : Text). count_line_of n ++ z) c.requires.count lines) c.write_jobs_counted.ensures

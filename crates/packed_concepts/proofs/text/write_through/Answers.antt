@@ -4,7 +4,7 @@ use Rattle.std.proofs.lemmas.Result.{err_from_is_err_and}
 use Rattle.fca_model.specs.Sets.{Set}
 use Rattle.fca_model.specs.Tables.{Text}
 use Rattle.expert_wire.proofs.WriteLemmas.{Writes-then, Writes-equal}
-use Rattle.packed_concepts.specs.Lines.{lines_from, head_of}
+use Rattle.packed_concepts.specs.Lines.{lines_from, count_line_of}
 use Rattle.packed_concepts.specs.Packing.{IsNamed, Holds}
 use Rattle.packed_concepts.proofs.PageLemmas.{All-lists}
 use Rattle.packed_concepts.proofs.text.write_through.Goals as goal
@@ -15,9 +15,9 @@ pass_pages-requires g c = (
   (
     All-lists (IsNamed c.args.names.now) c.args.pages.now c.requires.named,
     (
-      subst (λ n. All (λ (page : List (Set × List ℕ)). All (Holds n) page) c.args.pages.now) (sym c.put_head-head.ensures.room)
+      subst (λ n. All (λ (page : List (Set × List ℕ)). All (Holds n) page) c.args.pages.now) (sym c.put_count_line-head.ensures.room)
           (All-lists (Holds (length c.args.buffer.now)) c.args.pages.now c.requires.holds),
-      (c.put_head-head.ensures.end, omega (arith, c.requires.count, c.ranges.count.fits)),
+      (c.put_count_line-head.ensures.end, omega (arith, c.requires.count, c.ranges.count.fits)),
     ),
   ),
 )
@@ -26,15 +26,15 @@ pub returns-in_err-end : goal.returns-in_err-end
 returns-in_err-end g c =
     let all : List (Set × List ℕ) = flat_map (λ x. x) c.args.pages.now in
     let p = err_from_is_err_and c.from_residual.result c.from_residual.ensures.1 in
-    let head : take c.put_head-head.result c.put_head-head.new.buffer ≡ head_of (length all) = c.put_head-head.ensures.text
-    ∙ ap head_of c.requires.count in
+    let head : take c.put_count_line-head.result c.put_count_line-head.new.buffer ≡ count_line_of (length all) = c.put_count_line-head.ensures.text
+    ∙ ap count_line_of c.requires.count in
     rw (p.1, p.2) (Writes-equal (ap (λ (u : Text). u ++ lines_from c.args.names.now 0 all) head) c.in_err-end.ensures.failed)
 
 pub returns : goal.returns
 returns g c =
     let all : List (Set × List ℕ) = flat_map (λ x. x) c.args.pages.now in
-    let head : take c.put_head-head.result c.put_head-head.new.buffer ≡ head_of (length all) = c.put_head-head.ensures.text
-    ∙ ap head_of c.requires.count in
+    let head : take c.put_count_line-head.result c.put_count_line-head.new.buffer ≡ count_line_of (length all) = c.put_count_line-head.ensures.text
+    ∙ ap count_line_of c.requires.count in
     let passed = c.in_ok-end.ensures.passed in
     Writes-equal (passed.split ∙ ap (λ (u : Text). u ++ lines_from c.args.names.now 0 all) head)
     (Writes-then c.write_part.result passed.written c.write_part.ensures)

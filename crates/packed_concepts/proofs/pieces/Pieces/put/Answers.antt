@@ -2,7 +2,7 @@ use Rattle.std.proofs.Common.{◌≡◌, ◌<◌, ◌∙◌, ◌++◌, ℕ, List
 use Rattle.std.proofs.lemmas.List.{length-map, get_or-map}
 use Rattle.fca_model.specs.Tables.{Text}
 use Rattle.packed_concepts.specs.Pieces.{piece_text, piece_texts}
-use Rattle.packed_concepts.specs.declared.block.Block.{Block}
+use Rattle.packed_concepts.specs.declared.block.TextBlock.{TextBlock}
 use Rattle.packed_concepts.proofs.PieceLemmas.{length-piece_texts, piece_at, moved}
 use Rattle.packed_concepts.proofs.pieces.Pieces.put.Goals as goal
 
@@ -10,7 +10,7 @@ abbrev behind : List (Vec ℕ Global) → List Text
 behind tails = map (λ v. v.items) tails
 
 -- there are as many blocks and tails as texts
-count_line : (bs : List Block) (tails : List (Vec ℕ Global)) (texts : List Text) (i : ℕ) → length bs ≡ length (behind tails)
+count_line : (bs : List TextBlock) (tails : List (Vec ℕ Global)) (texts : List Text) (i : ℕ) → length bs ≡ length (behind tails)
     → piece_texts bs (behind tails) ≡ texts → i < length texts
     → (i < length bs) × (i < length tails)
 count_line bs tails texts i same is inside =
@@ -37,9 +37,9 @@ index-requires-2 c =
 
 pub put_piece-requires : goal.put_piece-requires
 put_piece-requires c =
-    let bs : List Block = c.self.inside.blocks.items in
+    let bs : List TextBlock = c.self.inside.blocks.items in
     let tails : List (Vec ℕ Global) = c.self.inside.tails.items in
-    let b : Block = c.index.result.now in
+    let b : TextBlock = c.index.result.now in
     let v : Vec ℕ Global = c.index-2.result.now in
     let both = count_line bs tails c.args.self.now c.args.i c.self.invariant.same c.self.view_is c.requires.inside in
     record {
@@ -50,9 +50,9 @@ put_piece-requires c =
 
 pub returns-clause-text : goal.returns-clause-text
 returns-clause-text c =
-    let bs : List Block = c.self.inside.blocks.items in
+    let bs : List TextBlock = c.self.inside.blocks.items in
     let tails : List (Vec ℕ Global) = c.self.inside.tails.items in
-    let b : Block = c.index.result.now in
+    let b : TextBlock = c.index.result.now in
     let v : Vec ℕ Global = c.index-2.result.now in
     let both = count_line bs tails c.args.self.now c.args.i c.self.invariant.same c.self.view_is c.requires.inside in
     c.put_piece.ensures.text

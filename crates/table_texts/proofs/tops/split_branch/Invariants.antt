@@ -2,7 +2,7 @@ use Rattle.std.proofs.Common.{◌≡◌, ◌≤◌, ◌++◌, All}
 use Rattle.lectic_concepts.specs.Branches.{branch, AreSeen}
 use Rattle.concept_walk.specs.Nodes.{AreCandidates}
 use Rattle.table_texts.specs.Tops.{IsTop, branches}
-use Rattle.table_texts.proofs.tops.lay_out.Given as goal
+use Rattle.table_texts.proofs.tops.split_branch.Given as goal
 
 abbrev pub invariant-loop-candidates : goal.invariant-loop-candidates
 invariant-loop-candidates g l = record {

@@ -1,6 +1,6 @@
 use Rattle.std.proofs.Common.{◌≡◌, All, take}
 use Rattle.table_texts.specs.Tops.{IsTop, branches}
-use Rattle.table_texts.proofs.tops.lay_out_large.Given as goal
+use Rattle.table_texts.proofs.tops.split_large.Given as goal
 
 abbrev pub invariant-loop-top : goal.invariant-loop-top
 invariant-loop-top g l = record {

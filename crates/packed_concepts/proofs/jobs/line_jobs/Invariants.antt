@@ -1,6 +1,6 @@
 use Rattle.std.proofs.Common.{◌≡◌, ◌-◌, ◌≤◌, length, take}
 use Rattle.std.specs.List.{flat_map}
-use Rattle.packed_concepts.proofs.jobs.jobs_of.Given as goal
+use Rattle.packed_concepts.proofs.jobs.line_jobs.Given as goal
 
 abbrev pub invariant-loop-from : goal.invariant-loop-from
 invariant-loop-from g l = record {

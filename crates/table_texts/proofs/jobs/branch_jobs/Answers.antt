@@ -2,7 +2,7 @@ use Rattle.std.proofs.Common.{◌∙◌, All, sym, ap, subst}
 use Rattle.fca_model.specs.Context.{Context}
 use Rattle.table_texts.specs.Tops.{IsTop, branches}
 use Rattle.table_texts.proofs.TopLemmas.{All-jobs, branches-jobs}
-use Rattle.table_texts.proofs.jobs.jobs_of.Goals as goal
+use Rattle.table_texts.proofs.jobs.branch_jobs.Goals as goal
 
 pub returns-clause-tops : goal.returns-clause-tops
 returns-clause-tops g c =

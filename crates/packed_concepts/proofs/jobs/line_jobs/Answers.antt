@@ -1,6 +1,6 @@
 use Rattle.std.proofs.Common.{rules, ◌+◌, refl, arith}
 use Rattle.packed_concepts.proofs.StretchLemmas.{grouped-more}
-use Rattle.packed_concepts.proofs.jobs.jobs_of.Goals as goal
+use Rattle.packed_concepts.proofs.jobs.line_jobs.Goals as goal
 
 pub loop-from-preserved : goal.loop-from-preserved
 loop-from-preserved g c =
