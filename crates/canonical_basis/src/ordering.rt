@@ -51,7 +51,10 @@ pub(crate) fn close_premises(
     alloc: Global,
     list: &ImplicationList,
 ) -> Result<ImplicationList, Memory>
-    ensures { IfOk result (λ closed. closed ≡ record { width = list.now.width; members = map (λ P. rule P (closure (context_of list.now) P)) (premises list.now.members) }) }
+    ensures { IfOk result (λ closed. closed ≡ record {
+      width = list.now.width;
+      members = map (λ P. rule P (closure (context_of list.now) P)) (premises list.now.members);
+    }) }
 {
     let premises = premises(alloc, list.as_slice())?;
     close_in_list(alloc, list, &premises)

@@ -2,7 +2,7 @@
 use Rattle.std.specs.Prelude.{◌≡◌, ◌≤◌, ℕ, true, length}
 use Rattle.fca_model.specs.Sets.{Set}
 use Rattle.fca_model.specs.Context.{Context, extent, is_closed}
-use Rattle.lectic_concepts.specs.Branches.{AreSeen}
+use Rattle.lectic_concepts.specs.Branches.{AreWitnesses}
 use Rattle.extent_places.specs.Few.{AreFew}
 use Rattle.extent_places.specs.Tries.{AreTries}
 use Rattle.extent_places.specs.declared.few.FewObjects.{FewObjects}
@@ -16,7 +16,7 @@ pub record IsNode (K : Context) {W : ℕ} (node : Node W) : Type 0 where
   pub closed : is_closed K node.intent.now ≡ true
   pub places : node.places.now ≡ extent K node.intent.now
   pub inside : node.from ≤ K.width
-  pub witnesses : AreSeen K node.intent.now node.witnesses.now
+  pub witnesses : AreWitnesses K node.intent.now node.witnesses.now
 
 -- the node is at an intent, whose objects are some of few
 pub record IsFewNode (K : Context) {W : ℕ} (few : FewObjects W) (node : FewNode W) : Type 0 where
@@ -24,7 +24,7 @@ pub record IsFewNode (K : Context) {W : ℕ} (few : FewObjects W) (node : FewNod
   pub closed : is_closed K node.intent.now ≡ true
   pub objects : AreFew K node.intent.now few node.objects.now
   pub inside : node.from ≤ K.width
-  pub witnesses : AreSeen K node.intent.now node.witnesses.now
+  pub witnesses : AreWitnesses K node.intent.now node.witnesses.now
 
 -- a child of A comes from one of these attributes
 pub record AreCandidates (K : Context) {W : ℕ} (A : Set) (candidates : Candidates W) : Type 0 where

@@ -3,7 +3,7 @@ use Rattle.std.specs.Prelude.{◌≡◌, ◌<◌, ◌≤◌, ◌+◌, ℕ, true,
 use Rattle.std.specs.List.{sum_by}
 use Rattle.fca_model.specs.Sets.{Set}
 use Rattle.fca_model.specs.Context.{Context, extent, is_closed}
-use Rattle.lectic_concepts.specs.Branches.{branch, AreSeen}
+use Rattle.lectic_concepts.specs.Branches.{branch, AreWitnesses}
 use Rattle.fca_model.specs.Room.{room}
 use Rattle.concept_walk.specs.Nodes.{AreCandidates}
 use Rattle.concept_walk.specs.Pages.{Fills}
@@ -20,8 +20,8 @@ pub record IsStep (K : Context) {W : ℕ} (step : Step W) : Type 0 where
   pub closed : is_closed K step.intent ≡ true
   pub places : take step.count step.places.items ≡ extent K step.intent
   pub few : step.count ≤ length step.places.items
-  pub witnesses : AreSeen K step.intent step.witnesses.items
-  pub noted : AreSeen K step.intent step.scratch.noted.items
+  pub witnesses : AreWitnesses K step.intent step.witnesses.items
+  pub noted : AreWitnesses K step.intent step.scratch.noted.items
   pub candidates : AreCandidates K step.intent step.candidates
   pub order : step.from ≤ step.candidates.end
 

@@ -4,7 +4,7 @@ ghost use Rattle.std.specs.Prelude.{◌≡◌, ◌≤◌, ◌<◌, ◌+◌, ◌+
 ghost use Rattle.std.specs.Prelude.{slice_index_or, slice_set};
 ghost use Rattle.fca_model.specs.Sets.{within};
 ghost use Rattle.fca_model.specs.Context.{closure, extent, is_closed};
-ghost use Rattle.lectic_concepts.specs.Branches.{branch, AreSeen};
+ghost use Rattle.lectic_concepts.specs.Branches.{branch, AreWitnesses};
 ghost use Rattle.concept_walk.specs.Nodes.{IsNode, AreCandidates};
 ghost use Rattle.concept_walk.specs.Pages.{Fills};
 
@@ -72,7 +72,7 @@ pub fn next_child<const W: usize>(
     requires node { IsNode crosses.now node.now }
     requires candidates { AreCandidates crosses.now node.now.intent.now candidates.now }
     requires order { node.now.from ≤ candidates.now.end }
-    requires noted { AreSeen crosses.now node.now.intent.now scratch.old.noted.items }
+    requires noted { AreWitnesses crosses.now node.now.intent.now scratch.old.noted.items }
     ensures between { IfOk result (λ found. IfSome found (λ child. (node.now.from ≤ child.attribute) × (child.attribute < candidates.now.end))) }
     ensures wide { IfOk result (λ found. IfSome found (λ child. length child.intent ≡ crosses.now.width)) }
     ensures closed { IfOk result (λ found. IfSome found (λ child. is_closed crosses.now child.intent ≡ true)) }
@@ -83,7 +83,7 @@ pub fn next_child<const W: usize>(
         (branch crosses.now node.now.intent.now node.now.from ≡ branch crosses.now node.now.intent.now candidates.now.end)
         (λ child. branch crosses.now node.now.intent.now child.attribute
         ≡ branch crosses.now node.now.intent.now candidates.now.end ++ branch crosses.now child.intent (child.attribute + 1))) }
-    ensures noted { OnOk result (AreSeen crosses.now node.now.intent.now scratch.new.noted.items) }
+    ensures noted { OnOk result (AreWitnesses crosses.now node.now.intent.now scratch.new.noted.items) }
 {
     let rows = crosses.rows();
     let a = node.intent;
@@ -117,7 +117,7 @@ fn child_at<const W: usize>(
     requires node { IsNode crosses.now node.now }
     requires inside { i < crosses.now.width }
     requires lacks { slice_index_or node.now.intent.now i false ≡ false }
-    requires noted { AreSeen crosses.now node.now.intent.now scratch.old.noted.items }
+    requires noted { AreWitnesses crosses.now node.now.intent.now scratch.old.noted.items }
     ensures wide { IfOk result (λ found. IfSome found (λ child. length child.intent ≡ crosses.now.width)) }
     ensures closed { IfOk result (λ found. IfSome found (λ child. is_closed crosses.now child.intent ≡ true)) }
     ensures places { IfOk result (λ found. IfSome found (λ child. take child.count scratch.new.found.items ≡ extent crosses.now child.intent)) }
@@ -128,7 +128,7 @@ fn child_at<const W: usize>(
         (branch crosses.now node.now.intent.now i ≡ branch crosses.now node.now.intent.now (i + 1))
         (λ child. branch crosses.now node.now.intent.now i
         ≡ branch crosses.now node.now.intent.now (i + 1) ++ branch crosses.now child.intent (i + 1))) }
-    ensures noted { OnOk result (AreSeen crosses.now node.now.intent.now scratch.new.noted.items) }
+    ensures noted { OnOk result (AreWitnesses crosses.now node.now.intent.now scratch.new.noted.items) }
 {
     let rows = crosses.rows();
     let a = node.intent;

@@ -3,7 +3,7 @@
 ghost use Rattle.std.specs.Prelude.{◌≡◌, ◌≤◌, ◌<◌, ◌+◌, ◌++◌, true, false, OnOk, IfOk, IfSome, MatchOption, length, slice_index_or};
 ghost use Rattle.fca_model.specs.Sets.{within};
 ghost use Rattle.fca_model.specs.Context.{is_closed};
-ghost use Rattle.lectic_concepts.specs.Branches.{branch, AreSeen};
+ghost use Rattle.lectic_concepts.specs.Branches.{branch, AreWitnesses};
 ghost use Rattle.extent_places.specs.Few.{AreFew};
 ghost use Rattle.concept_walk.specs.Nodes.{IsNode, IsFewNode};
 ghost use Rattle.concept_walk.specs.Pages.{Fills};
@@ -114,7 +114,7 @@ fn below_at<const W: usize>(
     requires node { IsFewNode crosses.now few.now node.now }
     requires inside { i < crosses.now.width }
     requires lacks { slice_index_or node.now.intent.now i false ≡ false }
-    requires noted { AreSeen crosses.now node.now.intent.now noted.old.items }
+    requires noted { AreWitnesses crosses.now node.now.intent.now noted.old.items }
     ensures wide { IfOk result (λ met. IfSome met (λ below. length below.intent ≡ crosses.now.width)) }
     ensures closed { IfOk result (λ met. IfSome met (λ below. is_closed crosses.now below.intent ≡ true)) }
     ensures objects { IfOk result (λ met. IfSome met (λ below. AreFew crosses.now below.intent few.now below.objects)) }
@@ -123,7 +123,7 @@ fn below_at<const W: usize>(
         (branch crosses.now node.now.intent.now i ≡ branch crosses.now node.now.intent.now (i + 1))
         (λ below. branch crosses.now node.now.intent.now i
         ≡ branch crosses.now node.now.intent.now (i + 1) ++ branch crosses.now below.intent (i + 1))) }
-    ensures noted { OnOk result (AreSeen crosses.now node.now.intent.now noted.new.items) }
+    ensures noted { OnOk result (AreWitnesses crosses.now node.now.intent.now noted.new.items) }
 {
     let rows = crosses.rows();
     let a = node.intent;

@@ -1,7 +1,7 @@
 //! Witnesses of closures that fail: those that a step of the walk notes, beside those that were passed down to it.
 
 ghost use Rattle.std.specs.Prelude.{◌≡◌};
-ghost use Rattle.lectic_concepts.specs.Branches.{AreSeen};
+ghost use Rattle.lectic_concepts.specs.Branches.{AreWitnesses};
 
 use crate::cross_table::CrossTable;
 use attr_bits::Bits;
@@ -14,9 +14,9 @@ pub(crate) fn begin_notes<const W: usize>(
     passed: &[u32],
     noted: &mut Vec<u32>,
 ) -> Result<(), Memory>
-    requires passed { AreSeen crosses.now a.now passed.now }
-    requires noted { AreSeen crosses.now a.now noted.old.items }
-    ensures { AreSeen crosses.now a.now noted.new.items }
+    requires passed { AreWitnesses crosses.now a.now passed.now }
+    requires noted { AreWitnesses crosses.now a.now noted.old.items }
+    ensures { AreWitnesses crosses.now a.now noted.new.items }
 {
     if noted.is_empty() {
         noted.extend_from_slice(passed)?;
@@ -31,9 +31,9 @@ pub fn known_witnesses<'a, const W: usize>(
     passed: &'a [u32],
     noted: &'a Vec<u32>,
 ) -> &'a [u32]
-    requires passed { AreSeen crosses.now a.now passed.now }
-    requires noted { AreSeen crosses.now a.now noted.now.items }
-    ensures { AreSeen crosses.now a.now result.now }
+    requires passed { AreWitnesses crosses.now a.now passed.now }
+    requires noted { AreWitnesses crosses.now a.now noted.now.items }
+    ensures { AreWitnesses crosses.now a.now result.now }
 {
     if noted.is_empty() { passed } else { noted }
 }

@@ -2,7 +2,7 @@
 
 ghost use Rattle.std.specs.Prelude.{◌≡◌, ◌≤◌, [], true, IfOk, length, take};
 ghost use Rattle.fca_model.specs.Context.{extent, is_closed};
-ghost use Rattle.lectic_concepts.specs.Branches.{AreSeen};
+ghost use Rattle.lectic_concepts.specs.Branches.{AreWitnesses};
 ghost use Rattle.concept_walk.specs.Nodes.{IsNode, AreCandidates};
 ghost use Rattle.concept_walk.specs.Steps.{IsStep, BeginsAt, HasEntered, HasMet};
 

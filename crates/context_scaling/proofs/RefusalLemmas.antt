@@ -366,7 +366,8 @@ module _ (i place : ℕ) (attribute : Text) (values : List ScaleValue) where
   names-fault kind.Ordinal seen e is = of_one relation.AtMost kind.Ordinal seen e refl is
   names-fault kind.Interordinal seen e is = of_two seen e (add_names i attribute relation.AtMost 3 seen values) refl is
 
-  pub names-Ok : (k : Kind) (seen names : List Text) → names_form i k attribute seen values ≡ Ok names → names ≡ seen ++ names_of (of_kind k)
+  pub names-Ok : (k : Kind) (seen names : List Text) → names_form i k attribute seen values ≡ Ok names
+      → names ≡ seen ++ names_of (of_kind k)
   names-Ok kind.Nominal seen names is = (add-Ok i attribute relation.Equal 3 seen values names is).all
   names-Ok kind.Ordinal seen names is = (add-Ok i attribute relation.AtMost 3 seen values names is).all
   names-Ok kind.Interordinal seen names is = by (add_names i attribute relation.AtMost 3 seen values) refl is

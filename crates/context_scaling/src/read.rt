@@ -138,7 +138,8 @@ fn attribute_at(
 ) -> Result<Found, PlanFault>
     requires text { AllText (fields_of fields.now) }
     requires long { 1 < length (fields_of fields.now) }
-    ensures form { TellsBy PlanFault.Memory (λ found. found.place) result (form.or_fault (PlanFault.UnknownAttribute i) (form.place_of values.now (slice_index_or (fields_of fields.now) 1 []))) }
+    ensures form { TellsBy PlanFault.Memory (λ found. found.place) result
+        (form.or_fault (PlanFault.UnknownAttribute i) (form.place_of values.now (slice_index_or (fields_of fields.now) 1 []))) }
     ensures name { IfOk result (λ found. found.name ≡ slice_index_or (fields_of fields.now) 1 []) }
     ensures place { IfOk result (λ found. slice_get values.now.attributes found.place ≡ Some found.name) }
 {

@@ -11,5 +11,5 @@ mod solo;
 pub use desk::{Desk, Wide};
 pub use gate::{ExpertPass, Gate};
 pub use seated::Seated;
-pub use shared::{Opened, Seen, SharedExplore};
+pub use shared::{OpeningModel, Seen, SharedExplore};
 pub use solo::Solo;

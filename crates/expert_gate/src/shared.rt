@@ -8,11 +8,11 @@ use std::marker::Model;
 use turn_lock::Logged;
 
 /// What the exploration was opened with, as contracts see it. No value of this type is made.
-pub struct Opened {
+pub struct OpeningModel {
     explore: Explore,
 }
 
-impl Model for Opened {
+impl Model for OpeningModel {
     ghost use Rattle.explore_state.specs.History.{Opening};
 
     ghost Value = { Opening };
@@ -50,7 +50,7 @@ impl Logged for SharedExplore {
 
     type Seen = Seen;
 
-    type Base = Opened;
+    type Base = OpeningModel;
 
     ghost use Rattle.std.proofs.Common.{refl};
     ghost use Rattle.std.specs.Prelude.{◌≡◌};

@@ -19,7 +19,7 @@ use Rattle.expert_sessions.specs.Order.{ReadsInTurn}
 use Rattle.expert_sessions.specs.Talks.{HasTalked}
 use Rattle.expert_gate.specs.Seats.{EachSeat}
 use Rattle.expert_sessions.specs.Serving.{IsReady, HasSat, EachTalks, entered}
-use Rattle.expert_sessions.specs.declared.seats.Seat.{Seat}
+use Rattle.expert_sessions.specs.declared.seats.SessionSeat.{SessionSeat}
 use Rattle.expert_sessions.proofs.TalkLemmas.{untold}
 
 -- ---- one session
@@ -82,20 +82,20 @@ roll-numbers gate (p ∷ ps) e =
     (ap (λ (b : Badge Opening). b.number) head, badges-numbers gate.id (Some gate.base) gate.turns 2 (gate.passes - 1) ps tail)
 
 module _ {E : Type 0} (left held : E → Option Text) (calls : E → Option ℕ) (reads writes : E → ℕ) (t : NamedContext) (lines : ℕ) where
-  abbrev pub passes : List (Seat E) → List (Known Opening SetEntry)
+  abbrev pub passes : List (SessionSeat E) → List (Known Opening SetEntry)
   passes seats = map (λ seat. seat.pass) seats
 
-  abbrev pub ends : List (Seat E) → List E
+  abbrev pub ends : List (SessionSeat E) → List E
   ends seats = map (λ seat. seat.end) seats
 
-  abbrev pub endings : List (Seat E) → List Ended
+  abbrev pub endings : List (SessionSeat E) → List Ended
   endings seats = map (λ seat. seat.ended) seats
 
   abbrev wire : E → Wire
   wire end = wire_of left held reads writes end
 
   -- no session changes a badge
-  pub badges_kept : (olds news : List (Seat E)) → EachSeat (HasSat left held calls reads writes t lines) olds news
+  pub badges_kept : (olds news : List (SessionSeat E)) → EachSeat (HasSat left held calls reads writes t lines) olds news
       → map badge (passes news) ≡ map badge (passes olds)
   badges_kept [] [] h = refl
   badges_kept [] (new ∷ news) h = absurd h
@@ -104,7 +104,7 @@ module _ {E : Type 0} (left held : E → Option Text) (calls : E → Option ℕ)
       ap (λ (b : Badge Opening). b ∷ map badge (passes news)) h.0.same
       ∙ ap (λ (bs : List (Badge Opening)). badge old.pass ∷ bs) (badges_kept olds news h.1)
 
-  each_talks : (H : List SetEntry) (k : ℕ) (olds news : List (Seat E)) → HasNumbers k (passes news)
+  each_talks : (H : List SetEntry) (k : ℕ) (olds news : List (SessionSeat E)) → HasNumbers k (passes news)
       → All (λ p. own H p.number ≡ p.own) (passes news)
       → EachSeat (HasSat left held calls reads writes t lines) olds news
       → EachTalks left held calls reads writes t lines H k (ends olds) (ends news) (endings news)
@@ -122,14 +122,14 @@ module _ {E : Type 0} (left held : E → Option Text) (calls : E → Option ℕ)
       )
 
   -- the gate was closed
-  pub talks : (gate : Lock Opening) (H : List SetEntry) (olds news : List (Seat E)) → map badge (passes olds) ≡ roll gate
+  pub talks : (gate : Lock Opening) (H : List SetEntry) (olds news : List (SessionSeat E)) → map badge (passes olds) ≡ roll gate
       → HasClosed gate.base H (passes news)
       → EachSeat (HasSat left held calls reads writes t lines) olds news
       → EachTalks left held calls reads writes t lines H 1 (ends olds) (ends news) (endings news)
   talks gate H olds news e closed h = each_talks H 1 olds news (roll-numbers gate (passes news) (badges_kept olds news h ∙ e)) closed.own h
 
   -- the seats of passes that have made no turn
-  pub seats_ready : (gate : Lock Opening) (seats : List (Seat E)) → All (Belongs gate) (passes seats) → All IsFresh (passes seats)
+  pub seats_ready : (gate : Lock Opening) (seats : List (SessionSeat E)) → All (Belongs gate) (passes seats) → All IsFresh (passes seats)
       → All (IsReady gate) seats
   seats_ready gate [] belong fresh = All-nil (IsReady gate)
   seats_ready gate (seat ∷ seats) belong fresh =
@@ -142,14 +142,14 @@ module _ {E : Type 0} (left held : E → Option Text) (calls : E → Option ℕ)
 -- ---- the passes of a gate
 
 module _ {E : Type 0} (left held : E → Option Text) (calls : E → Option ℕ) (reads writes : E → ℕ) (t t' : NamedContext) (lines lines' : ℕ)
-    (gate : Lock Opening) (ps qs : List (Known Opening SetEntry)) (olds news : List (Seat E))
-    (some : 1 ≤ gate.passes) (roll_is : map badge ps ≡ roll gate) (fill_seats : map (λ (seat : Seat E). seat.pass) olds ≡ ps)
-    (split_seats : qs ≡ map (λ (seat : Seat E). seat.pass) news)
+    (gate : Lock Opening) (ps qs : List (Known Opening SetEntry)) (olds news : List (SessionSeat E))
+    (some : 1 ≤ gate.passes) (roll_is : map badge ps ≡ roll gate) (fill_seats : map (λ (seat : SessionSeat E). seat.pass) olds ≡ ps)
+    (split_seats : qs ≡ map (λ (seat : SessionSeat E). seat.pass) news)
     (sat : EachSeat (HasSat left held calls reads writes t' lines') olds news) where
   -- there are as many seats as passes, before and afterwards
   pub length-news : length news ≡ gate.passes
   length-news = EachSeat-length (HasSat left held calls reads writes t' lines') olds news sat
-      ∙ sym (length-map olds (λ (seat : Seat E). seat.pass)) ∙ ap length fill_seats ∙ length-roll gate ps some roll_is
+      ∙ sym (length-map olds (λ (seat : SessionSeat E). seat.pass)) ∙ ap length fill_seats ∙ length-roll gate ps some roll_is
 
   -- the passes come back with their badges
   pub roll_kept : map badge qs ≡ roll gate
@@ -159,24 +159,24 @@ module _ {E : Type 0} (left held : E → Option Text) (calls : E → Option ℕ)
   -- what the closed gate shows
   module _ (H : List SetEntry) (closed : HasClosed gate.base H qs) where
     pub talks_told : (before after : List E) (endings : List Ended) → t' ≡ t → lines' ≡ lines
-        → map (λ (seat : Seat E). seat.end) olds ≡ before → after ≡ map (λ (seat : Seat E). seat.end) news
-        → endings ≡ map (λ (seat : Seat E). seat.ended) news → EachTalks left held calls reads writes t lines H 1 before after endings
+        → map (λ (seat : SessionSeat E). seat.end) olds ≡ before → after ≡ map (λ (seat : SessionSeat E). seat.end) news
+        → endings ≡ map (λ (seat : SessionSeat E). seat.ended) news → EachTalks left held calls reads writes t lines H 1 before after endings
     talks_told before after endings table few ends_before ends_after ended =
         let all = talks left held calls reads writes t' lines' gate H olds news (ap (map badge) fill_seats ∙ roll_is)
         (subst (HasClosed gate.base H) split_seats closed) sat in
         subst (λ z. EachTalks left held calls reads writes z lines H 1 before after endings) table
         (subst (λ z. EachTalks left held calls reads writes t' z H 1 before after endings) few
         (subst (λ z. EachTalks left held calls reads writes t' lines' H 1 z after endings) ends_before
-        (subst (λ z. EachTalks left held calls reads writes t' lines' H 1 (map (λ (seat : Seat E). seat.end) olds) z endings)
+        (subst (λ z. EachTalks left held calls reads writes t' lines' H 1 (map (λ (seat : SessionSeat E). seat.end) olds) z endings)
         (sym ends_after)
-        (subst (λ z. EachTalks left held calls reads writes t' lines' H 1 (map (λ (seat : Seat E). seat.end) olds)
-        (map (λ (seat : Seat E). seat.end) news) z) (sym ended) all))))
+        (subst (λ z. EachTalks left held calls reads writes t' lines' H 1 (map (λ (seat : SessionSeat E). seat.end) olds)
+        (map (λ (seat : SessionSeat E). seat.end) news) z) (sym ended) all))))
 
     pub others_told : (e : ℕ) → (e ≡ 0) ⊎ (gate.passes < e) → own H e ≡ []
     others_told e h = closed.others e (elim h as (λ _. (e ≡ 0) ⊎ (length qs < e)) [
       | inl none ↦ inl none
       | inr more ↦ inr (
           let many = length-news in
-          let same : length qs ≡ length news = ap length split_seats ∙ length-map news (λ (seat : Seat E). seat.pass) in
+          let same : length qs ≡ length news = ap length split_seats ∙ length-map news (λ (seat : SessionSeat E). seat.pass) in
           omega arith)
     ])

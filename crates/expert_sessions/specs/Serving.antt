@@ -8,10 +8,10 @@ use Rattle.expert_sessions.specs.Moves.{Place, wire_of}
 use Rattle.expert_sessions.specs.Order.{ReadsInTurn}
 use Rattle.expert_sessions.specs.Talks.{HasTalked}
 use Rattle.expert_sessions.specs.declared.ended.Ended.{Ended}
-use Rattle.expert_sessions.specs.declared.seats.Seat.{Seat}
+use Rattle.expert_sessions.specs.declared.seats.SessionSeat.{SessionSeat}
 
 -- the seat's pass is one of this gate's, and has made no turn
-abbrev pub IsReady : {E : Type 0} → Lock Opening → Seat E → Type 0
+abbrev pub IsReady : {E : Type 0} → Lock Opening → SessionSeat E → Type 0
 IsReady gate seat = Belongs gate seat.pass × IsFresh seat.pass
 
 -- sessions of at most so many lines over the table suit the gate: its exploration has as many attributes, and a pass may make more
@@ -28,7 +28,7 @@ entered entries = record { entries = entries; turns = None }
 module _ {E : Type 0} (left held : E → Option Text) (calls : E → Option ℕ) (reads writes : E → ℕ) (t : NamedContext) (lines : ℕ) where
   -- the expert of the seat's pass has talked over the seat's end, and never ran out of turns, which are not shown; the pass has the
   -- entries of the talk; and the end was read only where each whole line was answered
-  pub record HasSat (old new : Seat E) : Type 0 where
+  pub record HasSat (old new : SessionSeat E) : Type 0 where
     pub same : badge new.pass ≡ badge old.pass
     pub talk : HasTalked t new.pass.number lines (wire_of left held reads writes old.end) (wire_of left held reads writes new.end)
         (entered []) (entered new.pass.own) new.ended

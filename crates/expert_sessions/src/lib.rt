@@ -10,6 +10,6 @@ mod serving;
 mod talk;
 
 pub use ended::Ended;
-pub use seats::Seat;
+pub use seats::SessionSeat;
 pub use serving::{Served, Unserved, serve_ends};
 pub use talk::session;

@@ -22,7 +22,7 @@ use std::thread::{Threads, join_mut};
 
 /// One expert's place: its pass, its end, and how its session ended.
 #[derive(Drop)]
-pub struct Seat<E> {
+pub struct SessionSeat<E> {
     pub(crate) pass: ExpertPass,
     pub(crate) end: E,
     pub(crate) ended: Ended,
@@ -45,7 +45,7 @@ pub(crate) fn run_seats<R: Threads + Wait + Sync, E: Duplex + Send>(
     alloc: Global,
     gate: &Gate,
     terms: &Terms,
-    seats: &mut Vec<Seat<E>>,
+    seats: &mut Vec<SessionSeat<E>>,
 )
     requires ready { All (IsReady gate.now) seats.old.items }
     requires terms { Suits gate.now terms.now.table terms.now.lines }
@@ -61,7 +61,7 @@ fn run_halves<R: Threads + Wait + Sync, E: Duplex + Send>(
     alloc: &Global,
     gate: &Gate,
     terms: &Terms,
-    seats: &mut [Seat<E>],
+    seats: &mut [SessionSeat<E>],
 )
     requires ready { All (IsReady gate.now) seats.old }
     requires terms { Suits gate.now terms.now.table terms.now.lines }
@@ -97,7 +97,7 @@ fn run_seat<R: Threads + Wait + Sync, E: Duplex>(
     alloc: Global,
     gate: &Gate,
     terms: &Terms,
-    seat: &mut Seat<E>,
+    seat: &mut SessionSeat<E>,
 )
     requires ready { IsReady gate.now seat.old }
     requires terms { Suits gate.now terms.now.table terms.now.lines }
@@ -143,10 +143,10 @@ fn serve_one<R: Threads + Wait + Sync, E: Duplex>(
 
 /// Makes a seat for each pass, with the end at the same place of its list. The list of seats has room for them.
 pub(crate) fn fill_seats<E: Drop>(
-    mut seats: Vec<Seat<E>>,
+    mut seats: Vec<SessionSeat<E>>,
     passes: Vec<ExpertPass>,
     ends: Vec<E>,
-) -> Vec<Seat<E>>
+) -> Vec<SessionSeat<E>>
     requires empty { seats.items ≡ [] }
     requires many { vec_len passes ≡ vec_len ends }
     requires room { vec_len ends ≤ vec_capacity seats }
@@ -158,7 +158,7 @@ pub(crate) fn fill_seats<E: Drop>(
         let Some(end) = ends.next() else {
             unreachable!()
         };
-        seats.push_reserved(Seat {
+        seats.push_reserved(SessionSeat {
             pass,
             end,
             ended: Ended::Memory,
@@ -169,7 +169,7 @@ pub(crate) fn fill_seats<E: Drop>(
 
 /// Puts what the seats hold into lists that have room for it.
 pub(crate) fn split_seats<E: Drop>(
-    seats: Vec<Seat<E>>,
+    seats: Vec<SessionSeat<E>>,
     mut passes: Vec<ExpertPass>,
     mut ends: Vec<E>,
     mut endings: Vec<Ended>,
@@ -182,7 +182,7 @@ pub(crate) fn split_seats<E: Drop>(
     ensures endings { result.2.items ≡ map (λ seat. seat.ended) seats.items }
 {
     for seat in seats {
-        let Seat { pass, end, ended } = seat;
+        let SessionSeat { pass, end, ended } = seat;
         passes.push_reserved(pass);
         ends.push_reserved(end);
         endings.push_reserved(ended);

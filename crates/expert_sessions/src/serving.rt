@@ -9,7 +9,7 @@ ghost use Rattle.expert_sessions.specs.Serving.{EachTalks};
 ghost use Rattle.expert_sessions.specs.Rooms.{IsEmpty, HasRoom};
 
 use crate::ended::Ended;
-use crate::seats::{Seat, Terms, fill_seats, run_seats, split_seats};
+use crate::seats::{SessionSeat, Terms, fill_seats, run_seats, split_seats};
 use expert_gate::{ExpertPass, Gate};
 use explore_state::Explore;
 use fca_io::Duplex;
@@ -79,7 +79,7 @@ pub fn serve_ends<R: Threads + Wait + Sync, E: Duplex + Send + Drop>(
 /// Room for the seats and for what they hold.
 #[derive(Drop)]
 struct Room<E> {
-    seats: Vec<Seat<E>>,
+    seats: Vec<SessionSeat<E>>,
     passes: Vec<ExpertPass>,
     ends: Vec<E>,
     endings: Vec<Ended>,

@@ -1,19 +1,15 @@
--- The rows above an intent, what its closures have, and the places of its upper neighbours.
-use Rattle.std.specs.Prelude.{◌≡◌, ◌<◌, ◌≤◌, ℕ, true, false, List, length, slice_index_or, slice_set, map, All}
+-- The links of a chain of intents, and the places of upper neighbours.
+use Rattle.std.specs.Prelude.{◌≡◌, ◌≤◌, ℕ, true, List, length, map, All}
 use Rattle.std.specs.List.{prefix_len}
 use Rattle.std.specs.Ordering.{is_lt}
 use Rattle.fca_model.specs.Sets.{Set, within, lectic_cmp}
-use Rattle.fca_model.specs.Context.{Context, closure}
+use Rattle.fca_model.specs.Context.{Context}
+use Rattle.lectic_concepts.specs.Branches.{AreWitnesses}
 use Rattle.extent_places.specs.Objects.{HasObjects, AreColumns, rows_above}
 use Rattle.lattice_covers.specs.declared.chain.FewRows.{FewRows}
 use Rattle.lattice_covers.specs.declared.chain.RowsAbove.{RowsAbove}
 use Rattle.lattice_covers.specs.declared.chain.RowsAbove.TheVariants.{Many, Few}
 use Rattle.lattice_covers.specs.declared.chain.Link.{Link}
-
--- for each attribute a member of the closure of A with it
-pub record AreImplied (K : Context) (A : Set) (ws : List ℕ) : Type 0 where
-  pub wide : length ws ≡ K.width
-  pub member : (i : ℕ) → i < K.width → slice_index_or (closure K (slice_set A i true)) (slice_index_or ws i 0) false ≡ true
 
 -- the rows that contain a part of A are few and are kept, and S has those of them that contain A
 pub record AreKept (K : Context) (A : Set) {W : ℕ} (kept : FewRows W) (S : Set) : Type 0 where
@@ -29,11 +25,12 @@ abbrev pub AreRowsAbove : Context → Set → {W : ℕ} → RowsAbove W → Type
 AreRowsAbove K A (Many above) = above ≡ rows_above K A
 AreRowsAbove K A (Few kept objects) = AreKept K A kept.value objects
 
--- the link has the rows that contain its intent, and members of the closures of the intent with one attribute more
+-- the link has the rows that contain its intent, and for each attribute a witness
 pub record IsLink (K : Context) {W : ℕ} (link : Link W) : Type 0 where
   pub wide : length link.intent ≡ K.width
   pub above : AreRowsAbove K link.intent link.above
-  pub implied : AreImplied K link.intent link.implied.items
+  pub many : length link.witnesses.items ≡ K.width
+  pub witnesses : AreWitnesses K link.intent link.witnesses.items
 
 abbrev pub AreLinks : Context → {W : ℕ} → List (Link W) → Type 0
 AreLinks K links = All (IsLink K) links

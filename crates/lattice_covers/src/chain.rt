@@ -1,4 +1,5 @@
-//! The chain of intents of which each contains the one before. An intent has a link with the rows that contain it and with members of the closures above it.
+//! The chain of intents of which each contains the one before. An intent has a link with the rows that contain it and with witnesses, members of the closures
+//! above it.
 
 ghost use Rattle.std.specs.Prelude.{◌≡◌, ◌<◌, ◌≤◌, ℕ, [], true, false, not, ◌||◌, length, slice_set, slice_index_or, MatchOption, IfOk};
 ghost use Rattle.fca_model.specs.Sets.{within};
@@ -39,14 +40,14 @@ pub(crate) struct Link<const W: usize> {
     pub(crate) intent: Bits<W>,
     /// The rows that contain it.
     pub(crate) above: RowsAbove<W>,
-    /// For each attribute a member of the closure of the intent with it.
-    pub(crate) implied: Vec<u32>,
+    /// For each attribute a witness: a member of the closure of the intent with it.
+    pub(crate) witnesses: Vec<u32>,
     /// An attribute that was not allowed in the closure that failed last.
     pub(crate) further: u32,
 }
 
 /// The link of a. Links whose intents a does not contain are dropped from the end of the chain. The rows that contain a are found among those of the last link
-/// that is left, and the members of its closures are members of those of a.
+/// that is left, and its witnesses are witnesses for a too.
 pub(crate) fn link_of<const W: usize>(
     alloc: Global,
     rows: &RowsOf<W>,
@@ -82,7 +83,7 @@ fn next_link<const W: usize>(
     Ok(Link {
         intent: *a,
         above: rows_among(alloc, rows, link, a)?,
-        implied: Vec::from_slice(alloc, &link.implied)?,
+        witnesses: Vec::from_slice(alloc, &link.witnesses)?,
         further: rows.width(),
     })
 }
@@ -96,14 +97,14 @@ fn first_link<const W: usize>(
     requires { length a.now ≡ rows.now.width }
     ensures { IfOk result (λ link. (link.intent ≡ a.now) × IsLink rows.now link) }
 {
-    let mut implied = Vec::new(alloc);
+    let mut witnesses = Vec::new(alloc);
     for i in 0..rows.width() {
-        implied.push(i)?;
+        witnesses.push(i)?;
     }
     Ok(Link {
         intent: *a,
         above: rows_among_all(alloc, rows, a)?,
-        implied,
+        witnesses,
         further: rows.width(),
     })
 }
@@ -269,7 +270,7 @@ fn meet_having<const W: usize>(rows: &RowsOf<W>, i: u32, a: &Bits<W>) -> Bits<W>
     met
 }
 
-/// Whether the closure of the intent of the link with attribute i is seen to have attribute j.
+/// Whether the closure of the intent of the link with attribute i has attribute j.
 fn implies<const W: usize>(rows: &RowsOf<W>, link: &Link<W>, i: u32, j: u32) -> bool
     requires wide { length link.now.intent ≡ rows.now.width }
     requires link { IsLink rows.now link.now }
@@ -313,7 +314,7 @@ fn has_if<const W: usize>(row: &Bits<W>, i: u32, j: u32) -> bool
     !has(row, i) || has(row, j)
 }
 
-/// The closure of the intent with attribute i, if all its members are allowed. It is not computed if a known member is not allowed, or if the attribute that was
+/// The closure of the intent with attribute i, if all its members are allowed. It is not computed if its witness is not allowed, or if the attribute that was
 /// not allowed in the last closure is a member of this one too.
 pub(crate) fn allowed_closure<const W: usize>(
     rows: &RowsOf<W>,
@@ -330,12 +331,12 @@ pub(crate) fn allowed_closure<const W: usize>(
     ensures link { IsLink rows.now link.new }
     ensures intent { link.new.intent ≡ link.old.intent }
 {
-    if !has(allowed, link.implied[i as usize]) {
+    if !has(allowed, link.witnesses[i as usize]) {
         return None;
     }
     let further = link.further;
     if lacks(allowed, further) && implies(rows, link, i, further) {
-        link.implied[i as usize] = further;
+        link.witnesses[i as usize] = further;
         return None;
     }
     let closed = closure_with(rows, link, i);
@@ -343,7 +344,7 @@ pub(crate) fn allowed_closure<const W: usize>(
         None => Some(closed),
         Some(known) => {
             let last = last_missing(&closed, allowed, known, i);
-            link.implied[i as usize] = last;
+            link.witnesses[i as usize] = last;
             link.further = later_missing(&closed, allowed, known, i);
             None
         }

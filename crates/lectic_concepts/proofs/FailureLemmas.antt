@@ -8,9 +8,9 @@ use Rattle.std.specs.Bool.{MatchBool}
 use Rattle.fca_model.specs.Sets.{Set}
 use Rattle.fca_model.specs.Context.{Context, closure}
 use Rattle.fca_model.specs.Exploration.{first_missing}
-use Rattle.lectic_concepts.specs.Branches.{branch, AreSeen}
+use Rattle.lectic_concepts.specs.Branches.{branch, AreWitnesses}
 use Rattle.lectic_concepts.proofs.BranchLemmas.{branch_member, branch_splits, with_found, with_none}
-use Rattle.lectic_concepts.proofs.SeenLemmas.{seen_fails}
+use Rattle.lectic_concepts.proofs.WitnessLemmas.{seen_fails}
 use Rattle.std.proofs.Common.{add-one}
 
 -- a has i
@@ -45,7 +45,7 @@ child_if K A i lacks wide inside D is false e = at_none K A i lacks wide inside 
 
 -- a member of the closure before i was seen: either A has it, or the closure adds it
 pub open_or_seen : (K : Context) (A : Set) (ws : List ℕ) (i w : ℕ) (b : Bool) → get_or A i false ≡ false → length A ≡ K.width → i < K.width
-    → AreSeen K A ws → get_or ws i i ≡ w → w < i → b ≡ get_or A w false
+    → AreWitnesses K A ws → get_or ws i i ≡ w → w < i → b ≡ get_or A w false
     → MatchBool b (get_or A i false ≡ false) (branch K A i ≡ branch K A (i + 1))
 open_or_seen K A ws i w true lacks wide inside seen is before e = lacks
 open_or_seen K A ws i w false lacks wide inside seen is before e =

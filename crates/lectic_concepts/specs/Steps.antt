@@ -2,7 +2,7 @@
 use Rattle.std.specs.Prelude.{◌≡◌, ◌≤◌, ◌<◌, ◌+◌, ℕ, true, List, [], ◌∷◌, ◌++◌, length}
 use Rattle.fca_model.specs.Sets.{Set, within}
 use Rattle.fca_model.specs.Context.{Context, is_closed}
-use Rattle.lectic_concepts.specs.Branches.{branch, AreSeen}
+use Rattle.lectic_concepts.specs.Branches.{branch, AreWitnesses}
 use Rattle.lectic_concepts.specs.declared.children.Step.{Step}
 use Rattle.lectic_concepts.specs.declared.children.Child.{Child}
 use Rattle.lectic_concepts.specs.declared.children.Descent.{Descent}
@@ -13,7 +13,7 @@ pub record IsStep (n : ℕ) {W : ℕ} (step : Step W) : Type 0 where
   pub narrow : step.rows.width ≡ n
   pub wide : length step.intent ≡ n
   pub closed : is_closed step.rows step.intent ≡ true
-  pub witnesses : AreSeen step.rows step.intent step.witnesses.items
+  pub witnesses : AreWitnesses step.rows step.intent step.witnesses.items
   pub order : step.from ≤ step.end
   pub inside : step.end ≤ n
 

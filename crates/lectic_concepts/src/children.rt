@@ -3,7 +3,7 @@
 ghost use Rattle.std.specs.Prelude.{◌≡◌, ◌≤◌, ◌<◌, ◌+◌, ◌++◌, ℕ, true, IfOk, IfSome, MatchOption, filter, length};
 ghost use Rattle.fca_model.specs.Sets.{within};
 ghost use Rattle.fca_model.specs.Context.{is_closed};
-ghost use Rattle.lectic_concepts.specs.Branches.{branch, AreSeen};
+ghost use Rattle.lectic_concepts.specs.Branches.{branch, AreWitnesses};
 ghost use Rattle.lectic_concepts.specs.Steps.{IsStep, IsBegun, IsLastChild};
 
 use crate::failures::{copy_witnesses, is_child, is_open, note};
@@ -60,9 +60,9 @@ pub(crate) fn last_child<const W: usize>(
     requires closed { is_closed rows.now a.now ≡ true }
     requires order { from ≤ end }
     requires inside { end ≤ rows.now.width }
-    requires witnesses { AreSeen rows.now a.now witnesses.old.items }
+    requires witnesses { AreWitnesses rows.now a.now witnesses.old.items }
     ensures child { MatchOption result (branch rows.now a.now from ≡ branch rows.now a.now end) (IsLastChild rows.now a.now from end) }
-    ensures witnesses { AreSeen rows.now a.now witnesses.new.items }
+    ensures witnesses { AreWitnesses rows.now a.now witnesses.new.items }
 {
     let _width = rows.width();
     for i in (from..end).rev() {
@@ -88,14 +88,14 @@ pub(crate) fn child_at<const W: usize>(
     requires wide { length a.now ≡ rows.now.width }
     requires closed { is_closed rows.now a.now ≡ true }
     requires inside { i < rows.now.width }
-    requires witnesses { AreSeen rows.now a.now witnesses.old.items }
+    requires witnesses { AreWitnesses rows.now a.now witnesses.old.items }
     ensures wide { IfSome result (λ D. length D ≡ rows.now.width) }
     ensures closed { IfSome result (λ D. is_closed rows.now D ≡ true) }
     ensures larger { IfSome result (λ D. within a.now D ≡ true) }
     ensures splits { MatchOption result
         (branch rows.now a.now i ≡ branch rows.now a.now (i + 1))
         (λ D. branch rows.now a.now i ≡ branch rows.now a.now (i + 1) ++ branch rows.now D (i + 1)) }
-    ensures witnesses { AreSeen rows.now a.now witnesses.new.items }
+    ensures witnesses { AreWitnesses rows.now a.now witnesses.new.items }
 {
     if !is_open(rows, a, i, witnesses) {
         return None;
@@ -119,7 +119,7 @@ pub(crate) fn step_below<const W: usize>(
     requires closed { is_closed step.now.rows child.now.intent ≡ true }
     requires larger { within step.now.intent child.now.intent ≡ true }
     requires inside { child.now.attribute < step.now.rows.width }
-    requires witnesses { AreSeen step.now.rows step.now.intent step.now.witnesses.items }
+    requires witnesses { AreWitnesses step.now.rows step.now.intent step.now.witnesses.items }
     ensures { IfOk result (IsBegun step.now.rows child.now.intent (child.now.attribute + 1)) }
 {
     let end = step.rows.width();

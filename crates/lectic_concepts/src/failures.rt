@@ -6,7 +6,7 @@ ghost use Rattle.std.specs.Prelude.{◌≡◌, ◌<◌, ◌+◌, ◌++◌, true,
 ghost use Rattle.std.specs.Bool.{MatchBool};
 ghost use Rattle.fca_model.specs.Sets.{within};
 ghost use Rattle.fca_model.specs.Context.{closure};
-ghost use Rattle.lectic_concepts.specs.Branches.{branch, AreSeen};
+ghost use Rattle.lectic_concepts.specs.Branches.{branch, AreWitnesses};
 
 use crate::lasting::lasting_member;
 use attr_bits::Bits;
@@ -21,7 +21,7 @@ pub fn own_witnesses<const W: usize>(
     a: &Bits<W>,
 ) -> Result<Vec<u32>, Memory>
     requires { length a.now ≡ rows.now.width }
-    ensures { IfOk result (λ witnesses. AreSeen rows.now a.now witnesses.items) }
+    ensures { IfOk result (λ witnesses. AreWitnesses rows.now a.now witnesses.items) }
 {
     let mut witnesses = Vec::new(alloc);
     for i in 0..rows.width() {
@@ -34,7 +34,7 @@ pub fn own_witnesses<const W: usize>(
 pub fn is_open<const W: usize>(rows: &RowsOf<W>, a: &Bits<W>, i: u32, witnesses: &[u32]) -> bool
     requires wide { length a.now ≡ rows.now.width }
     requires inside { i < rows.now.width }
-    requires witnesses { AreSeen rows.now a.now witnesses.now }
+    requires witnesses { AreWitnesses rows.now a.now witnesses.now }
     ensures { MatchBool result (slice_index_or a.now i false ≡ false) (branch rows.now a.now i ≡ branch rows.now a.now (i + 1)) }
 {
     if a.has(i) {
@@ -69,8 +69,8 @@ pub fn note<const W: usize>(
     witnesses: &mut Vec<u32>,
 )
     requires closed { closed.now ≡ closure rows.now (slice_set a.now i true) }
-    requires witnesses { AreSeen rows.now a.now witnesses.old.items }
-    ensures { AreSeen rows.now a.now witnesses.new.items }
+    requires witnesses { AreWitnesses rows.now a.now witnesses.old.items }
+    ensures { AreWitnesses rows.now a.now witnesses.new.items }
 {
     if let Some(member) = lasting_member(closed, a, i, from, supports) {
         put(witnesses, i, member);
@@ -88,7 +88,7 @@ fn put(witnesses: &mut Vec<u32>, i: u32, member: u32)
 
 /// No witnesses.
 pub(crate) fn no_witnesses<const W: usize>(alloc: Global, rows: &RowsOf<W>, a: &Bits<W>) -> Vec<u32>
-    ensures { AreSeen rows.now a.now result.items }
+    ensures { AreWitnesses rows.now a.now result.items }
 {
     Vec::new(alloc)
 }
@@ -100,10 +100,10 @@ pub fn pass_witnesses<'a, const W: usize>(
     witnesses: &'a [u32],
     larger: &Bits<W>,
 ) -> &'a [u32]
-    requires witnesses { AreSeen rows.now a.now witnesses.now }
+    requires witnesses { AreWitnesses rows.now a.now witnesses.now }
     requires larger { within a.now larger.now ≡ true }
     requires wide { length larger.now ≡ rows.now.width }
-    ensures { AreSeen rows.now larger.now result.now }
+    ensures { AreWitnesses rows.now larger.now result.now }
 {
     witnesses
 }
@@ -117,11 +117,11 @@ pub(crate) fn copy_witnesses<const W: usize>(
     above: &RowsOf<W>,
     larger: &Bits<W>,
 ) -> Result<Vec<u32>, Memory>
-    requires witnesses { AreSeen rows.now a.now witnesses.now }
+    requires witnesses { AreWitnesses rows.now a.now witnesses.now }
     requires larger { within a.now larger.now ≡ true }
     requires wide { length larger.now ≡ rows.now.width }
     requires above { above.now ≡ record { width = rows.now.width; rows = filter (within larger.now) rows.now.rows } }
-    ensures { IfOk result (λ copy. AreSeen above.now larger.now copy.items) }
+    ensures { IfOk result (λ copy. AreWitnesses above.now larger.now copy.items) }
 {
     Ok(Vec::from_slice(alloc, witnesses)?)
 }

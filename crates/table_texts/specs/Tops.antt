@@ -4,7 +4,7 @@ use Rattle.std.specs.List.{flat_map}
 use denote.Ref.{Bor}
 use Rattle.fca_model.specs.Sets.{Set}
 use Rattle.fca_model.specs.Context.{Context, extent, is_closed}
-use Rattle.lectic_concepts.specs.Branches.{branch, AreSeen}
+use Rattle.lectic_concepts.specs.Branches.{branch, AreWitnesses}
 use Rattle.concept_walk.specs.Pages.{IsPage}
 use Rattle.concept_walk.specs.declared.page.Page.{Page}
 use Rattle.table_texts.specs.declared.tops.Top.{Top}
@@ -15,7 +15,7 @@ pub record IsTop (K : Context) {W : ℕ} (top : Top W) : Type 0 where
   pub closed : is_closed K top.intent ≡ true
   pub inside : top.from ≤ K.width
   pub places : top.places.items ≡ extent K top.intent
-  pub witnesses : AreSeen K top.intent top.witnesses.items
+  pub witnesses : AreWitnesses K top.intent top.witnesses.items
 
 -- the intents of the branches, one branch behind the other
 abbrev pub branches : Context → {W : ℕ} → List (Top W) → List Set

@@ -5,7 +5,7 @@ use Rattle.fca_model.specs.Context.{Context, extent}
 use Rattle.lectic_concepts.specs.Branches.{branch}
 use Rattle.lectic_concepts.proofs.IntentLemmas.{IsIntent}
 use Rattle.lectic_concepts.proofs.BranchLemmas.{branch_end}
-use Rattle.lectic_concepts.proofs.SeenLemmas.{seen_none}
+use Rattle.lectic_concepts.proofs.WitnessLemmas.{seen_none}
 use Rattle.concept_walk.specs.Pages.{Fills}
 use Rattle.extent_places.specs.Few.{AreFew}
 use Rattle.extent_places.specs.Tries.{AreTries}

@@ -1,5 +1,5 @@
 use Rattle.std.proofs.Common.{◌≤◌, ◌-◌}
-use Rattle.lectic_concepts.specs.Branches.{branch, AreSeen}
+use Rattle.lectic_concepts.specs.Branches.{branch, AreWitnesses}
 use Rattle.concept_walk.specs.Pages.{Fills}
 use Rattle.concept_walk.proofs.few_branch.+gather_few.Given as goal
 
@@ -10,7 +10,7 @@ abbrev pub invariant-loop-i : goal.invariant-loop-i
 invariant-loop-i g l = record {
   from_on : l.node.from ≤ l.end;
   inside : l.end ≤ l.crosses.width;
-  noted : AreSeen l.crosses l.node.intent.now l.scratch.noted.items;
+  noted : AreWitnesses l.crosses l.node.intent.now l.scratch.noted.items;
   filled : Fills l.crosses l.fn.page l.page (branch l.crosses l.node.intent.now l.end);
 }
 

@@ -1,8 +1,8 @@
 use Rattle.std.proofs.Common.{◌≡◌, ◌++◌, ◌∙◌, ℕ, List, refl, sym, ap, subst, arith}
 use Rattle.fca_model.specs.Sets.{Set}
 use Rattle.fca_model.specs.Context.{Context}
-use Rattle.lectic_concepts.specs.Branches.{AreSeen}
-use Rattle.lectic_concepts.proofs.SeenLemmas.{seen_none}
+use Rattle.lectic_concepts.specs.Branches.{AreWitnesses}
+use Rattle.lectic_concepts.proofs.WitnessLemmas.{seen_none}
 use Rattle.concept_walk.proofs.steps.next_step.Goals as goal
 
 pub returns : goal.returns
@@ -38,8 +38,8 @@ returns g c =
         closed = rw c.in-Some.is at c.in_ok-met.ensures.closed;
         places = rw c.replace.ensures.value (rw c.in-Some.is at c.in_ok-met.ensures.places);
         few = rw c.replace.ensures.value (rw c.in-Some.is at c.in_ok-met.ensures.few);
-        witnesses = subst (AreSeen K B) (sym copied)
-            (subst (λ (J : Context). AreSeen J B passed) c.rows-2.ensures c.pass_witnesses-passed.ensures);
+        witnesses = subst (AreWitnesses K B) (sym copied)
+            (subst (λ (J : Context). AreWitnesses J B passed) c.rows-2.ensures c.pass_witnesses-passed.ensures);
         noted = seen_none K B c.take_lists.result.noted.items c.take_lists.ensures;
         candidates = entered.0;
         order = entered.1;

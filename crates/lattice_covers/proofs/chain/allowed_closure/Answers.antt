@@ -7,21 +7,24 @@ use Rattle.fca_model.proofs.ClosureLemmas.{length-closure}
 use Rattle.attr_bits.proofs.PlaceLemmas.{member_below}
 use Rattle.attr_bits.proofs.DifferenceLemmas.{first_missing-parts}
 use Rattle.std.proofs.lemmas.List.{get_or_default}
-use Rattle.lattice_covers.specs.Neighbours.{AreImplied}
-use Rattle.lattice_covers.proofs.ChainLemmas.{implied_set}
+use Rattle.lectic_concepts.specs.Branches.{AreWitnesses}
+use Rattle.lectic_concepts.proofs.WitnessLemmas.{seen_set}
+use Rattle.lattice_covers.specs.Neighbours.{IsLink}
+use Rattle.lattice_covers.specs.declared.chain.Link.{Link}
 use Rattle.lattice_covers.proofs.chain.allowed_closure.Goals as goal
 
--- a known member of the closure
-seen : (K : Context) (A : Set) (ws : List ℕ) (i w : ℕ) → AreImplied K A ws → i < K.width → w ≡ get_or ws i w
-    → get_or (closure K (set A i true)) w false ≡ true
-seen K A ws i w m inside is = subst (λ v. get_or (closure K (set A i true)) v false ≡ true)
-    (sym (is ∙ get_or_default ws i w 0 (omega (arith, m.wide)))) (m.member i inside)
+-- the witness for i is a member of the closure with i
+witness : (K : Context) {W : ℕ} (link : Link W) (i w : ℕ) → IsLink K link → i < K.width → w ≡ get_or link.witnesses.items i w
+    → get_or (closure K (set link.intent i true)) w false ≡ true
+witness K link i w is_link inside is = subst (λ v. get_or (closure K (set link.intent i true)) v false ≡ true)
+    (sym (is ∙ get_or_default link.witnesses.items i w 0 (omega (arith, inside, is_link.many))))
+    (is_link.witnesses.member i (omega (arith, inside, is_link.many)))
 
 pub has-requires : goal.has-requires
 has-requires g c =
     let K : Context = c.args.rows.now in
     let A : Set = c.args.link.now.intent in
-    let member = seen K A c.args.link.now.implied.items c.args.i c.index.result.now c.requires.link.implied c.requires.inside
+    let member = witness K c.args.link.now c.args.i c.index.result.now c.requires.link c.requires.inside
     c.index.ensures in
     omega (
       arith,
@@ -35,7 +38,7 @@ returns-then-not-has-clause-closed g c =
     let K : Context = c.args.rows.now in
     let A : Set = c.args.link.now.intent in
     not_within_at (closure K (set A c.args.i true)) c.args.allowed.now c.index.result.now
-    (seen K A c.args.link.now.implied.items c.args.i c.index.result.now c.requires.link.implied c.requires.inside c.index.ensures)
+    (witness K c.args.link.now c.args.i c.index.result.now c.requires.link c.requires.inside c.index.ensures)
     (sym c.has.ensures ∙ c.if-not-has.true)
 
 pub returns-then-implies-clause-closed : goal.returns-then-implies-clause-closed
@@ -85,6 +88,7 @@ returns-in-Some-clause-link g c =
     record {
       wide = c.requires.link.wide;
       above = c.requires.link.above;
-      implied = implied_set K A c.args.link.now.implied.items c.args.i last c.requires.inside c.requires.link.implied
+      many = length-set c.args.link.now.witnesses.items c.args.i last ∙ c.requires.link.many;
+      witnesses = seen_set K A c.args.link.now.witnesses.items c.args.i last c.requires.link.witnesses
           (subst (λ (D : Set). get_or D last false ≡ true) closed c.last_missing-last.ensures);
     }

@@ -1,5 +1,5 @@
 use Rattle.std.proofs.Common.{arith}
-use Rattle.lectic_concepts.proofs.SeenLemmas.{seen_first}
+use Rattle.lectic_concepts.proofs.WitnessLemmas.{seen_first}
 use Rattle.lectic_concepts.proofs.failures.own_witnesses.Goals as goal
 
 pub returns : goal.returns

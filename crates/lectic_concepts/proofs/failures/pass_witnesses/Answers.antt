@@ -1,4 +1,4 @@
-use Rattle.lectic_concepts.proofs.SeenLemmas.{seen_larger}
+use Rattle.lectic_concepts.proofs.WitnessLemmas.{seen_larger}
 use Rattle.lectic_concepts.proofs.failures.pass_witnesses.Goals as goal
 
 pub returns : goal.returns

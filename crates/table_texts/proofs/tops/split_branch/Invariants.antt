@@ -1,5 +1,5 @@
 use Rattle.std.proofs.Common.{◌≡◌, ◌≤◌, ◌++◌, All}
-use Rattle.lectic_concepts.specs.Branches.{branch, AreSeen}
+use Rattle.lectic_concepts.specs.Branches.{branch, AreWitnesses}
 use Rattle.concept_walk.specs.Nodes.{AreCandidates}
 use Rattle.table_texts.specs.Tops.{IsTop, branches}
 use Rattle.table_texts.proofs.tops.split_branch.Given as goal
@@ -8,7 +8,7 @@ abbrev pub invariant-loop-candidates : goal.invariant-loop-candidates
 invariant-loop-candidates g l = record {
   from_on : l.node.from ≤ l.candidates.end;
   candidates : AreCandidates l.crosses l.node.intent.now l.candidates;
-  noted : AreSeen l.crosses l.node.intent.now l.scratch.noted.items;
+  noted : AreWitnesses l.crosses l.node.intent.now l.scratch.noted.items;
   tops : All (IsTop l.crosses) l.more.items;
   laid : branches l.crosses l.more.items ≡ branches l.crosses l.fn.more.items ++ branch l.crosses l.node.intent.now l.candidates.end;
 }

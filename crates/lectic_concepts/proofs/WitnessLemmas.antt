@@ -9,7 +9,7 @@ use Rattle.fca_model.specs.Exploration.{first_missing}
 use Rattle.fca_model.proofs.SetLemmas.{within_at_place, within_from_places, within-set}
 use Rattle.fca_model.proofs.ClosureLemmas.{closure_extensive, closure_monotone}
 use Rattle.attr_bits.proofs.DifferenceLemmas.{first_missing-parts}
-use Rattle.lectic_concepts.specs.Branches.{AreSeen}
+use Rattle.lectic_concepts.specs.Branches.{AreWitnesses}
 use Rattle.lectic_concepts.proofs.BranchLemmas.{among, closure_among}
 
 -- what the closure with i has, that of a larger set has too
@@ -25,15 +25,15 @@ member_own K A i wide inside = within_at_place (set A i true) (closure K (set A 
     (get_or-set_same A i true false (omega (arith, wide)))
 
 pub seen_first : (K : Context) (A : Set) (ws : List ℕ) → length A ≡ K.width → length ws ≡ K.width
-    → ((i : ℕ) → i < K.width → get_or ws i 0 ≡ i) → AreSeen K A ws
+    → ((i : ℕ) → i < K.width → get_or ws i 0 ≡ i) → AreWitnesses K A ws
 seen_first K A ws wide long own = record {
   few = omega (arith, long);
   member = λ i l. subst (λ k. get_or (closure K (set A i true)) k false ≡ true) (sym (own i (omega (arith, long))))
       (member_own K A i wide (omega (arith, long)));
 }
 
-pub seen_set : (K : Context) (A : Set) (ws : List ℕ) (i w : ℕ) → AreSeen K A ws → get_or (closure K (set A i true)) w false ≡ true
-    → AreSeen K A (set ws i w)
+pub seen_set : (K : Context) (A : Set) (ws : List ℕ) (i w : ℕ) → AreWitnesses K A ws → get_or (closure K (set A i true)) w false ≡ true
+    → AreWitnesses K A (set ws i w)
 seen_set K A ws i w m h = record {
   few = omega (arith, length-set ws i w, m.few);
   member = λ j l. elim (cases_eq j i) [
@@ -46,19 +46,19 @@ seen_set K A ws i w m h = record {
 }
 
 -- nothing was seen
-pub seen_none : (K : Context) (A : Set) (ws : List ℕ) → ws ≡ [] → AreSeen K A ws
-seen_none K A ws is = subst (AreSeen K A) (sym is) (record { few = omega arith; member = λ i l. absurd (omega (arith, l)) })
+pub seen_none : (K : Context) (A : Set) (ws : List ℕ) → ws ≡ [] → AreWitnesses K A ws
+seen_none K A ws is = subst (AreWitnesses K A) (sym is) (record { few = omega arith; member = λ i l. absurd (omega (arith, l)) })
 
 -- what was seen of the closures of A holds of those of a larger set
-pub seen_larger : (K : Context) (A D : Set) (ws : List ℕ) → length D ≡ K.width → within A D ≡ true → AreSeen K A ws → AreSeen K D ws
+pub seen_larger : (K : Context) (A D : Set) (ws : List ℕ) → length D ≡ K.width → within A D ≡ true → AreWitnesses K A ws → AreWitnesses K D ws
 seen_larger K A D ws wide h m = record {
   few = m.few;
   member = λ i l. member_larger K A D i (get_or ws i 0) (omega (arith, l, wide, m.few)) h (m.member i l);
 }
 
 -- the same of a larger set, among the rows that contain it
-pub seen_among : (K : Context) (A D : Set) (ws : List ℕ) → length D ≡ K.width → within A D ≡ true → AreSeen K A ws
-    → AreSeen (among K D) D ws
+pub seen_among : (K : Context) (A D : Set) (ws : List ℕ) → length D ≡ K.width → within A D ≡ true → AreWitnesses K A ws
+    → AreWitnesses (among K D) D ws
 seen_among K A D ws wide h m = record {
   few = m.few;
   member = λ i l.
@@ -75,7 +75,7 @@ pub not_first : (A D : Set) (i w : ℕ) → w < i → get_or D w false ≡ true 
 not_first A D i w before has lacks h = false≢true (sym lacks ∙ (first_missing-parts D A i h).2 w before has)
 
 -- where something before i that A lacks was seen
-pub seen_fails : (K : Context) (A : Set) (ws : List ℕ) (i w : ℕ) → AreSeen K A ws → get_or ws i i ≡ w → w < i → get_or A w false ≡ false
+pub seen_fails : (K : Context) (A : Set) (ws : List ℕ) (i w : ℕ) → AreWitnesses K A ws → get_or ws i i ≡ w → w < i → get_or A w false ≡ false
     → (D : Set) → D ≡ closure K (set A i true) → first_missing 0 D A ≢ Some i
 seen_fails K A ws i w m is before lacks D e = elim (cases_lt i (length ws)) [
   | inl inside ↦ not_first A D i w before (ap (λ C. get_or C w false) e
