@@ -3,7 +3,13 @@ use Rattle.std.proofs.Common.{◌≡◌, ℕ, zero, suc, min, ◌+◌, ◌-◌, 
 use Rattle.std.proofs.Common.{replicate, get_or, get_or-set_same, set, refl, sym, ap, ap₂, ◌∙◌, subst, arith, inl, inr, leb, Less}
 use Rattle.std.proofs.lemmas.Bool.{false≢true, and_parts, and_from, cases_Bool, cases_lt, or_cases}
 use Rattle.std.proofs.lemmas.List.Folds.{list_all-append}
+use Rattle.std.proofs.lemmas.List.FromFn.{length-range_with_len}
 use Rattle.std.proofs.lemmas.Simd.{length-replicate}
+use Rattle.std.proofs.lemmas.Slice.Zip.{AllZip-long}
+use Rattle.std.specs.List.{AllZip, range_with_len}
+use Rattle.std.specs.Prelude.{map, IfOk, Ok, Err, MatchResult}
+use Rattle.std.specs.declared.result.Result.{Result}
+use Rattle.std.specs.declared.vec.Vec.{Vec}
 use Rattle.std.specs.Ordering.{is_lt}
 use Rattle.fca_model.specs.Sets.{Set, within, size, lectic_cmp, agree_before}
 use Rattle.fca_model.specs.Context.{Context}
@@ -21,8 +27,9 @@ use Rattle.lectic_basis.proofs.ListingLemmas.{no_more, only}
 use Rattle.lectic_basis.proofs.WaitLemmas.{push_filed, push_covers}
 use Rattle.next_level.specs.NextLevel.{IsOpen, everything, open_where}
 use Rattle.next_level.specs.Among.{AreAmong}
-use Rattle.next_level.specs.Branches.{IsRoot, AreOpen, in_branch, in_part, in_parts}
+use Rattle.next_level.specs.Branches.{IsRoot, AreOpen, HasParts, in_branch, in_part, in_parts}
 use Rattle.next_level.specs.LevelWalks.{IsInside, IsEntered, IsTrying}
+use Rattle.next_level.specs.declared.open_sets.OpenSets.{OpenSets}
 use Rattle.next_level.proofs.LevelWalkLemmas.{root_inside, inside_entered}
 use Rattle.next_level.proofs.NextLevelLemmas.{same_where, nothing_open, none_listed, other_where, open_append, open_lower, closure_has}
 
@@ -333,3 +340,52 @@ module _ (J : List Rule) (K : Context) (A : Set) (n : ℕ) (inside : n ≤ lengt
       let next : suc n ≡ n + 1 = omega arith in
       let none : 0 ≡ n - n = omega arith in
       subst (λ k. in_parts n k A X ≡ true) next (subst (λ k. up_to k A X ≡ true) none refl))
+
+-- ---- the parts in a list
+
+-- what holds of numbers and a list, at a place
+numbered_at : {X : Type 0} (P : ℕ → X → Type 0) (a n : ℕ) (xs : List X) → AllZip P (range_with_len a n) xs → (k : ℕ) (d : X) → k < n
+    → P (a + k) (get_or xs k d)
+numbered_at P a zero xs h k d lt = absurd (omega (arith, lt))
+numbered_at P a (suc n) [] h k d lt = absurd h
+numbered_at P a (suc n) (x ∷ xs) h zero d lt =
+    let same : a ≡ a + 0 = omega arith in
+    subst (λ i. P i x) same h.0
+numbered_at P a (suc n) (x ∷ xs) h (suc k) d lt =
+    let same : (a + 1) + k ≡ a + suc k = omega arith in
+    subst (λ i. P i (get_or xs k d)) same (numbered_at P (a + 1) n xs h.1 k d (omega (arith, lt)))
+
+-- what holds of numbers and results, where each result is `Ok`
+in_each : {X Y : Type 0} (E : Type 0) (P : X → Y → Type 0) (ks : List X) (ys : List Y) → AllZip (λ k (r : Result Y E). IfOk r (P k)) ks (map Ok ys)
+    → AllZip P ks ys
+in_each E P [] [] h = tt
+in_each E P [] (y ∷ ys) h = absurd h
+in_each E P (k ∷ ks) [] h = absurd h
+in_each E P (k ∷ ks) (y ∷ ys) h = (h.0, in_each E P ks ys h.1)
+
+-- the results of the parts, collected
+pub parts_told : (J : List Rule) (K : Context) (A : Set) (n b : ℕ) {W : ℕ} {Z E : Type 0} (Q : E → Type 0) (ks : List ℕ)
+    (rs : List (Result (OpenSets W) E)) (r : Result (Vec (OpenSets W) Z) E) → ks ≡ range_with_len 0 (n + 1)
+    → AllZip (λ k (s : Result (OpenSets W) E). IfOk s (λ sets. AreOpen J K (in_part n k A) b sets.bound sets.members.items)) ks rs
+    → MatchResult r (λ v. (ys : List (OpenSets W)) × (rs ≡ map Ok ys) × (v.items ≡ ys)) Q
+    → IfOk r (λ v. HasParts J K n A b v.items)
+parts_told J K A n b {W = W} {E = E} Q ks rs (Ok v) numbers each m =
+    subst (HasParts J K n A b) (sym m.2)
+    (subst (λ is. AllZip (λ k sets. AreOpen J K (in_part n k A) b sets.bound sets.members.items) is m.0) numbers
+    (in_each E (λ k (sets : OpenSets W). AreOpen J K (in_part n k A) b sets.bound sets.members.items) ks m.0
+    (subst (AllZip (λ k (s : Result (OpenSets W) E). IfOk s (λ sets. AreOpen J K (in_part n k A) b sets.bound sets.members.items)) ks)
+    m.1 each)))
+parts_told J K A n b Q ks rs (Err e) numbers each m = tt
+
+module _ (J : List Rule) (K : Context) (A : Set) (n b : ℕ) {W : ℕ} (parts : List (OpenSets W)) (all : HasParts J K n A b parts) where
+  pub parts_long : length parts ≡ n + 1
+  parts_long = AllZip-long _ _ _ all ∙ length-range_with_len 0 (n + 1)
+
+  pub part_at : (k : ℕ) (part : OpenSets W) → k < length parts → part ≡ get_or parts k part
+      → AreOpen J K (in_part n k A) b part.bound part.members.items
+  part_at k part inside is =
+      let from_none : 0 + k ≡ k = omega arith in
+      subst (λ s. AreOpen J K (in_part n k A) b s.bound s.members.items) (sym is)
+      (subst (λ i. AreOpen J K (in_part n i A) b (get_or parts k part).bound (get_or parts k part).members.items) from_none
+      (numbered_at (λ i s. AreOpen J K (in_part n i A) b s.bound s.members.items) 0 (n + 1) parts all k part
+      (omega (arith, inside, parts_long))))

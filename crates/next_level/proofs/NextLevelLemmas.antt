@@ -14,14 +14,14 @@ use Rattle.std.specs.Ordering.{is_lt}
 use Rattle.fca_model.specs.Sets.{Set, within, same, size, all_sets, lectic_cmp, agree_before}
 use Rattle.fca_model.specs.Context.{Context, closure, is_closed}
 use Rattle.fca_model.specs.Implications.{Rule, rule, respects, respects_all}
-use Rattle.fca_model.specs.Pseudo.{pseudo_known, basis_known}
+use Rattle.fca_model.specs.Pseudo.{pseudo_known}
 use Rattle.fca_model.specs.Levels.{level_of, HasBelow}
 use Rattle.fca_model.proofs.SetLemmas.{within_refl, set_within, within_at_place, same-true, same_from, size_mono, same_by_size, size_le}
 use Rattle.fca_model.proofs.SetLemmas.{size_strict}
 use Rattle.fca_model.proofs.SetLemmas.{strictly-parts, within_antisymm, all_sets_widths, all_sets_increasing, agree_at}
 use Rattle.fca_model.proofs.ListLemmas.{bool_iff, list_all-mono, list_all-and, list_any_at, list_any-map, filter-map, filter-filter}
 use Rattle.fca_model.proofs.ListLemmas.{filter_passes}
-use Rattle.fca_model.proofs.ListLemmas.{filter_none, filter_agree_on, list_all-filter, list_all-filter_kept, implies_from}
+use Rattle.fca_model.proofs.ListLemmas.{filter_none, filter_agree_on, list_all-filter_kept}
 use Rattle.fca_model.proofs.ClosureLemmas.{respects_at, length-closure, closure_extensive}
 use Rattle.fca_model.proofs.PseudoLemmas.{pseudo_parts, pseudo_from, basis_all, basis_at}
 use Rattle.fca_model.proofs.LevelLemmas.{respects_found, level_is, level_all}

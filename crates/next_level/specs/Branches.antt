@@ -6,13 +6,15 @@
 --
 -- Of the sets over a, b, c, where {} is the least, {} and {c} agree with it before attribute 2, the branch of attribute 1 has {b} and {b,
 -- c}, and that of attribute 0 has the four sets with a.
-use Rattle.std.specs.Prelude.{◌≡◌, ℕ, zero, suc, ◌-◌, ◌&&◌, Bool, not, false, true, List, [], replicate, slice_index_or, slice_set}
+use Rattle.std.specs.Prelude.{◌≡◌, ℕ, zero, suc, ◌+◌, ◌-◌, ◌&&◌, Bool, not, false, true, List, [], replicate, slice_index_or, slice_set}
+use Rattle.std.specs.List.{AllZip, range_with_len}
 use Rattle.fca_model.specs.Sets.{Set, agree_before}
 use Rattle.fca_model.specs.Context.{Context}
 use Rattle.fca_model.specs.Implications.{Rule}
 use Rattle.implication_closure.specs.Closing.{RuleList, IsClosure}
 use Rattle.lectic_basis.specs.Trees.{up_to}
 use Rattle.next_level.specs.NextLevel.{open_where}
+use Rattle.next_level.specs.declared.open_sets.OpenSets.{OpenSets}
 
 -- A is the least set that respects the list
 pub record IsRoot (K : Context) (L : RuleList) (A : Set) : Type 0 where
@@ -37,3 +39,8 @@ in_parts n (suc k) A X = up_to (n - k) A X
 pub record AreOpen (J : List Rule) (K : Context) (p : Set → Bool) (b c : ℕ) (members : List Rule) : Type 0 where
   pub listed : members ≡ open_where J K c p
   pub steady : members ≡ [] → c ≡ b
+
+-- the list has the open sets of each of the first n + 1 parts, in their order
+abbrev pub HasParts : List Rule → Context → ℕ → Set → ℕ → {W : ℕ} → List (OpenSets W) → Type 0
+HasParts J K n A b parts =
+    AllZip (λ k sets. AreOpen J K (in_part n k A) b sets.bound sets.members.items) (range_with_len 0 (n + 1)) parts

@@ -6,7 +6,7 @@ ghost use Rattle.implication_closure.specs.Concerns.{concerning};
 ghost use Rattle.lectic_basis.specs.Trees.{up_to};
 ghost use Rattle.next_level.specs.NextLevel.{open_where, everything};
 ghost use Rattle.next_level.specs.Among.{AllAmong};
-ghost use Rattle.next_level.specs.Branches.{IsRoot, AreOpen, in_branch, in_part, in_parts};
+ghost use Rattle.next_level.specs.Branches.{IsRoot, AreOpen, in_branch, in_part};
 ghost use Rattle.next_level.specs.LevelWalks.{IsInside};
 ghost use Rattle.next_level.specs.Openings.{CanOpen};
 
@@ -21,7 +21,6 @@ use fca_model::{Implication, Memory};
 use implication_closure::{ImplicationList, ImplicationListOf};
 use lectic_basis::{WatchedList, close};
 use std::alloc::Global;
-use std::thread::{Threads, join_mut};
 
 /// Several threads share a walk under at least this many implications, and among at least this many candidates if these are whole.
 const MANY: usize = 1024;
@@ -132,6 +131,7 @@ impl<const W: usize> Walk<W> {
         ensures steady { IfOk result (λ sets. sets.members.items ≡ [] → sets.bound ≡ limits.bound) }
     {
         let _width = self.list.width();
+        let indexed = &self.indexed;
         let mut seen = OpenSets::new(alloc, limits);
         if self.least.has(i) {
             return Ok(seen);
@@ -149,7 +149,7 @@ impl<const W: usize> Walk<W> {
         }
         let part = child_among(
             alloc,
-            &self.indexed,
+            indexed,
             &found,
             &self.least,
             i,
@@ -163,15 +163,7 @@ impl<const W: usize> Walk<W> {
             },
             0,
         )?;
-        enter_all(
-            alloc,
-            &self.indexed,
-            &mut found,
-            &mut seen,
-            &reached,
-            i + 1,
-            part,
-        )?;
+        enter_all(alloc, indexed, &mut found, &mut seen, &reached, i + 1, part)?;
         Ok(seen)
     }
 
@@ -186,7 +178,7 @@ impl<const W: usize> Walk<W> {
     }
 
     /// The open sets of part k. Part 0 has what agrees with the least set before attribute `count`, and the next parts are the branches before, the last first.
-    fn open_in_part(
+    pub(crate) fn open_in_part(
         &self,
         alloc: Global,
         count: u32,
@@ -202,49 +194,5 @@ impl<const W: usize> Walk<W> {
             return self.open_behind(alloc, count, limits);
         }
         self.open_in_branch(alloc, count - k, limits)
-    }
-
-    /// The open sets of the first k parts. Each part is walked through in a thread of its own, if one can be made. The allocator is lent, since what threads
-    /// write would be lost if they held it.
-    pub(crate) fn open_parts<R: Threads>(
-        &self,
-        rt: &R,
-        alloc: &Global,
-        count: u32,
-        k: u32,
-        limits: Limits,
-    ) -> Result<OpenSets<W>, Memory>
-        requires inside { count ≤ self.now.indexed.width }
-        requires parts { k ≤ count + 1 }
-        requires small { size self.now.least ≤ limits.bound }
-        ensures { IfOk result (λ sets. AreOpen self.now.list.members self.now.indexed (in_parts count k self.now.least) limits.bound sets.bound sets.members.items) }
-    {
-        let _width = self.list.width();
-        if k == 0 {
-            return Ok(OpenSets::new(*alloc, limits));
-        }
-        let (mut first, mut second) = (Err(Memory), Err(Memory));
-        let (others, last) = (&mut first, &mut second);
-        join_mut(
-            rt,
-            &mut ||
-                requires { (0 < k) × (k ≤ count + 1) × (count ≤ self.now.indexed.width) × (size self.now.least ≤ limits.bound) }
-                ensures { IfOk last.exit.now (λ sets. AreOpen self.entry.now.list.members self.entry.now.indexed
-                    (in_part count (k - 1) self.entry.now.least) limits.bound sets.bound sets.members.items) }
-            {
-                *last = self.open_in_part(*alloc, count, k - 1, limits);
-            },
-            &mut ||
-                requires { (0 < k) × (k ≤ count + 1) × (count ≤ self.now.indexed.width) × (size self.now.least ≤ limits.bound) }
-                ensures { IfOk others.exit.now (λ sets. AreOpen self.entry.now.list.members self.entry.now.indexed
-                    (in_parts count (k - 1) self.entry.now.least) limits.bound sets.bound sets.members.items) }
-            {
-                *others = self.open_parts(rt, alloc, count, k - 1, limits);
-            },
-        );
-        let mut all = first?;
-        let sets = second?;
-        all.append(*alloc, &sets)?;
-        Ok(all)
     }
 }

@@ -6,6 +6,7 @@ mod ahead;
 mod among;
 mod branches;
 mod open_sets;
+mod parts;
 mod search;
 mod walk;
 
@@ -43,9 +44,9 @@ pub struct Level {
     pub members: Vec<Implication<Attrs>>,
 }
 
-/// A level, and the candidates for later ones.
+/// A level, and candidates for later ones.
 #[derive(Drop)]
-pub struct Opened {
+pub struct Opening {
     pub level: Level,
     pub ahead: Ahead,
 }
@@ -68,7 +69,7 @@ pub fn open_next(
     rows: &Rows,
     rules: &ImplicationList,
     ahead: &Ahead,
-) -> Result<Opened, Memory>
+) -> Result<Opening, Memory>
     requires { CanOpen rows.now rules.now ahead.now }
     ensures { IfOk result (λ opened. IsOpened rows.now rules.now opened.level.size opened.level.members.items opened.ahead) }
 {
@@ -82,7 +83,7 @@ fn open_next_by<X: Walker<1> + Walker<2> + Walker<4> + Walker<WORDS>>(
     rows: &Rows,
     rules: &ImplicationList,
     ahead: &Ahead,
-) -> Result<Opened, Memory>
+) -> Result<Opening, Memory>
     requires { CanOpen rows.now rules.now ahead.now }
     ensures { IfOk result (λ opened. IsOpened rows.now rules.now opened.level.size opened.level.members.items opened.ahead) }
 {
@@ -101,7 +102,7 @@ fn open_in_words<X: Walker<W>, const W: usize>(
     rows: &Rows,
     rules: &ImplicationList,
     ahead: &Ahead,
-) -> Result<Opened, Memory>
+) -> Result<Opening, Memory>
     requires words { W ≤ 1024 }
     requires fits { rows.now.width ≤ 64 * W }
     requires opening { CanOpen rows.now rules.now ahead.now }
@@ -120,7 +121,7 @@ fn least_of<const W: usize>(
     width: u32,
     seen: &OpenSets<W>,
     most: usize,
-) -> Result<Opened, Memory>
+) -> Result<Opening, Memory>
     requires words { W ≤ 1024 }
     requires narrow { width ≤ 1024 }
     requires even { HaveWidth width seen.now.members.items }
@@ -133,7 +134,7 @@ fn least_of<const W: usize>(
     let level = of_size(alloc, &seen.members, size)?;
     let members = resize_implications(alloc, width, &level)?;
     let ahead = ahead_of(alloc, width, seen, size, most)?;
-    Ok(Opened {
+    Ok(Opening {
         level: Level { size, members },
         ahead,
     })

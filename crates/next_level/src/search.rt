@@ -8,17 +8,17 @@ ghost use Rattle.next_level.specs.Openings.{CanOpen, IsOpened};
 use crate::ahead::Ahead;
 use crate::branches::{Limits, Walk, Walker};
 use crate::open_sets::OpenSets;
-use crate::{Opened, open_next, open_next_by};
+use crate::{Opening, open_next_by};
 use derivation::Rows;
 use fca_model::Memory;
 use implication_closure::ImplicationList;
 use std::alloc::Global;
 use std::thread::Threads;
 
-/// How many branches there are for each processor, so that all have enough to do.
-const BRANCHES: u32 = 2;
+/// How many parts a walk has for each processor, so that all have enough to do.
+const PARTS: u32 = 2;
 
-/// How many branches there are at most, as each has a list of its own.
+/// How many parts a walk has at most, as each has a list of its own.
 const MOST: u32 = 16;
 
 /// A way to look for the next level.
@@ -30,7 +30,7 @@ pub trait LevelSearch {
         rows: &Rows,
         rules: &ImplicationList,
         ahead: &Ahead,
-    ) -> Result<Opened, Memory>
+    ) -> Result<Opening, Memory>
         requires { CanOpen rows.now rules.now ahead.now }
         ensures { IfOk result (λ opened. IsOpened rows.now rules.now opened.level.size opened.level.members.items opened.ahead) };
 }
@@ -46,8 +46,8 @@ impl LevelSearch for OneThread {
         rows: &Rows,
         rules: &ImplicationList,
         ahead: &Ahead,
-    ) -> Result<Opened, Memory> {
-        open_next(alloc, rows, rules, ahead)
+    ) -> Result<Opening, Memory> {
+        open_next_by(self, alloc, rows, rules, ahead)
     }
 }
 
@@ -65,19 +65,20 @@ impl<'a, R: Threads> LevelSearch for SideBySide<'a, R> {
         rows: &Rows,
         rules: &ImplicationList,
         ahead: &Ahead,
-    ) -> Result<Opened, Memory> {
+    ) -> Result<Opening, Memory> {
         open_next_by(self, alloc, rows, rules, ahead)
     }
 }
 
 impl<'a, R: Threads> SideBySide<'a, R> {
-    /// How many branches a walk over this many attributes is split into.
+    /// How many branches a walk over this many attributes has beside its first part. With that it has as many parts as `collect` has pieces for these processors.
     fn branches(&self, width: u32) -> u32
         ensures { result ≤ width }
     {
         self.processors
-            .saturating_mul(BRANCHES)
+            .saturating_mul(PARTS)
             .min(MOST)
+            .saturating_sub(1)
             .min(width)
     }
 }
@@ -100,7 +101,7 @@ impl<'a, R: Threads, const W: usize> Walker<W> for SideBySide<'a, R> {
     {
         if self.processors > 1 && walk.pays(limits) {
             let branches = self.branches(walk.indexed.rows().width());
-            let all = walk.open_parts(self.rt, &alloc, branches, branches + 1, limits)?;
+            let all = walk.open_parts(self.rt, alloc, branches, limits)?;
             return Ok(all);
         }
         walk.open_behind(alloc, 0, limits)
