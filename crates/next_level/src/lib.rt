@@ -46,7 +46,7 @@ pub struct Level {
 
 /// A level, and candidates for later ones.
 #[derive(Drop)]
-pub struct Opening {
+pub struct FoundLevel {
     pub level: Level,
     pub ahead: Ahead,
 }
@@ -69,7 +69,7 @@ pub fn open_next(
     rows: &Rows,
     rules: &ImplicationList,
     ahead: &Ahead,
-) -> Result<Opening, Memory>
+) -> Result<FoundLevel, Memory>
     requires { CanOpen rows.now rules.now ahead.now }
     ensures { IfOk result (λ opened. IsOpened rows.now rules.now opened.level.size opened.level.members.items opened.ahead) }
 {
@@ -83,7 +83,7 @@ fn open_next_by<X: Walker<1> + Walker<2> + Walker<4> + Walker<WORDS>>(
     rows: &Rows,
     rules: &ImplicationList,
     ahead: &Ahead,
-) -> Result<Opening, Memory>
+) -> Result<FoundLevel, Memory>
     requires { CanOpen rows.now rules.now ahead.now }
     ensures { IfOk result (λ opened. IsOpened rows.now rules.now opened.level.size opened.level.members.items opened.ahead) }
 {
@@ -102,7 +102,7 @@ fn open_in_words<X: Walker<W>, const W: usize>(
     rows: &Rows,
     rules: &ImplicationList,
     ahead: &Ahead,
-) -> Result<Opening, Memory>
+) -> Result<FoundLevel, Memory>
     requires words { W ≤ 1024 }
     requires fits { rows.now.width ≤ 64 * W }
     requires opening { CanOpen rows.now rules.now ahead.now }
@@ -121,7 +121,7 @@ fn least_of<const W: usize>(
     width: u32,
     seen: &OpenSets<W>,
     most: usize,
-) -> Result<Opening, Memory>
+) -> Result<FoundLevel, Memory>
     requires words { W ≤ 1024 }
     requires narrow { width ≤ 1024 }
     requires even { HaveWidth width seen.now.members.items }
@@ -134,7 +134,7 @@ fn least_of<const W: usize>(
     let level = of_size(alloc, &seen.members, size)?;
     let members = resize_implications(alloc, width, &level)?;
     let ahead = ahead_of(alloc, width, seen, size, most)?;
-    Ok(Opening {
+    Ok(FoundLevel {
         level: Level { size, members },
         ahead,
     })

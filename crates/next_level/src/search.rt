@@ -8,7 +8,7 @@ ghost use Rattle.next_level.specs.Openings.{CanOpen, IsOpened};
 use crate::ahead::Ahead;
 use crate::branches::{Limits, Walk, Walker};
 use crate::open_sets::OpenSets;
-use crate::{Opening, open_next_by};
+use crate::{FoundLevel, open_next_by};
 use derivation::Rows;
 use fca_model::Memory;
 use implication_closure::ImplicationList;
@@ -30,7 +30,7 @@ pub trait LevelSearch {
         rows: &Rows,
         rules: &ImplicationList,
         ahead: &Ahead,
-    ) -> Result<Opening, Memory>
+    ) -> Result<FoundLevel, Memory>
         requires { CanOpen rows.now rules.now ahead.now }
         ensures { IfOk result (λ opened. IsOpened rows.now rules.now opened.level.size opened.level.members.items opened.ahead) };
 }
@@ -46,7 +46,7 @@ impl LevelSearch for OneThread {
         rows: &Rows,
         rules: &ImplicationList,
         ahead: &Ahead,
-    ) -> Result<Opening, Memory> {
+    ) -> Result<FoundLevel, Memory> {
         open_next_by(self, alloc, rows, rules, ahead)
     }
 }
@@ -65,7 +65,7 @@ impl<'a, R: Threads> LevelSearch for SideBySide<'a, R> {
         rows: &Rows,
         rules: &ImplicationList,
         ahead: &Ahead,
-    ) -> Result<Opening, Memory> {
+    ) -> Result<FoundLevel, Memory> {
         open_next_by(self, alloc, rows, rules, ahead)
     }
 }
