@@ -16,7 +16,7 @@ flat_map-drop_or f xs i other h = ap (flat_map f) (drop-cons xs i other h)
 
 pub writes-gain : {E : Type 0} (old new : Moment E) {o o' : Option Text} {a a' : Asked} {line : Text} (r : Result (Unit {0}) Put)
     → Writes old.bytes new.bytes old.faults new.faults o o' a a' line r → GainsLine (Some line) old new
-writes-gain old new (Ok done) w = inl w.whole
+writes-gain old new (Ok done) w = inl (w.whole, w.quiet)
 writes-gain old new (Err fault) w = inr (w.front, w.failed)
 
 -- what the exit of a `?` returns

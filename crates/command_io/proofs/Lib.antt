@@ -5,4 +5,5 @@ pub mod KnownLemmas
 pub mod QuietLemmas
 pub mod FetchLemmas
 pub mod CauseLemmas
+pub mod ScriptLemmas
 mod Examples

@@ -24,11 +24,11 @@ GainsText (Written output) old new = Appends old.bytes new.bytes output.text × 
 GainsText (CutOff output) old new = AppendsFront old.bytes new.bytes output.text × Rose old.faults new.faults
 GainsText (Stopped stop) old new = new ≡ old
 
--- what err gained: nothing; the whole line; or a front of it, and its count of faults rose
+-- what err gained: nothing; the whole line, and its count of faults is as it was; or a front of the line, and its count rose
 abbrev pub GainsLine : {E : Type 0} → Option Text → Moment E → Moment E → Type 0
 GainsLine None old new = new ≡ old
 GainsLine (Some line) old new =
-    Appends old.bytes new.bytes line ⊎ (AppendsFront old.bytes new.bytes line × Rose old.faults new.faults)
+    (Appends old.bytes new.bytes line × (new.faults ≡ old.faults)) ⊎ (AppendsFront old.bytes new.bytes line × Rose old.faults new.faults)
 
 -- What a call did with an output or a stop; `file` gives the name of the file at fault
 pub record HasConcluded {K E : Type 0} (output : Result Output Stop) (file : Stop → Text) (out out' : Moment K) (err err' : Moment E)

@@ -1,11 +1,11 @@
 //! Reads a file as a table, and the input as a script.
 
-ghost use Rattle.std.specs.Prelude.{◌≡◌, ◌≤◌, ℕ, List, IfOk, IfErr, OnOk, length, true, false, Some, Result};
+ghost use Rattle.std.specs.Prelude.{◌≡◌, ◌≤◌, ◌+◌, ℕ, List, IfOk, IfErr, IsErrOf, OnOk, length, true, false, Some, Result};
 ghost use Rattle.std.specs.List.{list_all};
 ghost use Rattle.std.specs.Option.{option_map};
-ghost use Rattle.std.specs.Io.KnownBytes.{IsAtEnd};
+ghost use Rattle.std.specs.Io.KnownBytes.{IsAtEnd, Keeps};
 ghost use Rattle.fca_model.specs.declared.TheConstants.{MAX_ATTRIBUTES, FILE_BYTES};
-ghost use Rattle.fca_io.specs.Faults.{Rose, one_more};
+ghost use Rattle.fca_io.specs.Faults.{Rose, RoseAtMost, one_more};
 ghost use Rattle.exploration_terms.specs.Settings.{settings_of};
 ghost use Rattle.expert_scripts.specs.Scripts.{content_of, script_form, may_apply};
 ghost use Rattle.expert_scripts.specs.Transcripts.{SettingsCanBeWritten};
@@ -99,10 +99,16 @@ pub fn load_script<S: Source>(alloc: Global, input: &mut S, n: u32) -> Result<Sc
     ensures width { IfOk result (λ script. script.settings.known.width ≡ n) }
     ensures writable { IfOk result (λ script. SettingsCanBeWritten n (settings_of script.settings)) }
     ensures fits { IfOk result (λ script. list_all (may_apply n) script.events ≡ true) }
-    ensures end { OnOk result (IsAtEnd (S.left input.new)) }
     ensures refused { IfErr result (λ stop. IsRefusal stop → MayRefuse (script_read n (S.left input.old))) }
     ensures cause { IfErr result (IsScriptStop n (S.left input.old) (Rose (S.faults input.old) (S.faults input.new))) }
     ensures quiet { UnlessFault result (S.faults input.new ≡ S.faults input.old) }
+    ensures later { S.faults input.old ≤ S.faults input.new }
+
+    ensures end { OnOk result (IsAtEnd (S.left input.new)) }
+    ensures refused_whole { (fault : ScriptFault) → IsErrOf result (Stop.NoScript fault) → IsAtEnd (S.left input.new) }
+    ensures few { RoseAtMost (S.reads input.old) (S.reads input.new) (FILE_BYTES + 1) }
+    ensures beside { Keeps (S.beside input.old) (S.beside input.new) }
+    ensures same_beside { S.faults_beside input.new ≡ S.faults_beside input.old }
 {
     let bytes = match read_all(alloc, input, FILE_BYTES) {
         Ok(bytes) => bytes,
