@@ -23,11 +23,11 @@ use Rattle.command_io.specs.Known.{Start}
 use Rattle.command_io.proofs.CourseLemmas.{legal-course}
 use Rattle.serve_command.specs.Accepted.{GaveBack, HasRoomFor}
 use Rattle.serve_command.specs.Openings.{opening_by, IsNew}
-use Rattle.serve_command.specs.Served.{words_of, IsServedText, HasSat, HasRisen}
+use Rattle.serve_command.specs.Served.{ending_words, IsServedText, HasSat, HasRisen}
 
 -- ---- words
 
-pub words_are_lines : (endings : List Ended) → are_lines (map words_of endings) ≡ true
+pub words_are_lines : (endings : List Ended) → are_lines (map ending_words endings) ≡ true
 words_are_lines [] = refl
 words_are_lines (Quit ∷ endings) = words_are_lines endings
 words_are_lines (EndOfInput ∷ endings) = words_are_lines endings
@@ -87,7 +87,8 @@ module _ {E : Type 0} (left held : E → Option Text) (calls : E → Option ℕ)
 
   -- the text that was made of it
   pub record IsTextOf (explore : History) (endings : List Ended) (text : Text) (end : Ending) : Type 0 where
-    pub joined : text ≡ explore_text explore.opening.table explore.opening.settings explore.journal ++ sessions_text (map words_of endings)
+    pub joined : text ≡ explore_text explore.opening.table explore.opening.settings explore.journal
+        ++ sessions_text (map ending_words endings)
     pub spells : Spells explore.opening.table explore.opening.settings explore.journal text
     pub ending : end ≡ ending_of (open_of explore)
 
@@ -99,7 +100,7 @@ module _ {E : Type 0} (left held : E → Option Text) (calls : E → Option ℕ)
       let H = explore.journal in
       let legal : IsLegal (opening_state o) H = let P : Opening → Type 0 = λ x. IsLegal (opening_state x) H in
       subst P over.opening over.history.legal in
-      let Joined : Opening → Type 0 = λ x. text ≡ explore_text x.table x.settings H ++ sessions_text (map words_of endings) in
+      let Joined : Opening → Type 0 = λ x. text ≡ explore_text x.table x.settings H ++ sessions_text (map ending_words endings) in
       let Spelled : Opening → Type 0 = λ x. Spells x.table x.settings H text in
       let EndsSo : Opening → Type 0 = λ x. ending ≡ ending_of (open_of (record { opening = x; journal = H; spare = 0 })) in
       record {

@@ -1,5 +1,5 @@
 -- The steps of a call, one after the other: a call stops where its table is not read, where its ends fall short, or for memory, and each
--- time it says which ends came and went; ends that have gone through their sessions make an answer.
+-- time it says which ends came and went; ends that have gone through their sessions make an output.
 use Rattle.std.proofs.Common.{◌≡◌, ◌≤◌, ◌⊎◌, [], ℕ, nat_le, true, List, length, Option, Result, Ok, Err, inl, inr, refl, sym, subst, arith}
 use Rattle.std.proofs.lemmas.Bool.{and_parts, leb-true}
 use Rattle.std.specs.Prelude.{IfOk, IfErr}

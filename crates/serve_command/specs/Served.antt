@@ -24,18 +24,18 @@ use Rattle.command_io.specs.declared.output.Ending.{Ending}
 use Rattle.command_io.specs.Explorations.{Recorded, open_at, IsExplored}
 use Rattle.serve_command.specs.Accepted.{TookAndGave, GaveBack, HasRoomFor}
 use Rattle.serve_command.specs.Openings.{opening_by}
-use Rattle.serve_command.specs.declared.endings.TheConstants.{QUIT, END_OF_INPUT, LONG_LINE, LIMIT, SPENT}
+use Rattle.serve_command.specs.declared.ending_words.TheConstants.{QUIT, END_OF_INPUT, LONG_LINE, LIMIT, SPENT}
 
--- the words for an ending
-abbrev pub words_of : Ended → Text
-words_of Quit = QUIT.now
-words_of EndOfInput = END_OF_INPUT.now
-words_of ReadFault = READ_FAULT.now
-words_of WriteFault = WRITE_FAULT.now
-words_of LongLine = LONG_LINE.now
-words_of Limit = LIMIT.now
-words_of Spent = SPENT.now
-words_of Memory = NO_MEMORY.now
+-- the words that say how a session ended
+abbrev pub ending_words : Ended → Text
+ending_words Quit = QUIT.now
+ending_words EndOfInput = END_OF_INPUT.now
+ending_words ReadFault = READ_FAULT.now
+ending_words WriteFault = WRITE_FAULT.now
+ending_words LongLine = LONG_LINE.now
+ending_words Limit = LIMIT.now
+ending_words Spent = SPENT.now
+ending_words Memory = NO_MEMORY.now
 
 -- the exploration that was opened so and has this history
 abbrev pub serving_record : Opening → List SetEntry → Recorded
@@ -43,7 +43,7 @@ serving_record o H = record { opening = o; journal = H }
 
 -- its text, and how the sessions ended
 abbrev pub served_text : Opening → List SetEntry → List Ended → Text
-served_text o H endings = explore_text o.table o.settings H ++ sessions_text (map words_of endings)
+served_text o H endings = explore_text o.table o.settings H ++ sessions_text (map ending_words endings)
 
 -- over ends that show what is left and what is held, how often they were read, if they count that, and their counts of faults
 module _ {E : Type 0} (left held : E → Option Text) (calls : E → Option ℕ) (reads writes : E → ℕ) where

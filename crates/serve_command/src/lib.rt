@@ -2,7 +2,7 @@
 #![tactic(auto)]
 
 mod accepting;
-mod endings;
+mod ending_words;
 mod opening;
 mod serving;
 

@@ -4,7 +4,7 @@ use Rattle.fca_model.proofs.ListLemmas.{IfErr-any}
 use Rattle.basis_report.specs.Explorations.{explore_text}
 use Rattle.basis_report.specs.Sessions.{sessions_text}
 use Rattle.serve_command.specs.Accepted.{HasRoomFor}
-use Rattle.serve_command.specs.Served.{words_of}
+use Rattle.serve_command.specs.Served.{ending_words}
 use Rattle.serve_command.proofs.StepLemmas.{ok-from-three}
 use Rattle.serve_command.proofs.ServedLemmas.{IsOver, has-sat, risen-talks}
 use Rattle.serve_command.proofs.serving.explore_over.Goals as goal
@@ -41,8 +41,8 @@ returns-in-Ok-clause-sat g c =
     explore c.in-Ok.served.endings.items output new.experts new.respecting new.writable.known over
     (λ room. c.give_back.ensures.given (subst Room (sym c.in-Ok.served.ends.ok.0) room))
     (record {
-      joined = text ∙ ap (λ endings. explore_text explore.opening.table explore.opening.settings H ++ sessions_text (map words_of endings))
-          c.deref.ensures.value;
+      joined = text ∙ ap (λ endings. explore_text explore.opening.table explore.opening.settings H
+          ++ sessions_text (map ending_words endings)) c.deref.ensures.value;
       spells = spells;
       ending = ending;
     }))

@@ -1,11 +1,11 @@
 -- The words so far are those for the endings so far.
 use Rattle.std.proofs.Common.{◌≡◌, ◌≤◌, map, take, length}
 use Rattle.std.specs.Prelude.{vec_len, vec_capacity}
-use Rattle.serve_command.specs.Served.{words_of}
-use Rattle.serve_command.proofs.endings.words_of_all.Given as goal
+use Rattle.serve_command.specs.Served.{ending_words}
+use Rattle.serve_command.proofs.ending_words.all_ending_words.Given as goal
 
 abbrev pub invariant-loop-ended : goal.invariant-loop-ended
 invariant-loop-ended l =
-    (map (λ words. words.now) l.words.items ≡ map words_of (take l.ended-index l.endings))
+    (map (λ words. words.now) l.words.items ≡ map ending_words (take l.ended-index l.endings))
     × (vec_len l.words ≡ l.ended-index)
     × (length l.endings ≤ vec_capacity l.words)

@@ -1,7 +1,7 @@
-//! The words for how sessions ended.
+//! The words that say how sessions ended.
 
 ghost use Rattle.std.specs.Prelude.{◌≡◌, map, IfOk};
-ghost use Rattle.serve_command.specs.Served.{words_of};
+ghost use Rattle.serve_command.specs.Served.{ending_words};
 
 use expert_sessions::Ended;
 use fca_io::{READ_FAULT, WRITE_FAULT};
@@ -18,20 +18,20 @@ const LIMIT: &str = "limit";
 
 const SPENT: &str = "spent";
 
-/// The words for each ending.
-pub fn words_of_all(alloc: Global, endings: &[Ended]) -> Result<Vec<&'static str>, Memory>
-    ensures { IfOk result (λ v. map (λ words. words.now) v.items ≡ map words_of endings.now) }
+/// The words that say how each session ended.
+pub fn all_ending_words(alloc: Global, endings: &[Ended]) -> Result<Vec<&'static str>, Memory>
+    ensures { IfOk result (λ v. map (λ words. words.now) v.items ≡ map ending_words endings.now) }
 {
     let mut words = Vec::with_capacity(alloc, endings.len())?;
     for ended in endings {
-        words.push_reserved(words_of(*ended));
+        words.push_reserved(ending_words(*ended));
     }
     Ok(words)
 }
 
-/// The words for an ending.
-fn words_of(ended: Ended) -> &'static str
-    ensures { result.now ≡ words_of ended }
+/// The words that say how a session ended.
+fn ending_words(ended: Ended) -> &'static str
+    ensures { result.now ≡ ending_words ended }
 {
     match ended {
         Ended::Quit => QUIT,
