@@ -1,4 +1,4 @@
 pub mod NameLemmas
-pub mod PanelLemmas
-pub mod PlayLemmas
+pub mod StartLemmas
+pub mod ExploredLemmas
 pub mod SurveyLemmas

@@ -22,7 +22,7 @@ use Rattle.expert_wire.specs.Words.{is_name}
 use Rattle.expert_wire.proofs.SkipLemmas.{no_fault}
 use Rattle.expert_scripts.specs.Transcripts.{AreExpertNames}
 use Rattle.expert_scripts.proofs.NamedLemmas.{AreBelow, below-more, below-push, insert-last}
-use Rattle.explore_command.specs.Panels.{is_named, names_from, names_by_files, settings_by, MayExplore}
+use Rattle.explore_command.specs.Starts.{is_named, names_from, names_by_files, settings_by, MayOpen}
 
 -- ---- one file more
 
@@ -93,10 +93,10 @@ names_by_files-named false files few = tt
 pub few_experts : (n : ℕ) → is_expert n ≡ true → n ≤ MAX_EXPERTS
 few_experts n h = leb-true n MAX_EXPERTS (and_parts (nat_le 1 n) (nat_le n MAX_EXPERTS) h).1
 
-pub may_explore : (table : NamedContext) (S : List Rule) (names : Bool) (files : List Text) → is_expert (length files) ≡ true
+pub may_open : (table : NamedContext) (S : List Rule) (names : Bool) (files : List Text) → is_expert (length files) ≡ true
     → HaveWidth table.context.width S
-    → first_break S 0 table.context.rows ≡ None → MayExplore table (settings_by S names files)
-may_explore table S names files count wide unbroken = record {
+    → first_break S 0 table.context.rows ≡ None → MayOpen table (settings_by S names files)
+may_open table S names files count wide unbroken = record {
   writable = record { holders = refl; known = wide; names = names_by_files-named names files (few_experts (length files) count) };
   respected = unbroken_rows S 0 table.context.rows unbroken;
   free = refl;

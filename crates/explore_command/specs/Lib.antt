@@ -1,3 +1,3 @@
-pub mod Panels
-pub mod Played
+pub mod Starts
+pub mod Explored
 pub mod Surveyed

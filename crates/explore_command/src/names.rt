@@ -8,7 +8,7 @@ ghost use Rattle.fca_model.specs.declared.TheConstants.{MAX_EXPERTS};
 ghost use Rattle.fca_model.specs.Exploration.{is_expert};
 ghost use Rattle.exploration_terms.specs.Settings.{name_of};
 ghost use Rattle.expert_wire.specs.Words.{is_name};
-ghost use Rattle.explore_command.specs.Panels.{is_named, names_by_files};
+ghost use Rattle.explore_command.specs.Starts.{is_named, names_by_files};
 
 use expert_wire::text_of;
 use explore_state::ExpertNames;
@@ -18,14 +18,14 @@ use std::alloc::Global;
 /// The names of the experts by their files, or no names if experts are not named.
 pub(crate) fn names_by_files(
     alloc: Global,
-    names: bool,
+    wants_names: bool,
     files: &[Word],
 ) -> Result<ExpertNames, Memory>
     requires { length files.now ≤ MAX_EXPERTS }
-    ensures { IfOk result (λ list. list ≡ names_by_files names files.now) }
+    ensures { IfOk result (λ list. list ≡ names_by_files wants_names files.now) }
 {
     let mut list = ExpertNames::new(alloc);
-    if !names {
+    if !wants_names {
         return Ok(list);
     }
     let mut expert = 1;

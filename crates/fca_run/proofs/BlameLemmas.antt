@@ -22,7 +22,7 @@ use Rattle.command_io.specs.declared.stop.Stop.TheVariants.{Listener, Memory}
 use Rattle.expert_scripts.specs.Scripts.{ScriptContent}
 use Rattle.expert_scripts.specs.declared.fault.ScriptFault.TheVariants.{BadLine}
 use Rattle.replay_command.specs.Replayed.{IsSettingsStop, IsInputStop, IsReplayStop}
-use Rattle.explore_command.specs.Panels.{IsExpertsStop, IsPanelStop}
+use Rattle.explore_command.specs.Starts.{IsExpertsStop, IsExploreStop}
 use Rattle.serve_command.specs.Served.{IsServeStop}
 use Rattle.fca_run.specs.Causes.{IsReportStop, IsScaleStop}
 use Rattle.fca_run.specs.Calls.{Outside, IsBlamed, IsGiven, FaultRose, LinkFaultRose, IsCommandStop}
@@ -119,12 +119,12 @@ module _ (counts counts' : Text → ℕ) (R L : Type 0) where
   replay-blamed rose file known files input s more read (inl is) = start-blamed file known files s more is
   replay-blamed rose file known files input s more read (inr later) = input-blamed rose known later.0.table input s read later.2
 
-  panel-blamed : (file : Text) (known : Option Text) (experts : List Text) (files : Text → Told) (s : Stop)
+  explore-blamed : (file : Text) (known : Option Text) (experts : List Text) (files : Text → Told) (s : Stop)
       → (SomeRose counts counts' (file ∷ option_to_list known ++ experts) → R)
-      → IsPanelStop file known experts files (Rises counts counts') s → IsBlamed R L s
-  panel-blamed file known experts files s more (inl is) =
+      → IsExploreStop file known experts files (Rises counts counts') s → IsBlamed R L s
+  explore-blamed file known experts files s more (inl is) =
       start-blamed file known files s (λ rose. more (SomeRose-append counts counts' (file ∷ option_to_list known) experts (inl rose))) is
-  panel-blamed file known experts files s more (inr later) =
+  explore-blamed file known experts files s more (inr later) =
       experts-blamed later.0.table 0 experts files s
       (λ rose. more (SomeRose-append counts counts' (file ∷ option_to_list known) experts (inr rose))) later.2
 
@@ -170,7 +170,7 @@ module _ {H S E F : Type 0} where
       (Rose old.input.faults new.input.faults) file known old.shelf.tells old.input.bytes s
       (λ rose. inl rose) (λ rose. inr (refl, rose)) is
   stop-blamed (Explore file known names experts) old new s is =
-      panel-blamed old.shelf.faults new.shelf.faults
+      explore-blamed old.shelf.faults new.shelf.faults
       (FaultRose (Explore file known names experts) old new) ⊥ file known experts old.shelf.tells s (λ rose. inl rose) is
   stop-blamed (Serve file known experts holders listen) old new s is =
       serve-blamed old.shelf.faults new.shelf.faults (FaultRose (Serve file known experts holders listen) old new)

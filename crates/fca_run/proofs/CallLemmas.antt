@@ -35,8 +35,8 @@ use Rattle.command_io.proofs.ReadingLemmas.{refused_then}
 use Rattle.command_io.proofs.QuietLemmas.{unless_fault, unless_listener}
 use Rattle.command_io.proofs.FetchLemmas.{fetched_none}
 use Rattle.replay_command.specs.Replayed.{replay_read, exploration_output, MayReplay}
-use Rattle.explore_command.specs.Panels.{Panel, panel_read, IsPanelStop}
-use Rattle.explore_command.specs.Played.{panel_ending, MayPlay}
+use Rattle.explore_command.specs.Starts.{ExploreStart, explore_read, IsExploreStop}
+use Rattle.explore_command.specs.Explored.{explored_ending, MayExplore}
 use Rattle.serve_command.specs.Openings.{opening_by}
 use Rattle.serve_command.specs.Served.{serving_record, MayServe, IsServeStop, GaveAllBack}
 use Rattle.serve_command.proofs.AcceptedLemmas.{TookAndGave-none}
@@ -45,7 +45,7 @@ use Rattle.fca_run.specs.Outputs.{output_read, survey_output}
 use Rattle.fca_run.specs.Calls.{ShelfMoment, LinkMoment, Sides, Outside, outside, unlinked, no_input, no_sides, MayEnd, read_by, IsGiven}
 use Rattle.fca_run.specs.Calls.{IsBlamed, FaultRose, LinkFaultRose, IsQuiet, IsCommandStop, HasGivenBack, MayListen, ComesTo, CallComesTo}
 use Rattle.fca_run.specs.Courses.{HasCourse}
-use Rattle.fca_run.proofs.CourseLemmas.{play-tells, serve-tells}
+use Rattle.fca_run.proofs.CourseLemmas.{explore-tells, serve-tells}
 use Rattle.fca_run.proofs.BlameLemmas.{stop-blamed, given-comes}
 
 -- ---- results
@@ -73,10 +73,10 @@ module _ {H S L E : Type 0} (output : Result Output Stop) where
 
 -- ---- how texts end
 
-panel-ends : (file : Text) (known : Option Text) (names : Bool) (experts : List Text) (spent : Bool)
-    → MayEnd (Explore file known names experts) (panel_ending spent)
-panel-ends file known names experts true = tt
-panel-ends file known names experts false = tt
+explore-ends : (file : Text) (known : Option Text) (names : Bool) (experts : List Text) (spent : Bool)
+    → MayEnd (Explore file known names experts) (explored_ending spent)
+explore-ends file known names experts true = tt
+explore-ends file known names experts false = tt
 
 questions-end : (command : Command) (questions : List Rule) → may_end_open command ≡ true → MayEnd command (ending_of questions)
 questions-end command [] may = tt
@@ -95,9 +95,9 @@ replay-ends file known reading output replay =
 
 module _ {H S D E : Type 0} (talk : Sides E) (s s' : ShelfMoment H) (input : Moment S) (link : LinkMoment D E) where
   pub explore-comes : (file : Text) (known : Option Text) (names : Bool) (experts : List Text) (output : Result Output Stop)
-      → IfOk output (MayPlay (panel_read file known names experts s.tells))
-      → IfErr output (λ stop. (IsRefusal stop → MayRefuse (panel_read file known names experts s.tells)))
-      → IfErr output (IsPanelStop file known experts s.tells (Rises s.faults s'.faults))
+      → IfOk output (MayExplore (explore_read file known names experts s.tells))
+      → IfErr output (λ stop. (IsRefusal stop → MayRefuse (explore_read file known names experts s.tells)))
+      → IfErr output (IsExploreStop file known experts s.tells (Rises s.faults s'.faults))
       → UnlessFault output (SameCounts s.faults s'.faults)
       → RoseAtMost s.fetches s'.fetches (length (file ∷ option_to_list known ++ experts))
       → ComesTo talk (Explore file known names experts) (outside s input link) (outside s' input link) output
@@ -105,7 +105,7 @@ module _ {H S D E : Type 0} (talk : Sides E) (s s' : ShelfMoment H) (input : Mom
       let command : Command = Explore file known names experts in
       let old : Outside H S D E = outside s input link in
       let new : Outside H S D E = outside s' input link in
-      let reading : Reading Panel = panel_read file known names experts s.tells in
+      let reading : Reading ExploreStart = explore_read file known names experts s.tells in
       let Refuses : Stop → Type 0 = λ stop. (IsRefusal stop → MayRefuse (read_by command old)) in
       let refusals : IfErr output Refuses =
       IfErr-weaker output (λ stop. (IsRefusal stop → MayRefuse reading)) Refuses
@@ -115,10 +115,11 @@ module _ {H S D E : Type 0} (talk : Sides E) (s s' : ShelfMoment H) (input : Mom
       (λ stop is. stop-blamed command old new stop is) causes in
       record {
         allowed = answers;
-        ending = IfOk-weaker output (MayPlay reading) (λ output. MayEnd command output.ending)
-            (λ output play. subst (MayEnd command) (sym play.ending) (panel-ends file known names experts play.spent)) answers;
-        course = IfOk-weaker output (MayPlay reading) (λ output. HasCourse command s.tells input.bytes output.text)
-            (λ output play. play-tells reading output play) answers;
+        ending = IfOk-weaker output (MayExplore reading) (λ output. MayEnd command output.ending)
+            (λ output explored. subst (MayEnd command) (sym explored.ending) (explore-ends file known names experts explored.spent))
+            answers;
+        course = IfOk-weaker output (MayExplore reading) (λ output. HasCourse command s.tells input.bytes output.text)
+            (λ output explored. explore-tells reading output explored) answers;
         cause = causes;
         refused = refusals;
         counts = record {

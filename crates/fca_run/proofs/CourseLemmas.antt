@@ -20,8 +20,8 @@ use Rattle.command_io.specs.Explorations.{Recorded, opening_of, last_state, open
 use Rattle.command_io.proofs.ReadingLemmas.{read_after}
 use Rattle.replay_command.specs.Replayed.{MayReplay}
 use Rattle.replay_command.proofs.FedBackLemmas.{opened-respecting, fed_back}
-use Rattle.explore_command.specs.Panels.{Panel}
-use Rattle.explore_command.specs.Played.{dropped_in, play_record, MayPlay}
+use Rattle.explore_command.specs.Starts.{ExploreStart}
+use Rattle.explore_command.specs.Explored.{dropped_in, exploring_record, MayExplore}
 use Rattle.serve_command.specs.Openings.{opening_by}
 use Rattle.serve_command.specs.Served.{serving_record, ending_words, MayServe}
 use Rattle.fca_run.specs.Courses.{basis_of, TellsExploration}
@@ -57,16 +57,17 @@ tells opened r later text may printed spells explored = record {
 
 -- ---- each command
 
--- by the oracles of a panel
-pub play-tells : (reading : Reading Panel) (output : Output) → MayPlay reading output
+-- by oracles of experts' tables
+pub explore-tells : (reading : Reading ExploreStart) (output : Output) → MayExplore reading output
     → TellsExploration (then reading (λ p. Read (opening_of p.table (length p.experts) p.settings))) output.text
-play-tells reading output play =
-    let p = play.panel in
-    let is = play.is in
-    tells (then reading (λ q. Read (opening_of q.table (length q.experts) q.settings))) (play_record p is.history)
-    (conflicts_text p.table.attributes (rules_of (last_state (play_record p is.history))) (dropped_in is.history 1 p.experts)) output.text
+explore-tells reading output explored =
+    let p = explored.start in
+    let is = explored.is in
+    tells (then reading (λ q. Read (opening_of q.table (length q.experts) q.settings))) (exploring_record p is.history)
+    (conflicts_text p.table.attributes (rules_of (last_state (exploring_record p is.history))) (dropped_in is.history 1 p.experts))
+    output.text
     (read_after reading p (λ q. Read (opening_of q.table (length q.experts) q.settings))
-    (opening_of p.table (length p.experts) p.settings) play.read refl) is.whole is.spells is.course
+    (opening_of p.table (length p.experts) p.settings) explored.read refl) is.whole is.spells is.course
 
 -- by a script
 pub replay-tells : (reading : Reading Recorded) (output : Output) → MayReplay reading output

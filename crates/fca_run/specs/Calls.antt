@@ -20,8 +20,8 @@ use Rattle.command_io.specs.declared.output.Ending.TheVariants.{Finished, Open, 
 use Rattle.command_io.specs.declared.stop.Stop.{Stop}
 use Rattle.command_io.specs.declared.stop.Stop.TheVariants.{NoCommand, Fault, Listener, Memory}
 use Rattle.replay_command.specs.Replayed.{IsReplayStop}
-use Rattle.explore_command.specs.Panels.{panel_read, IsPanelStop}
-use Rattle.explore_command.specs.Played.{MayPlay}
+use Rattle.explore_command.specs.Starts.{explore_read, IsExploreStop}
+use Rattle.explore_command.specs.Explored.{MayExplore}
 use Rattle.serve_command.specs.Served.{MayServe, IsServeStop, GaveAllBack}
 use Rattle.fca_run.specs.Outputs.{output_read}
 use Rattle.fca_run.specs.Courses.{HasCourse}
@@ -136,7 +136,7 @@ module _ {H S L E : Type 0} where
   -- All that the command reads. Every row of a table that is explored has to respect what is known of it, and beside a known file the
   -- script may set nothing
   abbrev pub read_by : Command → Outside H S L E → Reading (Unit {0})
-  read_by (Explore file known names experts) old = then (panel_read file known names experts old.shelf.tells) (λ _. Read tt)
+  read_by (Explore file known names experts) old = then (explore_read file known names experts old.shelf.tells) (λ _. Read tt)
   read_by (Serve file known experts holders listen) old = then (start_read file known old.shelf.tells) (λ _. Read tt)
   read_by command old = then (output_read command old.shelf.tells old.input.bytes) (λ _. Read tt)
 
@@ -178,7 +178,7 @@ module _ {H S L E : Type 0} where
       IsReplayStop file known old.shelf.tells old.input.bytes (Rises old.shelf.faults new.shelf.faults)
       (Rose old.input.faults new.input.faults) stop
   IsOtherStop (Explore file known names experts) old new stop =
-      IsPanelStop file known experts old.shelf.tells (Rises old.shelf.faults new.shelf.faults) stop
+      IsExploreStop file known experts old.shelf.tells (Rises old.shelf.faults new.shelf.faults) stop
   IsOtherStop (Serve file known experts holders listen) old new stop =
       IsServeStop file known old.shelf.tells (Rises old.shelf.faults new.shelf.faults)
       (Rises old.link.open_faults new.link.open_faults listen ⊎ Rose old.link.accept_faults new.link.accept_faults) stop
@@ -196,7 +196,8 @@ module _ {H S L E : Type 0} where
 
   -- an output of the command, by what the shelf, the input and the ends of the link tell
   abbrev pub MayOutput : Sides E → Command → Outside H S L E → Outside H S L E → Output → Type 0
-  MayOutput talk (Explore file known names experts) old new output = MayPlay (panel_read file known names experts old.shelf.tells) output
+  MayOutput talk (Explore file known names experts) old new output =
+      MayExplore (explore_read file known names experts old.shelf.tells) output
   MayOutput talk (Serve file known experts holders listen) old new output =
       MayServe talk.left talk.held talk.calls talk.reads talk.writes
       (start_read file known old.shelf.tells) experts holders old.link.ends new.link.ends output

@@ -17,7 +17,7 @@ use Rattle.command_io.specs.Readings.Reading.{Refused, Read}
 use Rattle.command_io.specs.Known.{start_read}
 use Rattle.command_io.specs.Explorations.{Recorded, opening_of, last_state, open_at, IsExplored}
 use Rattle.replay_command.specs.Replayed.{replay_read, IsFedBack}
-use Rattle.explore_command.specs.Panels.{panel_read}
+use Rattle.explore_command.specs.Starts.{explore_read}
 use Rattle.serve_command.specs.Openings.{opening_by}
 
 -- What the exploration of a command is opened with: the table in its file, how many experts, and its settings. Those of `replay` are what
@@ -26,7 +26,7 @@ use Rattle.serve_command.specs.Openings.{opening_by}
 abbrev pub opening_read : Command → (Text → Told) → Option Text → Reading Opening
 opening_read (Replay file known) files input = then (replay_read file known files input) (λ r. Read r.opening)
 opening_read (Explore file known names experts) files input =
-    then (panel_read file known names experts files) (λ p. Read (opening_of p.table (length p.experts) p.settings))
+    then (explore_read file known names experts files) (λ start. Read (opening_of start.table (length start.experts) start.settings))
 opening_read (Serve file known experts holders listen) files input =
     then (start_read file known files) (λ start. Read (opening_by experts holders start))
 opening_read _ files input = Refused

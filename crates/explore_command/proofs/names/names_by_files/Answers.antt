@@ -1,6 +1,6 @@
 use Rattle.std.proofs.Common.{◌≤◌, ◌∙◌, [], cond, length, arith, ap, sym}
 use Rattle.expert_scripts.proofs.NamedLemmas.{unnamed}
-use Rattle.explore_command.specs.Panels.{names_from}
+use Rattle.explore_command.specs.Starts.{names_from}
 use Rattle.explore_command.proofs.NameLemmas.{NamesOn-more, NamesOn-all}
 use Rattle.explore_command.proofs.names.names_by_files.Goals as goal
 
@@ -19,4 +19,4 @@ pub returns : goal.returns
 returns c =
     let past : length c.args.files.now ≤ c.loop-file.file-index = omega arith in
     NamesOn-all c.loop-file.expert c.loop-file.file-index c.args.files.now c.loop-file.list past c.loop-file.invariant.1
-    ∙ ap (λ b. cond b (names_from 1 c.args.files.now) []) (sym c.if-not-names.false)
+    ∙ ap (λ b. cond b (names_from 1 c.args.files.now) []) (sym c.if-not-wants_names.false)

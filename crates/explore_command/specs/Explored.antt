@@ -23,7 +23,7 @@ use Rattle.command_io.specs.Readings.{Reading, MayRead}
 use Rattle.command_io.specs.declared.output.Ending.{Ending}
 use Rattle.command_io.specs.declared.output.Ending.TheVariants.{Finished, Spent}
 use Rattle.command_io.specs.Explorations.{Recorded, opening_of, last_state, open_at, IsExplored}
-use Rattle.explore_command.specs.Panels.{Panel, MayExplore}
+use Rattle.explore_command.specs.Starts.{ExploreStart, MayOpen}
 
 -- Of the history H, the entries of expert e are what is due for an oracle of D. Its last reply is Done; or it is not, and it has taken all
 -- its turns. It has taken at most two for each answer that was recorded, one for each row that it dropped, and one more; and between two of
@@ -40,43 +40,44 @@ abbrev pub dropped_in : List SetEntry → ℕ → List NamedContext → List (Na
 dropped_in H e [] = []
 dropped_in H e (D ∷ experts) = (D, conflicts_of D (own H e)) ∷ dropped_in H (e + 1) experts
 
--- the exploration of a panel's table that has this history
-abbrev pub play_record : Panel → List SetEntry → Recorded
-play_record p H = record { opening = opening_of p.table (length p.experts) p.settings; journal = H }
+-- the exploration of the start's table that has this history
+abbrev pub exploring_record : ExploreStart → List SetEntry → Recorded
+exploring_record start H = record { opening = opening_of start.table (length start.experts) start.settings; journal = H }
 
 -- its text, and the conflicts
-abbrev pub panel_text : Panel → List SetEntry → Text
-panel_text p H = explore_text p.table p.settings H ++ conflicts_text p.table.attributes (rules_of (last_state (play_record p H)))
-    (dropped_in H 1 p.experts)
+abbrev pub explored_text : ExploreStart → List SetEntry → Text
+explored_text start H =
+    explore_text start.table start.settings H
+    ++ conflicts_text start.table.attributes (rules_of (last_state (exploring_record start H))) (dropped_in H 1 start.experts)
 
 -- what its text says before the open questions
-abbrev pub recorded_text : Panel → List SetEntry → Text
-recorded_text p H =
-    transcript p.table.attributes p.settings H ++ (recorded_section H ++ accepted_section p.table.attributes (length p.settings.known)
-    (last_state (play_record p H)).accepted)
+abbrev pub recorded_text : ExploreStart → List SetEntry → Text
+recorded_text start H =
+    transcript start.table.attributes start.settings H ++ (recorded_section H
+    ++ accepted_section start.table.attributes (length start.settings.known) (last_state (exploring_record start H)).accepted)
 
 -- `# open 0`; then the lines of the basis; then `# conflicts 0`
 abbrev pub basis_alone : List Text → List Rule → Text
 basis_alone attributes J =
     open_section attributes [] ++ (basis_lines attributes J ++ conflicts_section attributes J [])
 
--- The text spells the panel's settings and one legal history, which has no entries but those of the panel's oracles. If one of them used up
--- its turns, the exploration is spent, or else no question is open at its end. With at most MAX_SURVEYED attributes it is never spent. If all
--- experts' tables have the intents of one context C, each row of the panel's table is such an intent, and each row of C respects what is
--- known, the text ends with the basis of C beside what is known, in lectic order, and no conflict
-pub record IsPanelText (p : Panel) (text : Text) (spent : Bool) : Type 0 where
+-- The text spells the start's settings and one legal history, which has no entries but those of the experts' oracles. If one of them used
+-- up its turns, the exploration is spent, or else no question is open at its end. With at most MAX_SURVEYED attributes it is never spent.
+-- If all experts' tables have the intents of one context C, each row of the start's table is such an intent, and each row of C respects
+-- what is known, the text ends with the basis of C beside what is known, in lectic order, and no conflict
+pub record IsExploredText (start : ExploreStart) (text : Text) (spent : Bool) : Type 0 where
   pub history : List SetEntry
-  pub whole : text ≡ panel_text p history
-  pub spells : Spells p.table p.settings history text
-  pub course : IsExplored (play_record p history)
-  pub shares : EachNumbered (IsShare history) p.experts
-  pub others : (e : ℕ) → (e ≡ 0) ⊎ (length p.experts < e) → own history e ≡ []
-  pub unfinished : (spent ≡ true) ↔ ((e : ℕ) × (1 ≤ e) × (e ≤ length p.experts) × (ends_done (own history e) ≡ false))
-  pub finished : spent ≡ false → open_at (play_record p history) ≡ []
-  pub unspent : p.table.context.width ≤ MAX_SURVEYED → spent ≡ false
-  pub agreed : (C : Context) → All (λ D. HasIntentsOf C D.context) p.experts → are_intents C p.table.context.rows ≡ true
-      → rows_respect p.settings.known C ≡ true → spent ≡ false
-      → text ≡ recorded_text p history ++ basis_alone p.table.attributes (basis_known p.settings.known C)
+  pub whole : text ≡ explored_text start history
+  pub spells : Spells start.table start.settings history text
+  pub course : IsExplored (exploring_record start history)
+  pub shares : EachNumbered (IsShare history) start.experts
+  pub others : (e : ℕ) → (e ≡ 0) ⊎ (length start.experts < e) → own history e ≡ []
+  pub unfinished : (spent ≡ true) ↔ ((e : ℕ) × (1 ≤ e) × (e ≤ length start.experts) × (ends_done (own history e) ≡ false))
+  pub finished : spent ≡ false → open_at (exploring_record start history) ≡ []
+  pub unspent : start.table.context.width ≤ MAX_SURVEYED → spent ≡ false
+  pub agreed : (C : Context) → All (λ D. HasIntentsOf C D.context) start.experts → are_intents C start.table.context.rows ≡ true
+      → rows_respect start.settings.known C ≡ true → spent ≡ false
+      → text ≡ recorded_text start history ++ basis_alone start.table.attributes (basis_known start.settings.known C)
 
 -- ---- the exploration as it ended
 
@@ -89,30 +90,30 @@ abbrev pub text_with_conflicts : History → List Recall → Text
 text_with_conflicts explore oracles = explore_text explore.opening.table explore.opening.settings explore.journal
     ++ conflicts_text explore.opening.table.attributes (rules_of (state_of explore)) (map with_conflicts oracles)
 
--- an exploration of the panel's table by oracles of the experts' tables, as it ended
-pub record IsPlay (p : Panel) (explore : History) (oracles : List Recall) (spent : Bool) : Type 0 where
-  pub may : MayExplore p.table p.settings
-  pub opening : explore.opening ≡ opening_of p.table (length p.experts) p.settings
+-- an exploration of the start's table by oracles of the experts' tables, as it ended
+pub record HasExplored (start : ExploreStart) (explore : History) (oracles : List Recall) (spent : Bool) : Type 0 where
+  pub may : MayOpen start.table start.settings
+  pub opening : explore.opening ≡ opening_of start.table (length start.experts) start.settings
   pub legal : IsLegal (opening_state explore.opening) explore.journal
-  pub tables : map (λ oracle. oracle.table) oracles ≡ p.experts
+  pub tables : map (λ oracle. oracle.table) oracles ≡ start.experts
   pub shares : EachNumbered (IsOraclesShare MAX_TURNS explore.journal) oracles
-  pub others : (e : ℕ) → (e ≡ 0) ⊎ (length p.experts < e) → own explore.journal e ≡ []
-  pub unfinished : (spent ≡ true) ↔ ((e : ℕ) × (1 ≤ e) × (e ≤ length p.experts) × (ends_done (own explore.journal e) ≡ false))
+  pub others : (e : ℕ) → (e ≡ 0) ⊎ (length start.experts < e) → own explore.journal e ≡ []
+  pub unfinished : (spent ≡ true) ↔ ((e : ℕ) × (1 ≤ e) × (e ≤ length start.experts) × (ends_done (own explore.journal e) ≡ false))
   pub finished : spent ≡ false → open_of explore ≡ []
-  pub unspent : p.table.context.width ≤ MAX_SURVEYED → spent ≡ false
-  pub agreed : (C : Context) → All (λ D. HasIntentsOf C D.context) p.experts → are_intents C p.table.context.rows ≡ true
-      → rows_respect p.settings.known C ≡ true → HasAgreed C explore oracles spent
+  pub unspent : start.table.context.width ≤ MAX_SURVEYED → spent ≡ false
+  pub agreed : (C : Context) → All (λ D. HasIntentsOf C D.context) start.experts → are_intents C start.table.context.rows ≡ true
+      → rows_respect start.settings.known C ≡ true → HasAgreed C explore oracles spent
 
 -- ---- the output
 
 -- the ending of the text; `spent` says whether an expert used up its turns
-abbrev pub panel_ending : Bool → Ending
-panel_ending spent = cond spent Spent Finished
+abbrev pub explored_ending : Bool → Ending
+explored_ending spent = cond spent Spent Finished
 
--- an output for the panel that may have been read
-pub record MayPlay (reading : Reading Panel) (output : Output) : Type 0 where
-  pub panel : Panel
-  pub read : MayRead reading panel
+-- an output for the start that may have been read
+pub record MayExplore (reading : Reading ExploreStart) (output : Output) : Type 0 where
+  pub start : ExploreStart
+  pub read : MayRead reading start
   pub spent : Bool
-  pub is : IsPanelText panel output.text spent
-  pub ending : output.ending ≡ panel_ending spent
+  pub is : IsExploredText start output.text spent
+  pub ending : output.ending ≡ explored_ending spent

@@ -1,4 +1,4 @@
-//! The tables that `explore` reads: the one to explore, and those of the experts.
+//! What `explore` starts from: the table to explore, the settings of the exploration, and the tables of the experts.
 
 ghost use Rattle.std.specs.Prelude.{◌≡◌, ◌≤◌, ◌∷◌, ◌++◌, ℕ, List, All, Bool, true, IfOk, IfErr, OnOk, vec_len, length, option_copied};
 ghost use Rattle.std.specs.Prelude.{option_to_list};
@@ -9,8 +9,8 @@ ghost use Rattle.command_io.specs.Readings.{MayRead, MayRefuse, Rises, SameCount
 ghost use Rattle.command_io.specs.Causes.{UnlessFault};
 ghost use Rattle.command_io.specs.Endings.{IsRefusal};
 ghost use Rattle.fca_model.specs.declared.TheConstants.{MAX_EXPERTS};
-ghost use Rattle.explore_command.specs.Panels.{MayExplore, if_agreeing, expert_read, experts_read, panel_read, IsExpertStop, IsExpertsStop};
-ghost use Rattle.explore_command.specs.Panels.{IsPanelStop};
+ghost use Rattle.explore_command.specs.Starts.{MayOpen, if_agreeing, expert_read, experts_read, explore_read, IsExpertStop, IsExpertsStop};
+ghost use Rattle.explore_command.specs.Starts.{IsExploreStop};
 
 use crate::names::names_by_files;
 use command_io::{Origin, Start, Stop, load_start, load_table};
@@ -21,66 +21,69 @@ use fca_model::{MAX_EXPERTS, Word};
 use std::alloc::Global;
 use std::marker::Model;
 
-/// A table, the settings of its exploration, and the tables of the experts who explore it.
+/// What `explore` starts from: a table, the settings of its exploration, and the tables of the experts who explore it.
 #[derive(Drop)]
-pub struct Panel {
+pub struct ExploreStart {
+    /// The table to explore.
     pub(crate) table: Table,
+    /// What is known of it, how many experts may hold one question, and the names of the experts.
     pub(crate) settings: Settings,
+    /// The tables of the experts, in the order of their files.
     pub(crate) experts: Vec<Table>,
 }
 
-impl Model for Panel {
+impl Model for ExploreStart {
     ghost use Rattle.std.specs.Prelude.{◌≡◌};
     ghost use Rattle.exploration_terms.specs.Settings.{settings_of};
-    ghost use Rattle.explore_command.specs.Panels.{Panel as TheTables, MayExplore};
+    ghost use Rattle.explore_command.specs.Starts.{ExploreStart as TheStart, MayOpen};
 
-    ghost Value = { TheTables };
+    ghost Value = { TheStart };
 
-    ghost view = { λ p. record { table = p.table; settings = settings_of p.settings; experts = p.experts.items } };
+    ghost view = { λ start. record { table = start.table; settings = settings_of start.settings; experts = start.experts.items } };
 
-    ghost invariant = { λ p. record {
-      wide : p.settings.known.width ≡ p.table.context.width;
-      may : MayExplore p.table (settings_of p.settings);
+    ghost invariant = { λ start. record {
+      wide : start.settings.known.width ≡ start.table.context.width;
+      may : MayOpen start.table (settings_of start.settings);
     } };
 }
 
-/// Reads the table in the file, the known file if one is given, and the experts' tables. With `names`, each expert is named by the word of
-/// its file.
-pub fn load_panel<H: Shelf>(
+/// Reads the table in the file, the known file if one is given, and the experts' tables. With `wants_names`, each expert is named by the
+/// word of its file.
+pub fn load_explore_start<H: Shelf>(
     alloc: Global,
     shelf: &mut H,
     file: &Word,
     known: Option<&Word>,
-    names: bool,
+    wants_names: bool,
     experts: &[Word],
-) -> Result<Panel, Stop>
+) -> Result<ExploreStart, Stop>
     requires { is_expert (length experts.now) ≡ true }
-    ensures panel { IfOk result (λ panel. MayRead (panel_read file.now (option_copied known.entry) names experts.now (H.tells shelf.old)) panel) }
-    ensures count { IfOk result (λ panel. length panel.experts ≡ length experts.now) }
-    ensures wide { IfOk result (λ panel. All (λ expert. expert.context.width ≡ panel.table.context.width) panel.experts) }
-    ensures refused { IfErr result (λ stop. IsRefusal stop → MayRefuse (panel_read file.now (option_copied known.entry) names experts.now (H.tells shelf.old))) }
-    ensures cause { IfErr result (IsPanelStop file.now (option_copied known.entry) experts.now (H.tells shelf.old)
+    ensures start { IfOk result (λ start. MayRead (explore_read file.now (option_copied known.entry) wants_names experts.now (H.tells shelf.old)) start) }
+    ensures count { IfOk result (λ start. length start.experts ≡ length experts.now) }
+    ensures wide { IfOk result (λ start. All (λ expert. expert.context.width ≡ start.table.context.width) start.experts) }
+    ensures refused { IfErr result (λ stop. IsRefusal stop → MayRefuse (explore_read file.now (option_copied known.entry) wants_names experts.now (H.tells shelf.old))) }
+    ensures cause { IfErr result (IsExploreStop file.now (option_copied known.entry) experts.now (H.tells shelf.old)
         (Rises (H.faults shelf.old) (H.faults shelf.new))) }
     ensures quiet { UnlessFault result (SameCounts (H.faults shelf.old) (H.faults shelf.new)) }
     ensures few { RoseAtMost (H.fetches shelf.old) (H.fetches shelf.new) (length (file.now ∷ option_to_list (option_copied known.entry) ++ experts.now)) }
 {
-    let names = names_by_files(alloc, names, experts)?;
+    let names = names_by_files(alloc, wants_names, experts)?;
     let start = load_start(alloc, shelf, file, known)?;
     let tables = load_experts(alloc, shelf, &start.table, experts)?;
-    Ok(panel_of(start, names, tables))
+    Ok(explore_start_of(start, names, tables))
 }
 
-/// The panel of these tables. All experts may hold one question.
-fn panel_of(start: Start, names: ExpertNames, experts: Vec<Table>) -> Panel
+/// What `explore` starts from with these tables and names. All experts may hold one question.
+fn explore_start_of(start: Start, names: ExpertNames, experts: Vec<Table>) -> ExploreStart
     requires wide { start.known.width ≡ start.table.context.width }
-    requires may { MayExplore start.table (record { known = start.known.members; holders = MAX_EXPERTS; expert_names = names }) }
+    requires may { MayOpen start.table (record { known = start.known.members; holders = MAX_EXPERTS; expert_names = names }) }
     ensures { result ≡ record {
       table = start.table;
       settings = record { known = start.known.members; holders = MAX_EXPERTS; expert_names = names };
       experts = experts.items;
     } }
 {
-    Panel {
+    ExploreStart {
         table: start.table,
         settings: Settings {
             known: start.known,

@@ -10,9 +10,9 @@ use Rattle.command_io.specs.declared.stop.Stop.TheVariants.{Memory}
 use Rattle.command_io.proofs.ErrLemmas.{err-passed}
 use Rattle.command_io.proofs.FetchLemmas.{fetched_none, fetched_one, fetched_within, fetched_then}
 use Rattle.command_io.proofs.QuietLemmas.{unless_fault, fault-later, fault-passed, SameCounts-then}
-use Rattle.explore_command.specs.Panels.{experts_read, IsExpertsStop}
-use Rattle.explore_command.proofs.PanelLemmas.{ReadsOn, ReadsOn-next, ReadsOn-all, refused-file, experts-stop, memory-experts}
-use Rattle.explore_command.proofs.panel.load_experts.Goals as goal
+use Rattle.explore_command.specs.Starts.{experts_read, IsExpertsStop}
+use Rattle.explore_command.proofs.StartLemmas.{ReadsOn, ReadsOn-next, ReadsOn-all, refused-file, experts-stop, memory-experts}
+use Rattle.explore_command.proofs.start.load_experts.Goals as goal
 
 pub returns-in_err-expert-clause-refused : goal.returns-in_err-expert-clause-refused
 returns-in_err-expert-clause-refused g c =

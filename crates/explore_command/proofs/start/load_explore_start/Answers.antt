@@ -12,19 +12,19 @@ use Rattle.command_io.proofs.FetchLemmas.{fetched_none, fetched_within, fetched_
 use Rattle.command_io.proofs.KnownLemmas.{Rises-before}
 use Rattle.command_io.proofs.QuietLemmas.{unless_fault, fault-later, fault-passed, SameCounts-then}
 use Rattle.command_io.specs.Known.{start_of}
-use Rattle.explore_command.specs.Panels.{Panel, MayExplore, panel_read, IsPanelStop}
-use Rattle.explore_command.proofs.NameLemmas.{may_explore}
-use Rattle.explore_command.proofs.PanelLemmas.{panel-read, refused-panel, IsExpertsStop-same}
-use Rattle.explore_command.proofs.panel.load_panel.Goals as goal
+use Rattle.explore_command.specs.Starts.{ExploreStart, MayOpen, explore_read, IsExploreStop}
+use Rattle.explore_command.proofs.NameLemmas.{may_open}
+use Rattle.explore_command.proofs.StartLemmas.{explore-read, refused-explore, IsExpertsStop-same}
+use Rattle.explore_command.proofs.start.load_explore_start.Goals as goal
 
 pub returns-in_err-tables-clause-refused : goal.returns-in_err-tables-clause-refused
 returns-in_err-tables-clause-refused g c =
     let known = option_copied c.args.known in
     let tells = g.H.Shelf.tells c.args.shelf.now in
     err-passed c.from_residual-in_err-tables.result c.in_err-tables.field-0.0
-    (λ (s : Stop). (IsRefusal s → MayRefuse (panel_read c.args.file.now known c.args.names c.args.experts.now tells)))
+    (λ (s : Stop). (IsRefusal s → MayRefuse (explore_read c.args.file.now known c.args.wants_names c.args.experts.now tells)))
     c.from_residual-in_err-tables.ensures.1
-    (λ refusal. refused-panel c.args.file.now known c.args.names c.args.experts.now tells (g.H.Shelf.tells c.load_start.new.shelf)
+    (λ refusal. refused-explore c.args.file.now known c.args.wants_names c.args.experts.now tells (g.H.Shelf.tells c.load_start.new.shelf)
     (start_of c.in_ok-start.start)
     c.in_ok-start.ensures.start c.in_ok-start.ensures.kept (c.in_err-tables.ensures.refused refusal))
 
@@ -39,7 +39,7 @@ returns-in_err-tables-clause-cause g c =
     let start = start_of c.in_ok-start.start in
     let stop = c.in_err-tables.field-0.0 in
     err-passed c.from_residual-in_err-tables.result stop
-    (IsPanelStop c.args.file.now known c.args.experts.now tells (Rises counts after)) c.from_residual-in_err-tables.ensures.1
+    (IsExploreStop c.args.file.now known c.args.experts.now tells (Rises counts after)) c.from_residual-in_err-tables.ensures.1
     (inr (
       start,
       c.in_ok-start.ensures.start,
@@ -48,27 +48,27 @@ returns-in_err-tables-clause-cause g c =
           (λ other. Rises-before counts between after other c.in_ok-start.ensures.later) c.in_err-tables.ensures.cause,
     ))
 
-pub panel_of-requires-clause-may : goal.panel_of-requires-clause-may
-panel_of-requires-clause-may g c =
+pub explore_start_of-requires-clause-may : goal.explore_start_of-requires-clause-may
+explore_start_of-requires-clause-may g c =
     let table = c.in_ok-start.start.table in
     let S = c.in_ok-start.start.known.members in
-    let May : List (ℕ × RowName) → Type 0 = λ l. MayExplore table (record { known = S; holders = MAX_EXPERTS; expert_names = l }) in
-    subst May (sym c.in_ok-names.ensures) (may_explore table S c.args.names c.args.experts.now c.requires c.in_ok-start.ensures.even
+    let May : List (ℕ × RowName) → Type 0 = λ l. MayOpen table (record { known = S; holders = MAX_EXPERTS; expert_names = l }) in
+    subst May (sym c.in_ok-names.ensures) (may_open table S c.args.wants_names c.args.experts.now c.requires c.in_ok-start.ensures.even
     c.in_ok-start.ensures.respected)
 
-pub returns-clause-panel : goal.returns-clause-panel
-returns-clause-panel g c =
+pub returns-clause-start : goal.returns-clause-start
+returns-clause-start g c =
     let table = c.in_ok-start.start.table in
     let S = c.in_ok-start.start.known.members in
-    let made : List (ℕ × RowName) → Panel = λ l. record {
+    let made : List (ℕ × RowName) → ExploreStart = λ l. record {
       table = table;
       settings = record { known = S; holders = MAX_EXPERTS; expert_names = l };
       experts = c.in_ok-tables.tables.items;
     } in
-    let Read : Panel → Type 0 = MayRead (panel_read c.args.file.now (option_copied c.args.known) c.args.names c.args.experts.now
-    (g.H.Shelf.tells c.args.shelf.now)) in
-    subst Read (sym (c.panel_of.ensures ∙ ap made c.in_ok-names.ensures))
-    (panel-read c.args.file.now (option_copied c.args.known) c.args.names c.args.experts.now (g.H.Shelf.tells c.args.shelf.now)
+    let Read : ExploreStart → Type 0 = MayRead (explore_read c.args.file.now (option_copied c.args.known) c.args.wants_names
+    c.args.experts.now (g.H.Shelf.tells c.args.shelf.now)) in
+    subst Read (sym (c.explore_start_of.ensures ∙ ap made c.in_ok-names.ensures))
+    (explore-read c.args.file.now (option_copied c.args.known) c.args.wants_names c.args.experts.now (g.H.Shelf.tells c.args.shelf.now)
     (g.H.Shelf.tells c.load_start.new.shelf) (start_of c.in_ok-start.start)
     c.in_ok-tables.tables.items c.in_ok-start.ensures.start c.in_ok-start.ensures.kept c.in_ok-tables.ensures.tables)
 

@@ -4,8 +4,8 @@ use Rattle.std.proofs.Common.{◌≡◌, ◌≤◌, drop}
 use Rattle.std.specs.Prelude.{All, vec_len}
 use Rattle.fca_model.specs.Tables.{Text}
 use Rattle.fca_io.specs.Faults.{RoseAtMost}
-use Rattle.explore_command.proofs.PanelLemmas.{ReadsOn}
-use Rattle.explore_command.proofs.panel.load_experts.Given as goal
+use Rattle.explore_command.proofs.StartLemmas.{ReadsOn}
+use Rattle.explore_command.proofs.start.load_experts.Given as goal
 
 abbrev pub invariant-loop-place : goal.invariant-loop-place
 invariant-loop-place g l =

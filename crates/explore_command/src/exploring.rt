@@ -1,4 +1,4 @@
-//! The exploration of a panel's table by its oracles, and the text of it.
+//! The exploration of a start's table by oracles of the experts' tables, and the text of it.
 
 ghost use Rattle.std.specs.Prelude.{◌≡◌, ◌≤◌, ◌∷◌, ◌++◌, true, [], All, Bool, IfOk, IfErr, length, option_copied, option_to_list, vec_len};
 ghost use Rattle.fca_model.specs.Exploration.{is_expert};
@@ -11,10 +11,10 @@ ghost use Rattle.command_io.specs.Causes.{UnlessFault};
 ghost use Rattle.command_io.specs.Readings.Reading.{Read};
 ghost use Rattle.command_io.specs.Explorations.{opening_of};
 ghost use Rattle.command_io.specs.Endings.{IsRefusal};
-ghost use Rattle.explore_command.specs.Panels.{panel_read, IsPanelStop};
-ghost use Rattle.explore_command.specs.Played.{panel_ending, text_with_conflicts, IsPlay, MayPlay};
+ghost use Rattle.explore_command.specs.Starts.{explore_read, IsExploreStop};
+ghost use Rattle.explore_command.specs.Explored.{explored_ending, text_with_conflicts, HasExplored, MayExplore};
 
-use crate::panel::{Panel, load_panel};
+use crate::start::{ExploreStart, load_explore_start};
 use basis_report::{conflicts_text, explore_pieces, explore_text};
 use command_io::{Ending, Output, Stop, Text};
 use context_table::Table;
@@ -26,54 +26,58 @@ use std::alloc::Global;
 use std::sync::Wait;
 use std::thread::Threads;
 
-/// Explores the table in the file by the oracles of the experts' files, and gives the text. A known file may be given. With `names`, each
-/// expert is named by the word of its file.
+/// Explores the table in the file by the oracles of the experts' files, and gives the text. A known file may be given. With `wants_names`,
+/// each expert is named by the word of its file.
 pub fn explore<R: Threads + Wait + Sync, H: Shelf>(
     rt: &R,
     alloc: Global,
     shelf: &mut H,
     file: &Word,
     known: Option<&Word>,
-    names: bool,
+    wants_names: bool,
     experts: &[Word],
 ) -> Result<Output, Stop>
     requires { is_expert (length experts.now) ≡ true }
-    ensures output { IfOk result (MayPlay (panel_read file.now (option_copied known.entry) names experts.now (H.tells shelf.old))) }
-    ensures refused { IfErr result (λ stop. IsRefusal stop → MayRefuse (panel_read file.now (option_copied known.entry) names experts.now (H.tells shelf.old))) }
-    ensures cause { IfErr result (IsPanelStop file.now (option_copied known.entry) experts.now (H.tells shelf.old)
+    ensures output { IfOk result (MayExplore (explore_read file.now (option_copied known.entry) wants_names experts.now (H.tells shelf.old))) }
+    ensures refused { IfErr result (λ stop. IsRefusal stop → MayRefuse (explore_read file.now (option_copied known.entry) wants_names experts.now (H.tells shelf.old))) }
+    ensures cause { IfErr result (IsExploreStop file.now (option_copied known.entry) experts.now (H.tells shelf.old)
         (Rises (H.faults shelf.old) (H.faults shelf.new))) }
     ensures quiet { UnlessFault result (SameCounts (H.faults shelf.old) (H.faults shelf.new)) }
     ensures few { RoseAtMost (H.fetches shelf.old) (H.fetches shelf.new) (length (file.now ∷ option_to_list (option_copied known.entry) ++ experts.now)) }
 {
-    let panel = load_panel(alloc, shelf, file, known, names, experts)?;
-    Ok(play(rt, alloc, panel)?)
+    let start = load_explore_start(alloc, shelf, file, known, wants_names, experts)?;
+    Ok(explore_output(rt, alloc, start)?)
 }
 
-/// Explores the panel's table by its oracles, and gives the text.
-fn play<R: Threads + Wait + Sync>(rt: &R, alloc: Global, panel: Panel) -> Result<Output, Memory>
-    requires count { is_expert (length panel.experts) ≡ true }
-    requires wide { All (λ expert. expert.context.width ≡ panel.table.context.width) panel.experts }
-    ensures { IfOk result (MayPlay (Read panel)) }
+/// Explores the start's table by oracles of the experts' tables, and gives the text.
+fn explore_output<R: Threads + Wait + Sync>(
+    rt: &R,
+    alloc: Global,
+    start: ExploreStart,
+) -> Result<Output, Memory>
+    requires count { is_expert (length start.experts) ≡ true }
+    requires wide { All (λ expert. expert.context.width ≡ start.table.context.width) start.experts }
+    ensures { IfOk result (MayExplore (Read start)) }
 {
-    let explored = explore_panel(rt, alloc, panel)?;
+    let explored = explore_by_oracles(rt, alloc, start)?;
     let output = output_of(rt, alloc, &explored);
     drop(explored);
     output
 }
 
-/// Explores the panel's table by its oracles.
-fn explore_panel<R: Threads + Wait + Sync>(
+/// Explores the start's table by oracles of the experts' tables.
+fn explore_by_oracles<R: Threads + Wait + Sync>(
     rt: &R,
     alloc: Global,
-    panel: Panel,
+    start: ExploreStart,
 ) -> Result<Explored, Memory>
-    requires count { is_expert (length panel.experts) ≡ true }
-    requires wide { All (λ expert. expert.context.width ≡ panel.table.context.width) panel.experts }
-    ensures { IfOk result (λ r. IsPlay panel r.explore r.oracles.items r.spent) }
+    requires count { is_expert (length start.experts) ≡ true }
+    requires wide { All (λ expert. expert.context.width ≡ start.table.context.width) start.experts }
+    ensures { IfOk result (λ r. HasExplored start r.explore r.oracles.items r.spent) }
 {
-    let count = panel.experts.len() as u8;
-    let explore = open_exploration(alloc, panel.table, count, panel.settings)?;
-    explore_with_oracles(rt, alloc, explore, panel.experts, MAX_TURNS)
+    let count = start.experts.len() as u8;
+    let explore = open_exploration(alloc, start.table, count, start.settings)?;
+    explore_with_oracles(rt, alloc, explore, start.experts, MAX_TURNS)
 }
 
 /// The text of the exploration with the conflicts of its oracles, and its ending.
@@ -82,7 +86,7 @@ fn output_of<R: Threads>(rt: &R, alloc: Global, explored: &Explored) -> Result<O
     requires writable { SettingsCanBeWritten explored.now.explore.opening.table.context.width explored.now.explore.opening.settings }
     ensures text { IfOk result (λ output. output.text ≡ text_with_conflicts explored.now.explore explored.now.oracles.items) }
     ensures spells { IfOk result (λ output. Spells explored.now.explore.opening.table explored.now.explore.opening.settings explored.now.explore.journal output.text) }
-    ensures ending { IfOk result (λ output. output.ending ≡ panel_ending explored.now.spent) }
+    ensures ending { IfOk result (λ output. output.ending ≡ explored_ending explored.now.spent) }
 {
     let text = if explored.oracles.len() > 1 {
         text_in_pieces(rt, alloc, explored)?
@@ -91,7 +95,7 @@ fn output_of<R: Threads>(rt: &R, alloc: Global, explored: &Explored) -> Result<O
     };
     Ok(Output {
         text,
-        ending: ending_of(explored.spent),
+        ending: explored_ending(explored.spent),
     })
 }
 
@@ -122,8 +126,8 @@ fn whole_text(alloc: Global, explored: &Explored) -> Result<Text, Memory>
 }
 
 /// The ending of the text. `spent` says whether an expert used up its turns.
-fn ending_of(spent: bool) -> Ending
-    ensures { result ≡ panel_ending spent }
+fn explored_ending(spent: bool) -> Ending
+    ensures { result ≡ explored_ending spent }
 {
     if spent {
         Ending::Spent

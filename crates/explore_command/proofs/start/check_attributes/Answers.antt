@@ -2,9 +2,9 @@ use Rattle.std.proofs.Common.{◌≡◌, ◌∙◌, length, refl, sym, ap, subst
 use Rattle.fca_model.specs.Context.{Context}
 use Rattle.fca_model.specs.Tables.{NamedContext}
 use Rattle.command_io.specs.Readings.{Reading, MayRead, MayRefuse}
-use Rattle.explore_command.proofs.PanelLemmas.{if_agreeing-same, if_agreeing-other}
-use Rattle.explore_command.proofs.panel.check_attributes.Goals as goal
-use Rattle.explore_command.proofs.panel.check_attributes.Goals.{else-width-via-then-width+else-same_attributes, else-width-via-else-width}
+use Rattle.explore_command.proofs.StartLemmas.{if_agreeing-same, if_agreeing-other}
+use Rattle.explore_command.proofs.start.check_attributes.Goals as goal
+use Rattle.explore_command.proofs.start.check_attributes.Goals.{else-width-via-then-width+else-same_attributes, else-width-via-else-width}
 
 pub returns-then-same_attributes-clause-expert : goal.returns-then-same_attributes-clause-expert
 returns-then-same_attributes-clause-expert c =

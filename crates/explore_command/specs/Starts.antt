@@ -23,13 +23,13 @@ use Rattle.command_io.specs.declared.stop.Stop.{Stop}
 use Rattle.command_io.specs.declared.stop.Stop.TheVariants.{OtherAttributes, Memory}
 
 -- a table, the settings of its exploration, and the tables of the experts
-pub record Panel : Type 0 where
+pub record ExploreStart : Type 0 where
   pub table : NamedContext
   pub settings : Settings
   pub experts : List NamedContext
 
 -- settings that a text can spell, whose known implications the table's rows respect, and under which all experts may hold one question
-pub record MayExplore (table : NamedContext) (s : Settings) : Type 0 where
+pub record MayOpen (table : NamedContext) (s : Settings) : Type 0 where
   pub writable : SettingsCanBeWritten table.context.width s
   pub respected : rows_respect s.known table.context ≡ true
   pub free : s.holders ≡ MAX_EXPERTS
@@ -47,11 +47,11 @@ names_from e (file ∷ files) = cond (is_named file) ((e, file) ∷ names_from (
 
 -- the names of all experts by their files, or none if experts are not named
 abbrev pub names_by_files : Bool → List Text → List (ℕ × RowName)
-names_by_files names files = cond names (names_from 1 files) []
+names_by_files wants_names files = cond wants_names (names_from 1 files) []
 
 -- the settings with these known implications, of experts who have these files
 abbrev pub settings_by : List Rule → Bool → List Text → Settings
-settings_by S names files = record { known = S; holders = MAX_EXPERTS; expert_names = names_by_files names files }
+settings_by S wants_names files = record { known = S; holders = MAX_EXPERTS; expert_names = names_by_files wants_names files }
 
 -- ---- the tables of experts
 
@@ -76,11 +76,11 @@ experts_read table (file ∷ rest) files =
     then (expert_read table file files) (λ D. then (experts_read table rest files) (λ experts. Read (D ∷ experts)))
 
 -- the table in the first file, what is known of it, and the tables of the experts in the others
-abbrev pub panel_read : Text → Option Text → Bool → List Text → (Text → Told) → Reading Panel
-panel_read file known names experts files =
+abbrev pub explore_read : Text → Option Text → Bool → List Text → (Text → Told) → Reading ExploreStart
+explore_read file known wants_names experts files =
     then (start_read file known files) (λ start.
     then (experts_read start.table experts files) (λ tables.
-    Read (record { table = start.table; settings = settings_by start.known names experts; experts = tables })))
+    Read (record { table = start.table; settings = settings_by start.known wants_names experts; experts = tables })))
 
 -- ---- why they are not read
 
@@ -96,6 +96,6 @@ IsExpertsStop table place (file ∷ later) files rises stop = IsExpertStop table
     ⊎ ((D : NamedContext) × MayRead (expert_read table file files) D × IsExpertsStop table (place + 1) later files rises stop)
 
 -- the stop for the first file or the known file, or, if both were read, for the files of the experts
-abbrev pub IsPanelStop : Text → Option Text → List Text → (Text → Told) → (Text → Type 0) → Stop → Type 0
-IsPanelStop file known experts files rises stop = IsStartStop file known files rises stop
+abbrev pub IsExploreStop : Text → Option Text → List Text → (Text → Told) → (Text → Type 0) → Stop → Type 0
+IsExploreStop file known experts files rises stop = IsStartStop file known files rises stop
     ⊎ ((start : Start) × MayRead (start_read file known files) start × IsExpertsStop start.table 0 experts files rises stop)

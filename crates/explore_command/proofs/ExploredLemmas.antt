@@ -44,9 +44,9 @@ use Rattle.command_io.specs.Readings.{Reading, MayRead}
 use Rattle.command_io.specs.Readings.Reading.{Read}
 use Rattle.command_io.specs.Explorations.{opening_of, open_at}
 use Rattle.command_io.proofs.CourseLemmas.{legal-course}
-use Rattle.explore_command.specs.Panels.{Panel, MayExplore}
-use Rattle.explore_command.specs.Played.{IsShare, dropped_in, play_record, panel_text, recorded_text, basis_alone, IsPanelText}
-use Rattle.explore_command.specs.Played.{with_conflicts, text_with_conflicts, IsPlay, panel_ending, MayPlay}
+use Rattle.explore_command.specs.Starts.{ExploreStart, MayOpen}
+use Rattle.explore_command.specs.Explored.{IsShare, dropped_in, exploring_record, explored_text, recorded_text, basis_alone, IsExploredText}
+use Rattle.explore_command.specs.Explored.{with_conflicts, text_with_conflicts, HasExplored, explored_ending, MayExplore}
 
 dropped-oracles : (H : List SetEntry) (e : ℕ) (oracles : List Recall)
     → ((k : ℕ) (oracle : Recall) → slice_get oracles k ≡ Some oracle → oracle.conflicts ≡ conflicts_of oracle.table (own H (k + e)))
@@ -112,20 +112,21 @@ module _ (T : NamedContext) (G : Settings) (H : List SetEntry) (respecting : row
       }
 
 -- what its settings are can be told
-pub writable-play : (p : Panel) (explore : History) (oracles : List Recall) (spent : Bool) → IsPlay p explore oracles spent
+pub writable-explored : (p : ExploreStart) (explore : History) (oracles : List Recall) (spent : Bool) → HasExplored p explore oracles spent
     → SettingsCanBeWritten explore.opening.table.context.width explore.opening.settings
-writable-play p explore oracles spent play =
-    let Tells : Opening → Type 0 = λ o. SettingsCanBeWritten o.table.context.width o.settings in subst Tells (sym play.opening) play.may.writable
+writable-explored p explore oracles spent explored =
+    let Tells : Opening → Type 0 = λ o. SettingsCanBeWritten o.table.context.width o.settings in
+    subst Tells (sym explored.opening) explored.may.writable
 
 -- there are as many oracles as experts
-pub length-play : (p : Panel) (explore : History) (oracles : List Recall) (spent : Bool) → IsPlay p explore oracles spent
+pub length-explored : (p : ExploreStart) (explore : History) (oracles : List Recall) (spent : Bool) → HasExplored p explore oracles spent
     → length oracles ≡ explore.opening.experts
-length-play p explore oracles spent play =
-    sym (length-map oracles (λ (oracle : Recall). oracle.table)) ∙ ap length play.tables
-    ∙ sym (ap (λ (o : Opening). o.experts) play.opening)
+length-explored p explore oracles spent explored =
+    sym (length-map oracles (λ (oracle : Recall). oracle.table)) ∙ ap length explored.tables
+    ∙ sym (ap (λ (o : Opening). o.experts) explored.opening)
 
--- what came of the oracles of a panel, opened so
-pub explored-play : (p : Panel) (o : Opening) (n : ℕ) (output : Result Explored Memory) → MayExplore p.table p.settings
+-- what came of the oracles of the experts' tables, opened so
+pub explored-oracles : (p : ExploreStart) (o : Opening) (n : ℕ) (output : Result Explored Memory) → MayOpen p.table p.settings
     → o ≡ opening_of p.table n p.settings → n ≡ length p.experts
     → IfOk output (λ r. r.explore.opening ≡ o)
     → IfOk output (λ r. IsLegal (opening_state r.explore.opening) r.explore.journal)
@@ -138,9 +139,9 @@ pub explored-play : (p : Panel) (o : Opening) (n : ℕ) (output : Result Explore
     → IfOk output (λ r. (C : Context) → All (λ expert. HasIntentsOf C expert.context) p.experts → are_intents C o.table.context.rows ≡ true
     → rows_respect o.settings.known C ≡ true
     → HasAgreed C r.explore r.oracles.items r.spent)
-    → IfOk output (λ r. IsPlay p r.explore r.oracles.items r.spent)
-explored-play p o n (Err memory) may opened count opening legal tables shares others unfinished finished unspent agreed = tt
-explored-play p o n (Ok r) may opened count opening legal tables shares others unfinished finished unspent agreed =
+    → IfOk output (λ r. HasExplored p r.explore r.oracles.items r.spent)
+explored-oracles p o n (Err memory) may opened count opening legal tables shares others unfinished finished unspent agreed = tt
+explored-oracles p o n (Ok r) may opened count opening legal tables shares others unfinished finished unspent agreed =
     let H = r.explore.journal in
     let Others : ℕ → Type 0 = λ m. (e : ℕ) → (e ≡ 0) ⊎ (m < e) → own H e ≡ [] in
     let Unfinished : ℕ → Type 0 = λ m. (r.spent ≡ true) ↔ ((e : ℕ) × (1 ≤ e) × (e ≤ m) × (ends_done (own H e) ≡ false)) in
@@ -227,94 +228,95 @@ agreed_text T G H C conflicts respected legal done same =
     (open_section T.attributes [])
     (basis_lines T.attributes (basis_known G.known C)) conflicts
 
-panel_text-play : (p : Panel) (explore : History) (oracles : List Recall) (spent : Bool) → IsPlay p explore oracles spent
-    → text_with_conflicts explore oracles ≡ panel_text p explore.journal
-panel_text-play p explore oracles spent play =
+explored_text-explored : (p : ExploreStart) (explore : History) (oracles : List Recall) (spent : Bool) → HasExplored p explore oracles spent
+    → text_with_conflicts explore oracles ≡ explored_text p explore.journal
+explored_text-explored p explore oracles spent explored =
     let H = explore.journal in
     let text : Opening → List (NamedContext × Conflicts) → Text = λ o dropped.
     explore_text o.table o.settings H ++ conflicts_text o.table.attributes
     (rules_of (state_after (opening_state o) (events_of H))) dropped in
-    let dropped = dropped-oracles H 1 oracles (λ k oracle at. (play.shares k oracle at).conflicts) in
-    ap (λ o. text o (map with_conflicts oracles)) play.opening
-    ∙ ap (text (opening_of p.table (length p.experts) p.settings)) (dropped ∙ ap (dropped_in H 1) play.tables)
+    let dropped = dropped-oracles H 1 oracles (λ k oracle at. (explored.shares k oracle at).conflicts) in
+    ap (λ o. text o (map with_conflicts oracles)) explored.opening
+    ∙ ap (text (opening_of p.table (length p.experts) p.settings)) (dropped ∙ ap (dropped_in H 1) explored.tables)
 
-agreed-play : (p : Panel) (explore : History) (oracles : List Recall) (spent : Bool) (text : Text) → IsPlay p explore oracles spent
-    → text ≡ text_with_conflicts explore oracles
+agreed-explored : (p : ExploreStart) (explore : History) (oracles : List Recall) (spent : Bool) (text : Text)
+    → HasExplored p explore oracles spent → text ≡ text_with_conflicts explore oracles
     → (C : Context) → All (λ (D : NamedContext). HasIntentsOf C D.context) p.experts → are_intents C p.table.context.rows ≡ true
     → rows_respect p.settings.known C ≡ true → spent ≡ false
     → text ≡ recorded_text p explore.journal ++ basis_alone p.table.attributes (basis_known p.settings.known C)
-agreed-play p explore oracles spent text play whole C same part respected unspent =
+agreed-explored p explore oracles spent text explored whole C same part respected unspent =
     let H = explore.journal in
     let o : Opening = opening_of p.table (length p.experts) p.settings in
-    let agreed = play.agreed C same part respected in
+    let agreed = explored.agreed C same part respected in
     let B = basis_known p.settings.known C in
-    let legal : IsLegal (opening_state o) H = subst (λ (x : Opening). IsLegal (opening_state x) H) play.opening play.legal in
-    let done : open_at (play_record p H) ≡ [] = subst
-    (λ (x : Opening). open_of (record { opening = x; journal = H; spare = 0 }) ≡ []) play.opening (play.finished unspent) in
+    let legal : IsLegal (opening_state o) H = subst (λ (x : Opening). IsLegal (opening_state x) H) explored.opening explored.legal in
+    let done : open_at (exploring_record p H) ≡ [] = subst
+    (λ (x : Opening). open_of (record { opening = x; journal = H; spare = 0 }) ≡ []) explored.opening (explored.finished unspent) in
     let same_basis : basis_known p.settings.known (state_of_text p.table p.settings H).context ≡ B =
     subst (λ (x : Opening). basis_known x.settings.known (state_after (opening_state x) (events_of H)).context
-    ≡ basis_known x.settings.known C) play.opening (agreed.basis unspent) in
+    ≡ basis_known x.settings.known C) explored.opening (agreed.basis unspent) in
     let J = rules_of (state_of explore) in
     let text_of : Opening → Text → Text = λ x conflicts. explore_text x.table x.settings H ++ conflicts in
     let conflicts_of_all : Opening → Text = λ x. conflicts_text x.table.attributes J (map with_conflicts oracles) in
     let none : conflicts_of_all explore.opening ≡ conflicts_section p.table.attributes B [] =
-    ap conflicts_of_all play.opening ∙ no_conflicts p.table.attributes J B oracles agreed.kept in
-    whole ∙ ap (text_of explore.opening) none ∙ ap (λ x. text_of x (conflicts_section p.table.attributes B [])) play.opening
-    ∙ agreed_text p.table p.settings H C (conflicts_section p.table.attributes B []) play.may.respected legal done same_basis
+    ap conflicts_of_all explored.opening ∙ no_conflicts p.table.attributes J B oracles agreed.kept in
+    whole ∙ ap (text_of explore.opening) none ∙ ap (λ x. text_of x (conflicts_section p.table.attributes B [])) explored.opening
+    ∙ agreed_text p.table p.settings H C (conflicts_section p.table.attributes B []) explored.may.respected legal done same_basis
 
-IsPanelText-play : (p : Panel) (explore : History) (oracles : List Recall) (spent : Bool) (text : Text)
+IsExploredText-explored : (p : ExploreStart) (explore : History) (oracles : List Recall) (spent : Bool) (text : Text)
     → is_expert (length p.experts) ≡ true
-    → IsPlay p explore oracles spent → text ≡ text_with_conflicts explore oracles
-    → Spells explore.opening.table explore.opening.settings explore.journal text → IsPanelText p text spent
-IsPanelText-play p explore oracles spent text expert play whole spelled =
+    → HasExplored p explore oracles spent → text ≡ text_with_conflicts explore oracles
+    → Spells explore.opening.table explore.opening.settings explore.journal text → IsExploredText p text spent
+IsExploredText-explored p explore oracles spent text expert explored whole spelled =
     let H = explore.journal in
     let o : Opening = opening_of p.table (length p.experts) p.settings in
     let legal : IsLegal (opening_state o) H = let P : Opening → Type 0 = λ x. IsLegal (opening_state x) H in
-    subst P play.opening play.legal in
+    subst P explored.opening explored.legal in
     let SpellsText : Opening → Type 0 = λ x. Spells x.table x.settings H text in
     let Open : Opening → Type 0 = λ x. (spent ≡ false → open_of (record { opening = x; journal = H; spare = 0 }) ≡ []) in
-    let spells : Spells p.table p.settings H text = subst SpellsText play.opening spelled in
+    let spells : Spells p.table p.settings H text = subst SpellsText explored.opening spelled in
     record {
       history = H;
-      whole = whole ∙ panel_text-play p explore oracles spent play;
+      whole = whole ∙ explored_text-explored p explore oracles spent explored;
       spells = spells;
-      course = legal-course p.table (length p.experts) p.settings H expert play.may.respected play.may.writable.known legal;
+      course = legal-course p.table (length p.experts) p.settings H expert explored.may.respected explored.may.writable.known legal;
       shares = (let P : List NamedContext → Type 0 = EachNumbered (IsShare H) in
           let few : is_expert (length oracles) ≡ true =
-          ap is_expert (sym (length-map oracles (λ (oracle : Recall). oracle.table)) ∙ ap length play.tables) ∙ expert in
-          subst P play.tables (shares-tables p.table p.settings H play.may.respected play.may.free legal oracles few play.shares));
-      others = play.others;
-      unfinished = play.unfinished;
-      finished = subst Open play.opening play.finished;
-      unspent = play.unspent;
-      agreed = agreed-play p explore oracles spent text play whole;
+          ap is_expert (sym (length-map oracles (λ (oracle : Recall). oracle.table)) ∙ ap length explored.tables) ∙ expert in
+          subst P explored.tables
+          (shares-tables p.table p.settings H explored.may.respected explored.may.free legal oracles few explored.shares));
+      others = explored.others;
+      unfinished = explored.unfinished;
+      finished = subst Open explored.opening explored.finished;
+      unspent = explored.unspent;
+      agreed = agreed-explored p explore oracles spent text explored whole;
     }
 
--- ---- the answer
+-- ---- the output
 
--- an answer that tells of the exploration
-pub MayPlay-play : (p : Panel) (explore : History) (oracles : List Recall) (spent : Bool) (output : Result Output Memory)
+-- an output that tells of the exploration
+pub MayExplore-explored : (p : ExploreStart) (explore : History) (oracles : List Recall) (spent : Bool) (output : Result Output Memory)
     → is_expert (length p.experts) ≡ true
-    → IsPlay p explore oracles spent
+    → HasExplored p explore oracles spent
     → IfOk output (λ output. output.text ≡ text_with_conflicts explore oracles)
     → IfOk output (λ output. Spells explore.opening.table explore.opening.settings explore.journal output.text)
-    → IfOk output (λ output. output.ending ≡ panel_ending spent)
-    → IfOk output (MayPlay (Read p))
-MayPlay-play p explore oracles spent (Err memory) expert play whole spelled ending = tt
-MayPlay-play p explore oracles spent (Ok output) expert play whole spelled ending = record {
-  panel = p;
+    → IfOk output (λ output. output.ending ≡ explored_ending spent)
+    → IfOk output (MayExplore (Read p))
+MayExplore-explored p explore oracles spent (Err memory) expert explored whole spelled ending = tt
+MayExplore-explored p explore oracles spent (Ok output) expert explored whole spelled ending = record {
+  start = p;
   read = refl;
   spent = spent;
-  is = IsPanelText-play p explore oracles spent output.text expert play whole spelled;
+  is = IsExploredText-explored p explore oracles spent output.text expert explored whole spelled;
   ending = ending;
 }
 
-pub MayPlay-read : (reading : Reading Panel) (p : Panel) (output : Output) → MayRead reading p → MayPlay (Read p) output
-    → MayPlay reading output
-MayPlay-read reading p output may play = record {
-  panel = play.panel;
-  read = (let Reads : Panel → Type 0 = MayRead reading in subst Reads (sym play.read) may);
-  spent = play.spent;
-  is = play.is;
-  ending = play.ending;
+pub MayExplore-read : (reading : Reading ExploreStart) (p : ExploreStart) (output : Output) → MayRead reading p → MayExplore (Read p) output
+    → MayExplore reading output
+MayExplore-read reading p output may explored = record {
+  start = explored.start;
+  read = (let Reads : ExploreStart → Type 0 = MayRead reading in subst Reads (sym explored.read) may);
+  spent = explored.spent;
+  is = explored.is;
+  ending = explored.ending;
 }

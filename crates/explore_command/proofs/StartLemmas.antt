@@ -15,8 +15,8 @@ use Rattle.command_io.specs.Readings.Reading.{Untold, Missing, Refused, Read}
 use Rattle.command_io.proofs.ReadingLemmas.{refused_then, refused_after, read_after}
 use Rattle.command_io.proofs.KnownLemmas.{Rises-before}
 use Rattle.command_io.specs.Causes.{IsFileStop}
-use Rattle.explore_command.specs.Panels.{Panel, same_names, if_agreeing, expert_read, experts_read, settings_by, panel_read, IsExpertStop}
-use Rattle.explore_command.specs.Panels.{IsExpertsStop}
+use Rattle.explore_command.specs.Starts.{ExploreStart, same_names, if_agreeing, expert_read, experts_read, settings_by, explore_read}
+use Rattle.explore_command.specs.Starts.{IsExpertStop, IsExpertsStop}
 use Rattle.command_io.specs.Forms.{table_read}
 use Rattle.command_io.specs.declared.stop.Origin.{Origin}
 use Rattle.command_io.specs.declared.stop.Origin.TheVariants.{Later}
@@ -229,41 +229,41 @@ memory-experts table place [] tells rises s e = e
 memory-experts table place (file ∷ files) tells rises s e = let P : Stop → Type 0 = IsExpertsStop table place (file ∷ files) tells rises in
     subst P (sym e) (inl (inl tt))
 
--- ---- the panel
+-- ---- what `explore` starts from
 
--- the panel of these experts, where this is the start
-abbrev panel_of : Start → Bool → List Text → List NamedContext → Panel
-panel_of start names files tables = record { table = start.table; settings = settings_by start.known names files; experts = tables }
+-- what it starts from with these experts, where this is the start
+abbrev explore_start_of : Start → Bool → List Text → List NamedContext → ExploreStart
+explore_start_of start names files tables = record { table = start.table; settings = settings_by start.known names files; experts = tables }
 
 -- the same, where the tables are read
-abbrev panel_by : Start → Bool → List Text → Reading (List NamedContext) → Reading Panel
-panel_by start names files r = then r (λ tables. Read (panel_of start names files tables))
+abbrev explore_start_by : Start → Bool → List Text → Reading (List NamedContext) → Reading ExploreStart
+explore_start_by start names files r = then r (λ tables. Read (explore_start_of start names files tables))
 
-read_panel : (start : Start) (names : Bool) (files : List Text) (r : Reading (List NamedContext)) (tables : List NamedContext)
+read_start : (start : Start) (names : Bool) (files : List Text) (r : Reading (List NamedContext)) (tables : List NamedContext)
     → MayRead r tables
-    → MayRead (panel_by start names files r) (panel_of start names files tables)
-read_panel start names files Untold tables may = tt
-read_panel start names files Missing tables may = may
-read_panel start names files Refused tables may = may
-read_panel start names files (Read others) tables may = ap (panel_of start names files) may
+    → MayRead (explore_start_by start names files r) (explore_start_of start names files tables)
+read_start start names files Untold tables may = tt
+read_start start names files Missing tables may = may
+read_start start names files Refused tables may = may
+read_start start names files (Read others) tables may = ap (explore_start_of start names files) may
 
-pub panel-read : (file : Text) (known : Option Text) (names : Bool) (files : List Text) (tells now : Text → Told) (start : Start)
+pub explore-read : (file : Text) (known : Option Text) (names : Bool) (files : List Text) (tells now : Text → Told) (start : Start)
     (tables : List NamedContext)
     → MayRead (start_read file known tells) start → ((other : Text) → now other ≡ tells other)
     → MayRead (experts_read start.table files now) tables
-    → MayRead (panel_read file known names files tells) (panel_of start names files tables)
-panel-read file known names files tells now start tables here same may =
+    → MayRead (explore_read file known names files tells) (explore_start_of start names files tables)
+explore-read file known names files tells now start tables here same may =
     let Q : Reading (List NamedContext) → Type 0 = λ r. MayRead r tables in
-    read_after (start_read file known tells) start (λ s. panel_by s names files (experts_read s.table files tells))
-    (panel_of start names files tables) here
-    (read_panel start names files (experts_read start.table files tells) tables
+    read_after (start_read file known tells) start (λ s. explore_start_by s names files (experts_read s.table files tells))
+    (explore_start_of start names files tables) here
+    (read_start start names files (experts_read start.table files tells) tables
     (subst Q (experts_read-same start.table files tells now same) may))
 
-pub refused-panel : (file : Text) (known : Option Text) (names : Bool) (files : List Text) (tells now : Text → Told) (start : Start)
+pub refused-explore : (file : Text) (known : Option Text) (names : Bool) (files : List Text) (tells now : Text → Told) (start : Start)
     → MayRead (start_read file known tells) start → ((other : Text) → now other ≡ tells other)
-    → MayRefuse (experts_read start.table files now) → MayRefuse (panel_read file known names files tells)
-refused-panel file known names files tells now start here same may =
+    → MayRefuse (experts_read start.table files now) → MayRefuse (explore_read file known names files tells)
+refused-explore file known names files tells now start here same may =
     let M : Reading (List NamedContext) → Type 0 = λ r. MayRefuse r in
-    refused_after (start_read file known tells) start (λ s. panel_by s names files (experts_read s.table files tells)) here
-    (refused_then (experts_read start.table files tells) (λ tables. Read (panel_of start names files tables))
+    refused_after (start_read file known tells) start (λ s. explore_start_by s names files (experts_read s.table files tells)) here
+    (refused_then (experts_read start.table files tells) (λ tables. Read (explore_start_of start names files tables))
     (subst M (experts_read-same start.table files tells now same) may))
