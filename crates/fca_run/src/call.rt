@@ -118,6 +118,7 @@ fn waiting_output<R: Threads + Wait + Sync, H: Shelf, L: Listener>(
             };
             survey_output(rt, alloc, &recipe, *experts)
         }
+        // (`waits`: no other command waits for experts)
         _ => unreachable!(),
     }
 }
@@ -262,6 +263,7 @@ fn other_output<H: Shelf, S: Source>(
             };
             Ok(make_output(alloc, &recipe)?)
         }
+        // (`plain`, `other`: the others wait for experts, or report on one table)
         _ => unreachable!(),
     }
 }

@@ -93,6 +93,7 @@ fn narrow_report<R: Threads + Sync>(
         Command::Concepts { .. } => Ok(Output::packed(narrow_concepts_text(rt, alloc, table)?)),
         Command::Lattice { .. } => Ok(Output::finished(narrow_lattice_text(alloc, table)?)),
         Command::Basis { .. } => Ok(Output::finished(narrow_basis_text(alloc, table)?)),
+        // (no other command reads a narrow table)
         _ => unreachable!(),
     }
 }
@@ -145,6 +146,7 @@ fn report_on<R: Threads + Sync>(
         Command::Convert { to, .. } => Ok(Output::finished(write_table(alloc, *to, table)?)),
         Command::Reduce { .. } => Ok(Output::finished(reduce_table(alloc, table)?)),
         Command::Arrows { .. } => Ok(Output::finished(table_arrows(alloc, table)?)),
+        // (`reports`, `whole`: the others write no report, or read a narrow table)
         _ => unreachable!(),
     }
 }
