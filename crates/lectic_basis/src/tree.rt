@@ -255,6 +255,7 @@ fn visit<const W: usize>(
     if !agrees(a, closed, from) {
         return Ok(None);
     }
+    // (the closure is at hand: this has the members that wait for one of its attributes wait for another)
     let mut grown = *closed;
     close(found, a, &mut grown, from)?;
     Ok(Some(*closed))
