@@ -1,4 +1,4 @@
-use Rattle.std.proofs.Common.{◌≡◌, ◌<◌, ℕ, rules, List, true, false, length, get_or, set, sym, ap, ◌∙◌, subst, arith}
+use Rattle.std.proofs.Common.{◌≡◌, ◌<◌, ℕ, rules, List, true, false, length, length-set, get_or, set, sym, ap, ◌∙◌, subst, arith}
 use Rattle.fca_model.specs.Sets.{Set}
 use Rattle.fca_model.specs.Context.{Context, closure}
 use Rattle.fca_model.proofs.SetLemmas.{not_within_at}
