@@ -11,14 +11,14 @@ use Rattle.std.proofs.lemmas.List.{length-map, take-take, take-set-le, take-appe
 use Rattle.std.proofs.lemmas.List.{drop_more}
 use Rattle.std.proofs.lemmas.List.{drop_all, drop-drop, drop_at, drop-set, drop-set-lt, length-take-le, length-set, length-drop}
 use Rattle.std.proofs.lemmas.List.{append_assoc}
-use Rattle.std.proofs.lemmas.List.{get_or_default}
+use Rattle.std.proofs.lemmas.List.{get_or_default, set-get_or}
 use Rattle.std.proofs.lemmas.List.Sums.{AllPass-from_list_all, list_all-from_AllPass}
 use Rattle.std.proofs.lemmas.Option.{slice_get-get_or}
 use Rattle.std.specs.List.{list_all, list_any, slice_get, remove, copy_within, AllWithin}
 use Rattle.std.specs.List.Sorted.{IsPartitionedBy}
 use Rattle.std.specs.Ordering.{is_lt}
 use Rattle.fca_model.specs.SetLaws.{lectic_total}
-use Rattle.fca_model.specs.Sets.{Set, same, increasing, lectic_cmp}
+use Rattle.fca_model.specs.Sets.{Set, same, increasing, lectic_cmp, within, meet}
 use Rattle.fca_model.specs.Implications.{Rule, rule, premises}
 use Rattle.fca_model.specs.Invariant.{Among}
 use Rattle.fca_model.proofs.SetLemmas.{same_refl, same-true, lectic_refl}
@@ -67,7 +67,7 @@ questions_increasing_at qs i j d up lt l =
     ∙ increasing_at (premises qs) i j d.premise up lt (omega (arith, l, length-map qs (λ (q : Rule). q.premise)))
 
 -- what is said of the premises is said of the questions, and the other way round
-of_questions : (p : Set → Bool) (b : Bool) (qs : List Rule) (low high : ℕ) → AllWithin (λ A. p A ≡ b) (premises qs) low high
+pub of_questions : (p : Set → Bool) (b : Bool) (qs : List Rule) (low high : ℕ) → AllWithin (λ A. p A ≡ b) (premises qs) low high
     → AllWithin (λ q. p q.premise ≡ b) qs low high
 of_questions p b qs low high all k d le lt = ap p (sym (premise_at qs k d)) ∙ all k d.premise le lt
 
@@ -244,6 +244,32 @@ unclosed_at xs first i q all on l at =
     let there : first + (i - first) ≡ i = omega (arith, on) in
     ap is_unclosed (at ∙ sym (ap (λ m. get_or xs m q) there) ∙ sym (get_or-drop first xs (i - first) q))
     ∙ AllPass-from_list_all is_unclosed (drop first xs) all (i - first) q (let d = length-drop first xs in omega (arith, d, on, l))
+
+-- the row has none of the premises between two places, so these questions stay as they are
+pub narrowing_passes : {r : Set} {xs ys : List Rule} {k e : ℕ} (first i count : ℕ) → list_all is_unclosed (drop first xs) ≡ true → first ≤ i
+    → IsNarrowing r xs ys k e (i + count) → AllWithin (λ q. within q.premise r ≡ false) ys i (i + count) → IsNarrowing r xs ys k e i
+narrowing_passes {r} {xs} {ys} {k} {e} first i zero all on n passed = subst (λ m. IsNarrowing r xs ys k e m) (omega arith) n
+narrowing_passes {r} {xs} {ys} {k} {e} first i (suc count) all on n passed =
+    let j : ℕ = i + count in
+    let next : i + suc count ≡ suc j = omega arith in
+    let inside : j < length ys = let a = n.run in let b = n.before in let d = n.inside in omega (arith, a, b, d) in
+    let q : Rule = get_or ys j (rule [] []) in
+    let at : q ≡ get_or ys j q = get_or_default ys j (rule [] []) q inside in
+    let missed : within q.premise r ≡ false = passed j (rule [] []) (omega arith) (omega arith) in
+    let same : narrowed r q ≡ q = ap (λ b. cond b (rule q.premise (meet q.conclusion r)) q) missed in
+    let left : is_left r q ≡ true = ap is_unclosed same
+    ∙ unclosed_at xs first j q all (omega (arith, on)) (let d = n.long in omega (arith, d, inside)) (was n j next inside q at) in
+    narrowing_passes first i count all on
+    (subst (λ zs. IsNarrowing r xs zs k e j) (ap (set ys j) (same ∙ at) ∙ set-get_or ys j q)
+    (narrowing_keeps n j next inside q at left))
+    (λ m d le lt. passed m d le (omega (arith, lt)))
+
+pub narrowing_to : {r : Set} {xs ys : List Rule} {k e : ℕ} (first i j : ℕ) → list_all is_unclosed (drop first xs) ≡ true → first ≤ i → i ≤ j
+    → IsNarrowing r xs ys k e j → AllWithin (λ q. within q.premise r ≡ false) ys i j → IsNarrowing r xs ys k e i
+narrowing_to {r} {xs} {ys} {k} {e} first i j all on le n passed =
+    let long : j ≡ i + (j - i) = omega (arith, le) in
+    narrowing_passes first i (j - i) all on (subst (λ m. IsNarrowing r xs ys k e m) long n)
+    (subst (λ m. AllWithin (λ q. within q.premise r ≡ false) ys i m) long passed)
 
 -- ---- some move up
 

@@ -1,8 +1,8 @@
 //! A list of questions that a row changes quickly, as few of them are looked at.
 
-ghost use Rattle.std.specs.Prelude.{◌≡◌, ◌<◌, ◌≤◌, ◌+◌, ◌-◌, true, nat_le, length, drop, slice_index_or, slice_set, IfOk};
-ghost use Rattle.std.specs.List.{copy_within, list_all};
-ghost use Rattle.fca_model.specs.Sets.{within, increasing};
+ghost use Rattle.std.specs.Prelude.{◌≡◌, ◌<◌, ◌≤◌, ◌+◌, ◌-◌, true, false, nat_le, length, drop, slice_index_or, slice_set, IfOk};
+ghost use Rattle.std.specs.List.{copy_within, list_all, AllWithin};
+ghost use Rattle.fca_model.specs.Sets.{Set, within, increasing};
 ghost use Rattle.fca_model.specs.Implications.{Rule, premises};
 ghost use Rattle.level_queue.specs.Queue.{narrowed, is_unclosed, is_left};
 ghost use Rattle.level_queue.specs.QuestionLists.{AreInOneWord, IsPlaceFor};
@@ -85,33 +85,35 @@ impl QuestionList {
         &self.questions
     }
 
-    /// Narrows the question at the place, which is not closed, by a row. Whether it is still not closed. Most questions stay as they are, and are not looked at.
+    /// Narrows the question at the place, whose premise the row has. Whether it is still not closed.
     pub(crate) fn narrow_at(&mut self, place: usize, row: &Row) -> bool
         requires inside { place < length self.old }
-        requires unclosed { (question : Rule) → question ≡ slice_index_or self.old place question → is_unclosed question ≡ true }
+        requires reached { (question : Rule) → question ≡ slice_index_or self.old place question → within question.premise row.now ≡ true }
         ensures met { (question : Rule) → question ≡ slice_index_or self.old place question → self.new ≡ slice_set self.old place (narrowed row.now question) }
         ensures left { (question : Rule) → question ≡ slice_index_or self.old place question → result ≡ is_left row.now question }
         ensures long { length self.new ≡ length self.old }
     {
-        if !self.is_premise_within(place, row) {
-            return true;
-        }
         let met = question_after(&row.whole, &self.questions[place]);
         self.questions[place] = met;
         met.premise != met.conclusion
     }
 
-    /// Whether the row has the premise of the question at the place.
-    fn is_premise_within(&self, place: usize, row: &Row) -> bool
-        requires { place < length self.now }
-        ensures { (question : Rule) → question ≡ slice_index_or self.now place question → result ≡ within question.premise row.now }
+    /// Of the questions between two places, the place behind the last one whose premise the row has. If there is none, it is the first place.
+    pub(crate) fn end_of_reached(&self, first: usize, end: usize, row: &Row) -> usize
+        requires some { first ≤ end }
+        requires inside { end ≤ length self.now }
+        ensures first { first ≤ result }
+        ensures end { result ≤ end }
+        ensures reached { (question : Rule) → first < result → question ≡ slice_index_or self.now (result - 1) question
+            → within question.premise row.now ≡ true }
+        ensures passed { AllWithin (λ q. within q.premise row.now ≡ false) self.now result end }
     {
         if let Some(row) = &row.in_one_word {
             if !self.in_one_word.is_empty() {
-                return self.in_one_word[place].within(row);
+                return end_of_sets(&self.in_one_word, first, end, row);
             }
         }
-        self.questions[place].premise.within(&row.whole)
+        end_of_questions(&self.questions, first, end, &row.whole)
     }
 
     /// Of the questions from a place on, the place of the first one whose premise does not come before the given one.
@@ -161,18 +163,50 @@ fn fit_one_word(questions: &[Question]) -> bool
     questions.iter().all(|i| i.premise.width() <= ONE_WORD)
 }
 
-/// The question after this row. If the row has the premise, the conclusion loses what the row lacks.
+/// The question after a row that has its premise: the conclusion loses what the row lacks.
 fn question_after(row: &Attrs, question: &Question) -> Question
+    requires reached { within question.now.premise row.now ≡ true }
     ensures { result ≡ narrowed row.now question.now }
 {
-    if question.premise.within(row) {
-        Implication {
-            premise: question.premise,
-            conclusion: question.conclusion.meet(row),
-        }
-    } else {
-        *question
+    Implication {
+        premise: question.premise,
+        conclusion: question.conclusion.meet(row),
     }
+}
+
+/// Of the sets between two places, the place behind the last one that the row has. If there is none, it is the first place.
+fn end_of_sets(sets: &[Bits<1>], first: usize, end: usize, row: &Bits<1>) -> usize
+    requires some { first ≤ end }
+    requires inside { end ≤ length sets.now }
+    ensures first { first ≤ result }
+    ensures end { result ≤ end }
+    ensures reached { (A : Set) → first < result → A ≡ slice_index_or sets.now (result - 1) A → within A row.now ≡ true }
+    ensures passed { AllWithin (λ A. within A row.now ≡ false) sets.now result end }
+{
+    for place in (first..end).rev() {
+        if sets[place].within(row) {
+            return place + 1;
+        }
+    }
+    first
+}
+
+/// Of the questions between two places, the place behind the last one whose premise the row has. If there is none, it is the first place.
+fn end_of_questions(questions: &[Question], first: usize, end: usize, row: &Attrs) -> usize
+    requires some { first ≤ end }
+    requires inside { end ≤ length questions.now }
+    ensures first { first ≤ result }
+    ensures end { result ≤ end }
+    ensures reached { (question : Rule) → first < result → question ≡ slice_index_or questions.now (result - 1) question
+        → within question.premise row.now ≡ true }
+    ensures passed { AllWithin (λ q. within q.premise row.now ≡ false) questions.now result end }
+{
+    for place in (first..end).rev() {
+        if questions[place].premise.within(row) {
+            return place + 1;
+        }
+    }
+    first
 }
 
 /// The place of the first set that does not come before this one.

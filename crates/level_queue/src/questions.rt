@@ -101,12 +101,14 @@ fn narrow_from(list: &mut QuestionList, first: usize, row: &Row) -> usize
     ensures narrowed { drop result list.new ≡ still_open (map (narrowed row.now) (drop first list.old)) }
 {
     let mut kept = list.as_slice().len();
-    let mut end = list.as_slice().len();
-    for place in (first..list.as_slice().len()).rev() {
-        if !list.narrow_at(place, row) {
-            kept = move_up(list, place + 1, end, kept);
-            end = place;
+    let mut end = kept;
+    let mut place = list.end_of_reached(first, end, row);
+    while first < place {
+        if !list.narrow_at(place - 1, row) {
+            kept = move_up(list, place, end, kept);
+            end = place - 1;
         }
+        place = list.end_of_reached(first, place - 1, row);
     }
     move_up(list, first, end, kept)
 }

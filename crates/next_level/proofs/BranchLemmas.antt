@@ -27,7 +27,7 @@ use Rattle.lectic_basis.proofs.ListingLemmas.{no_more, only}
 use Rattle.lectic_basis.proofs.WaitLemmas.{push_filed, push_covers}
 use Rattle.next_level.specs.NextLevel.{IsOpen, everything, open_where}
 use Rattle.next_level.specs.Among.{AreAmong}
-use Rattle.next_level.specs.Branches.{IsRoot, AreOpen, HasParts, in_branch, in_part, in_parts}
+use Rattle.next_level.specs.Branches.{IsRoot, AreOpen, HasParts, in_branch, in_part, in_parts, part_at}
 use Rattle.next_level.specs.LevelWalks.{IsInside, IsEntered, IsTrying}
 use Rattle.next_level.specs.declared.open_sets.OpenSets.{OpenSets}
 use Rattle.next_level.proofs.LevelWalkLemmas.{root_inside, inside_entered}
@@ -366,14 +366,14 @@ in_each E P (k ∷ ks) (y ∷ ys) h = (h.0, in_each E P ks ys h.1)
 -- the results of the parts, collected
 pub parts_told : (J : List Rule) (K : Context) (A : Set) (n b : ℕ) {W : ℕ} {Z E : Type 0} (Q : E → Type 0) (ks : List ℕ)
     (rs : List (Result (OpenSets W) E)) (r : Result (Vec (OpenSets W) Z) E) → ks ≡ range_with_len 0 (n + 1)
-    → AllZip (λ k (s : Result (OpenSets W) E). IfOk s (λ sets. AreOpen J K (in_part n k A) b sets.bound sets.members.items)) ks rs
+    → AllZip (λ k (s : Result (OpenSets W) E). IfOk s (λ sets. AreOpen J K (in_part n (part_at n k) A) b sets.bound sets.members.items)) ks rs
     → MatchResult r (λ v. (ys : List (OpenSets W)) × (rs ≡ map Ok ys) × (v.items ≡ ys)) Q
     → IfOk r (λ v. HasParts J K n A b v.items)
 parts_told J K A n b {W = W} {E = E} Q ks rs (Ok v) numbers each m =
     subst (HasParts J K n A b) (sym m.2)
-    (subst (λ is. AllZip (λ k sets. AreOpen J K (in_part n k A) b sets.bound sets.members.items) is m.0) numbers
-    (in_each E (λ k (sets : OpenSets W). AreOpen J K (in_part n k A) b sets.bound sets.members.items) ks m.0
-    (subst (AllZip (λ k (s : Result (OpenSets W) E). IfOk s (λ sets. AreOpen J K (in_part n k A) b sets.bound sets.members.items)) ks)
+    (subst (λ is. AllZip (λ k sets. AreOpen J K (in_part n (part_at n k) A) b sets.bound sets.members.items) is m.0) numbers
+    (in_each E (λ k (sets : OpenSets W). AreOpen J K (in_part n (part_at n k) A) b sets.bound sets.members.items) ks m.0
+    (subst (AllZip (λ k (s : Result (OpenSets W) E). IfOk s (λ sets. AreOpen J K (in_part n (part_at n k) A) b sets.bound sets.members.items)) ks)
     m.1 each)))
 parts_told J K A n b Q ks rs (Err e) numbers each m = tt
 
@@ -381,11 +381,11 @@ module _ (J : List Rule) (K : Context) (A : Set) (n b : ℕ) {W : ℕ} (parts : 
   pub parts_long : length parts ≡ n + 1
   parts_long = AllZip-long _ _ _ all ∙ length-range_with_len 0 (n + 1)
 
-  pub part_at : (k : ℕ) (part : OpenSets W) → k < length parts → part ≡ get_or parts k part
-      → AreOpen J K (in_part n k A) b part.bound part.members.items
-  part_at k part inside is =
+  pub open_at : (k : ℕ) (part : OpenSets W) → k < length parts → part ≡ get_or parts k part
+      → AreOpen J K (in_part n (part_at n k) A) b part.bound part.members.items
+  open_at k part inside is =
       let from_none : 0 + k ≡ k = omega arith in
-      subst (λ s. AreOpen J K (in_part n k A) b s.bound s.members.items) (sym is)
-      (subst (λ i. AreOpen J K (in_part n i A) b (get_or parts k part).bound (get_or parts k part).members.items) from_none
-      (numbered_at (λ i s. AreOpen J K (in_part n i A) b s.bound s.members.items) 0 (n + 1) parts all k part
+      subst (λ s. AreOpen J K (in_part n (part_at n k) A) b s.bound s.members.items) (sym is)
+      (subst (λ i. AreOpen J K (in_part n (part_at n i) A) b (get_or parts k part).bound (get_or parts k part).members.items) from_none
+      (numbered_at (λ i s. AreOpen J K (in_part n (part_at n i) A) b s.bound s.members.items) 0 (n + 1) parts all k part
       (omega (arith, inside, parts_long))))

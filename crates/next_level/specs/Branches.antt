@@ -6,7 +6,8 @@
 --
 -- Of the sets over a, b, c, where {} is the least, {} and {c} agree with it before attribute 2, the branch of attribute 1 has {b} and {b,
 -- c}, and that of attribute 0 has the four sets with a.
-use Rattle.std.specs.Prelude.{◌≡◌, ℕ, zero, suc, ◌+◌, ◌-◌, ◌&&◌, Bool, not, false, true, List, [], replicate, slice_index_or, slice_set}
+use Rattle.std.specs.Prelude.{◌≡◌, ℕ, zero, suc, ◌+◌, ◌-◌, ◌/◌, ◌%◌, ◌==◌, ◌&&◌, Bool, cond, not, false, true, List, [], replicate}
+use Rattle.std.specs.Prelude.{slice_index_or, slice_set}
 use Rattle.std.specs.List.{AllZip, range_with_len}
 use Rattle.fca_model.specs.Sets.{Set, agree_before}
 use Rattle.fca_model.specs.Context.{Context}
@@ -40,7 +41,12 @@ pub record AreOpen (J : List Rule) (K : Context) (p : Set → Bool) (b c : ℕ) 
   pub listed : members ≡ open_where J K c p
   pub steady : members ≡ [] → c ≡ b
 
--- the list has the open sets of each of the first n + 1 parts, in their order
+-- Large parts stand at the end. So the list has by turns one from the front and one from the end, and two neighbours have about as many sets
+-- as two others. This is the number of the part at a place.
+abbrev pub part_at : ℕ → ℕ → ℕ
+part_at n place = cond (place % 2 == 0) (place / 2) (n - place / 2)
+
+-- the list has the open sets of each of the first n + 1 parts
 abbrev pub HasParts : List Rule → Context → ℕ → Set → ℕ → {W : ℕ} → List (OpenSets W) → Type 0
 HasParts J K n A b parts =
-    AllZip (λ k sets. AreOpen J K (in_part n k A) b sets.bound sets.members.items) (range_with_len 0 (n + 1)) parts
+    AllZip (λ place sets. AreOpen J K (in_part n (part_at n place) A) b sets.bound sets.members.items) (range_with_len 0 (n + 1)) parts

@@ -3,7 +3,7 @@
 ghost use Rattle.std.specs.Prelude.{◌≡◌, ◌≤◌, ◌+◌, IfOk};
 ghost use Rattle.fca_model.specs.Sets.{size};
 ghost use Rattle.next_level.specs.NextLevel.{everything};
-ghost use Rattle.next_level.specs.Branches.{AreOpen, HasParts, in_part};
+ghost use Rattle.next_level.specs.Branches.{AreOpen, HasParts, in_part, part_at};
 
 use crate::branches::{Limits, Walk};
 use crate::open_sets::OpenSets;
@@ -31,7 +31,7 @@ impl<R: Threads> Spawner<R> {
 }
 
 impl<const W: usize> Walk<W> {
-    /// All open sets, part by part. Several threads share the parts.
+    /// All open sets, part by part. Several threads share the parts, and each piece that `collect` makes of their list has about as much to do.
     pub(crate) fn open_parts<R: Threads>(
         &self,
         rt: &R,
@@ -47,7 +47,7 @@ impl<const W: usize> Walk<W> {
         self.join_parts(alloc, &parts, count, limits)
     }
 
-    /// The open sets of each part, in order.
+    /// The open sets of each part.
     fn walk_parts<R: Threads + Sync>(
         &self,
         rt: &R,
@@ -63,11 +63,11 @@ impl<const W: usize> Walk<W> {
         let parts = (0..count + 1)
             .into_par_iter()
             .map(
-                |k: u32| -> Result<OpenSets<W>, Memory>
-                    requires { (k ≤ count) × (count ≤ self.now.indexed.width) × (size self.now.least ≤ limits.bound) }
+                |place: u32| -> Result<OpenSets<W>, Memory>
+                    requires { (place ≤ count) × (count ≤ self.now.indexed.width) × (size self.now.least ≤ limits.bound) }
                     ensures { IfOk result (λ sets. AreOpen self.entry.now.list.members self.entry.now.indexed
-                        (in_part count k self.entry.now.least) limits.bound sets.bound sets.members.items) }
-                { self.open_in_part(alloc, count, k, limits) },
+                        (in_part count (part_at count place) self.entry.now.least) limits.bound sets.bound sets.members.items) }
+                { self.open_in_part(alloc, count, part_at(count, place), limits) },
             )
             .with_min_len(1)
             .collect::<Result<Vec<_>, Memory>>(rt, alloc);
@@ -91,9 +91,35 @@ impl<const W: usize> Walk<W> {
     {
         let _width = self.list.width();
         let mut all = OpenSets::new(alloc, limits);
-        for part in parts {
-            all.append(alloc, part)?;
+        for part in 0..count + 1 {
+            all.append(alloc, &parts[place_of(count, part) as usize])?;
         }
         Ok(all)
+    }
+}
+
+/// The part at a place of the list: one from the front and one from the end by turns.
+fn part_at(count: u32, place: u32) -> u32
+    requires { place ≤ count }
+    ensures part { result ≡ part_at count place }
+    ensures inside { result ≤ count }
+{
+    if place % 2 == 0 {
+        place / 2
+    } else {
+        count - place / 2
+    }
+}
+
+/// The place of the part in the list.
+fn place_of(count: u32, part: u32) -> u32
+    requires { part ≤ count }
+    ensures place { part_at count result ≡ part }
+    ensures inside { result ≤ count }
+{
+    if part <= count - part {
+        2 * part
+    } else {
+        2 * (count - part) + 1
     }
 }

@@ -15,11 +15,11 @@ use implication_closure::ImplicationList;
 use std::alloc::Global;
 use std::thread::Threads;
 
-/// How many parts a walk has for each processor, so that all have enough to do.
-const PARTS: u32 = 2;
+/// How many parts a walk has for each processor: two for each of the two pieces that `collect` makes.
+const PARTS: u32 = 4;
 
 /// How many parts a walk has at most, as each has a list of its own.
-const MOST: u32 = 16;
+const MOST: u32 = 32;
 
 /// A way to look for the next level.
 pub trait LevelSearch {
@@ -71,7 +71,7 @@ impl<'a, R: Threads> LevelSearch for SideBySide<'a, R> {
 }
 
 impl<'a, R: Threads> SideBySide<'a, R> {
-    /// How many branches a walk over this many attributes has beside its first part. With that it has as many parts as `collect` has pieces for these processors.
+    /// How many branches a walk over this many attributes has beside its first part.
     fn branches(&self, width: u32) -> u32
         ensures { result ≤ width }
     {

@@ -5,7 +5,7 @@ use Rattle.std.specs.declared.result.Result.{Result}
 use denote.Param.Members.{lent}
 use Rattle.rayon.specs.Numbers.{nat_range}
 use Rattle.rayon.proofs.ToStd.{nat_range-All}
-use Rattle.next_level.specs.Branches.{AreOpen, in_part}
+use Rattle.next_level.specs.Branches.{AreOpen, in_part, part_at}
 use Rattle.next_level.specs.declared.open_sets.OpenSets.{OpenSets}
 use Rattle.next_level.proofs.BranchLemmas.{parts_told}
 use Rattle.next_level.proofs.branches.Walk.walk_parts.Goals as goal
@@ -36,6 +36,6 @@ returns-in-Ok g c =
     let numbers = chain ∙ (λ i. nat_range (ends.0 i) (ends.1 i)) ∙ ap (range_with_len 0) whole in
     let same = ap (λ m. m.f) c.with_min_len.ensures.base ∙ c.map.ensures.f in
     let each = along same (λ f. AllZip (λ k (s : Result (OpenSets g.row.W) _). IfOk s (λ sets.
-    AreOpen (lent f).now.0.now.list.members (lent f).now.0.now.indexed (in_part (lent f).now.2.now k (lent f).now.0.now.least)
+    AreOpen (lent f).now.0.now.list.members (lent f).now.0.now.indexed (in_part (lent f).now.2.now (part_at (lent f).now.2.now k) (lent f).now.0.now.least)
     (lent f).now.3.now.bound sets.bound sets.members.items)) told.1.0 told.0) told.1.2 in
     parts_told self.list.members self.indexed self.least n c.args.limits.bound _ told.1.0 told.0 _ numbers each told.2
