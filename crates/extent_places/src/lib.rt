@@ -13,8 +13,7 @@ pub use columns::Columns;
 pub use few::{FewObjects, SmallConcept, pays_to_set_apart};
 pub use members::{has, insert, lacks, with, without};
 pub use objects::{
-    FEW_OBJECTS, ObjectSet, closure_of, columns_of, have_all, meet_of, objects_above, objects_with,
-    put_columns,
+    FEW_OBJECTS, ObjectSet, closure_of, columns_of, have_all, objects_above, objects_with,
 };
 pub use places::{closure_at, places_having};
 pub use tries::{last_member, tries_of};

@@ -31,7 +31,7 @@ pub fn columns_of<const W: usize>(alloc: Global, rows: &RowsOf<W>) -> Result<Vec
 }
 
 /// Puts the objects of each attribute into the list, in place of what it had.
-pub fn put_columns<const W: usize>(
+pub(crate) fn put_columns<const W: usize>(
     columns: &mut Vec<ObjectSet>,
     rows: &RowsOf<W>,
 ) -> Result<(), Memory>
@@ -166,7 +166,11 @@ pub fn have_all(objects: &ObjectSet, column: &ObjectSet) -> bool
 }
 
 /// The closure of `least`, whose objects are given: the meet of their rows. Once it is `least`, the rows that are left change nothing.
-pub fn meet_of<const W: usize>(rows: &RowsOf<W>, objects: &ObjectSet, least: &Bits<W>) -> Bits<W>
+pub(crate) fn meet_of<const W: usize>(
+    rows: &RowsOf<W>,
+    objects: &ObjectSet,
+    least: &Bits<W>,
+) -> Bits<W>
     requires objects { HasObjects rows.now least.now objects.now }
     requires wide { length least.now ≡ rows.now.width }
     ensures { result ≡ closure rows.now least.now }
