@@ -23,7 +23,7 @@ const MOST: u32 = 32;
 
 /// A way to look for the next level.
 pub trait LevelSearch {
-    /// The next level that has a member, as `open_next` has it.
+    /// The next level that has a member, looked for among candidates if these are whole. It also returns candidates for later levels.
     fn open_next(
         &self,
         alloc: Global,
