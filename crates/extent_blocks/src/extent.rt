@@ -78,7 +78,7 @@ impl BlockExtent {
     }
 
     /// The closure of a, given that the places whose rows have attribute i are the extent of a.
-    pub fn closure_with<const W: usize>(
+    pub fn closure_among<const W: usize>(
         &self,
         indexed: &IndexedRows<W>,
         i: u32,
@@ -96,7 +96,7 @@ impl BlockExtent {
         self.closure_by_columns(indexed, i, a)
     }
 
-    /// The closure of a as `closure_with` gives it, by the meet of these rows one after another.
+    /// What `closure_among` gives, by the meet of these rows one after another.
     fn closure_by_rows<const W: usize>(
         &self,
         indexed: &IndexedRows<W>,
@@ -112,7 +112,7 @@ impl BlockExtent {
         meet_of_rows(&self.blocks, indexed.column(i), indexed.rows(), a)
     }
 
-    /// The closure of a as `closure_with` gives it, from few of these rows. As long as one of them lacks an attribute of the meet, it is met too.
+    /// What `closure_among` gives, from few of these rows. As long as one of them lacks an attribute of the meet, it is met too.
     fn closure_by_columns<const W: usize>(
         &self,
         indexed: &IndexedRows<W>,

@@ -269,7 +269,7 @@ fn closure_near<const W: usize>(
 {
     let _width = indexed.rows().width();
     let tried = a.with(i);
-    let shared = near.closure_with(indexed, i, &tried);
+    let shared = near.closure_among(indexed, i, &tried);
     if larger.within(&shared) {
         return shared;
     }
@@ -318,6 +318,6 @@ fn is_shared<const W: usize>(
     if larger.within(&tried) {
         return true;
     }
-    let shared = near.closure_with(indexed, i, &tried);
+    let shared = near.closure_among(indexed, i, &tried);
     larger.within(&shared)
 }
