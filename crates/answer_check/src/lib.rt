@@ -48,7 +48,7 @@ pub fn check_confirm(rows: &Rows, accepted: &ImplicationList, question: &Questio
     judge_confirmation(rows, accepted, question)
 }
 
-/// The first case that applies to the row.
+/// The first case that applies to the row. This says which case; `check_row` says what it means for the step.
 fn judge_row(rows: &Rows, rules: &ImplicationList, question: &Question, row: &Attrs) -> Verdict
     ensures { result ≡ row_verdict rows.now.rows rules.now.members question.now row.now }
 {
@@ -67,7 +67,7 @@ fn judge_row(rows: &Rows, rules: &ImplicationList, question: &Question, row: &At
     }
 }
 
-/// The first case that applies to the confirmation.
+/// The first case that applies to the confirmation. This says which case; `check_confirm` says what it means for the step.
 fn judge_confirmation(rows: &Rows, accepted: &ImplicationList, question: &Question) -> Verdict
     ensures { result ≡ confirm_verdict rows.now.rows accepted.now.members question.now }
 {

@@ -96,7 +96,7 @@ impl BlockExtent {
         self.closure_by_columns(indexed, i, a)
     }
 
-    /// What `closure_among` gives, by the meet of these rows one after another.
+    /// What `closure_among` gives, by the meet of these rows one after another. `meet_of_rows` finds it in the blocks; this says it of the extent.
     fn closure_by_rows<const W: usize>(
         &self,
         indexed: &IndexedRows<W>,
@@ -136,7 +136,7 @@ impl BlockExtent {
         met
     }
 
-    /// A place whose row has attribute i and lacks k, or none if each row that has i has k.
+    /// A place whose row has attribute i and lacks k, or none if each row that has i has k. `first_lacking` finds it in the blocks; this says it of the extent.
     fn place_lacking<const W: usize>(
         &self,
         indexed: &IndexedRows<W>,
