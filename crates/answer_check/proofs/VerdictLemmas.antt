@@ -11,7 +11,7 @@ use Rattle.fca_model.specs.Implications.{Rule, rule, respects, refutes}
 use Rattle.fca_model.specs.Exploration.{State, rules_of, first_with, first_missing, row_reply, confirm_reply, confirm_unrefuted}
 use Rattle.fca_model.specs.Exploration.{confirm_unheard}
 use Rattle.fca_model.specs.Exploration as step
-use Rattle.answer_check.specs.Verdicts.{reply_to_row, reply_to_confirmation, row_verdict, row_fitting, row_refuting, row_unbroken}
+use Rattle.answer_check.specs.Verdicts.{row_reply_for, confirm_reply_for, row_verdict, row_fitting, row_refuting, row_unbroken}
 use Rattle.answer_check.specs.Verdicts.{row_unanswered, confirm_verdict, confirmed, unrefuted, IsOnRow, IsOnConfirmation}
 
 -- ---- places
@@ -83,45 +83,45 @@ module _ {X : Type 0} (p : X → Bool) (d : X) where
 
 module _ (s : State) (q : Rule) where
   unanswered : (m : Option ℕ) → position (λ r. refutes r q) s.context.rows ≡ m
-      → step.row_new s (first_with (λ r. refutes r q) 0 s.context.rows) ≡ reply_to_row s (row_unanswered m)
+      → step.row_new s (first_with (λ r. refutes r q) 0 s.context.rows) ≡ row_reply_for s (row_unanswered m)
   unanswered None e = ap (step.row_new s) (first_none (λ r. refutes r q) [] 0 s.context.rows e)
   unanswered (Some i) e = ap (step.row_new s) (first_at (λ r. refutes r q) [] i s.context.rows e)
 
   unbroken : (r : Set) (m : Option ℕ) → position (λ i. not (respects r i)) (rules_of s) ≡ m
-      → step.row_unbroken s q (first_with (λ i. not (respects r i)) 0 (rules_of s)) ≡ reply_to_row s (row_unbroken s.context.rows q m)
+      → step.row_unbroken s q (first_with (λ i. not (respects r i)) 0 (rules_of s)) ≡ row_reply_for s (row_unbroken s.context.rows q m)
   unbroken r None e = ap (step.row_unbroken s q) (first_none (λ i. not (respects r i)) (rule [] []) 0 (rules_of s) e)
       ∙ unanswered (position (λ r. refutes r q) s.context.rows) refl
   unbroken r (Some i) e = ap (step.row_unbroken s q) (first_at (λ i. not (respects r i)) (rule [] []) i (rules_of s) e)
 
-  refuting : (r : Set) (b : Bool) → step.row_refuting s q r b ≡ reply_to_row s (row_refuting s.context.rows (rules_of s) q r b)
+  refuting : (r : Set) (b : Bool) → step.row_refuting s q r b ≡ row_reply_for s (row_refuting s.context.rows (rules_of s) q r b)
   refuting r true = refl
   refuting r false = unbroken r (position (λ i. not (respects r i)) (rules_of s)) refl
 
-  fitting : (r : Set) (m : Option ℕ) → step.row_fitting s q r m ≡ reply_to_row s (row_fitting s.context.rows (rules_of s) q r m)
+  fitting : (r : Set) (m : Option ℕ) → step.row_fitting s q r m ≡ row_reply_for s (row_fitting s.context.rows (rules_of s) q r m)
   fitting r None = refuting r (within q.conclusion r)
   fitting r (Some a) = refl
 
   -- the reply to a row is the one that its verdict stands for
-  pub row_reply-verdict : (r : Set) → row_reply s (Some q) r ≡ reply_to_row s (row_verdict s.context.rows (rules_of s) q r)
+  pub row_reply-verdict : (r : Set) → row_reply s (Some q) r ≡ row_reply_for s (row_verdict s.context.rows (rules_of s) q r)
   row_reply-verdict r = fitting r (first_missing 0 q.premise r)
 
   -- ---- a confirmation
 
   unheard : (m : Option ℕ) → position (λ i. same i.premise q.premise) s.accepted ≡ m
-      → confirm_unheard s (first_with (λ i. same i.premise q.premise) (length s.settings.known) s.accepted) ≡ reply_to_confirmation s
+      → confirm_unheard s (first_with (λ i. same i.premise q.premise) (length s.settings.known) s.accepted) ≡ confirm_reply_for s
       (unrefuted m)
   unheard None e = ap (confirm_unheard s) (first_none (λ i. same i.premise q.premise) (rule [] []) (length s.settings.known) s.accepted e)
   unheard (Some i) e = ap (confirm_unheard s) (first_some (λ i. same i.premise q.premise) (rule [] [])
       (length s.settings.known) i s.accepted e).1
 
   confirming : (m : Option ℕ) → position (λ r. refutes r q) s.context.rows ≡ m
-      → confirm_unrefuted s q (first_with (λ r. refutes r q) 0 s.context.rows) ≡ reply_to_confirmation s (confirmed s.accepted q m)
+      → confirm_unrefuted s q (first_with (λ r. refutes r q) 0 s.context.rows) ≡ confirm_reply_for s (confirmed s.accepted q m)
   confirming None e = ap (confirm_unrefuted s q) (first_none (λ r. refutes r q) [] 0 s.context.rows e)
       ∙ unheard (position (λ i. same i.premise q.premise) s.accepted) refl
   confirming (Some i) e = ap (confirm_unrefuted s q) (first_at (λ r. refutes r q) [] i s.context.rows e)
 
   -- the reply to a confirmation is the one that its verdict stands for
-  pub confirm_reply-verdict : confirm_reply s (Some q) ≡ reply_to_confirmation s (confirm_verdict s.context.rows s.accepted q)
+  pub confirm_reply-verdict : confirm_reply s (Some q) ≡ confirm_reply_for s (confirm_verdict s.context.rows s.accepted q)
   confirm_reply-verdict = confirming (position (λ r. refutes r q) s.context.rows) refl
 
 -- ---- the places are in range

@@ -27,12 +27,12 @@ reply_of s recorded (verdict.SupersededRow i) = SupersededRow i (row_at s.contex
 reply_of s recorded (verdict.SupersededBy i) = SupersededBy (length s.settings.known + i) (rule_at s.accepted i)
 
 -- the reply that the verdict on a row stands for
-abbrev pub reply_to_row : State → Verdict → SetReply
-reply_to_row s v = reply_of s (Taken (length s.context.rows)) v
+abbrev pub row_reply_for : State → Verdict → SetReply
+row_reply_for s v = reply_of s (Taken (length s.context.rows)) v
 
 -- the reply that the verdict on a confirmation stands for
-abbrev pub reply_to_confirmation : State → Verdict → SetReply
-reply_to_confirmation s v = reply_of s (Accepted (length (rules_of s))) v
+abbrev pub confirm_reply_for : State → Verdict → SetReply
+confirm_reply_for s v = reply_of s (Accepted (length (rules_of s))) v
 
 -- ---- which verdicts come, and where
 

@@ -5,7 +5,7 @@ ghost use Rattle.std.specs.Prelude.{◌≡◌, Option, Some, position};
 ghost use Rattle.fca_model.specs.Sets.{same};
 ghost use Rattle.fca_model.specs.Implications.{Rule};
 ghost use Rattle.fca_model.specs.Exploration.{State, rules_of, row_reply, confirm_reply, first_missing};
-ghost use Rattle.answer_check.specs.Verdicts.{row_verdict, confirm_verdict, reply_to_row, reply_to_confirmation, IsOnRow, IsOnConfirmation};
+ghost use Rattle.answer_check.specs.Verdicts.{row_verdict, confirm_verdict, row_reply_for, confirm_reply_for, IsOnRow, IsOnConfirmation};
 
 use attr_bits::Attrs;
 use derivation::Rows;
@@ -33,7 +33,7 @@ pub enum Verdict {
 /// The verdict on a row that an expert gives to a question.
 pub fn check_row(rows: &Rows, rules: &ImplicationList, question: &Question, row: &Attrs) -> Verdict
     ensures reply { (s : State) → s.context ≡ rows.now → rules_of s ≡ rules.now.members
-        → row_reply s (Some question.now) row.now ≡ reply_to_row s result }
+        → row_reply s (Some question.now) row.now ≡ row_reply_for s result }
     ensures case { IsOnRow rows.now.rows rules.now.members result }
 {
     judge_row(rows, rules, question, row)
@@ -42,13 +42,13 @@ pub fn check_row(rows: &Rows, rules: &ImplicationList, question: &Question, row:
 /// The verdict on a confirmation of a question.
 pub fn check_confirm(rows: &Rows, accepted: &ImplicationList, question: &Question) -> Verdict
     ensures reply { (s : State) → s.context ≡ rows.now → s.accepted ≡ accepted.now.members
-        → confirm_reply s (Some question.now) ≡ reply_to_confirmation s result }
+        → confirm_reply s (Some question.now) ≡ confirm_reply_for s result }
     ensures case { IsOnConfirmation rows.now.rows accepted.now.members result }
 {
     judge_confirmation(rows, accepted, question)
 }
 
-/// The first case that applies to the row.
+/// The first case that applies to the row. This says which case; `check_row` says what it means for the step.
 fn judge_row(rows: &Rows, rules: &ImplicationList, question: &Question, row: &Attrs) -> Verdict
     ensures { result ≡ row_verdict rows.now.rows rules.now.members question.now row.now }
 {
@@ -67,7 +67,7 @@ fn judge_row(rows: &Rows, rules: &ImplicationList, question: &Question, row: &At
     }
 }
 
-/// The first case that applies to the confirmation.
+/// The first case that applies to the confirmation. This says which case; `check_confirm` says what it means for the step.
 fn judge_confirmation(rows: &Rows, accepted: &ImplicationList, question: &Question) -> Verdict
     ensures { result ≡ confirm_verdict rows.now.rows accepted.now.members question.now }
 {

@@ -24,8 +24,7 @@ pub(crate) fn premises_in_order(
 {
     let gathered = gather(alloc, members)?;
     let _count = gathered.len();
-    let sets = sets_of(alloc, &gathered)?;
-    Ok(sets)
+    Ok(gathered.iter().copied().collect(alloc)?)
 }
 
 /// The premises.
@@ -37,13 +36,6 @@ fn gather(alloc: Global, members: &[Implication]) -> Result<BTreeSet<Attrs>, Mem
         sets.insert(i.premise)?;
     }
     Ok(sets)
-}
-
-/// The sets in their order.
-fn sets_of(alloc: Global, sets: &BTreeSet<Attrs>) -> Result<Vec<Attrs>, Memory>
-    ensures { IfOk result (λ all. all.items ≡ sets.now.keys) }
-{
-    Ok(sets.iter().copied().collect(alloc)?)
 }
 
 /// The implication of each premise to its closure under the list.

@@ -9,10 +9,10 @@ use Rattle.std.specs.List.{list_any, range_with_len, flat_map}
 use Rattle.fca_model.specs.Sets.{Set, within}
 use Rattle.fca_model.specs.Context.{Context}
 use Rattle.fca_model.proofs.RangeLemmas.{range_more}
-use Rattle.context_reduce.specs.declared.marks.Arrow.{Arrow}
+use Rattle.context_reduce.specs.declared.arrow.Arrow.{Arrow}
 use Rattle.context_reduce.specs.Reduce.{row_at, attributes_above, meet_of_larger, up_arrow, down_arrow}
 use Rattle.context_reduce.specs.Arrows.{arrow_of, arrow_at, arrow_table, points_up, points_down, TellIrreducibles}
-use Rattle.context_reduce.specs.declared.marks.Arrow.TheVariants.{Plain}
+use Rattle.context_reduce.specs.declared.arrow.Arrow.TheVariants.{Plain}
 use Rattle.context_reduce.proofs.RangeLemmas.{append_nil}
 use Rattle.context_reduce.proofs.ColumnLemmas.{larger_at, up_arrow_there, down_arrow_there}
 

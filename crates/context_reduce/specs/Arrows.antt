@@ -6,8 +6,8 @@
 use Rattle.std.specs.Prelude.{◌≡◌, ◌<◌, ℕ, Bool, true, false, not, List, [], length, map, slice_index_or}
 use Rattle.std.specs.List.{list_any, range_with_len}
 use Rattle.fca_model.specs.Context.{Context}
-use Rattle.context_reduce.specs.declared.marks.Arrow.{Arrow}
-use Rattle.context_reduce.specs.declared.marks.Arrow.TheVariants.{Cross, Plain, Down, Up, Both}
+use Rattle.context_reduce.specs.declared.arrow.Arrow.{Arrow}
+use Rattle.context_reduce.specs.declared.arrow.Arrow.TheVariants.{Cross, Plain, Down, Up, Both}
 use Rattle.context_reduce.specs.Reduce.{row_at, column, transpose, reducible, down_arrow, up_arrow}
 
 -- a cross, or the arrows if there is none

@@ -6,9 +6,9 @@ ghost use Rattle.context_reduce.specs.Reduce.{attributes_above};
 ghost use Rattle.context_reduce.specs.Blocks.{AreBlocks};
 ghost use Rattle.context_reduce.specs.Arrows.{arrow_of, arrow_at, arrow_table, TellIrreducibles};
 
+use crate::arrow::{Arrow, Arrows};
 use crate::columns::{attributes_above, column_order};
 use crate::larger::{ColumnBlock, blocks_of, meet_of_larger};
-use crate::marks::{Arrow, Arrows};
 use attr_bits::Attrs;
 use context_table::Table;
 use derivation::Rows;

@@ -2,11 +2,11 @@
 //! Wille, "Formal Concept Analysis", 1999).
 #![tactic(auto)]
 
+mod arrow;
 mod columns;
 mod finding;
 mod larger;
 pub mod laws;
-mod marks;
 mod parts;
 mod rows;
 mod texts;
@@ -15,11 +15,11 @@ ghost use Rattle.std.specs.Prelude.{◌≡◌, IfOk};
 ghost use Rattle.context_reduce.specs.Reduce.{distinct_objects, distinct_attributes, irreducible_objects, irreducible_attributes};
 ghost use Rattle.context_reduce.specs.Reduce.{KeepsIntents, AreItsPlaces};
 
+pub use arrow::{Arrow, Arrows};
 use columns::{distinct_attributes, irreducible_attributes};
 use context_table::Table;
 use fca_model::{Memory, Places};
 pub use finding::arrows;
-pub use marks::{Arrow, Arrows};
 pub use parts::part;
 use rows::{distinct_rows, irreducible_objects};
 use std::alloc::Global;

@@ -27,27 +27,27 @@ fn search(alloc: Global, rows: &Rows) -> Result<BTreeSet<Attrs>, Memory>
     ensures { IfOk result (λ found. found.keys ≡ placed [] (filter (proper rows.now) (flat_map (visited rows.now) (range_with_len 0 (rows.now.width + 1))))) }
 {
     let mut found = BTreeSet::new(alloc);
-    let mut level = Vec::new(alloc);
-    visit(rows, Attrs::empty(rows.width()), &mut level, &mut found)?;
+    let mut free_sets = Vec::new(alloc);
+    visit(rows, Attrs::empty(rows.width()), &mut free_sets, &mut found)?;
     for _size in 0..rows.width() {
-        level = next_level(alloc, rows, &level, &mut found)?;
+        free_sets = larger_free_sets(alloc, rows, &free_sets, &mut found)?;
     }
     Ok(found)
 }
 
-/// The free sets with one attribute more than those of the level. The proper premises among the visited sets join those that were found.
-fn next_level(
+/// The free sets with one attribute more than these. The proper premises among the visited sets join those that were found.
+fn larger_free_sets(
     alloc: Global,
     rows: &Rows,
-    level: &[Attrs],
+    free_sets: &[Attrs],
     found: &mut BTreeSet<Attrs>,
 ) -> Result<Vec<Attrs>, Memory>
-    requires { All (λ A. length A ≡ rows.now.width) level.now }
-    ensures level { IfOk result (λ next. next.items ≡ filter (free rows.now) (flat_map larger level.now)) }
-    ensures found { OnOk result (found.new.keys ≡ placed found.old.keys (filter (proper rows.now) (flat_map larger level.now))) }
+    requires { All (λ A. length A ≡ rows.now.width) free_sets.now }
+    ensures free_sets { IfOk result (λ next. next.items ≡ filter (free rows.now) (flat_map larger free_sets.now)) }
+    ensures found { OnOk result (found.new.keys ≡ placed found.old.keys (filter (proper rows.now) (flat_map larger free_sets.now))) }
 {
     let mut next = Vec::new(alloc);
-    for set in level {
+    for set in free_sets {
         grow(rows, set, &mut next, found)?;
     }
     Ok(next)
@@ -57,15 +57,15 @@ fn next_level(
 fn grow(
     rows: &Rows,
     set: &Attrs,
-    level: &mut Vec<Attrs>,
+    free_sets: &mut Vec<Attrs>,
     found: &mut BTreeSet<Attrs>,
 ) -> Result<(), Memory>
     requires { length set.now ≡ rows.now.width }
-    ensures level { OnOk result (level.new.items ≡ level.old.items ++ filter (free rows.now) (larger set.now)) }
+    ensures free_sets { OnOk result (free_sets.new.items ≡ free_sets.old.items ++ filter (free rows.now) (larger set.now)) }
     ensures found { OnOk result (found.new.keys ≡ placed found.old.keys (filter (proper rows.now) (larger set.now))) }
 {
     for i in 0..first_place(set) {
-        visit(rows, set.with(i), level, found)?;
+        visit(rows, set.with(i), free_sets, found)?;
     }
     Ok(())
 }
@@ -81,19 +81,19 @@ fn first_place(set: &Attrs) -> u32
     }
 }
 
-/// Appends the set to the level if it is free, and adds it to those found if it is a proper premise.
+/// Appends the set to the free sets if it is free, and adds it to those found if it is a proper premise.
 fn visit(
     rows: &Rows,
     set: Attrs,
-    level: &mut Vec<Attrs>,
+    free_sets: &mut Vec<Attrs>,
     found: &mut BTreeSet<Attrs>,
 ) -> Result<(), Memory>
     requires { length set ≡ rows.now.width }
-    ensures level { OnOk result (level.new.items ≡ level.old.items ++ filter (free rows.now) (set ∷ [])) }
+    ensures free_sets { OnOk result (free_sets.new.items ≡ free_sets.old.items ++ filter (free rows.now) (set ∷ [])) }
     ensures found { OnOk result (found.new.keys ≡ placed found.old.keys (filter (proper rows.now) (set ∷ []))) }
 {
     if let Some(joined) = join_of_parts(rows, &set) {
-        level.push(set)?;
+        free_sets.push(set)?;
         if rows.closure(&set) != joined {
             found.insert(set)?;
         }

@@ -130,7 +130,7 @@ fn serve_one<R: Threads + Wait + Sync, E: Duplex>(
     let expert = pass.number();
     let search = SideBySide {
         rt,
-        processors: terms.processors,
+        most_threads: terms.processors,
     };
     let mut desk = Seated {
         rt,

@@ -13,7 +13,7 @@ use Rattle.fca_model.proofs.SetLemmas.{get_or-meet, within_at_place}
 use Rattle.fca_model.proofs.StepLemmas.{first_missing_none}
 use Rattle.attr_bits.proofs.DifferenceLemmas.{first_missing-parts}
 use Rattle.attr_bits.proofs.PlaceLemmas.{member_below}
-use Rattle.extent_blocks.specs.Blocks.{in_block, in_column, in_parts, Part}
+use Rattle.extent_blocks.specs.Blocks.{in_block, in_column, in_blocks, NumberedBlock}
 
 module _ (n : ℕ) (O : Set) (g : ℕ) where
   abbrev here : Bool
@@ -97,9 +97,9 @@ pub lent : (Cs : List Set) (n : ℕ) (C : Set) → n < length Cs → C ≡ get_o
 lent Cs n C l e = e ∙ get_or_default Cs n C [] l
 
 -- parts that are seen of what is stored
-pub parts_of : {X : Type 0} (number : X → ℕ) (objects : X → Set) (xs : List X) (g : ℕ)
-    → in_parts (map (λ x. record { number = number x; objects = objects x }) xs) g ≡ list_any (λ x. in_block (number x) (objects x) g) xs
-parts_of number objects xs g = list_any-map (λ (y : Part). in_block y.number y.objects g)
+pub blocks_of : {X : Type 0} (number : X → ℕ) (objects : X → Set) (xs : List X) (g : ℕ)
+    → in_blocks (map (λ x. record { number = number x; objects = objects x }) xs) g ≡ list_any (λ x. in_block (number x) (objects x) g) xs
+blocks_of number objects xs g = list_any-map (λ (y : NumberedBlock). in_block y.number y.objects g)
     (λ x. record { number = number x; objects = objects x }) xs
 
 -- ---- parts kept one after another

@@ -13,7 +13,7 @@ use Rattle.fca_model.proofs.StepLemmas.{first_missing_none}
 use Rattle.fca_model.proofs.ClosureLemmas.{length-closure, within-closure, closure_in_rows, respects_from, respects_at}
 use Rattle.attr_bits.proofs.DifferenceLemmas.{first_missing-parts}
 use Rattle.attr_bits.proofs.PlaceLemmas.{member_below}
-use Rattle.extent_blocks.specs.Blocks.{Part, IsExtentWith, in_parts, row_at, contains_at, has_at}
+use Rattle.extent_blocks.specs.Blocks.{NumberedBlock, IsExtentWith, in_blocks, row_at, contains_at, has_at}
 use Rattle.std.proofs.lemmas.List.Sums.{AllPass-from_list_all}
 use Rattle.fca_model.proofs.ListLemmas.{all_by_place}
 
@@ -43,16 +43,16 @@ module _ (K : Context) (A : Set) where
       let f : M ≡ full K.width = m ∙ ap full e in
       (ap length f ∙ length-full K.width, ap (within (closure K A)) f ∙ within_full K.width (closure K A) (length-closure K A))
 
-  module _ (i : ℕ) (Ps : List Part) (extent : IsExtentWith K A i Ps) (M B : Set) (m_wide : length M ≡ K.width) (b_wide : length B ≡ K.width)
+  module _ (i : ℕ) (Ps : List NumberedBlock) (extent : IsExtentWith K A i Ps) (M B : Set) (m_wide : length M ≡ K.width) (b_wide : length B ≡ K.width)
       (above : within (closure K A) M ≡ true) (below : within B (closure K A) ≡ true) (k : ℕ) (missing : first_missing 0 M B ≡ Some k) where
     pub missing_inside : k < K.width
     missing_inside = omega (arith, member_below M k (first_missing-parts M B k missing).0, m_wide)
 
     -- a row that lacks it
-    module _ (g : ℕ) (found : in_parts Ps g ≡ true) (with : has_at K i g ≡ true) (lacks : has_at K k g ≡ false) (R N : Set)
+    module _ (g : ℕ) (found : in_blocks Ps g ≡ true) (with : has_at K i g ≡ true) (lacks : has_at K k g ≡ false) (R N : Set)
         (r : R ≡ get_or K.rows g R) (n : N ≡ meet M R) where
       contains : contains_at K A g ≡ true
-      contains = sym (extent g) ∙ and_from (in_parts Ps g) (has_at K i g) found with
+      contains = sym (extent g) ∙ and_from (in_blocks Ps g) (has_at K i g) found with
 
       pub place_inside : g < length K.rows
       place_inside = ltb-true g (length K.rows) (and_parts (ltb g (length K.rows)) (within A (row_at K g)) contains).0
@@ -80,7 +80,7 @@ module _ (K : Context) (A : Set) where
           (λ e. false≢true (sym lost ∙ ap (λ X. get_or X k false) e ∙ (first_missing-parts M B k missing).0)))
 
     -- none lacks it
-    module _ (none : (g : ℕ) → in_parts Ps g ≡ true → has_at K i g ≡ true → has_at K k g ≡ true) (N : Set) (n : N ≡ set B k true) where
+    module _ (none : (g : ℕ) → in_blocks Ps g ≡ true → has_at K i g ≡ true → has_at K k g ≡ true) (N : Set) (n : N ≡ set B k true) where
       pub kept_wide : length N ≡ K.width
       kept_wide = ap length n ∙ length-set B k true ∙ b_wide
 
@@ -88,7 +88,7 @@ module _ (K : Context) (A : Set) where
       kept_below =
           ap (λ X. within X (closure K A)) n
           ∙ below_rows (set B k true) (length-set B k true ∙ b_wide) (λ g t.
-          let p = and_parts (in_parts Ps g) (has_at K i g) (extent g ∙ t) in
+          let p = and_parts (in_blocks Ps g) (has_at K i g) (extent g ∙ t) in
           set_within B (row_at K g) k (within_trans B (closure K A) (row_at K g) below (row_above g t)) (none g p.0 p.1))
 
       pub kept_more : (size N ≡ size B + 1) × (size N ≤ K.width)

@@ -6,7 +6,7 @@ use Rattle.fca_model.specs.Sets.{Set, within}
 use Rattle.fca_model.specs.Context.{Context, closure}
 use Rattle.fca_model.proofs.ListLemmas.{bool_iff}
 use Rattle.fca_model.proofs.SetLemmas.{within_trans, within_at_place, set_within}
-use Rattle.extent_blocks.specs.Blocks.{Part, IsExtent, IsExtentWith, in_parts, row_at, contains_at, has_at}
+use Rattle.extent_blocks.specs.Blocks.{NumberedBlock, IsExtent, IsExtentWith, in_blocks, row_at, contains_at, has_at}
 use Rattle.extent_blocks.proofs.ClosureSteps.{row_above}
 
 -- a larger set within the closure has the same rows
@@ -31,16 +31,16 @@ contains_with K A i inside up g = bool_iff (contains_at K A g && has_at K i g) (
     (within_at_place (set A i true) (row_at K g) q.1 i (get_or-set_same A i true false inside)))
 
 -- the extent of what contains A and i, and lies within the closure
-pub extent_larger : (K : Context) (A D : Set) (i : ℕ) (Ps : List Part) → IsExtent K A Ps → i < length A → within A (set A i true) ≡ true
+pub extent_larger : (K : Context) (A D : Set) (i : ℕ) (Ps : List NumberedBlock) → IsExtent K A Ps → i < length A → within A (set A i true) ≡ true
     → within (set A i true) D ≡ true → within D (closure K (set A i true)) ≡ true → IsExtentWith K D i Ps
 extent_larger K A D i Ps extent inside up above shared g =
     ap (λ b. b && has_at K i g) (extent g) ∙ contains_with K A i inside up g ∙ same_rows K (set A i true) D above shared g
 
-pub extent_shared : (K : Context) (D B : Set) (i : ℕ) (Ps : List Part) → IsExtentWith K D i Ps → within D B ≡ true
+pub extent_shared : (K : Context) (D B : Set) (i : ℕ) (Ps : List NumberedBlock) → IsExtentWith K D i Ps → within D B ≡ true
     → within B (closure K D) ≡ true → IsExtentWith K B i Ps
 extent_shared K D B i Ps extent up shared g = extent g ∙ same_rows K D B up shared g
 
 -- the places that are left
-pub extent_left : (K : Context) (B : Set) (i : ℕ) (Ps Qs : List Part) → IsExtentWith K B i Ps
-    → ((g : ℕ) → in_parts Qs g ≡ (in_parts Ps g && has_at K i g)) → IsExtent K B Qs
+pub extent_left : (K : Context) (B : Set) (i : ℕ) (Ps Qs : List NumberedBlock) → IsExtentWith K B i Ps
+    → ((g : ℕ) → in_blocks Qs g ≡ (in_blocks Ps g && has_at K i g)) → IsExtent K B Qs
 extent_left K B i Ps Qs extent left g = left g ∙ extent g

@@ -34,7 +34,7 @@ abbrev pub AreColumns : Context → List (List Set) → Type 0
 AreColumns K Cs = (i : ℕ) → i < K.width → IsColumn K i (slice_index_or Cs i [])
 
 -- some places of a block, with its number
-pub record Part : Type 0 where
+pub record NumberedBlock : Type 0 where
   pub number : ℕ
   pub objects : Set
 
@@ -42,17 +42,17 @@ pub record Part : Type 0 where
 abbrev pub in_block : ℕ → Set → ℕ → Bool
 in_block n O g = (n == g / 256) && slice_index_or O (g % 256) false
 
--- place g is in one of the parts
-abbrev pub in_parts : List Part → ℕ → Bool
-in_parts Ps g = list_any (λ x. in_block x.number x.objects g) Ps
+-- place g is in one of the blocks
+abbrev pub in_blocks : List NumberedBlock → ℕ → Bool
+in_blocks Ps g = list_any (λ x. in_block x.number x.objects g) Ps
 
 -- these are the places of the rows that contain A
-abbrev pub IsExtent : Context → Set → List Part → Type 0
-IsExtent K A Ps = (g : ℕ) → in_parts Ps g ≡ contains_at K A g
+abbrev pub IsExtent : Context → Set → List NumberedBlock → Type 0
+IsExtent K A Ps = (g : ℕ) → in_blocks Ps g ≡ contains_at K A g
 
 -- those of these whose rows have attribute i are the places of the rows that contain A
-abbrev pub IsExtentWith : Context → Set → ℕ → List Part → Type 0
-IsExtentWith K A i Ps = (g : ℕ) → (in_parts Ps g && has_at K i g) ≡ contains_at K A g
+abbrev pub IsExtentWith : Context → Set → ℕ → List NumberedBlock → Type 0
+IsExtentWith K A i Ps = (g : ℕ) → (in_blocks Ps g && has_at K i g) ≡ contains_at K A g
 
 -- M is a set on the way from all attributes down to the closure of A
 pub record IsMeeting (K : Context) (A M : Set) : Type 0 where

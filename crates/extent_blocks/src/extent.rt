@@ -4,7 +4,7 @@ ghost use Rattle.std.specs.Prelude.{◌≡◌, ◌≤◌, ◌<◌, ◌&&◌, ◌
 ghost use Rattle.std.specs.List.{list_any};
 ghost use Rattle.fca_model.specs.Sets.{within};
 ghost use Rattle.fca_model.specs.Context.{closure};
-ghost use Rattle.extent_blocks.specs.Blocks.{IsExtent, IsExtentWith, IsMeeting, IsMet, contains_at, has_at, in_block, in_column, in_parts};
+ghost use Rattle.extent_blocks.specs.Blocks.{IsExtent, IsExtentWith, IsMeeting, IsMet, contains_at, has_at, in_block, in_column, in_blocks};
 
 use crate::rows::{BLOCK, BlockSet, IndexedRows, places_above};
 use attr_bits::Bits;
@@ -33,9 +33,9 @@ pub struct BlockExtent {
 
 impl Model for BlockExtent {
     ghost use Rattle.std.specs.Prelude.{List, map};
-    ghost use Rattle.extent_blocks.specs.Blocks.{Part};
+    ghost use Rattle.extent_blocks.specs.Blocks.{NumberedBlock};
 
-    ghost Value = { List Part };
+    ghost Value = { List NumberedBlock };
 
     ghost view = { λ n. map (λ x. record { number = x.number; objects = x.objects }) n.blocks.items };
 }
@@ -72,13 +72,13 @@ impl BlockExtent {
         i: u32,
     ) -> Result<(), Memory>
         requires { i < indexed.now.width }
-        ensures { OnOk result ((g : ℕ) → in_parts self.new g ≡ (in_parts above.now g && has_at indexed.now i g)) }
+        ensures { OnOk result ((g : ℕ) → in_blocks self.new g ≡ (in_blocks above.now g && has_at indexed.now i g)) }
     {
         keep_in(&above.blocks, indexed.column(i), &mut self.blocks)
     }
 
     /// The closure of a, given that the places whose rows have attribute i are the extent of a.
-    pub fn closure_with<const W: usize>(
+    pub fn closure_among<const W: usize>(
         &self,
         indexed: &IndexedRows<W>,
         i: u32,
@@ -96,7 +96,7 @@ impl BlockExtent {
         self.closure_by_columns(indexed, i, a)
     }
 
-    /// The closure of a as `closure_with` gives it, by the meet of these rows one after another.
+    /// What `closure_among` gives, by the meet of these rows one after another. `meet_of_rows` finds it in the blocks; this says it of the extent.
     fn closure_by_rows<const W: usize>(
         &self,
         indexed: &IndexedRows<W>,
@@ -112,7 +112,7 @@ impl BlockExtent {
         meet_of_rows(&self.blocks, indexed.column(i), indexed.rows(), a)
     }
 
-    /// The closure of a as `closure_with` gives it, from few of these rows. As long as one of them lacks an attribute of the meet, it is met too.
+    /// What `closure_among` gives, from few of these rows. As long as one of them lacks an attribute of the meet, it is met too.
     fn closure_by_columns<const W: usize>(
         &self,
         indexed: &IndexedRows<W>,
@@ -136,7 +136,7 @@ impl BlockExtent {
         met
     }
 
-    /// A place whose row has attribute i and lacks k, or none if each row that has i has k.
+    /// A place whose row has attribute i and lacks k, or none if each row that has i has k. `first_lacking` finds it in the blocks; this says it of the extent.
     fn place_lacking<const W: usize>(
         &self,
         indexed: &IndexedRows<W>,
@@ -146,8 +146,8 @@ impl BlockExtent {
         requires inside { i < indexed.now.width }
         requires other { k < indexed.now.width }
         ensures { MatchOption result
-            ((g : ℕ) → in_parts self.now g ≡ true → has_at indexed.now i g ≡ true → has_at indexed.now k g ≡ true)
-            (λ g. (in_parts self.now g ≡ true) × (has_at indexed.now i g ≡ true) × (has_at indexed.now k g ≡ false)) }
+            ((g : ℕ) → in_blocks self.now g ≡ true → has_at indexed.now i g ≡ true → has_at indexed.now k g ≡ true)
+            (λ g. (in_blocks self.now g ≡ true) × (has_at indexed.now i g ≡ true) × (has_at indexed.now k g ≡ false)) }
     {
         let _objects = indexed.rows().len();
         first_lacking(&self.blocks, indexed.column(i), indexed.column(k))
@@ -161,10 +161,10 @@ impl Block {
             ((g : ℕ) → (in_block self.now.number self.now.objects g && in_column column.now g) ≡ false)
             (λ kept. (g : ℕ) → in_block kept.number kept.objects g ≡ (in_block self.now.number self.now.objects g && in_column column.now g)) }
     {
-        let Some(part) = column.get(self.number) else {
+        let Some(having) = column.get(self.number) else {
             return None;
         };
-        let objects = self.objects.meet(part);
+        let objects = self.objects.meet(having);
         match objects.next_member(0) {
             None => None,
             Some(_) => Some(Block {
@@ -300,8 +300,8 @@ fn keep_in(blocks: &[Block], column: &[BlockSet], kept: &mut Vec<Block>) -> Resu
 {
     kept.clear();
     for block in blocks {
-        if let Some(part) = block.meet(column) {
-            kept.push(part)?;
+        if let Some(fewer) = block.meet(column) {
+            kept.push(fewer)?;
         }
     }
     Ok(())

@@ -83,14 +83,6 @@ impl<const W: usize> ImplicationListOf<W> {
         })
     }
 
-    /// The list in as many words as an [`attr_bits::Attrs`].
-    pub fn widen(&self, alloc: Global) -> Result<ImplicationList, Memory>
-        ensures { IfOk result (λ list. list ≡ self.now) }
-    {
-        let _width = self.width();
-        self.resize(alloc)
-    }
-
     /// Puts the implication last.
     pub fn push(&mut self, i: ImplicationOf<W>) -> Result<(), Memory>
         requires premise { length i.premise ≡ self.old.width }

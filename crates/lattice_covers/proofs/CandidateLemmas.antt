@@ -1,4 +1,4 @@
--- How the upper neighbours of A are found. An intent B above A has a least attribute k that A lacks, and the closure of A with k lies
+-- How the next larger intents of A are found. An intent B above A has a least attribute k that A lacks, and the closure of A with k lies
 -- within B. The attributes are tried, the last first, and L has the members of A and the attributes that gave nothing. If the closure D of
 -- A with i has no new attributes but i and some of L, it is put into the list: no other set of the list lies within D, and D lies within
 -- none. Otherwise D has another new attribute j. If j is still to be tried, no intent above A has i as its least new attribute. If j gave

@@ -1,6 +1,6 @@
--- A list of intents above A of which each intent above A contains one, and none lies strictly within another, is the list of the upper
--- neighbours. An intent strictly between A and X contains a set of the list, and that lies strictly within X. An upper neighbour of A
--- contains a set of the list, and that lies strictly above A, so it is the neighbour itself.
+-- A list of intents above A of which each intent above A contains one, and none lies strictly within another, is the list of the next
+-- larger intents. An intent strictly between A and X contains a set of the list, and that lies strictly within X. A next larger intent of A
+-- contains a set of the list, and that lies strictly above A, so it is that intent itself.
 use Rattle.std.proofs.Common.{◌≡◌, Bool, true, not, ◌&&◌, List, filter, sym, ap, ◌∙◌, subst, inl, inr}
 use Rattle.std.proofs.lemmas.Bool.{false≢true, and_parts, and_from, cases_Bool}
 use Rattle.std.specs.List.{list_all}

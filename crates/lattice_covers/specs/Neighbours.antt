@@ -1,4 +1,4 @@
--- The links of a chain of intents, and the places of upper neighbours.
+-- The links of a chain of intents, and the places of their next larger intents.
 use Rattle.std.specs.Prelude.{◌≡◌, ◌≤◌, ℕ, true, List, length, map, All}
 use Rattle.std.specs.List.{prefix_len}
 use Rattle.std.specs.Ordering.{is_lt}

@@ -33,7 +33,7 @@ pub(crate) enum RowsAbove<const W: usize> {
     Few(Rc<FewRows<W>>, ObjectSet),
 }
 
-/// What is known of an intent while its upper neighbours and those of larger intents are looked for.
+/// What is known of an intent while its next larger intents and those of larger ones are looked for.
 #[derive(Drop)]
 pub(crate) struct Link<const W: usize> {
     /// The intent.

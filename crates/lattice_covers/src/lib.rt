@@ -1,4 +1,4 @@
-//! The covers among the intents of a context, found by upper neighbours.
+//! The covers among the intents of a context, found by the next larger intents of each.
 #![tactic(auto)]
 
 mod chain;
@@ -18,7 +18,7 @@ use lectic_concepts::resize_sets;
 use places::place_in;
 use std::alloc::Global;
 
-/// The pairs of places of intents of which the second is an upper neighbour of the first, ordered by the first and then the second. They are found in sets
+/// The pairs of places of intents of which the second is a next larger intent of the first, ordered by the first and then the second. They are found in sets
 /// as narrow as the table.
 pub fn covers(alloc: Global, rows: &Rows, intents: &[Attrs]) -> Result<Vec<(usize, usize)>, Memory>
     requires { intents.now ≡ closed_sets rows.now }
@@ -70,8 +70,8 @@ pub fn covers_of<const W: usize>(
     Ok(pairs)
 }
 
-/// Puts the upper neighbours of the intent into the list, in the place of what it had. The closure of the intent with one attribute more is such a neighbour,
-/// unless it has another new attribute that is still to be tried or that gave one already (Lindig, "Fast concept analysis", 2000).
+/// Puts the next larger intents into the list, in the place of what it had. The closure of the intent with one attribute more is one of them, unless it has
+/// another new attribute that is still to be tried or that gave one already (Lindig, "Fast concept analysis", 2000).
 fn find_neighbours<const W: usize>(
     neighbours: &mut Vec<Bits<W>>,
     rows: &RowsOf<W>,

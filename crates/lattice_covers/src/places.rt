@@ -11,7 +11,7 @@ use attr_bits::Bits;
 const WINDOW: usize = 64;
 
 /// How many of the sets, which are in lectic order, come before x. `latest` has for each attribute the place of the last set whose least new attribute it was:
-/// upper neighbours of intents that follow each other mostly follow each other too. The set at that place is compared with x before the place is given back.
+/// next larger intents of intents that follow each other mostly follow each other too. The set at that place is compared with x before the place is given back.
 pub(crate) fn place_in<const W: usize>(
     sets: &[Bits<W>],
     latest: &mut [usize],

@@ -14,7 +14,7 @@ use Rattle.fca_model.specs.Implications.{Rule, rule, respects, respects_all, hol
 use Rattle.fca_model.proofs.SetLemmas.{same-true, same_from, within_refl, within_trans, within_at_place, within_set}
 use Rattle.fca_model.proofs.ClosureLemmas.{length-closure, closure_extensive, respects_at}
 use Rattle.implication_closure.specs.Closing.{RuleList, IsClosure}
-use Rattle.extent_blocks.specs.Blocks.{Part, IsExtent, IsExtentWith}
+use Rattle.extent_blocks.specs.Blocks.{NumberedBlock, IsExtent, IsExtentWith}
 use Rattle.extent_blocks.proofs.ExtentLemmas.{extent_larger, extent_shared}
 use Rattle.lectic_basis.specs.Trees.{InFamily, IsLeastBehind, up_to, members_where, found_where}
 use Rattle.lectic_basis.specs.Walks.{IsVisit, IsBelow, IsTrying, HasFound, IsPart, IsPartBefore}
@@ -327,7 +327,7 @@ module _ {S : List Rule} {K L : Context} {A : Set} {i : ℕ} {G : Watched} (t : 
             (closed_respects_where S K (up_to (suc i) A) T
             (family_of_closed S K t.at.holds T (length-closure K (set A i true)) intent) intent)
 
-        pub below_extent : (Ps : List Part) → IsExtent K A Ps → IsExtentWith K C i Ps
+        pub below_extent : (Ps : List NumberedBlock) → IsExtent K A Ps → IsExtentWith K C i Ps
         below_extent Ps extent = extent_larger K A C i Ps extent (omega (arith, inside, t.at.family.wide))
             (within_set A i) closed.above below_shared
 
@@ -335,7 +335,7 @@ module _ {S : List Rule} {K L : Context} {A : Set} {i : ℕ} {G : Watched} (t : 
         below_wide = closed.wide ∙ length-set A i true ∙ t.at.family.wide
 
 -- what is told lies within the closure
-pub told_extent : (K : Context) (C : Set) (i : ℕ) (Ps : List Part) (told : Option Set) → IsExtentWith K C i Ps
+pub told_extent : (K : Context) (C : Set) (i : ℕ) (Ps : List NumberedBlock) (told : Option Set) → IsExtentWith K C i Ps
     → IfSome told (λ b. within C b ≡ true) → IfSome told (λ b. within b (closure K C) ≡ true) → IfSome told (λ b. IsExtentWith K b i Ps)
 told_extent K C i Ps None extent larger shared = larger
 told_extent K C i Ps (Some b) extent larger shared = extent_shared K C b i Ps extent larger shared

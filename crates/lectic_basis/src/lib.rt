@@ -32,15 +32,15 @@ pub fn known_with_basis(
     ensures { IfOk result (λ list. list ≡ record { width = rows.now.width; members = known.now.members ++ basis_known known.now.members rows.now }) }
 {
     match WordCount::of(rows.width()) {
-        WordCount::One => widen_basis(alloc, rows.resize::<1>(alloc)?, known),
-        WordCount::Two => widen_basis(alloc, rows.resize::<2>(alloc)?, known),
-        WordCount::Four => widen_basis(alloc, rows.resize::<4>(alloc)?, known),
-        WordCount::All => widen_basis(alloc, rows.copy()?, known),
+        WordCount::One => basis_in_all_words(alloc, rows.resize::<1>(alloc)?, known),
+        WordCount::Two => basis_in_all_words(alloc, rows.resize::<2>(alloc)?, known),
+        WordCount::Four => basis_in_all_words(alloc, rows.resize::<4>(alloc)?, known),
+        WordCount::All => basis_in_all_words(alloc, rows.copy()?, known),
     }
 }
 
 /// The known implications and the basis relative to them, found in W words and given in all words.
-fn widen_basis<const W: usize>(
+fn basis_in_all_words<const W: usize>(
     alloc: Global,
     rows: RowsOf<W>,
     known: &ImplicationList,
@@ -49,7 +49,9 @@ fn widen_basis<const W: usize>(
     requires holds { list_all (holds rows) known.now.members ≡ true }
     ensures { IfOk result (λ list. list ≡ record { width = rows.entry.width; members = known.now.members ++ basis_known known.now.members rows.entry }) }
 {
-    basis_in_words(alloc, rows, known)?.widen(alloc)
+    let list = basis_in_words(alloc, rows, known)?;
+    let _width = list.width();
+    list.resize(alloc)
 }
 
 /// The known implications, and behind them the basis relative to them, in lectic order of the premises, in sets of W words. (Ganter, "Two basic algorithms in

@@ -210,7 +210,7 @@ fn child_at<const W: usize>(
         note(&mut lists.forced, a, i, &reached, from, supports);
         return Ok(None);
     }
-    let closed = lists.near.closure_with(indexed, i, &reached);
+    let closed = lists.near.closure_among(indexed, i, &reached);
     let child = visit(indexed, known, found, &reached, &closed, i + 1)?;
     match child {
         None => {

@@ -33,9 +33,9 @@ impl Rules {
         ensures { IfOk result (λ rules. rules ≡ record { width = known.now.width; known = known.now.members; accepted = [] }) }
     {
         Ok(Rules {
-            known: copy_of(alloc, known)?,
+            known: known.copy(alloc)?,
             accepted: ImplicationList::new(alloc, known.width())?,
-            all: copy_of(alloc, known)?,
+            all: known.copy(alloc)?,
         })
     }
 
@@ -88,13 +88,4 @@ impl Rules {
             }
         }
     }
-}
-
-/// A copy of the list.
-fn copy_of(alloc: Global, list: &ImplicationList) -> Result<ImplicationList, Memory>
-    ensures { IfOk result (λ copy. copy ≡ list.now) }
-{
-    let mut copy = ImplicationList::new(alloc, list.width())?;
-    copy.extend_from_slice(list.as_slice())?;
-    Ok(copy)
 }

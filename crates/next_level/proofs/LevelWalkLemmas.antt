@@ -17,7 +17,7 @@ use Rattle.fca_model.proofs.SetLemmas.{same-true, same_from, within_at_place, wi
 use Rattle.fca_model.proofs.SetLemmas.{agree_at}
 use Rattle.fca_model.proofs.ClosureLemmas.{length-closure, closure_extensive, closure_monotone, closure_idempotent}
 use Rattle.implication_closure.specs.Closing.{RuleList, IsClosure}
-use Rattle.extent_blocks.specs.Blocks.{Part, IsExtent, IsExtentWith, in_parts, has_at}
+use Rattle.extent_blocks.specs.Blocks.{NumberedBlock, IsExtent, IsExtentWith, in_blocks, has_at}
 use Rattle.extent_blocks.proofs.ExtentLemmas.{extent_larger, extent_left}
 use Rattle.lectic_basis.specs.Trees.{before, up_to}
 use Rattle.next_level.specs.NextLevel.{IsLeastUnder, IsOpen, everything, open_where}
@@ -342,7 +342,7 @@ steady_push Ls i is = record { empty = λ e. absurd (push_some Ls i (sym is ∙ 
 -- ---- the rows near a set
 
 -- one attribute more
-pub extent_tried : (K : Context) (A : Set) (i : ℕ) (Ps : List Part) → IsExtent K A Ps → length A ≡ K.width → i < K.width → (X : Set)
+pub extent_tried : (K : Context) (A : Set) (i : ℕ) (Ps : List NumberedBlock) → IsExtent K A Ps → length A ≡ K.width → i < K.width → (X : Set)
     → X ≡ set A i true → IsExtentWith K X i Ps
 extent_tried K A i Ps extent wide inside X x = subst (λ Y. IsExtentWith K Y i Ps) (sym x)
     (extent_larger K A (set A i true) i Ps extent (omega (arith, wide, inside)) (within_set A i) (within_refl (set A i true))
@@ -361,8 +361,8 @@ module _ (K : Context) (A : Set) (i : ℕ) (D X : Set) (wide : length A ≡ K.wi
   closure_shared C closes shared = closes ∙ closure_between K X D (ap length x ∙ length-set A i true ∙ wide)
       (subst (λ Y. within Y D ≡ true) (sym x) above) (subst (λ Y. within D Y ≡ true) closes shared)
 
-  pub extent_below : (Ps Qs : List Part) → IsExtent K A Ps → i < K.width → (C : Set) → C ≡ closure K X → within D C ≡ true
-      → ((g : ℕ) → in_parts Qs g ≡ (in_parts Ps g && has_at K i g)) → IsExtent K D Qs
+  pub extent_below : (Ps Qs : List NumberedBlock) → IsExtent K A Ps → i < K.width → (C : Set) → C ≡ closure K X → within D C ≡ true
+      → ((g : ℕ) → in_blocks Qs g ≡ (in_blocks Ps g && has_at K i g)) → IsExtent K D Qs
   extent_below Ps Qs extent in_width C closes shared left = extent_left K D i Ps Qs
       (extent_larger K A D i Ps extent (omega (arith, wide, in_width)) (within_set A i) above
       (subst (λ Y. within D Y ≡ true) (closes ∙ ap (closure K) x) shared)) left

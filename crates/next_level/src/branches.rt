@@ -98,13 +98,13 @@ impl<const W: usize> Walk<W> {
         ensures steady { IfOk result (λ sets. sets.members.items ≡ [] → sets.bound ≡ limits.bound) }
     {
         let _width = self.list.width();
-        let mut found = self.rules_from(alloc, from)?;
+        let mut rules = self.rules_from(alloc, from)?;
         let mut seen = OpenSets::new(alloc, limits);
         let among = self.among.copy(alloc)?;
         enter_all(
             alloc,
             &self.indexed,
-            &mut found,
+            &mut rules,
             &mut seen,
             &self.least,
             from,
@@ -115,13 +115,13 @@ impl<const W: usize> Walk<W> {
 
     /// The implications that concern the sets which agree with the least one before attribute `from`. Each waits for an attribute that the least set lacks.
     fn rules_from(&self, alloc: Global, from: u32) -> Result<WatchedList<W>, Memory>
-        ensures list { IfOk result (λ found. found.list ≡ concerning from self.now.least self.now.list) }
-        ensures inside { IfOk result (λ found. (k : ℕ) → k ≤ self.now.indexed.width → IsInside self.now.indexed self.now.least k found) }
+        ensures list { IfOk result (λ rules. rules.list ≡ concerning from self.now.least self.now.list) }
+        ensures inside { IfOk result (λ rules. (k : ℕ) → k ≤ self.now.indexed.width → IsInside self.now.indexed self.now.least k rules) }
     {
         let _width = self.list.width();
         let list = self.list.concerning(alloc, &self.least, from)?;
-        let found = WatchedList::of_narrow(alloc, &list, &self.least)?;
-        Ok(found)
+        let rules = WatchedList::of_narrow(alloc, &list, &self.least)?;
+        Ok(rules)
     }
 
     /// The open sets of the branch of attribute i. The list gets one more implication: that they contain the least set of the branch. So nothing comes before it.
@@ -139,9 +139,9 @@ impl<const W: usize> Walk<W> {
         if self.among.passes(&self.least, i) {
             return Ok(seen);
         }
-        let mut found = self.rules_from(alloc, i)?;
+        let mut rules = self.rules_from(alloc, i)?;
         let mut reached = self.least.with(i);
-        if !close(&mut found, &self.least, &mut reached, i)? {
+        if !close(&mut rules, &self.least, &mut reached, i)? {
             return Ok(seen);
         }
         if reached.size() > limits.bound {
@@ -150,20 +150,20 @@ impl<const W: usize> Walk<W> {
         let part = child_among(
             alloc,
             indexed,
-            &found,
+            &rules,
             &self.least,
             i,
             &self.among,
             &reached,
         )?;
-        found.push_to_wait(
+        rules.push_to_wait(
             Implication {
                 premise: self.least,
                 conclusion: reached,
             },
             0,
         )?;
-        enter_all(alloc, indexed, &mut found, &mut seen, &reached, i + 1, part)?;
+        enter_all(alloc, indexed, &mut rules, &mut seen, &reached, i + 1, part)?;
         Ok(seen)
     }
 

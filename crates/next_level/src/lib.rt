@@ -59,21 +59,8 @@ pub fn next_level(alloc: Global, rows: &Rows, rules: &ImplicationList) -> Result
         → IfOk result (λ level. IsNextLevel known rows.now found level.size level.members.items) }
 {
     let nothing = Ahead::none(alloc, rows.width())?;
-    let opened = open_next(alloc, rows, rules, &nothing)?;
+    let opened = OneThread.open_next(alloc, rows, rules, &nothing)?;
     Ok(opened.level)
-}
-
-/// The next level, looked for among candidates if these are whole. It also returns candidates for later levels.
-pub fn open_next(
-    alloc: Global,
-    rows: &Rows,
-    rules: &ImplicationList,
-    ahead: &Ahead,
-) -> Result<FoundLevel, Memory>
-    requires { CanOpen rows.now rules.now ahead.now }
-    ensures { IfOk result (λ opened. IsOpened rows.now rules.now opened.level.size opened.level.members.items opened.ahead) }
-{
-    open_next_by(&OneThread, alloc, rows, rules, ahead)
 }
 
 /// The next level by a walker, in sets as narrow as the table.

@@ -23,7 +23,7 @@ const MOST: u32 = 32;
 
 /// A way to look for the next level.
 pub trait LevelSearch {
-    /// The next level that has a member, as `open_next` has it.
+    /// The next level that has a member, looked for among candidates if these are whole. It also returns candidates for later levels.
     fn open_next(
         &self,
         alloc: Global,
@@ -51,11 +51,11 @@ impl LevelSearch for OneThread {
     }
 }
 
-/// Several threads share the branches if there is enough to do and more than one processor. Otherwise the thread that asks looks for the level.
+/// Several threads share the branches if there is enough to do and `most_threads` is more than one. Otherwise the thread that asks looks for the level.
 #[derive(Drop)]
 pub struct SideBySide<'a, R> {
     pub rt: &'a R,
-    pub processors: u32,
+    pub most_threads: u32,
 }
 
 impl<'a, R: Threads> LevelSearch for SideBySide<'a, R> {
@@ -75,7 +75,7 @@ impl<'a, R: Threads> SideBySide<'a, R> {
     fn branches(&self, width: u32) -> u32
         ensures { result ≤ width }
     {
-        self.processors
+        self.most_threads
             .saturating_mul(PARTS)
             .min(MOST)
             .saturating_sub(1)
@@ -99,7 +99,7 @@ impl<'a, R: Threads, const W: usize> Walker<W> for SideBySide<'a, R> {
         ensures listed { IfOk result (λ sets. sets.members.items ≡ open_where walk.now.list.members walk.now.indexed sets.bound everything) }
         ensures steady { IfOk result (λ sets. sets.members.items ≡ [] → sets.bound ≡ limits.bound) }
     {
-        if self.processors > 1 && walk.pays(limits) {
+        if self.most_threads > 1 && walk.pays(limits) {
             let branches = self.branches(walk.indexed.rows().width());
             let all = walk.open_parts(self.rt, alloc, branches, limits)?;
             return Ok(all);

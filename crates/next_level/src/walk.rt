@@ -42,30 +42,30 @@ pub(crate) struct Child<const W: usize> {
 pub(crate) fn enter_all<const W: usize>(
     alloc: Global,
     indexed: &IndexedRows<W>,
-    found: &mut WatchedList<W>,
-    level: &mut OpenSets<W>,
+    rules: &mut WatchedList<W>,
+    seen: &mut OpenSets<W>,
     a: &Bits<W>,
     from: u32,
     among: Among<W>,
 ) -> Result<(), Memory>
-    requires entered { IsEntered indexed.now a.now from found.old level.old.bound level.old.members.items }
-    requires small { size a.now ≤ level.old.bound }
-    requires among { AreAmong found.old.list.members indexed.now a.now from among.whole among.sets.items }
-    ensures level { OnOk result (HasLevel indexed.now a.now from found.old found.new level.new.bound level.new.members.items) }
-    ensures steady { OnOk result (IsSteady level.old.bound level.old.members.items level.new.bound level.new.members.items) }
+    requires entered { IsEntered indexed.now a.now from rules.old seen.old.bound seen.old.members.items }
+    requires small { size a.now ≤ seen.old.bound }
+    requires among { AreAmong rules.old.list.members indexed.now a.now from among.whole among.sets.items }
+    ensures level { OnOk result (HasLevel indexed.now a.now from rules.old rules.new seen.new.bound seen.new.members.items) }
+    ensures steady { OnOk result (IsSteady seen.old.bound seen.old.members.items seen.new.bound seen.new.members.items) }
 {
-    let _width = found.width();
+    let _width = rules.width();
     let closed = indexed.rows().closure(a);
-    if enter(alloc, indexed, found, level, a, &closed, from)? {
+    if enter(alloc, indexed, rules, seen, a, &closed, from)? {
         let near = BlockExtent::of(alloc, indexed, a)?;
         let first = Step {
             set: *a,
             from,
-            end: found.width(),
+            end: rules.width(),
             near,
             among,
         };
-        return visit_below(alloc, indexed, found, level, first);
+        return visit_below(alloc, indexed, rules, seen, first);
     }
     Ok(())
 }
@@ -75,22 +75,22 @@ pub(crate) fn enter_all<const W: usize>(
 fn visit_below<const W: usize>(
     alloc: Global,
     indexed: &IndexedRows<W>,
-    found: &mut WatchedList<W>,
-    level: &mut OpenSets<W>,
+    rules: &mut WatchedList<W>,
+    seen: &mut OpenSets<W>,
     first: Step<W>,
 ) -> Result<(), Memory>
-    requires { IsStep indexed.now first found.old found.old level.old.bound level.old.members.items }
-    ensures level { OnOk result (HasLevel indexed.now first.entry.set first.entry.from found.old found.new level.new.bound level.new.members.items) }
-    ensures steady { OnOk result (IsSteady level.old.bound level.old.members.items level.new.bound level.new.members.items) }
+    requires { IsStep indexed.now first rules.old rules.old seen.old.bound seen.old.members.items }
+    ensures level { OnOk result (HasLevel indexed.now first.entry.set first.entry.from rules.old rules.new seen.new.bound seen.new.members.items) }
+    ensures steady { OnOk result (IsSteady seen.old.bound seen.old.members.items seen.new.bound seen.new.members.items) }
 {
-    let _width = found.width();
+    let _width = rules.width();
     let mut steps = vec![in alloc; first]?;
     while let Some(mut step) = steps.pop() {
-        let child = next_child(alloc, indexed, found, level, &step)?;
+        let child = next_child(alloc, indexed, rules, seen, &step)?;
         let Some(child) = child else {
             continue;
         };
-        let below = step_below(alloc, indexed, found, &step, &child)?;
+        let below = step_below(alloc, indexed, rules, &step, &child)?;
         step.end = child.attribute;
         steps.push(step)?;
         steps.push(below)?;
@@ -102,20 +102,20 @@ fn visit_below<const W: usize>(
 fn next_child<const W: usize>(
     alloc: Global,
     indexed: &IndexedRows<W>,
-    found: &mut WatchedList<W>,
-    level: &mut OpenSets<W>,
+    rules: &mut WatchedList<W>,
+    seen: &mut OpenSets<W>,
     step: &Step<W>,
 ) -> Result<Option<Child<W>>, Memory>
-    requires { IsStep indexed.now step.now found.old found.old level.old.bound level.old.members.items }
+    requires { IsStep indexed.now step.now rules.old rules.old seen.old.bound seen.old.members.items }
     ensures child { IfOk result (λ child. MatchOption child
-        (HasLevel indexed.now step.now.set step.now.from found.old found.new level.new.bound level.new.members.items)
-        (IsChild indexed.now step.now found.old found.new level.new.bound level.new.members.items)) }
+        (HasLevel indexed.now step.now.set step.now.from rules.old rules.new seen.new.bound seen.new.members.items)
+        (IsChild indexed.now step.now rules.old rules.new seen.new.bound seen.new.members.items)) }
     ensures below { IfOk result (λ child. IfSome child (IsBelow step.now)) }
-    ensures steady { OnOk result (IsSteady level.old.bound level.old.members.items level.new.bound level.new.members.items) }
+    ensures steady { OnOk result (IsSteady seen.old.bound seen.old.members.items seen.new.bound seen.new.members.items) }
 {
-    let _width = found.width();
+    let _width = rules.width();
     for i in (step.from..step.end).rev() {
-        if let Some(set) = child_at(alloc, indexed, found, level, step, i)? {
+        if let Some(set) = child_at(alloc, indexed, rules, seen, step, i)? {
             return Ok(Some(Child { set, attribute: i }));
         }
     }
@@ -126,7 +126,7 @@ fn next_child<const W: usize>(
 fn step_below<const W: usize>(
     alloc: Global,
     indexed: &IndexedRows<W>,
-    found: &WatchedList<W>,
+    rules: &WatchedList<W>,
     step: &Step<W>,
     child: &Child<W>,
 ) -> Result<Step<W>, Memory>
@@ -134,12 +134,12 @@ fn step_below<const W: usize>(
     requires inside { child.now.attribute < indexed.now.width }
     requires below { IsBelow step.now child.now }
     requires near { IsExtent indexed.now step.now.set step.now.near }
-    requires among { AreAmong found.now.list.members indexed.now step.now.set step.now.from step.now.among.whole step.now.among.sets.items }
-    ensures { IfOk result (IsBegun indexed.now found.now child.now) }
+    requires among { AreAmong rules.now.list.members indexed.now step.now.set step.now.from step.now.among.whole step.now.among.sets.items }
+    ensures { IfOk result (IsBegun indexed.now rules.now child.now) }
 {
-    let _width = found.width();
+    let _width = rules.width();
     let i = child.attribute;
-    let among = child_among(alloc, indexed, found, &step.set, i, &step.among, &child.set)?;
+    let among = child_among(alloc, indexed, rules, &step.set, i, &step.among, &child.set)?;
     let near = near_below(alloc, indexed, &step.near, &step.set, i, &child.set)?;
     Ok(Step {
         set: child.set,
@@ -155,25 +155,25 @@ fn step_below<const W: usize>(
 fn child_at<const W: usize>(
     alloc: Global,
     indexed: &IndexedRows<W>,
-    found: &mut WatchedList<W>,
-    level: &mut OpenSets<W>,
+    rules: &mut WatchedList<W>,
+    seen: &mut OpenSets<W>,
     step: &Step<W>,
     i: u32,
 ) -> Result<Option<Bits<W>>, Memory>
-    requires trying { IsTrying indexed.now step.now.set i found.old level.old.bound level.old.members.items }
-    requires among { AreAmong found.old.list.members indexed.now step.now.set i step.now.among.whole step.now.among.sets.items }
+    requires trying { IsTrying indexed.now step.now.set i rules.old seen.old.bound seen.old.members.items }
+    requires among { AreAmong rules.old.list.members indexed.now step.now.set i step.now.among.whole step.now.among.sets.items }
     requires near { IsExtent indexed.now step.now.set step.now.near }
-    ensures left { IfOk result (λ child. IfSome child (λ b. IsLeft indexed.now b (i + 1) found.new level.new.bound level.new.members.items)) }
+    ensures left { IfOk result (λ child. IfSome child (λ b. IsLeft indexed.now b (i + 1) rules.new seen.new.bound seen.new.members.items)) }
     ensures larger { IfOk result (λ child. IfSome child (λ b. within (slice_set step.now.set i true) b ≡ true)) }
     ensures agree { IfOk result (λ child. IfSome child (λ b. agree_before i step.now.set b ≡ true)) }
     ensures lacks { IfOk result (λ child. IfSome child (λ b. slice_index_or step.now.set i false ≡ false)) }
-    ensures list { OnOk result (found.new.list ≡ found.old.list) }
+    ensures list { OnOk result (rules.new.list ≡ rules.old.list) }
     ensures done { IfOk result (λ child. MatchOption child
-        (HasLevel indexed.now step.now.set i found.old found.new level.new.bound level.new.members.items)
-        (λ b. (new : Watched) (size : ℕ) (members : List Rule) → HasLevel indexed.now b (i + 1) found.new new size members → HasLevel indexed.now step.now.set i found.old new size members)) }
-    ensures steady { OnOk result (IsSteady level.old.bound level.old.members.items level.new.bound level.new.members.items) }
+        (HasLevel indexed.now step.now.set i rules.old rules.new seen.new.bound seen.new.members.items)
+        (λ b. (new : Watched) (size : ℕ) (members : List Rule) → HasLevel indexed.now b (i + 1) rules.new new size members → HasLevel indexed.now step.now.set i rules.old new size members)) }
+    ensures steady { OnOk result (IsSteady seen.old.bound seen.old.members.items seen.new.bound seen.new.members.items) }
 {
-    let _width = found.width();
+    let _width = rules.width();
     let a = &step.set;
     if a.has(i) {
         return Ok(None);
@@ -182,14 +182,14 @@ fn child_at<const W: usize>(
         return Ok(None);
     }
     let mut reached = a.with(i);
-    if !close(found, a, &mut reached, i)? {
+    if !close(rules, a, &mut reached, i)? {
         return Ok(None);
     }
-    if reached.size() > level.bound {
+    if reached.size() > seen.bound {
         return Ok(None);
     }
     let closed = closure_near(indexed, &step.near, a, i, &reached);
-    if enter(alloc, indexed, found, level, &reached, &closed, i + 1)? {
+    if enter(alloc, indexed, rules, seen, &reached, &closed, i + 1)? {
         return Ok(Some(reached));
     }
     Ok(None)
@@ -199,7 +199,7 @@ fn child_at<const W: usize>(
 pub(crate) fn child_among<const W: usize>(
     alloc: Global,
     indexed: &IndexedRows<W>,
-    found: &WatchedList<W>,
+    rules: &WatchedList<W>,
     a: &Bits<W>,
     i: u32,
     among: &Among<W>,
@@ -207,13 +207,13 @@ pub(crate) fn child_among<const W: usize>(
 ) -> Result<Among<W>, Memory>
     requires inside { i < indexed.now.width }
     requires wide { length a.now ≡ indexed.now.width }
-    requires among { AreAmong found.now.list.members indexed.now a.now i among.now.whole among.now.sets.items }
+    requires among { AreAmong rules.now.list.members indexed.now a.now i among.now.whole among.now.sets.items }
     requires lacks { slice_index_or a.now i false ≡ false }
     requires larger { within (slice_set a.now i true) child.now ≡ true }
     requires agree { agree_before i a.now child.now ≡ true }
-    ensures { IfOk result (λ part. AreAmong found.now.list.members indexed.now child.now (i + 1) part.whole part.sets.items) }
+    ensures { IfOk result (λ part. AreAmong rules.now.list.members indexed.now child.now (i + 1) part.whole part.sets.items) }
 {
-    let _width = found.width();
+    let _width = rules.width();
     let part = among.branch(alloc, a, i)?;
     Ok(part)
 }
@@ -222,34 +222,34 @@ pub(crate) fn child_among<const W: usize>(
 fn enter<const W: usize>(
     alloc: Global,
     indexed: &IndexedRows<W>,
-    found: &WatchedList<W>,
-    level: &mut OpenSets<W>,
+    rules: &WatchedList<W>,
+    seen: &mut OpenSets<W>,
     a: &Bits<W>,
     closed: &Bits<W>,
     from: u32,
 ) -> Result<bool, Memory>
-    requires entered { IsEntered indexed.now a.now from found.now level.old.bound level.old.members.items }
-    requires small { size a.now ≤ level.old.bound }
+    requires entered { IsEntered indexed.now a.now from rules.now seen.old.bound seen.old.members.items }
+    requires small { size a.now ≤ seen.old.bound }
     requires closed { closed.now ≡ closure indexed.now a.now }
-    ensures left { IfOk result (λ left. left ≡ true → IsLeft indexed.now a.now from found.now level.new.bound level.new.members.items) }
-    ensures done { IfOk result (λ left. left ≡ false → HasLevel indexed.now a.now from found.now found.now level.new.bound level.new.members.items) }
-    ensures steady { OnOk result (IsSteady level.old.bound level.old.members.items level.new.bound level.new.members.items) }
+    ensures left { IfOk result (λ left. left ≡ true → IsLeft indexed.now a.now from rules.now seen.new.bound seen.new.members.items) }
+    ensures done { IfOk result (λ left. left ≡ false → HasLevel indexed.now a.now from rules.now rules.now seen.new.bound seen.new.members.items) }
+    ensures steady { OnOk result (IsSteady seen.old.bound seen.old.members.items seen.new.bound seen.new.members.items) }
 {
-    let _width = found.width();
-    level.visit(alloc)?;
+    let _width = rules.width();
+    seen.visit(alloc)?;
     let count = a.size();
-    if count > level.bound {
+    if count > seen.bound {
         return Ok(false);
     }
     if closed == a {
-        return Ok(count < level.bound);
+        return Ok(count < seen.bound);
     }
-    level.make_room(alloc, count)?;
-    level.members.push(Implication {
+    seen.make_room(alloc, count)?;
+    seen.members.push(Implication {
         premise: *a,
         conclusion: *closed,
     })?;
-    Ok(count < level.bound)
+    Ok(count < seen.bound)
 }
 
 /// The closure of a set that contains a and attribute i, by the rows that contain a.
@@ -269,7 +269,7 @@ fn closure_near<const W: usize>(
 {
     let _width = indexed.rows().width();
     let tried = a.with(i);
-    let shared = near.closure_with(indexed, i, &tried);
+    let shared = near.closure_among(indexed, i, &tried);
     if larger.within(&shared) {
         return shared;
     }
@@ -318,6 +318,6 @@ fn is_shared<const W: usize>(
     if larger.within(&tried) {
         return true;
     }
-    let shared = near.closure_with(indexed, i, &tried);
+    let shared = near.closure_among(indexed, i, &tried);
     larger.within(&shared)
 }

@@ -12,7 +12,7 @@ use Rattle.fca_model.specs.Implications.{Rule, respects, holds}
 use Rattle.fca_model.proofs.SetLemmas.{within_set, within_refl, within_trans, set_within}
 use Rattle.fca_model.proofs.ClosureLemmas.{within-closure, closure_extensive}
 use Rattle.attr_bits.proofs.PlaceLemmas.{member_below}
-use Rattle.extent_blocks.specs.Blocks.{Part, IsExtent, IsExtentWith}
+use Rattle.extent_blocks.specs.Blocks.{NumberedBlock, IsExtent, IsExtentWith}
 use Rattle.extent_blocks.proofs.ExtentLemmas.{extent_larger}
 use Rattle.oracle_expert.specs.Oracles.{is_counterexample}
 
@@ -37,7 +37,7 @@ no_counterexample K i cs wide h = position_from-zero (is_counterexample i) (zip 
     ∙ respecting_none i K.rows cs (sym (within-closure K i.premise i.conclusion wide) ∙ h) 0
 
 -- of the rows that contain a set each has each of its attributes
-pub extent_with_own : (K : Context) (P : Set) (i : ℕ) (Ps : List Part) → length P ≡ K.width → get_or P i false ≡ true → IsExtent K P Ps
+pub extent_with_own : (K : Context) (P : Set) (i : ℕ) (Ps : List NumberedBlock) → length P ≡ K.width → get_or P i false ≡ true → IsExtent K P Ps
     → IsExtentWith K P i Ps
 extent_with_own K P i Ps wide has extent =
     let up : within P (set P i true) ≡ true = within_set P i in

@@ -165,7 +165,7 @@ fn is_seen_to_hold<const W: usize>(
         return false;
     };
     match BlockExtent::of(alloc, indexed, premise) {
-        Ok(near) => conclusion.within(&near.closure_with(indexed, i, premise)),
+        Ok(near) => conclusion.within(&near.closure_among(indexed, i, premise)),
         Err(_) => false,
     }
 }

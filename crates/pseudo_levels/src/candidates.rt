@@ -115,12 +115,5 @@ fn in_order(alloc: Global, sets: &BTreeSet<Attrs>) -> Result<Vec<Attrs>, Memory>
     ensures ordered { IfOk result (λ all. increasing all.items ≡ true) }
 {
     let _count = sets.len();
-    sets_of(alloc, sets)
-}
-
-/// The sets in their order.
-fn sets_of(alloc: Global, sets: &BTreeSet<Attrs>) -> Result<Vec<Attrs>, Memory>
-    ensures { IfOk result (λ all. all.items ≡ sets.now.keys) }
-{
     Ok(sets.iter().copied().collect(alloc)?)
 }

@@ -6,7 +6,7 @@ use Rattle.std.proofs.Common.{Option}
 use Rattle.atomic_table.specs.Seated.{TableId}
 use Rattle.atomic_table.specs.declared.shared.Seat.{Seat}
 use Rattle.turn_lock.specs.declared.view.View.{View}
-use Rattle.turn_lock.specs.declared.view.Left.{Left}
+use Rattle.turn_lock.specs.declared.view.JoinedPass.{JoinedPass}
 use Rattle.turn_lock.specs.Histories.{Among}
 use Rattle.turn_lock.specs.Steps.{one_more, newcomer, joined_with}
 use Rattle.turn_lock.specs.Passes.{Known, badge, badges, IsFresh}
@@ -66,7 +66,7 @@ module _ {B E : Type 0} where
   stays_one v [] = (refl, refl, refl, refl, omega arith)
   stays_one v (p ∷ ps) = let h = stays_one (gathered v p) ps in let s = h.4 in (h.0, h.1, h.2, h.3, omega arith)
 
-  pub keeps_joined : (v : View B E) (ps : List (Known B E)) (left : Left E) → Among v.joined left → Among (all_gathered v ps).joined left
+  pub keeps_joined : (v : View B E) (ps : List (Known B E)) (left : JoinedPass E) → Among v.joined left → Among (all_gathered v ps).joined left
   keeps_joined v [] left a = a
   keeps_joined v (p ∷ ps) left a = keeps_joined (gathered v p) ps left
       (among_left v.joined (record { number = p.number; own = p.own } ∷ []) left a)

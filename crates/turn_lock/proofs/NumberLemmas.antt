@@ -10,7 +10,7 @@ use native.Mathlib.Decide.{ℕ_discrete}
 use lib.ListN.{get_elem?}
 use Rattle.atomic_table.proofs.Lists.{set_here, set_else}
 use Rattle.turn_lock.specs.declared.view.View.{View}
-use Rattle.turn_lock.specs.declared.view.Left.{Left}
+use Rattle.turn_lock.specs.declared.view.JoinedPass.{JoinedPass}
 use Rattle.turn_lock.specs.Histories.{own_of}
 use Rattle.turn_lock.specs.Turns.{First, Knows, Keeps, Numbers}
 use Rattle.turn_lock.proofs.ViewLemmas.{inside, same_at, after, after_end, only}
@@ -18,7 +18,7 @@ use Rattle.turn_lock.proofs.HistoryLemmas.{own_of-others, among_append}
 
 module _ {B E : Type 0} where
   -- the view of pass 1, after a view changes in its turn or its tickets
-  pub First-kept : (made : ℕ) (gone : List (Left E)) (histories : List (List E)) (vs : List (View B E)) (id : ℕ) (v w : View B E)
+  pub First-kept : (made : ℕ) (gone : List (JoinedPass E)) (histories : List (List E)) (vs : List (View B E)) (id : ℕ) (v w : View B E)
       → get_elem? vs id ≡ some v
       → w.number ≡ v.number → w.passes ≡ v.passes → w.joined ≡ v.joined → w.shown ≡ v.shown → First made gone histories vs
       → First made gone histories (set vs id w)
@@ -35,7 +35,7 @@ module _ {B E : Type 0} where
 
 module _ {B E : Type 0} (by : E → ℕ) where
   -- the history grows by entries of one pass
-  pub Numbers-grown : (b : B) (turns made : ℕ) (log es : List E) (gone : List (Left E)) (vs : List (View B E)) (id : ℕ) (v w : View B E)
+  pub Numbers-grown : (b : B) (turns made : ℕ) (log es : List E) (gone : List (JoinedPass E)) (vs : List (View B E)) (id : ℕ) (v w : View B E)
       → get_elem? vs id ≡ some v → 0 < v.number
       → w.number ≡ v.number → w.base ≡ v.base → w.turns ≡ v.turns → 0 < w.stands → w.own ≡ own_of by v.number (log ++ es)
       → ((k : ℕ) → k ≢ v.number → own_of by k es ≡ [])
@@ -72,7 +72,7 @@ module _ {B E : Type 0} (by : E → ℕ) where
       }
 
   -- a view changes, and the history does not
-  pub Numbers-kept : (b : B) (turns made : ℕ) (log : List E) (gone : List (Left E)) (vs : List (View B E)) (id : ℕ) (v w : View B E)
+  pub Numbers-kept : (b : B) (turns made : ℕ) (log : List E) (gone : List (JoinedPass E)) (vs : List (View B E)) (id : ℕ) (v w : View B E)
       → get_elem? vs id ≡ some v → 0 < v.number
       → w.number ≡ v.number → w.base ≡ v.base → w.turns ≡ v.turns → 0 < w.stands → w.own ≡ v.own
       → Numbers by b turns made log gone vs → Numbers by b turns made log gone (set vs id w)
@@ -82,7 +82,7 @@ module _ {B E : Type 0} (by : E → ℕ) where
       (ow ∙ ((r.own id v at pos).4 ∙ ap (own_of by v.number) (sym (append-nil log)))) (λ k _. refl) r)
 
   -- one more pass is made
-  pub Numbers-longer : (b : B) (turns made : ℕ) (log : List E) (gone : List (Left E)) (vs : List (View B E)) (w : View B E)
+  pub Numbers-longer : (b : B) (turns made : ℕ) (log : List E) (gone : List (JoinedPass E)) (vs : List (View B E)) (w : View B E)
       → w.number ≡ made + 1 → w.base ≡ Some b → w.turns ≡ turns → 0 < w.stands → w.own ≡ []
       → Numbers by b turns made log gone vs → Numbers by b turns (made + 1) log gone (vs ++ w ∷ [])
   Numbers-longer b turns made log gone vs w n bs ts st ow r = record {
@@ -106,7 +106,7 @@ module _ {B E : Type 0} (by : E → ℕ) where
   }
 
   -- a pass is joined away
-  pub Numbers-left : (b : B) (turns made : ℕ) (log : List E) (gone : List (Left E)) (vs : List (View B E)) (id : ℕ) (w x : View B E)
+  pub Numbers-left : (b : B) (turns made : ℕ) (log : List E) (gone : List (JoinedPass E)) (vs : List (View B E)) (id : ℕ) (w x : View B E)
       → get_elem? vs id ≡ some w → 0 < w.number → x.number ≡ 0
       → Numbers by b turns made log gone vs → Numbers by b turns made log (gone ++ record { number = w.number; own = w.own } ∷ [])
       (set vs id x)
@@ -122,7 +122,7 @@ module _ {B E : Type 0} (by : E → ℕ) where
               after (λ i (u : View B E). u.number ≢ left.number) vs id x (λ e. absurd (omega arith))
                   (λ j u o there. q.3 j u there),
             ))
-            (λ new. ⊎_elim (λ e. subst (λ (left : Left E). Keeps by made log (set vs id x) left) e (
+            (λ new. ⊎_elim (λ e. subst (λ (left : JoinedPass E). Keeps by made log (set vs id x) left) e (
               pos,
               k.3,
               k.4,

@@ -14,7 +14,7 @@ use Rattle.atomic_table.specs.Table.{State, Me, step, keeps, takes, gives, stepp
 use Rattle.atomic_table.proofs.Lists.{set_again, set_here, set_else, at_longer}
 use Rattle.fca_model.specs.declared.TheConstants.{MAX_TURNS}
 use Rattle.turn_lock.specs.declared.view.View.{View}
-use Rattle.turn_lock.specs.declared.view.Left.{Left}
+use Rattle.turn_lock.specs.declared.view.JoinedPass.{JoinedPass}
 use Rattle.turn_lock.specs.Histories.{StartsWith, own_of, Among}
 use Rattle.turn_lock.specs.Turns.{Tickets, HasTicket, Numbers, Slot, Turned}
 use Rattle.turn_lock.specs.Steps.{Drew, Came, Ended, Grew, first_view, one_more, newcomer, joined_with, spent_view, ended_view}
@@ -341,7 +341,7 @@ module _ {V B E : Type 0} (base_of : V → B) (history_of : V → List E) (legal
       let drawn : ℕ = get_or s.words 0 0 in
       let here : get_elem? (set vs other x) id ≡ some v' = set_else vs other id x (λ e. ne (sym e))
       ∙ set_here s.views id v' (inside s.views id v at) in
-      let left : Left E = record { number = w.number; own = w.own } in
+      let left : JoinedPass E = record { number = w.number; own = w.own } in
       record {
         log = r.log;
         made = r.made;
@@ -383,7 +383,7 @@ module _ {V B E : Type 0} (base_of : V → B) (history_of : V → List E) (legal
       → (value : V) × (s.homes ≡ some value ∷ []) × (base_of value ≡ b) × legal b (history_of value) × StartsWith (history_of value) v.seen
       × ((h : List E) → Among v.shown h → StartsWith (history_of value) h)
       × (v.own ≡ own_of by 1 (history_of value))
-      × ((left : Left E) → Among v.joined left → left.own ≡ own_of by left.number (history_of value))
+      × ((left : JoinedPass E) → Among v.joined left → left.own ≡ own_of by left.number (history_of value))
       × ((n : ℕ) → (n ≡ 0) ⊎ (v.passes < n) → own_of by n (history_of value) ≡ [])
   closes b turns id v s r at is all idle =
       let pos : 0 < v.number = omega arith in

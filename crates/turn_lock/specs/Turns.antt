@@ -7,7 +7,7 @@ use lib.ListN.{get_elem?}
 use Rattle.atomic_table.specs.Table.{State}
 use Rattle.fca_model.specs.declared.TheConstants.{MAX_TURNS}
 use Rattle.turn_lock.specs.declared.view.View.{View}
-use Rattle.turn_lock.specs.declared.view.Left.{Left}
+use Rattle.turn_lock.specs.declared.view.JoinedPass.{JoinedPass}
 use Rattle.turn_lock.specs.Histories.{StartsWith, own_of, Among, total}
 
 -- the seat i has this view
@@ -36,7 +36,7 @@ module _ {B E : Type 0} where
     pub few : (made ≤ 64) × (turns ≤ MAX_TURNS)
 
   -- the view of pass 1 has the number of passes made, the passes joined to it, and what these had seen
-  abbrev pub First : ℕ → List (Left E) → List (List E) → List (View B E) → Type 0
+  abbrev pub First : ℕ → List (JoinedPass E) → List (List E) → List (View B E) → Type 0
   First made gone histories views = (v : View B E) × Sits views 0 v × (v.number ≡ 1) × (v.passes ≡ made) × (v.joined ≡ gone)
       × (v.shown ≡ histories)
 
@@ -50,14 +50,14 @@ module _ {B E : Type 0} (by : E → ℕ) where
   Knows b turns made log v = (v.base ≡ Some b) × (v.turns ≡ turns) × (0 < v.stands) × (v.number ≤ made) × (v.own ≡ own_of by v.number log)
 
   -- what is kept of a pass that was joined away: the entries by its number, which no other view has
-  abbrev pub Keeps : ℕ → List E → List (View B E) → Left E → Type 0
-  Keeps made log views left = (0 < left.number) × (left.number ≤ made) × (left.own ≡ own_of by left.number log)
-      × ((i : ℕ) (v : View B E) → Sits views i v → v.number ≢ left.number)
+  abbrev pub Keeps : ℕ → List E → List (View B E) → JoinedPass E → Type 0
+  Keeps made log views pass = (0 < pass.number) × (pass.number ≤ made) × (pass.own ≡ own_of by pass.number log)
+      × ((i : ℕ) (v : View B E) → Sits views i v → v.number ≢ pass.number)
 
   -- whose entries are in the history
-  pub record Numbers (b : B) (turns made : ℕ) (log : List E) (gone : List (Left E)) (views : List (View B E)) : Type 0 where
+  pub record Numbers (b : B) (turns made : ℕ) (log : List E) (gone : List (JoinedPass E)) (views : List (View B E)) : Type 0 where
     pub own : (i : ℕ) (v : View B E) → Sits views i v → 0 < v.number → Knows b turns made log v
-    pub kept : (left : Left E) → Among gone left → Keeps made log views left
+    pub kept : (pass : JoinedPass E) → Among gone pass → Keeps made log views pass
     -- numbers differ
     pub differ : (i j : ℕ) (v w : View B E) → Sits views i v → Sits views j w → 0 < v.number → v.number ≡ w.number → i ≡ j
     -- a number that no pass was made with is in no entry
@@ -78,7 +78,7 @@ module _ {V B E : Type 0} (base_of : V → B) (history_of : V → List E) (legal
     -- the history, the number of passes made, and what the view of pass 1 keeps of those joined to it
     pub log : List E
     pub made : ℕ
-    pub gone : List (Left E)
+    pub gone : List (JoinedPass E)
     pub histories : List (List E)
     pub first : First made gone histories s.views
     pub words : length s.words ≡ 2

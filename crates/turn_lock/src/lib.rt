@@ -20,4 +20,4 @@ pub use fault::TurnFault;
 pub use lock::TurnLock;
 pub use logged::Logged;
 pub use pass::Pass;
-pub use view::{Left, View};
+pub use view::View;

@@ -104,11 +104,11 @@ impl<V: Logged> TurnLock<V> {
         self.with_turn_by(rt, &Alone, pass, event)
     }
 
-    /// One turn in which `by` applies the event.
+    /// One turn in which the helper applies the event.
     pub fn with_turn_by<A: Applies<V>, R: Wait>(
         &self,
         rt: &R,
-        by: &A,
+        helper: &A,
         pass: &mut Pass<V>,
         event: V::Event,
     ) -> Result<V::Reply, TurnFault>
@@ -121,7 +121,7 @@ impl<V: Logged> TurnLock<V> {
             return Err(TurnFault::Spent);
         }
         let shared = &self.table.shared;
-        let reply = turn::play(shared, &self.queue, rt, by, &mut pass.seat, event);
+        let reply = turn::play(shared, &self.queue, rt, helper, &mut pass.seat, event);
         pass.made += 1;
         match reply {
             Ok(reply) => Ok(reply),

@@ -148,7 +148,7 @@ pub fn play<V: Logged, A: Applies<V>, R: Wait>(
     shared: &Shared<V, View<V::Base, V::Entry>, Key<V>, TurnRule<V>>,
     queue: &Queue,
     rt: &R,
-    by: &A,
+    helper: &A,
     seat: &mut Seat<V, View<V::Base, V::Entry>>,
     event: V::Event,
 ) -> Result<V::Reply, Memory>
@@ -166,7 +166,7 @@ pub fn play<V: Logged, A: Applies<V>, R: Wait>(
 {
     let ticket = draw(shared, queue, rt, seat);
     wait(shared, queue, rt, seat, ticket);
-    let reply = by.apply(seat.slot_mut(shared, 0), event);
+    let reply = helper.apply(seat.slot_mut(shared, 0), event);
     end(shared, queue, seat);
     reply
 }

@@ -3,7 +3,7 @@
 use std::collections::LinkedList;
 
 /// The number and the own entries of a pass that was joined to pass 1.
-pub struct Left<E> {
+pub struct JoinedPass<E> {
     pub number: u64,
     pub own: LinkedList<E>,
 }
@@ -39,7 +39,7 @@ pub struct View<B, E> {
     pub passes: u64,
 
     /// Of pass 1, the passes that were joined to it.
-    pub joined: LinkedList<Left<E>>,
+    pub joined: LinkedList<JoinedPass<E>>,
 
     /// Of pass 1, what it and each pass joined to it had seen.
     pub shown: LinkedList<LinkedList<E>>,

@@ -18,7 +18,7 @@ module _ (K : Context) (Xs : List Set) (all : Xs ≡ intents K) (i : ℕ) (A : S
   wide = (of_intents K A (subst (λ Ys. list_any (same A) Ys ≡ true) all
       (subst (λ X. list_any (same X) Xs ≡ true) (sym is) (in_at Xs i A inside)))).wide
 
-  -- the pairs of the intent at place i are those of its upper neighbours
+  -- the pairs of the intent at place i are those of its next larger intents
   row_is : pairs_with Xs i (filter (is_cover (intents K) A) (intents K)) ≡ row_of Xs (i, A)
   row_is = ap (λ Ys. pairs_with Xs i (filter (is_cover Ys A) Ys)) (sym all)
       ∙ sym (pairs_with-filter Xs (subst (λ Ys. increasing Ys ≡ true) (sym all) (intents_increasing K)) (is_cover Xs A) i)

@@ -16,19 +16,19 @@ loop-i-preserved c =
     let after = map f (range_with_len 0 (k + 1)) in
     let one_more : after ≡ before ++ f k ∷ [] = map-range_with_len_more f 0 k k (omega arith) in
     record {
-      level = more_kept (free K) c.args.level.now.items c.loop-i.level.items c.visit.new.level.items before
-          (f k ∷ []) after one_more c.loop-i.invariant.level
-          (c.in_ok-visit.ensures.level ∙ ap (λ (X : Set). c.loop-i.level.items ++ filter (free K) (X ∷ [])) c.with.ensures);
+      free_sets = more_kept (free K) c.args.free_sets.now.items c.loop-i.free_sets.items c.visit.new.free_sets.items before
+          (f k ∷ []) after one_more c.loop-i.invariant.free_sets
+          (c.in_ok-visit.ensures.free_sets ∙ ap (λ (X : Set). c.loop-i.free_sets.items ++ filter (free K) (X ∷ [])) c.with.ensures);
       found = more_placed (proper K) c.args.found.now.keys c.loop-i.found.keys c.visit.new.found.keys before
           (f k ∷ []) after one_more c.loop-i.invariant.found
           (c.in_ok-visit.ensures.found ∙ ap (λ (X : Set). placed c.loop-i.found.keys (filter (proper K) (X ∷ []))) c.with.ensures);
     }
 
-pub returns-clause-level : goal.returns-clause-level
-returns-clause-level c =
+pub returns-clause-free_sets : goal.returns-clause-free_sets
+returns-clause-free_sets c =
     let K = c.args.rows.now in
     let all : c.loop-i.i ≡ first_place c.args.set.now = omega arith in
-    c.loop-i.invariant.level ∙ ap (λ (n : ℕ). c.args.level.now.items ++ filter (free K)
+    c.loop-i.invariant.free_sets ∙ ap (λ (n : ℕ). c.args.free_sets.now.items ++ filter (free K)
     (map (λ i. set c.args.set.now i true) (range_with_len 0 n))) all
 
 pub returns-clause-found : goal.returns-clause-found

@@ -6,6 +6,6 @@ use Rattle.direct_basis.proofs.levels.search.Given as goal
 
 abbrev pub invariant-loop-size : goal.invariant-loop-size
 invariant-loop-size l = record {
-  level : l.level.items ≡ filter (free l.rows) (visited l.rows l._size);
+  free_sets : l.free_sets.items ≡ filter (free l.rows) (visited l.rows l._size);
   found : l.found.keys ≡ placed [] (filter (proper l.rows) (flat_map (visited l.rows) (range_with_len 0 (l._size + 1))));
 }

@@ -28,8 +28,8 @@ returns-then-not-branch-clause-kept g c =
     (subst (λ X. IsBounded c.args.found.now.list.members X c.close.new.closed) c.with-reached.ensures c.in_ok-close.ensures.bounded)
     c.requires.forced)
 
-pub closure_with-closed-requires : goal.closure_with-closed-requires
-closure_with-closed-requires g c =
+pub closure_among-closed-requires : goal.closure_among-closed-requires
+closure_among-closed-requires g c =
     let closed = c.in_ok-close.ensures.closure c.if-not-branch.false in
     let lacks = c.requires.lacks in (
       omega arith,
@@ -55,7 +55,7 @@ visit-requires g c = (
       (
         below_visit c.requires.trying c.requires.lacks c.with-reached.ensures
             c.in_ok-close.ensures.moved (c.in_ok-close.ensures.closure c.if-not-branch.false),
-        c.closure_with-closed.ensures,
+        c.closure_among-closed.ensures,
       ),
     ),
   ),

@@ -4,8 +4,8 @@ use Rattle.next_level.proofs.LevelWalkLemmas.{left_done, enter_larger, steady_sa
 use Rattle.next_level.proofs.walk.child_at.Goals as goal
 
 pub returns-then-passes-clause-done : goal.returns-then-passes-clause-done
-returns-then-passes-clause-done g c = left_passed c.args.indexed.now c.args.step.now.set c.args.i c.args.found.now c.args.level.now.bound
-    c.args.level.now.members.items c.args.step.now.among.whole c.args.step.now.among.sets.items c.requires.trying c.requires.among
+returns-then-passes-clause-done g c = left_passed c.args.indexed.now c.args.step.now.set c.args.i c.args.rules.now c.args.seen.now.bound
+    c.args.seen.now.members.items c.args.step.now.among.whole c.args.step.now.among.sets.items c.requires.trying c.requires.among
     (sym c.has.ensures ∙ c.if-has.false) (sym c.passes.ensures ∙ c.if-passes.true)
 
 pub returns-then-passes-clause-steady : goal.returns-then-passes-clause-steady
@@ -28,13 +28,13 @@ returns-then-not-branch-clause-done g c = left_none c.requires.trying
     (sym c.has.ensures ∙ c.if-has.false) c.with-reached.ensures c.in_ok-close.ensures.moved
     (c.in_ok-close.ensures.differs c.if-not-branch.true)
 
-pub returns-then-size-level-clause-done : goal.returns-then-size-level-clause-done
-returns-then-size-level-clause-done g c =
+pub returns-then-size-seen-clause-done : goal.returns-then-size-seen-clause-done
+returns-then-size-seen-clause-done g c =
     let lacks = sym c.has.ensures ∙ c.if-has.false in
     let closed = c.in_ok-close.ensures.closure c.if-not-branch.false in
     left_done c.requires.trying lacks c.with-reached.ensures c.in_ok-close.ensures.moved closed
     (enter_larger (left_entered c.requires.trying lacks c.with-reached.ensures c.in_ok-close.ensures.moved closed)
-    (omega (arith, c.size.ensures.size, c.if-size-level.true)))
+    (omega (arith, c.size.ensures.size, c.if-size-seen.true)))
 
 pub closure_near-closed-requires : goal.closure_near-closed-requires
 closure_near-closed-requires g c =
@@ -71,7 +71,7 @@ enter-requires g c = (
         (
           left_entered c.requires.trying (sym c.has.ensures
               ∙ c.if-has.false) c.with-reached.ensures c.in_ok-close.ensures.moved (c.in_ok-close.ensures.closure c.if-not-branch.false),
-          (omega (arith, c.size.ensures.size, c.if-size-level.false), c.closure_near-closed.ensures),
+          (omega (arith, c.size.ensures.size, c.if-size-seen.false), c.closure_near-closed.ensures),
         ),
       ),
     ),
@@ -94,8 +94,8 @@ returns-then-has-clause-steady g c = steady_same
 pub returns-then-not-branch-clause-steady : goal.returns-then-not-branch-clause-steady
 returns-then-not-branch-clause-steady g c = steady_same
 
-pub returns-then-size-level-clause-steady : goal.returns-then-size-level-clause-steady
-returns-then-size-level-clause-steady g c = steady_same
+pub returns-then-size-seen-clause-steady : goal.returns-then-size-seen-clause-steady
+returns-then-size-seen-clause-steady g c = steady_same
 
 pub returns-then-branch-clause-steady : goal.returns-then-branch-clause-steady
 returns-then-branch-clause-steady g c = c.in_ok-enter.ensures.steady

@@ -2,8 +2,8 @@ use Rattle.std.proofs.Common.{ap, length-set, ◌∙◌, length, true, sym, arit
 use Rattle.next_level.proofs.LevelWalkLemmas.{extent_tried, closure_shared}
 use Rattle.next_level.proofs.walk.closure_near.Goals as goal
 
-pub closure_with-shared-requires : goal.closure_with-shared-requires
-closure_with-shared-requires g c =
+pub closure_among-shared-requires : goal.closure_among-shared-requires
+closure_among-shared-requires g c =
     let wide = c.requires.wide in (
       omega arith,
       (
@@ -21,5 +21,5 @@ closure_with-shared-requires g c =
 
 pub returns-then-within : goal.returns-then-within
 returns-then-within g c = closure_shared c.args.indexed.now c.args.a.now c.args.i c.args.larger.now c.with-tried.result c.requires.wide
-    c.requires.larger c.with-tried.ensures c.closure_with-shared.result c.closure_with-shared.ensures
+    c.requires.larger c.with-tried.ensures c.closure_among-shared.result c.closure_among-shared.ensures
     (sym c.within.ensures ∙ c.if-within.true)

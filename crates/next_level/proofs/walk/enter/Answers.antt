@@ -4,24 +4,24 @@ use Rattle.lectic_basis.specs.Trees.{before}
 use Rattle.next_level.proofs.LevelWalkLemmas.{enter_lower, enter_larger, enter_left, enter_done, enter_closed, enter_open}
 use Rattle.next_level.proofs.walk.enter.Goals as goal
 
-pub returns-then-count-level-clause-done : goal.returns-then-count-level-clause-done
-returns-then-count-level-clause-done g c = λ e.
+pub returns-then-count-seen-clause-done : goal.returns-then-count-seen-clause-done
+returns-then-count-seen-clause-done g c = λ e.
     let entered = enter_lower c.requires.entered c.visit.new.self.bound c.visit.new.self.members.items
-    (c.in_ok-visit.ensures.listed c.args.found.now.list.members c.args.indexed.now
+    (c.in_ok-visit.ensures.listed c.args.rules.now.list.members c.args.indexed.now
     (before c.args.from c.args.a.now) c.requires.entered.level) in
-    enter_larger entered (omega (arith, c.size-count.ensures.size, c.if-count-level.true))
+    enter_larger entered (omega (arith, c.size-count.ensures.size, c.if-count-seen.true))
 
 pub returns-then-eq-clause-left : goal.returns-then-eq-clause-left
 returns-then-eq-clause-left g c = λ e.
     let entered = enter_lower c.requires.entered c.visit.new.self.bound c.visit.new.self.members.items
-    (c.in_ok-visit.ensures.listed c.args.found.now.list.members c.args.indexed.now
+    (c.in_ok-visit.ensures.listed c.args.rules.now.list.members c.args.indexed.now
     (before c.args.from c.args.a.now) c.requires.entered.level) in
     enter_left entered (enter_closed entered c.requires.closed (sym c.eq.ensures ∙ c.if-eq.true))
 
 pub returns-then-eq-clause-done : goal.returns-then-eq-clause-done
 returns-then-eq-clause-done g c = λ e.
     let entered = enter_lower c.requires.entered c.visit.new.self.bound c.visit.new.self.members.items
-    (c.in_ok-visit.ensures.listed c.args.found.now.list.members c.args.indexed.now
+    (c.in_ok-visit.ensures.listed c.args.rules.now.list.members c.args.indexed.now
     (before c.args.from c.args.a.now) c.requires.entered.level) in
     let at_most : c.visit.new.self.bound ≤ c.size-count.result = ltb-false c.size-count.result c.visit.new.self.bound e in
     enter_done entered (enter_closed entered c.requires.closed (sym c.eq.ensures ∙ c.if-eq.true))
@@ -30,10 +30,10 @@ returns-then-eq-clause-done g c = λ e.
 pub returns-clause-left : goal.returns-clause-left
 returns-clause-left g c = λ e.
     let entered = enter_lower c.requires.entered c.visit.new.self.bound c.visit.new.self.members.items
-    (c.in_ok-visit.ensures.listed c.args.found.now.list.members c.args.indexed.now
+    (c.in_ok-visit.ensures.listed c.args.rules.now.list.members c.args.indexed.now
     (before c.args.from c.args.a.now) c.requires.entered.level) in
     let lower = enter_lower entered c.make_room.new.self.bound c.make_room.new.self.members.items
-    (c.in_ok-make_room.ensures.listed c.args.found.now.list.members c.args.indexed.now (before c.args.from c.args.a.now) entered.level)
+    (c.in_ok-make_room.ensures.listed c.args.rules.now.list.members c.args.indexed.now (before c.args.from c.args.a.now) entered.level)
     in
     enter_left lower (enter_open lower c.requires.closed (sym c.eq.ensures ∙ c.if-eq.false)
     (omega (arith, c.size-count.ensures.size, c.in_ok-make_room.ensures.at_least)) _ c.in_ok-push.ensures.items)
@@ -41,10 +41,10 @@ returns-clause-left g c = λ e.
 pub returns-clause-done : goal.returns-clause-done
 returns-clause-done g c = λ e.
     let entered = enter_lower c.requires.entered c.visit.new.self.bound c.visit.new.self.members.items
-    (c.in_ok-visit.ensures.listed c.args.found.now.list.members c.args.indexed.now
+    (c.in_ok-visit.ensures.listed c.args.rules.now.list.members c.args.indexed.now
     (before c.args.from c.args.a.now) c.requires.entered.level) in
     let lower = enter_lower entered c.make_room.new.self.bound c.make_room.new.self.members.items
-    (c.in_ok-make_room.ensures.listed c.args.found.now.list.members c.args.indexed.now (before c.args.from c.args.a.now) entered.level)
+    (c.in_ok-make_room.ensures.listed c.args.rules.now.list.members c.args.indexed.now (before c.args.from c.args.a.now) entered.level)
     in
     let at_most : c.make_room.new.self.bound ≤ c.size-count.result = ltb-false c.size-count.result c.make_room.new.self.bound e in
     enter_done lower (enter_open lower c.requires.closed (sym c.eq.ensures ∙ c.if-eq.false)

@@ -6,8 +6,8 @@ use Rattle.fca_model.proofs.ClosureLemmas.{closure_extensive}
 use Rattle.next_level.proofs.LevelWalkLemmas.{extent_tried}
 use Rattle.next_level.proofs.walk.is_shared.Goals as goal
 
-pub closure_with-shared-requires : goal.closure_with-shared-requires
-closure_with-shared-requires g c =
+pub closure_among-shared-requires : goal.closure_among-shared-requires
+closure_among-shared-requires g c =
     let wide = c.requires.wide in (
       omega arith,
       (
@@ -32,4 +32,4 @@ returns-then-within g c = λ _.
 
 pub returns : goal.returns
 returns g c = λ t. subst (λ Y. within c.args.larger.now Y ≡ true)
-    (c.closure_with-shared.ensures ∙ ap (closure c.args.indexed.now) c.with-tried.ensures) (sym c.within-2.ensures ∙ t)
+    (c.closure_among-shared.ensures ∙ ap (closure c.args.indexed.now) c.with-tried.ensures) (sym c.within-2.ensures ∙ t)

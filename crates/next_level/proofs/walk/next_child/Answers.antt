@@ -9,10 +9,10 @@ child_at-requires g c =
     let s = c.requires in
     let found = c.loop-i.invariant.found in
     let i = c.loop-i.i - 1 in
-    let among = among_from c.args.found.now.list c.loop-i.found.list c.args.indexed.now step.set step.from i step.among.whole
+    let among = among_from c.args.rules.now.list c.loop-i.rules.list c.args.indexed.now step.set step.from i step.among.whole
     step.among.sets.items found.list
     (omega (arith, c.loop-i-test.true)) s.among in
-    let tried : IsTrying c.args.indexed.now step.set i c.loop-i.found c.loop-i.level.bound c.loop-i.level.members.items =
+    let tried : IsTrying c.args.indexed.now step.set i c.loop-i.rules c.loop-i.seen.bound c.loop-i.seen.members.items =
     trying s.at (omega (arith, s.inside, c.loop-i.invariant.before_end)) found (omega (arith, c.loop-i-test.true))
     (omega (arith, c.loop-i-test.true)) in
     (omega arith, (omega arith, (omega arith, (omega (arith, c.width-width.ensures.words), (omega arith, (tried, (among, s.near)))))))

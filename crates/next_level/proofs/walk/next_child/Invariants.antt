@@ -6,6 +6,6 @@ abbrev pub invariant-loop-i : goal.invariant-loop-i
 invariant-loop-i g l = record {
   from_on : l.step.from ≤ l.i;
   before_end : l.i ≤ l.step.end;
-  found : HasLevel l.indexed l.step.set l.i l.fn.found l.found l.level.bound l.level.members.items;
-  steady : IsSteady l.fn.level.bound l.fn.level.members.items l.level.bound l.level.members.items;
+  found : HasLevel l.indexed l.step.set l.i l.fn.rules l.rules l.seen.bound l.seen.members.items;
+  steady : IsSteady l.fn.seen.bound l.fn.seen.members.items l.seen.bound l.seen.members.items;
 }

@@ -14,7 +14,7 @@ loop-step-init g c =
     let first : Step g.row.W = c.args.first in
     record {
       walk = subst (λ (xs : List (Step g.row.W)). IsWalk K
-          (HasLevel K first.set first.from c.args.found.now) xs c.args.found.now c.args.level.now.bound c.args.level.now.members.items)
+          (HasLevel K first.set first.from c.args.rules.now) xs c.args.rules.now c.args.seen.now.bound c.args.seen.now.members.items)
           (sym c.in_ok-steps.ensures.items) (walk_first c.requires);
       steady = steady_same;
     }
@@ -23,9 +23,9 @@ pub next_child-requires : goal.next_child-requires
 next_child-requires g c =
     let K : Context = c.args.indexed.now in
     let first : Step g.row.W = c.args.first in
-    let Wanted : Watched → ℕ → List Rule → Type 0 = HasLevel K first.set first.from c.args.found.now in
-    let level = c.loop-step.level in
-    let walk = subst (λ (xs : List (Step g.row.W)). IsWalk K Wanted xs c.loop-step.found level.bound level.members.items)
+    let Wanted : Watched → ℕ → List Rule → Type 0 = HasLevel K first.set first.from c.args.rules.now in
+    let seen = c.loop-step.seen in
+    let walk = subst (λ (xs : List (Step g.row.W)). IsWalk K Wanted xs c.loop-step.rules seen.bound seen.members.items)
     c.in-Some.ensures.items c.loop-step.invariant.walk in (
       omega arith,
       (
@@ -34,7 +34,7 @@ next_child-requires g c =
           omega arith,
           (
             omega (arith, c.width-width.ensures.words),
-            (omega arith, walk_step K Wanted c.pop.new.self.items c.in-Some.step c.loop-step.found level.bound level.members.items walk),
+            (omega arith, walk_step K Wanted c.pop.new.self.items c.in-Some.step c.loop-step.rules seen.bound seen.members.items walk),
           ),
         ),
       ),
@@ -47,13 +47,13 @@ pub loop-step-preserved-in_default-child : goal.loop-step-preserved-in_default-c
 loop-step-preserved-in_default-child g c =
     let K : Context = c.args.indexed.now in
     let first : Step g.row.W = c.args.first in
-    let Wanted : Watched → ℕ → List Rule → Type 0 = HasLevel K first.set first.from c.args.found.now in
-    let level = c.loop-step.level in
-    let walk = subst (λ (xs : List (Step g.row.W)). IsWalk K Wanted xs c.loop-step.found level.bound level.members.items)
+    let Wanted : Watched → ℕ → List Rule → Type 0 = HasLevel K first.set first.from c.args.rules.now in
+    let seen = c.loop-step.seen in
+    let walk = subst (λ (xs : List (Step g.row.W)). IsWalk K Wanted xs c.loop-step.rules seen.bound seen.members.items)
     c.in-Some.ensures.items c.loop-step.invariant.walk in
     record {
-      walk = walk_none K Wanted c.pop.new.self.items c.in-Some.step c.loop-step.found level.bound level.members.items walk
-          c.next_child.new.found c.next_child.new.level.bound c.next_child.new.level.members.items
+      walk = walk_none K Wanted c.pop.new.self.items c.in-Some.step c.loop-step.rules seen.bound seen.members.items walk
+          c.next_child.new.rules c.next_child.new.seen.bound c.next_child.new.seen.members.items
           (rw c.in_default-child.is at c.in_ok-child.ensures.child);
       steady = steady_then c.loop-step.invariant.steady c.in_ok-child.ensures.steady;
     }
@@ -62,16 +62,16 @@ pub step_below-requires : goal.step_below-requires
 step_below-requires g c =
     let K : Context = c.args.indexed.now in
     let first : Step g.row.W = c.args.first in
-    let Wanted : Watched → ℕ → List Rule → Type 0 = HasLevel K first.set first.from c.args.found.now in
-    let level = c.loop-step.level in
-    let walk = subst (λ (xs : List (Step g.row.W)). IsWalk K Wanted xs c.loop-step.found level.bound level.members.items)
+    let Wanted : Watched → ℕ → List Rule → Type 0 = HasLevel K first.set first.from c.args.rules.now in
+    let seen = c.loop-step.seen in
+    let walk = subst (λ (xs : List (Step g.row.W)). IsWalk K Wanted xs c.loop-step.rules seen.bound seen.members.items)
     c.in-Some.ensures.items c.loop-step.invariant.walk in
     let step : Step g.row.W = c.in-Some.step in
-    let s = walk_step K Wanted c.pop.new.self.items step c.loop-step.found level.bound level.members.items walk in
+    let s = walk_step K Wanted c.pop.new.self.items step c.loop-step.rules seen.bound seen.members.items walk in
     let below = rw c.in-Some-child.is at c.in_ok-child.ensures.below in
     let entered = rw c.in-Some-child.is at c.in_ok-child.ensures.child in
     let words = c.width-width.ensures.words in
-    let among = among_from c.loop-step.found.list c.next_child.new.found.list K step.set step.from step.from step.among.whole
+    let among = among_from c.loop-step.rules.list c.next_child.new.rules.list K step.set step.from step.from step.among.whole
     step.among.sets.items entered.list (omega arith) s.among in (
       omega arith,
       (
@@ -87,11 +87,11 @@ pub loop-step-smaller : goal.loop-step-smaller
 loop-step-smaller g c =
     let K : Context = c.args.indexed.now in
     let first : Step g.row.W = c.args.first in
-    let Wanted : Watched → ℕ → List Rule → Type 0 = HasLevel K first.set first.from c.args.found.now in
-    let level = c.loop-step.level in
-    let walk = subst (λ (xs : List (Step g.row.W)). IsWalk K Wanted xs c.loop-step.found level.bound level.members.items)
+    let Wanted : Watched → ℕ → List Rule → Type 0 = HasLevel K first.set first.from c.args.rules.now in
+    let seen = c.loop-step.seen in
+    let walk = subst (λ (xs : List (Step g.row.W)). IsWalk K Wanted xs c.loop-step.rules seen.bound seen.members.items)
     c.in-Some.ensures.items c.loop-step.invariant.walk in
-    let s = walk_step K Wanted c.pop.new.self.items c.in-Some.step c.loop-step.found level.bound level.members.items walk in
+    let s = walk_step K Wanted c.pop.new.self.items c.in-Some.step c.loop-step.rules seen.bound seen.members.items walk in
     let below = rw c.in-Some-child.is at c.in_ok-child.ensures.below in
     let step : Step g.row.W = c.in-Some.step in
     room_deeper K.width c.pop.new.self.items step c.in-Some.ensures.items
@@ -103,10 +103,10 @@ pub loop-step-preserved : goal.loop-step-preserved
 loop-step-preserved g c =
     let K : Context = c.args.indexed.now in
     let first : Step g.row.W = c.args.first in
-    let Wanted : Watched → ℕ → List Rule → Type 0 = HasLevel K first.set first.from c.args.found.now in
-    let level = c.loop-step.level in
-    let next = c.next_child.new.level in
-    let walk = subst (λ (xs : List (Step g.row.W)). IsWalk K Wanted xs c.loop-step.found level.bound level.members.items)
+    let Wanted : Watched → ℕ → List Rule → Type 0 = HasLevel K first.set first.from c.args.rules.now in
+    let seen = c.loop-step.seen in
+    let next = c.next_child.new.seen in
+    let walk = subst (λ (xs : List (Step g.row.W)). IsWalk K Wanted xs c.loop-step.rules seen.bound seen.members.items)
     c.in-Some.ensures.items c.loop-step.invariant.walk in
     let below = rw c.in-Some-child.is at c.in_ok-child.ensures.below in
     let entered = rw c.in-Some-child.is at c.in_ok-child.ensures.child in
@@ -114,9 +114,9 @@ loop-step-preserved g c =
     let new : Step g.row.W = record step { end = c.in-Some-child.child.attribute } in
     let deeper : Step g.row.W = c.in_ok-below.below in
     record {
-      walk = subst (λ (xs : List (Step g.row.W)). IsWalk K Wanted xs c.next_child.new.found next.bound next.members.items)
+      walk = subst (λ (xs : List (Step g.row.W)). IsWalk K Wanted xs c.next_child.new.rules next.bound next.members.items)
           (sym (c.in_ok-push-2.ensures.items ∙ ap (λ (xs : List (Step g.row.W)). xs ++ deeper ∷ []) c.in_ok-push.ensures.items))
-          (walk_below K Wanted c.pop.new.self.items step c.loop-step.found level.bound level.members.items walk c.next_child.new.found
+          (walk_below K Wanted c.pop.new.self.items step c.loop-step.rules seen.bound seen.members.items walk c.next_child.new.rules
           next.bound next.members.items c.in-Some-child.child below entered new deeper refl
           c.in_ok-below.ensures);
       steady = steady_then c.loop-step.invariant.steady c.in_ok-child.ensures.steady;
@@ -126,7 +126,7 @@ pub returns-clause-level : goal.returns-clause-level
 returns-clause-level g c =
     let K : Context = c.args.indexed.now in
     let first : Step g.row.W = c.args.first in
-    walk_done K (HasLevel K first.set first.from c.args.found.now) c.loop-step.found c.loop-step.level.bound c.loop-step.level.members.items
+    walk_done K (HasLevel K first.set first.from c.args.rules.now) c.loop-step.rules c.loop-step.seen.bound c.loop-step.seen.members.items
     c.loop-step.steps.items
     (omega (arith, c.in_default.ensures.cases.0, c.loop-step.steps.ok.0)) c.loop-step.invariant.walk
 

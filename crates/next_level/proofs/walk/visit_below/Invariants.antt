@@ -5,9 +5,9 @@ use Rattle.next_level.proofs.walk.visit_below.Given as goal
 
 abbrev pub invariant-loop-step : goal.invariant-loop-step
 invariant-loop-step g l = record {
-  walk : IsWalk l.indexed (HasLevel l.indexed l.fn.first.set l.fn.first.from l.fn.found) l.steps.items l.found l.level.bound
-      l.level.members.items;
-  steady : IsSteady l.fn.level.bound l.fn.level.members.items l.level.bound l.level.members.items;
+  walk : IsWalk l.indexed (HasLevel l.indexed l.fn.first.set l.fn.first.from l.fn.rules) l.steps.items l.rules l.seen.bound
+      l.seen.members.items;
+  steady : IsSteady l.fn.seen.bound l.fn.seen.members.items l.seen.bound l.seen.members.items;
 }
 
 abbrev pub decreases-loop-step : goal.decreases-loop-step

@@ -10,10 +10,10 @@ pub enter_all-requires : goal.enter_all-requires
 enter_all-requires g c =
     let self = c.args.self.now in
     let seen = c.new-seen.result in
-    let found = c.in_ok-found.ensures in
-    let entered = root_entered (found.inside c.args.from c.requires.inside)
-    (found.inside 0 (omega arith)) seen.bound seen.members.items c.new-seen.ensures.members in
-    let among = concerning_among self.root c.args.from c.in_ok-found.found.list found.list self.among.whole self.among.sets.items
+    let rules = c.in_ok-rules.ensures in
+    let entered = root_entered (rules.inside c.args.from c.requires.inside)
+    (rules.inside 0 (omega arith)) seen.bound seen.members.items c.new-seen.ensures.members in
+    let among = concerning_among self.root c.args.from c.in_ok-rules.rules.list rules.list self.among.whole self.among.sets.items
     self.all_among in (
       omega arith,
       (
@@ -28,9 +28,9 @@ enter_all-requires g c =
                 entered,
                 (
                   omega (arith, c.requires.small, c.new-seen.ensures.bound),
-                  subst (λ b. AreAmong c.in_ok-found.found.list.members self.indexed self.least c.args.from b
+                  subst (λ b. AreAmong c.in_ok-rules.rules.list.members self.indexed self.least c.args.from b
                       c.in_ok-among.among.sets.items)
-                      (sym c.in_ok-among.ensures.0) (subst (λ Xs. AreAmong c.in_ok-found.found.list.members self.indexed self.least
+                      (sym c.in_ok-among.ensures.0) (subst (λ Xs. AreAmong c.in_ok-rules.rules.list.members self.indexed self.least
                       c.args.from
                       self.among.whole Xs) (sym c.in_ok-among.ensures.1) among),
                 ),
@@ -47,5 +47,5 @@ returns-clause-listed g c =
     let level = c.in_ok-enter_all.ensures.level in
     concerning_listed self.root c.args.from (up_to c.args.from self.least)
     (λ X up p. up_to_agree c.args.from self.least X p (within_not_before c.args.from self.least X up))
-    c.enter_all.new.found.list (level.list ∙ c.in_ok-found.ensures.list) c.enter_all.new.level.bound c.enter_all.new.level.members.items
+    c.enter_all.new.rules.list (level.list ∙ c.in_ok-rules.ensures.list) c.enter_all.new.seen.bound c.enter_all.new.seen.members.items
     level.level

@@ -30,8 +30,8 @@ returns-then-passes-clause-listed g c =
 
 pub close-requires : goal.close-requires
 close-requires g c =
-    let found = c.in_ok-found.ensures in
-    let root = found.inside 0 (omega arith) in
+    let rules = c.in_ok-rules.ensures in
+    let root = rules.inside 0 (omega arith) in
     let lacks = sym c.has.ensures ∙ c.if-has.false in (
       omega arith,
       (
@@ -42,40 +42,40 @@ close-requires g c =
 
 pub returns-then-not-branch-clause-listed : goal.returns-then-not-branch-clause-listed
 returns-then-not-branch-clause-listed g c =
-    let found = c.in_ok-found.ensures in
-    let root = found.inside 0 (omega arith) in
+    let rules = c.in_ok-rules.ensures in
+    let root = rules.inside 0 (omega arith) in
     let lacks = sym c.has.ensures ∙ c.if-has.false in
     concerning_listed c.args.self.now.root c.args.i (in_branch c.args.i c.args.self.now.least)
     (λ X up p. (branch_parts c.args.self.now.least c.args.i (omega (arith, root_wide c.args.self.now.root, c.requires)) X p).1)
-    c.in_ok-found.found.list found.list _ _
+    c.in_ok-rules.rules.list rules.list _ _
     (branch_differs root c.args.i c.requires lacks c.new-seen.result.bound c.with-reached.result c.new-seen.result.members.items
     c.with-reached.ensures
     (c.in_ok-close.ensures.differs c.if-not-branch.true) c.new-seen.ensures.members)
 
 pub returns-then-size-limits-clause-listed : goal.returns-then-size-limits-clause-listed
 returns-then-size-limits-clause-listed g c =
-    let found = c.in_ok-found.ensures in
-    let root = found.inside 0 (omega arith) in
+    let rules = c.in_ok-rules.ensures in
+    let root = rules.inside 0 (omega arith) in
     let lacks = sym c.has.ensures ∙ c.if-has.false in
     let closed = c.in_ok-close.ensures.closure c.if-not-branch.false in
-    let closure = subst (λ X. IsClosure c.in_ok-found.found.list.members X c.close.new.closed) c.with-reached.ensures closed.closure in
+    let closure = subst (λ X. IsClosure c.in_ok-rules.rules.list.members X c.close.new.closed) c.with-reached.ensures closed.closure in
     concerning_listed c.args.self.now.root c.args.i (in_branch c.args.i c.args.self.now.least)
     (λ X up p. (branch_parts c.args.self.now.least c.args.i (omega (arith, root_wide c.args.self.now.root, c.requires)) X p).1)
-    c.in_ok-found.found.list found.list _ _
+    c.in_ok-rules.rules.list rules.list _ _
     (branch_larger root c.args.i c.requires lacks c.close.new.closed closure c.new-seen.result.bound c.new-seen.result.members.items
     (omega (arith, c.size.ensures.size, c.if-size-limits.true, c.new-seen.ensures.bound)) c.new-seen.ensures.members)
 
 pub child_among-requires : goal.child_among-requires
 child_among-requires g c =
     let self = c.args.self.now in
-    let found = c.in_ok-found.ensures in
-    let root = found.inside 0 (omega arith) in
+    let rules = c.in_ok-rules.ensures in
+    let root = rules.inside 0 (omega arith) in
     let lacks = sym c.has.ensures ∙ c.if-has.false in
     let closed = c.in_ok-close.ensures.closure c.if-not-branch.false in
     let trying = branch_trying root c.args.i c.requires lacks 0 in
     let moved = c.in_ok-close.ensures.moved in
     let among = concerning_among self.root c.args.i c.close.new.found.list
-    (moved.list ∙ found.list) self.among.whole self.among.sets.items self.all_among in (
+    (moved.list ∙ rules.list) self.among.whole self.among.sets.items self.all_among in (
       omega arith,
       (
         omega arith,
@@ -98,11 +98,11 @@ child_among-requires g c =
 pub enter_all-requires : goal.enter_all-requires
 enter_all-requires g c =
     let self = c.args.self.now in
-    let found = c.in_ok-found.ensures in
-    let root = found.inside 0 (omega arith) in
+    let rules = c.in_ok-rules.ensures in
+    let root = rules.inside 0 (omega arith) in
     let lacks = sym c.has.ensures ∙ c.if-has.false in
     let closed = c.in_ok-close.ensures.closure c.if-not-branch.false in
-    let closure = subst (λ X. IsClosure c.in_ok-found.found.list.members X c.close.new.closed) c.with-reached.ensures closed.closure in
+    let closure = subst (λ X. IsClosure c.in_ok-rules.rules.list.members X c.close.new.closed) c.with-reached.ensures closed.closure in
     let moved = c.in_ok-close.ensures.moved in
     let at = (left_entered (branch_trying root c.args.i c.requires lacks 0) lacks c.with-reached.ensures moved closed).at in
     let put = c.in_ok-push_to_wait.ensures in
@@ -127,18 +127,18 @@ enter_all-requires g c =
 
 pub returns-clause-listed : goal.returns-clause-listed
 returns-clause-listed g c =
-    let found = c.in_ok-found.ensures in
-    let root = found.inside 0 (omega arith) in
+    let rules = c.in_ok-rules.ensures in
+    let root = rules.inside 0 (omega arith) in
     let lacks = sym c.has.ensures ∙ c.if-has.false in
     let closed = c.in_ok-close.ensures.closure c.if-not-branch.false in
-    let closure = subst (λ X. IsClosure c.in_ok-found.found.list.members X c.close.new.closed) c.with-reached.ensures closed.closure in
+    let closure = subst (λ X. IsClosure c.in_ok-rules.rules.list.members X c.close.new.closed) c.with-reached.ensures closed.closure in
     let moved = c.in_ok-close.ensures.moved in
     let at = (left_entered (branch_trying root c.args.i c.requires lacks 0) lacks c.with-reached.ensures moved closed).at in
     let put = c.in_ok-push_to_wait.ensures in
     let level = c.in_ok-enter_all.ensures.level in
     concerning_listed c.args.self.now.root c.args.i (in_branch c.args.i c.args.self.now.least)
     (λ X up p. (branch_parts c.args.self.now.least c.args.i (omega (arith, root_wide c.args.self.now.root, c.requires)) X p).1)
-    c.in_ok-found.found.list found.list _ _
+    c.in_ok-rules.rules.list rules.list _ _
     (branch_done root c.args.i c.requires lacks c.close.new.closed closure closed.agree _ refl refl at moved.list
     c.push_to_wait.new.self put.list put.put
-    c.enter_all.new.level.bound c.enter_all.new.level.members.items c.enter_all.new.found.list level.list level.level)
+    c.enter_all.new.seen.bound c.enter_all.new.seen.members.items c.enter_all.new.rules.list level.list level.level)

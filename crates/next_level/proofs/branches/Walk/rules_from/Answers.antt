@@ -28,8 +28,8 @@ pub returns-clause-inside : goal.returns-clause-inside
 returns-clause-inside g c =
     let self = c.args.self.now in
     let list = c.in_ok-list.ensures in
-    let found = c.in_ok-found.ensures in
-    let buckets = c.in_ok-found.found.buckets in
-    root_at (concerning_root self.root c.args.from) (found.list ∙ list)
-    (subst (λ (L : RuleList). IsFiled L.width L.members buckets) list found.filed)
-    (subst (λ (L : RuleList). IsGood L.members buckets self.least) list found.good)
+    let rules = c.in_ok-rules.ensures in
+    let buckets = c.in_ok-rules.rules.buckets in
+    root_at (concerning_root self.root c.args.from) (rules.list ∙ list)
+    (subst (λ (L : RuleList). IsFiled L.width L.members buckets) list rules.filed)
+    (subst (λ (L : RuleList). IsGood L.members buckets self.least) list rules.good)

@@ -27,7 +27,7 @@ pub struct Arrows {
 
 impl Model for Arrows {
     ghost use Rattle.std.specs.Prelude.{List, map};
-    ghost use Rattle.context_reduce.specs.declared.marks.Arrow.{Arrow};
+    ghost use Rattle.context_reduce.specs.declared.arrow.Arrow.{Arrow};
 
     ghost Value = { List (List Arrow) };
 
