@@ -21,7 +21,7 @@ use Rattle.fca_model.specs.Tables.{Text}
 use Rattle.fca_model.specs.Names.{name_fault}
 use Rattle.context_table.specs.Table.{first_repeat}
 use Rattle.value_tables.specs.Values.{ObjectValues, ValueTable, column, no_object, value_of}
-use Rattle.context_scaling.specs.Scaling.{Fits, FitsBehind, Scaling, is_scalable, made_names, mark_name, names_of}
+use Rattle.context_scaling.specs.Scaling.{Fits, FitsBehind, Scaling, is_scalable, made_names, made_name, names_of}
 use Rattle.context_scaling.specs.declared.scales.Kind.{Kind}
 
 -- ---- values of a column
@@ -105,7 +105,7 @@ number_value k text n is same = elim is [
 
 pub names_more : (i : ℕ) (attribute : Text) (r : Relation) (j : ℕ) (seen : List Text) (v : ScaleValue) (values : List ScaleValue)
     (name : Text)
-    → new_name i j seen (mark_name attribute r v) ≡ Ok name
+    → new_name i j seen (made_name attribute r v) ≡ Ok name
     → add_names i attribute r j seen (v ∷ values) ≡ add_names i attribute r (j + 1) (seen ++ name ∷ []) values
 names_more i attribute r j seen v values name is = rw is refl
 

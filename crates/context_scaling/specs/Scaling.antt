@@ -69,12 +69,12 @@ value_text (value.Text v) = v
 value_text (value.Number v) = signed_decimal v
 
 -- as in "age <= 30"
-abbrev pub mark_name : Text → Relation → ScaleValue → Text
-mark_name attribute relation v = attribute ++ sign relation ++ value_text v
+abbrev pub made_name : Text → Relation → ScaleValue → Text
+made_name attribute relation v = attribute ++ sign relation ++ value_text v
 
 -- the names of the attributes that are made from one attribute
 abbrev pub names_of : Scaling → List Text
-names_of s = each_relation s.kind (λ r. map (mark_name s.attribute r) s.values)
+names_of s = each_relation s.kind (λ r. map (made_name s.attribute r) s.values)
 
 -- the names of the attributes that a plan makes, in its order
 abbrev pub made_names : List Scaling → List Text
