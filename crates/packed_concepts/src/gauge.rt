@@ -5,8 +5,8 @@ use crate::page::Packed;
 /// About so many bytes of lines are laid out together.
 pub(crate) const SHARE: usize = 1 << 18;
 
-/// The bytes of a line beside its names, about.
-const MARKED: usize = 16;
+/// About how many bytes a line has beside its names.
+const MEAN_LINE: usize = 16;
 
 /// About how many bytes a name has with a comma and a space.
 #[derive(Clone, Copy)]
@@ -20,6 +20,6 @@ impl Gauge {
     pub(crate) fn line<const W: usize>(self, one: &Packed<W>) -> usize {
         let intent = (one.intent.size() as usize).saturating_mul(self.attribute);
         let extent = (one.count as usize).saturating_mul(self.object);
-        intent.saturating_add(extent).saturating_add(MARKED)
+        intent.saturating_add(extent).saturating_add(MEAN_LINE)
     }
 }

@@ -17,7 +17,7 @@ mod text;
 mod writing;
 
 pub use block::{BLOCK_BYTES, TextBlock, put_block};
-pub use line::{MARKS, make_room, room_of};
+pub use line::{PUNCTUATION, make_room, room_of};
 pub use names::{Names, end_without_comma, put_set};
 pub use page::{ConceptPage, Packed};
 pub use pages::NarrowPages;

@@ -9,7 +9,7 @@ ghost use Rattle.packed_concepts.specs.Packing.{IsNamed, Holds};
 ghost use Rattle.packed_concepts.specs.Passing.{HasPassed};
 ghost use Rattle.packed_concepts.specs.Stretches.{lines_on, IsReady, IsHeld};
 
-use crate::line::{LINE, put_line};
+use crate::line::{LONGEST_LINE, put_line};
 use crate::names::Names;
 use crate::page::ConceptPage;
 use crate::pieces::PIECE_ROOM;
@@ -69,7 +69,7 @@ fn pass_line<K: Sink, const W: usize>(
         (take end buffer.old) (Err fault)) }
     ensures room { length buffer.new ≡ length buffer.old }
 {
-    let room = LINE + PIECE_ROOM * (intent.width() as usize + places.len());
+    let room = LONGEST_LINE + PIECE_ROOM * (intent.width() as usize + places.len());
     let start = make_way(out, buffer, end, room)?;
     let mut digits = Buffer::new();
     let number = digits.format(place + 1).as_bytes();

@@ -14,7 +14,7 @@ use fca_model::{Implication, MAX_ATTRIBUTES, Memory};
 use implication_closure::ImplicationList;
 use itoa::Buffer;
 use lectic_basis::basis_in_words;
-use packed_concepts::{MARKS, PIECE_ROOM, make_room, put_bytes, room_of};
+use packed_concepts::{PIECE_ROOM, PUNCTUATION, make_room, put_bytes, room_of};
 use std::alloc::Global;
 
 /// The basis of these rows, one member a line, with these names of attributes. The rows are dropped before the text is written.
@@ -88,7 +88,7 @@ fn put_arrow<const W: usize>(
 ) -> usize
     requires premise { length member.now.premise ≡ length names.now }
     requires conclusion { length member.now.conclusion ≡ length names.now }
-    requires room { start + (length digits.now + (MARKS + PIECE_ROOM * (length member.now.premise + length member.now.conclusion))) ≤ length text.old }
+    requires room { start + (length digits.now + (PUNCTUATION + PIECE_ROOM * (length member.now.premise + length member.now.conclusion))) ≤ length text.old }
     ensures text { take result text.new ≡ take start text.old ++ (digits.now ++ (codes " " ++ (arrow_text names.now member.now ++ line_end))) }
     ensures ends { result ≤ length text.new }
     ensures room { length text.new ≡ length text.old }
