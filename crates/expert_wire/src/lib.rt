@@ -16,4 +16,4 @@ pub use lines::is_skipped;
 pub use parts::Part;
 pub use replies::write_reply;
 pub use requests::{Request, RequestFault, read_request};
-pub use words::{expert_of, marks, read_row, text_of};
+pub use words::{expert_of, pattern_marks, read_row, text_of};
