@@ -13,7 +13,7 @@ mod words;
 pub use draft::{Draft, Growing};
 pub use greeting::write_greeting;
 pub use lines::is_skipped;
-pub use parts::Part;
+pub use parts::{Part, write_bytes};
 pub use replies::write_reply;
 pub use requests::{Request, RequestFault, read_request};
 pub use words::{expert_of, pattern_marks, read_row, text_of};

@@ -15,18 +15,12 @@ use crate::page::ConceptPage;
 use crate::pieces::PIECE_ROOM;
 use crate::stretch::Stretch;
 use attr_bits::Bits;
-use fca_io::{Put, Sink, write_text};
+use expert_wire::write_bytes;
+use fca_io::{Put, Sink};
 use itoa::Buffer;
 
 /// So many bytes that wait in the buffer are written.
 pub(crate) const MANY_BYTES: usize = 1 << 18;
-
-/// Appends the part to the sink. After an `Err` the sink holds a front of it.
-pub(crate) fn write_part<K: Sink>(out: &mut K, part: &[u8]) -> Result<(), Put>
-    ensures { WritesTo K.held K.faults K.beside K.asked_beside out.old out.new part.now result }
-{
-    write_text(out, part)
-}
 
 /// Makes room for so many bytes behind those that wait in the buffer up to `end`, and returns their end from then on. Bytes that wait are written, if
 /// necessary.
@@ -42,7 +36,7 @@ fn make_way<K: Sink>(out: &mut K, buffer: &[u8], end: usize, room: usize) -> Res
     if end < MANY_BYTES && room <= buffer.len() - end {
         return Ok(end);
     }
-    write_part(out, &buffer[..end])?;
+    write_bytes(out, &buffer[..end])?;
     Ok(0)
 }
 
