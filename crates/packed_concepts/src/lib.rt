@@ -22,4 +22,5 @@ pub use names::{Names, end_without_comma, put_set};
 pub use page::{ConceptPage, Packed};
 pub use pages::NarrowPages;
 pub use pieces::{PIECE_BYTES, PIECE_ROOM, Pieces, block_of, put_bytes, tail_of};
+pub use rounds::processors;
 pub use text::ConceptsText;

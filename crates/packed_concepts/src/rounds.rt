@@ -17,7 +17,7 @@ use std::thread;
 use std::thread::{Threads, available_parallelism};
 
 /// The number of processors.
-pub(crate) fn processors(rt: &impl Threads) -> usize {
+pub fn processors(rt: &impl Threads) -> usize {
     available_parallelism(rt).map_or(1, |count| count.get())
 }
 

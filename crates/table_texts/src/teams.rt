@@ -8,10 +8,11 @@ use crate::filling::page_of;
 use crate::tops::Top;
 use concept_walk::{CrossTable, Page};
 use fca_model::Memory;
+use packed_concepts::processors;
 use std::alloc::Global;
 use std::sync::atomic::{AtomicUsize, Ordering};
 use std::thread;
-use std::thread::{Threads, available_parallelism};
+use std::thread::Threads;
 
 /// A page, and the place of its job.
 #[derive(Drop)]
@@ -50,11 +51,6 @@ pub(crate) fn fill_pages<R: Threads + Sync, const W: usize>(
     let mut pages = missing_pages(alloc, jobs.len())?;
     put_all(crosses, jobs, team, &mut pages);
     Ok(pages)
-}
-
-/// The number of processors.
-fn processors(rt: &impl Threads) -> usize {
-    available_parallelism(rt).map_or(1, |count| count.get())
 }
 
 /// So many lists of pages, all empty.
