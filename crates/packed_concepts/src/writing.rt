@@ -89,11 +89,11 @@ pub(crate) fn pass_stretch<K: Sink, const W: usize>(
         (take end buffer.old ++ lines_on names.now stretch.now) (Err fault)) }
     ensures room { length buffer.new ≡ length buffer.old }
 {
-    let place = stretch.place();
+    let first = stretch.first();
     let (packed, all) = stretch.parts();
     let mut rest = all;
     let mut waits = end;
-    let mut next = place;
+    let mut next = first;
     for one in packed {
         let (places, behind) = rest.split_at(one.count as usize);
         waits = pass_line(out, names, buffer, waits, next, &one.intent, places)?;
