@@ -6,7 +6,7 @@ ghost use Rattle.report_texts.specs.Reports.{basis_text};
 ghost use Rattle.context_table.specs.Narrow.{context_in};
 
 use crate::attribute_names::AttributeNames;
-use crate::basis_lines::basis_in;
+use crate::basis_lines::basis_text_in;
 use context_table::{NarrowRows, NarrowTable, Table};
 use fca_model::{MAX_ATTRIBUTES, Memory, Name};
 use std::alloc::Global;
@@ -17,10 +17,10 @@ pub fn narrow_basis_text(alloc: Global, table: NarrowTable) -> Result<Vec<u8>, M
 {
     let (names, rows) = attributes_and_rows(alloc, table)?;
     match rows {
-        NarrowRows::One(rows) => basis_in(alloc, &names, rows),
-        NarrowRows::Two(rows) => basis_in(alloc, &names, rows),
-        NarrowRows::Four(rows) => basis_in(alloc, &names, rows),
-        NarrowRows::All(rows) => basis_in(alloc, &names, rows),
+        NarrowRows::One(rows) => basis_text_in(alloc, &names, rows),
+        NarrowRows::Two(rows) => basis_text_in(alloc, &names, rows),
+        NarrowRows::Four(rows) => basis_text_in(alloc, &names, rows),
+        NarrowRows::All(rows) => basis_text_in(alloc, &names, rows),
     }
 }
 
