@@ -55,19 +55,19 @@ impl<const W: usize> Top<W> {
         }
     }
 
-    /// A guess at the size of the branch: the pairs of its objects, times the attributes that are left.
-    fn size(&self) -> usize {
+    /// A guess at the work of the branch: the pairs of its objects, times the attributes that are left.
+    fn weight(&self) -> usize {
         let left = self.intent.width().saturating_sub(self.from) as usize;
         let objects = self.places.len();
         objects.saturating_mul(objects).saturating_mul(left)
     }
 }
 
-/// The least size of a branch that is a large part of these.
+/// The least weight of a branch that is a large part of these.
 pub(crate) fn large_part<const W: usize>(tops: &[Top<W>]) -> usize {
     let mut whole = 0usize;
     for top in tops {
-        whole = whole.saturating_add(top.size());
+        whole = whole.saturating_add(top.weight());
     }
     whole / LARGE
 }
@@ -164,7 +164,7 @@ fn split_if_large<const W: usize>(
         ≡ branches crosses.now more.old.items ++ branch crosses.now top.now.intent top.now.from) }
 {
     let _words = crosses.rows().width();
-    if least <= top.size() && more.len() < ENOUGH {
+    if least <= top.weight() && more.len() < ENOUGH {
         return split_branch(alloc, crosses, top, more);
     }
     add_top(alloc, crosses, &top.node(crosses), more)?;
