@@ -21,7 +21,7 @@ use Rattle.csv_context.specs.Records.{Record}
 use Rattle.value_tables.specs.Form.{first_bad, is_field, is_name}
 use Rattle.value_tables.specs.Numbers.{number_of}
 use Rattle.text_pieces.specs.Telling.{then, unless}
-use Rattle.value_tables.specs.Values.{ValueTable, column, no_object, object_at, value_of}
+use Rattle.value_tables.specs.Values.{ValueTable, column, no_object, object_at, value_at}
 use Rattle.value_tables.specs.declared.fields.FieldKind.{FieldKind}
 use Rattle.context_scaling.specs.PlanForm.{add_names, few_names, kind_form, kind_of, names_form, or_fault, place_of}
 use Rattle.context_scaling.specs.PlanForm.{record_form, scaling_form, scaling_of, value_kind}
@@ -467,16 +467,16 @@ not-scalable kind.Interordinal text bad =
     let parts = no_number text bad in
     (λ is. (let same : kind.Interordinal ≡ kind.Nominal = is in cc), parts.0, parts.1)
 
-object-value : (t : ValueTable) (place q : ℕ) → q < length t.objects → get_or (column t place) (q - 0) [] ≡ value_of place (object_at t q)
+object-value : (t : ValueTable) (place q : ℕ) → q < length t.objects → get_or (column t place) (q - 0) [] ≡ value_at place (object_at t q)
 object-value t place q below = let at : q - 0 ≡ q = omega arith in
-    ap (λ (n : ℕ). get_or (column t place) n []) at ∙ get_or-map (value_of place) t.objects q no_object [] below
+    ap (λ (n : ℕ). get_or (column t place) n []) at ∙ get_or-map (value_at place) t.objects q no_object [] below
 
 pub bad-value : (t : ValueTable) (s : Scaling) (r : ℕ) → position_from (λ text. not (is_scalable s.kind text)) 0 (column t s.place) ≡ Some r
     → HasBadValue t s r
 bad-value t s r is =
     let first = first-Some (λ text. not (is_scalable s.kind text)) 0 r (column t s.place) is in
-    let inside : r < length t.objects = omega (arith, first.inside, length-map t.objects (value_of s.place)) in
-    let bad = not-scalable s.kind (value_of s.place (object_at t r))
+    let inside : r < length t.objects = omega (arith, first.inside, length-map t.objects (value_at s.place)) in
+    let bad = not-scalable s.kind (value_at s.place (object_at t r))
     (ap (is_scalable s.kind) (sym (object-value t s.place r inside)) ∙ not-true _ first.passes) in
     record {
       numbers = bad.0;
@@ -500,9 +500,9 @@ unscalable kind.Interordinal (byte ∷ text) numbers some none = no_value byte t
 pub no_bad-value : (t : ValueTable) (s : Scaling) (r : ℕ)
     → position_from (λ text. not (is_scalable s.kind text)) 0 (column t s.place) ≡ None → HasBadValue t s r → ⊥
 no_bad-value t s r none has =
-    let below : r < 0 + length (column t s.place) = omega (arith, has.inside, length-map t.objects (value_of s.place)) in
+    let below : r < 0 + length (column t s.place) = omega (arith, has.inside, length-map t.objects (value_at s.place)) in
     let good = not-false _ (first-None (λ text. not (is_scalable s.kind text)) 0 (column t s.place) none r (omega arith) below) in
-    let bad = unscalable s.kind (value_of s.place (object_at t r)) has.numbers has.some has.bad in
+    let bad = unscalable s.kind (value_at s.place (object_at t r)) has.numbers has.some has.bad in
     false≢true (sym bad ∙ ap (is_scalable s.kind) (sym (object-value t s.place r has.inside)) ∙ good)
 
 -- ---- records

@@ -5,7 +5,7 @@ use Rattle.std.proofs.lemmas.List.{length-map, take_more, flat_map_more}
 use Rattle.std.proofs.lemmas.List.Folds.{length-flat_map-take}
 use Rattle.context_scaling.specs.declared.scales.Relation.TheVariants as relation
 use Rattle.fca_model.specs.Tables.{Text}
-use Rattle.value_tables.specs.Values.{ObjectValues, value_of}
+use Rattle.value_tables.specs.Values.{ObjectValues, value_at}
 use Rattle.context_scaling.specs.Scaling.{Scaling, each_relation, made_names, made_name, names_of, scale_row, object_row, stands}
 use Rattle.context_scaling.specs.declared.scales.Kind.{Kind}
 use Rattle.context_scaling.specs.declared.scales.Kind.TheVariants as kind
@@ -26,7 +26,7 @@ scale_length s text =
 
 pub row_length : (plan : List Scaling) (object : ObjectValues) → length (object_row plan object) ≡ length (made_names plan)
 row_length [] object = refl
-row_length (s ∷ plan) object = length-append _ _ ∙ ap₂ ◌+◌ (scale_length s (value_of s.place object)) (row_length plan object)
+row_length (s ∷ plan) object = length-append _ _ ∙ ap₂ ◌+◌ (scale_length s (value_at s.place object)) (row_length plan object)
     ∙ sym (length-append _ _)
 
 pub flat_map_next : {X Y : Type 0} (f : X → List Y) (xs : List X) (i : ℕ) (d : X) → i < length xs
