@@ -73,13 +73,13 @@ pub fn next_child<const W: usize>(
     requires candidates { AreCandidates crosses.now node.now.intent.now candidates.now }
     requires order { node.now.from ≤ candidates.now.end }
     requires noted { AreWitnesses crosses.now node.now.intent.now scratch.old.noted.items }
-    ensures between { IfOk result (λ found. IfSome found (λ child. (node.now.from ≤ child.attribute) × (child.attribute < candidates.now.end))) }
-    ensures wide { IfOk result (λ found. IfSome found (λ child. length child.intent ≡ crosses.now.width)) }
-    ensures closed { IfOk result (λ found. IfSome found (λ child. is_closed crosses.now child.intent ≡ true)) }
-    ensures places { IfOk result (λ found. IfSome found (λ child. take child.count scratch.new.found.items ≡ extent crosses.now child.intent)) }
-    ensures few { IfOk result (λ found. IfSome found (λ child. child.count ≤ length scratch.new.found.items)) }
-    ensures larger { IfOk result (λ found. IfSome found (λ child. within node.now.intent.now child.intent ≡ true)) }
-    ensures splits { IfOk result (λ found. MatchOption found
+    ensures between { IfOk result (λ met. IfSome met (λ child. (node.now.from ≤ child.attribute) × (child.attribute < candidates.now.end))) }
+    ensures wide { IfOk result (λ met. IfSome met (λ child. length child.intent ≡ crosses.now.width)) }
+    ensures closed { IfOk result (λ met. IfSome met (λ child. is_closed crosses.now child.intent ≡ true)) }
+    ensures places { IfOk result (λ met. IfSome met (λ child. take child.count scratch.new.found.items ≡ extent crosses.now child.intent)) }
+    ensures few { IfOk result (λ met. IfSome met (λ child. child.count ≤ length scratch.new.found.items)) }
+    ensures larger { IfOk result (λ met. IfSome met (λ child. within node.now.intent.now child.intent ≡ true)) }
+    ensures splits { IfOk result (λ met. MatchOption met
         (branch crosses.now node.now.intent.now node.now.from ≡ branch crosses.now node.now.intent.now candidates.now.end)
         (λ child. branch crosses.now node.now.intent.now child.attribute
         ≡ branch crosses.now node.now.intent.now candidates.now.end ++ branch crosses.now child.intent (child.attribute + 1))) }
@@ -118,13 +118,13 @@ fn child_at<const W: usize>(
     requires inside { i < crosses.now.width }
     requires lacks { slice_index_or node.now.intent.now i false ≡ false }
     requires noted { AreWitnesses crosses.now node.now.intent.now scratch.old.noted.items }
-    ensures wide { IfOk result (λ found. IfSome found (λ child. length child.intent ≡ crosses.now.width)) }
-    ensures closed { IfOk result (λ found. IfSome found (λ child. is_closed crosses.now child.intent ≡ true)) }
-    ensures places { IfOk result (λ found. IfSome found (λ child. take child.count scratch.new.found.items ≡ extent crosses.now child.intent)) }
-    ensures few { IfOk result (λ found. IfSome found (λ child. child.count ≤ length scratch.new.found.items)) }
-    ensures attribute { IfOk result (λ found. IfSome found (λ child. child.attribute ≡ i)) }
-    ensures larger { IfOk result (λ found. IfSome found (λ child. within node.now.intent.now child.intent ≡ true)) }
-    ensures splits { IfOk result (λ found. MatchOption found
+    ensures wide { IfOk result (λ met. IfSome met (λ child. length child.intent ≡ crosses.now.width)) }
+    ensures closed { IfOk result (λ met. IfSome met (λ child. is_closed crosses.now child.intent ≡ true)) }
+    ensures places { IfOk result (λ met. IfSome met (λ child. take child.count scratch.new.found.items ≡ extent crosses.now child.intent)) }
+    ensures few { IfOk result (λ met. IfSome met (λ child. child.count ≤ length scratch.new.found.items)) }
+    ensures attribute { IfOk result (λ met. IfSome met (λ child. child.attribute ≡ i)) }
+    ensures larger { IfOk result (λ met. IfSome met (λ child. within node.now.intent.now child.intent ≡ true)) }
+    ensures splits { IfOk result (λ met. MatchOption met
         (branch crosses.now node.now.intent.now i ≡ branch crosses.now node.now.intent.now (i + 1))
         (λ child. branch crosses.now node.now.intent.now i
         ≡ branch crosses.now node.now.intent.now (i + 1) ++ branch crosses.now child.intent (i + 1))) }
