@@ -7,12 +7,12 @@ use Rattle.fca_model.specs.Sets.{Set}
 use Rattle.fca_model.specs.Context.{Context}
 use Rattle.lectic_concepts.specs.Branches.{branch}
 use Rattle.concept_walk.specs.Pages.{Fills}
-use Rattle.concept_walk.specs.Steps.{IsStep, BeginsAt, IsFurther, AreLeft, HasMet, room_left}
+use Rattle.concept_walk.specs.Steps.{IsStep, BeginsAt, IsFurther, AreLeft, HasDescended, room_left}
 use Rattle.fca_model.specs.Room.{room}
 use Rattle.fca_model.proofs.RoomLemmas.{room_less, room_below}
 use Rattle.concept_walk.specs.declared.page.Page.{Page}
 use Rattle.concept_walk.specs.declared.steps.Step.{Step}
-use Rattle.concept_walk.specs.declared.steps.Met.TheVariants.{Nothing, Whole, Below}
+use Rattle.concept_walk.specs.declared.steps.Descent.TheVariants.{End, Whole, Below}
 use Rattle.concept_walk.proofs.LineLemmas.{Fills-append}
 
 -- ---- what is left
@@ -52,25 +52,25 @@ module _ (K : Context) {W : ℕ} (All : List Set) (old page new : Page W) (steps
   pub walk_step : IsStep K step
   walk_step = left.0
 
-  pub walk_none : HasMet K page new step step Nothing → IsWalk K All old new steps
-  walk_none met = (w.0, met.0 ∙ w.1, left_none K All step (reverse steps) w.0 left met.1)
+  pub walk_none : HasDescended K page new step step End → IsWalk K All old new steps
+  walk_none descent = (w.0, descent.0 ∙ w.1, left_none K All step (reverse steps) w.0 left descent.1)
 
-  pub walk_whole : (after : Step W) → HasMet K page new step after Whole → IsWalk K All old new (steps ++ after ∷ [])
-  walk_whole after met = (
-    w.0 ++ met.1.0,
-    Fills-append K old page new w.0 met.1.0 w.1 met.1.1,
-    subst (λ (xs : List (Step W)). AreLeft K All xs (w.0 ++ met.1.0)) (sym (last_first steps after))
-        (left_further K All step after (reverse steps) w.0 met.1.0 left met.0 met.1.2),
+  pub walk_whole : (after : Step W) → HasDescended K page new step after Whole → IsWalk K All old new (steps ++ after ∷ [])
+  walk_whole after descent = (
+    w.0 ++ descent.1.0,
+    Fills-append K old page new w.0 descent.1.0 w.1 descent.1.1,
+    subst (λ (xs : List (Step W)). AreLeft K All xs (w.0 ++ descent.1.0)) (sym (last_first steps after))
+        (left_further K All step after (reverse steps) w.0 descent.1.0 left descent.0 descent.1.2),
   )
 
-  pub walk_below : (after below : Step W) → HasMet K page new step after (Below below)
+  pub walk_below : (after below : Step W) → HasDescended K page new step after (Below below)
       → IsWalk K All old new ((steps ++ after ∷ []) ++ below ∷ [])
-  walk_below after below met = (
+  walk_below after below descent = (
     w.0 ++ branch K below.intent below.candidates.end,
-    Fills-append K old page new w.0 (branch K below.intent below.candidates.end) w.1 met.3,
+    Fills-append K old page new w.0 (branch K below.intent below.candidates.end) w.1 descent.3,
     subst (λ (xs : List (Step W)). AreLeft K All xs (w.0 ++ branch K below.intent below.candidates.end))
         (sym (last_first (steps ++ after ∷ []) below ∙ ap (λ (xs : List (Step W)). below ∷ xs) (last_first steps after)))
-        (met.1, (w.0, refl, left_further K All step after (reverse steps) w.0 (branch K below.intent below.from) left met.0 met.4)),
+        (descent.1, (w.0, refl, left_further K All step after (reverse steps) w.0 (branch K below.intent below.from) left descent.0 descent.4)),
   )
 
 pub walk_begin : (K : Context) {W : ℕ} (A : Set) (from end : ℕ) (old page : Page W) (steps : List (Step W)) (step : Step W)

@@ -13,7 +13,7 @@ use crate::node::{Candidates, Node};
 use crate::notes::{begin_notes, known_witnesses};
 use crate::page::Page;
 use crate::scratch::{StepListPool, StepLists};
-use crate::steps::{Met, enter, first_step, next_step, put_back};
+use crate::steps::{Descent, enter, first_step, next_step, put_back};
 use attr_bits::Bits;
 use extent_places::{closure_at, last_member};
 use fca_model::Memory;
@@ -51,9 +51,9 @@ pub fn gather_branch<const W: usize>(
     steps.push(first_step(alloc, crosses, node, candidates, pool)?)?;
     while let Some(mut step) = steps.pop() {
         match next_step(alloc, crosses, page, &mut step, pool)? {
-            Met::Nothing => put_back(step, &mut pool.free)?,
-            Met::Whole => steps.push(step)?,
-            Met::Below(below) => {
+            Descent::End => put_back(step, &mut pool.free)?,
+            Descent::Whole => steps.push(step)?,
+            Descent::Below(below) => {
                 steps.push(step)?;
                 steps.push(below)?;
             }

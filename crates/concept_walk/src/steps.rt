@@ -4,7 +4,7 @@ ghost use Rattle.std.specs.Prelude.{◌≡◌, ◌≤◌, [], true, IfOk, length
 ghost use Rattle.fca_model.specs.Context.{extent, is_closed};
 ghost use Rattle.lectic_concepts.specs.Branches.{AreWitnesses};
 ghost use Rattle.concept_walk.specs.Nodes.{IsNode, AreCandidates};
-ghost use Rattle.concept_walk.specs.Steps.{IsStep, BeginsAt, HasEntered, HasMet};
+ghost use Rattle.concept_walk.specs.Steps.{IsStep, BeginsAt, HasEntered, HasDescended};
 
 use crate::branch::next_child;
 use crate::cross_table::CrossTable;
@@ -41,9 +41,9 @@ pub(crate) struct Step<const W: usize> {
 
 /// The outcome of the search for the next child.
 #[derive(Drop)]
-pub(crate) enum Met<const W: usize> {
+pub(crate) enum Descent<const W: usize> {
     /// No child is left.
-    Nothing,
+    End,
     /// A child, whose whole branch was gathered.
     Whole,
     /// A child, whose concept was added, and below which others may be.
@@ -115,9 +115,9 @@ pub(crate) fn next_step<const W: usize>(
     page: &mut Page<W>,
     step: &mut Step<W>,
     pool: &mut StepListPool<W>,
-) -> Result<Met<W>, Memory>
+) -> Result<Descent<W>, Memory>
     requires { IsStep crosses.now step.old }
-    ensures { IfOk result (λ met. HasMet crosses.now page.old page.new step.old step.new met) }
+    ensures { IfOk result (λ descent. HasDescended crosses.now page.old page.new step.old step.new descent) }
 {
     let _words = crosses.rows().width();
     let node = Node {
@@ -128,7 +128,7 @@ pub(crate) fn next_step<const W: usize>(
     };
     let met = next_child(crosses, &node, &step.candidates, &mut step.scratch)?;
     let Some(child) = met else {
-        return Ok(Met::Nothing);
+        return Ok(Descent::End);
     };
     step.candidates.end = child.attribute;
     let known = known_witnesses(crosses, &step.intent, &step.witnesses, &step.scratch.noted);
@@ -140,11 +140,11 @@ pub(crate) fn next_step<const W: usize>(
         witnesses: passed,
     };
     let Some(candidates) = enter(alloc, crosses, page, &below, pool)? else {
-        return Ok(Met::Whole);
+        return Ok(Descent::Whole);
     };
     let mut spare = take_lists(alloc, &mut pool.free);
     spare.noted.extend_from_slice(passed)?;
-    Ok(Met::Below(Step {
+    Ok(Descent::Below(Step {
         intent: child.intent,
         places: replace(&mut step.scratch.found, spare.found),
         count: child.count,
