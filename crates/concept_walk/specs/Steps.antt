@@ -6,10 +6,10 @@ use Rattle.fca_model.specs.Context.{Context, extent, is_closed}
 use Rattle.lectic_concepts.specs.Branches.{branch, AreWitnesses}
 use Rattle.fca_model.specs.Room.{room}
 use Rattle.concept_walk.specs.Nodes.{AreCandidates}
-use Rattle.concept_walk.specs.Pages.{Fills}
+use Rattle.concept_walk.specs.Gatherings.{Fills}
 use Rattle.concept_walk.specs.declared.node.Candidates.{Candidates}
 use Rattle.concept_walk.specs.declared.node.Node.{Node}
-use Rattle.concept_walk.specs.declared.page.Page.{Page}
+use Rattle.concept_walk.specs.declared.gathering.Gathering.{Gathering}
 use Rattle.concept_walk.specs.declared.steps.Step.{Step}
 use Rattle.concept_walk.specs.declared.steps.Descent.{Descent}
 use Rattle.concept_walk.specs.declared.steps.Descent.TheVariants.{End, Whole, Below}
@@ -40,13 +40,13 @@ pub record IsFurther (K : Context) {W : ℕ} (old new : Step W) : Type 0 where
   pub less : new.candidates.end < old.candidates.end
 
 -- the node's branch was gathered whole, or as far as the candidates say
-abbrev pub HasEntered : Context → {W : ℕ} → Page W → Page W → Node W → Option (Candidates W) → Type 0
+abbrev pub HasEntered : Context → {W : ℕ} → Gathering W → Gathering W → Node W → Option (Candidates W) → Type 0
 HasEntered K old new node None = Fills K old new (branch K node.intent.now node.from)
 HasEntered K old new node (Some left) = AreCandidates K node.intent.now left × (node.from ≤ left.end)
     × Fills K old new (branch K node.intent.now left.end)
 
 -- what was gathered, and what is left
-abbrev pub HasDescended : Context → {W : ℕ} → Page W → Page W → Step W → Step W → Descent W → Type 0
+abbrev pub HasDescended : Context → {W : ℕ} → Gathering W → Gathering W → Step W → Step W → Descent W → Type 0
 HasDescended K old new before after End =
     (new.concepts ≡ old.concepts) × (branch K before.intent before.from ≡ branch K before.intent before.candidates.end)
 HasDescended K old new before after Whole =

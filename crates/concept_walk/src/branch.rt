@@ -6,12 +6,12 @@ ghost use Rattle.fca_model.specs.Sets.{within};
 ghost use Rattle.fca_model.specs.Context.{closure, extent, is_closed};
 ghost use Rattle.lectic_concepts.specs.Branches.{branch, AreWitnesses};
 ghost use Rattle.concept_walk.specs.Nodes.{IsNode, AreCandidates};
-ghost use Rattle.concept_walk.specs.Pages.{Fills};
+ghost use Rattle.concept_walk.specs.Gatherings.{Fills};
 
 use crate::cross_table::CrossTable;
+use crate::gathering::Gathering;
 use crate::node::{Candidates, Node};
 use crate::notes::{begin_notes, known_witnesses};
-use crate::page::Page;
 use crate::scratch::{StepListPool, StepLists};
 use crate::steps::{Descent, enter, first_step, next_step, put_back};
 use attr_bits::Bits;
@@ -31,26 +31,26 @@ pub struct Child<const W: usize> {
     pub count: usize,
 }
 
-/// Adds the concepts of the node's branch to the page. The extent of a child is found among that of its parent, and the parent's witnesses are passed down.
-/// The objects of a node that has few are set apart. The steps that are not done wait in a list, so a deep tree takes no more stack than another.
+/// Adds the concepts of the node's branch to the gathering. The extent of a child is found among that of its parent, and the parent's witnesses are passed
+/// down. The objects of a node that has few are set apart. The steps that are not done wait in a list, so a deep tree takes no more stack than another.
 pub fn gather_branch<const W: usize>(
     alloc: Global,
     crosses: &CrossTable<'_, W>,
-    page: &mut Page<W>,
+    gathering: &mut Gathering<W>,
     node: &Node<'_, W>,
     pool: &mut StepListPool<W>,
 ) -> Result<(), Memory>
     requires { IsNode crosses.now node.now }
-    ensures { OnOk result (Fills crosses.now page.old page.new (branch crosses.now node.now.intent.now node.now.from)) }
+    ensures { OnOk result (Fills crosses.now gathering.old gathering.new (branch crosses.now node.now.intent.now node.now.from)) }
 {
     let _words = crosses.rows().width();
-    let Some(candidates) = enter(alloc, crosses, page, node, pool)? else {
+    let Some(candidates) = enter(alloc, crosses, gathering, node, pool)? else {
         return Ok(());
     };
     let mut steps = Vec::new(alloc);
     steps.push(first_step(alloc, crosses, node, candidates, pool)?)?;
     while let Some(mut step) = steps.pop() {
-        match next_step(alloc, crosses, page, &mut step, pool)? {
+        match next_step(alloc, crosses, gathering, &mut step, pool)? {
             Descent::End => put_back(step, &mut pool.free)?,
             Descent::Whole => steps.push(step)?,
             Descent::Below(below) => {
