@@ -7,8 +7,8 @@ ghost use Rattle.expert_wire.specs.Texts.{arrow_text, line_end};
 ghost use Rattle.report_texts.specs.Reports.{arrow_line, basis_text};
 
 use crate::attribute_names::AttributeNames;
+use crate::heads::count_line;
 use attr_bits::Bits;
-use concept_walk::count_line_of;
 use derivation::RowsOf;
 use fca_model::{Implication, MAX_ATTRIBUTES, Memory};
 use implication_closure::ImplicationList;
@@ -41,7 +41,7 @@ fn implications_text<const W: usize>(
     requires { HaveWidth (length names.now) members.now }
     ensures { IfOk result (λ v. v.items ≡ basis_text names.now members.now) }
 {
-    let mut bytes = count_line_of(alloc, b"basis ", members.len())?;
+    let mut bytes = count_line(alloc, b"basis ", members.len())?;
     let mut end = bytes.len();
     for (place, member) in members.iter().enumerate() {
         end = add_implication(&mut bytes, end, names, place, member)?;
