@@ -186,16 +186,3 @@ fn have_room(list: &mut Vec<u16>, len: usize) -> Result<(), Memory>
     }
     Ok(())
 }
-
-/// The places of the objects of the child, which were put into the front of `found`.
-pub fn places_of<'a, const W: usize>(
-    crosses: &CrossTable<'_, W>,
-    child: &Child<W>,
-    found: &'a Vec<u16>,
-) -> &'a [u16]
-    requires places { take child.now.count found.now.items ≡ extent crosses.now child.now.intent }
-    requires few { child.now.count ≤ length found.now.items }
-    ensures { result.now ≡ extent crosses.now child.now.intent }
-{
-    &found[..child.count]
-}

@@ -11,7 +11,7 @@ mod notes;
 mod scratch;
 mod steps;
 
-pub use branch::{Child, gather_branch, next_child, places_of};
+pub use branch::{Child, gather_branch, next_child};
 pub use cross_table::CrossTable;
 pub use gathering::Gathering;
 pub use names::{attribute_pieces, table_names};

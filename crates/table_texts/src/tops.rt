@@ -9,9 +9,7 @@ ghost use Rattle.concept_walk.specs.Nodes.{IsNode};
 ghost use Rattle.table_texts.specs.Tops.{IsTop, branches};
 
 use attr_bits::Bits;
-use concept_walk::{
-    Candidates, CrossTable, Node, StepLists, known_witnesses, next_child, places_of,
-};
+use concept_walk::{Candidates, CrossTable, Node, StepLists, known_witnesses, next_child};
 use extent_places::tries_of;
 use fca_model::Memory;
 use lectic_concepts::{own_witnesses, pass_witnesses};
@@ -207,7 +205,7 @@ fn split_branch<const W: usize>(
         let known = known_witnesses(crosses, node.intent, node.witnesses, &scratch.noted);
         let below = Node {
             intent: &child.intent,
-            places: places_of(crosses, &child, &scratch.found),
+            places: &scratch.found[..child.count],
             from: child.attribute + 1,
             witnesses: pass_witnesses(rows, node.intent, known, &child.intent),
         };
