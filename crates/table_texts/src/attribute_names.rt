@@ -101,20 +101,8 @@ impl AttributeNames {
     {
         let first = self.starts[from as usize];
         let last = self.starts[to as usize];
-        put_part(text, start, &self.text, first, last)
+        put_bytes(text, start, &self.text[first..last])
     }
-}
-
-/// Puts the part of the names from one place up to another at `start` and returns its end.
-fn put_part(text: &mut [u8], start: usize, names: &[u8], first: usize, last: usize) -> usize
-    requires order { first ≤ last }
-    requires inside { last ≤ length names.now }
-    requires room { start + (last - first) ≤ length text.old }
-    ensures text { take result text.new ≡ take start text.old ++ take (last - first) (drop first names.now) }
-    ensures ends { result ≡ start + (last - first) }
-    ensures room { length text.new ≡ length text.old }
-{
-    put_bytes(text, start, &names[first..last])
 }
 
 /// The names of the table's attributes in one text, and where each begins. The end of the last stands behind these places.

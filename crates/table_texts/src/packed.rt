@@ -15,9 +15,9 @@ use crate::jobs::{branch_jobs, density_of};
 use crate::teams::gather_jobs;
 use crate::tops::{Top, large_part, pays, root_of, split_large};
 use concept_walk::{CrossTable, Gathering, table_names};
-use context_table::{NarrowRows, NarrowTable, Table};
+use context_table::{NarrowRows, NarrowTable};
 use derivation::RowsOf;
-use fca_model::{MAX_OBJECTS, Memory, Name};
+use fca_model::{MAX_OBJECTS, Memory};
 use packed_concepts::{ConceptPage, ConceptsText, Names, NarrowPages};
 use std::alloc::Global;
 use std::thread::Threads;
@@ -47,21 +47,12 @@ pub(crate) fn names_and_rows(
     ensures each_object { IfOk result (λ parts. length table.objects ≡ length table.context.rows) }
     ensures few_objects { IfOk result (λ parts. length (context_in parts.1).rows ≤ MAX_OBJECTS) }
 {
-    let (objects, attributes, rows) = table.into_parts();
-    match names_of(alloc, objects, attributes) {
+    let (objects, header, rows) = table.into_parts();
+    let _rows = header.rows();
+    match table_names(alloc, objects, &header) {
         Ok(names) => Ok((names, rows)),
         Err(_) => Err(Memory),
     }
-}
-
-/// The names of the objects and of the table's attributes.
-fn names_of(alloc: Global, objects: Vec<Name>, table: Table) -> Result<Names, Memory>
-    ensures names { IfOk result (λ names. names ≡ record { attributes = table.attributes; objects = objects.items }) }
-    ensures each_attribute { length table.attributes ≡ table.context.width }
-{
-    let _rows = table.rows();
-    let names = table_names(alloc, objects, &table);
-    names
 }
 
 /// The concepts of the rows.
