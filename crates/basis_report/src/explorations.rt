@@ -133,7 +133,7 @@ pub(crate) fn write_open(
 {
     write_count_line(draft, table, b"# open ", questions.len())?;
     for question in questions {
-        draft.append_question(table, b"# ", question)?;
+        draft.append_full_text(table, b"# ", question)?;
     }
     Ok(())
 }

@@ -13,10 +13,10 @@ use Rattle.expert_wire.specs.Texts.{line_end, ordinal, comma_list, names_of, bra
 use Rattle.lectic_concepts.specs.Concepts.{concept_of, concepts}
 use Rattle.report_texts.specs.Reports.{names_at, concept_line, concepts_text}
 use Rattle.packed_concepts.specs.Lines.{Named, line_of, lines_from, lines_text}
-use Rattle.concept_walk.specs.Pages.{Fills, concept_at}
-use Rattle.concept_walk.specs.declared.page.Page.{Page}
+use Rattle.concept_walk.specs.Gatherings.{Fills, concept_at}
+use Rattle.concept_walk.specs.declared.gathering.Gathering.{Gathering}
 
-pub Fills-append : (K : Context) {W : ℕ} (a b c : Page W) (Xs Ys : List Set) → Fills K a b Xs → Fills K b c Ys → Fills K a c (Xs ++ Ys)
+pub Fills-append : (K : Context) {W : ℕ} (a b c : Gathering W) (Xs Ys : List Set) → Fills K a b Xs → Fills K b c Ys → Fills K a c (Xs ++ Ys)
 Fills-append K a b c Xs Ys x y =
     y ∙ ap (λ cs. cs ++ map (concept_at K) Ys) x ∙ append_assoc a.concepts (map (concept_at K) Xs) (map (concept_at K) Ys)
     ∙ ap (λ cs. a.concepts ++ cs) (sym (map-append (concept_at K) Xs Ys))

@@ -6,13 +6,13 @@ use Rattle.std.proofs.lemmas.List.Sums.{sum_by_push}
 use Rattle.fca_model.specs.Sets.{Set}
 use Rattle.fca_model.specs.Context.{Context}
 use Rattle.lectic_concepts.specs.Branches.{branch}
-use Rattle.concept_walk.specs.Pages.{Fills}
-use Rattle.concept_walk.specs.Steps.{IsStep, BeginsAt, IsFurther, AreLeft, HasMet, room_left}
+use Rattle.concept_walk.specs.Gatherings.{Fills}
+use Rattle.concept_walk.specs.Steps.{IsStep, BeginsAt, IsFurther, AreLeft, HasDescended, room_left}
 use Rattle.fca_model.specs.Room.{room}
 use Rattle.fca_model.proofs.RoomLemmas.{room_less, room_below}
-use Rattle.concept_walk.specs.declared.page.Page.{Page}
+use Rattle.concept_walk.specs.declared.gathering.Gathering.{Gathering}
 use Rattle.concept_walk.specs.declared.steps.Step.{Step}
-use Rattle.concept_walk.specs.declared.steps.Met.TheVariants.{Nothing, Whole, Below}
+use Rattle.concept_walk.specs.declared.steps.Descent.TheVariants.{End, Whole, Below}
 use Rattle.concept_walk.proofs.LineLemmas.{Fills-append}
 
 -- ---- what is left
@@ -38,55 +38,55 @@ module _ (K : Context) {W : ℕ} (All : List Set) where
 -- ---- the walk
 
 -- what was written, and the steps that are left, of which the last is the deepest
-abbrev pub IsWalk : (K : Context) {W : ℕ} → List Set → Page W → Page W → List (Step W) → Type 0
-IsWalk K All old page steps = (Done : List Set) × Fills K old page Done × AreLeft K All (reverse steps) Done
+abbrev pub IsWalk : (K : Context) {W : ℕ} → List Set → Gathering W → Gathering W → List (Step W) → Type 0
+IsWalk K All old gathering steps = (Done : List Set) × Fills K old gathering Done × AreLeft K All (reverse steps) Done
 
 last_first : {W : ℕ} (steps : List (Step W)) (step : Step W) → reverse (steps ++ step ∷ []) ≡ step ∷ reverse steps
 last_first steps step = reverse-append steps (step ∷ [])
 
-module _ (K : Context) {W : ℕ} (All : List Set) (old page new : Page W) (steps : List (Step W)) (step : Step W)
-    (w : IsWalk K All old page (steps ++ step ∷ [])) where
+module _ (K : Context) {W : ℕ} (All : List Set) (old gathering new : Gathering W) (steps : List (Step W)) (step : Step W)
+    (w : IsWalk K All old gathering (steps ++ step ∷ [])) where
   left : AreLeft K All (step ∷ reverse steps) w.0
   left = subst (λ (xs : List (Step W)). AreLeft K All xs w.0) (last_first steps step) w.2
 
   pub walk_step : IsStep K step
   walk_step = left.0
 
-  pub walk_none : HasMet K page new step step Nothing → IsWalk K All old new steps
-  walk_none met = (w.0, met.0 ∙ w.1, left_none K All step (reverse steps) w.0 left met.1)
+  pub walk_none : HasDescended K gathering new step step End → IsWalk K All old new steps
+  walk_none descent = (w.0, descent.0 ∙ w.1, left_none K All step (reverse steps) w.0 left descent.1)
 
-  pub walk_whole : (after : Step W) → HasMet K page new step after Whole → IsWalk K All old new (steps ++ after ∷ [])
-  walk_whole after met = (
-    w.0 ++ met.1.0,
-    Fills-append K old page new w.0 met.1.0 w.1 met.1.1,
-    subst (λ (xs : List (Step W)). AreLeft K All xs (w.0 ++ met.1.0)) (sym (last_first steps after))
-        (left_further K All step after (reverse steps) w.0 met.1.0 left met.0 met.1.2),
+  pub walk_whole : (after : Step W) → HasDescended K gathering new step after Whole → IsWalk K All old new (steps ++ after ∷ [])
+  walk_whole after descent = (
+    w.0 ++ descent.1.0,
+    Fills-append K old gathering new w.0 descent.1.0 w.1 descent.1.1,
+    subst (λ (xs : List (Step W)). AreLeft K All xs (w.0 ++ descent.1.0)) (sym (last_first steps after))
+        (left_further K All step after (reverse steps) w.0 descent.1.0 left descent.0 descent.1.2),
   )
 
-  pub walk_below : (after below : Step W) → HasMet K page new step after (Below below)
+  pub walk_below : (after below : Step W) → HasDescended K gathering new step after (Below below)
       → IsWalk K All old new ((steps ++ after ∷ []) ++ below ∷ [])
-  walk_below after below met = (
+  walk_below after below descent = (
     w.0 ++ branch K below.intent below.candidates.end,
-    Fills-append K old page new w.0 (branch K below.intent below.candidates.end) w.1 met.3,
+    Fills-append K old gathering new w.0 (branch K below.intent below.candidates.end) w.1 descent.3,
     subst (λ (xs : List (Step W)). AreLeft K All xs (w.0 ++ branch K below.intent below.candidates.end))
         (sym (last_first (steps ++ after ∷ []) below ∙ ap (λ (xs : List (Step W)). below ∷ xs) (last_first steps after)))
-        (met.1, (w.0, refl, left_further K All step after (reverse steps) w.0 (branch K below.intent below.from) left met.0 met.4)),
+        (descent.1, (w.0, refl, left_further K All step after (reverse steps) w.0 (branch K below.intent below.from) left descent.0 descent.4)),
   )
 
-pub walk_begin : (K : Context) {W : ℕ} (A : Set) (from end : ℕ) (old page : Page W) (steps : List (Step W)) (step : Step W)
+pub walk_begin : (K : Context) {W : ℕ} (A : Set) (from end : ℕ) (old gathering : Gathering W) (steps : List (Step W)) (step : Step W)
     → steps ≡ step ∷ []
-    → BeginsAt K A from end step → Fills K old page (branch K A end) → IsWalk K (branch K A from) old page steps
-walk_begin K A from end old page steps step is b filled = subst (IsWalk K (branch K A from) old page) (sym is) (
+    → BeginsAt K A from end step → Fills K old gathering (branch K A end) → IsWalk K (branch K A from) old gathering steps
+walk_begin K A from end old gathering steps step is b filled = subst (IsWalk K (branch K A from) old gathering) (sym is) (
   branch K A end,
   filled,
   subst (λ (xs : List (Step _)). AreLeft K (branch K A from) xs (branch K A end)) (sym (last_first [] step))
       (b.is_step, ([], ap₂ (branch K) (sym b.intent) (sym b.end), ap₂ (branch K) b.intent b.from)),
 )
 
-pub walk_done : (K : Context) {W : ℕ} (All : List Set) (old page : Page W) (steps : List (Step W)) → length steps ≡ 0
-    → IsWalk K All old page steps → Fills K old page All
-walk_done K All old page [] none w = subst (Fills K old page) w.2 w.1
-walk_done K All old page (step ∷ steps) none w = absurd (omega (arith, none))
+pub walk_done : (K : Context) {W : ℕ} (All : List Set) (old gathering : Gathering W) (steps : List (Step W)) → length steps ≡ 0
+    → IsWalk K All old gathering steps → Fills K old gathering All
+walk_done K All old gathering [] none w = subst (Fills K old gathering) w.2 w.1
+walk_done K All old gathering (step ∷ steps) none w = absurd (omega (arith, none))
 
 -- ---- room for steps
 

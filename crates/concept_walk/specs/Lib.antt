@@ -1,3 +1,3 @@
 pub mod Nodes
-pub mod Pages
+pub mod Gatherings
 pub mod Steps

@@ -6,13 +6,13 @@ use Rattle.fca_model.specs.Context.{Context, extent, is_closed}
 use Rattle.lectic_concepts.specs.Branches.{branch, AreWitnesses}
 use Rattle.fca_model.specs.Room.{room}
 use Rattle.concept_walk.specs.Nodes.{AreCandidates}
-use Rattle.concept_walk.specs.Pages.{Fills}
+use Rattle.concept_walk.specs.Gatherings.{Fills}
 use Rattle.concept_walk.specs.declared.node.Candidates.{Candidates}
 use Rattle.concept_walk.specs.declared.node.Node.{Node}
-use Rattle.concept_walk.specs.declared.page.Page.{Page}
+use Rattle.concept_walk.specs.declared.gathering.Gathering.{Gathering}
 use Rattle.concept_walk.specs.declared.steps.Step.{Step}
-use Rattle.concept_walk.specs.declared.steps.Met.{Met}
-use Rattle.concept_walk.specs.declared.steps.Met.TheVariants.{Nothing, Whole, Below}
+use Rattle.concept_walk.specs.declared.steps.Descent.{Descent}
+use Rattle.concept_walk.specs.declared.steps.Descent.TheVariants.{End, Whole, Below}
 
 -- the step is at an intent, with what is needed to find its children
 pub record IsStep (K : Context) {W : ℕ} (step : Step W) : Type 0 where
@@ -40,19 +40,19 @@ pub record IsFurther (K : Context) {W : ℕ} (old new : Step W) : Type 0 where
   pub less : new.candidates.end < old.candidates.end
 
 -- the node's branch was gathered whole, or as far as the candidates say
-abbrev pub HasEntered : Context → {W : ℕ} → Page W → Page W → Node W → Option (Candidates W) → Type 0
+abbrev pub HasEntered : Context → {W : ℕ} → Gathering W → Gathering W → Node W → Option (Candidates W) → Type 0
 HasEntered K old new node None = Fills K old new (branch K node.intent.now node.from)
 HasEntered K old new node (Some left) = AreCandidates K node.intent.now left × (node.from ≤ left.end)
     × Fills K old new (branch K node.intent.now left.end)
 
 -- what was gathered, and what is left
-abbrev pub HasMet : Context → {W : ℕ} → Page W → Page W → Step W → Step W → Met W → Type 0
-HasMet K old new before after Nothing =
+abbrev pub HasDescended : Context → {W : ℕ} → Gathering W → Gathering W → Step W → Step W → Descent W → Type 0
+HasDescended K old new before after End =
     (new.concepts ≡ old.concepts) × (branch K before.intent before.from ≡ branch K before.intent before.candidates.end)
-HasMet K old new before after Whole =
+HasDescended K old new before after Whole =
     IsFurther K before after × ((Xs : List Set) × Fills K old new Xs
     × (branch K before.intent after.candidates.end ≡ branch K before.intent before.candidates.end ++ Xs))
-HasMet K old new before after (Below step) =
+HasDescended K old new before after (Below step) =
     IsFurther K before after × IsStep K step × (step.from ≡ after.candidates.end + 1)
     × Fills K old new (branch K step.intent step.candidates.end)
     × (branch K before.intent after.candidates.end ≡ branch K before.intent before.candidates.end ++ branch K step.intent step.from)

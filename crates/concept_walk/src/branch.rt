@@ -6,14 +6,14 @@ ghost use Rattle.fca_model.specs.Sets.{within};
 ghost use Rattle.fca_model.specs.Context.{closure, extent, is_closed};
 ghost use Rattle.lectic_concepts.specs.Branches.{branch, AreWitnesses};
 ghost use Rattle.concept_walk.specs.Nodes.{IsNode, AreCandidates};
-ghost use Rattle.concept_walk.specs.Pages.{Fills};
+ghost use Rattle.concept_walk.specs.Gatherings.{Fills};
 
 use crate::cross_table::CrossTable;
+use crate::gathering::Gathering;
 use crate::node::{Candidates, Node};
 use crate::notes::{begin_notes, known_witnesses};
-use crate::page::Page;
 use crate::scratch::{StepListPool, StepLists};
-use crate::steps::{Met, enter, first_step, next_step, put_back};
+use crate::steps::{Descent, enter, first_step, next_step, put_back};
 use attr_bits::Bits;
 use extent_places::{closure_at, last_member};
 use fca_model::Memory;
@@ -31,29 +31,29 @@ pub struct Child<const W: usize> {
     pub count: usize,
 }
 
-/// Adds the concepts of the node's branch to the page. The extent of a child is found among that of its parent, and the parent's witnesses are passed down.
-/// The objects of a node that has few are set apart. The steps that are not done wait in a list, so a deep tree takes no more stack than another.
+/// Adds the concepts of the node's branch to the gathering. The extent of a child is found among that of its parent, and the parent's witnesses are passed
+/// down. The objects of a node that has few are set apart. The steps that are not done wait in a list, so a deep tree takes no more stack than another.
 pub fn gather_branch<const W: usize>(
     alloc: Global,
     crosses: &CrossTable<'_, W>,
-    page: &mut Page<W>,
+    gathering: &mut Gathering<W>,
     node: &Node<'_, W>,
     pool: &mut StepListPool<W>,
 ) -> Result<(), Memory>
     requires { IsNode crosses.now node.now }
-    ensures { OnOk result (Fills crosses.now page.old page.new (branch crosses.now node.now.intent.now node.now.from)) }
+    ensures { OnOk result (Fills crosses.now gathering.old gathering.new (branch crosses.now node.now.intent.now node.now.from)) }
 {
     let _words = crosses.rows().width();
-    let Some(candidates) = enter(alloc, crosses, page, node, pool)? else {
+    let Some(candidates) = enter(alloc, crosses, gathering, node, pool)? else {
         return Ok(());
     };
     let mut steps = Vec::new(alloc);
     steps.push(first_step(alloc, crosses, node, candidates, pool)?)?;
     while let Some(mut step) = steps.pop() {
-        match next_step(alloc, crosses, page, &mut step, pool)? {
-            Met::Nothing => put_back(step, &mut pool.free)?,
-            Met::Whole => steps.push(step)?,
-            Met::Below(below) => {
+        match next_step(alloc, crosses, gathering, &mut step, pool)? {
+            Descent::End => put_back(step, &mut pool.free)?,
+            Descent::Whole => steps.push(step)?,
+            Descent::Below(below) => {
                 steps.push(step)?;
                 steps.push(below)?;
             }
@@ -73,13 +73,13 @@ pub fn next_child<const W: usize>(
     requires candidates { AreCandidates crosses.now node.now.intent.now candidates.now }
     requires order { node.now.from ≤ candidates.now.end }
     requires noted { AreWitnesses crosses.now node.now.intent.now scratch.old.noted.items }
-    ensures between { IfOk result (λ found. IfSome found (λ child. (node.now.from ≤ child.attribute) × (child.attribute < candidates.now.end))) }
-    ensures wide { IfOk result (λ found. IfSome found (λ child. length child.intent ≡ crosses.now.width)) }
-    ensures closed { IfOk result (λ found. IfSome found (λ child. is_closed crosses.now child.intent ≡ true)) }
-    ensures places { IfOk result (λ found. IfSome found (λ child. take child.count scratch.new.found.items ≡ extent crosses.now child.intent)) }
-    ensures few { IfOk result (λ found. IfSome found (λ child. child.count ≤ length scratch.new.found.items)) }
-    ensures larger { IfOk result (λ found. IfSome found (λ child. within node.now.intent.now child.intent ≡ true)) }
-    ensures splits { IfOk result (λ found. MatchOption found
+    ensures between { IfOk result (λ met. IfSome met (λ child. (node.now.from ≤ child.attribute) × (child.attribute < candidates.now.end))) }
+    ensures wide { IfOk result (λ met. IfSome met (λ child. length child.intent ≡ crosses.now.width)) }
+    ensures closed { IfOk result (λ met. IfSome met (λ child. is_closed crosses.now child.intent ≡ true)) }
+    ensures places { IfOk result (λ met. IfSome met (λ child. take child.count scratch.new.found.items ≡ extent crosses.now child.intent)) }
+    ensures few { IfOk result (λ met. IfSome met (λ child. child.count ≤ length scratch.new.found.items)) }
+    ensures larger { IfOk result (λ met. IfSome met (λ child. within node.now.intent.now child.intent ≡ true)) }
+    ensures splits { IfOk result (λ met. MatchOption met
         (branch crosses.now node.now.intent.now node.now.from ≡ branch crosses.now node.now.intent.now candidates.now.end)
         (λ child. branch crosses.now node.now.intent.now child.attribute
         ≡ branch crosses.now node.now.intent.now candidates.now.end ++ branch crosses.now child.intent (child.attribute + 1))) }
@@ -118,13 +118,13 @@ fn child_at<const W: usize>(
     requires inside { i < crosses.now.width }
     requires lacks { slice_index_or node.now.intent.now i false ≡ false }
     requires noted { AreWitnesses crosses.now node.now.intent.now scratch.old.noted.items }
-    ensures wide { IfOk result (λ found. IfSome found (λ child. length child.intent ≡ crosses.now.width)) }
-    ensures closed { IfOk result (λ found. IfSome found (λ child. is_closed crosses.now child.intent ≡ true)) }
-    ensures places { IfOk result (λ found. IfSome found (λ child. take child.count scratch.new.found.items ≡ extent crosses.now child.intent)) }
-    ensures few { IfOk result (λ found. IfSome found (λ child. child.count ≤ length scratch.new.found.items)) }
-    ensures attribute { IfOk result (λ found. IfSome found (λ child. child.attribute ≡ i)) }
-    ensures larger { IfOk result (λ found. IfSome found (λ child. within node.now.intent.now child.intent ≡ true)) }
-    ensures splits { IfOk result (λ found. MatchOption found
+    ensures wide { IfOk result (λ met. IfSome met (λ child. length child.intent ≡ crosses.now.width)) }
+    ensures closed { IfOk result (λ met. IfSome met (λ child. is_closed crosses.now child.intent ≡ true)) }
+    ensures places { IfOk result (λ met. IfSome met (λ child. take child.count scratch.new.found.items ≡ extent crosses.now child.intent)) }
+    ensures few { IfOk result (λ met. IfSome met (λ child. child.count ≤ length scratch.new.found.items)) }
+    ensures attribute { IfOk result (λ met. IfSome met (λ child. child.attribute ≡ i)) }
+    ensures larger { IfOk result (λ met. IfSome met (λ child. within node.now.intent.now child.intent ≡ true)) }
+    ensures splits { IfOk result (λ met. MatchOption met
         (branch crosses.now node.now.intent.now i ≡ branch crosses.now node.now.intent.now (i + 1))
         (λ child. branch crosses.now node.now.intent.now i
         ≡ branch crosses.now node.now.intent.now (i + 1) ++ branch crosses.now child.intent (i + 1))) }
@@ -185,17 +185,4 @@ fn have_room(list: &mut Vec<u16>, len: usize) -> Result<(), Memory>
         list.resize(len, 0)?;
     }
     Ok(())
-}
-
-/// The places of the objects of the child, which were put into the front of `found`.
-pub fn places_of<'a, const W: usize>(
-    crosses: &CrossTable<'_, W>,
-    child: &Child<W>,
-    found: &'a Vec<u16>,
-) -> &'a [u16]
-    requires places { take child.now.count found.now.items ≡ extent crosses.now child.now.intent }
-    requires few { child.now.count ≤ length found.now.items }
-    ensures { result.now ≡ extent crosses.now child.now.intent }
-{
-    &found[..child.count]
 }

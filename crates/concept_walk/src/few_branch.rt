@@ -6,12 +6,12 @@ ghost use Rattle.fca_model.specs.Context.{is_closed};
 ghost use Rattle.lectic_concepts.specs.Branches.{branch, AreWitnesses};
 ghost use Rattle.extent_places.specs.Few.{AreFew};
 ghost use Rattle.concept_walk.specs.Nodes.{IsNode, IsFewNode};
-ghost use Rattle.concept_walk.specs.Pages.{Fills};
+ghost use Rattle.concept_walk.specs.Gatherings.{Fills};
 
 use crate::cross_table::CrossTable;
+use crate::gathering::Gathering;
 use crate::node::Node;
 use crate::notes::{begin_notes, known_witnesses};
-use crate::page::Page;
 use crate::scratch::{StepListPool, StepLists, take_lists};
 use attr_bits::Bits;
 use extent_places::{FEW_OBJECTS, FewObjects, ObjectSet, SmallConcept, last_member, tries_of};
@@ -32,17 +32,17 @@ pub(crate) struct FewNode<'a, const W: usize> {
     pub(crate) witnesses: &'a [u32],
 }
 
-/// Adds the concepts of the node's branch to the page, after its few objects are set apart.
+/// Adds the concepts of the node's branch to the gathering, after its few objects are set apart.
 pub(crate) fn gather_apart<const W: usize>(
     alloc: Global,
     crosses: &CrossTable<'_, W>,
-    page: &mut Page<W>,
+    gathering: &mut Gathering<W>,
     node: &Node<'_, W>,
     pool: &mut StepListPool<W>,
 ) -> Result<(), Memory>
     requires few { length node.now.places.now ≤ FEW_OBJECTS }
     requires node { IsNode crosses.now node.now }
-    ensures { OnOk result (Fills crosses.now page.old page.new (branch crosses.now node.now.intent.now node.now.from)) }
+    ensures { OnOk result (Fills crosses.now gathering.old gathering.new (branch crosses.now node.now.intent.now node.now.from)) }
 {
     let _words = crosses.rows().width();
     let all = pool
@@ -54,27 +54,27 @@ pub(crate) fn gather_apart<const W: usize>(
         from: node.from,
         witnesses: node.witnesses,
     };
-    gather_few(alloc, crosses, &pool.few, page, &apart, &mut pool.free)
+    gather_few(alloc, crosses, &pool.few, gathering, &apart, &mut pool.free)
 }
 
-/// Adds the concepts of the node's branch to the page. Its objects are some of the few.
+/// Adds the concepts of the node's branch to the gathering. Its objects are some of the few.
 fn gather_few<const W: usize>(
     alloc: Global,
     crosses: &CrossTable<'_, W>,
     few: &FewObjects<W>,
-    page: &mut Page<W>,
+    gathering: &mut Gathering<W>,
     node: &FewNode<'_, W>,
     free: &mut Vec<StepLists>,
 ) -> Result<(), Memory>
     requires { IsFewNode crosses.now few.now node.now }
-    ensures { OnOk result (Fills crosses.now page.old page.new (branch crosses.now node.now.intent.now node.now.from)) }
+    ensures { OnOk result (Fills crosses.now gathering.old gathering.new (branch crosses.now node.now.intent.now node.now.from)) }
 {
     let rows = crosses.rows();
     let a = node.intent;
     let mut end = rows.width();
     let mut scratch = take_lists(alloc, free);
     few.put_places(rows, a, node.objects, &mut scratch.found)?;
-    page.add(crosses, a, &scratch.found)?;
+    gathering.add(crosses, a, &scratch.found)?;
     let tries = tries_of(rows, a, &scratch.found);
     while let Some(i) = last_member(&tries, node.from, end) {
         end = i;
@@ -97,7 +97,7 @@ fn gather_few<const W: usize>(
             from: i + 1,
             witnesses: pass_witnesses(rows, a, known, &below.intent),
         };
-        gather_few(alloc, crosses, few, page, &child, free)?;
+        gather_few(alloc, crosses, few, gathering, &child, free)?;
     }
     free.push(scratch)?;
     Ok(())

@@ -4,19 +4,17 @@
 mod branch;
 mod cross_table;
 mod few_branch;
-mod heads;
+mod gathering;
 mod names;
 mod node;
 mod notes;
-mod page;
 mod scratch;
 mod steps;
 
-pub use branch::{Child, gather_branch, next_child, places_of};
+pub use branch::{Child, gather_branch, next_child};
 pub use cross_table::CrossTable;
-pub use heads::{add_count_line, count_line_of};
+pub use gathering::Gathering;
 pub use names::{attribute_pieces, table_names};
 pub use node::{Candidates, Node};
 pub use notes::known_witnesses;
-pub use page::Page;
 pub use scratch::{StepListPool, StepLists};

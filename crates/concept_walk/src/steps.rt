@@ -4,14 +4,14 @@ ghost use Rattle.std.specs.Prelude.{◌≡◌, ◌≤◌, [], true, IfOk, length
 ghost use Rattle.fca_model.specs.Context.{extent, is_closed};
 ghost use Rattle.lectic_concepts.specs.Branches.{AreWitnesses};
 ghost use Rattle.concept_walk.specs.Nodes.{IsNode, AreCandidates};
-ghost use Rattle.concept_walk.specs.Steps.{IsStep, BeginsAt, HasEntered, HasMet};
+ghost use Rattle.concept_walk.specs.Steps.{IsStep, BeginsAt, HasEntered, HasDescended};
 
 use crate::branch::next_child;
 use crate::cross_table::CrossTable;
 use crate::few_branch::gather_apart;
+use crate::gathering::Gathering;
 use crate::node::{Candidates, Node};
 use crate::notes::known_witnesses;
-use crate::page::Page;
 use crate::scratch::{StepListPool, StepLists, take_lists};
 use attr_bits::Bits;
 use extent_places::{last_member, pays_to_set_apart, tries_of};
@@ -41,34 +41,34 @@ pub(crate) struct Step<const W: usize> {
 
 /// The outcome of the search for the next child.
 #[derive(Drop)]
-pub(crate) enum Met<const W: usize> {
+pub(crate) enum Descent<const W: usize> {
     /// No child is left.
-    Nothing,
+    End,
     /// A child, whose whole branch was gathered.
     Whole,
     /// A child, whose concept was added, and below which others may be.
     Below(Step<W>),
 }
 
-/// Adds the concept of the node's intent to the page, or those of its whole branch if it pays or there are no others. If more may be left, gives the
+/// Adds the concept of the node's intent to the gathering, or those of its whole branch if it pays or there are no others. If more may be left, gives the
 /// attributes from which a child may come.
 pub(crate) fn enter<const W: usize>(
     alloc: Global,
     crosses: &CrossTable<'_, W>,
-    page: &mut Page<W>,
+    gathering: &mut Gathering<W>,
     node: &Node<'_, W>,
     pool: &mut StepListPool<W>,
 ) -> Result<Option<Candidates<W>>, Memory>
     requires { IsNode crosses.now node.now }
-    ensures { IfOk result (λ left. HasEntered crosses.now page.old page.new node.now left) }
+    ensures { IfOk result (λ left. HasEntered crosses.now gathering.old gathering.new node.now left) }
 {
     let rows = crosses.rows();
     let width = rows.width();
     if pays_to_set_apart(node.places.len(), width.saturating_sub(node.from)) {
-        gather_apart(alloc, crosses, page, node, pool)?;
+        gather_apart(alloc, crosses, gathering, node, pool)?;
         return Ok(None);
     }
-    page.add(crosses, node.intent, node.places)?;
+    gathering.add(crosses, node.intent, node.places)?;
     let attributes = tries_of(rows, node.intent, node.places);
     let Some(last) = last_member(&attributes, node.from, width) else {
         return Ok(None);
@@ -112,12 +112,12 @@ pub(crate) fn first_step<const W: usize>(
 pub(crate) fn next_step<const W: usize>(
     alloc: Global,
     crosses: &CrossTable<'_, W>,
-    page: &mut Page<W>,
+    gathering: &mut Gathering<W>,
     step: &mut Step<W>,
     pool: &mut StepListPool<W>,
-) -> Result<Met<W>, Memory>
+) -> Result<Descent<W>, Memory>
     requires { IsStep crosses.now step.old }
-    ensures { IfOk result (λ met. HasMet crosses.now page.old page.new step.old step.new met) }
+    ensures { IfOk result (λ descent. HasDescended crosses.now gathering.old gathering.new step.old step.new descent) }
 {
     let _words = crosses.rows().width();
     let node = Node {
@@ -128,7 +128,7 @@ pub(crate) fn next_step<const W: usize>(
     };
     let met = next_child(crosses, &node, &step.candidates, &mut step.scratch)?;
     let Some(child) = met else {
-        return Ok(Met::Nothing);
+        return Ok(Descent::End);
     };
     step.candidates.end = child.attribute;
     let known = known_witnesses(crosses, &step.intent, &step.witnesses, &step.scratch.noted);
@@ -139,12 +139,12 @@ pub(crate) fn next_step<const W: usize>(
         from: child.attribute + 1,
         witnesses: passed,
     };
-    let Some(candidates) = enter(alloc, crosses, page, &below, pool)? else {
-        return Ok(Met::Whole);
+    let Some(candidates) = enter(alloc, crosses, gathering, &below, pool)? else {
+        return Ok(Descent::Whole);
     };
     let mut spare = take_lists(alloc, &mut pool.free);
     spare.noted.extend_from_slice(passed)?;
-    Ok(Met::Below(Step {
+    Ok(Descent::Below(Step {
         intent: child.intent,
         places: replace(&mut step.scratch.found, spare.found),
         count: child.count,

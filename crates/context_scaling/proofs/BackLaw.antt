@@ -10,7 +10,7 @@ use Rattle.context_table.specs.Table.{first_repeat}
 use Rattle.fca_model.specs.Sets.{Set}
 use Rattle.fca_model.specs.Tables.{Text}
 use Rattle.value_tables.specs.Numbers.{number_of}
-use Rattle.context_scaling.specs.Scaling.{Scaling, each_relation, made_names, mark_name, names_of, stands}
+use Rattle.context_scaling.specs.Scaling.{Scaling, each_relation, made_names, made_name, names_of, stands}
 use Rattle.context_scaling.specs.Back.{GivesBack, NoneBetween, begin_of, scaling_at, TellsBounds, single_place, back_by}
 use Rattle.context_scaling.specs.Back.{back_between, marked_values, narrower_bound_of, places_from}
 use Rattle.context_scaling.specs.declared.scales.Kind.{Kind}
@@ -138,19 +138,19 @@ gives_back kind.Interordinal values (byte ∷ text) rest once = λ n is.
 -- ---- names that differ
 
 module _ (plan : List Scaling) (k : ℕ) (below : k < length plan) (nominal : (scaling_at plan k).kind ≡ kind.Nominal) (text : Text) where
-  names_are : names_of (scaling_at plan k) ≡ map (mark_name (scaling_at plan k).attribute relation.Equal) (scaling_at plan k).values
+  names_are : names_of (scaling_at plan k) ≡ map (made_name (scaling_at plan k).attribute relation.Equal) (scaling_at plan k).values
   names_are = rw nominal refl
 
   -- the name that the scale value makes stands in its place
   name_at : (p : ℕ) → slice_get (scaling_at plan k).values p ≡ Some (value.Text text)
       → (begin_of plan k + p < length (made_names plan))
-      × (get_or (made_names plan) (begin_of plan k + p) [] ≡ mark_name (scaling_at plan k).attribute relation.Equal (value.Text text))
+      × (get_or (made_names plan) (begin_of plan k + p) [] ≡ made_name (scaling_at plan k).attribute relation.Equal (value.Text text))
   name_at p at =
       let s = scaling_at plan k in
       let begin = begin_of plan k in
       let rest = made_names (drop (suc k) plan) in
       let within = slice_get_within s.values p (value.Text text) at in
-      let long : length (names_of s) ≡ length s.values = ap length names_are ∙ length-map s.values (mark_name s.attribute relation.Equal) in
+      let long : length (names_of s) ≡ length s.values = ap length names_are ∙ length-map s.values (made_name s.attribute relation.Equal) in
       let from = names_from plan k below in
       let size = sym (length-drop begin (made_names plan)) ∙ ap length from ∙ length-append (names_of s) rest in
       let early : p < length (names_of s) = omega (arith, within, long) in (
@@ -159,8 +159,8 @@ module _ (plan : List Scaling) (k : ℕ) (below : k < length plan) (nominal : (s
             ∙ ap (λ (ns : List Text). get_or ns p []) from
             ∙ get_or_append_left (names_of s) rest [] p early
             ∙ ap (λ (ns : List Text). get_or ns p []) names_are
-            ∙ get_or-map (mark_name s.attribute relation.Equal) s.values p (value.Text text) [] within
-            ∙ ap (mark_name s.attribute relation.Equal) (get_or_from_slice_get s.values p (value.Text text) (value.Text text) at),
+            ∙ get_or-map (made_name s.attribute relation.Equal) s.values p (value.Text text) [] within
+            ∙ ap (made_name s.attribute relation.Equal) (get_or_from_slice_get s.values p (value.Text text) (value.Text text) at),
       )
 
   pub stands_once : first_repeat (made_names plan) ≡ None → StandsOnce (scaling_at plan k).values text

@@ -20,8 +20,8 @@ use Rattle.std.proofs.lemmas.List.Elements.{All-append, All-cons, All-nil, All-p
 use Rattle.fca_model.specs.Tables.{Text}
 use Rattle.fca_model.specs.Names.{name_fault}
 use Rattle.context_table.specs.Table.{first_repeat}
-use Rattle.value_tables.specs.Values.{ObjectValues, ValueTable, column, no_object, value_of}
-use Rattle.context_scaling.specs.Scaling.{Fits, FitsBehind, Scaling, is_scalable, made_names, mark_name, names_of}
+use Rattle.value_tables.specs.Values.{ObjectValues, ValueTable, column, no_object, value_at}
+use Rattle.context_scaling.specs.Scaling.{Fits, FitsBehind, Scaling, is_scalable, made_names, made_name, names_of}
 use Rattle.context_scaling.specs.declared.scales.Kind.{Kind}
 
 -- ---- values of a column
@@ -30,18 +30,18 @@ module _ (k : Kind) (objects : List ObjectValues) (m g : ℕ) (below : g < lengt
   abbrev test : Text → Bool
   test text = not (is_scalable k text)
 
-  column_at : drop g (map (value_of m) objects) ≡ value_of m (get_or objects g no_object) ∷ drop (g + 1) (map (value_of m) objects)
+  column_at : drop g (map (value_at m) objects) ≡ value_at m (get_or objects g no_object) ∷ drop (g + 1) (map (value_at m) objects)
   column_at =
-      let within : g < length (map (value_of m) objects) = omega (arith, length-map objects (value_of m)) in
-      drop_more (map (value_of m) objects) g [] within
-      ∙ ap (λ (text : Text). text ∷ drop (g + 1) (map (value_of m) objects)) (get_or-map (value_of m) objects g no_object [] below)
+      let within : g < length (map (value_at m) objects) = omega (arith, length-map objects (value_at m)) in
+      drop_more (map (value_at m) objects) g [] within
+      ∙ ap (λ (text : Text). text ∷ drop (g + 1) (map (value_at m) objects)) (get_or-map (value_at m) objects g no_object [] below)
 
-  pub position_more : is_scalable k (value_of m (get_or objects g no_object)) ≡ true
-      → position_from test g (drop g (map (value_of m) objects)) ≡ position_from test (g + 1) (drop (g + 1) (map (value_of m) objects))
+  pub position_more : is_scalable k (value_at m (get_or objects g no_object)) ≡ true
+      → position_from test g (drop g (map (value_at m) objects)) ≡ position_from test (g + 1) (drop (g + 1) (map (value_at m) objects))
   position_more good = rw (column_at, good) refl
 
-  pub position_here : is_scalable k (value_of m (get_or objects g no_object)) ≡ false
-      → position_from test g (drop g (map (value_of m) objects)) ≡ Some g
+  pub position_here : is_scalable k (value_at m (get_or objects g no_object)) ≡ false
+      → position_from test g (drop g (map (value_at m) objects)) ≡ Some g
   position_here bad = rw (column_at, bad) refl
 
 -- ---- plans that fit
@@ -105,7 +105,7 @@ number_value k text n is same = elim is [
 
 pub names_more : (i : ℕ) (attribute : Text) (r : Relation) (j : ℕ) (seen : List Text) (v : ScaleValue) (values : List ScaleValue)
     (name : Text)
-    → new_name i j seen (mark_name attribute r v) ≡ Ok name
+    → new_name i j seen (made_name attribute r v) ≡ Ok name
     → add_names i attribute r j seen (v ∷ values) ≡ add_names i attribute r (j + 1) (seen ++ name ∷ []) values
 names_more i attribute r j seen v values name is = rw is refl
 

@@ -10,7 +10,7 @@ use Rattle.text_pieces.specs.Lists.{EachName}
 use Rattle.csv_context.specs.Records.{Record}
 use Rattle.value_tables.specs.Form.{first_bad, is_field}
 use Rattle.text_pieces.specs.Telling.{then, unless}
-use Rattle.value_tables.specs.Values.{ValueTable, column, object_at, value_of}
+use Rattle.value_tables.specs.Values.{ValueTable, column, object_at, value_at}
 use Rattle.context_scaling.specs.PlanForm.{few_names, kind_form, kind_of, names_form, or_fault, place_of, record_form}
 use Rattle.context_scaling.specs.PlanForm.{scale_value, scaling_form, scaling_of, value_kind}
 use Rattle.context_scaling.specs.Refusals.{HasBadName, HasBadScale, HasBadValue, IsAtFault, IsFaultless, IsFirstFault, IsRecordOf}
@@ -44,7 +44,7 @@ one-scale k fields a b one two =
 
 one-value : (t : ValueTable) (s : Scaling) (a b : ℕ) → HasBadValue t s a → HasBadValue t s b → a ≡ b
 one-value t s a b one two =
-    let P : ℕ → Type 0 = λ r. is_scalable s.kind (value_of s.place (object_at t r)) ≡ false in
+    let P : ℕ → Type 0 = λ r. is_scalable s.kind (value_at s.place (object_at t r)) ≡ false in
     only-first P a b (unscalable s.kind _ one.numbers one.some one.bad) (unscalable s.kind _ two.numbers two.some two.bad)
     (λ r less at. false≢true (sym at ∙ one.first r less))
     (λ r less at. false≢true (sym at ∙ two.first r less))

@@ -21,13 +21,13 @@ use Rattle.csv_context.specs.Records.{Record}
 use Rattle.value_tables.specs.Form.{first_bad, is_field, is_name}
 use Rattle.value_tables.specs.Numbers.{number_of}
 use Rattle.text_pieces.specs.Telling.{then, unless}
-use Rattle.value_tables.specs.Values.{ValueTable, column, no_object, object_at, value_of}
+use Rattle.value_tables.specs.Values.{ValueTable, column, no_object, object_at, value_at}
 use Rattle.value_tables.specs.declared.fields.FieldKind.{FieldKind}
 use Rattle.context_scaling.specs.PlanForm.{add_names, few_names, kind_form, kind_of, names_form, or_fault, place_of}
 use Rattle.context_scaling.specs.PlanForm.{record_form, scaling_form, scaling_of, value_kind}
 use Rattle.context_scaling.specs.Refusals.{HasBadName, HasBadScale, HasBadValue, IsAtFault, IsRecordOf}
 use Rattle.context_scaling.specs.Refusals.{NamesNoKind, field_at, is_new_name}
-use Rattle.context_scaling.specs.Scaling.{Scaling, is_scalable, made_names, mark_name, names_of}
+use Rattle.context_scaling.specs.Scaling.{Scaling, is_scalable, made_names, made_name, names_of}
 use Rattle.context_scaling.specs.declared.scales.Kind.{Kind}
 use Rattle.context_scaling.specs.declared.scales.Kind.TheVariants as kind
 use Rattle.context_scaling.specs.declared.scales.Relation.{Relation}
@@ -193,7 +193,7 @@ new-later seen name names p =
 
 module _ (i : ℕ) (attribute : Text) (r : Relation) where
   abbrev made : List ScaleValue → List Text
-  made values = map (mark_name attribute r) values
+  made values = map (made_name attribute r) values
 
   record AddFault (j : ℕ) (seen : List Text) (values : List ScaleValue) (e : PlanFault) : Type 0 where
     place : ℕ
@@ -206,7 +206,7 @@ module _ (i : ℕ) (attribute : Text) (r : Relation) where
       → AddFault j seen values e
   add-fault j seen [] e is = absurd (ok-err _ seen e refl is)
   add-fault j seen (v ∷ values) e is =
-      let name : Text = mark_name attribute r v in
+      let name : Text = made_name attribute r v in
       elim (cases_Bool (is_name name && not (list_any (bytes_eq name) seen))) [
         | inl good ↦
             let later = add-fault (j + 1) (seen ++ name ∷ []) values e (rw good at is) in
@@ -248,7 +248,7 @@ module _ (i : ℕ) (attribute : Text) (r : Relation) where
       let same : seen ≡ names = same-ok _ seen names refl is in
       record { all = sym same ∙ sym (append-nil seen); new = λ q below. absurd (omega arith) }
   add-Ok j seen (v ∷ values) names is =
-      let name : Text = mark_name attribute r v in
+      let name : Text = made_name attribute r v in
       elim (cases_Bool (is_name name && not (list_any (bytes_eq name) seen))) [
         | inl good ↦
             let rest = add-Ok (j + 1) (seen ++ name ∷ []) values names (rw good at is) in
@@ -290,7 +290,7 @@ module _ (i place : ℕ) (attribute : Text) (values : List ScaleValue) where
   abbrev pub of_kind : Kind → Scaling
   of_kind k = record { kind = k; attribute = attribute; place = place; values = values }
 
-  of_one : (r : Relation) (k : Kind) (seen : List Text) (e : PlanFault) → names_of (of_kind k) ≡ map (mark_name attribute r) values
+  of_one : (r : Relation) (k : Kind) (seen : List Text) (e : PlanFault) → names_of (of_kind k) ≡ map (made_name attribute r) values
       → add_names i attribute r 3 seen values ≡ Err e → NamesFault i seen (of_kind k) e
   of_one r k seen e names is =
       let one = add-fault i attribute r 3 seen values e is in
@@ -301,7 +301,7 @@ module _ (i place : ℕ) (attribute : Text) (values : List ScaleValue) where
         fault_is = one.fault_is;
         has = record {
           place = one.place;
-          inside = rw names (omega (arith, one.inside, length-map values (mark_name attribute r)));
+          inside = rw names (omega (arith, one.inside, length-map values (made_name attribute r)));
           field = field;
           bad = rw names one.bad;
           first = λ q below. rw names (one.first q below);
@@ -314,9 +314,9 @@ module _ (i place : ℕ) (attribute : Text) (values : List ScaleValue) where
   of_two seen e (Err other) low is =
       let same : other ≡ e = same-fault _ other e refl is in
       let one = add-fault i attribute relation.AtMost 3 seen values e (low ∙ ap Err same) in
-      let lows : List Text = map (mark_name attribute relation.AtMost) values in
-      let highs : List Text = map (mark_name attribute relation.AtLeast) values in
-      let size : length lows ≡ length values = length-map values (mark_name attribute relation.AtMost) in
+      let lows : List Text = map (made_name attribute relation.AtMost) values in
+      let highs : List Text = map (made_name attribute relation.AtLeast) values in
+      let size : length lows ≡ length values = length-map values (made_name attribute relation.AtMost) in
       let inside : one.place < length lows = omega (arith, one.inside, size) in
       let small : one.place % length values ≡ one.place = mod-eq_of_lt one.inside in
       record {
@@ -331,13 +331,13 @@ module _ (i place : ℕ) (attribute : Text) (values : List ScaleValue) where
         };
       }
   of_two seen e (Ok made) low is =
-      let lows : List Text = map (mark_name attribute relation.AtMost) values in
-      let highs : List Text = map (mark_name attribute relation.AtLeast) values in
+      let lows : List Text = map (made_name attribute relation.AtMost) values in
+      let highs : List Text = map (made_name attribute relation.AtLeast) values in
       let first = add-Ok i attribute relation.AtMost 3 seen values made low in
       let P : List Text → Type 0 = λ names. add_names i attribute relation.AtLeast 3 names values ≡ Err e in
       let one = add-fault i attribute relation.AtLeast 3 (seen ++ lows) values e (subst P first.all is) in
-      let low_size : length lows ≡ length values = length-map values (mark_name attribute relation.AtMost) in
-      let high_size : length highs ≡ length values = length-map values (mark_name attribute relation.AtLeast) in
+      let low_size : length lows ≡ length values = length-map values (made_name attribute relation.AtMost) in
+      let high_size : length highs ≡ length values = length-map values (made_name attribute relation.AtLeast) in
       let less : one.place < length values = one.inside in
       let small : one.place % length values ≡ one.place = mod-eq_of_lt less in
       let second : (length values + one.place) % length values ≡ one.place = add-mod_left (length values) one.place ∙ small in
@@ -378,26 +378,26 @@ module _ (i place : ℕ) (attribute : Text) (values : List ScaleValue) where
       by (Err other) low is = absurd (ok-err _ names other is refl)
       by (Ok made) low is =
           (add-Ok i attribute relation.AtLeast 3 made values names is).all
-          ∙ ap (λ (front : List Text). front ++ map (mark_name attribute relation.AtLeast) values)
+          ∙ ap (λ (front : List Text). front ++ map (made_name attribute relation.AtLeast) values)
           (add-Ok i attribute relation.AtMost 3 seen values made low).all
-          ∙ append_assoc seen (map (mark_name attribute relation.AtMost) values) (map (mark_name attribute relation.AtLeast) values)
+          ∙ append_assoc seen (map (made_name attribute relation.AtMost) values) (map (made_name attribute relation.AtLeast) values)
 
   -- after all went well, each name is new
   pub names-new : (k : Kind) (seen names : List Text) → names_form i k attribute seen values ≡ Ok names → (q : ℕ)
       → q < length (names_of (of_kind k)) → is_new_name seen (names_of (of_kind k)) q ≡ true
   names-new kind.Nominal seen names is q below =
-      let size = length-map values (mark_name attribute relation.Equal) in
+      let size = length-map values (made_name attribute relation.Equal) in
       (add-Ok i attribute relation.Equal 3 seen values names is).new q (omega (arith, below, size))
   names-new kind.Ordinal seen names is q below =
-      let size = length-map values (mark_name attribute relation.AtMost) in
+      let size = length-map values (made_name attribute relation.AtMost) in
       (add-Ok i attribute relation.AtMost 3 seen values names is).new q (omega (arith, below, size))
   names-new kind.Interordinal seen names is q below = by (add_names i attribute relation.AtMost 3 seen values) refl is
     where
       lows : List Text
-      lows = map (mark_name attribute relation.AtMost) values
+      lows = map (made_name attribute relation.AtMost) values
 
       highs : List Text
-      highs = map (mark_name attribute relation.AtLeast) values
+      highs = map (made_name attribute relation.AtLeast) values
 
       by : (low : Result (List Text) PlanFault) → add_names i attribute relation.AtMost 3 seen values ≡ low
           → then low (λ made. add_names i attribute relation.AtLeast 3 made values) ≡ Ok names
@@ -407,8 +407,8 @@ module _ (i place : ℕ) (attribute : Text) (values : List ScaleValue) where
           let first = add-Ok i attribute relation.AtMost 3 seen values made low in
           let P : List Text → Type 0 = λ ns. add_names i attribute relation.AtLeast 3 ns values ≡ Ok names in
           let second = add-Ok i attribute relation.AtLeast 3 (seen ++ lows) values names (subst P first.all is) in
-          let low_size : length lows ≡ length values = length-map values (mark_name attribute relation.AtMost) in
-          let high_size : length highs ≡ length values = length-map values (mark_name attribute relation.AtLeast) in
+          let low_size : length lows ≡ length values = length-map values (made_name attribute relation.AtMost) in
+          let high_size : length highs ≡ length values = length-map values (made_name attribute relation.AtLeast) in
           elim (cases_lt q (length lows)) [
             | inl left ↦ new-left seen lows highs q left ∙ first.new q (omega (arith, left, low_size))
             | inr right ↦
@@ -467,16 +467,16 @@ not-scalable kind.Interordinal text bad =
     let parts = no_number text bad in
     (λ is. (let same : kind.Interordinal ≡ kind.Nominal = is in cc), parts.0, parts.1)
 
-object-value : (t : ValueTable) (place q : ℕ) → q < length t.objects → get_or (column t place) (q - 0) [] ≡ value_of place (object_at t q)
+object-value : (t : ValueTable) (place q : ℕ) → q < length t.objects → get_or (column t place) (q - 0) [] ≡ value_at place (object_at t q)
 object-value t place q below = let at : q - 0 ≡ q = omega arith in
-    ap (λ (n : ℕ). get_or (column t place) n []) at ∙ get_or-map (value_of place) t.objects q no_object [] below
+    ap (λ (n : ℕ). get_or (column t place) n []) at ∙ get_or-map (value_at place) t.objects q no_object [] below
 
 pub bad-value : (t : ValueTable) (s : Scaling) (r : ℕ) → position_from (λ text. not (is_scalable s.kind text)) 0 (column t s.place) ≡ Some r
     → HasBadValue t s r
 bad-value t s r is =
     let first = first-Some (λ text. not (is_scalable s.kind text)) 0 r (column t s.place) is in
-    let inside : r < length t.objects = omega (arith, first.inside, length-map t.objects (value_of s.place)) in
-    let bad = not-scalable s.kind (value_of s.place (object_at t r))
+    let inside : r < length t.objects = omega (arith, first.inside, length-map t.objects (value_at s.place)) in
+    let bad = not-scalable s.kind (value_at s.place (object_at t r))
     (ap (is_scalable s.kind) (sym (object-value t s.place r inside)) ∙ not-true _ first.passes) in
     record {
       numbers = bad.0;
@@ -500,9 +500,9 @@ unscalable kind.Interordinal (byte ∷ text) numbers some none = no_value byte t
 pub no_bad-value : (t : ValueTable) (s : Scaling) (r : ℕ)
     → position_from (λ text. not (is_scalable s.kind text)) 0 (column t s.place) ≡ None → HasBadValue t s r → ⊥
 no_bad-value t s r none has =
-    let below : r < 0 + length (column t s.place) = omega (arith, has.inside, length-map t.objects (value_of s.place)) in
+    let below : r < 0 + length (column t s.place) = omega (arith, has.inside, length-map t.objects (value_at s.place)) in
     let good = not-false _ (first-None (λ text. not (is_scalable s.kind text)) 0 (column t s.place) none r (omega arith) below) in
-    let bad = unscalable s.kind (value_of s.place (object_at t r)) has.numbers has.some has.bad in
+    let bad = unscalable s.kind (value_at s.place (object_at t r)) has.numbers has.some has.bad in
     false≢true (sym bad ∙ ap (is_scalable s.kind) (sym (object-value t s.place r has.inside)) ∙ good)
 
 -- ---- records

@@ -5,8 +5,8 @@ use Rattle.std.proofs.lemmas.List.{length-map, take_more, flat_map_more}
 use Rattle.std.proofs.lemmas.List.Folds.{length-flat_map-take}
 use Rattle.context_scaling.specs.declared.scales.Relation.TheVariants as relation
 use Rattle.fca_model.specs.Tables.{Text}
-use Rattle.value_tables.specs.Values.{ObjectValues, value_of}
-use Rattle.context_scaling.specs.Scaling.{Scaling, each_relation, made_names, mark_name, names_of, scale_row, object_row, stands}
+use Rattle.value_tables.specs.Values.{ObjectValues, value_at}
+use Rattle.context_scaling.specs.Scaling.{Scaling, each_relation, made_names, made_name, names_of, scale_row, object_row, stands}
 use Rattle.context_scaling.specs.declared.scales.Kind.{Kind}
 use Rattle.context_scaling.specs.declared.scales.Kind.TheVariants as kind
 use Rattle.context_scaling.specs.declared.scales.Relation.{Relation}
@@ -21,12 +21,12 @@ each_relation_length kind.Interordinal f g same = length-append _ _ ∙ ap₂ �
 
 pub scale_length : (s : Scaling) (text : Text) → length (scale_row s text) ≡ length (names_of s)
 scale_length s text =
-    each_relation_length s.kind (λ r. map (stands text r) s.values) (λ r. map (mark_name s.attribute r) s.values)
-    (λ r. length-map s.values (stands text r) ∙ sym (length-map s.values (mark_name s.attribute r)))
+    each_relation_length s.kind (λ r. map (stands text r) s.values) (λ r. map (made_name s.attribute r) s.values)
+    (λ r. length-map s.values (stands text r) ∙ sym (length-map s.values (made_name s.attribute r)))
 
 pub row_length : (plan : List Scaling) (object : ObjectValues) → length (object_row plan object) ≡ length (made_names plan)
 row_length [] object = refl
-row_length (s ∷ plan) object = length-append _ _ ∙ ap₂ ◌+◌ (scale_length s (value_of s.place object)) (row_length plan object)
+row_length (s ∷ plan) object = length-append _ _ ∙ ap₂ ◌+◌ (scale_length s (value_at s.place object)) (row_length plan object)
     ∙ sym (length-append _ _)
 
 pub flat_map_next : {X Y : Type 0} (f : X → List Y) (xs : List X) (i : ℕ) (d : X) → i < length xs
@@ -41,8 +41,8 @@ values_few kind.Interordinal f n same = let e = same relation.AtMost in
     omega (arith, e, length-append (f relation.AtMost) (f relation.AtLeast))
 
 pub values_names : (s : Scaling) → length s.values ≤ length (names_of s)
-values_names s = values_few s.kind (λ r. map (mark_name s.attribute r) s.values) (length s.values)
-    (λ r. length-map s.values (mark_name s.attribute r))
+values_names s = values_few s.kind (λ r. map (made_name s.attribute r) s.values) (length s.values)
+    (λ r. length-map s.values (made_name s.attribute r))
 
 -- the names of a record stand within all
 pub names_within : (plan : List Scaling) (i : ℕ) (s : Scaling) → i < length plan → s ≡ get_or plan i s

@@ -13,7 +13,7 @@ use Rattle.value_tables.specs.Values.{ValueTable, column}
 use Rattle.value_tables.specs.Form.{first_bad, is_name}
 use Rattle.value_tables.specs.declared.fields.FieldKind.{FieldKind}
 use Rattle.value_tables.specs.declared.fields.FieldKind.TheVariants as field
-use Rattle.context_scaling.specs.Scaling.{Scaling, is_scalable, made_names, mark_name}
+use Rattle.context_scaling.specs.Scaling.{Scaling, is_scalable, made_names, made_name}
 use Rattle.context_scaling.specs.declared.scales.Kind.{Kind}
 use Rattle.context_scaling.specs.declared.scales.Kind.TheVariants as kind
 use Rattle.context_scaling.specs.declared.scales.Relation.{Relation}
@@ -77,7 +77,7 @@ new_name i j seen name = cond (is_name name && not (list_any (bytes_eq name) see
 abbrev pub add_names : ℕ → Text → Relation → ℕ → List Text → List ScaleValue → Result (List Text) PlanFault
 add_names i attribute relation j seen [] = Ok seen
 add_names i attribute relation j seen (v ∷ values) =
-    then (new_name i j seen (mark_name attribute relation v)) (λ name. add_names i attribute relation (j + 1) (seen ++ name ∷ []) values)
+    then (new_name i j seen (made_name attribute relation v)) (λ name. add_names i attribute relation (j + 1) (seen ++ name ∷ []) values)
 
 -- the names so far, and those of record i
 abbrev pub names_form : ℕ → Kind → Text → List Text → List ScaleValue → Result (List Text) PlanFault

@@ -10,7 +10,7 @@ use Rattle.fca_model.specs.declared.TheConstants.{MAX_ATTRIBUTES}
 use Rattle.csv_context.specs.Records.{Record}
 use Rattle.value_tables.specs.Form.{is_field, is_name}
 use Rattle.value_tables.specs.Numbers.{number_of}
-use Rattle.value_tables.specs.Values.{ValueTable, object_at, value_of}
+use Rattle.value_tables.specs.Values.{ValueTable, object_at, value_at}
 use Rattle.context_scaling.specs.Back.{scaling_at}
 use Rattle.context_scaling.specs.PlanForm.{kind_of, scale_value, value_kind}
 use Rattle.context_scaling.specs.Scaling.{Scaling, is_scalable, made_names, names_of}
@@ -54,9 +54,9 @@ pub record HasBadScale (kind : Kind) (fields : Record) (j : ℕ) : Type 0 where
 pub record HasBadValue (t : ValueTable) (s : Scaling) (r : ℕ) : Type 0 where
   pub numbers : s.kind ≢ kind.Nominal
   pub inside : r < length t.objects
-  pub some : value_of s.place (object_at t r) ≢ []
-  pub bad : number_of (value_of s.place (object_at t r)) ≡ None
-  pub first : (q : ℕ) → q < r → is_scalable s.kind (value_of s.place (object_at t q)) ≡ true
+  pub some : value_at s.place (object_at t r) ≢ []
+  pub bad : number_of (value_at s.place (object_at t r)) ≡ None
+  pub first : (q : ℕ) → q < r → is_scalable s.kind (value_at s.place (object_at t q)) ≡ true
 
 -- text p of these is a name, and is none of those before it and none of those seen
 abbrev pub is_new_name : List Text → List Text → ℕ → Bool

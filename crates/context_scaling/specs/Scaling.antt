@@ -17,7 +17,7 @@ use Rattle.fca_model.specs.Names.{name_fault}
 use Rattle.fca_model.specs.declared.TheConstants.{MAX_ATTRIBUTES}
 use Rattle.context_table.specs.Table.{first_repeat}
 use Rattle.value_tables.specs.Numbers.{number_of}
-use Rattle.value_tables.specs.Values.{ObjectValues, ValueTable, value_of, column}
+use Rattle.value_tables.specs.Values.{ObjectValues, ValueTable, value_at, column}
 use Rattle.context_scaling.specs.declared.scales.Kind.{Kind}
 use Rattle.context_scaling.specs.declared.scales.Kind.TheVariants as kind
 use Rattle.context_scaling.specs.declared.scales.Relation.{Relation}
@@ -69,12 +69,12 @@ value_text (value.Text v) = v
 value_text (value.Number v) = signed_decimal v
 
 -- as in "age <= 30"
-abbrev pub mark_name : Text → Relation → ScaleValue → Text
-mark_name attribute relation v = attribute ++ sign relation ++ value_text v
+abbrev pub made_name : Text → Relation → ScaleValue → Text
+made_name attribute relation v = attribute ++ sign relation ++ value_text v
 
 -- the names of the attributes that are made from one attribute
 abbrev pub names_of : Scaling → List Text
-names_of s = each_relation s.kind (λ r. map (mark_name s.attribute r) s.values)
+names_of s = each_relation s.kind (λ r. map (made_name s.attribute r) s.values)
 
 -- the names of the attributes that a plan makes, in its order
 abbrev pub made_names : List Scaling → List Text
@@ -84,7 +84,7 @@ made_names plan = flat_map names_of plan
 
 -- which attributes that the plan makes the object has
 abbrev pub object_row : List Scaling → ObjectValues → Set
-object_row plan object = flat_map (λ s. scale_row s (value_of s.place object)) plan
+object_row plan object = flat_map (λ s. scale_row s (value_at s.place object)) plan
 
 -- the scaled table: it has no title, and the attributes that the plan makes
 abbrev pub scaled : ValueTable → List Scaling → NamedContext

@@ -1,7 +1,7 @@
 //! Reading back: what a row says of the value that it was made from.
 
 ghost use Rattle.std.specs.Prelude.{◌≡◌, ◌<◌, ◌≤◌, ◌+◌, ℕ, Some, drop, length, take};
-ghost use Rattle.value_tables.specs.Values.{ValueTable, object_at, value_of};
+ghost use Rattle.value_tables.specs.Values.{ValueTable, object_at, value_at};
 ghost use Rattle.context_scaling.specs.Scaling.{Fits, made_names, names_of, object_row};
 ghost use Rattle.context_scaling.specs.Back.{GivesBack, single_place, back_at, begin_of, back_between, is_narrower, narrowest_bound};
 ghost use Rattle.context_scaling.specs.Back.{narrower_bound, narrower_bound_of, places_from, scaling_at};
@@ -29,7 +29,7 @@ pub fn read_back(plan: &Plan, k: usize, row: &Attrs) -> Back
     requires width { length row.now ≡ length (made_names plan.now) }
     ensures back { result ≡ back_at plan.now k row.now }
     ensures value { (t : ValueTable) (g : ℕ) → Fits plan.now t → row.now ≡ object_row plan.now (object_at t g)
-        → GivesBack (scaling_at plan.now k).kind (scaling_at plan.now k).values (value_of (scaling_at plan.now k).place (object_at t g)) result }
+        → GivesBack (scaling_at plan.now k).kind (scaling_at plan.now k).values (value_at (scaling_at plan.now k).place (object_at t g)) result }
 {
     back_at(plan, k, row)
 }

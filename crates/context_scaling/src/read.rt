@@ -10,7 +10,7 @@ ghost use Rattle.csv_context.specs.Records.{IsOpen, csv_records, records_left};
 ghost use Rattle.text_pieces.specs.Telling.{Tells, TellsBy};
 ghost use Rattle.value_tables.specs.Values.{column};
 ghost use Rattle.value_tables.specs.Form.{first_bad, is_field};
-ghost use Rattle.context_scaling.specs.Scaling.{Fits, FitsBehind, each_relation, is_scalable, mark_name, names_of, sign};
+ghost use Rattle.context_scaling.specs.Scaling.{Fits, FitsBehind, each_relation, is_scalable, made_name, names_of, sign};
 ghost use Rattle.context_scaling.specs.PlanForm as form;
 
 use crate::PlanFault;
@@ -230,8 +230,8 @@ fn put_names(
     values: &[ScaleValue],
 ) -> Result<(), PlanFault>
     ensures form { TellsBy PlanFault.Memory (λ _. names.new.keys) result (form.names_form i kind attribute.now names.old.keys values.now) }
-    ensures names { OnOk result (names.new.keys ≡ names.old.keys ++ each_relation kind (λ r. map (mark_name attribute.now r) values.now)) }
-    ensures named { OnOk result (All (λ name. name_fault name ≡ None) (each_relation kind (λ r. map (mark_name attribute.now r) values.now))) }
+    ensures names { OnOk result (names.new.keys ≡ names.old.keys ++ each_relation kind (λ r. map (made_name attribute.now r) values.now)) }
+    ensures named { OnOk result (All (λ name. name_fault name ≡ None) (each_relation kind (λ r. map (made_name attribute.now r) values.now))) }
     ensures differing { OnOk result (first_repeat names.old.keys ≡ None → first_repeat names.new.keys ≡ None) }
 {
     match kind {
@@ -254,12 +254,12 @@ fn add_names(
     values: &[ScaleValue],
 ) -> Result<(), PlanFault>
     ensures form { TellsBy PlanFault.Memory (λ _. names.new.keys) result (form.add_names i attribute.now relation 3 names.old.keys values.now) }
-    ensures names { OnOk result (names.new.keys ≡ names.old.keys ++ map (mark_name attribute.now relation) values.now) }
-    ensures named { OnOk result (All (λ name. name_fault name ≡ None) (map (mark_name attribute.now relation) values.now)) }
+    ensures names { OnOk result (names.new.keys ≡ names.old.keys ++ map (made_name attribute.now relation) values.now) }
+    ensures named { OnOk result (All (λ name. name_fault name ≡ None) (map (made_name attribute.now relation) values.now)) }
     ensures differing { OnOk result (first_repeat names.old.keys ≡ None → first_repeat names.new.keys ≡ None) }
 {
     for (p, value) in values.iter().enumerate() {
-        let text = mark_name(alloc, attribute, relation, value)?;
+        let text = made_name(alloc, attribute, relation, value)?;
         let name = new_name(alloc, names, i, p + 3, &text)?;
         names.insert(name)?;
     }
@@ -290,13 +290,13 @@ fn new_name(
 }
 
 /// The name of the attribute for this relation to the scale value, as `age <= 30`.
-fn mark_name(
+fn made_name(
     alloc: Global,
     attribute: &Name,
     relation: Relation,
     value: &ScaleValue,
 ) -> Result<String, Memory>
-    ensures { IfOk result (λ text. string_bytes text ≡ mark_name attribute.now relation value.now) }
+    ensures { IfOk result (λ text. string_bytes text ≡ made_name attribute.now relation value.now) }
 {
     let mut text = String::from_str(alloc, attribute.text())?;
     text.push_str(sign(relation))?;

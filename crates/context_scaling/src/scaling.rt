@@ -2,7 +2,7 @@
 
 ghost use Rattle.std.specs.Prelude.{◌≡◌, ◌<◌, ◌≤◌, ◌+◌, ◌++◌, IfOk, length, map, vec_len};
 ghost use Rattle.value_tables.specs.Numbers.{number_of};
-ghost use Rattle.value_tables.specs.Values.{object_at, value_of};
+ghost use Rattle.value_tables.specs.Values.{object_at, value_at};
 ghost use Rattle.context_scaling.specs.Scaling.{Fits, made_names, names_of, scale_row, scaled, object_row, stands};
 
 use crate::filling::Filling;

@@ -1,4 +1,4 @@
--- Cells of at most one byte: what the first two bytes say of the first cell, and a mark that is put into a row.
+-- Cells of at most one byte: what the first two bytes say of the first cell, and a cell that is put into a row.
 use Rattle.std.proofs.Common.{◌≡◌, ◌∙◌, ◌<◌, ◌≤◌, ◌+◌, ◌-◌, ◌%◌, ◌^◌, ◌∷◌, [], ◌≢◌, ℕ, Bool, true, false, not, ◌&&◌, ◌||◌, ◌==◌, cond, eqb}
 use Rattle.std.proofs.Common.{nat_le, Some, take, drop, length, get_or, set, inl, inr, refl, sym, ap, subst, eqb-true, le-leb, ext_get_or}
 use Rattle.std.proofs.Common.{get_or-set_same, get_or-set_other, pow_mono, ◌*◌, arith}
@@ -13,7 +13,7 @@ use Rattle.fca_model.specs.Tables.{Text}
 use Rattle.csv_context.proofs.Texts.{both-true}
 use Rattle.text_pieces.specs.Blanks.{trim}
 use Rattle.csv_context.specs.Lines.{is_comma}
-use Rattle.csv_context.specs.Form.{mark_of}
+use Rattle.csv_context.specs.Form.{cross_of}
 use Rattle.csv_context.specs.Cells.{TakesCell, is_cross, is_short}
 use Rattle.csv_context.proofs.LineLemmas.{next_field-none, next_field-one}
 
@@ -40,8 +40,8 @@ of_short P large small one dot none comma b short = elim (cases_Bool (b == 88)) 
   ]
 ]
 
-mark_of-short : (b : ℕ) → is_short b ≡ true → is_comma b ≡ false → mark_of (trim (b ∷ [])) ≡ Some (is_cross b)
-mark_of-short = of_short (λ b. is_comma b ≡ false → mark_of (trim (b ∷ [])) ≡ Some (is_cross b)) (λ _. refl) (λ _. refl) (λ _. refl)
+cross_of-short : (b : ℕ) → is_short b ≡ true → is_comma b ≡ false → cross_of (trim (b ∷ [])) ≡ Some (is_cross b)
+cross_of-short = of_short (λ b. is_comma b ≡ false → cross_of (trim (b ∷ [])) ≡ Some (is_cross b)) (λ _. refl) (λ _. refl) (λ _. refl)
     (λ _. refl) (λ _. refl) (λ other. cc other)
 
 -- an empty cell
@@ -58,7 +58,7 @@ pub TakesCell-one : (cells : Text) → 2 ≤ length cells → is_comma (get_or c
 TakesCell-one [] long other comma short = absurd (omega arith)
 TakesCell-one (b ∷ []) long other comma short = absurd (omega arith)
 TakesCell-one (b ∷ c ∷ cells) long other comma short =
-    record { field = b ∷ []; fields = next_field-one (b ∷ c ∷ cells) long other comma; says = mark_of-short b short other }
+    record { field = b ∷ []; fields = next_field-one (b ∷ c ∷ cells) long other comma; says = cross_of-short b short other }
 
 -- the bytes behind a place, as a slice has them
 behind-drop : (cells : Text) (size : ℕ) → take (length cells - size) (drop size cells) ≡ drop size cells
@@ -78,7 +78,7 @@ TakesCell-first cells size long is short comma = elim (cases_Bool (is_comma (get
       rw (one, behind-drop cells 2) (TakesCell-one cells long other second short)
 ]
 
--- ---- a mark that is put
+-- ---- a cell that is put
 
 -- bits that are put into a set from a place on
 abbrev Puts : Set → ℕ → ℕ → Set → Type 0
@@ -112,13 +112,13 @@ put-one old new place k from below split wide put =
           ∙ sym (get_or-set_other old place i true false other)
     ])
 
-pub put-mark : (old new : Set) (place from bits : ℕ) (mark : Bool) → place < length old → from ≡ place - place % 64
-    → bits ≡ from_bool mark * 2 ^ (place % 64) % 2 ^ 64 → length new ≡ length old → Puts old from bits new
-    → new ≡ cond mark (set old place true) old
-put-mark old new place from bits false below down is wide put =
+pub put-cell : (old new : Set) (place from bits : ℕ) (cross : Bool) → place < length old → from ≡ place - place % 64
+    → bits ≡ from_bool cross * 2 ^ (place % 64) % 2 ^ 64 → length new ≡ length old → Puts old from bits new
+    → new ≡ cond cross (set old place true) old
+put-cell old new place from bits false below down is wide put =
     let none : bits ≡ 0 = omega arith in
     put-none old new from wide (subst (λ x. Puts old from x new) none put)
-put-mark old new place from bits true below down is wide put =
+put-cell old new place from bits true below down is wide put =
     let few : place % 64 ≤ 63 = omega arith in
     let power : 2 ^ (place % 64) ≤ 2 ^ 63 = pow_mono few in
     let one : bits ≡ 2 ^ (place % 64) = omega (arith, is, power) in

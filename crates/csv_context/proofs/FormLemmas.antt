@@ -61,7 +61,7 @@ pub first_repeat-append : (names : List Text) (name : Text) → first_repeat nam
     → first_repeat (names ++ name ∷ []) ≡ None
 first_repeat-append names name none new = repeat_from-append [] names 0 name none new
 
--- ---- one mark more at the front of a row
+-- ---- one cell more at the front of a row
 
 pub set-front : (front : Set) (i k : ℕ) → length front ≡ i
     → set (front ++ replicate (suc k) false) i true ≡ front ++ true ∷ [] ++ replicate k false
@@ -79,16 +79,16 @@ ReadTo-zero i width cells =
 module _ (i width : ℕ) (cells : Record) (row : Set) (place : ℕ) (field : Text) (at : Some field ≡ slice_get cells place)
     (r : ReadTo i width cells row place) where
   says-next : row_form i 2 [] cells ≡ then (cell_form i (place + 2) field)
-      (λ mark. row_form i (place + 2 + 1) (r.front ++ mark ∷ []) (drop (place + 1) cells))
+      (λ cross. row_form i (place + 2 + 1) (r.front ++ cross ∷ []) (drop (place + 1) cells))
   says-next = r.says ∙ rw (drop-item cells place field (sym at)) refl
 
-  says-more : (mark : Bool) → cell_form i (place + 2) field ≡ Ok mark
-      → row_form i 2 [] cells ≡ row_form i (place + 1 + 2) (r.front ++ mark ∷ []) (drop (place + 1) cells)
-  says-more mark is =
+  says-more : (cross : Bool) → cell_form i (place + 2) field ≡ Ok cross
+      → row_form i 2 [] cells ≡ row_form i (place + 1 + 2) (r.front ++ cross ∷ []) (drop (place + 1) cells)
+  says-more cross is =
       let next : place + 2 + 1 ≡ place + 1 + 2 = omega arith in
       says-next ∙ rw (is, next) refl
 
-  filled-more : place < width → (mark : Bool) → cond mark (set row place true) row ≡ r.front ++ mark ∷ [] ++ replicate
+  filled-more : place < width → (cross : Bool) → cond cross (set row place true) row ≡ r.front ++ cross ∷ [] ++ replicate
       (width - (place + 1)) false
   filled-more below true =
       let one : width - place ≡ suc (width - (place + 1)) = omega arith in
@@ -97,13 +97,13 @@ module _ (i width : ℕ) (cells : Record) (row : Set) (place : ℕ) (field : Tex
       let one : width - place ≡ suc (width - (place + 1)) = omega arith in
       r.filled ∙ rw one (sym (append_assoc r.front (false ∷ []) (replicate (width - (place + 1)) false)))
 
-  pub ReadTo-more : (mark : Bool) → place < width → cell_form i (place + 2) field ≡ Ok mark
-      → ReadTo i width cells (cond mark (set row place true) row) (place + 1)
-  ReadTo-more mark below is = record {
-    front = r.front ++ mark ∷ [];
-    placed = length-append r.front (mark ∷ []) ∙ ap (λ (n : ℕ). n + 1) r.placed;
-    filled = filled-more below mark;
-    says = says-more mark is;
+  pub ReadTo-more : (cross : Bool) → place < width → cell_form i (place + 2) field ≡ Ok cross
+      → ReadTo i width cells (cond cross (set row place true) row) (place + 1)
+  ReadTo-more cross below is = record {
+    front = r.front ++ cross ∷ [];
+    placed = length-append r.front (cross ∷ []) ∙ ap (λ (n : ℕ). n + 1) r.placed;
+    filled = filled-more below cross;
+    says = says-more cross is;
   }
 
   pub row_form-Err : (e : CsvFault) → cell_form i (place + 2) field ≡ Err e → row_form i 2 [] cells ≡ Err e

@@ -47,31 +47,31 @@ pub cells_text-append : (xs ys : Set) → cells_text (xs ++ ys) ≡ cells_text x
 cells_text-append xs ys = ap (fields_text default_writer) (map-append xs ys) ∙ fields_text-append (map cell_text xs) (map cell_text ys)
 
 -- the text of one cell
-pub cells_text-one : (mark : Bool) → cells_text (mark ∷ []) ≡ 44 ∷ cell_text mark
+pub cells_text-one : (cross : Bool) → cells_text (cross ∷ []) ≡ 44 ∷ cell_text cross
 unfolding fields_text
 cells_text-one true = refl
 cells_text-one false = refl
 
--- one cell more, in a list that has room: a comma and an X are put, and the X counts if the mark is a cross
-pub cells-more : (row : Set) (cells : List ℕ) (size : ℕ) (mark : Bool) → take size cells ≡ cells_text row → size + 1 < length cells
-    → take (size + cond mark 2 1) (set (set cells size 44) (size + 1) 88) ≡ cells_text (row ++ mark ∷ [])
-cells-more row cells size mark so_far room =
+-- one cell more, in a list that has room: a comma and an X are put, and the X counts if the cell is a cross
+pub cells-more : (row : Set) (cells : List ℕ) (size : ℕ) (cross : Bool) → take size cells ≡ cells_text row → size + 1 < length cells
+    → take (size + cond cross 2 1) (set (set cells size 44) (size + 1) 88) ≡ cells_text (row ++ cross ∷ [])
+cells-more row cells size cross so_far room =
     let one : take (size + 1) (set cells size 44) ≡ cells_text row ++ 44 ∷ [] = take_more_set cells size 44 (omega arith)
     ∙ ap (λ (xs : List ℕ). xs ++ 44 ∷ []) so_far in
     let longer : length (set cells size 44) ≡ length cells = length-set cells size 44 in
     let comma : take (size + 1) (set (set cells size 44) (size + 1) 88) ≡ cells_text row ++ 44 ∷ [] =
     take-set (set cells size 44) (size + 1) 88 ∙ one in
-    let cross : take (size + 1 + 1) (set (set cells size 44) (size + 1) 88) ≡ (cells_text row ++ 44 ∷ []) ++ 88 ∷ [] =
+    let letter : take (size + 1 + 1) (set (set cells size 44) (size + 1) 88) ≡ (cells_text row ++ 44 ∷ []) ++ 88 ∷ [] =
     take_more_set (set cells size 44) (size + 1) 88 (omega arith) ∙ ap (λ (xs : List ℕ). xs ++ 88 ∷ []) one in
-    by mark comma cross ∙ sym (cells_text-append row (mark ∷ []) ∙ ap (λ (xs : List ℕ). cells_text row ++ xs) (cells_text-one mark))
+    by cross comma letter ∙ sym (cells_text-append row (cross ∷ []) ∙ ap (λ (xs : List ℕ). cells_text row ++ xs) (cells_text-one cross))
   where
     by : (m : Bool) → take (size + 1) (set (set cells size 44) (size + 1) 88) ≡ cells_text row ++ 44 ∷ []
         → take (size + 1 + 1) (set (set cells size 44) (size + 1) 88) ≡ (cells_text row ++ 44 ∷ []) ++ 88 ∷ []
         → take (size + cond m 2 1) (set (set cells size 44) (size + 1) 88) ≡ cells_text row ++ 44 ∷ cell_text m
-    by true comma cross =
+    by true comma letter =
         let same : size + 2 ≡ size + 1 + 1 = omega arith in
-        rw same (cross ∙ append_assoc (cells_text row) (44 ∷ []) (88 ∷ []))
-    by false comma cross =
+        rw same (letter ∙ append_assoc (cells_text row) (44 ∷ []) (88 ∷ []))
+    by false comma letter =
         comma
 
 pub cells_text-none : cells_text [] ≡ []

@@ -5,7 +5,7 @@ use Rattle.fca_model.specs.Tables.{Text}
 use Rattle.text_pieces.specs.Blanks.{trim}
 use Rattle.csv_context.specs.Records.{Record}
 use Rattle.csv_context.specs.Lines.{fields_in, is_comma}
-use Rattle.csv_context.specs.Form.{mark_of, row_form}
+use Rattle.csv_context.specs.Form.{cross_of, row_form}
 
 -- a byte that alone is a cross
 abbrev pub is_cross : ℕ → Bool
@@ -15,11 +15,11 @@ is_cross b = (b == 88) || (b == 120) || (b == 49)
 abbrev pub is_short : ℕ → Bool
 is_short b = is_cross b || (b == 46) || (b == 48) || is_comma b
 
--- the first cell of some has this mark, and others are behind its comma
-pub record TakesCell (cells : Text) (mark : Bool) (behind : Text) : Type 0 where
+-- the first cell of some says whether it is a cross, and others are behind its comma
+pub record TakesCell (cells : Text) (cross : Bool) (behind : Text) : Type 0 where
   pub field : Text
   pub fields : fields_in cells ≡ field ∷ fields_in behind
-  pub says : mark_of (trim field) ≡ Some mark
+  pub says : cross_of (trim field) ≡ Some cross
 
 -- the cells of record i before this place are read into the row
 pub record ReadTo (i width : ℕ) (cells : Record) (row : Set) (place : ℕ) : Type 0 where

@@ -50,23 +50,23 @@ header_form (corner ∷ fields) = cond (nat_lt MAX_ATTRIBUTES (length fields)) (
 -- ---- objects
 
 -- a cross, or none
-abbrev pub mark_of : Text → Option Bool
-mark_of [] = Some false
-mark_of (b ∷ []) = cond ((b == 88) || (b == 120) || (b == 49)) (Some true) (cond ((b == 46) || (b == 48)) (Some false) None)
-mark_of (b ∷ c ∷ cell) = None
+abbrev pub cross_of : Text → Option Bool
+cross_of [] = Some false
+cross_of (b ∷ []) = cond ((b == 88) || (b == 120) || (b == 49)) (Some true) (cond ((b == 46) || (b == 48)) (Some false) None)
+cross_of (b ∷ c ∷ cell) = None
 
 abbrev pub cell_by : ℕ → ℕ → Option Bool → Result Bool CsvFault
 cell_by i j None = Err (fault.BadCell i j)
-cell_by i j (Some mark) = Ok mark
+cell_by i j (Some cross) = Ok cross
 
 -- field j of record i is a cell; blanks at its ends do not count
 abbrev pub cell_form : ℕ → ℕ → Text → Result Bool CsvFault
-cell_form i j field = cell_by i j (mark_of (trim field))
+cell_form i j field = cell_by i j (cross_of (trim field))
 
--- the marks so far, followed by those in the fields of record i from field j on
+-- the cells so far, followed by those in the fields of record i from field j on
 abbrev pub row_form : ℕ → ℕ → Set → List Text → Result Set CsvFault
 row_form i j row [] = Ok row
-row_form i j row (field ∷ fields) = then (cell_form i j field) (λ mark. row_form i (j + 1) (row ++ mark ∷ []) fields)
+row_form i j row (field ∷ fields) = then (cell_form i j field) (λ cross. row_form i (j + 1) (row ++ cross ∷ []) fields)
 
 abbrev pub entry_form : ℕ → Record → Result Object CsvFault
 entry_form i [] = Err (fault.RaggedRecord i)

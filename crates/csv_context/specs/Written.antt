@@ -7,7 +7,7 @@ use Rattle.csv_context.specs.Records.{Record}
 
 -- the field of a place: X for a cross, and nothing for none
 abbrev pub cell_text : Bool → Text
-cell_text mark = cond mark (codes "X") []
+cell_text cross = cond cross (codes "X") []
 
 -- the text of the cells, a comma before each
 abbrev pub cells_text : Set → List ℕ

@@ -40,7 +40,7 @@ pub fn begin_row(width: u32, cells: &[u8]) -> RowStart<'_>
         if !cell.is_short {
             break;
         }
-        put_mark(&mut row, place, cell.is_cross);
+        put_cell(&mut row, place, cell.is_cross);
         left = cell.behind;
         place += 1;
     }
@@ -48,7 +48,7 @@ pub fn begin_row(width: u32, cells: &[u8]) -> RowStart<'_>
 }
 
 /// Adds the attribute at this place if the cell is a cross.
-pub fn put_mark(row: &mut Attrs, place: u32, cross: bool)
+pub fn put_cell(row: &mut Attrs, place: u32, cross: bool)
     requires { place < length row.old }
     ensures { row.new ≡ (if cross then slice_set row.old place true else row.old) }
 {

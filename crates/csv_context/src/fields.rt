@@ -8,7 +8,7 @@ ghost use Rattle.csv_context.specs.Form as form;
 ghost use Rattle.text_pieces.specs.Telling.{Tells};
 
 use crate::CsvFault;
-use crate::cells::{begin_row, put_mark};
+use crate::cells::{begin_row, put_cell};
 use crate::lines::next_field;
 use attr_bits::Attrs;
 use csv::ByteRecord;
@@ -72,8 +72,8 @@ pub fn attribute_of(
 }
 
 /// Whether the cell is a cross, or `None` if the text is no cell.
-fn mark_of(cell: &[u8]) -> Option<bool>
-    ensures { result ≡ form.mark_of cell.now }
+fn cross_of(cell: &[u8]) -> Option<bool>
+    ensures { result ≡ form.cross_of cell.now }
 {
     match cell {
         [b'X' | b'x' | b'1'] => Some(true),
@@ -86,8 +86,8 @@ fn mark_of(cell: &[u8]) -> Option<bool>
 pub fn cell_of(i: usize, j: usize, field: &[u8]) -> Result<bool, CsvFault>
     ensures { result ≡ form.cell_form i j field.now }
 {
-    match mark_of(trim(field)) {
-        Some(mark) => Ok(mark),
+    match cross_of(trim(field)) {
+        Some(cross) => Ok(cross),
         None => Err(CsvFault::BadCell(i, j)),
     }
 }
@@ -120,7 +120,7 @@ fn row_of_cells(width: u32, i: usize, cells: &[u8]) -> Result<Attrs, CsvFault>
         let Some(rest) = left else { unreachable!() };
         let (field, behind) = next_field(rest);
         let cross = cell_of(i, place as usize + 2, field)?;
-        put_mark(&mut row, place, cross);
+        put_cell(&mut row, place, cross);
         left = behind;
     }
     Ok(row)
@@ -137,7 +137,7 @@ pub fn row_of(width: u32, i: usize, fields: &ByteRecord) -> Result<Attrs, CsvFau
     for place in 0..width {
         let field = field_at(fields, place as usize + 1);
         let cross = cell_of(i, place as usize + 2, field)?;
-        put_mark(&mut row, place, cross);
+        put_cell(&mut row, place, cross);
     }
     Ok(row)
 }

@@ -16,7 +16,7 @@ pub fn unquoted_bytes(text: &str) -> Option<&[u8]>
     ensures unquoted { IfSome result (λ bytes. IsUnquoted bytes.now) }
     ensures records { IfSome result (λ bytes. csv_records text.now ≡ records_in bytes.now) }
 {
-    let bytes = without_mark(text.as_bytes());
+    let bytes = without_bom(text.as_bytes());
     match memchr(b'"', bytes) {
         Some(_) => None,
         None => Some(bytes),
@@ -24,20 +24,20 @@ pub fn unquoted_bytes(text: &str) -> Option<&[u8]>
 }
 
 /// The bytes without the byte order mark before them.
-fn without_mark(bytes: &[u8]) -> &[u8]
+fn without_bom(bytes: &[u8]) -> &[u8]
     ensures { result.now ≡ strip_bom bytes.now }
 {
     if bytes.len() < 3 {
         return bytes;
     }
-    if is_mark(bytes[0], bytes[1], bytes[2]) {
+    if is_bom(bytes[0], bytes[1], bytes[2]) {
         return &bytes[3..];
     }
     bytes
 }
 
 /// Whether the three bytes are a byte order mark.
-fn is_mark(first: u8, second: u8, third: u8) -> bool
+fn is_bom(first: u8, second: u8, third: u8) -> bool
     ensures { result ≡ is_bom first second third }
 {
     first == 0xEF && second == 0xBB && third == 0xBF

@@ -10,7 +10,7 @@ use Rattle.text_pieces.specs.Left.{Left}
 use Rattle.text_pieces.specs.Lines.{Line}
 use Rattle.cxt_format.specs.Words.{name_form, new_name, attribute_form}
 use Rattle.text_pieces.specs.Telling.{then}
-use Rattle.cxt_format.specs.Form.{Taken, Takes, more, next, next_of, without_mark}
+use Rattle.cxt_format.specs.Form.{Taken, Takes, more, next, next_of, without_bom}
 use Rattle.cxt_format.specs.declared.CxtFault.{CxtFault}
 use Rattle.cxt_format.specs.declared.CxtFault.TheVariants as fault
 use lib.Utf8.{encode}
@@ -50,11 +50,11 @@ pub next-attribute_form : (seen : List Text) (left : Left)
     → next (attribute_form seen) left ≡ then (next name_form left) (looked_up seen left.number)
 next-attribute_form seen left = attribute-next_of seen left.number left.lines
 
-without_mark-other : (s : List ℕ) → ((rest : List ℕ) → s ≢ 239 ∷ 187 ∷ 191 ∷ rest) → without_mark s ≡ s
-without_mark-other [] h = refl
-without_mark-other (a ∷ []) h = refl
-without_mark-other (a ∷ b ∷ []) h = refl
-without_mark-other (a ∷ b ∷ c ∷ s) h = elim (cases_Bool ((a == 239) && (b == 187) && (c == 191))) [
+without_bom-other : (s : List ℕ) → ((rest : List ℕ) → s ≢ 239 ∷ 187 ∷ 191 ∷ rest) → without_bom s ≡ s
+without_bom-other [] h = refl
+without_bom-other (a ∷ []) h = refl
+without_bom-other (a ∷ b ∷ []) h = refl
+without_bom-other (a ∷ b ∷ c ∷ s) h = elim (cases_Bool ((a == 239) && (b == 187) && (c == 191))) [
   | inl is ↦
       let both = and_parts ((a == 239) && (b == 187)) (c == 191) is in
       let first = and_parts (a == 239) (b == 187) both.0 in
@@ -63,13 +63,13 @@ without_mark-other (a ∷ b ∷ c ∷ s) h = elim (cases_Bool ((a == 239) && (b 
 ]
 
 -- what is left after the mark was looked for at the front, and taken off if it was found
-pub without_mark-stripped : (text : Bor (List ℕ)) (r : Option (Bor (List ℕ)))
+pub without_bom-stripped : (text : Bor (List ℕ)) (r : Option (Bor (List ℕ)))
     → MatchOption r (FindsCharPrefix 65279 text.now None)
     (λ x. (n : ℕ) × FindsCharPrefix 65279 text.now (Some n) × (x.now ≡ drop n text.now) × (length x.now + n ≡ length text.now))
-    → (unwrap_or r text).now ≡ without_mark text.now
+    → (unwrap_or r text).now ≡ without_bom text.now
 unfolding encode
-without_mark-stripped text None h = sym (without_mark-other text.now h)
-without_mark-stripped text (Some x) h =
+without_bom-stripped text None h = sym (without_bom-other text.now h)
+without_bom-stripped text (Some x) h =
     let marked : text.now ≡ 239 ∷ 187 ∷ 191 ∷ x.now = h.1.split ∙ ap (λ rest. 239 ∷ 187 ∷ 191 ∷ rest) (sym h.2) in
     rw marked refl
 

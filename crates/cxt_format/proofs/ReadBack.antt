@@ -17,7 +17,7 @@ use Rattle.context_table.specs.Table.{IsTable, repeat_from}
 use Rattle.text_pieces.specs.Left.{Left, after_blanks_of}
 use Rattle.text_pieces.specs.Lines.{Line, lines}
 use Rattle.cxt_format.specs.Words.{title_form, row_of}
-use Rattle.cxt_format.specs.Form.{Taken, objects_form, attributes_form, rows_form, head_form, body_form, table_form, end_form, without_mark}
+use Rattle.cxt_format.specs.Form.{Taken, objects_form, attributes_form, rows_form, head_form, body_form, table_form, end_form, without_bom}
 use Rattle.cxt_format.specs.Form.{cxt_form}
 use Rattle.text_pieces.specs.Marks.{marks_of}
 use Rattle.text_pieces.specs.Lists.{EachName, EachWide}
@@ -176,9 +176,9 @@ EachLine-cxt_lines t table named =
     (EachLine-names t.attributes named.attributes))
     (EachLine-rows t.context.rows)
 
-without_mark-B : (s : List ℕ) → without_mark (66 ∷ 10 ∷ s) ≡ 66 ∷ 10 ∷ s
-without_mark-B [] = refl
-without_mark-B (b ∷ s) = refl
+without_bom-B : (s : List ℕ) → without_bom (66 ∷ 10 ∷ s) ≡ 66 ∷ 10 ∷ s
+without_bom-B [] = refl
+without_bom-B (b ∷ s) = refl
 
 -- reading what was written gives the table
 pub cxt_form-cxt_text : (t : NamedContext) → IsTable t → IsNamed t → cxt_form (cxt_text t) ≡ Ok t
@@ -187,6 +187,6 @@ cxt_form-cxt_text t table named =
     let each = EachLine-cxt_lines t table named in
     let whole : utf8_valid_len (cxt_text t) == length (cxt_text t) ≡ true =
     eq-eqb _ _ (utf8_valid_len-IsUtf8 (cxt_text t) (IsUtf8-text_of (cxt_lines t) each)) in
-    let unmarked : without_mark (cxt_text t) ≡ cxt_text t = without_mark-B _ in
-    let read : lines (without_mark (cxt_text t)) ≡ cxt_lines t = ap lines unmarked ∙ lines-text_of (cxt_lines t) each in
+    let unmarked : without_bom (cxt_text t) ≡ cxt_text t = without_bom-B _ in
+    let read : lines (without_bom (cxt_text t)) ≡ cxt_lines t = ap lines unmarked ∙ lines-text_of (cxt_lines t) each in
     rw whole (ap table_form read ∙ table-back t table named)

@@ -7,7 +7,7 @@ use Rattle.fca_model.specs.declared.TheConstants.{MAX_ATTRIBUTES, MAX_OBJECTS}
 use Rattle.text_pieces.specs.Left.{Left, after_blank, after_blanks}
 use Rattle.text_pieces.specs.Lines.{Line, lines}
 use Rattle.text_pieces.specs.Telling.{then}
-use Rattle.cxt_format.specs.Words.{mark_form, title_form, count_form, name_form, attribute_form, row_form}
+use Rattle.cxt_format.specs.Words.{b_form, title_form, count_form, name_form, attribute_form, row_form}
 use Rattle.cxt_format.specs.declared.read.Head.{Head}
 use Rattle.cxt_format.specs.declared.CxtFault.{CxtFault}
 use Rattle.cxt_format.specs.declared.CxtFault.TheVariants as fault
@@ -61,8 +61,8 @@ end_form left = let rest = after_blanks left in end_of rest.number rest.lines
 -- the letter B, the title, the numbers of objects and of attributes, and a blank line, which may be missing
 abbrev pub head_form : Left → Taken Head
 head_form left =
-    then (next mark_form left) (λ mark.
-    then (next title_form mark.1) (λ title.
+    then (next b_form left) (λ b.
+    then (next title_form b.1) (λ title.
     then (next (count_form MAX_OBJECTS) title.1) (λ objects.
     then (next (count_form MAX_ATTRIBUTES) objects.1) (λ attributes.
     Ok (record { title = title.0; objects = objects.0; attributes = attributes.0 }, after_blank attributes.1)))))
@@ -86,13 +86,13 @@ abbrev pub table_form : List Line → Result NamedContext CxtFault
 table_form lines = then (head_form (record { number = 1; lines = lines })) (λ head. body_form head.0 head.1)
 
 -- the bytes without the byte order mark before them, if there is one
-abbrev pub without_mark : List ℕ → List ℕ
-without_mark (a ∷ b ∷ c ∷ bytes) = cond ((a == 239) && (b == 187) && (c == 191)) bytes (a ∷ b ∷ c ∷ bytes)
-without_mark bytes = bytes
+abbrev pub without_bom : List ℕ → List ℕ
+without_bom (a ∷ b ∷ c ∷ bytes) = cond ((a == 239) && (b == 187) && (c == 191)) bytes (a ∷ b ∷ c ∷ bytes)
+without_bom bytes = bytes
 
 -- the table that the bytes of a file write, or the first fault: bytes that are not UTF-8, then the first line at fault
 unfoldable pub cxt_form : List ℕ → Result NamedContext CxtFault
 cxt_form bytes =
     cond (utf8_valid_len bytes == length bytes)
-    (table_form (lines (without_mark bytes)))
+    (table_form (lines (without_bom bytes)))
     (Err (fault.NotUtf8 (utf8_valid_len bytes)))

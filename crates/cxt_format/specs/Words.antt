@@ -19,8 +19,8 @@ abbrev pub is_b_line : Line → Bool
 is_b_line line = bytes_eq (trim line) (codes "B")
 
 -- the first line is the letter B; nothing is kept of it
-abbrev pub mark_form : ℕ → Line → Result (Unit {0}) CxtFault
-mark_form k line = cond (is_b_line line) (Ok tt) (Err fault.NotB)
+abbrev pub b_form : ℕ → Line → Result (Unit {0}) CxtFault
+b_form k line = cond (is_b_line line) (Ok tt) (Err fault.NotB)
 
 -- ---- a title and names
 

@@ -4,9 +4,9 @@
 ghost use Rattle.std.specs.Prelude.{◌≡◌};
 
 pub mod laws;
+mod line_readers;
 mod narrow;
 mod read;
-mod words;
 mod write;
 
 use fca_model::{Memory, NO_MEMORY};

@@ -10,7 +10,7 @@ ghost use Rattle.cxt_format.specs.Narrow.{untitled_form};
 
 use crate::CxtFault;
 use crate::read::{
-    Head, read_attributes, read_end, read_head, read_objects, read_rows, without_mark,
+    Head, read_attributes, read_end, read_head, read_objects, read_rows, without_bom,
 };
 use attr_bits::WordCount;
 use context_table::{NarrowRows, NarrowTable};
@@ -30,9 +30,9 @@ pub fn read_narrow_cxt(alloc: Global, bytes: &[u8]) -> Result<NarrowTable, CxtFa
 
 fn read_text(alloc: Global, text: &str) -> Result<NarrowTable, CxtFault>
     requires { length text.now < 2 ^ 63 }
-    ensures { Tells CxtFault.Memory result (untitled_form (form.table_form (lines (form.without_mark text.now)))) }
+    ensures { Tells CxtFault.Memory result (untitled_form (form.table_form (lines (form.without_bom text.now)))) }
 {
-    let mut lines = Lines::new(without_mark(text));
+    let mut lines = Lines::new(without_bom(text));
     let head = read_head(alloc, &mut lines)?;
     read_body(alloc, head, &mut lines)
 }

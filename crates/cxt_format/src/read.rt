@@ -9,7 +9,7 @@ ghost use Rattle.text_pieces.specs.Telling.{Tells};
 ghost use Rattle.cxt_format.specs.Form.{Takes};
 
 use crate::CxtFault;
-use crate::words::{count_of, is_b_line, name_of, row_of, title_of};
+use crate::line_readers::{count_of, is_b_line, name_of, row_of, title_of};
 use attr_bits::{Attrs, WORDS};
 use context_table::Table;
 use derivation::RowsOf;
@@ -38,16 +38,16 @@ pub fn read_cxt(alloc: Global, bytes: &[u8]) -> Result<Table, CxtFault>
 
 fn read_text(alloc: Global, text: &str) -> Result<Table, CxtFault>
     requires { length text.now < 2 ^ 63 }
-    ensures { Tells CxtFault.Memory result (form.table_form (lines (form.without_mark text.now))) }
+    ensures { Tells CxtFault.Memory result (form.table_form (lines (form.without_bom text.now))) }
 {
-    let mut lines = Lines::new(without_mark(text));
+    let mut lines = Lines::new(without_bom(text));
     let head = read_head(alloc, &mut lines)?;
     read_body(alloc, head, &mut lines)
 }
 
 /// The text without the byte order mark before it.
-pub(crate) fn without_mark(text: &str) -> &str
-    ensures { result.now ≡ form.without_mark text.now }
+pub(crate) fn without_bom(text: &str) -> &str
+    ensures { result.now ≡ form.without_bom text.now }
 {
     text.strip_prefix('\u{FEFF}').unwrap_or(text)
 }
@@ -85,7 +85,7 @@ fn read_body(alloc: Global, head: Head, lines: &mut Lines<'_>) -> Result<Table, 
 }
 
 fn next_b_line(lines: &mut Lines<'_>) -> Result<(), CxtFault>
-    ensures { Takes (λ x. x) result (form.next word.mark_form lines.old) lines.new }
+    ensures { Takes (λ x. x) result (form.next word.b_form lines.old) lines.new }
 {
     let number = lines.number();
     match lines.next() {

@@ -5,7 +5,7 @@ ghost use Rattle.fca_model.specs.declared.TheConstants.{MAX_ATTRIBUTES};
 ghost use Rattle.expert_scripts.specs.Known.{known_form, known_rule};
 
 use crate::known_fault::KnownFault;
-use expert_wire::{is_skipped, marks};
+use expert_wire::{is_skipped, pattern_marks};
 use implication_closure::{Implication, ImplicationList};
 use std::alloc::Global;
 use text_pieces::bytes::{split_line, split_word};
@@ -43,7 +43,7 @@ pub(crate) fn read_rule(line: &[u8], n: u32, number: usize) -> Result<Implicatio
 {
     let (first, later) = split_word(line);
     let (second, _) = split_word(later);
-    let (Some(premise), Some(conclusion)) = (marks(first), marks(second)) else {
+    let (Some(premise), Some(conclusion)) = (pattern_marks(first), pattern_marks(second)) else {
         return Err(KnownFault::BadLine(number));
     };
     if premise.len() != n as usize || conclusion.len() != n as usize {

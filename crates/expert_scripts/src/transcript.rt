@@ -80,7 +80,7 @@ fn write_known(draft: &mut Draft, table: &Table, known: &[Implication]) -> Resul
     ensures front { AppendsFront (Some draft.old) (Some draft.new) (flat_map (known_line table.now.attributes) known.now) }
 {
     for implication in known {
-        draft.append_question(table, b"known ", implication)?;
+        draft.append_full_text(table, b"known ", implication)?;
     }
     Ok(())
 }

@@ -84,12 +84,12 @@ pattern-some (a ∷ A) h = refl
 -- ---- lines of implications
 
 -- the parts of a full text, in a line
-pub question_parts : (attributes : List Text) (words : Text) (i : Rule) (gained : Set) → gained ≡ minus i.conclusion i.premise
+pub full_text_parts : (attributes : List Text) (words : Text) (i : Rule) (gained : Set) → gained ≡ minus i.conclusion i.premise
     → words ++ (pattern i.premise
     ++ (codes " " ++ (pattern i.conclusion
     ++ (codes " " ++ (braces_text attributes i.premise ++ (codes " -> " ++ (braces_text attributes gained ++ line_end)))))))
     ≡ (words ++ full_text attributes i) ++ line_end
-question_parts attributes words i gained e =
+full_text_parts attributes words i gained e =
     ap (λ A. words ++ (pattern i.premise
     ++ (codes " " ++ (pattern i.conclusion
     ++ (codes " " ++ (braces_text attributes i.premise ++ (codes " -> " ++ (braces_text attributes A ++ line_end)))))))) e

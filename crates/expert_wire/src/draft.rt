@@ -9,7 +9,7 @@ ghost use Rattle.expert_wire.specs.Texts.{line_end, ordinal, full_text};
 ghost use Rattle.expert_wire.specs.Replies.{reply_line, numbered_rule};
 
 use crate::parts::{Part, write_parts};
-use crate::replies::{write_question, write_reply, write_rule};
+use crate::replies::{write_full_text, write_reply, write_rule};
 use attr_bits::Attrs;
 use context_table::Table;
 use fca_io::{Failed, Sink};
@@ -92,18 +92,18 @@ impl Draft {
         }
     }
 
-    /// Appends a line: the words, and the full text of the question.
-    pub fn append_question(
+    /// Appends a line: the words, and the full text of the implication.
+    pub fn append_full_text(
         &mut self,
         table: &Table,
         words: &[u8],
-        question: &Implication,
+        implication: &Implication,
     ) -> Result<(), Memory>
-        ensures whole { OnOk result (self.new ≡ self.old ++ ((words.now ++ full_text table.now.attributes question.now) ++ line_end)) }
+        ensures whole { OnOk result (self.new ≡ self.old ++ ((words.now ++ full_text table.now.attributes implication.now) ++ line_end)) }
         ensures front { AppendsFront (Some self.old) (Some self.new)
-            ((words.now ++ full_text table.now.attributes question.now) ++ line_end) }
+            ((words.now ++ full_text table.now.attributes implication.now) ++ line_end) }
     {
-        match write_question(&mut self.sink, table, words, question) {
+        match write_full_text(&mut self.sink, table, words, implication) {
             Ok(()) => Ok(()),
             Err(_) => Err(Memory),
         }

@@ -55,7 +55,8 @@ fn write_part<K: Sink>(sink: &mut K, table: &Table, part: &Part<'_>) -> Result<(
     }
 }
 
-fn write_bytes<K: Sink>(sink: &mut K, bytes: &[u8]) -> Result<(), Put>
+/// Writes the bytes. It takes no memory. After an `Err` the sink has gained a front of them.
+pub fn write_bytes<K: Sink>(sink: &mut K, bytes: &[u8]) -> Result<(), Put>
     ensures { WritesTo K.held K.faults K.beside K.asked_beside sink.old sink.new bytes.now result }
 {
     write_text(sink, bytes)

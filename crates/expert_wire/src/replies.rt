@@ -28,7 +28,7 @@ pub fn write_reply<K: Sink>(sink: &mut K, table: &Table, reply: &Reply<Attrs>) -
     ensures same_beside { K.asked_beside sink.new ≡ K.asked_beside sink.old }
 {
     match reply {
-        Reply::Ask(question) => write_question(sink, table, b"ask ", question),
+        Reply::Ask(question) => write_full_text(sink, table, b"ask ", question),
         Reply::Done => write_words(sink, table, b"done"),
         Reply::AllHeld => write_words(sink, table, b"all held"),
         Reply::Accepted(place) => write_place(sink, table, b"accepted ", *place),
@@ -108,30 +108,30 @@ pub(crate) fn write_rule<K: Sink>(
         table,
         &[Part::Bytes(words), Part::Ordinal(place), Part::Bytes(b" ")],
     )?;
-    write_question(sink, table, b"", rule)
+    write_full_text(sink, table, b"", rule)
 }
 
-/// Writes a line: the words, and the full text of the question.
-pub(crate) fn write_question<K: Sink>(
+/// Writes a line: the words, and the full text of the implication.
+pub(crate) fn write_full_text<K: Sink>(
     sink: &mut K,
     table: &Table,
     words: &[u8],
-    question: &Implication,
+    implication: &Implication,
 ) -> Result<(), Put>
     ensures { WritesTo K.held K.faults K.beside K.asked_beside sink.old sink.new
-        ((words.now ++ full_text table.now.attributes question.now) ++ line_end) result }
+        ((words.now ++ full_text table.now.attributes implication.now) ++ line_end) result }
 {
-    let gained = question.conclusion.minus(&question.premise);
+    let gained = implication.conclusion.minus(&implication.premise);
     write_parts(
         sink,
         table,
         &[
             Part::Bytes(words),
-            Part::Pattern(question.premise),
+            Part::Pattern(implication.premise),
             Part::Bytes(b" "),
-            Part::Pattern(question.conclusion),
+            Part::Pattern(implication.conclusion),
             Part::Bytes(b" "),
-            Part::Braces(question.premise),
+            Part::Braces(implication.premise),
             Part::Bytes(b" -> "),
             Part::Braces(gained),
             Part::Bytes(b"\n"),

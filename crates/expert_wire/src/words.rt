@@ -44,7 +44,7 @@ fn expert_from_number(number: u64) -> Option<u8>
 }
 
 /// The marks of a pattern, if the word is a pattern.
-pub fn marks(word: &[u8]) -> Option<&[u8]>
+pub fn pattern_marks(word: &[u8]) -> Option<&[u8]>
     ensures { MatchOption result (set_of_pattern word.now ≡ None) (λ m. set_of_pattern word.now ≡ Some (map is_cross m.now)) }
 {
     if word == b"-".as_slice() {
@@ -64,7 +64,7 @@ pub fn read_row(alloc: Global, text: &str, n: u32) -> Result<(Name, Attrs), Requ
     ensures memory { IsErrOf result RequestFault.Memory → IsOk (named_row n text.now) }
 {
     let (word, name) = split_word(text);
-    let Some(marks) = marks(word.as_bytes()) else {
+    let Some(marks) = pattern_marks(word.as_bytes()) else {
         return Err(RequestFault::Line);
     };
     let fits = marks.len() == n as usize;

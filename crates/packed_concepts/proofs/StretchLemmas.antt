@@ -27,7 +27,7 @@ lines-jobs t (job ∷ jobs) = ap (λ z. job_lines t job.now ++ z) (lines-jobs t 
     ∙ sym (flat_map-append (lines_on t) job.now (flat_map (λ j. j.now) jobs))
 
 pub Follow-nothing : (n : ℕ) → Follow n []
-Follow-nothing n = record { lines = λ t. refl; few = All-nil (λ s. s.place + length s.concepts ≤ n + 0) }
+Follow-nothing n = record { lines = λ t. refl; few = All-nil (λ s. s.first + length s.concepts ≤ n + 0) }
 
 -- those that follow
 pub Follow-append : (n m : ℕ) (ss ts : List Placed) → m ≡ n + length (concepts_of ss) → Follow n ss → Follow m ts → Follow n (ss ++ ts)
@@ -39,20 +39,20 @@ Follow-append n m ss ts at x y =
       lines = λ t. flat_map-append (lines_on t) ss ts ∙ ap₂ (λ a b. a ++ b) (x.lines t)
           (y.lines t ∙ ap (λ k. lines_from t k (concepts_of ts)) at)
           ∙ sym (lines_from-append t n (concepts_of ss) (concepts_of ts)) ∙ ap (lines_from t n) (sym both);
-      few = All-append (λ s. s.place + length s.concepts ≤ n + length (concepts_of (ss ++ ts))) ss ts
+      few = All-append (λ s. s.first + length s.concepts ≤ n + length (concepts_of (ss ++ ts))) ss ts
           (λ k d l. let few = x.few k d l in omega (arith, few, count))
           (λ k d l. let few = y.few k d l in omega (arith, few, count, at));
     }
 
 -- one alone
-pub Follow-one : (n : ℕ) (s : Placed) → n ≡ s.place → Follow n (s ∷ [])
+pub Follow-one : (n : ℕ) (s : Placed) → n ≡ s.first → Follow n (s ∷ [])
 Follow-one n s at =
     let one : concepts_of (s ∷ []) ≡ s.concepts = append-nil s.concepts in
     let count : length (concepts_of (s ∷ [])) ≡ length s.concepts = ap length one in
     record {
       lines = λ t. append-nil (lines_on t s) ∙ ap₂ (λ k cs. lines_from t k cs) (sym at) (sym one);
-      few = All-cons (λ r. r.place + length r.concepts ≤ n + length (concepts_of (s ∷ []))) s [] (omega (arith, count, at))
-          (All-nil (λ r. r.place + length r.concepts ≤ n + length (concepts_of (s ∷ []))));
+      few = All-cons (λ r. r.first + length r.concepts ≤ n + length (concepts_of (s ∷ []))) s [] (omega (arith, count, at))
+          (All-nil (λ r. r.first + length r.concepts ≤ n + length (concepts_of (s ∷ []))));
     }
 
 -- those that follow are ready if all names are there

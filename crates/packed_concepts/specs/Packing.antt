@@ -2,15 +2,15 @@
 use Rattle.std.specs.Prelude.{◌+◌, ◌*◌, ◌<◌, ◌≤◌, ℕ, List, [], ◌∷◌, All, length, take, drop}
 use Rattle.fca_model.specs.Sets.{Set}
 use Rattle.packed_concepts.specs.Lines.{Named}
-use Rattle.packed_concepts.specs.declared.page.Packed.{Packed}
+use Rattle.packed_concepts.specs.declared.page.IntentAndCount.{IntentAndCount}
 
 -- how many places there are of all of them
-abbrev pub total : {W : ℕ} → List (Packed W) → ℕ
+abbrev pub total : {W : ℕ} → List (IntentAndCount W) → ℕ
 total [] = 0
 total (p ∷ ps) = p.count + total ps
 
 -- the intents, each with its own of these places
-abbrev pub unpacked : {W : ℕ} → List (Packed W) → List ℕ → List (Set × List ℕ)
+abbrev pub unpacked : {W : ℕ} → List (IntentAndCount W) → List ℕ → List (Set × List ℕ)
 unpacked [] places = []
 unpacked (p ∷ ps) places = (p.intent, take p.count places) ∷ unpacked ps (drop p.count places)
 

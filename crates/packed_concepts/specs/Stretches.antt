@@ -9,12 +9,12 @@ use Rattle.packed_concepts.specs.Packing.{IsNamed, Holds}
 
 -- concepts, and the place of the first among all
 pub record Placed : Type 0 where
-  pub place : ℕ
+  pub first : ℕ
   pub concepts : List (Set × List ℕ)
 
 -- the lines of a stretch
 abbrev pub lines_on : Named → Placed → Text
-lines_on t s = lines_from t s.place s.concepts
+lines_on t s = lines_from t s.first s.concepts
 
 -- the lines of the stretches of a job
 abbrev pub job_lines : Named → List Placed → Text
@@ -31,7 +31,7 @@ concepts_of job = flat_map (λ s. s.concepts) job
 -- the names of its concepts are there, and their numbers have room
 pub record IsReady (t : Named) (s : Placed) : Type 0 where
   pub named : All (IsNamed t) s.concepts
-  pub few : s.place + length s.concepts < 2 ^ 64
+  pub few : s.first + length s.concepts < 2 ^ 64
 
 -- so many bytes hold each of its lines
 abbrev pub IsHeld : ℕ → Placed → Type 0
@@ -40,4 +40,4 @@ IsHeld bytes s = All (Holds bytes) s.concepts
 -- each stretch begins where the one before it ends, the first at place n
 pub record Follow (n : ℕ) (job : List Placed) : Type 0 where
   pub lines : (t : Named) → job_lines t job ≡ lines_from t n (concepts_of job)
-  pub few : All (λ s. s.place + length s.concepts ≤ n + length (concepts_of job)) job
+  pub few : All (λ s. s.first + length s.concepts ≤ n + length (concepts_of job)) job

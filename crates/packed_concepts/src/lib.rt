@@ -17,9 +17,10 @@ mod text;
 mod writing;
 
 pub use block::{BLOCK_BYTES, TextBlock, put_block};
-pub use line::{MARKS, make_room, room_of};
+pub use line::{PUNCTUATION, make_room, room_of};
 pub use names::{Names, end_without_comma, put_set};
-pub use page::{ConceptPage, Packed};
+pub use page::{ConceptPage, IntentAndCount};
 pub use pages::NarrowPages;
 pub use pieces::{PIECE_BYTES, PIECE_ROOM, Pieces, block_of, put_bytes, tail_of};
+pub use rounds::processors;
 pub use text::ConceptsText;

@@ -9,14 +9,14 @@ use crate::pieces::{PIECE_ROOM, put_bytes};
 use attr_bits::Bits;
 use fca_model::Memory;
 
-/// The most bytes of a line beside its number and its names.
-pub const MARKS: usize = 10;
+/// The most bytes of a line beside its number and its names: blanks, braces, an arrow and the line feed.
+pub const PUNCTUATION: usize = 10;
 
 /// The most digits of a number.
 pub(crate) const DIGITS: usize = 20;
 
-/// The most bytes of a line beside its names.
-pub(crate) const LINE: usize = MARKS + DIGITS;
+/// The most bytes of a line beside its names: a number and the punctuation.
+pub(crate) const LONGEST_LINE: usize = PUNCTUATION + DIGITS;
 
 /// The least number of bytes by which a text grows.
 const STEP: usize = 65_536;
@@ -41,13 +41,13 @@ pub fn make_room(bytes: &mut Vec<u8>, end: usize, room: usize) -> Result<(), Mem
 
 /// The bytes to be free for a line with so many digits, and with so many names in its first braces and in its second.
 pub fn room_of(digits: usize, first: usize, second: usize) -> usize
-    ensures { (x : ℕ) → result ≤ x → x < 2 ^ 63 → digits + (MARKS + PIECE_ROOM * (first + second)) ≤ x }
+    ensures { (x : ℕ) → result ≤ x → x < 2 ^ 63 → digits + (PUNCTUATION + PIECE_ROOM * (first + second)) ≤ x }
 {
     first
         .saturating_add(second)
         .saturating_mul(PIECE_ROOM)
         .saturating_add(digits)
-        .saturating_add(MARKS)
+        .saturating_add(PUNCTUATION)
 }
 
 /// Puts the line at `start` and returns its end.
@@ -60,7 +60,7 @@ pub(crate) fn put_line<const W: usize>(
     places: &[u16],
 ) -> usize
     requires named { IsNamed names.now (a.now, places.now) }
-    requires room { start + (length digits.now + (MARKS + PIECE_ROOM * (length a.now + length places.now))) ≤ length text.old }
+    requires room { start + (length digits.now + (PUNCTUATION + PIECE_ROOM * (length a.now + length places.now))) ≤ length text.old }
     ensures text { take result text.new ≡ take start text.old ++ line_of names.now digits.now a.now places.now }
     ensures ends { result ≤ length text.new }
     ensures room { length text.new ≡ length text.old }

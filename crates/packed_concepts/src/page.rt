@@ -10,7 +10,7 @@ use std::marker::Model;
 
 /// An intent and the number of its objects.
 #[derive(Clone, Copy)]
-pub struct Packed<const W: usize> {
+pub struct IntentAndCount<const W: usize> {
     /// The intent.
     pub intent: Bits<W>,
     /// The number of its objects.
@@ -20,7 +20,7 @@ pub struct Packed<const W: usize> {
 /// Concepts in the order in which they were added, each an intent and the places of its objects.
 #[derive(Drop)]
 pub struct ConceptPage<const W: usize> {
-    packed: Vec<Packed<W>>,
+    packed: Vec<IntentAndCount<W>>,
     places: Vec<u16>,
     end: usize,
     most: usize,
@@ -67,7 +67,7 @@ impl<const W: usize> ConceptPage<W> {
         };
         self.places.truncate(self.end);
         self.places.extend_from_slice(places)?;
-        self.packed.push(Packed {
+        self.packed.push(IntentAndCount {
             intent: *intent,
             count,
         })?;
@@ -100,7 +100,7 @@ impl<const W: usize> ConceptPage<W> {
     }
 
     /// The intents with the numbers of their objects, and the places of these objects.
-    pub(crate) fn parts(&self) -> (&[Packed<W>], &[u16])
+    pub(crate) fn parts(&self) -> (&[IntentAndCount<W>], &[u16])
         ensures concepts { unpacked result.0.now result.1.now ≡ self.now }
         ensures fits { total result.0.now ≡ length result.1.now }
     {
@@ -109,7 +109,10 @@ impl<const W: usize> ConceptPage<W> {
 }
 
 /// The intents.
-fn intents_of<const W: usize>(alloc: Global, packed: &[Packed<W>]) -> Result<Vec<Bits<W>>, Memory>
+fn intents_of<const W: usize>(
+    alloc: Global,
+    packed: &[IntentAndCount<W>],
+) -> Result<Vec<Bits<W>>, Memory>
     requires { W ≤ 1024 }
     ensures { IfOk result (λ intents. intents.items ≡ map (λ p. p.intent) packed.now) }
 {

@@ -8,7 +8,8 @@ ghost use Rattle.packed_concepts.specs.Sheets.{IsLaid, EachLaid};
 use crate::names::Names;
 use crate::sheet::Sheet;
 use crate::stretch::Stretch;
-use crate::writing::{pass_stretch, write_part};
+use crate::writing::pass_stretch;
+use expert_wire::write_bytes;
 use fca_io::{Put, Sink};
 use fca_model::Memory;
 use std::alloc::Global;
@@ -16,7 +17,7 @@ use std::thread;
 use std::thread::{Threads, available_parallelism};
 
 /// The number of processors.
-pub(crate) fn processors(rt: &impl Threads) -> usize {
+pub fn processors(rt: &impl Threads) -> usize {
     available_parallelism(rt).map_or(1, |count| count.get())
 }
 
@@ -131,7 +132,7 @@ fn write_job<K: Sink, const W: usize>(
     ensures room { length buffer.new ≡ length buffer.old }
 {
     match sheet.text() {
-        Some(text) => write_part(out, text),
+        Some(text) => write_bytes(out, text),
         None => write_stretches(out, names, buffer, job),
     }
 }
@@ -150,7 +151,7 @@ fn write_stretches<K: Sink, const W: usize>(
 {
     for stretch in job {
         let end = pass_stretch(out, names, buffer, 0, stretch)?;
-        write_part(out, &buffer[..end])?;
+        write_bytes(out, &buffer[..end])?;
     }
     Ok(())
 }

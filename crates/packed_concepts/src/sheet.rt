@@ -87,7 +87,7 @@ fn put_stretch<const W: usize>(
     ensures ends { IfSome result (λ end. end ≤ length text.new) }
     ensures room { length text.new ≡ length text.old }
 {
-    let mut next = stretch.place();
+    let mut next = stretch.first();
     let (packed, all) = stretch.parts();
     let mut rest = all;
     let mut end = start;

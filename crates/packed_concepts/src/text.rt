@@ -18,8 +18,8 @@ use crate::pieces::put_bytes;
 use crate::rounds::{processors, sheets_of, write_jobs};
 use crate::sheet::Sheet;
 use crate::stretch::Stretch;
-use crate::writing::{MANY_BYTES, pass_pages, write_part};
-use expert_wire::Growing;
+use crate::writing::{MANY_BYTES, pass_pages};
+use expert_wire::{Growing, write_bytes};
 use fca_io::{Put, Sink};
 use fca_model::Memory;
 use itoa::Buffer;
@@ -212,7 +212,7 @@ fn write_jobs_counted<R: Threads + Sync, K: Sink, const W: usize>(
     ensures { WritesTo K.held K.faults K.beside K.asked_beside out.old out.new (count_line_of count ++ all_lines names.now jobs.now) result }
 {
     let head = put_count_line(buffer, count);
-    write_part(out, &buffer[..head])?;
+    write_bytes(out, &buffer[..head])?;
     write_jobs(rt, out, names, buffer, jobs, sheets)
 }
 
@@ -232,7 +232,7 @@ fn write_through<K: Sink, const W: usize>(
 {
     let head = put_count_line(buffer, count);
     let end = pass_pages(out, names, buffer, head, pages)?;
-    write_part(out, &buffer[..end])
+    write_bytes(out, &buffer[..end])
 }
 
 /// Puts the line with the number of concepts at the front and returns its end.

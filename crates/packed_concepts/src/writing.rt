@@ -9,24 +9,18 @@ ghost use Rattle.packed_concepts.specs.Packing.{IsNamed, Holds};
 ghost use Rattle.packed_concepts.specs.Passing.{HasPassed};
 ghost use Rattle.packed_concepts.specs.Stretches.{lines_on, IsReady, IsHeld};
 
-use crate::line::{LINE, put_line};
+use crate::line::{LONGEST_LINE, put_line};
 use crate::names::Names;
 use crate::page::ConceptPage;
 use crate::pieces::PIECE_ROOM;
 use crate::stretch::Stretch;
 use attr_bits::Bits;
-use fca_io::{Put, Sink, write_text};
+use expert_wire::write_bytes;
+use fca_io::{Put, Sink};
 use itoa::Buffer;
 
 /// So many bytes that wait in the buffer are written.
 pub(crate) const MANY_BYTES: usize = 1 << 18;
-
-/// Appends the part to the sink. After an `Err` the sink holds a front of it.
-pub(crate) fn write_part<K: Sink>(out: &mut K, part: &[u8]) -> Result<(), Put>
-    ensures { WritesTo K.held K.faults K.beside K.asked_beside out.old out.new part.now result }
-{
-    write_text(out, part)
-}
 
 /// Makes room for so many bytes behind those that wait in the buffer up to `end`, and returns their end from then on. Bytes that wait are written, if
 /// necessary.
@@ -42,7 +36,7 @@ fn make_way<K: Sink>(out: &mut K, buffer: &[u8], end: usize, room: usize) -> Res
     if end < MANY_BYTES && room <= buffer.len() - end {
         return Ok(end);
     }
-    write_part(out, &buffer[..end])?;
+    write_bytes(out, &buffer[..end])?;
     Ok(0)
 }
 
@@ -69,7 +63,7 @@ fn pass_line<K: Sink, const W: usize>(
         (take end buffer.old) (Err fault)) }
     ensures room { length buffer.new ≡ length buffer.old }
 {
-    let room = LINE + PIECE_ROOM * (intent.width() as usize + places.len());
+    let room = LONGEST_LINE + PIECE_ROOM * (intent.width() as usize + places.len());
     let start = make_way(out, buffer, end, room)?;
     let mut digits = Buffer::new();
     let number = digits.format(place + 1).as_bytes();
@@ -95,11 +89,11 @@ pub(crate) fn pass_stretch<K: Sink, const W: usize>(
         (take end buffer.old ++ lines_on names.now stretch.now) (Err fault)) }
     ensures room { length buffer.new ≡ length buffer.old }
 {
-    let place = stretch.place();
+    let first = stretch.first();
     let (packed, all) = stretch.parts();
     let mut rest = all;
     let mut waits = end;
-    let mut next = place;
+    let mut next = first;
     for one in packed {
         let (places, behind) = rest.split_at(one.count as usize);
         waits = pass_line(out, names, buffer, waits, next, &one.intent, places)?;

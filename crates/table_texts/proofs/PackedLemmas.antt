@@ -14,22 +14,22 @@ use Rattle.lectic_concepts.specs.Concepts.{concepts}
 use Rattle.report_texts.specs.Reports.{concepts_text}
 use Rattle.packed_concepts.specs.Lines.{Named, lines_text}
 use Rattle.packed_concepts.specs.Packing.{IsNamed}
-use Rattle.concept_walk.specs.Pages.{IsPage, concept_at}
+use Rattle.concept_walk.specs.Gatherings.{IsGathering, concept_at}
 use Rattle.concept_walk.proofs.LineLemmas.{named, text_whole}
-use Rattle.concept_walk.specs.declared.page.Page.{Page}
+use Rattle.concept_walk.specs.declared.gathering.Gathering.{Gathering}
 use Rattle.table_texts.specs.Tops.{branches, all_branches, EachWrote}
 use Rattle.table_texts.specs.declared.tops.Top.{Top}
 
--- pages of which none lacks a concept have those of all jobs
-pub concepts-jobs : (K : Context) {W : ℕ} (pages : List (Page W)) (jobs : List (Bor (List (Top W)))) → length pages ≡ length jobs
-    → EachWrote K pages jobs → All (λ page. page.whole ≡ true) pages
-    → flat_map (λ x. x) (map (λ page. page.concepts) pages) ≡ map (concept_at K) (all_branches K jobs)
+-- gatherings of which none lacks a concept have those of all jobs
+pub concepts-jobs : (K : Context) {W : ℕ} (gatherings : List (Gathering W)) (jobs : List (Bor (List (Top W)))) → length gatherings ≡ length jobs
+    → EachWrote K gatherings jobs → All (λ gathering. gathering.whole ≡ true) gatherings
+    → flat_map (λ x. x) (map (λ gathering. gathering.concepts) gatherings) ≡ map (concept_at K) (all_branches K jobs)
 concepts-jobs K [] [] even each whole = refl
 concepts-jobs K [] (job ∷ jobs) even each whole = absurd (omega arith)
-concepts-jobs K (page ∷ pages) [] even each whole = absurd (omega arith)
-concepts-jobs K (page ∷ pages) (job ∷ jobs) even each whole =
-    let first : IsPage K page (branches K job.now) = each 0 page job (omega arith) (whole 0 page (omega arith)) in
-    ap₂ (λ xs ys. xs ++ ys) first (concepts-jobs K pages jobs (omega (arith, even)) (λ i p j l. each (suc i) p j (omega (arith, l)))
+concepts-jobs K (gathering ∷ gatherings) [] even each whole = absurd (omega arith)
+concepts-jobs K (gathering ∷ gatherings) (job ∷ jobs) even each whole =
+    let first : IsGathering K gathering (branches K job.now) = each 0 gathering job (omega arith) (whole 0 gathering (omega arith)) in
+    ap₂ (λ xs ys. xs ++ ys) first (concepts-jobs K gatherings jobs (omega (arith, even)) (λ i p j l. each (suc i) p j (omega (arith, l)))
     (λ i p l. whole (suc i) p (omega (arith, l))))
     ∙ sym (map-append (concept_at K) (branches K job.now) (all_branches K jobs))
 

@@ -5,8 +5,8 @@ use denote.Ref.{Bor}
 use Rattle.fca_model.specs.Sets.{Set}
 use Rattle.fca_model.specs.Context.{Context, extent, is_closed}
 use Rattle.lectic_concepts.specs.Branches.{branch, AreWitnesses}
-use Rattle.concept_walk.specs.Pages.{IsPage}
-use Rattle.concept_walk.specs.declared.page.Page.{Page}
+use Rattle.concept_walk.specs.Gatherings.{IsGathering}
+use Rattle.concept_walk.specs.declared.gathering.Gathering.{Gathering}
 use Rattle.table_texts.specs.declared.tops.Top.{Top}
 
 -- what a walk of the branch begins with
@@ -25,10 +25,10 @@ branches K tops = flat_map (λ top. branch K top.intent top.from) tops
 abbrev pub all_branches : Context → {W : ℕ} → List (Bor (List (Top W))) → List Set
 all_branches K jobs = flat_map (λ job. branches K job.now) jobs
 
--- the page has the concepts of the branches, unless one is missing
-abbrev pub Wrote : Context → {W : ℕ} → Page W → List (Top W) → Type 0
-Wrote K page job = page.whole ≡ true → IsPage K page (branches K job)
+-- the gathering has the concepts of the branches, unless one is missing
+abbrev pub Wrote : Context → {W : ℕ} → Gathering W → List (Top W) → Type 0
+Wrote K gathering job = gathering.whole ≡ true → IsGathering K gathering (branches K job)
 
--- each page has those of the job at its place
-abbrev pub EachWrote : Context → {W : ℕ} → List (Page W) → List (Bor (List (Top W))) → Type 0
-EachWrote K pages jobs = (i : ℕ) (p : _) (j : _) → i < length jobs → Wrote K (slice_index_or pages i p) (slice_index_or jobs i j).now
+-- each gathering has those of the job at its place
+abbrev pub EachWrote : Context → {W : ℕ} → List (Gathering W) → List (Bor (List (Top W))) → Type 0
+EachWrote K gatherings jobs = (i : ℕ) (p : _) (j : _) → i < length jobs → Wrote K (slice_index_or gatherings i p) (slice_index_or jobs i j).now

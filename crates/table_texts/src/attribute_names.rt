@@ -13,8 +13,8 @@ use packed_concepts::{PIECE_BYTES, PIECE_ROOM, Pieces, end_without_comma, put_by
 use std::alloc::Global;
 use std::marker::Model;
 
-/// A set has most attributes if it lacks at most one of so many.
-const MOST: u32 = 4;
+/// A set has nearly all attributes if it lacks at most one of so many.
+const NEARLY_ALL: u32 = 4;
 
 /// The names of attributes, each with a comma and a space behind it: as pieces, and in one text with the place at which each begins.
 #[derive(Drop)]
@@ -63,8 +63,8 @@ impl AttributeNames {
         ensures room { length text.new ≡ length text.old }
     {
         let lacking = set.width() - set.size();
-        if lacking <= set.width() / MOST {
-            let end = self.put_most(text, start, set);
+        if lacking <= set.width() / NEARLY_ALL {
+            let end = self.put_nearly_all(text, start, set);
             return end_without_comma(start, end);
         }
         put_set(&self.pieces, text, start, set)
@@ -72,7 +72,7 @@ impl AttributeNames {
 
     /// Puts the names of the members, each with a comma and a space behind it, at `start` and returns their end. Those between two attributes that the set
     /// lacks are copied at once.
-    fn put_most<const W: usize>(&self, text: &mut [u8], start: usize, set: &Bits<W>) -> usize
+    fn put_nearly_all<const W: usize>(&self, text: &mut [u8], start: usize, set: &Bits<W>) -> usize
         requires wide { length set.now ≡ length self.now }
         requires room { start + PIECE_ROOM * length set.now ≤ length text.old }
         ensures text { take result text.new ≡ take start text.old ++ joined (names_of self.now set.now) }
@@ -101,20 +101,8 @@ impl AttributeNames {
     {
         let first = self.starts[from as usize];
         let last = self.starts[to as usize];
-        put_part(text, start, &self.text, first, last)
+        put_bytes(text, start, &self.text[first..last])
     }
-}
-
-/// Puts the part of the names from one place up to another at `start` and returns its end.
-fn put_part(text: &mut [u8], start: usize, names: &[u8], first: usize, last: usize) -> usize
-    requires order { first ≤ last }
-    requires inside { last ≤ length names.now }
-    requires room { start + (last - first) ≤ length text.old }
-    ensures text { take result text.new ≡ take start text.old ++ take (last - first) (drop first names.now) }
-    ensures ends { result ≡ start + (last - first) }
-    ensures room { length text.new ≡ length text.old }
-{
-    put_bytes(text, start, &names[first..last])
 }
 
 /// The names of the table's attributes in one text, and where each begins. The end of the last stands behind these places.

@@ -7,18 +7,18 @@ ghost use Rattle.expert_wire.specs.Texts.{arrow_text, line_end};
 ghost use Rattle.report_texts.specs.Reports.{arrow_line, basis_text};
 
 use crate::attribute_names::AttributeNames;
+use crate::heads::count_line;
 use attr_bits::Bits;
-use concept_walk::count_line_of;
 use derivation::RowsOf;
 use fca_model::{Implication, MAX_ATTRIBUTES, Memory};
 use implication_closure::ImplicationList;
 use itoa::Buffer;
 use lectic_basis::basis_in_words;
-use packed_concepts::{MARKS, PIECE_ROOM, make_room, put_bytes, room_of};
+use packed_concepts::{PIECE_ROOM, PUNCTUATION, make_room, put_bytes, room_of};
 use std::alloc::Global;
 
 /// The basis of these rows, one member a line, with these names of attributes. The rows are dropped before the text is written.
-pub(crate) fn basis_in<const W: usize>(
+pub(crate) fn basis_text_in<const W: usize>(
     alloc: Global,
     names: &AttributeNames,
     rows: RowsOf<W>,
@@ -29,11 +29,11 @@ pub(crate) fn basis_in<const W: usize>(
 {
     let nothing = ImplicationList::new(alloc, rows.width())?;
     let list = basis_in_words(alloc, rows, &nothing)?;
-    arrows_text(alloc, names, list.as_slice())
+    implications_text(alloc, names, list.as_slice())
 }
 
 /// The implications, one a line, after a line with their number.
-fn arrows_text<const W: usize>(
+fn implications_text<const W: usize>(
     alloc: Global,
     names: &AttributeNames,
     members: &[Implication<Bits<W>>],
@@ -41,17 +41,17 @@ fn arrows_text<const W: usize>(
     requires { HaveWidth (length names.now) members.now }
     ensures { IfOk result (λ v. v.items ≡ basis_text names.now members.now) }
 {
-    let mut bytes = count_line_of(alloc, b"basis ", members.len())?;
+    let mut bytes = count_line(alloc, b"basis ", members.len())?;
     let mut end = bytes.len();
     for (place, member) in members.iter().enumerate() {
-        end = add_arrow(&mut bytes, end, names, place, member)?;
+        end = add_implication(&mut bytes, end, names, place, member)?;
     }
     bytes.truncate(end);
     Ok(bytes)
 }
 
 /// Puts the line of the implication at `start`, makes room if necessary, and returns its end.
-fn add_arrow<const W: usize>(
+fn add_implication<const W: usize>(
     bytes: &mut Vec<u8>,
     start: usize,
     names: &AttributeNames,
@@ -75,11 +75,11 @@ fn add_arrow<const W: usize>(
         start,
         room_of(digits.len(), widths.0 as usize, widths.1 as usize),
     )?;
-    Ok(put_arrow(bytes, start, names, digits, member))
+    Ok(put_implication(bytes, start, names, digits, member))
 }
 
 /// Puts the line with these digits at `start` and returns its end.
-fn put_arrow<const W: usize>(
+fn put_implication<const W: usize>(
     text: &mut [u8],
     start: usize,
     names: &AttributeNames,
@@ -88,7 +88,7 @@ fn put_arrow<const W: usize>(
 ) -> usize
     requires premise { length member.now.premise ≡ length names.now }
     requires conclusion { length member.now.conclusion ≡ length names.now }
-    requires room { start + (length digits.now + (MARKS + PIECE_ROOM * (length member.now.premise + length member.now.conclusion))) ≤ length text.old }
+    requires room { start + (length digits.now + (PUNCTUATION + PIECE_ROOM * (length member.now.premise + length member.now.conclusion))) ≤ length text.old }
     ensures text { take result text.new ≡ take start text.old ++ (digits.now ++ (codes " " ++ (arrow_text names.now member.now ++ line_end))) }
     ensures ends { result ≤ length text.new }
     ensures room { length text.new ≡ length text.old }

@@ -5,8 +5,8 @@ ghost use Rattle.std.specs.List.{flat_map};
 ghost use Rattle.report_texts.specs.Reports.{count_line, cover_line};
 ghost use Rattle.table_texts.specs.Numerals.{AreNumerals};
 
+use crate::heads::add_count_line;
 use crate::numerals::count_up_to;
-use concept_walk::add_count_line;
 use fca_model::Memory;
 use packed_concepts::{BLOCK_BYTES, TextBlock, make_room, put_block, put_bytes};
 use std::alloc::Global;

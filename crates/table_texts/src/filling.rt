@@ -1,27 +1,27 @@
-//! The concepts of branches, on a page.
+//! The concepts of branches, gathered on a page.
 
 ghost use Rattle.std.specs.Prelude.{◌≡◌, All, OnOk};
-ghost use Rattle.concept_walk.specs.Pages.{Fills};
+ghost use Rattle.concept_walk.specs.Gatherings.{Fills};
 ghost use Rattle.table_texts.specs.Tops.{IsTop, branches, Wrote};
 
 use crate::tops::Top;
-use concept_walk::{CrossTable, Page, StepListPool, gather_branch};
+use concept_walk::{CrossTable, Gathering, StepListPool, gather_branch};
 use fca_model::Memory;
 use std::alloc::Global;
 
-/// A page with the concepts of the branches.
-pub(crate) fn page_of<const W: usize>(
+/// Gathers the concepts of the branches of the job.
+pub(crate) fn gather_job<const W: usize>(
     alloc: Global,
     crosses: &CrossTable<'_, W>,
     job: &[Top<W>],
-) -> Page<W>
+) -> Gathering<W>
     requires { All (IsTop crosses.now) job.now }
     ensures { Wrote crosses.now result job.now }
 {
     let _words = crosses.rows().width();
-    let mut page = Page::new(alloc);
-    page.whole = gather_tops(alloc, crosses, job, &mut page).is_ok();
-    page
+    let mut gathering = Gathering::new(alloc);
+    gathering.whole = gather_tops(alloc, crosses, job, &mut gathering).is_ok();
+    gathering
 }
 
 /// Adds the concepts of the branches.
@@ -29,15 +29,15 @@ pub(crate) fn gather_tops<const W: usize>(
     alloc: Global,
     crosses: &CrossTable<'_, W>,
     job: &[Top<W>],
-    page: &mut Page<W>,
+    gathering: &mut Gathering<W>,
 ) -> Result<(), Memory>
     requires { All (IsTop crosses.now) job.now }
-    ensures { OnOk result (Fills crosses.now page.old page.new (branches crosses.now job.now)) }
+    ensures { OnOk result (Fills crosses.now gathering.old gathering.new (branches crosses.now job.now)) }
 {
     let _words = crosses.rows().width();
     let mut pool = StepListPool::new(alloc, crosses.rows())?;
     for top in job {
-        gather_branch(alloc, crosses, page, &top.node(crosses), &mut pool)?;
+        gather_branch(alloc, crosses, gathering, &top.node(crosses), &mut pool)?;
     }
     Ok(())
 }

@@ -22,20 +22,20 @@ const LINE: usize = 64;
 /// About how many of so many cells have a cross.
 #[derive(Clone, Copy, Drop)]
 pub(crate) struct Density {
-    crosses: usize,
+    crossed: usize,
     cells: usize,
 }
 
 /// The density of the table, from the branches of the least intent alone and of its children.
 pub(crate) fn density_of<const W: usize>(children: &[Top<W>]) -> Density {
-    let mut crosses = 0usize;
+    let mut crossed = 0usize;
     let mut most = 0usize;
     for child in children {
-        crosses = crosses.saturating_add(child.places.len());
+        crossed = crossed.saturating_add(child.places.len());
         most = most.max(child.places.len());
     }
     Density {
-        crosses: crosses.saturating_sub(most),
+        crossed: crossed.saturating_sub(most),
         cells: most.saturating_mul(children.len().saturating_sub(1)),
     }
 }
@@ -113,7 +113,7 @@ fn work_at<const W: usize>(top: &Top<W>, density: Density) -> usize {
         }
         work = work.saturating_add(sets.saturating_mul(objects.saturating_add(LINE)));
         sets = sets.saturating_mul(left - size) / (size + 1);
-        objects = objects.saturating_mul(density.crosses) / density.cells.max(1);
+        objects = objects.saturating_mul(density.crossed) / density.cells.max(1);
     }
     work
 }

@@ -9,7 +9,7 @@ ghost use Rattle.context_table.specs.Narrow.{context_in};
 ghost use Rattle.packed_concepts.specs.Lines.{lines_text};
 ghost use Rattle.packed_concepts.specs.Packing.{IsNamed};
 ghost use Rattle.packed_concepts.specs.Pages.{concepts_on};
-ghost use Rattle.concept_walk.specs.Pages.{concept_at};
+ghost use Rattle.concept_walk.specs.Gatherings.{concept_at};
 ghost use Rattle.table_texts.specs.Lattices.{IsLattice};
 
 use crate::cover_lines::with_covers;

@@ -5,6 +5,7 @@ mod attribute_names;
 mod basis_lines;
 mod cover_lines;
 mod filling;
+mod heads;
 mod jobs;
 mod lattice;
 mod narrow_basis;

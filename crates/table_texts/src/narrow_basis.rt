@@ -6,9 +6,9 @@ ghost use Rattle.report_texts.specs.Reports.{basis_text};
 ghost use Rattle.context_table.specs.Narrow.{context_in};
 
 use crate::attribute_names::AttributeNames;
-use crate::basis_lines::basis_in;
-use context_table::{NarrowRows, NarrowTable, Table};
-use fca_model::{MAX_ATTRIBUTES, Memory, Name};
+use crate::basis_lines::basis_text_in;
+use context_table::{NarrowRows, NarrowTable};
+use fca_model::{MAX_ATTRIBUTES, Memory};
 use std::alloc::Global;
 
 /// The basis of the table, one member a line.
@@ -17,14 +17,14 @@ pub fn narrow_basis_text(alloc: Global, table: NarrowTable) -> Result<Vec<u8>, M
 {
     let (names, rows) = attributes_and_rows(alloc, table)?;
     match rows {
-        NarrowRows::One(rows) => basis_in(alloc, &names, rows),
-        NarrowRows::Two(rows) => basis_in(alloc, &names, rows),
-        NarrowRows::Four(rows) => basis_in(alloc, &names, rows),
-        NarrowRows::All(rows) => basis_in(alloc, &names, rows),
+        NarrowRows::One(rows) => basis_text_in(alloc, &names, rows),
+        NarrowRows::Two(rows) => basis_text_in(alloc, &names, rows),
+        NarrowRows::Four(rows) => basis_text_in(alloc, &names, rows),
+        NarrowRows::All(rows) => basis_text_in(alloc, &names, rows),
     }
 }
 
-/// The names of the attributes and the rows.
+/// The names of the attributes and the rows. The names of the objects are dropped.
 fn attributes_and_rows(
     alloc: Global,
     table: NarrowTable,
@@ -34,21 +34,11 @@ fn attributes_and_rows(
     ensures each_attribute { IfOk result (λ parts. (context_in parts.1).width ≡ length table.attributes) }
     ensures few_attributes { IfOk result (λ parts. (context_in parts.1).width ≤ MAX_ATTRIBUTES) }
 {
-    let (objects, attributes, rows) = table.into_parts();
-    match attributes_of(alloc, objects, attributes) {
+    let (objects, header, rows) = table.into_parts();
+    drop(objects);
+    let _rows = header.rows();
+    match AttributeNames::of(alloc, &header) {
         Ok(names) => Ok((names, rows)),
         Err(_) => Err(Memory),
     }
-}
-
-/// The names of the table's attributes. Those of the objects are dropped.
-fn attributes_of(alloc: Global, objects: Vec<Name>, table: Table) -> Result<AttributeNames, Memory>
-    ensures names { IfOk result (λ names. names ≡ table.attributes) }
-    ensures each_attribute { length table.attributes ≡ table.context.width }
-    ensures few_attributes { table.context.width ≤ MAX_ATTRIBUTES }
-{
-    let _width = table.rows().width();
-    drop(objects);
-    let names = AttributeNames::of(alloc, &table);
-    names
 }

@@ -7,17 +7,17 @@ ghost use Rattle.lectic_concepts.specs.Concepts.{concepts};
 ghost use Rattle.report_texts.specs.Reports.{concepts_text};
 ghost use Rattle.context_table.specs.Narrow.{context_in};
 ghost use Rattle.packed_concepts.specs.Pages.{concepts_on};
-ghost use Rattle.concept_walk.specs.Pages.{concept_at};
+ghost use Rattle.concept_walk.specs.Gatherings.{concept_at};
 ghost use Rattle.table_texts.specs.Tops.{IsTop, branches};
 
 use crate::filling::gather_tops;
 use crate::jobs::{branch_jobs, density_of};
-use crate::teams::fill_pages;
+use crate::teams::gather_jobs;
 use crate::tops::{Top, large_part, pays, root_of, split_large};
-use concept_walk::{CrossTable, Page, table_names};
-use context_table::{NarrowRows, NarrowTable, Table};
+use concept_walk::{CrossTable, Gathering, table_names};
+use context_table::{NarrowRows, NarrowTable};
 use derivation::RowsOf;
-use fca_model::{MAX_OBJECTS, Memory, Name};
+use fca_model::{MAX_OBJECTS, Memory};
 use packed_concepts::{ConceptPage, ConceptsText, Names, NarrowPages};
 use std::alloc::Global;
 use std::thread::Threads;
@@ -47,21 +47,12 @@ pub(crate) fn names_and_rows(
     ensures each_object { IfOk result (λ parts. length table.objects ≡ length table.context.rows) }
     ensures few_objects { IfOk result (λ parts. length (context_in parts.1).rows ≤ MAX_OBJECTS) }
 {
-    let (objects, attributes, rows) = table.into_parts();
-    match names_of(alloc, objects, attributes) {
+    let (objects, header, rows) = table.into_parts();
+    let _rows = header.rows();
+    match table_names(alloc, objects, &header) {
         Ok(names) => Ok((names, rows)),
         Err(_) => Err(Memory),
     }
-}
-
-/// The names of the objects and of the table's attributes.
-fn names_of(alloc: Global, objects: Vec<Name>, table: Table) -> Result<Names, Memory>
-    ensures names { IfOk result (λ names. names ≡ record { attributes = table.attributes; objects = objects.items }) }
-    ensures each_attribute { length table.attributes ≡ table.context.width }
-{
-    let _rows = table.rows();
-    let names = table_names(alloc, objects, &table);
-    names
 }
 
 /// The concepts of the rows.
@@ -115,9 +106,9 @@ pub(crate) fn one_page<const W: usize>(
     ensures { IfOk result (λ page. page ≡ map (concept_at crosses.now) (intents crosses.now)) }
 {
     let _words = crosses.rows().width();
-    let mut page = Page::new(alloc);
-    gather_tops(alloc, crosses, tops, &mut page)?;
-    Ok(page.concepts)
+    let mut gathering = Gathering::new(alloc);
+    gather_tops(alloc, crosses, tops, &mut gathering)?;
+    Ok(gathering.concepts)
 }
 
 /// The concepts of the branches, which are all, on pages that several threads fill. The branches are laid out once more, and large ones twice.
@@ -135,26 +126,26 @@ fn many_pages<R: Threads + Sync, const W: usize>(
     let more = split_large(alloc, crosses, tops, 0)?;
     let finer = split_large(alloc, crosses, &more, large_part(&more))?;
     let jobs = branch_jobs(alloc, crosses, &finer, density_of(tops))?;
-    let pages = fill_pages(rt, alloc, crosses, &jobs)?;
-    let pages = whole_pages(alloc, pages)?;
+    let gatherings = gather_jobs(rt, alloc, crosses, &jobs)?;
+    let pages = whole_pages(alloc, gatherings)?;
     Ok(pages)
 }
 
-/// The concepts on the pages, unless one is missing.
+/// The pages that were filled, unless a concept is missing.
 fn whole_pages<const W: usize>(
     alloc: Global,
-    pages: Vec<Page<W>>,
+    gatherings: Vec<Gathering<W>>,
 ) -> Result<Vec<ConceptPage<W>>, Memory>
     requires { W ≤ 1024 }
-    ensures whole { IfOk result (λ made. All (λ page. page.whole ≡ true) pages.entry.items) }
-    ensures concepts { IfOk result (λ made. made.items ≡ map (λ page. page.concepts) pages.entry.items) }
+    ensures whole { IfOk result (λ made. All (λ gathering. gathering.whole ≡ true) gatherings.entry.items) }
+    ensures concepts { IfOk result (λ made. made.items ≡ map (λ gathering. gathering.concepts) gatherings.entry.items) }
 {
-    let mut made = Vec::with_capacity(alloc, pages.len())?;
-    for page in pages {
-        if !page.whole {
+    let mut made = Vec::with_capacity(alloc, gatherings.len())?;
+    for gathering in gatherings {
+        if !gathering.whole {
             return Err(Memory);
         }
-        made.push(page.concepts)?;
+        made.push(gathering.concepts)?;
     }
     Ok(made)
 }

@@ -1,35 +1,36 @@
-//! Pages that several threads fill. A thread takes the next job after it has done one, so all have work until no job is left.
+//! Jobs that several threads do. A thread takes the next job after it has done one, so all have work until no job is left.
 
 ghost use Rattle.std.specs.Prelude.{◌≡◌, ◌≤◌, [], false, All, IfOk, length};
 ghost use Rattle.table_texts.specs.Tops.{IsTop, Wrote, EachWrote};
-ghost use Rattle.table_texts.specs.Teams.{IsFilled};
+ghost use Rattle.table_texts.specs.Teams.{IsDone};
 
-use crate::filling::page_of;
+use crate::filling::gather_job;
 use crate::tops::Top;
-use concept_walk::{CrossTable, Page};
+use concept_walk::{CrossTable, Gathering};
 use fca_model::Memory;
+use packed_concepts::processors;
 use std::alloc::Global;
 use std::sync::atomic::{AtomicUsize, Ordering};
 use std::thread;
-use std::thread::{Threads, available_parallelism};
+use std::thread::Threads;
 
-/// A page, and the place of its job.
+/// A job that is done: its place, and what was gathered.
 #[derive(Drop)]
-pub(crate) struct FilledPage<const W: usize> {
+pub(crate) struct DoneJob<const W: usize> {
     pub(crate) place: usize,
-    pub(crate) page: Page<W>,
+    pub(crate) gathering: Gathering<W>,
 }
 
-/// For each job a page with its concepts. Each processor has a thread.
-pub(crate) fn fill_pages<R: Threads + Sync, const W: usize>(
+/// Gathers the concepts of each job. Each processor has a thread.
+pub(crate) fn gather_jobs<R: Threads + Sync, const W: usize>(
     rt: &R,
     alloc: Global,
     crosses: &CrossTable<'_, W>,
     jobs: &[&[Top<W>]],
-) -> Result<Vec<Page<W>>, Memory>
+) -> Result<Vec<Gathering<W>>, Memory>
     requires { All (λ job. All (IsTop crosses.now) job.now) jobs.now }
-    ensures even { IfOk result (λ pages. length pages.items ≡ length jobs.now) }
-    ensures pages { IfOk result (λ pages. EachWrote crosses.now pages.items jobs.now) }
+    ensures even { IfOk result (λ gatherings. length gatherings.items ≡ length jobs.now) }
+    ensures gatherings { IfOk result (λ gatherings. EachWrote crosses.now gatherings.items jobs.now) }
 {
     let _words = crosses.rows().width();
     let next = AtomicUsize::new(0);
@@ -39,27 +40,22 @@ pub(crate) fn fill_pages<R: Threads + Sync, const W: usize>(
         rt,
         &mut team,
         threads,
-        &|_: usize, filled: &mut Vec<FilledPage<W>>|
-            requires { All (λ job. All (IsTop crosses.now) job.now) jobs.now × All (IsFilled crosses.now jobs.now) filled.old.items }
-            ensures { All (IsFilled crosses.entry.now jobs.entry.now) filled.new.items }
+        &|_: usize, done: &mut Vec<DoneJob<W>>|
+            requires { All (λ job. All (IsTop crosses.now) job.now) jobs.now × All (IsDone crosses.now jobs.now) done.old.items }
+            ensures { All (IsDone crosses.entry.now jobs.entry.now) done.new.items }
         {
-            // If a page finds no room in the list, its concepts are missing.
-            let _kept = take_jobs(alloc, crosses, jobs, &next, filled);
+            // If a gathering finds no room in the list, its concepts are missing.
+            let _kept = take_jobs(alloc, crosses, jobs, &next, done);
         },
     );
-    let mut pages = missing_pages(alloc, jobs.len())?;
-    put_all(crosses, jobs, team, &mut pages);
-    Ok(pages)
+    let mut gatherings = empty_gatherings(alloc, jobs.len())?;
+    put_all(crosses, jobs, team, &mut gatherings);
+    Ok(gatherings)
 }
 
-/// The number of processors.
-fn processors(rt: &impl Threads) -> usize {
-    available_parallelism(rt).map_or(1, |count| count.get())
-}
-
-/// So many lists of pages, all empty.
-fn team_of<const W: usize>(alloc: Global, count: usize) -> Result<Vec<Vec<FilledPage<W>>>, Memory>
-    ensures { IfOk result (λ team. All (λ filled. filled.items ≡ []) team.items) }
+/// So many lists of jobs that are done, all empty.
+fn team_of<const W: usize>(alloc: Global, count: usize) -> Result<Vec<Vec<DoneJob<W>>>, Memory>
+    ensures { IfOk result (λ team. All (λ done. done.items ≡ []) team.items) }
 {
     let mut team = Vec::new(alloc);
     for _ in 0..count {
@@ -68,17 +64,17 @@ fn team_of<const W: usize>(alloc: Global, count: usize) -> Result<Vec<Vec<Filled
     Ok(team)
 }
 
-/// Takes one job after the other while any is left, and puts the page with its concepts last. All threads count up the place of the next job.
+/// Takes one job after the other while any is left, does it and puts it last. All threads count up the place of the next job.
 fn take_jobs<const W: usize>(
     alloc: Global,
     crosses: &CrossTable<'_, W>,
     jobs: &[&[Top<W>]],
     next: &AtomicUsize,
-    filled: &mut Vec<FilledPage<W>>,
+    done: &mut Vec<DoneJob<W>>,
 ) -> Result<(), Memory>
     requires tops { All (λ job. All (IsTop crosses.now) job.now) jobs.now }
-    requires filled { All (IsFilled crosses.now jobs.now) filled.old.items }
-    ensures { All (IsFilled crosses.now jobs.now) filled.new.items }
+    requires done { All (IsDone crosses.now jobs.now) done.old.items }
+    ensures { All (IsDone crosses.now jobs.now) done.new.items }
 {
     let _words = crosses.rows().width();
     for _ in 0..jobs.len() {
@@ -86,61 +82,64 @@ fn take_jobs<const W: usize>(
         if jobs.len() <= place {
             return Ok(());
         }
-        let page = page_of(alloc, crosses, jobs[place]);
-        filled.push(FilledPage { place, page })?;
+        let gathering = gather_job(alloc, crosses, jobs[place]);
+        done.push(DoneJob { place, gathering })?;
     }
     Ok(())
 }
 
-/// So many pages, on all of which concepts are missing.
-fn missing_pages<const W: usize>(alloc: Global, count: usize) -> Result<Vec<Page<W>>, Memory>
+/// So many gatherings, in all of which concepts are missing.
+fn empty_gatherings<const W: usize>(
+    alloc: Global,
+    count: usize,
+) -> Result<Vec<Gathering<W>>, Memory>
     requires { W ≤ 1024 }
-    ensures even { IfOk result (λ pages. length pages.items ≡ count) }
-    ensures missing { IfOk result (λ pages. All (λ page. page.whole ≡ false) pages.items) }
+    ensures even { IfOk result (λ gatherings. length gatherings.items ≡ count) }
+    ensures missing { IfOk result (λ gatherings. All (λ gathering. gathering.whole ≡ false) gatherings.items) }
 {
-    let mut pages = Vec::with_capacity(alloc, count)?;
+    let mut gatherings = Vec::with_capacity(alloc, count)?;
     for _ in 0..count {
-        let mut page = Page::new(alloc);
-        page.whole = false;
-        pages.push(page)?;
+        let mut gathering = Gathering::new(alloc);
+        gathering.whole = false;
+        gatherings.push(gathering)?;
     }
-    Ok(pages)
+    Ok(gatherings)
 }
 
-/// Puts all pages at the places of their jobs.
+/// Puts all gatherings at the places of their jobs.
 fn put_all<const W: usize>(
     crosses: &CrossTable<'_, W>,
     jobs: &[&[Top<W>]],
-    team: Vec<Vec<FilledPage<W>>>,
-    pages: &mut [Page<W>],
+    team: Vec<Vec<DoneJob<W>>>,
+    gatherings: &mut [Gathering<W>],
 )
-    requires filled { All (λ filled. All (IsFilled crosses.now jobs.now) filled.items) team.items }
-    requires even { length pages.old ≡ length jobs.now }
-    requires pages { EachWrote crosses.now pages.old jobs.now }
-    ensures even { length pages.new ≡ length jobs.now }
-    ensures pages { EachWrote crosses.now pages.new jobs.now }
+    requires done { All (λ done. All (IsDone crosses.now jobs.now) done.items) team.items }
+    requires even { length gatherings.old ≡ length jobs.now }
+    requires gatherings { EachWrote crosses.now gatherings.old jobs.now }
+    ensures even { length gatherings.new ≡ length jobs.now }
+    ensures gatherings { EachWrote crosses.now gatherings.new jobs.now }
 {
     let _words = crosses.rows().width();
-    for filled in team {
-        put_pages(crosses, jobs, filled, pages);
+    for done in team {
+        put_gatherings(crosses, jobs, done, gatherings);
     }
 }
 
-/// Puts the pages at the places of their jobs.
-fn put_pages<const W: usize>(
+/// Puts the gatherings at the places of their jobs.
+fn put_gatherings<const W: usize>(
     crosses: &CrossTable<'_, W>,
     jobs: &[&[Top<W>]],
-    filled: Vec<FilledPage<W>>,
-    pages: &mut [Page<W>],
+    done: Vec<DoneJob<W>>,
+    gatherings: &mut [Gathering<W>],
 )
-    requires filled { All (IsFilled crosses.now jobs.now) filled.items }
-    requires even { length pages.old ≡ length jobs.now }
-    requires pages { EachWrote crosses.now pages.old jobs.now }
-    ensures even { length pages.new ≡ length jobs.now }
-    ensures pages { EachWrote crosses.now pages.new jobs.now }
+    requires done { All (IsDone crosses.now jobs.now) done.items }
+    requires even { length gatherings.old ≡ length jobs.now }
+    requires gatherings { EachWrote crosses.now gatherings.old jobs.now }
+    ensures even { length gatherings.new ≡ length jobs.now }
+    ensures gatherings { EachWrote crosses.now gatherings.new jobs.now }
 {
     let _words = crosses.rows().width();
-    for one in filled {
-        pages[one.place] = one.page;
+    for one in done {
+        gatherings[one.place] = one.gathering;
     }
 }

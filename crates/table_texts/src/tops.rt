@@ -9,9 +9,7 @@ ghost use Rattle.concept_walk.specs.Nodes.{IsNode};
 ghost use Rattle.table_texts.specs.Tops.{IsTop, branches};
 
 use attr_bits::Bits;
-use concept_walk::{
-    Candidates, CrossTable, Node, StepLists, known_witnesses, next_child, places_of,
-};
+use concept_walk::{Candidates, CrossTable, Node, StepLists, known_witnesses, next_child};
 use extent_places::tries_of;
 use fca_model::Memory;
 use lectic_concepts::{own_witnesses, pass_witnesses};
@@ -55,19 +53,19 @@ impl<const W: usize> Top<W> {
         }
     }
 
-    /// A guess at the size of the branch: the pairs of its objects, times the attributes that are left.
-    fn size(&self) -> usize {
+    /// A guess at the work of the branch: the pairs of its objects, times the attributes that are left.
+    fn weight(&self) -> usize {
         let left = self.intent.width().saturating_sub(self.from) as usize;
         let objects = self.places.len();
         objects.saturating_mul(objects).saturating_mul(left)
     }
 }
 
-/// The least size of a branch that is a large part of these.
+/// The least weight of a branch that is a large part of these.
 pub(crate) fn large_part<const W: usize>(tops: &[Top<W>]) -> usize {
     let mut whole = 0usize;
     for top in tops {
-        whole = whole.saturating_add(top.size());
+        whole = whole.saturating_add(top.weight());
     }
     whole / LARGE
 }
@@ -164,7 +162,7 @@ fn split_if_large<const W: usize>(
         ≡ branches crosses.now more.old.items ++ branch crosses.now top.now.intent top.now.from) }
 {
     let _words = crosses.rows().width();
-    if least <= top.size() && more.len() < ENOUGH {
+    if least <= top.weight() && more.len() < ENOUGH {
         return split_branch(alloc, crosses, top, more);
     }
     add_top(alloc, crosses, &top.node(crosses), more)?;
@@ -207,7 +205,7 @@ fn split_branch<const W: usize>(
         let known = known_witnesses(crosses, node.intent, node.witnesses, &scratch.noted);
         let below = Node {
             intent: &child.intent,
-            places: places_of(crosses, &child, &scratch.found),
+            places: &scratch.found[..child.count],
             from: child.attribute + 1,
             witnesses: pass_witnesses(rows, node.intent, known, &child.intent),
         };

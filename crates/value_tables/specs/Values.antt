@@ -18,12 +18,12 @@ pub record ValueTable : Type 0 where
   pub objects : List ObjectValues
 
 -- the object's value of attribute m
-abbrev pub value_of : ℕ → ObjectValues → Text
-value_of m object = slice_index_or object.values m []
+abbrev pub value_at : ℕ → ObjectValues → Text
+value_at m object = slice_index_or object.values m []
 
 -- each object's value of attribute m
 abbrev pub column : ValueTable → ℕ → List Text
-column t m = map (value_of m) t.objects
+column t m = map (value_at m) t.objects
 
 -- an object with no name and no values, in place of one that is missing
 abbrev pub no_object : ObjectValues

@@ -3,7 +3,7 @@
 ghost use Rattle.std.specs.Prelude.{◌≡◌, ◌<◌, ◌≤◌, None, Some, length, slice_get, position, bytes_eq, is_some};
 ghost use Rattle.context_table.specs.Table.{first_repeat};
 ghost use Rattle.value_tables.specs.Cells.{AreTable, table_of, texts};
-ghost use Rattle.value_tables.specs.Values.{column, object_at, value_of};
+ghost use Rattle.value_tables.specs.Values.{column, object_at, value_at};
 
 use crate::cells::Cells;
 use fca_model::{MAX_ATTRIBUTES, MAX_OBJECTS, Name};
@@ -86,7 +86,7 @@ impl Values {
     pub fn value(&self, g: usize, m: usize) -> &[u8]
         requires object { g < length self.now.objects }
         requires attribute { m < length self.now.attributes }
-        ensures { result.now ≡ value_of m (object_at self.now g) }
+        ensures { result.now ≡ value_at m (object_at self.now g) }
     {
         self.cells.get(g * self.attributes.len() + m)
     }

@@ -12,41 +12,41 @@ loop-step-init g c =
     let A : Set = c.args.node.now.intent.now in
     let step : Step g.row.W = c.in_ok-first_step.field-0 in
     let entered = rw c.in-Some.is at c.in_ok-candidates.ensures in
-    walk_begin K A c.args.node.now.from c.in-Some.candidates.end c.args.page.now c.enter.new.page c.push.new.self.items step
+    walk_begin K A c.args.node.now.from c.in-Some.candidates.end c.args.gathering.now c.enter.new.gathering c.push.new.self.items step
     (c.in_ok-push.ensures.items ∙ ap (λ (xs : List (Step g.row.W)). xs ++ step ∷ []) c.new-steps.ensures.items) c.in_ok-first_step.ensures
     entered.2
 
-pub loop-step-preserved-in_ok-put_back-in-Nothing : goal.loop-step-preserved-in_ok-put_back-in-Nothing
-loop-step-preserved-in_ok-put_back-in-Nothing g c =
+pub loop-step-preserved-in_ok-put_back-in-End : goal.loop-step-preserved-in_ok-put_back-in-End
+loop-step-preserved-in_ok-put_back-in-End g c =
     let K : Context = c.args.crosses.now in
     let All : List Set = branch K c.args.node.now.intent.now c.args.node.now.from in
     let steps : List (Step g.row.W) = c.pop.new.self.items in
-    let walk = subst (λ (xs : List (Step g.row.W)). IsWalk K All c.args.page.now c.loop-step.page xs) c.in-Some-pop.ensures.items
+    let walk = subst (λ (xs : List (Step g.row.W)). IsWalk K All c.args.gathering.now c.loop-step.gathering xs) c.in-Some-pop.ensures.items
     c.loop-step.invariant in
-    walk_none K All c.args.page.now c.loop-step.page c.next_step.new.page steps c.in-Some-pop.step walk
-    (rw c.in-Nothing.is at c.in_ok-next_step.ensures)
+    walk_none K All c.args.gathering.now c.loop-step.gathering c.next_step.new.gathering steps c.in-Some-pop.step walk
+    (rw c.in-End.is at c.in_ok-next_step.ensures)
 
 pub loop-step-smaller-in_ok-push-in-Whole : goal.loop-step-smaller-in_ok-push-in-Whole
 loop-step-smaller-in_ok-push-in-Whole g c =
     let K : Context = c.args.crosses.now in
     let All : List Set = branch K c.args.node.now.intent.now c.args.node.now.from in
     let steps : List (Step g.row.W) = c.pop.new.self.items in
-    let walk = subst (λ (xs : List (Step g.row.W)). IsWalk K All c.args.page.now c.loop-step.page xs) c.in-Some-pop.ensures.items
+    let walk = subst (λ (xs : List (Step g.row.W)). IsWalk K All c.args.gathering.now c.loop-step.gathering xs) c.in-Some-pop.ensures.items
     c.loop-step.invariant in
-    let met = rw c.in-Whole.is at c.in_ok-next_step.ensures in
-    room_tried K.width steps c.in-Some-pop.step c.in-Some-pop.ensures.items c.next_step.new.step c.in_ok-push-in-Whole.ensures.items met.0.from
-    (omega (arith, met.0.from, met.0.step.order)) met.0.less
-    (walk_step K All c.args.page.now c.loop-step.page c.next_step.new.page steps c.in-Some-pop.step walk).candidates.inside
+    let descent = rw c.in-Whole.is at c.in_ok-next_step.ensures in
+    room_tried K.width steps c.in-Some-pop.step c.in-Some-pop.ensures.items c.next_step.new.step c.in_ok-push-in-Whole.ensures.items descent.0.from
+    (omega (arith, descent.0.from, descent.0.step.order)) descent.0.less
+    (walk_step K All c.args.gathering.now c.loop-step.gathering c.next_step.new.gathering steps c.in-Some-pop.step walk).candidates.inside
 
 pub loop-step-preserved-in_ok-push-in-Whole : goal.loop-step-preserved-in_ok-push-in-Whole
 loop-step-preserved-in_ok-push-in-Whole g c =
     let K : Context = c.args.crosses.now in
     let All : List Set = branch K c.args.node.now.intent.now c.args.node.now.from in
     let steps : List (Step g.row.W) = c.pop.new.self.items in
-    let walk = subst (λ (xs : List (Step g.row.W)). IsWalk K All c.args.page.now c.loop-step.page xs) c.in-Some-pop.ensures.items
+    let walk = subst (λ (xs : List (Step g.row.W)). IsWalk K All c.args.gathering.now c.loop-step.gathering xs) c.in-Some-pop.ensures.items
     c.loop-step.invariant in
-    subst (λ (xs : List (Step g.row.W)). IsWalk K All c.args.page.now c.next_step.new.page xs) (sym c.in_ok-push-in-Whole.ensures.items)
-    (walk_whole K All c.args.page.now c.loop-step.page c.next_step.new.page steps c.in-Some-pop.step walk c.next_step.new.step
+    subst (λ (xs : List (Step g.row.W)). IsWalk K All c.args.gathering.now c.next_step.new.gathering xs) (sym c.in_ok-push-in-Whole.ensures.items)
+    (walk_whole K All c.args.gathering.now c.loop-step.gathering c.next_step.new.gathering steps c.in-Some-pop.step walk c.next_step.new.step
     (rw c.in-Whole.is at c.in_ok-next_step.ensures))
 
 pub loop-step-smaller : goal.loop-step-smaller
@@ -54,23 +54,23 @@ loop-step-smaller g c =
     let K : Context = c.args.crosses.now in
     let All : List Set = branch K c.args.node.now.intent.now c.args.node.now.from in
     let steps : List (Step g.row.W) = c.pop.new.self.items in
-    let walk = subst (λ (xs : List (Step g.row.W)). IsWalk K All c.args.page.now c.loop-step.page xs) c.in-Some-pop.ensures.items
+    let walk = subst (λ (xs : List (Step g.row.W)). IsWalk K All c.args.gathering.now c.loop-step.gathering xs) c.in-Some-pop.ensures.items
     c.loop-step.invariant in
-    let met = rw c.in-Below.is at c.in_ok-next_step.ensures in
-    room_deeper K.width steps c.in-Some-pop.step c.in-Some-pop.ensures.items c.next_step.new.step c.in_ok-push-in-Below.ensures.items met.0.from
-    (omega (arith, met.0.from, met.0.step.order)) met.0.less
-    (walk_step K All c.args.page.now c.loop-step.page c.next_step.new.page steps c.in-Some-pop.step walk).candidates.inside c.in-Below.below
-    c.in_ok-push-in-Below-2.ensures.items met.2
+    let descent = rw c.in-Below.is at c.in_ok-next_step.ensures in
+    room_deeper K.width steps c.in-Some-pop.step c.in-Some-pop.ensures.items c.next_step.new.step c.in_ok-push-in-Below.ensures.items descent.0.from
+    (omega (arith, descent.0.from, descent.0.step.order)) descent.0.less
+    (walk_step K All c.args.gathering.now c.loop-step.gathering c.next_step.new.gathering steps c.in-Some-pop.step walk).candidates.inside c.in-Below.below
+    c.in_ok-push-in-Below-2.ensures.items descent.2
 
 pub loop-step-preserved : goal.loop-step-preserved
 loop-step-preserved g c =
     let K : Context = c.args.crosses.now in
     let All : List Set = branch K c.args.node.now.intent.now c.args.node.now.from in
     let steps : List (Step g.row.W) = c.pop.new.self.items in
-    let walk = subst (λ (xs : List (Step g.row.W)). IsWalk K All c.args.page.now c.loop-step.page xs) c.in-Some-pop.ensures.items
+    let walk = subst (λ (xs : List (Step g.row.W)). IsWalk K All c.args.gathering.now c.loop-step.gathering xs) c.in-Some-pop.ensures.items
     c.loop-step.invariant in
-    subst (λ (xs : List (Step g.row.W)). IsWalk K All c.args.page.now c.next_step.new.page xs)
+    subst (λ (xs : List (Step g.row.W)). IsWalk K All c.args.gathering.now c.next_step.new.gathering xs)
     (sym (c.in_ok-push-in-Below-2.ensures.items ∙ ap
     (λ (xs : List (Step g.row.W)). xs ++ c.in-Below.below ∷ []) c.in_ok-push-in-Below.ensures.items))
-    (walk_below K All c.args.page.now c.loop-step.page c.next_step.new.page steps c.in-Some-pop.step walk c.next_step.new.step
+    (walk_below K All c.args.gathering.now c.loop-step.gathering c.next_step.new.gathering steps c.in-Some-pop.step walk c.next_step.new.step
     c.in-Below.below (rw c.in-Below.is at c.in_ok-next_step.ensures))

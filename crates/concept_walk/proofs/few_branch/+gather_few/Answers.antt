@@ -6,7 +6,7 @@ use Rattle.lectic_concepts.specs.Branches.{branch}
 use Rattle.lectic_concepts.proofs.IntentLemmas.{IsIntent}
 use Rattle.lectic_concepts.proofs.BranchLemmas.{branch_end}
 use Rattle.lectic_concepts.proofs.WitnessLemmas.{seen_none}
-use Rattle.concept_walk.specs.Pages.{Fills}
+use Rattle.concept_walk.specs.Gatherings.{Fills}
 use Rattle.extent_places.specs.Few.{AreFew}
 use Rattle.extent_places.specs.Tries.{AreTries}
 use Rattle.extent_places.specs.declared.few.SmallConcept.{SmallConcept}
@@ -61,7 +61,7 @@ loop-i-init g t c =
       from_on = omega (arith, width, c.requires.inside);
       inside = omega (arith, width);
       noted = seen_none K A c.take_lists-scratch.result.noted.items c.take_lists-scratch.ensures;
-      filled = subst (Fills c.args.crosses.now c.args.page.now c.add.new.self)
+      filled = subst (Fills c.args.crosses.now c.args.gathering.now c.add.new.self)
           (sym (branch_end K A a) ∙ ap (branch K A) (sym width)) c.in_ok-add.ensures.added;
     }
 
@@ -78,7 +78,7 @@ loop-i-preserved-then-not-is_open g t c =
       from_on = last.0;
       inside = omega (arith, last.1, c.loop-i.invariant.inside);
       noted = c.loop-i.invariant.noted;
-      filled = subst (Fills c.args.crosses.now c.args.page.now c.loop-i.page) (sym (same ∙ behind)) c.loop-i.invariant.filled;
+      filled = subst (Fills c.args.crosses.now c.args.gathering.now c.loop-i.gathering) (sym (same ∙ behind)) c.loop-i.invariant.filled;
     }
 
 pub loop-i-preserved-in_default-met : goal.loop-i-preserved-in_default-met
@@ -97,7 +97,7 @@ loop-i-preserved-in_default-met g t c =
       from_on = last.0;
       inside = omega (arith, last.1, c.loop-i.invariant.inside);
       noted = c.in_ok-met.ensures.noted;
-      filled = subst (Fills c.args.crosses.now c.args.page.now c.loop-i.page) (sym (same ∙ behind)) c.loop-i.invariant.filled;
+      filled = subst (Fills c.args.crosses.now c.args.gathering.now c.loop-i.gathering) (sym (same ∙ behind)) c.loop-i.invariant.filled;
     }
 
 pub loop-i-preserved : goal.loop-i-preserved
@@ -118,9 +118,9 @@ loop-i-preserved g t c =
       from_on = last.0;
       inside = omega (arith, last.1, c.loop-i.invariant.inside);
       noted = c.in_ok-met.ensures.noted;
-      filled = subst (Fills c.args.crosses.now c.args.page.now c.gather_few.new.page)
+      filled = subst (Fills c.args.crosses.now c.args.gathering.now c.gather_few.new.gathering)
           (sym (splits ∙ ap (λ (Xs : List Set). Xs ++ branch K D (i + 1)) behind))
-          (Fills-append c.args.crosses.now c.args.page.now c.loop-i.page c.gather_few.new.page (branch K A c.loop-i.end)
+          (Fills-append c.args.crosses.now c.args.gathering.now c.loop-i.gathering c.gather_few.new.gathering (branch K A c.loop-i.end)
           (branch K D (i + 1)) c.loop-i.invariant.filled c.in_ok-gather_few.ensures);
     }
 
@@ -129,6 +129,6 @@ returns g t c =
     let K : Context = c.args.crosses.now in
     let A : Set = c.args.node.now.intent.now in
     let tries = subst (λ (J : Context). AreTries J A c.tries_of-tries.result) c.rows-rows.ensures c.tries_of-tries.ensures.tries in
-    subst (Fills c.args.crosses.now c.args.page.now c.loop-i.page)
+    subst (Fills c.args.crosses.now c.args.gathering.now c.loop-i.gathering)
     (sym (branch-between K A c.tries_of-tries.result c.args.node.now.from c.loop-i.end tries c.loop-i.invariant.from_on
     c.loop-i.invariant.inside c.in_default.ensures)) c.loop-i.invariant.filled

@@ -1,6 +1,6 @@
 use Rattle.std.proofs.Common.{◌≤◌, ◌-◌}
 use Rattle.lectic_concepts.specs.Branches.{branch, AreWitnesses}
-use Rattle.concept_walk.specs.Pages.{Fills}
+use Rattle.concept_walk.specs.Gatherings.{Fills}
 use Rattle.concept_walk.proofs.few_branch.+gather_few.Given as goal
 
 abbrev pub decreases-gather_few : goal.decreases-gather_few
@@ -11,7 +11,7 @@ invariant-loop-i g l = record {
   from_on : l.node.from ≤ l.end;
   inside : l.end ≤ l.crosses.width;
   noted : AreWitnesses l.crosses l.node.intent.now l.scratch.noted.items;
-  filled : Fills l.crosses l.fn.page l.page (branch l.crosses l.node.intent.now l.end);
+  filled : Fills l.crosses l.fn.gathering l.gathering (branch l.crosses l.node.intent.now l.end);
 }
 
 abbrev pub decreases-loop-i : goal.decreases-loop-i

@@ -6,7 +6,7 @@ use Rattle.lectic_concepts.proofs.IntentLemmas.{IsIntent}
 use Rattle.lectic_concepts.proofs.BranchLemmas.{branch_end}
 use Rattle.extent_places.specs.Tries.{AreTries}
 use Rattle.extent_places.proofs.TryLemmas.{branch-between}
-use Rattle.concept_walk.specs.Pages.{Fills}
+use Rattle.concept_walk.specs.Gatherings.{Fills}
 use Rattle.concept_walk.proofs.steps.enter.Goals as goal
 
 pub returns-in_default : goal.returns-in_default
@@ -20,7 +20,7 @@ returns-in_default g c =
     let alone : branch K A c.args.node.now.from ≡ A ∷ [] =
     branch-between K A c.tries_of-attributes.result c.args.node.now.from c.width-width.result tries
     (omega (arith, width, c.requires.inside)) (omega (arith, width)) c.in_default.ensures ∙ ap (branch K A) width ∙ branch_end K A a in
-    subst (Fills K c.args.page.now c.add.new.self) (sym alone) c.in_ok-add.ensures.added
+    subst (Fills K c.args.gathering.now c.add.new.self) (sym alone) c.in_ok-add.ensures.added
 
 pub returns : goal.returns
 returns g c =
@@ -40,5 +40,5 @@ returns g c =
         inside = omega (arith, last.1, width);
       },
       omega (arith, last.0),
-      subst (Fills K c.args.page.now c.add.new.self) (sym alone) c.in_ok-add.ensures.added,
+      subst (Fills K c.args.gathering.now c.add.new.self) (sym alone) c.in_ok-add.ensures.added,
     )

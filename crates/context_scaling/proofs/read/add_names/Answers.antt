@@ -6,7 +6,7 @@ use Rattle.fca_model.specs.Tables.{Text}
 use Rattle.fca_model.specs.Names.{name_fault}
 use Rattle.context_table.specs.Table.{first_repeat}
 use Rattle.csv_context.proofs.FormLemmas.{first_repeat-append}
-use Rattle.context_scaling.specs.Scaling.{mark_name}
+use Rattle.context_scaling.specs.Scaling.{made_name}
 use Rattle.context_scaling.specs.PlanForm.{add_names, new_name}
 use Rattle.context_scaling.specs.declared.scales.ScaleValue.{ScaleValue}
 use Rattle.context_scaling.proofs.ReadLemmas.{names_more}
@@ -22,7 +22,7 @@ loop-p-preserved c =
     let values = c.args.values.now in
     let v = c.index-values-p.result in
     let name = c.in_ok-name.name in
-    let made = mark_name m r v in
+    let made = made_name m r v in
     let text : c.deref.result.now ≡ made = c.deref.ensures ∙ c.in_ok-text.ensures in
     let is : name ≡ made = c.in_ok-name.ensures.named.0 ∙ text in
     let new = c.in_ok-name.ensures.new in
@@ -32,9 +32,9 @@ loop-p-preserved c =
     let rest : drop p values ≡ v ∷ drop (p + 1) values = drop_more values p v c.loop-p-test.true
     ∙ ap (λ (w : ScaleValue). w ∷ drop (p + 1) values) (sym c.index-values-p.is) in
     let next : p + 1 + 3 ≡ p + 3 + 1 = omega arith in
-    let more : map (mark_name m r) (take (p + 1) values) ≡ map (mark_name m r) (take p values) ++ made ∷ [] =
-    map_more (mark_name m r) values p v c.loop-p-test.true
-    ∙ ap (λ (w : ScaleValue). map (mark_name m r) (take p values) ++ mark_name m r w ∷ []) (sym c.index-values-p.is) in
+    let more : map (made_name m r) (take (p + 1) values) ≡ map (made_name m r) (take p values) ++ made ∷ [] =
+    map_more (made_name m r) values p v c.loop-p-test.true
+    ∙ ap (λ (w : ScaleValue). map (made_name m r) (take p values) ++ made_name m r w ∷ []) (sym c.index-values-p.is) in
     let Named : List Text → Type 0 = λ names. All (λ (n : Text). name_fault n ≡ None) names in
     record {
       says =
@@ -45,9 +45,9 @@ loop-p-preserved c =
       names =
           keys
           ∙ ap₂ (λ (seen : List Text) (n : Text). seen ++ n ∷ []) loop.invariant.names is
-          ∙ append_assoc c.args.names.now.keys (map (mark_name m r) (take p values)) (made ∷ [])
+          ∙ append_assoc c.args.names.now.keys (map (made_name m r) (take p values)) (made ∷ [])
           ∙ ap (λ (ns : List Text). c.args.names.now.keys ++ ns) (sym more);
-      named = subst Named (sym more) (All-push (λ n. name_fault n ≡ None) (map (mark_name m r) (take p values)) made loop.invariant.named
+      named = subst Named (sym more) (All-push (λ n. name_fault n ≡ None) (map (made_name m r) (take p values)) made loop.invariant.named
           (ap name_fault (sym text) ∙ c.in_ok-name.ensures.named.1));
       differing = λ none. ap first_repeat keys ∙ first_repeat-append loop.names.keys name (loop.invariant.differing none) new;
     }

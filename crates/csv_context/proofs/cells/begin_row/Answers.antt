@@ -18,8 +18,8 @@ loop-left-init c =
       left = refl;
     }
 
-pub put_mark-requires : goal.put_mark-requires
-put_mark-requires c = omega (arith, c.loop-left.invariant.wide, c.if-place-width.true)
+pub put_cell-requires : goal.put_cell-requires
+put_cell-requires c = omega (arith, c.loop-left.invariant.wide, c.if-place-width.true)
 
 pub loop-left-preserved : goal.loop-left-preserved
 loop-left-preserved c =
@@ -30,16 +30,16 @@ loop-left-preserved c =
     let takes = cell.ensures.cell c.if-not-cell.false in
     let found = left-field cells loop.place takes.field (fields_in cell.result.behind.now) (loop.invariant.left ∙ takes.fields) in
     record {
-      wide = ap length c.put_mark.ensures ∙ length-marked loop.row loop.place cell.result.is_cross ∙ loop.invariant.wide;
+      wide = ap length c.put_cell.ensures ∙ length-put loop.row loop.place cell.result.is_cross ∙ loop.invariant.wide;
       within = omega (arith, c.if-place-width.true);
       read = λ i.
           let says : cell_form i (loop.place + 2) takes.field ≡ Ok cell.result.is_cross = ap (cell_by i (loop.place + 2)) takes.says in
-          subst (λ (row : Set). ReadTo i width cells row (loop.place + 1)) (sym c.put_mark.ensures)
+          subst (λ (row : Set). ReadTo i width cells row (loop.place + 1)) (sym c.put_cell.ensures)
           (ReadTo-more i width cells loop.row loop.place takes.field found.0
           (loop.invariant.read i) cell.result.is_cross c.if-place-width.true says);
       left = found.1;
     }
   where
-    length-marked : (row : Set) (place : ℕ) (mark : Bool) → length (cond mark (set row place true) row) ≡ length row
-    length-marked row place true = length-set row place true
-    length-marked row place false = refl
+    length-put : (row : Set) (place : ℕ) (cross : Bool) → length (cond cross (set row place true) row) ≡ length row
+    length-put row place true = length-set row place true
+    length-put row place false = refl

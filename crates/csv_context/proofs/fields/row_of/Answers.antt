@@ -21,6 +21,6 @@ loop-place-preserved c =
     let fields = fields_of c.args.fields.now in
     let field = c.field_at-field.result.now in
     let at : Some field ≡ slice_get (drop 1 fields) loop.place = c.field_at-field.ensures ∙ sym (slice_get-behind fields loop.place) in
-    subst (λ (row : Set). ReadTo c.args.i c.args.width (drop 1 fields) row (loop.place + 1)) (sym c.put_mark.ensures)
+    subst (λ (row : Set). ReadTo c.args.i c.args.width (drop 1 fields) row (loop.place + 1)) (sym c.put_cell.ensures)
     (ReadTo-more c.args.i c.args.width (drop 1 fields) loop.row loop.place field at loop.invariant c.in_ok-cross.cross
     c.loop-place-test.true (sym c.in_ok-cross.ensures))

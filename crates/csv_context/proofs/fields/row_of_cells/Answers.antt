@@ -22,7 +22,7 @@ loop-place-preserved c =
     ∙ next.ensures in
     let found = left-field cells loop.place field (fields_behind next.result.1) left in
     record {
-      read = subst (λ (row : Set). ReadTo c.args.i c.args.width cells row (loop.place + 1)) (sym c.put_mark.ensures)
+      read = subst (λ (row : Set). ReadTo c.args.i c.args.width cells row (loop.place + 1)) (sym c.put_cell.ensures)
           (ReadTo-more c.args.i c.args.width cells loop.row loop.place field found.0 loop.invariant.read c.in_ok-cross.cross
           c.loop-place-test.true (sym c.in_ok-cross.ensures));
       left = found.1;

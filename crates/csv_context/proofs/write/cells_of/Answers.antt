@@ -16,14 +16,14 @@ loop-j-preserved c =
     let from : ℕ = c.args.from in
     let row : Set = c.args.row.now in
     let part : Set = drop from row in
-    let mark : Bool = c.has.result in
+    let cross : Bool = c.has.result in
     let below : loop.j < length part = omega (arith, length-drop from row, c.requires.inside, c.loop-j-test.true) in
     let room : loop.size + 1 < length loop.cells =
     omega (arith, loop.invariant.few, loop.invariant.room, c.requires.few, c.loop-j-test.true) in
-    let next : take (loop.j + 1) part ≡ take loop.j part ++ mark ∷ [] =
+    let next : take (loop.j + 1) part ≡ take loop.j part ++ cross ∷ [] =
     take_more part loop.j false below ∙ ap (λ (m : Bool). take loop.j part ++ m ∷ [])
     (get_or-drop from row loop.j false ∙ sym c.has.ensures) in
-    let sized : c.if-has.size ≡ cond mark 2 1 = elim c.if-has.branch [
+    let sized : c.if-has.size ≡ cond cross 2 1 = elim c.if-has.branch [
       | then-has w ↦ w.size-is ∙ ap (λ (m : Bool). cond m 2 1) (sym w.if-has.true)
       | else-has w ↦ w.size-is ∙ ap (λ (m : Bool). cond m 2 1) (sym w.if-has.false)
     ] in
@@ -35,7 +35,7 @@ loop-j-preserved c =
     record {
       cells =
           ap (λ (n : ℕ). take (loop.size + n) cells) sized
-          ∙ cells-more (take loop.j part) loop.cells loop.size mark loop.invariant.cells room
+          ∙ cells-more (take loop.j part) loop.cells loop.size cross loop.invariant.cells room
           ∙ ap cells_text (sym next);
       few = omega (arith, small, loop.invariant.few);
       room = length-set (set loop.cells loop.size 44) (loop.size + 1) 88 ∙ length-set loop.cells loop.size 44 ∙ loop.invariant.room;

@@ -5,7 +5,7 @@ use Rattle.std.proofs.lemmas.Str.{utf8_valid_len-IsUtf8}
 use Rattle.fca_model.specs.Tables.{NamedContext}
 use Rattle.text_pieces.specs.Lines.{lines}
 use Rattle.text_pieces.specs.Telling.{Tells}
-use Rattle.cxt_format.specs.Form.{table_form, without_mark, cxt_form}
+use Rattle.cxt_format.specs.Form.{table_form, without_bom, cxt_form}
 use Rattle.cxt_format.specs.Narrow.{untitled_form}
 use Rattle.cxt_format.specs.declared.CxtFault.{CxtFault}
 use Rattle.cxt_format.specs.declared.CxtFault.TheVariants as fault
@@ -17,7 +17,7 @@ returns-in-Ok c =
     let text = c.in-Ok.ensures.cases in
     let whole : utf8_valid_len c.args.bytes.now == length c.args.bytes.now ≡ true =
     eq-eqb _ _ (utf8_valid_len-IsUtf8 c.args.bytes.now text.1) in
-    let P : List ℕ → Type 0 = λ bytes. Tells fault.Memory c.read_text.result (untitled_form (table_form (lines (without_mark bytes)))) in
+    let P : List ℕ → Type 0 = λ bytes. Tells fault.Memory c.read_text.result (untitled_form (table_form (lines (without_bom bytes)))) in
     rw whole (subst P text.0 c.read_text.ensures)
 
 pub returns-in-Err : goal.returns-in-Err

@@ -12,13 +12,13 @@ pub loop-implication-preserved : goal.loop-implication-preserved
 loop-implication-preserved c = rw add-one (Drafting-more _ _
     (Drafting-equal (flat_map-drop (known_line c.args.table.now.attributes) c.args.known.now c.loop-implication.implication-index
     c.implication-item.result c.loop-implication-test.true c.implication-item.is) c.loop-implication.invariant)
-    c.in_ok-append_question.ensures.whole)
+    c.in_ok-append_full_text.ensures.whole)
 
-pub returns-in_err-append_question-clause-front : goal.returns-in_err-append_question-clause-front
-returns-in_err-append_question-clause-front c =
+pub returns-in_err-append_full_text-clause-front : goal.returns-in_err-append_full_text-clause-front
+returns-in_err-append_full_text-clause-front c =
     Drafting-fault _ _ (Drafting-equal (flat_map-drop
     (known_line c.args.table.now.attributes) c.args.known.now c.loop-implication.implication-index c.implication-item.result
-    c.loop-implication-test.true c.implication-item.is) c.loop-implication.invariant) c.in_err-append_question.ensures.front
+    c.loop-implication-test.true c.implication-item.is) c.loop-implication.invariant) c.in_err-append_full_text.ensures.front
 
 pub returns-clause-whole : goal.returns-clause-whole
 returns-clause-whole c = Drafting-end (Drafting-equal

@@ -15,4 +15,4 @@ returns-in_err-write_parts g c =
 pub returns : goal.returns
 returns g c =
     Writes-equal (rule_parts c.args.table.now.attributes c.args.words.now c.args.place c.args.rule.now)
-    (Writes-then c.write_question.result c.in_ok-write_parts.ensures c.write_question.ensures)
+    (Writes-then c.write_full_text.result c.in_ok-write_parts.ensures c.write_full_text.ensures)

@@ -11,15 +11,15 @@ returns-in_err-end-clause-written g c =
     c.loop-stretch-test.true c.stretch-item.is in
     rw (p.1, p.2) (Underway-fault _ _ _ (Underway-equal next c.loop-stretch.invariant.underway) c.in_err-end.ensures.failed)
 
-pub returns-in_err-write_part-clause-written : goal.returns-in_err-write_part-clause-written
-returns-in_err-write_part-clause-written g c =
-    let p = err_from_is_err_and c.from_residual-in_err-write_part.result c.from_residual-in_err-write_part.ensures.1 in
+pub returns-in_err-write_bytes-clause-written : goal.returns-in_err-write_bytes-clause-written
+returns-in_err-write_bytes-clause-written g c =
+    let p = err_from_is_err_and c.from_residual-in_err-write_bytes.result c.from_residual-in_err-write_bytes.ensures.1 in
     let next = flat_map-drop (lines_on c.args.names.now) c.args.job.now c.loop-stretch.stretch-index c.stretch-item.result
     c.loop-stretch-test.true c.stretch-item.is in
     let passed = c.in_ok-end.ensures.passed in
-    let fault = Err c.in_err-write_part.field-0.0 in
+    let fault = Err c.in_err-write_bytes.field-0.0 in
     rw (p.1, p.2) (Underway-fault _ _ _ (Underway-equal next c.loop-stretch.invariant.underway)
-    (Writes-equal {r = fault} passed.split (Writes-then fault passed.written c.in_err-write_part.ensures)))
+    (Writes-equal {r = fault} passed.split (Writes-then fault passed.written c.in_err-write_bytes.ensures)))
 
 pub loop-stretch-preserved : goal.loop-stretch-preserved
 loop-stretch-preserved g c =
@@ -29,5 +29,5 @@ loop-stretch-preserved g c =
     record {
       room = c.in_ok-end.ensures.room ∙ c.loop-stretch.invariant.room;
       underway = rw add-one (Underway-more _ _ (Underway-equal next c.loop-stretch.invariant.underway)
-          (Writes-equal {r = Ok tt} passed.split (Writes-then (Ok tt) passed.written c.in_ok-write_part.ensures)));
+          (Writes-equal {r = Ok tt} passed.split (Writes-then (Ok tt) passed.written c.in_ok-write_bytes.ensures)));
     }

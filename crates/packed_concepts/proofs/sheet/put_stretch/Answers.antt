@@ -6,13 +6,13 @@ use Rattle.fca_model.specs.Tables.{Text}
 use Rattle.expert_wire.specs.Texts.{ordinal}
 use Rattle.packed_concepts.specs.Lines.{Named, line_of, lines_from}
 use Rattle.packed_concepts.specs.Packing.{unpacked, IsNamed}
-use Rattle.packed_concepts.specs.declared.page.Packed.{Packed}
+use Rattle.packed_concepts.specs.declared.page.IntentAndCount.{IntentAndCount}
 use Rattle.packed_concepts.proofs.PackingLemmas.{length-unpacked, total-left, unpacked-left, length-left}
 use Rattle.packed_concepts.proofs.sheet.put_stretch.Goals as goal
 
 pub loop-one-init : goal.loop-one-init
 loop-one-init g c =
-    let ps : List (Packed g.row.W) = c.parts.result.0.now in
+    let ps : List (IntentAndCount g.row.W) = c.parts.result.0.now in
     let count : length c.args.stretch.now.concepts ≡ length ps = ap (λ (cs : List (Set × List ℕ)). length cs) (sym c.parts.ensures.concepts)
     ∙ length-unpacked ps c.parts.result.1.now in
     record {
@@ -20,15 +20,15 @@ loop-one-init g c =
       room = refl;
       fits = c.parts.ensures.fits;
       named = subst (λ (cs : List (Set × List ℕ)). All (IsNamed c.args.names.now) cs) (sym c.parts.ensures.concepts) c.requires.ready.named;
-      few = omega (arith, count, c.requires.ready.few, c.place-next.ensures.place);
+      few = omega (arith, count, c.requires.ready.few, c.first-next.ensures.first);
       laid = ap₂ (λ n (cs : List (Set × List ℕ)). take c.args.start c.args.text.now ++ lines_from c.args.names.now n cs)
-          c.place-next.ensures.place c.parts.ensures.concepts;
+          c.first-next.ensures.first c.parts.ensures.concepts;
     }
 
 pub put_numbered-requires : goal.put_numbered-requires
 put_numbered-requires g c =
-    let ps : List (Packed g.row.W) = c.parts.result.0.now in
-    let one : Packed g.row.W = c.one-item.result in
+    let ps : List (IntentAndCount g.row.W) = c.parts.result.0.now in
+    let one : IntentAndCount g.row.W = c.one-item.result in
     let i = c.loop-one.one-index in
     let rest : List ℕ = c.loop-one.rest.now in
     let behind : List (Set × List ℕ) = unpacked (drop (i + 1) ps) (drop one.count rest) in
@@ -38,7 +38,7 @@ put_numbered-requires g c =
     let counts = length-left ps i one c.loop-one-test.true c.one-item.is in
     let named = All-head (IsNamed c.args.names.now) (one.intent, take one.count rest) behind
     (subst (λ (cs : List (Set × List ℕ)). All (IsNamed c.args.names.now) cs) left c.loop-one.invariant.named) in (
-      omega (arith, c.place-next.ensures.words),
+      omega (arith, c.first-next.ensures.words),
       (
         subst (λ (E : List ℕ). IsNamed c.args.names.now (one.intent, E)) (sym front) named,
         (c.loop-one.invariant.end, omega (arith, counts, c.loop-one.invariant.few)),
@@ -47,8 +47,8 @@ put_numbered-requires g c =
 
 pub loop-one-preserved : goal.loop-one-preserved
 loop-one-preserved g c =
-    let ps : List (Packed g.row.W) = c.parts.result.0.now in
-    let one : Packed g.row.W = c.one-item.result in
+    let ps : List (IntentAndCount g.row.W) = c.parts.result.0.now in
+    let one : IntentAndCount g.row.W = c.one-item.result in
     let i = c.loop-one.one-index in
     let rest : List ℕ = c.loop-one.rest.now in
     let behind : List (Set × List ℕ) = unpacked (drop (i + 1) ps) (drop one.count rest) in

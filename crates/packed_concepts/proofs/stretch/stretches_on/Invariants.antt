@@ -9,8 +9,8 @@ invariant-loop-packed g l = record {
   fits : total l.packed ≡ length l.places;
   small : total l.packed < 2 ^ 64;
   concepts : concepts_of l.made.items ++ unpacked l.packed l.places ≡ l.page;
-  next : l.next ≡ l.place + length (concepts_of l.made.items);
-  follow : Follow l.place l.made.items;
+  next : l.next ≡ l.first + length (concepts_of l.made.items);
+  follow : Follow l.first l.made.items;
 }
 
 abbrev pub decreases-loop-packed : goal.decreases-loop-packed

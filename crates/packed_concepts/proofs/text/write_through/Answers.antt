@@ -37,4 +37,4 @@ returns g c =
     ∙ ap count_line_of c.requires.count in
     let passed = c.in_ok-end.ensures.passed in
     Writes-equal (passed.split ∙ ap (λ (u : Text). u ++ lines_from c.args.names.now 0 all) head)
-    (Writes-then c.write_part.result passed.written c.write_part.ensures)
+    (Writes-then c.write_bytes.result passed.written c.write_bytes.ensures)

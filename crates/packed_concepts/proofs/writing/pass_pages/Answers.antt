@@ -26,7 +26,7 @@ pass_stretch-requires g c =
     let count : length (flat_map (λ x. x) (drop i c.args.pages.now)) ≡ length page + length
     (flat_map (λ x. x) (drop (i + 1) c.args.pages.now)) = ap length next
     ∙ length-append page (flat_map (λ x. x) (drop (i + 1) c.args.pages.now)) in
-    let one : Placed = record { place = c.loop-page.next; concepts = page } in
+    let one : Placed = record { first = c.loop-page.next; concepts = page } in
     let is : c.of_page.result ≡ one = c.of_page.ensures in
     let ready : IsReady c.args.names.now one = record {
       named = of_page (All (IsNamed c.args.names.now)) c.args.pages.now i page c.loop-page-test.true c.page-item.is c.requires.named;

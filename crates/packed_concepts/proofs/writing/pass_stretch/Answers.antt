@@ -8,14 +8,14 @@ use Rattle.expert_wire.specs.Texts.{ordinal}
 use Rattle.expert_wire.proofs.WriteLemmas.{Writes-front}
 use Rattle.packed_concepts.specs.Lines.{Named, line_of, lines_from}
 use Rattle.packed_concepts.specs.Packing.{unpacked, IsNamed, Holds}
-use Rattle.packed_concepts.specs.declared.page.Packed.{Packed}
+use Rattle.packed_concepts.specs.declared.page.IntentAndCount.{IntentAndCount}
 use Rattle.packed_concepts.proofs.PackingLemmas.{length-unpacked, total-left, unpacked-left, length-left}
 use Rattle.packed_concepts.proofs.PassingLemmas.{IsPassing-start, IsPassing-more, IsPassing-fault}
 use Rattle.packed_concepts.proofs.writing.pass_stretch.Goals as goal
 
 pub loop-one-init : goal.loop-one-init
 loop-one-init g c =
-    let ps : List (Packed g.row.W) = c.parts.result.0.now in
+    let ps : List (IntentAndCount g.row.W) = c.parts.result.0.now in
     let count : length c.args.stretch.now.concepts ≡ length ps = ap (λ (cs : List (Set × List ℕ)). length cs) (sym c.parts.ensures.concepts)
     ∙ length-unpacked ps c.parts.result.1.now in
     record {
@@ -25,15 +25,15 @@ loop-one-init g c =
       named = subst (λ (cs : List (Set × List ℕ)). All (IsNamed c.args.names.now) cs) (sym c.parts.ensures.concepts) c.requires.ready.named;
       holds = subst (λ (cs : List (Set × List ℕ)). All (Holds (length c.args.buffer.now)) cs)
           (sym c.parts.ensures.concepts) c.requires.held;
-      few = omega (arith, count, c.requires.ready.few, c.place-place.ensures.place);
+      few = omega (arith, count, c.requires.ready.few, c.first-first.ensures.first);
       passing = IsPassing-start _ _ _ _ (take c.args.end c.args.buffer.now) _ _
-          (ap₂ (λ n (cs : List (Set × List ℕ)). lines_from c.args.names.now n cs) c.place-place.ensures.place c.parts.ensures.concepts);
+          (ap₂ (λ n (cs : List (Set × List ℕ)). lines_from c.args.names.now n cs) c.first-first.ensures.first c.parts.ensures.concepts);
     }
 
 pub pass_line-requires : goal.pass_line-requires
 pass_line-requires g c =
-    let ps : List (Packed g.row.W) = c.parts.result.0.now in
-    let one : Packed g.row.W = c.one-item.result in
+    let ps : List (IntentAndCount g.row.W) = c.parts.result.0.now in
+    let one : IntentAndCount g.row.W = c.one-item.result in
     let i = c.loop-one.one-index in
     let rest : List ℕ = c.loop-one.rest.now in
     let behind : List (Set × List ℕ) = unpacked (drop (i + 1) ps) (drop one.count rest) in
@@ -46,7 +46,7 @@ pass_line-requires g c =
     (subst (λ (cs : List (Set × List ℕ)). All (IsNamed c.args.names.now) cs) left c.loop-one.invariant.named) in
     let holds = All-head (Holds (length c.args.buffer.now)) (one.intent, take one.count rest) behind
     (subst (λ (cs : List (Set × List ℕ)). All (Holds (length c.args.buffer.now)) cs) left c.loop-one.invariant.holds) in (
-      omega (arith, c.place-place.ensures.words),
+      omega (arith, c.first-first.ensures.words),
       (
         subst (λ (E : List ℕ). IsNamed c.args.names.now (one.intent, E)) (sym front) named,
         (
@@ -59,8 +59,8 @@ pass_line-requires g c =
 
 pub returns-in_err-waits-clause-failed : goal.returns-in_err-waits-clause-failed
 returns-in_err-waits-clause-failed g c =
-    let ps : List (Packed g.row.W) = c.parts.result.0.now in
-    let one : Packed g.row.W = c.one-item.result in
+    let ps : List (IntentAndCount g.row.W) = c.parts.result.0.now in
+    let one : IntentAndCount g.row.W = c.one-item.result in
     let i = c.loop-one.one-index in
     let rest : List ℕ = c.loop-one.rest.now in
     let behind : List (Set × List ℕ) = unpacked (drop (i + 1) ps) (drop one.count rest) in
@@ -76,8 +76,8 @@ returns-in_err-waits-clause-failed g c =
 
 pub loop-one-preserved : goal.loop-one-preserved
 loop-one-preserved g c =
-    let ps : List (Packed g.row.W) = c.parts.result.0.now in
-    let one : Packed g.row.W = c.one-item.result in
+    let ps : List (IntentAndCount g.row.W) = c.parts.result.0.now in
+    let one : IntentAndCount g.row.W = c.one-item.result in
     let i = c.loop-one.one-index in
     let rest : List ℕ = c.loop-one.rest.now in
     let behind : List (Set × List ℕ) = unpacked (drop (i + 1) ps) (drop one.count rest) in

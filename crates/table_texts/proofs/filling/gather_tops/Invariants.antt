@@ -1,7 +1,7 @@
 use Rattle.std.proofs.Common.{take}
-use Rattle.concept_walk.specs.Pages.{Fills}
+use Rattle.concept_walk.specs.Gatherings.{Fills}
 use Rattle.table_texts.specs.Tops.{branches}
 use Rattle.table_texts.proofs.filling.gather_tops.Given as goal
 
 abbrev pub invariant-loop-top : goal.invariant-loop-top
-invariant-loop-top g l = Fills l.crosses l.fn.page l.page (branches l.crosses (take l.top-index l.job))
+invariant-loop-top g l = Fills l.crosses l.fn.gathering l.gathering (branches l.crosses (take l.top-index l.job))

@@ -9,7 +9,7 @@ use Rattle.lectic_concepts.specs.Concepts.{concepts}
 use Rattle.report_texts.specs.Reports.{count_line, cover_line, concepts_text, lattice_text}
 use Rattle.packed_concepts.specs.Lines.{lines_text}
 use Rattle.packed_concepts.specs.Pages.{concepts_on}
-use Rattle.concept_walk.specs.Pages.{concept_at}
+use Rattle.concept_walk.specs.Gatherings.{concept_at}
 use Rattle.table_texts.proofs.PackedLemmas.{named-whole, text-whole}
 use Rattle.table_texts.proofs.lattice.narrow_lattice_text.Goals as goal
 

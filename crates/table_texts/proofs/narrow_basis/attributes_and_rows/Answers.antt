@@ -9,11 +9,11 @@ returns-in-Ok c =
       names = c.in-Ok.ensures.names ∙ parts.ensures.attributes;
       rows = parts.ensures.context;
       each_attribute = ap (λ (K : Context). K.width) parts.ensures.context ∙ sym parts.ensures.width
-          ∙ sym c.attributes_of.ensures.each_attribute ∙ ap length parts.ensures.attributes;
+          ∙ sym c.rows-rows.ensures.table.each_attribute ∙ ap length parts.ensures.attributes;
       few_attributes = omega (
         arith,
         ap (λ (K : Context). K.width) parts.ensures.context,
         parts.ensures.width,
-        c.attributes_of.ensures.few_attributes,
+        c.rows-rows.ensures.table.few_attributes,
       );
     }

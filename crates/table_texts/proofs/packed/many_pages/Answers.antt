@@ -3,7 +3,7 @@ use Rattle.std.specs.List.{flat_map}
 use Rattle.fca_model.specs.Sets.{Set}
 use Rattle.fca_model.specs.Context.{Context}
 use Rattle.fca_model.specs.Pseudo.{intents}
-use Rattle.concept_walk.specs.Pages.{concept_at}
+use Rattle.concept_walk.specs.Gatherings.{concept_at}
 use Rattle.table_texts.specs.Tops.{branches, all_branches}
 use Rattle.table_texts.proofs.PackedLemmas.{concepts-jobs}
 use Rattle.table_texts.proofs.packed.many_pages.Goals as goal
@@ -14,6 +14,6 @@ returns g c =
     let whole : all_branches K c.deref-4.result.now ≡ intents K =
     ap (all_branches K) c.deref-4.ensures.value ∙ c.in_ok-jobs.ensures.branches ∙ ap (branches K) c.deref-3.ensures.value
     ∙ c.in_ok-finer.ensures.branches ∙ ap (branches K) c.deref.ensures.value ∙ c.in_ok-more.ensures.branches ∙ c.requires.whole in
-    ap (flat_map (λ (x : List (Set × List ℕ)). x)) c.in_ok-pages-2.ensures.concepts
-    ∙ concepts-jobs K c.in_ok-pages.pages.items c.deref-4.result.now c.in_ok-pages.ensures.even c.in_ok-pages.ensures.pages
-    c.in_ok-pages-2.ensures.whole ∙ ap (map (concept_at K)) whole
+    ap (flat_map (λ (x : List (Set × List ℕ)). x)) c.in_ok-pages.ensures.concepts
+    ∙ concepts-jobs K c.in_ok-gatherings.gatherings.items c.deref-4.result.now c.in_ok-gatherings.ensures.even c.in_ok-gatherings.ensures.gatherings
+    c.in_ok-pages.ensures.whole ∙ ap (map (concept_at K)) whole

@@ -11,7 +11,7 @@ returns-in-Ok c =
       names = c.in-Ok.ensures.names ∙ ap₂ {C = Named} (λ (xs ys : List Text). record { attributes = xs; objects = ys })
           parts.ensures.attributes parts.ensures.objects;
       rows = parts.ensures.context;
-      each_attribute = ap length (sym parts.ensures.attributes) ∙ c.names_of.ensures.each_attribute ∙ parts.ensures.width;
+      each_attribute = ap length (sym parts.ensures.attributes) ∙ c.rows-rows.ensures.table.each_attribute ∙ parts.ensures.width;
       each_object = omega (arith, ap length parts.ensures.objects, parts.ensures.each_object, parts.result.0.ok.0);
       few_objects = omega (
         arith,

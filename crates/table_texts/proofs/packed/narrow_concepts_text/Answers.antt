@@ -3,7 +3,7 @@ use Rattle.fca_model.specs.Tables.{NamedContext}
 use Rattle.fca_model.specs.Context.{Context}
 use Rattle.fca_model.specs.Pseudo.{intents}
 use Rattle.packed_concepts.specs.Pages.{concepts_on}
-use Rattle.concept_walk.specs.Pages.{concept_at}
+use Rattle.concept_walk.specs.Gatherings.{concept_at}
 use Rattle.table_texts.proofs.PackedLemmas.{named-whole, text-whole}
 use Rattle.table_texts.proofs.packed.narrow_concepts_text.Goals as goal
 

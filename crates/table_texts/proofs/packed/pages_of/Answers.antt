@@ -4,7 +4,7 @@ use Rattle.std.specs.List.{flat_map}
 use Rattle.fca_model.specs.Sets.{Set}
 use Rattle.fca_model.specs.Context.{Context}
 use Rattle.fca_model.specs.Pseudo.{intents}
-use Rattle.concept_walk.specs.Pages.{concept_at}
+use Rattle.concept_walk.specs.Gatherings.{concept_at}
 use Rattle.table_texts.proofs.packed.pages_of.Goals as goal
 
 pub returns-then-pays : goal.returns-then-pays

@@ -3,21 +3,21 @@ use Rattle.std.proofs.lemmas.List.{get_or_default}
 use Rattle.std.proofs.lemmas.List.Elements.{All-push, All-same}
 use denote.Ref.{Bor}
 use Rattle.table_texts.specs.Tops.{Wrote}
-use Rattle.table_texts.specs.Teams.{IsFilled}
+use Rattle.table_texts.specs.Teams.{IsDone}
 use Rattle.table_texts.specs.declared.tops.Top.{Top}
-use Rattle.table_texts.specs.declared.teams.FilledPage.{FilledPage}
+use Rattle.table_texts.specs.declared.teams.DoneJob.{DoneJob}
 use Rattle.table_texts.proofs.teams.take_jobs.Goals as goal
 
 pub loop-preserved : goal.loop-preserved
 loop-preserved g c =
     let K = c.args.crosses.now in
     let jobs = c.args.jobs.now in
-    let one : FilledPage g.row.W = record { place = c.fetch_add-place.result; page = c.page_of-page.result } in
+    let one : DoneJob g.row.W = record { place = c.fetch_add-place.result; gathering = c.gather_job-gathering.result } in
     let inside : c.fetch_add-place.result < length jobs = omega (arith, c.if-jobs-place.false) in
-    let filled : IsFilled K jobs one = record {
+    let done : IsDone K jobs one = record {
       inside = inside;
-      wrote = λ j. subst (λ (job : Bor (List (Top g.row.W))). Wrote K one.page job.now)
-          (c.index-jobs-place.is ∙ get_or_default jobs c.fetch_add-place.result c.index-jobs-place.result j inside) c.page_of-page.ensures;
+      wrote = λ j. subst (λ (job : Bor (List (Top g.row.W))). Wrote K one.gathering job.now)
+          (c.index-jobs-place.is ∙ get_or_default jobs c.fetch_add-place.result c.index-jobs-place.result j inside) c.gather_job-gathering.ensures;
     } in
-    All-same (IsFilled K jobs) c.push.new.self.items (c.loop.filled.items ++ one ∷ []) c.in_ok-push.ensures.items
-    (All-push (IsFilled K jobs) c.loop.filled.items one c.loop.invariant filled)
+    All-same (IsDone K jobs) c.push.new.self.items (c.loop.done.items ++ one ∷ []) c.in_ok-push.ensures.items
+    (All-push (IsDone K jobs) c.loop.done.items one c.loop.invariant done)

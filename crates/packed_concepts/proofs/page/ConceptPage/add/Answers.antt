@@ -2,14 +2,14 @@ use Rattle.std.proofs.Common.{◌≡◌, ◌∙◌, ◌+◌, ◌++◌, ◌∷◌
 use Rattle.std.proofs.lemmas.List.{length-append, length-take-le, take_all}
 use Rattle.fca_model.specs.Sets.{Set}
 use Rattle.packed_concepts.specs.Packing.{total, unpacked}
-use Rattle.packed_concepts.specs.declared.page.Packed.{Packed}
+use Rattle.packed_concepts.specs.declared.page.IntentAndCount.{IntentAndCount}
 use Rattle.packed_concepts.proofs.PackingLemmas.{total-append, unpacked-more, most-more}
 use Rattle.packed_concepts.proofs.page.ConceptPage.add.Goals as goal
 
 pub invariant_of-self-2 : goal.invariant_of-self-2
 invariant_of-self-2 g c =
     let old = c.self.inside in
-    let one : Packed g.row.W = record { intent = c.args.intent.now; count = c.in-Ok.count } in
+    let one : IntentAndCount g.row.W = record { intent = c.args.intent.now; count = c.in-Ok.count } in
     let T : List ℕ = take old.end old.places.items in
     let long : length T ≡ old.end = length-take-le old.end old.places.items c.self.invariant.ends in
     let all : c.extend_from_slice.new.self.items ≡ T ++ c.args.places.now = c.in_ok-extend_from_slice.ensures.items
@@ -22,7 +22,7 @@ invariant_of-self-2 g c =
       fits = ap total c.in_ok-push.ensures.items ∙ omega
           (arith, sum, both, c.self.invariant.fits, c.in-Ok.ensures, c.len-self-inside.ensures);
       ends = omega (arith, c.len-self-inside.ensures, c.extend_from_slice.new.self.ok.0);
-      most = subst (λ (ps : List (Packed g.row.W)). All (λ q. q.count ≤ c.max-self-inside.result) ps) (sym c.in_ok-push.ensures.items)
+      most = subst (λ (ps : List (IntentAndCount g.row.W)). All (λ q. q.count ≤ c.max-self-inside.result) ps) (sym c.in_ok-push.ensures.items)
           (most-more old.packed.items one old.most c.max-self-inside.result c.self.invariant.most (omega (arith, c.max-self-inside.ensures))
           (omega (arith, c.max-self-inside.ensures, c.in-Ok.ensures)));
     }
@@ -30,7 +30,7 @@ invariant_of-self-2 g c =
 pub returns-clause-added : goal.returns-clause-added
 returns-clause-added g c =
     let old = c.self.inside in
-    let one : Packed g.row.W = record { intent = c.args.intent.now; count = c.in-Ok.count } in
+    let one : IntentAndCount g.row.W = record { intent = c.args.intent.now; count = c.in-Ok.count } in
     let T : List ℕ = take old.end old.places.items in
     let U : List ℕ = c.extend_from_slice.new.self.items in
     let long : length T ≡ old.end = length-take-le old.end old.places.items c.self.invariant.ends in

@@ -1,5 +1,5 @@
 use Rattle.std.proofs.Common.{◌≡◌, ◌∙◌, ◌<◌, ◌+◌, ◌*◌, [], ℕ, length, get_or, sym, ap, subst, arith, rules}
-use Rattle.value_tables.specs.Values.{ValueTable, object_at, value_of}
+use Rattle.value_tables.specs.Values.{ValueTable, object_at, value_at}
 use Rattle.value_tables.specs.Cells.{texts}
 use Rattle.value_tables.proofs.CellLemmas.{cut_length, objects_length, objects_value, place_within}
 use Rattle.value_tables.proofs.values.Values.value.Goals as goal
@@ -50,4 +50,4 @@ returns c =
     ∙ ap (λ (w : ℕ). get_or (texts v.cells) (c.args.g * w + c.args.m) []) (width_is before)
     ∙ sym (objects_value (length v.attributes.keys) v.objects.items (texts v.cells) c.args.g c.args.m (object_below before)
     (attribute_below before))
-    ∙ ap (λ (t : ValueTable). value_of c.args.m (object_at t c.args.g)) c.self.view_is
+    ∙ ap (λ (t : ValueTable). value_at c.args.m (object_at t c.args.g)) c.self.view_is

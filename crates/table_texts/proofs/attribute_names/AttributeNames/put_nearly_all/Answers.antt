@@ -6,7 +6,7 @@ use Rattle.attr_bits.specs.Difference.{minus}
 use Rattle.attr_bits.proofs.DifferenceLemmas.{length-minus}
 use Rattle.table_texts.specs.Joined.{joined, AreJoined}
 use Rattle.table_texts.proofs.JoinedLemmas.{joined-mono, length-joined, stretch_more, stretch_all}
-use Rattle.table_texts.proofs.attribute_names.AttributeNames.put_most.Goals as goal
+use Rattle.table_texts.proofs.attribute_names.AttributeNames.put_nearly_all.Goals as goal
 
 -- as wide as the set
 as_wide : (n : ℕ) (F D A : Set) → n ≡ length A → F ≡ full n → D ≡ minus F A → length D ≡ length A

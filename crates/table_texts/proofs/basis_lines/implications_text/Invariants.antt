@@ -1,7 +1,7 @@
 use Rattle.std.proofs.Common.{◌≡◌, ◌≤◌, ◌++◌, [], drop, length, take}
 use Rattle.std.specs.List.{flat_map, enumerate_from}
 use Rattle.report_texts.specs.Reports.{arrow_line, basis_text}
-use Rattle.table_texts.proofs.basis_lines.arrows_text.Given as goal
+use Rattle.table_texts.proofs.basis_lines.implications_text.Given as goal
 
 abbrev pub invariant-loop-place : goal.invariant-loop-place
 invariant-loop-place g l = record {

@@ -2,7 +2,7 @@ use Rattle.std.proofs.Common.{◌≡◌, ◌≤◌, ◌+◌, ◌++◌, ◌-◌, 
 use Rattle.expert_wire.specs.Texts.{names_of}
 use Rattle.expert_wire.proofs.ListedLemmas.{names_from}
 use Rattle.table_texts.specs.Joined.{joined}
-use Rattle.table_texts.proofs.attribute_names.AttributeNames.put_most.Given as goal
+use Rattle.table_texts.proofs.attribute_names.AttributeNames.put_nearly_all.Given as goal
 
 -- what was put down, followed by the names that are left
 abbrev pub invariant-loop-other : goal.invariant-loop-other

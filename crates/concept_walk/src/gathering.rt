@@ -2,7 +2,7 @@
 
 ghost use Rattle.std.specs.Prelude.{◌≡◌, ◌≤◌, ◌∷◌, [], true, OnOk, OnErr};
 ghost use Rattle.fca_model.specs.Context.{extent};
-ghost use Rattle.concept_walk.specs.Pages.{Fills};
+ghost use Rattle.concept_walk.specs.Gatherings.{Fills};
 
 use crate::cross_table::CrossTable;
 use attr_bits::Bits;
@@ -10,29 +10,29 @@ use fca_model::Memory;
 use packed_concepts::ConceptPage;
 use std::alloc::Global;
 
-/// Concepts, and whether all of them found room in memory.
+/// A page that is filled with concepts, and whether all of them found room in memory.
 #[derive(Drop)]
-pub struct Page<const W: usize> {
+pub struct Gathering<const W: usize> {
     /// The concepts.
     pub concepts: ConceptPage<W>,
-    /// Whether no concept is missing. The code that fills the page sets it.
+    /// Whether no concept is missing. The code that fills the gathering sets it.
     pub whole: bool,
 }
 
-impl<const W: usize> Page<W> {
-    /// A page with no concept. It takes no memory yet.
-    pub fn new(alloc: Global) -> Page<W>
+impl<const W: usize> Gathering<W> {
+    /// A gathering with no concept. It takes no memory yet.
+    pub fn new(alloc: Global) -> Gathering<W>
         requires { W ≤ 1024 }
         ensures concepts { result.concepts ≡ [] }
         ensures whole { result.whole ≡ true }
     {
-        Page {
+        Gathering {
             concepts: ConceptPage::new(alloc),
             whole: true,
         }
     }
 
-    /// Adds the concept of a, whose objects stand at these places. After an `Err` the page is as it was.
+    /// Adds the concept of a, whose objects stand at these places. After an `Err` the gathering is as it was.
     pub fn add(
         &mut self,
         crosses: &CrossTable<'_, W>,

@@ -8,7 +8,7 @@ use itoa::Buffer;
 use std::alloc::Global;
 
 /// The line of the words and the number.
-pub fn count_line_of(alloc: Global, words: &[u8], count: usize) -> Result<Vec<u8>, Memory>
+pub(crate) fn count_line(alloc: Global, words: &[u8], count: usize) -> Result<Vec<u8>, Memory>
     ensures { IfOk result (λ head. head.items ≡ count_line words.now count) }
 {
     let mut head = Vec::new(alloc);
@@ -19,11 +19,11 @@ pub fn count_line_of(alloc: Global, words: &[u8], count: usize) -> Result<Vec<u8
 }
 
 /// Appends the line of the words and the number. After an `Err` the text is as it was.
-pub fn add_count_line(text: &mut Vec<u8>, words: &[u8], count: usize) -> Result<(), Memory>
+pub(crate) fn add_count_line(text: &mut Vec<u8>, words: &[u8], count: usize) -> Result<(), Memory>
     ensures added { OnOk result (text.new.items ≡ text.old.items ++ count_line words.now count) }
     ensures unchanged { OnErr result (text.new.items ≡ text.old.items) }
 {
-    let head = count_line_of(*text.allocator(), words, count)?;
+    let head = count_line(*text.allocator(), words, count)?;
     text.extend_from_slice(&head)?;
     Ok(())
 }

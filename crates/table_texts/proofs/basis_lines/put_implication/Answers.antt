@@ -5,7 +5,7 @@ use Rattle.fca_model.specs.Tables.{Text}
 use Rattle.expert_wire.specs.Texts.{comma_list, names_of}
 use Rattle.attr_bits.proofs.DifferenceLemmas.{length-minus}
 use Rattle.concept_walk.proofs.LineLemmas.{arrow-parts}
-use Rattle.table_texts.proofs.basis_lines.put_arrow.Goals as goal
+use Rattle.table_texts.proofs.basis_lines.put_implication.Goals as goal
 
 pub put-conclusion-requires : goal.put-conclusion-requires
 put-conclusion-requires g c =

@@ -1,7 +1,0 @@
-use Rattle.std.proofs.Common.{◌∙◌, ap, ℕ, List, Bor}
-use Rattle.cxt_format.proofs.FormLemmas.{without_mark-stripped}
-use Rattle.cxt_format.proofs.read.without_mark.Goals as goal
-
-pub returns : goal.returns
-returns c = ap (λ (x : Bor (List ℕ)). x.now) c.unwrap_or.ensures
-    ∙ without_mark-stripped c.args.text c.strip_prefix.result c.strip_prefix.ensures.cases
