@@ -21,7 +21,7 @@ pub fn make_output(alloc: Global, recipe: &Recipe) -> Result<Output, Memory>
     requires { KeepsLimits MAX_ATTRIBUTES recipe.now }
     ensures { IfOk result (λ output. output ≡ make_output recipe.now) }
 {
-    Ok(Output::finished(make_text(alloc, recipe)?))
+    Ok(Output::of_text(make_text(alloc, recipe)?))
 }
 
 /// The recipe's table in the Burmeister form.
@@ -45,5 +45,5 @@ pub fn survey_output<R: Threads + Wait + Sync>(
     ensures output { IfOk result (λ output. output ≡ survey_output recipe.now) }
     ensures cause { IfErr result (λ stop. stop ≡ Stop.Memory) }
 {
-    Ok(Output::finished(survey(rt, alloc, recipe, experts)?))
+    Ok(Output::of_text(survey(rt, alloc, recipe, experts)?))
 }

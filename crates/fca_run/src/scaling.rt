@@ -43,7 +43,7 @@ fn scaling_output(alloc: Global, values: &Values, plan: &Plan) -> Result<Output,
     ensures output { IfOk result (λ output. output ≡ finished (cxt_text (scaled values.now plan.now))) }
     ensures cause { IfErr result (λ stop. stop ≡ Stop.Memory) }
 {
-    Ok(Output::finished(scaling_text(alloc, values, plan)?))
+    Ok(Output::of_text(scaling_text(alloc, values, plan)?))
 }
 
 /// The table that the plan makes of the values, in the Burmeister form.
