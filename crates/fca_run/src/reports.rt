@@ -145,8 +145,8 @@ fn report_on<R: Threads + Sync>(
             conclusion,
             ..
         } => Ok(Output::of_text(verdict(rt, alloc, table, premise, conclusion)?)),
-        Command::Convert { to, .. } => Ok(Output::of_text(write_table(alloc, *to, table)?)),
-        Command::Reduce { .. } => Ok(Output::of_text(reduce_table(alloc, table)?)),
+        Command::Convert { to, .. } => Ok(Output::of_text(table_text(alloc, *to, table)?)),
+        Command::Reduce { .. } => Ok(Output::of_text(reduced_text(alloc, table)?)),
         Command::Arrows { .. } => Ok(Output::of_text(table_arrows(alloc, table)?)),
         // (`reports`, `whole`: the others write no report, or read a narrow table)
         _ => unreachable!(),
@@ -223,7 +223,7 @@ fn table_verdict<R: Threads + Sync>(
 }
 
 /// The text of the table in this form.
-fn write_table(alloc: Global, to: Form, table: &Table) -> Result<Vec<u8>, Memory>
+fn table_text(alloc: Global, to: Form, table: &Table) -> Result<Vec<u8>, Memory>
     ensures { IfOk result (λ text. text.items ≡ table_text to table.now) }
 {
     match to {
@@ -233,7 +233,7 @@ fn write_table(alloc: Global, to: Form, table: &Table) -> Result<Vec<u8>, Memory
 }
 
 /// The text of the table of the irreducible objects and attributes, in the Burmeister form.
-fn reduce_table(alloc: Global, table: &Table) -> Result<Vec<u8>, Memory>
+fn reduced_text(alloc: Global, table: &Table) -> Result<Vec<u8>, Memory>
     ensures { IfOk result (λ text. text.items ≡ reduced_text table.now) }
 {
     let kept = irreducible(alloc, table)?;
