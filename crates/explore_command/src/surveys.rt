@@ -9,10 +9,9 @@ ghost use Rattle.explore_command.specs.Surveyed.{surveyed_text};
 
 use basis_report::survey_text;
 use canonical_basis::basis;
-use context_table::Table;
+use context_table::{Recipe, Table};
 use expert_panel::explore_with_oracles;
 use explore_state::Explore;
-use fca_command::Recipe;
 use fca_model::{MAX_TURNS, Memory};
 use lectic_concepts::all_intents;
 use std::alloc::Global;

@@ -8,9 +8,9 @@ ghost use Rattle.command_io.specs.Endings.{finished};
 ghost use Rattle.fca_run.specs.Outputs.{make_output, survey_output};
 
 use command_io::{Output, Stop};
+use context_table::Recipe;
 use cxt_format::write_cxt;
 use explore_command::survey;
-use fca_command::Recipe;
 use fca_model::Memory;
 use std::alloc::Global;
 use std::sync::Wait;
