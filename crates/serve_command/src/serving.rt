@@ -106,7 +106,7 @@ fn explore_over<R: Threads + Wait + Sync, L: Listener>(
                 endings,
             } = served;
             give_back(link, ends);
-            text_of(alloc, &explore, &endings)
+            output_of(alloc, &explore, &endings)
         }
         Err(Unserved { ends }) => {
             give_back(link, ends);
@@ -116,15 +116,15 @@ fn explore_over<R: Threads + Wait + Sync, L: Listener>(
 }
 
 /// The text of the exploration, and how its sessions ended.
-fn text_of(alloc: Global, explore: &Explore, endings: &[Ended]) -> Result<Output, Stop>
+fn output_of(alloc: Global, explore: &Explore, ended: &[Ended]) -> Result<Output, Stop>
     requires { SettingsCanBeWritten explore.now.opening.table.context.width explore.now.opening.settings }
     ensures text { IfOk result (λ output. output.text ≡ explore_text explore.now.opening.table explore.now.opening.settings explore.now.journal
-        ++ sessions_text (map ending_words endings.now)) }
+        ++ sessions_text (map ending_words ended.now)) }
     ensures spells { IfOk result (λ output. Spells explore.now.opening.table explore.now.opening.settings explore.now.journal output.text) }
     ensures ending { IfOk result (λ output. output.ending ≡ ending_of (open_of explore.now)) }
     ensures cause { IfErr result (λ stop. stop ≡ Stop.Memory) }
 {
-    let words = all_ending_words(alloc, endings)?;
+    let words = all_ending_words(alloc, ended)?;
     let mut text = explore_text(alloc, explore)?;
     let sessions = sessions_text(alloc, explore.table(), &words)?;
     text.extend_from_slice(&sessions)?;
