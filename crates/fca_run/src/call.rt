@@ -101,7 +101,7 @@ fn waiting_output<R: Threads + Wait + Sync, H: Shelf, L: Listener>(
             let invitation = Invitation {
                 experts: *experts,
                 holders: *holders,
-                listen,
+                address: listen,
             };
             serve(rt, alloc, shelf, file, known, &invitation, link)
         }
