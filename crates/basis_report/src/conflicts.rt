@@ -36,12 +36,7 @@ pub fn conflicts_text(
     let rules = explore.rules();
     let _experts = explore.experts();
     let mut draft = Draft::new(alloc);
-    write_count_line(
-        &mut draft,
-        table,
-        b"# conflicts ",
-        count_all_dropped_rows(oracles),
-    )?;
+    write_count_line(&mut draft, b"# conflicts ", count_all_dropped_rows(oracles))?;
     for (oracle_place, oracle) in oracles.iter().enumerate() {
         write_dropped(&mut draft, table, rules, oracle_place, oracle)?;
     }

@@ -126,7 +126,7 @@ fn output_of(alloc: Global, explore: &Explore, ended: &[Ended]) -> Result<Output
 {
     let words = all_ending_words(alloc, ended)?;
     let mut text = explore_text(alloc, explore)?;
-    let sessions = sessions_text(alloc, explore.table(), &words)?;
+    let sessions = sessions_text(alloc, &words)?;
     text.extend_from_slice(&sessions)?;
     Ok(Output {
         text: Text::whole(text),
