@@ -89,7 +89,7 @@ no_break-conflict attributes accepted d names named =
     let from_name = d.name ++ (codes " " ++ told) in
     let from_row = pattern d.row ++ (codes " " ++ from_name) in
     let from_place = ordinal d.place ++ (codes " " ++ from_row) in
-    no_break-append (ordinal d.expert) (codes " " ++ from_place) (no_break-decimal (d.expert + 1))
+    no_break-append (ordinal d.oracle_place) (codes " " ++ from_place) (no_break-decimal (d.oracle_place + 1))
     (no_break-append (ordinal d.place) (codes " " ++ from_row) (no_break-decimal (d.place + 1))
     (no_break-append (pattern d.row) (codes " " ++ from_name) (pattern_no_break d.row)
     (no_break-append d.name (codes " " ++ told) (not-true (list_any is_line_break d.name) named)

@@ -13,10 +13,10 @@ use Rattle.oracle_expert.specs.Oracles.{Conflicts}
 use Rattle.report_texts.specs.Reports.{count_line}
 use Rattle.basis_report.specs.Comments.{comment_line}
 
--- a dropped row: its expert, its place in the table of the expert, the row and the name of its object, and the place of the rule that it
--- broke
+-- a dropped row: the place of its oracle, its place in the table of the oracle, the row and the name of its object, and the place of the
+-- rule that it broke
 pub record DroppedRow : Type 0 where
-  pub expert : ℕ
+  pub oracle_place : ℕ
   pub place : ℕ
   pub row : Set
   pub name : Text
@@ -27,7 +27,7 @@ abbrev pub dropped_rows_at : ℕ → NamedContext → ℕ → Option ℕ → Lis
 dropped_rows_at e D place None = []
 dropped_rows_at e D place (Some k) =
     record {
-      expert = e;
+      oracle_place = e;
       place = place;
       row = unwrap_or (slice_get D.context.rows place) [];
       name = unwrap_or (slice_get D.objects place) [];
@@ -38,7 +38,7 @@ dropped_rows_at e D place (Some k) =
 abbrev pub dropped_rows_of : ℕ → NamedContext → Conflicts → List DroppedRow
 dropped_rows_of e D conflicts = flat_map (λ x. dropped_rows_at e D x.0 x.1) (enumerate_from 0 conflicts)
 
--- the dropped rows of all oracles, each given by its table and its conflicts. The first oracle is that of expert e
+-- the dropped rows of all oracles, each given by its table and its conflicts. The first oracle has place e
 abbrev pub dropped_rows_from : ℕ → List (NamedContext × Conflicts) → List DroppedRow
 dropped_rows_from e [] = []
 dropped_rows_from e (o ∷ os) = dropped_rows_of e o.0 o.1 ++ dropped_rows_from (e + 1) os
@@ -46,7 +46,7 @@ dropped_rows_from e (o ∷ os) = dropped_rows_of e o.0 o.1 ++ dropped_rows_from 
 -- `E R PATTERN NAME I ` and the full text of the implication
 abbrev pub conflict_words : List Text → List Rule → DroppedRow → Text
 conflict_words attributes accepted d =
-    ordinal d.expert ++ (codes " " ++ (ordinal d.place ++ (codes " " ++ (pattern d.row ++ (codes " " ++ (d.name ++ (codes " "
+    ordinal d.oracle_place ++ (codes " " ++ (ordinal d.place ++ (codes " " ++ (pattern d.row ++ (codes " " ++ (d.name ++ (codes " "
     ++ numbered_rule attributes d.broken (slice_index_or accepted d.broken (rule [] [])))))))))
 
 -- the line of a dropped row

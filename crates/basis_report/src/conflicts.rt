@@ -36,14 +36,9 @@ pub fn conflicts_text(
     let rules = explore.rules();
     let _experts = explore.experts();
     let mut draft = Draft::new(alloc);
-    write_count_line(
-        &mut draft,
-        table,
-        b"# conflicts ",
-        count_all_dropped_rows(oracles),
-    )?;
-    for (expert, oracle) in oracles.iter().enumerate() {
-        write_dropped(&mut draft, table, rules, expert, oracle)?;
+    write_count_line(&mut draft, b"# conflicts ", count_all_dropped_rows(oracles))?;
+    for (oracle_place, oracle) in oracles.iter().enumerate() {
+        write_dropped(&mut draft, table, rules, oracle_place, oracle)?;
     }
     Ok(draft.into_bytes())
 }
@@ -60,7 +55,7 @@ fn count_all_dropped_rows(oracles: &[Oracle]) -> usize
     count
 }
 
-/// The number of rows that the oracle dropped. It does not depend on the number of the expert.
+/// The number of rows that the oracle dropped. It does not depend on the place of the oracle.
 fn count_dropped_rows(oracle: &Oracle) -> usize
     ensures count { (e : ℕ) → result ≡ length (dropped_rows_of e oracle.now.table oracle.now.conflicts) }
     ensures few { result ≤ MAX_OBJECTS }
@@ -74,51 +69,51 @@ fn count_dropped_rows(oracle: &Oracle) -> usize
     count
 }
 
-/// Appends the lines of the rows that the oracle of the expert dropped.
+/// Appends the lines of the rows that the oracle at the place dropped.
 fn write_dropped(
     draft: &mut Draft,
     table: &Table,
     rules: &[Implication],
-    expert: usize,
+    oracle_place: usize,
     oracle: &Oracle,
 ) -> Result<(), Memory>
     ensures { OnOk result (draft.new ≡ draft.old
-        ++ flat_map (conflict_line table.now.attributes rules.now) (dropped_rows_of expert oracle.now.table oracle.now.conflicts)) }
+        ++ flat_map (conflict_line table.now.attributes rules.now) (dropped_rows_of oracle_place oracle.now.table oracle.now.conflicts)) }
 {
-    let known = oracle.table();
-    for place in 0..known.rows().len() {
+    let own_table = oracle.table();
+    for place in 0..own_table.rows().len() {
         if let Some(broken) = oracle.conflict(place) {
-            write_conflict(draft, table, rules, expert, known, place, broken)?;
+            write_conflict(draft, table, rules, oracle_place, own_table, place, broken)?;
         }
     }
     Ok(())
 }
 
-/// Appends the line of the row at the place of the table that the expert knows. The row broke a rule.
+/// Appends the line of the row at the place of the oracle's own table. The row broke a rule.
 fn write_conflict(
     draft: &mut Draft,
     table: &Table,
     rules: &[Implication],
-    expert: usize,
-    known: &Table,
+    oracle_place: usize,
+    own_table: &Table,
     place: usize,
     broken: usize,
 ) -> Result<(), Memory>
-    requires { place < length known.now.context.rows }
+    requires { place < length own_table.now.context.rows }
     ensures { OnOk result (draft.new ≡ draft.old
-        ++ flat_map (conflict_line table.now.attributes rules.now) (dropped_rows_at expert known.now place (Some broken))) }
+        ++ flat_map (conflict_line table.now.attributes rules.now) (dropped_rows_at oracle_place own_table.now place (Some broken))) }
 {
     draft.append_parts(
         table,
         &[
             Part::Bytes(b"# "),
-            Part::Ordinal(expert),
+            Part::Ordinal(oracle_place),
             Part::Bytes(b" "),
             Part::Ordinal(place),
             Part::Bytes(b" "),
-            Part::Pattern(known.rows().get(place)),
+            Part::Pattern(own_table.rows().get(place)),
             Part::Bytes(b" "),
-            Part::Bytes(object_text(known, place).as_bytes()),
+            Part::Bytes(object_text(own_table, place).as_bytes()),
         ],
     )?;
     draft.append_rule(table, b" ", broken, &implication_at(rules, broken))

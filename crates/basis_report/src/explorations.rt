@@ -62,7 +62,7 @@ pub(crate) fn write_recorded(
 ) -> Result<(), Memory>
     ensures { OnOk result (draft.new ≡ draft.old ++ recorded_section journal.now) }
 {
-    write_count_line(draft, table, b"# recorded ", count_recorded_rows(journal))?;
+    write_count_line(draft, b"# recorded ", count_recorded_rows(journal))?;
     for entry in journal {
         write_row(draft, table, entry)?;
     }
@@ -116,7 +116,7 @@ pub(crate) fn write_accepted(
 ) -> Result<(), Memory>
     ensures { OnOk result (draft.new ≡ draft.old ++ accepted_section table.now.attributes (length known.now) accepted.now) }
 {
-    write_count_line(draft, table, b"# accepted ", accepted.len())?;
+    write_count_line(draft, b"# accepted ", accepted.len())?;
     for (place, implication) in accepted.iter().enumerate() {
         draft.append_rule(table, b"# ", known.len() + place, implication)?;
     }
@@ -131,7 +131,7 @@ pub(crate) fn write_open(
 ) -> Result<(), Memory>
     ensures { OnOk result (draft.new ≡ draft.old ++ open_section table.now.attributes questions.now) }
 {
-    write_count_line(draft, table, b"# open ", questions.len())?;
+    write_count_line(draft, b"# open ", questions.len())?;
     for question in questions {
         draft.append_full_text(table, b"# ", question)?;
     }
@@ -151,7 +151,7 @@ pub(crate) fn write_basis(
     if !questions.is_empty() {
         return Ok(());
     }
-    write_count_line(draft, table, b"# basis ", accepted.len())?;
+    write_count_line(draft, b"# basis ", accepted.len())?;
     let ordered = in_lectic_order(alloc, accepted)?;
     write_arrows(draft, table, b"# ", &ordered)
 }

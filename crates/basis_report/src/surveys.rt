@@ -35,12 +35,12 @@ fn write_survey(
 ) -> Result<(), Memory>
     ensures { OnOk result (draft.new ≡ draft.old ++ survey_text table.now concepts basis explored) }
 {
-    write_count_line(draft, table, b"objects ", table.rows().len())?;
-    write_count_line(draft, table, b"attributes ", table.rows().width() as usize)?;
-    write_count_line(draft, table, b"crosses ", crosses(table))?;
-    write_count_line(draft, table, b"concepts ", concepts)?;
-    write_count_line(draft, table, b"basis ", basis)?;
-    write_count_line(draft, table, b"explored ", explored)
+    write_count_line(draft, b"objects ", table.rows().len())?;
+    write_count_line(draft, b"attributes ", table.rows().width() as usize)?;
+    write_count_line(draft, b"crosses ", crosses(table))?;
+    write_count_line(draft, b"concepts ", concepts)?;
+    write_count_line(draft, b"basis ", basis)?;
+    write_count_line(draft, b"explored ", explored)
 }
 
 /// The number of crosses of the table.

@@ -92,7 +92,7 @@ fn write_derivation(
     ensures { OnOk result (draft.new ≡ draft.old ++ derivation_text table.now.attributes members.now steps.now) }
 {
     draft.append_parts(table, &[Part::Bytes(b"holds\n")])?;
-    write_count_line(draft, table, b"steps ", steps.len())?;
+    write_count_line(draft, b"steps ", steps.len())?;
     for step in steps {
         write_arrow(draft, table, b"", *step, &members[*step])?;
     }

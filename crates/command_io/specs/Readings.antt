@@ -25,9 +25,9 @@ formed (Ok x) = Read x
 formed (Err fault) = Refused
 
 -- the value, or a refusal if there is none
-abbrev pub known : {X : Type 0} → Option X → Reading X
-known (Some x) = Read x
-known None = Refused
+abbrev pub if_some : {X : Type 0} → Option X → Reading X
+if_some (Some x) = Read x
+if_some None = Refused
 
 -- bytes that are no more than a file may have, in a form
 abbrev pub bytes_read : {X : Type 0} → (Text → Reading X) → Text → Reading X

@@ -94,14 +94,14 @@ fn name_of(file: &[u8], origin: Origin) -> &[u8]
 fn write_plain<E: Sink>(err: &mut E, words: &str) -> Result<(), Put>
     ensures { WritesTo E.held E.faults E.beside E.asked_beside err.old err.new (plain_line words.now) result }
 {
-    write_parts(err, &[b"fca: ", words.as_bytes(), b"\n"])
+    write_all_bytes(err, &[b"fca: ", words.as_bytes(), b"\n"])
 }
 
 /// Writes a line of these words after the name.
 fn write_whole<E: Sink>(err: &mut E, name: &[u8], words: &str) -> Result<(), Put>
     ensures { WritesTo E.held E.faults E.beside E.asked_beside err.old err.new (placed_line name.now (Whole, words.now)) result }
 {
-    write_parts(err, &[b"fca: ", name, b": ", words.as_bytes(), b"\n"])
+    write_all_bytes(err, &[b"fca: ", name, b": ", words.as_bytes(), b"\n"])
 }
 
 /// Writes the line of a fault in what has this name.
@@ -127,7 +127,7 @@ fn write_numbered<'a, E: Sink>(
 ) -> Result<(), Put>
     ensures { WritesTo E.held E.faults E.beside E.asked_beside err.old err.new (numbered_line name.now kind.now number words.now) result }
 {
-    write_parts(
+    write_all_bytes(
         err,
         &[
             b"fca: ",
@@ -153,7 +153,7 @@ fn write_field<E: Sink>(
     ensures { WritesTo E.held E.faults E.beside E.asked_beside err.old err.new
         (placed_line name.now (Field number field, words.now)) result }
 {
-    write_parts(
+    write_all_bytes(
         err,
         &[
             b"fca: ",
@@ -173,7 +173,7 @@ fn write_field<E: Sink>(
 fn write_breaks<E: Sink>(err: &mut E, name: &[u8], row: usize, rule: usize) -> Result<(), Put>
     ensures { WritesTo E.held E.faults E.beside E.asked_beside err.old err.new (breaks_line name.now row rule) result }
 {
-    write_parts(
+    write_all_bytes(
         err,
         &[
             b"fca: ",
@@ -188,7 +188,7 @@ fn write_breaks<E: Sink>(err: &mut E, name: &[u8], row: usize, rule: usize) -> R
 }
 
 /// Appends the parts in their order.
-fn write_parts<E: Sink>(err: &mut E, parts: &[&[u8]]) -> Result<(), Put>
+fn write_all_bytes<E: Sink>(err: &mut E, parts: &[&[u8]]) -> Result<(), Put>
     ensures { WritesTo E.held E.faults E.beside E.asked_beside err.old err.new (flat_map (λ part. part.now) parts.now) result }
 {
     for part in parts {

@@ -70,7 +70,7 @@ impl Model for Output {
 
 impl Output {
     /// Makes the output of a text that leaves no question open.
-    pub fn finished(text: Vec<u8>) -> Output
+    pub fn of_text(text: Vec<u8>) -> Output
         ensures { result ≡ finished text.items }
     {
         Output {
@@ -80,7 +80,7 @@ impl Output {
     }
 
     /// Makes the output of a text of concepts.
-    pub fn packed(text: ConceptsText) -> Output
+    pub fn of_concepts(text: ConceptsText) -> Output
         ensures { result ≡ finished text }
     {
         Output {

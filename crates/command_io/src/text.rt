@@ -13,7 +13,7 @@ use std::thread::Threads;
 /// How the bytes of a text are stored.
 #[derive(Drop)]
 enum Layout {
-    Whole(Vec<u8>),
+    OneList(Vec<u8>),
     Pieces(Vec<Vec<u8>>),
     Packed(ConceptsText),
 }
@@ -39,7 +39,7 @@ impl Text {
         ensures { result ≡ bytes.items }
     {
         Text {
-            layout: Layout::Whole(bytes),
+            layout: Layout::OneList(bytes),
         }
     }
 
@@ -66,7 +66,7 @@ impl Text {
         ensures { WritesTo K.held K.faults K.beside K.asked_beside out.old out.new self result }
     {
         match self.layout {
-            Layout::Whole(bytes) => write_part(out, &bytes),
+            Layout::OneList(bytes) => write_part(out, &bytes),
             Layout::Pieces(pieces) => write_pieces(out, &pieces),
             Layout::Packed(text) => text.write(rt, out),
         }

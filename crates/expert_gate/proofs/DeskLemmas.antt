@@ -14,7 +14,7 @@ use Rattle.turn_lock.specs.declared.fault.TurnFault.{TurnFault}
 use Rattle.turn_lock.specs.declared.fault.TurnFault.TheVariants.{Spent, Memory}
 use Rattle.turn_lock.proofs.HistoryLemmas.{starts_trans, starts_itself, own_of-append, own_of-one}
 use Rattle.expert_gate.specs.Histories.{by_expert, IsWideEntry, IsHistory}
-use Rattle.expert_gate.specs.Turns.{Answers, Looks, MakesTurn}
+use Rattle.expert_gate.specs.Turns.{RepliesTo, Looks, MakesTurn}
 use Rattle.expert_gate.specs.Desks.{DeskState, at_gate, alone_at, one_less, IsSameDesk, KnowsHistory, GoesOnTo, Plays, Works}
 use Rattle.expert_gate.proofs.ReplyLemmas.{answer_wide, step_wide}
 

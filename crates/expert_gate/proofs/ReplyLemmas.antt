@@ -6,14 +6,14 @@ use Rattle.fca_model.specs.Widths.{HasWideReply}
 use Rattle.explore_state.specs.History.{Opening, History, IsStep}
 use Rattle.turn_lock.specs.Passes.{Known}
 use Rattle.expert_gate.specs.Histories.{IsWideEntry}
-use Rattle.expert_gate.specs.Turns.{Answers}
+use Rattle.expert_gate.specs.Turns.{RepliesTo}
 
 All-last : {X : Type 0} (P : X → Type 0) (xs : List X) (x : X) → All P (xs ++ x ∷ []) → P x
 All-last P [] x all = All-head P x [] all
 All-last P (y ∷ xs) x all = All-last P xs x (All-tail P y (xs ++ x ∷ []) all)
 
 pub answer_wide : {F : Type 0} (o : Opening) (p q : Known Opening SetEntry) (event : SetEvent) (result : Result SetReply F)
-    → IfOk result (λ reply. Answers o p event reply q) → IfOk result (HasWideReply o.table.context.width)
+    → IfOk result (λ reply. RepliesTo o p event reply q) → IfOk result (HasWideReply o.table.context.width)
 answer_wide o p q event (Ok reply) turn = All-last (IsWideEntry o) (p.seen ++ turn.between) (record { event = event; reply = reply })
     (subst (All (IsWideEntry o)) turn.seen turn.is_legal.wide)
 answer_wide o p q event (Err e) turn = tt

@@ -21,8 +21,8 @@ numbers_after o H =
     }
 
 -- one turn of a pass, with this event and this reply
-abbrev pub Answers : Opening → Known Opening SetEntry → SetEvent → SetReply → Known Opening SetEntry → Type 0
-Answers o p event reply q = Entered IsHistory by_expert o p (record { event = event; reply = reply }) q
+abbrev pub RepliesTo : Opening → Known Opening SetEntry → SetEvent → SetReply → Known Opening SetEntry → Type 0
+RepliesTo o p event reply q = Entered IsHistory by_expert o p (record { event = event; reply = reply }) q
 
 -- one turn of a pass, with no event
 abbrev pub Looks : Opening → Known Opening SetEntry → Known Opening SetEntry → Type 0
@@ -33,7 +33,7 @@ Looks o p q = Looked IsHistory by_expert o p q
 pub record MakesTurn (gate : Lock Opening) (event : SetEvent) (p : Known Opening SetEntry) (result : Result SetReply TurnFault)
     (q : Known Opening SetEntry) : Type 0 where
   pub same : badge q ≡ badge p
-  pub entry : IfOk result (λ reply. Answers gate.base p event reply q)
+  pub entry : IfOk result (λ reply. RepliesTo gate.base p event reply q)
   pub wide : IfOk result (HasWideReply gate.base.table.context.width)
   pub memory : IsErrOf result Memory → Looks gate.base p q
   pub spent : IsErrOf result Spent ↔ (p.made ≡ p.turns)

@@ -6,7 +6,7 @@ use Rattle.fca_model.specs.Exploration.{SetEvent, SetReply, SetEntry}
 use Rattle.explore_state.specs.History.{Opening}
 use Rattle.turn_lock.specs.Histories.{StartsWith}
 use Rattle.turn_lock.specs.Passes.{Known, Badge, Lock, Belongs, badge}
-use Rattle.expert_gate.specs.Turns.{Answers, Looks}
+use Rattle.expert_gate.specs.Turns.{RepliesTo, Looks}
 use Rattle.expert_panel.specs.Passes.{HasMade}
 
 pub belongs_by : (l : Lock Opening) (p q : Known Opening SetEntry) → badge q ≡ badge p → Belongs l p → Belongs l q
@@ -33,7 +33,7 @@ module _ (o : Opening) (p : Known Opening SetEntry) where
 
   -- one entry more
   pub HasMade-entry : (entries : List SetEntry) (q r : Known Opening SetEntry) (event : SetEvent) (reply : SetReply) → HasMade o p entries q
-      → Answers o q event reply r → badge r ≡ badge q
+      → RepliesTo o q event reply r → badge r ≡ badge q
       → HasMade o p (entries ++ record { event = event; reply = reply } ∷ []) r
   HasMade-entry entries q r event reply made turn same =
       let entry : SetEntry = record { event = event; reply = reply } in

@@ -6,7 +6,7 @@ use Rattle.explore_state.specs.History.{Opening}
 use Rattle.turn_lock.specs.Passes.{Known}
 use Rattle.turn_lock.specs.declared.fault.TurnFault.{TurnFault}
 use Rattle.turn_lock.specs.declared.fault.TurnFault.TheVariants.{Spent, Memory}
-use Rattle.expert_gate.specs.Turns.{Answers, Looks}
+use Rattle.expert_gate.specs.Turns.{RepliesTo, Looks}
 use Rattle.oracle_expert.specs.declared.expert.Answer.{Answer}
 use Rattle.oracle_expert.specs.Runs.{IsTurn, Stops, IsUnanswered}
 
@@ -21,7 +21,7 @@ module _ {M : Type 0} (Answering : M → Rule → Answer → M → Type 0) (Lear
   pub record IsPlayed (due : Option Rule) (p : Known Opening SetEntry) (old : M) (reply : SetReply) (q : Known Opening SetEntry)
       (new : M) : Type 0 where
     pub event : SetEvent
-    pub turn : Answers o p event reply q
+    pub turn : RepliesTo o p event reply q
     pub entry : IsTurn Answering Learning p.number due old (record { event = event; reply = reply }) new
 
   -- no turn was made though one was left, since the expert ran out of memory for its answer

@@ -3,7 +3,7 @@
 ghost use Rattle.std.specs.Prelude.{◌≡◌, IfOk, IfErr, IfSome, Some};
 ghost use Rattle.fca_model.specs.Widths.{IsWide, HasWideReply};
 ghost use Rattle.turn_lock.specs.Passes.{badge, Belongs};
-ghost use Rattle.expert_gate.specs.Turns.{Answers};
+ghost use Rattle.expert_gate.specs.Turns.{RepliesTo};
 ghost use Rattle.oracle_expert.specs.Answers.{HasWideAnswer, event_of};
 ghost use Rattle.oracle_expert.specs.Runs.{question_after, is_done};
 ghost use Rattle.expert_panel.specs.Turns.{IsPlayed, IsRefused, IsStopped};
@@ -114,7 +114,7 @@ fn give<R: Wait, S: LevelSearch>(
     requires lock { Belongs gate.now pass.old }
     requires width { HasWideAnswer gate.now.base.table.context.width answer }
     ensures same { badge pass.new ≡ badge pass.old }
-    ensures entry { IfOk result (λ reply. Answers gate.now.base pass.old (event_of pass.old.number answer) reply pass.new) }
+    ensures entry { IfOk result (λ reply. RepliesTo gate.now.base pass.old (event_of pass.old.number answer) reply pass.new) }
     ensures wide { IfOk result (HasWideReply gate.now.base.table.context.width) }
     ensures refused { IfErr result (λ fault. IsRefused gate.now.base fault pass.old pass.new) }
 {

@@ -140,14 +140,14 @@ fn explored_ending(spent: bool) -> Ending
 fn open_exploration(
     alloc: Global,
     table: Table,
-    experts: u8,
+    count: u8,
     settings: Settings,
 ) -> Result<Explore, Memory>
     requires { settings.known.width ≡ table.context.width }
-    ensures opening { IfOk result (λ explore. explore.opening ≡ opening_of table experts (settings_of settings)) }
+    ensures opening { IfOk result (λ explore. explore.opening ≡ opening_of table count (settings_of settings)) }
     ensures journal { IfOk result (λ explore. explore.journal ≡ []) }
 {
-    match Explore::open_with(alloc, table, experts, settings) {
+    match Explore::open_with(alloc, table, count, settings) {
         Ok(explore) => Ok(explore),
         // (each row respects what is known)
         Err(_) => Err(Memory),

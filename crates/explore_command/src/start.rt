@@ -113,8 +113,8 @@ fn load_experts<H: Shelf>(
 {
     let mut tables = Vec::new(alloc);
     for (place, file) in files.iter().enumerate() {
-        let expert = load_expert(alloc, shelf, table, file, Origin::Later(place))?;
-        tables.push(expert)?;
+        let expert_table = load_expert(alloc, shelf, table, file, Origin::Later(place))?;
+        tables.push(expert_table)?;
     }
     Ok(tables)
 }
@@ -137,20 +137,20 @@ fn load_expert<H: Shelf>(
     ensures kept { (other : List ℕ) → H.tells shelf.new other ≡ H.tells shelf.old other }
     ensures later { (other : List ℕ) → H.faults shelf.old other ≤ H.faults shelf.new other }
 {
-    let expert = load_table(alloc, shelf, file, origin)?;
-    check_attributes(table, expert, origin)
+    let expert_table = load_table(alloc, shelf, file, origin)?;
+    check_attributes(table, expert_table, origin)
 }
 
 /// Checks that the expert's table has the attributes of the table, and gives it back.
-fn check_attributes(table: &Table, expert: Table, origin: Origin) -> Result<Table, Stop>
-    ensures expert { IfOk result (λ r. MayRead (if_agreeing table.now expert) r) }
-    ensures same { IfOk result (λ r. r ≡ expert) }
+fn check_attributes(table: &Table, expert_table: Table, origin: Origin) -> Result<Table, Stop>
+    ensures expert { IfOk result (λ r. MayRead (if_agreeing table.now expert_table) r) }
+    ensures same { IfOk result (λ r. r ≡ expert_table) }
     ensures wide { IfOk result (λ r. r.context.width ≡ table.now.context.width) }
-    ensures refused { IfErr result (λ _. MayRefuse (if_agreeing table.now expert)) }
+    ensures refused { IfErr result (λ _. MayRefuse (if_agreeing table.now expert_table)) }
     ensures cause { IfErr result (λ stop. stop ≡ Stop.OtherAttributes origin) }
 {
-    if expert.rows().width() == table.rows().width() && expert.same_attributes(table) {
-        Ok(expert)
+    if expert_table.rows().width() == table.rows().width() && expert_table.same_attributes(table) {
+        Ok(expert_table)
     } else {
         Err(Stop::OtherAttributes(origin))
     }

@@ -9,10 +9,9 @@ ghost use Rattle.explore_command.specs.Surveyed.{surveyed_text};
 
 use basis_report::survey_text;
 use canonical_basis::basis;
-use context_table::Table;
+use context_table::{Recipe, Table};
 use expert_panel::explore_with_oracles;
 use explore_state::Explore;
-use fca_command::Recipe;
 use fca_model::{MAX_TURNS, Memory};
 use lectic_concepts::all_intents;
 use std::alloc::Global;
@@ -48,14 +47,14 @@ fn survey_of<R: Threads + Wait + Sync>(
     requires table { table.now ≡ recipe_table recipe.now }
     ensures { IfOk result (λ text. text.items ≡ surveyed_text table.now) }
 {
-    let concepts = concepts_of(alloc, table)?;
-    let members = members_of(rt, alloc, table)?;
-    let explored = accepted_of(rt, alloc, recipe, table, experts)?;
-    survey_text(alloc, table, concepts, members, explored)
+    let concepts = concept_count(alloc, table)?;
+    let members = member_count(rt, alloc, table)?;
+    let accepted = accepted_count(rt, alloc, recipe, table, experts)?;
+    survey_text(alloc, table, concepts, members, accepted)
 }
 
 /// The number of concepts of the table.
-fn concepts_of(alloc: Global, table: &Table) -> Result<usize, Memory>
+fn concept_count(alloc: Global, table: &Table) -> Result<usize, Memory>
     ensures { IfOk result (λ count. count ≡ length (intents table.now.context)) }
 {
     let intents = all_intents(alloc, table.rows())?;
@@ -63,7 +62,7 @@ fn concepts_of(alloc: Global, table: &Table) -> Result<usize, Memory>
 }
 
 /// The number of implications in the basis of the table.
-fn members_of<R: Threads + Sync>(rt: &R, alloc: Global, table: &Table) -> Result<usize, Memory>
+fn member_count<R: Threads + Sync>(rt: &R, alloc: Global, table: &Table) -> Result<usize, Memory>
     ensures { IfOk result (λ count. count ≡ length (basis table.now.context)) }
 {
     let list = basis(rt, alloc, table.rows())?;
@@ -71,7 +70,7 @@ fn members_of<R: Threads + Sync>(rt: &R, alloc: Global, table: &Table) -> Result
 }
 
 /// The number of implications that oracles of the table accept when they explore its attributes, beginning with no object.
-fn accepted_of<R: Threads + Wait + Sync>(
+fn accepted_count<R: Threads + Wait + Sync>(
     rt: &R,
     alloc: Global,
     recipe: &Recipe,

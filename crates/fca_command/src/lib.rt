@@ -11,5 +11,4 @@ mod words;
 
 pub use attributes::attribute_set;
 pub use command::{Command, Form, command_of};
-pub use context_table::Recipe;
 pub use words::Words;

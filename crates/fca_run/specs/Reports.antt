@@ -19,7 +19,7 @@ use Rattle.fca_command.specs.declared.command.Command.{Command}
 use Rattle.fca_command.specs.declared.command.Command.TheVariants.{Concepts, Lattice, Basis, Direct, Follows, Convert, Reduce, Arrows}
 use Rattle.fca_command.specs.declared.command.Form.{Form}
 use Rattle.fca_command.specs.declared.command.Form.TheVariants.{Cxt, Csv}
-use Rattle.command_io.specs.Readings.{Reading, then, known}
+use Rattle.command_io.specs.Readings.{Reading, then, if_some}
 use Rattle.command_io.specs.Readings.Reading.{Refused, Read}
 use Rattle.command_io.specs.Forms.{table_read}
 use Rattle.command_io.specs.Endings.{Output, finished}
@@ -45,7 +45,7 @@ table_verdict P C table = follows_text table (basis table.context) P C
 
 -- the attributes of the table that a word names
 abbrev pub attributes_read : NamedContext → Text → Reading Set
-attributes_read table word = known (attribute_set table.attributes word)
+attributes_read table word = if_some (attribute_set table.attributes word)
 
 -- whether the implication between the attributes that two words name holds
 abbrev pub verdict_read : Text → Text → NamedContext → Reading Text

@@ -17,14 +17,16 @@ ghost use Rattle.fca_run.specs.Calls.{IsCommandStop, ComesTo, HasRun};
 use crate::made::{make_output, survey_output};
 use crate::reports::report_output;
 use crate::scaling::scale_output;
-use command_io::{Origin, Output, Stop, conclude, file_at_fault};
+use command_io::{Output, Stop, conclude, file_at_fault};
+use context_table::Recipe;
 use explore_command::explore;
-use fca_command::{Command, Recipe, command_of};
+use fca_command::{Command, command_of};
 use fca_io::{Listener, Shelf, Sink, Source};
 use fca_model::{Memory, Word};
 use replay_command::replay;
 use serve_command::{Invitation, serve};
 use std::alloc::Global;
+use std::slice;
 use std::sync::Wait;
 use std::thread::Threads;
 
@@ -99,7 +101,7 @@ fn waiting_output<R: Threads + Wait + Sync, H: Shelf, L: Listener>(
             let invitation = Invitation {
                 experts: *experts,
                 holders: *holders,
-                listen,
+                address: listen,
             };
             serve(rt, alloc, shelf, file, known, &invitation, link)
         }
@@ -166,19 +168,16 @@ fn name_at_fault<'a>(command: &'a Command, output: &Result<Output, Stop>) -> &'a
 {
     match output {
         Ok(_) => b"",
-        Err(stop) => file_of(command, stop),
+        Err(stop) => fault_file(command, stop),
     }
 }
 
 /// The name of the command's file that is at fault, if one is.
-fn file_of<'a>(command: &'a Command, stop: &Stop) -> &'a [u8]
+fn fault_file<'a>(command: &'a Command, stop: &Stop) -> &'a [u8]
     ensures { result.now ≡ fault_file (Some command.now) stop.now }
 {
     match command {
-        Command::Scale { values, plan } => match stop.origin() {
-            Origin::Later(0) => plan.bytes(),
-            _ => values.bytes(),
-        },
+        Command::Scale { values, plan } => file_at_fault(stop, values, None, slice::from_ref(plan)),
         Command::Replay { file, known } | Command::Serve { file, known, .. } => {
             file_at_fault(stop, file, known.as_ref(), &[])
         }

@@ -4,13 +4,12 @@ ghost use Rattle.std.specs.Prelude.{◌≡◌, IfOk, IfErr, true};
 ghost use Rattle.fca_model.specs.Exploration.{is_expert};
 ghost use Rattle.fca_model.specs.declared.TheConstants.{MAX_ATTRIBUTES, MAX_SURVEYED};
 ghost use Rattle.context_table.specs.Recipes.{KeepsLimits};
-ghost use Rattle.command_io.specs.Endings.{finished};
 ghost use Rattle.fca_run.specs.Outputs.{make_output, survey_output};
 
 use command_io::{Output, Stop};
+use context_table::Recipe;
 use cxt_format::write_cxt;
 use explore_command::survey;
-use fca_command::Recipe;
 use fca_model::Memory;
 use std::alloc::Global;
 use std::sync::Wait;
@@ -21,16 +20,8 @@ pub fn make_output(alloc: Global, recipe: &Recipe) -> Result<Output, Memory>
     requires { KeepsLimits MAX_ATTRIBUTES recipe.now }
     ensures { IfOk result (λ output. output ≡ make_output recipe.now) }
 {
-    Ok(Output::finished(make_text(alloc, recipe)?))
-}
-
-/// The recipe's table in the Burmeister form.
-fn make_text(alloc: Global, recipe: &Recipe) -> Result<Vec<u8>, Memory>
-    requires { KeepsLimits MAX_ATTRIBUTES recipe.now }
-    ensures { IfOk result (λ text. finished text.items ≡ make_output recipe.now) }
-{
     let table = recipe.table(alloc)?;
-    write_cxt(alloc, &table)
+    Ok(Output::of_text(write_cxt(alloc, &table)?))
 }
 
 /// What is counted of the table and of the exploration by its oracles.
@@ -45,5 +36,5 @@ pub fn survey_output<R: Threads + Wait + Sync>(
     ensures output { IfOk result (λ output. output ≡ survey_output recipe.now) }
     ensures cause { IfErr result (λ stop. stop ≡ Stop.Memory) }
 {
-    Ok(Output::finished(survey(rt, alloc, recipe, experts)?))
+    Ok(Output::of_text(survey(rt, alloc, recipe, experts)?))
 }

@@ -90,9 +90,11 @@ fn narrow_report<R: Threads + Sync>(
     ensures finished { IfOk result (λ output. output.ending ≡ Ending.Finished) }
 {
     match command {
-        Command::Concepts { .. } => Ok(Output::packed(narrow_concepts_text(rt, alloc, table)?)),
-        Command::Lattice { .. } => Ok(Output::finished(narrow_lattice_text(alloc, table)?)),
-        Command::Basis { .. } => Ok(Output::finished(narrow_basis_text(alloc, table)?)),
+        Command::Concepts { .. } => Ok(Output::of_concepts(narrow_concepts_text(
+            rt, alloc, table,
+        )?)),
+        Command::Lattice { .. } => Ok(Output::of_text(narrow_lattice_text(alloc, table)?)),
+        Command::Basis { .. } => Ok(Output::of_text(narrow_basis_text(alloc, table)?)),
         // (no other command reads a narrow table)
         _ => unreachable!(),
     }
@@ -135,17 +137,17 @@ fn report_on<R: Threads + Sync>(
     ensures cause { IfErr result (λ stop. (stop ≡ Stop.Memory) ⊎ ((stop ≡ Stop.UnknownAttribute) × (table_report command.now table.now ≡ Refused))) }
 {
     match command {
-        Command::Concepts { json: true, .. } => Ok(Output::finished(json_concepts(alloc, table)?)),
-        Command::Basis { json: true, .. } => Ok(Output::finished(json_basis(rt, alloc, table)?)),
-        Command::Direct { .. } => Ok(Output::finished(table_direct(alloc, table)?)),
+        Command::Concepts { json: true, .. } => Ok(Output::of_text(json_concepts(alloc, table)?)),
+        Command::Basis { json: true, .. } => Ok(Output::of_text(json_basis(rt, alloc, table)?)),
+        Command::Direct { .. } => Ok(Output::of_text(table_direct(alloc, table)?)),
         Command::Follows {
             premise,
             conclusion,
             ..
-        } => Ok(Output::finished(verdict(rt, alloc, table, premise, conclusion)?)),
-        Command::Convert { to, .. } => Ok(Output::finished(write_table(alloc, *to, table)?)),
-        Command::Reduce { .. } => Ok(Output::finished(reduce_table(alloc, table)?)),
-        Command::Arrows { .. } => Ok(Output::finished(table_arrows(alloc, table)?)),
+        } => Ok(Output::of_text(verdict(rt, alloc, table, premise, conclusion)?)),
+        Command::Convert { to, .. } => Ok(Output::of_text(table_text(alloc, *to, table)?)),
+        Command::Reduce { .. } => Ok(Output::of_text(reduced_text(alloc, table)?)),
+        Command::Arrows { .. } => Ok(Output::of_text(table_arrows(alloc, table)?)),
         // (`reports`, `whole`: the others write no report, or read a narrow table)
         _ => unreachable!(),
     }
@@ -221,7 +223,7 @@ fn table_verdict<R: Threads + Sync>(
 }
 
 /// The text of the table in this form.
-fn write_table(alloc: Global, to: Form, table: &Table) -> Result<Vec<u8>, Memory>
+fn table_text(alloc: Global, to: Form, table: &Table) -> Result<Vec<u8>, Memory>
     ensures { IfOk result (λ text. text.items ≡ table_text to table.now) }
 {
     match to {
@@ -231,7 +233,7 @@ fn write_table(alloc: Global, to: Form, table: &Table) -> Result<Vec<u8>, Memory
 }
 
 /// The text of the table of the irreducible objects and attributes, in the Burmeister form.
-fn reduce_table(alloc: Global, table: &Table) -> Result<Vec<u8>, Memory>
+fn reduced_text(alloc: Global, table: &Table) -> Result<Vec<u8>, Memory>
     ensures { IfOk result (λ text. text.items ≡ reduced_text table.now) }
 {
     let kept = irreducible(alloc, table)?;

@@ -6,7 +6,7 @@ ghost use Rattle.context_scaling.specs.Scaling.{Fits, scaled};
 ghost use Rattle.cxt_format.specs.Written.{cxt_text};
 ghost use Rattle.command_io.specs.Readings.{MayRead, MayRefuse, Rises, SameCounts};
 ghost use Rattle.command_io.specs.Causes.{UnlessFault};
-ghost use Rattle.command_io.specs.Endings.{finished, IsRefusal};
+ghost use Rattle.command_io.specs.Endings.{IsRefusal};
 ghost use Rattle.fca_run.specs.Outputs.{scale_output};
 ghost use Rattle.fca_run.specs.Causes.{IsScaleStop};
 
@@ -34,16 +34,7 @@ pub fn scale_output<H: Shelf>(
 {
     let values = load_values(alloc, shelf, values, Origin::File)?;
     let plan = load_plan(alloc, shelf, plan, Origin::Later(0), &values)?;
-    scaling_output(alloc, &values, &plan)
-}
-
-/// The output of `scale` for these values and this plan.
-fn scaling_output(alloc: Global, values: &Values, plan: &Plan) -> Result<Output, Stop>
-    requires { Fits plan.now values.now }
-    ensures output { IfOk result (λ output. output ≡ finished (cxt_text (scaled values.now plan.now))) }
-    ensures cause { IfErr result (λ stop. stop ≡ Stop.Memory) }
-{
-    Ok(Output::finished(scaling_text(alloc, values, plan)?))
+    Ok(Output::of_text(scaling_text(alloc, &values, &plan)?))
 }
 
 /// The table that the plan makes of the values, in the Burmeister form.

@@ -78,24 +78,24 @@ fn exploration<H: Shelf, S: Source>(
 fn explore_by_script<S: Source>(
     alloc: Global,
     input: &mut S,
-    known: Option<&Word>,
+    known_file: Option<&Word>,
     start: Start,
 ) -> Result<Explore, Stop>
     requires width { start.known.width ≡ start.table.context.width }
     requires even { HaveWidth start.table.context.width start.known.members }
     requires respected { first_break start.known.members 0 start.table.context.rows ≡ None }
-    ensures exploration { IfOk result (λ explore. MayRead (exploration_read (option_copied known.entry) (S.left input.old) (start_of start)) (recorded explore)) }
+    ensures exploration { IfOk result (λ explore. MayRead (exploration_read (option_copied known_file.entry) (S.left input.old) (start_of start)) (recorded explore)) }
     ensures course { IfOk result (λ explore. IsExplored (recorded explore)) }
     ensures writable { IfOk result (λ explore. SettingsCanBeWritten explore.opening.table.context.width explore.opening.settings) }
     ensures end { OnOk result (IsAtEnd (S.left input.new)) }
-    ensures refused { IfErr result (λ stop. IsRefusal stop → MayRefuse (exploration_read (option_copied known.entry) (S.left input.old) (start_of start))) }
-    ensures cause { IfErr result (IsInputStop (option_copied known.entry) start.table (S.left input.old)
+    ensures refused { IfErr result (λ stop. IsRefusal stop → MayRefuse (exploration_read (option_copied known_file.entry) (S.left input.old) (start_of start))) }
+    ensures cause { IfErr result (IsInputStop (option_copied known_file.entry) start.table (S.left input.old)
         (Rose (S.faults input.old) (S.faults input.new))) }
     ensures quiet { UnlessFault result (S.faults input.new ≡ S.faults input.old) }
 {
-    let Start { table, known: list } = start;
+    let Start { table, known } = start;
     let script = load_script(alloc, input, table.rows().width())?;
-    let (settings, events) = choose_settings(alloc, known, list, &table, script)?;
+    let (settings, events) = choose_settings(alloc, known_file, known, &table, script)?;
     Ok(apply_events(alloc, table, settings, events.into_vec())?)
 }
 

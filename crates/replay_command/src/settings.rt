@@ -24,29 +24,29 @@ use std::alloc::Global;
 /// Chooses the settings of a replay: those of the script, or with a known file just its implications. The events are the script's.
 pub fn choose_settings(
     alloc: Global,
-    known: Option<&Word>,
-    list: ImplicationList,
+    known_file: Option<&Word>,
+    known: ImplicationList,
     table: &Table,
     script: Script,
 ) -> Result<(Settings, Events), Stop>
-    requires width { list.width ≡ table.now.context.width }
-    requires even { HaveWidth table.now.context.width list.members }
-    requires respected { first_break list.members 0 table.now.context.rows ≡ None }
+    requires width { known.width ≡ table.now.context.width }
+    requires even { HaveWidth table.now.context.width known.members }
+    requires respected { first_break known.members 0 table.now.context.rows ≡ None }
     requires script_width { script.settings.known.width ≡ table.now.context.width }
     requires writable { SettingsCanBeWritten table.now.context.width (settings_of script.settings) }
-    ensures settings { IfOk result (λ s. settings_read (option_copied known.entry) list.members table.now (content_of script) ≡ Read (settings_of s.0)) }
+    ensures settings { IfOk result (λ s. settings_read (option_copied known_file.entry) known.members table.now (content_of script) ≡ Read (settings_of s.0)) }
     ensures events { IfOk result (λ s. s.1 ≡ script.events) }
     ensures may_open { IfOk result (λ s. MayOpen table.now s.0) }
-    ensures refused { IfErr result (λ _. settings_read (option_copied known.entry) list.members table.now (content_of script) ≡ Refused) }
-    ensures cause { IfErr result (IsSettingsStop (option_copied known.entry) table.now (content_of script)) }
+    ensures refused { IfErr result (λ _. settings_read (option_copied known_file.entry) known.members table.now (content_of script) ≡ Refused) }
+    ensures cause { IfErr result (IsSettingsStop (option_copied known_file.entry) table.now (content_of script)) }
 {
     let Script {
         settings,
         events,
         second,
     } = script;
-    match known {
-        Some(_) => Ok((settings_of_known(alloc, list, second)?, events)),
+    match known_file {
+        Some(_) => Ok((settings_of_known(alloc, known, second)?, events)),
         None => Ok((check_settings(table, settings)?, events)),
     }
 }

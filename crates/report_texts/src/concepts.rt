@@ -32,7 +32,7 @@ pub fn lattice_text(
 {
     let mut draft = Draft::new(alloc);
     write_concepts(&mut draft, table, concepts)?;
-    write_count_line(&mut draft, table, b"covers ", covers.len())?;
+    write_count_line(&mut draft, b"covers ", covers.len())?;
     write_covers(&mut draft, covers)?;
     Ok(draft.into_bytes())
 }
@@ -41,7 +41,7 @@ pub fn lattice_text(
 fn write_concepts(draft: &mut Draft, table: &Table, concepts: &[Concept]) -> Result<(), Memory>
     ensures { OnOk result (draft.new ≡ draft.old ++ concepts_text table.now concepts.now) }
 {
-    write_count_line(draft, table, b"concepts ", concepts.len())?;
+    write_count_line(draft, b"concepts ", concepts.len())?;
     for (place, concept) in concepts.iter().enumerate() {
         write_line(draft, table, place, concept)?;
     }

@@ -15,7 +15,7 @@ pub fn basis_text(alloc: Global, table: &Table, list: &ImplicationList) -> Resul
     ensures { IfOk result (λ v. v.items ≡ basis_text table.now.attributes list.now.members) }
 {
     let mut draft = Draft::new(alloc);
-    write_count_line(&mut draft, table, b"basis ", list.as_slice().len())?;
+    write_count_line(&mut draft, b"basis ", list.as_slice().len())?;
     write_arrows(&mut draft, table, b"", list.as_slice())?;
     Ok(draft.into_bytes())
 }
@@ -25,7 +25,7 @@ pub fn direct_text(alloc: Global, table: &Table, list: &ImplicationList) -> Resu
     ensures { IfOk result (λ v. v.items ≡ direct_text table.now.attributes list.now.members) }
 {
     let mut draft = Draft::new(alloc);
-    write_count_line(&mut draft, table, b"direct ", list.as_slice().len())?;
+    write_count_line(&mut draft, b"direct ", list.as_slice().len())?;
     write_arrows(&mut draft, table, b"", list.as_slice())?;
     Ok(draft.into_bytes())
 }

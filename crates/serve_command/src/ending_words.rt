@@ -19,12 +19,12 @@ const LIMIT: &str = "limit";
 const SPENT: &str = "spent";
 
 /// The words that say how each session ended.
-pub fn all_ending_words(alloc: Global, endings: &[Ended]) -> Result<Vec<&'static str>, Memory>
-    ensures { IfOk result (λ v. map (λ words. words.now) v.items ≡ map ending_words endings.now) }
+pub fn all_ending_words(alloc: Global, ended: &[Ended]) -> Result<Vec<&'static str>, Memory>
+    ensures { IfOk result (λ v. map (λ words. words.now) v.items ≡ map ending_words ended.now) }
 {
-    let mut words = Vec::with_capacity(alloc, endings.len())?;
-    for ended in endings {
-        words.push_reserved(ending_words(*ended));
+    let mut words = Vec::with_capacity(alloc, ended.len())?;
+    for each in ended {
+        words.push_reserved(ending_words(*each));
     }
     Ok(words)
 }

@@ -37,7 +37,7 @@ pub struct Invitation<'a> {
     /// How many of them may hold one question.
     pub holders: u8,
     /// The address at which they are awaited.
-    pub listen: &'a Word,
+    pub address: &'a Word,
 }
 
 /// Explores the table in the file with the experts who come to the first ends that the link accepts, and gives the text. A known file may be
@@ -58,12 +58,12 @@ pub fn serve<R: Threads + Wait + Sync, H: Shelf, L: Listener>(
     ensures output { IfOk result (MayServe L.End.Source.left L.End.Sink.held L.End.Source.reads L.End.Source.faults L.End.Sink.faults
         (start_read file.now (option_copied known.entry) (H.tells shelf.old)) invitation.now.experts invitation.now.holders
         (L.ends link.old) (L.ends link.new)) }
-    ensures listens { OnOk result ((L.listens link.new ≡ true) × MayListenAt (L.listens_at link.new) invitation.now.listen.now) }
+    ensures listens { OnOk result ((L.listens link.new ≡ true) × MayListenAt (L.listens_at link.new) invitation.now.address.now) }
 
     // If the files could not be read, the link is as it was.
     ensures refused { IfErr result (λ stop. IsRefusal stop → MayRefuse (start_read file.now (option_copied known.entry) (H.tells shelf.old))) }
     ensures cause { IfErr result (IsServeStop file.now (option_copied known.entry) (H.tells shelf.old) (Rises (H.faults shelf.old) (H.faults shelf.new))
-        (Rises (L.open_faults link.old) (L.open_faults link.new) invitation.now.listen.now ⊎ Rose (L.accept_faults link.old) (L.accept_faults link.new))) }
+        (Rises (L.open_faults link.old) (L.open_faults link.new) invitation.now.address.now ⊎ Rose (L.accept_faults link.old) (L.accept_faults link.new))) }
     ensures quiet { UnlessFault result (SameCounts (H.faults shelf.old) (H.faults shelf.new)) }
     ensures few { RoseAtMost (H.fetches shelf.old) (H.fetches shelf.new) (length (file.now ∷ option_to_list (option_copied known.entry))) }
     ensures quiet_open { UnlessListener result (SameCounts (L.open_faults link.old) (L.open_faults link.new)) }
@@ -74,7 +74,7 @@ pub fn serve<R: Threads + Wait + Sync, H: Shelf, L: Listener>(
 {
     let start = load_start(alloc, shelf, file, known)?;
     let explore = open_exploration(alloc, start, invitation.experts, invitation.holders)?;
-    let ends = ends_at(alloc, link, invitation.listen.bytes(), invitation.experts)?;
+    let ends = ends_at(alloc, link, invitation.address.bytes(), invitation.experts)?;
     explore_over(rt, alloc, explore, ends, link)
 }
 
@@ -106,7 +106,7 @@ fn explore_over<R: Threads + Wait + Sync, L: Listener>(
                 endings,
             } = served;
             give_back(link, ends);
-            text_of(alloc, &explore, &endings)
+            output_of(alloc, &explore, &endings)
         }
         Err(Unserved { ends }) => {
             give_back(link, ends);
@@ -116,17 +116,17 @@ fn explore_over<R: Threads + Wait + Sync, L: Listener>(
 }
 
 /// The text of the exploration, and how its sessions ended.
-fn text_of(alloc: Global, explore: &Explore, endings: &[Ended]) -> Result<Output, Stop>
+fn output_of(alloc: Global, explore: &Explore, ended: &[Ended]) -> Result<Output, Stop>
     requires { SettingsCanBeWritten explore.now.opening.table.context.width explore.now.opening.settings }
     ensures text { IfOk result (λ output. output.text ≡ explore_text explore.now.opening.table explore.now.opening.settings explore.now.journal
-        ++ sessions_text (map ending_words endings.now)) }
+        ++ sessions_text (map ending_words ended.now)) }
     ensures spells { IfOk result (λ output. Spells explore.now.opening.table explore.now.opening.settings explore.now.journal output.text) }
     ensures ending { IfOk result (λ output. output.ending ≡ ending_of (open_of explore.now)) }
     ensures cause { IfErr result (λ stop. stop ≡ Stop.Memory) }
 {
-    let words = all_ending_words(alloc, endings)?;
+    let words = all_ending_words(alloc, ended)?;
     let mut text = explore_text(alloc, explore)?;
-    let sessions = sessions_text(alloc, explore.table(), &words)?;
+    let sessions = sessions_text(alloc, &words)?;
     text.extend_from_slice(&sessions)?;
     Ok(Output {
         text: Text::whole(text),

@@ -17,12 +17,12 @@ returns-clause-text c =
     let attributes = c.table-table.result.now.attributes in
     let rules = c.rules-rules.result.now in
     let oracles = c.args.oracles.now in
-    let k = c.loop-expert.expert in
+    let k = c.loop-oracle_place.oracle_place in
     let ds = dropped_rows_from 0 (map (λ o. (o.table, o.conflicts)) oracles) in
     let over : length oracles ≤ k = omega arith in
     c.into_bytes.ensures
-    ∙ written_end (conflict_line attributes rules) c.loop-expert.draft (conflicts_section attributes rules ds) (dropped_later k oracles)
-    (oracle_end k oracles over) c.loop-expert.invariant
+    ∙ written_end (conflict_line attributes rules) c.loop-oracle_place.draft (conflicts_section attributes rules ds) (dropped_later k oracles)
+    (oracle_end k oracles over) c.loop-oracle_place.invariant
     ∙ ap₂ (λ t acc. conflicts_section t.attributes acc ds) c.table-table.ensures c.rules-rules.ensures
 
 pub returns-clause-skipped : goal.returns-clause-skipped
@@ -31,12 +31,12 @@ returns-clause-skipped c =
     let attributes = c.table-table.result.now.attributes in
     let rules = c.rules-rules.result.now in
     let oracles = c.args.oracles.now in
-    let k = c.loop-expert.expert in
+    let k = c.loop-oracle_place.oracle_place in
     let ds = dropped_rows_from 0 (map (λ o. (o.table, o.conflicts)) oracles) in
     let over : length oracles ≤ k = omega arith in
     let text = c.into_bytes.ensures
-    ∙ written_end (conflict_line attributes rules) c.loop-expert.draft (conflicts_section attributes rules ds) (dropped_later k oracles)
-    (oracle_end k oracles over) c.loop-expert.invariant in
+    ∙ written_end (conflict_line attributes rules) c.loop-oracle_place.draft (conflicts_section attributes rules ds) (dropped_later k oracles)
+    (oracle_end k oracles over) c.loop-oracle_place.invariant in
     subst AreComments (sym text) (conflicts-comments attributes rules (map (λ o. (o.table, o.conflicts)) oracles)
     (are_names attributes c.look_at_attributes.ensures)
     (list_all-map (λ (x : NamedContext × Conflicts). list_all is_name x.0.objects) (λ (o : Recall). (o.table, o.conflicts)) oracles

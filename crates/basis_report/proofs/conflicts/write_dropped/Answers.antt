@@ -7,7 +7,7 @@ use Rattle.basis_report.proofs.conflicts.write_dropped.Goals.{in-Some+in_ok-writ
 
 pub loop-place-preserved : goal.loop-place-preserved
 loop-place-preserved c =
-    let e = c.args.expert in
+    let e = c.args.oracle_place in
     let D = c.args.oracle.now.table in
     let conflicts = c.args.oracle.now.conflicts in
     let place = c.loop-place.place in
@@ -19,8 +19,8 @@ loop-place-preserved c =
           (dropped_rows_at e D place (Some w.in-Some.broken)) (dropped_behind e D (place + 1) conflicts)
           (place_step e D place conflicts (Some w.in-Some.broken) (c.conflict.ensures ∙ ap (λ o. Some o) w.in-Some.is))
           (w.draft-is ∙ w.in_ok-write_conflict.ensures
-          ∙ ap (λ known. c.loop-place.draft ++ flat_map line (dropped_rows_at e known place (Some w.in-Some.broken)))
-          c.table-known.ensures.table)
+          ∙ ap (λ own. c.loop-place.draft ++ flat_map line (dropped_rows_at e own place (Some w.in-Some.broken)))
+          c.table-own_table.ensures.table)
           c.loop-place.invariant
       | in_default w ↦
           written_step line c.loop-place.draft c.match-conflict.draft all (dropped_behind e D place conflicts) []

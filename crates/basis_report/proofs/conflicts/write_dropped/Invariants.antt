@@ -6,5 +6,5 @@ use Rattle.basis_report.proofs.conflicts.write_dropped.Given as goal
 
 abbrev pub invariant-loop-place : goal.invariant-loop-place
 invariant-loop-place l =
-    l.draft ++ flat_map (conflict_line l.table.attributes l.rules) (dropped_behind l.expert l.oracle.table l.place l.oracle.conflicts)
-    ≡ l.fn.draft ++ flat_map (conflict_line l.table.attributes l.rules) (dropped_rows_of l.expert l.oracle.table l.oracle.conflicts)
+    l.draft ++ flat_map (conflict_line l.table.attributes l.rules) (dropped_behind l.oracle_place l.oracle.table l.place l.oracle.conflicts)
+    ≡ l.fn.draft ++ flat_map (conflict_line l.table.attributes l.rules) (dropped_rows_of l.oracle_place l.oracle.table l.oracle.conflicts)

@@ -8,13 +8,13 @@ use Rattle.explore_command.proofs.start.check_attributes.Goals.{else-width-via-t
 
 pub returns-then-same_attributes-clause-expert : goal.returns-then-same_attributes-clause-expert
 returns-then-same_attributes-clause-expert c =
-    let P : Reading NamedContext → Type 0 = λ r. MayRead r c.args.expert in
-    subst P (sym (if_agreeing-same c.args.table.now c.args.expert (c.same_attributes.ensures.0 c.if-same_attributes.true))) refl
+    let P : Reading NamedContext → Type 0 = λ r. MayRead r c.args.expert_table in
+    subst P (sym (if_agreeing-same c.args.table.now c.args.expert_table (c.same_attributes.ensures.0 c.if-same_attributes.true))) refl
 
 pub returns-else-width-clause-refused : goal.returns-else-width-clause-refused
 returns-else-width-clause-refused c =
     let table = c.args.table.now in
-    let expert = c.args.expert in
+    let expert = c.args.expert_table in
     let wide : c.width.result ≡ length expert.attributes =
     c.width.ensures.width ∙ ap (λ (K : Context). K.width) c.rows.ensures.rows ∙ sym c.rows.ensures.table.each_attribute in
     let wide-2 : c.width-2.result ≡ length table.attributes =

@@ -14,10 +14,10 @@ use Rattle.explore_command.specs.Starts.{experts_read, IsExpertsStop}
 use Rattle.explore_command.proofs.StartLemmas.{ReadsOn, ReadsOn-next, ReadsOn-all, refused-file, experts-stop, memory-experts}
 use Rattle.explore_command.proofs.start.load_experts.Goals as goal
 
-pub returns-in_err-expert-clause-refused : goal.returns-in_err-expert-clause-refused
-returns-in_err-expert-clause-refused g c =
+pub returns-in_err-expert_table-clause-refused : goal.returns-in_err-expert_table-clause-refused
+returns-in_err-expert_table-clause-refused g c =
     let inv = c.loop-place.invariant in
-    let stop = c.in_err-expert.field-0.0 in
+    let stop = c.in_err-expert_table.field-0.0 in
     let inside : c.loop-place.place < length c.args.files.now = omega arith in
     let table = c.args.table.now in
     let tells = g.H.Shelf.tells c.args.shelf.now in
@@ -25,12 +25,12 @@ returns-in_err-expert-clause-refused g c =
     c.from_residual.ensures.1
     (λ refusal. refused-file table c.args.files.now c.loop-place.place c.index-files-place.result tells (g.H.Shelf.tells c.loop-place.shelf)
     (g.H.Shelf.faults c.args.shelf.now)
-    c.loop-place.tables.items inside c.index-files-place.is inv.3 inv.0 (c.in_err-expert.ensures.refused refusal))
+    c.loop-place.tables.items inside c.index-files-place.is inv.3 inv.0 (c.in_err-expert_table.ensures.refused refusal))
 
-pub returns-in_err-expert-clause-cause : goal.returns-in_err-expert-clause-cause
-returns-in_err-expert-clause-cause g c =
+pub returns-in_err-expert_table-clause-cause : goal.returns-in_err-expert_table-clause-cause
+returns-in_err-expert_table-clause-cause g c =
     let inv = c.loop-place.invariant in
-    let stop = c.in_err-expert.field-0.0 in
+    let stop = c.in_err-expert_table.field-0.0 in
     let inside : c.loop-place.place < length c.args.files.now = omega arith in
     let table = c.args.table.now in
     let tells = g.H.Shelf.tells c.args.shelf.now in
@@ -39,13 +39,13 @@ returns-in_err-expert-clause-cause g c =
     err-passed c.from_residual.result stop (IsExpertsStop table 0 c.args.files.now tells (Rises counts after)) c.from_residual.ensures.1
     (experts-stop table c.args.files.now c.loop-place.place c.index-files-place.result tells (g.H.Shelf.tells c.loop-place.shelf) counts
     (g.H.Shelf.faults c.loop-place.shelf) after
-    c.loop-place.tables.items stop inside c.index-files-place.is inv.3 inv.4 inv.0 c.in_err-expert.ensures.cause)
+    c.loop-place.tables.items stop inside c.index-files-place.is inv.3 inv.4 inv.0 c.in_err-expert_table.ensures.cause)
 
 pub loop-place-preserved : goal.loop-place-preserved
 loop-place-preserved g c =
     let inv = c.loop-place.invariant in
     let table = c.args.table.now in
-    let expert = c.in_ok-expert.expert in
+    let expert = c.in_ok-expert_table.expert_table in
     let inside : c.loop-place.place < length c.args.files.now = omega arith in
     let pushed : c.push.new.self.items ≡ c.loop-place.tables.items ++ expert ∷ [] = c.in_ok-push.ensures.items in
     let Reads : List NamedContext → Type 0 = λ l.
@@ -55,16 +55,16 @@ loop-place-preserved g c =
       subst Reads (sym pushed) (ReadsOn-next table c.args.files.now c.loop-place.place c.index-files-place.result
           (g.H.Shelf.tells c.args.shelf.now) (g.H.Shelf.tells c.loop-place.shelf)
           (g.H.Shelf.faults c.args.shelf.now) c.loop-place.tables.items expert
-          inside c.index-files-place.is inv.3 c.in_ok-expert.ensures.expert inv.0),
+          inside c.index-files-place.is inv.3 c.in_ok-expert_table.ensures.expert inv.0),
       (let longer = c.in_ok-push.ensures.len in let was = inv.1 in omega arith),
       subst IsWide (sym pushed) (All-push (λ (t : NamedContext). t.context.width ≡ table.context.width) c.loop-place.tables.items expert
-          inv.2 c.in_ok-expert.ensures.wide),
-      (λ other. c.in_ok-expert.ensures.kept other ∙ inv.3 other),
-      (λ other. (let before = inv.4 other in let now = c.in_ok-expert.ensures.later other in omega arith)),
-      (λ other. c.in_ok-expert.ensures.quiet other ∙ inv.5 other),
+          inv.2 c.in_ok-expert_table.ensures.wide),
+      (λ other. c.in_ok-expert_table.ensures.kept other ∙ inv.3 other),
+      (λ other. (let before = inv.4 other in let now = c.in_ok-expert_table.ensures.later other in omega arith)),
+      (λ other. c.in_ok-expert_table.ensures.quiet other ∙ inv.5 other),
       fetched_then (g.H.Shelf.fetches c.args.shelf.now) (g.H.Shelf.fetches c.loop-place.shelf) (g.H.Shelf.fetches c.load_expert.new.shelf)
           c.loop-place.place 1 inv.6
-          (fetched_one (g.H.Shelf.fetches c.loop-place.shelf) (g.H.Shelf.fetches c.load_expert.new.shelf) c.in_ok-expert.ensures.counted),
+          (fetched_one (g.H.Shelf.fetches c.loop-place.shelf) (g.H.Shelf.fetches c.load_expert.new.shelf) c.in_ok-expert_table.ensures.counted),
     )
 
 pub returns-clause-tables : goal.returns-clause-tables
@@ -83,32 +83,32 @@ returns-in_err-push-clause-cause g c =
     IfErr-weaker left (λ (s : Stop). s ≡ Memory) (IsExpertsStop table 0 c.args.files.now tells rises)
     (λ s e. memory-experts table 0 c.args.files.now tells rises s e) memory
 
-pub returns-in_err-expert-clause-quiet : goal.returns-in_err-expert-clause-quiet
-returns-in_err-expert-clause-quiet g c =
+pub returns-in_err-expert_table-clause-quiet : goal.returns-in_err-expert_table-clause-quiet
+returns-in_err-expert_table-clause-quiet g c =
     let counts = g.H.Shelf.faults c.args.shelf.now in
     let between = g.H.Shelf.faults c.loop-place.shelf in
     let after = g.H.Shelf.faults c.load_expert.new.shelf in
-    fault-passed c.from_residual.result c.in_err-expert.field-0.0 (SameCounts counts after) c.from_residual.ensures.1
-    (fault-later c.in_err-expert.field-0.0 (SameCounts between after) (SameCounts counts after)
-    (SameCounts-then counts between after c.loop-place.invariant.5) c.in_err-expert.ensures.quiet)
+    fault-passed c.from_residual.result c.in_err-expert_table.field-0.0 (SameCounts counts after) c.from_residual.ensures.1
+    (fault-later c.in_err-expert_table.field-0.0 (SameCounts between after) (SameCounts counts after)
+    (SameCounts-then counts between after c.loop-place.invariant.5) c.in_err-expert_table.ensures.quiet)
 
 pub returns-in_err-push-clause-quiet : goal.returns-in_err-push-clause-quiet
 returns-in_err-push-clause-quiet g c =
     let counts = g.H.Shelf.faults c.args.shelf.now in
     let after = g.H.Shelf.faults c.load_expert.new.shelf in
     unless_fault c.from_residual-in_err-push.result (SameCounts counts after)
-    (SameCounts-then counts (g.H.Shelf.faults c.loop-place.shelf) after c.loop-place.invariant.5 c.in_ok-expert.ensures.quiet)
+    (SameCounts-then counts (g.H.Shelf.faults c.loop-place.shelf) after c.loop-place.invariant.5 c.in_ok-expert_table.ensures.quiet)
 
 -- ---- counts of fetches
 
-pub returns-in_err-expert-clause-few : goal.returns-in_err-expert-clause-few
-returns-in_err-expert-clause-few g c =
+pub returns-in_err-expert_table-clause-few : goal.returns-in_err-expert_table-clause-few
+returns-in_err-expert_table-clause-few g c =
     let inside : c.loop-place.place < length c.args.files.now = omega arith in
     fetched_within (g.H.Shelf.fetches c.args.shelf.now) (g.H.Shelf.fetches c.load_expert.new.shelf) (c.loop-place.place + 1)
     (length c.args.files.now) (omega arith)
     (fetched_then (g.H.Shelf.fetches c.args.shelf.now) (g.H.Shelf.fetches c.loop-place.shelf) (g.H.Shelf.fetches c.load_expert.new.shelf)
     c.loop-place.place 1 c.loop-place.invariant.6
-    (fetched_one (g.H.Shelf.fetches c.loop-place.shelf) (g.H.Shelf.fetches c.load_expert.new.shelf) c.in_err-expert.ensures.counted))
+    (fetched_one (g.H.Shelf.fetches c.loop-place.shelf) (g.H.Shelf.fetches c.load_expert.new.shelf) c.in_err-expert_table.ensures.counted))
 
 pub returns-in_err-push-clause-few : goal.returns-in_err-push-clause-few
 returns-in_err-push-clause-few g c =
@@ -117,7 +117,7 @@ returns-in_err-push-clause-few g c =
     (length c.args.files.now) (omega arith)
     (fetched_then (g.H.Shelf.fetches c.args.shelf.now) (g.H.Shelf.fetches c.loop-place.shelf) (g.H.Shelf.fetches c.load_expert.new.shelf)
     c.loop-place.place 1 c.loop-place.invariant.6
-    (fetched_one (g.H.Shelf.fetches c.loop-place.shelf) (g.H.Shelf.fetches c.load_expert.new.shelf) c.in_ok-expert.ensures.counted))
+    (fetched_one (g.H.Shelf.fetches c.loop-place.shelf) (g.H.Shelf.fetches c.load_expert.new.shelf) c.in_ok-expert_table.ensures.counted))
 
 pub returns-clause-few : goal.returns-clause-few
 returns-clause-few g c =

@@ -6,5 +6,5 @@ use Rattle.explore_command.proofs.surveys.survey_of.Goals as goal
 pub returns : goal.returns
 returns g c =
     IfOk-weaker c.survey_text.result _ _
-    (λ text is. is ∙ survey_text-counts c.args.table.now _ _ _ c.in_ok-concepts.ensures c.in_ok-members.ensures c.in_ok-explored.ensures)
+    (λ text is. is ∙ survey_text-counts c.args.table.now _ _ _ c.in_ok-concepts.ensures c.in_ok-members.ensures c.in_ok-accepted.ensures)
     c.survey_text.ensures

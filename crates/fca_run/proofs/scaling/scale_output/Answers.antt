@@ -1,12 +1,11 @@
-use Rattle.std.proofs.Common.{sym, subst, arith}
-use Rattle.std.proofs.lemmas.Result.{IfOk-weaker}
+use Rattle.std.proofs.Common.{◌∙◌, sym, ap, subst, arith}
 use Rattle.command_io.specs.Readings.{MayRefuse, Rises, SameCounts}
 use Rattle.command_io.specs.declared.stop.Stop.{Stop}
 use Rattle.command_io.proofs.ErrLemmas.{err-passed}
 use Rattle.command_io.proofs.QuietLemmas.{unless_fault, fault-later, fault-passed, SameCounts-then}
 use Rattle.command_io.proofs.FetchLemmas.{fetched_one, fetched_within, fetched_next}
 use Rattle.command_io.specs.Readings.{MayRead}
-use Rattle.command_io.specs.Endings.{Output, IsRefusal}
+use Rattle.command_io.specs.Endings.{Output, finished, IsRefusal}
 use Rattle.fca_run.specs.Causes.{IsScaleStop}
 use Rattle.fca_run.specs.Outputs.{scale_output}
 use Rattle.fca_run.proofs.ScalingLemmas.{scale-read, scale-refused, scale-stop}
@@ -16,10 +15,9 @@ pub returns-clause-output : goal.returns-clause-output
 returns-clause-output g c =
     let tells = g.H.Shelf.tells c.args.shelf.now in
     let Reads : Output → Type 0 = λ o. MayRead (scale_output c.args.values.now c.args.plan.now tells) o in
-    IfOk-weaker c.scaling_output.result _ Reads (λ output is. subst Reads (sym is)
+    subst Reads (sym (c.of_text.ensures ∙ ap finished c.in_ok-scaling_text.ensures))
     (scale-read c.args.values.now c.args.plan.now tells (g.H.Shelf.tells c.load_values.new.shelf) c.in_ok-values.values c.in_ok-plan.plan
-    c.in_ok-values.ensures.values c.in_ok-values.ensures.kept c.in_ok-plan.ensures.plan))
-    c.scaling_output.ensures.output
+    c.in_ok-values.ensures.values c.in_ok-values.ensures.kept c.in_ok-plan.ensures.plan)
 
 pub returns-in_err-plan-clause-refused : goal.returns-in_err-plan-clause-refused
 returns-in_err-plan-clause-refused g c =
@@ -59,13 +57,18 @@ returns-in_err-plan-clause-quiet g c =
     (fault-later c.in_err-plan.field-0.0 (SameCounts between after) (SameCounts counts after)
     (SameCounts-then counts between after c.in_ok-values.ensures.quiet) c.in_err-plan.ensures.quiet)
 
-pub returns-clause-quiet : goal.returns-clause-quiet
-returns-clause-quiet g c =
+pub returns-in_err-scaling_text-clause-quiet : goal.returns-in_err-scaling_text-clause-quiet
+returns-in_err-scaling_text-clause-quiet g c =
     let counts = g.H.Shelf.faults c.args.shelf.now in
     let between = g.H.Shelf.faults c.load_values.new.shelf in
     let after = g.H.Shelf.faults c.load_plan.new.shelf in
-    unless_fault c.scaling_output.result (SameCounts counts after)
+    unless_fault c.from_residual-in_err-scaling_text.result (SameCounts counts after)
     (SameCounts-then counts between after c.in_ok-values.ensures.quiet c.in_ok-plan.ensures.quiet)
+
+pub returns-clause-quiet : goal.returns-clause-quiet
+returns-clause-quiet g c =
+    SameCounts-then (g.H.Shelf.faults c.args.shelf.now) (g.H.Shelf.faults c.load_values.new.shelf) (g.H.Shelf.faults c.load_plan.new.shelf)
+    c.in_ok-values.ensures.quiet c.in_ok-plan.ensures.quiet
 
 -- ---- counts of fetches
 
@@ -79,6 +82,12 @@ returns-in_err-plan-clause-few g c =
     fetched_next (g.H.Shelf.fetches c.args.shelf.now) (g.H.Shelf.fetches c.load_values.new.shelf) (g.H.Shelf.fetches c.load_plan.new.shelf)
     1 c.in_ok-values.ensures.counted
     (fetched_one (g.H.Shelf.fetches c.load_values.new.shelf) (g.H.Shelf.fetches c.load_plan.new.shelf) c.in_err-plan.ensures.counted)
+
+pub returns-in_err-scaling_text-clause-few : goal.returns-in_err-scaling_text-clause-few
+returns-in_err-scaling_text-clause-few g c =
+    fetched_next (g.H.Shelf.fetches c.args.shelf.now) (g.H.Shelf.fetches c.load_values.new.shelf) (g.H.Shelf.fetches c.load_plan.new.shelf)
+    1 c.in_ok-values.ensures.counted
+    (fetched_one (g.H.Shelf.fetches c.load_values.new.shelf) (g.H.Shelf.fetches c.load_plan.new.shelf) c.in_ok-plan.ensures.counted)
 
 pub returns-clause-few : goal.returns-clause-few
 returns-clause-few g c =

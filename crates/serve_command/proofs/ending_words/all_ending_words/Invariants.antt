@@ -4,8 +4,8 @@ use Rattle.std.specs.Prelude.{vec_len, vec_capacity}
 use Rattle.serve_command.specs.Served.{ending_words}
 use Rattle.serve_command.proofs.ending_words.all_ending_words.Given as goal
 
-abbrev pub invariant-loop-ended : goal.invariant-loop-ended
-invariant-loop-ended l =
-    (map (λ words. words.now) l.words.items ≡ map ending_words (take l.ended-index l.endings))
-    × (vec_len l.words ≡ l.ended-index)
-    × (length l.endings ≤ vec_capacity l.words)
+abbrev pub invariant-loop-each : goal.invariant-loop-each
+invariant-loop-each l =
+    (map (λ words. words.now) l.words.items ≡ map ending_words (take l.each-index l.ended))
+    × (vec_len l.words ≡ l.each-index)
+    × (length l.ended ≤ vec_capacity l.words)

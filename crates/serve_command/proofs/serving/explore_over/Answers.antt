@@ -12,7 +12,7 @@ use Rattle.serve_command.proofs.serving.explore_over.Goals as goal
 pub returns-in-Ok-clause-risen : goal.returns-in-Ok-clause-risen
 returns-in-Ok-clause-risen g c =
     let Room : ℕ → Type 0 = HasRoomFor (g.L.Listener.ends c.args.link.now) in
-    IfErr-any c.text_of.result _ (λ s.
+    IfErr-any c.output_of.result _ (λ s.
     risen-talks g.L.End.Source.left g.L.End.Sink.held g.L.End.Source.reads g.L.End.Source.faults g.L.End.Sink.faults
     c.args.explore.opening.table c.in-Ok.served.explore.journal
     c.args.ends.items c.in-Ok.served.ends.items _ _ c.in-Ok.served.endings.items c.in-Ok.ensures.talks
@@ -26,7 +26,7 @@ returns-in-Ok-clause-sat g c =
     let Others : ℕ → Type 0 = λ n. ((e : ℕ) → (e ≡ 0) ⊎ (n < e) → own H e ≡ []) in
     let many = c.args.ends.ok.0 in
     let new = c.requires.new in
-    let told = c.text_of.ensures in
+    let told = c.output_of.ensures in
     let over : IsOver g.L.End.Source.left g.L.End.Sink.held g.L.End.Source.reads g.L.End.Source.faults g.L.End.Sink.faults
     c.args.explore.opening c.args.ends.items c.in-Ok.served.ends.items
     explore c.in-Ok.served.endings.items = record {
@@ -35,7 +35,7 @@ returns-in-Ok-clause-sat g c =
       talks = c.in-Ok.ensures.talks;
       others = subst Others many c.in-Ok.ensures.others;
     } in
-    ok-from-three c.text_of.result _ _ _ _ told.text told.spells told.ending (λ output text spells ending.
+    ok-from-three c.output_of.result _ _ _ _ told.text told.spells told.ending (λ output text spells ending.
     has-sat g.L.End.Source.left g.L.End.Sink.held g.L.End.Source.reads g.L.End.Source.faults g.L.End.Sink.faults c.args.explore.opening
     c.args.ends.items c.in-Ok.served.ends.items _ _
     explore c.in-Ok.served.endings.items output new.experts new.respecting new.writable.known over

@@ -2,7 +2,7 @@ use Rattle.std.proofs.Common.{add-one}
 use Rattle.std.proofs.lemmas.Result.{err_from_is_err_and}
 use Rattle.expert_wire.proofs.WriteLemmas.{Underway-equal, Underway-more, Underway-fault, Underway-end, flat_map-past}
 use Rattle.command_io.proofs.ErrLemmas.{flat_map-drop_or}
-use Rattle.command_io.proofs.err_line.write_parts.Goals as goal
+use Rattle.command_io.proofs.err_line.write_all_bytes.Goals as goal
 
 pub returns-in_err-write_part : goal.returns-in_err-write_part
 returns-in_err-write_part g c =

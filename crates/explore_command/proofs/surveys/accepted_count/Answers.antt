@@ -9,7 +9,7 @@ use Rattle.oracle_expert.specs.Intents.{HasIntentsOf, are_intents}
 use Rattle.oracle_expert.proofs.IntentLemmas.{intents-itself}
 use Rattle.context_table.specs.declared.recipe.Recipe.{Recipe}
 use Rattle.explore_command.proofs.SurveyLemmas.{recipe_width, are_intents-none, length-agreed, respecting_plain}
-use Rattle.explore_command.proofs.surveys.accepted_of.Goals as goal
+use Rattle.explore_command.proofs.surveys.accepted_count.Goals as goal
 
 pub explore_with_oracles-requires-clause-width : goal.explore_with_oracles-requires-clause-width
 explore_with_oracles-requires-clause-width g c κs within =

@@ -2,7 +2,7 @@
 use Rattle.std.proofs.Common.{drop}
 use Rattle.std.specs.List.{flat_map}
 use Rattle.expert_wire.proofs.WriteLemmas.{Underway}
-use Rattle.command_io.proofs.err_line.write_parts.Given as goal
+use Rattle.command_io.proofs.err_line.write_all_bytes.Given as goal
 
 abbrev pub invariant-loop-part : goal.invariant-loop-part
 invariant-loop-part g l =

@@ -1,6 +1,6 @@
 use Rattle.std.proofs.Common.{rules, ◌≡◌, ◌∙◌, false, sym}
 use Rattle.fca_run.proofs.CallLemmas.{reads_more, fault_file-one}
-use Rattle.fca_run.proofs.call.file_of.Goals as goal
+use Rattle.fca_run.proofs.call.fault_file.Goals as goal
 
 pub returns-in_default : goal.returns-in_default
 returns-in_default c =

@@ -1,14 +1,14 @@
 use Rattle.std.proofs.Common.{◌≡◌, ◌++◌}
 use Rattle.basis_report.specs.Explorations.{explore_text}
 use Rattle.serve_command.proofs.ServedLemmas.{words_are_lines, spelled-sessions}
-use Rattle.serve_command.proofs.serving.text_of.Goals as goal
+use Rattle.serve_command.proofs.serving.output_of.Goals as goal
 
 -- the sessions stand behind the text of the exploration, in lines that are skipped
 pub returns-clause-spells : goal.returns-clause-spells
 returns-clause-spells c =
     let value = c.deref.ensures.value in
     let told = c.in_ok-words.ensures in
-    let law = words_are_lines c.args.endings.now in
+    let law = words_are_lines c.args.ended.now in
     let skipped = c.in_ok-sessions.ensures.skipped cc in
     let items = c.in_ok-extend_from_slice.ensures.items in
     let first = c.in_ok-text.ensures.text in
