@@ -55,7 +55,7 @@ pub fn load_start<H: Shelf>(
 }
 
 /// Reads the implications of the known file, if one is given, and checks that every row of the table respects them.
-pub fn load_known<H: Shelf>(
+fn load_known<H: Shelf>(
     alloc: Global,
     shelf: &mut H,
     known: Option<&Word>,

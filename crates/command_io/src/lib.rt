@@ -11,7 +11,7 @@ mod scalings;
 mod stop;
 mod text;
 
-pub use known::{Start, check_known, load_known, load_start};
+pub use known::{Start, check_known, load_start};
 pub use narrow::load_narrow_table;
 pub use output::{Ending, Output, conclude};
 pub use readings::{load_script, load_table};
