@@ -16,7 +16,7 @@ use std::sync::Wait;
 use std::thread::{Threads, join_mut};
 
 /// Each seat's expert draws, answers and learns the replies, until it is done or a turn or an answer is refused. The experts wait for
-/// each other's turns, so a turn may use as many processors as there are experts.
+/// each other's turns, so a turn may use as many threads as there are experts.
 pub fn run_panel<X: Expert + Send, R: Threads + Wait + Sync>(
     rt: &R,
     alloc: Global,
@@ -26,16 +26,16 @@ pub fn run_panel<X: Expert + Send, R: Threads + Wait + Sync>(
     requires { All (IsSeatOf X.width gate.now) seats.old }
     ensures { EachSeat (HasRun X.width X.memory X.answers X.learns gate.now.base) seats.old seats.new }
 {
-    let processors = seats.len().min(MAX_EXPERTS as usize) as u32;
-    run_seats(rt, &alloc, &processors, gate, seats)
+    let most_threads = seats.len().min(MAX_EXPERTS as usize) as u32;
+    run_seats(rt, &alloc, &most_threads, gate, seats)
 }
 
-/// Runs the seats in halves. The allocator and the number of processors are lent: if the threads held them, what they write would be
+/// Runs the seats in halves. The allocator and the number of threads are lent: if the threads held them, what they write would be
 /// lost.
 fn run_seats<X: Expert + Send, R: Threads + Wait + Sync>(
     rt: &R,
     alloc: &Global,
-    processors: &u32,
+    most_threads: &u32,
     gate: &Gate,
     seats: &mut [Seat<X>],
 )
@@ -46,7 +46,7 @@ fn run_seats<X: Expert + Send, R: Threads + Wait + Sync>(
         return;
     }
     if seats.len() == 1 {
-        run_seat(rt, *alloc, *processors, gate, &mut seats[0]);
+        run_seat(rt, *alloc, *most_threads, gate, &mut seats[0]);
         return;
     }
     let (front, back) = seats.split_at_mut(seats.len() / 2);
@@ -55,19 +55,19 @@ fn run_seats<X: Expert + Send, R: Threads + Wait + Sync>(
         &mut ||
             requires { IsSync R.row × All (IsSeatOf X.width gate.now) front.now }
             ensures { EachSeat (HasRun X.width X.memory X.answers X.learns gate.entry.now.base) front.entry.now front.exit.now }
-        { run_seats(rt, alloc, processors, gate, front) },
+        { run_seats(rt, alloc, most_threads, gate, front) },
         &mut ||
             requires { IsSync R.row × All (IsSeatOf X.width gate.now) back.now }
             ensures { EachSeat (HasRun X.width X.memory X.answers X.learns gate.entry.now.base) back.entry.now back.exit.now }
-        { run_seats(rt, alloc, processors, gate, back) },
+        { run_seats(rt, alloc, most_threads, gate, back) },
     );
 }
 
-/// Runs one seat. Its turns may use so many processors.
+/// Runs one seat. Its turns may use so many threads.
 fn run_seat<X: Expert + Send, R: Threads + Wait + Sync>(
     rt: &R,
     alloc: Global,
-    processors: u32,
+    most_threads: u32,
     gate: &Gate,
     seat: &mut Seat<X>,
 )
@@ -76,7 +76,7 @@ fn run_seat<X: Expert + Send, R: Threads + Wait + Sync>(
 {
     let search = SideBySide {
         rt,
-        most_threads: processors,
+        most_threads: most_threads,
     };
     let end = attend(rt, alloc, &search, gate, &mut seat.pass, &mut seat.expert);
     seat.ended = Some(end);

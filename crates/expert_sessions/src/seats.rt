@@ -28,13 +28,13 @@ pub struct SessionSeat<E> {
     pub(crate) ended: Ended,
 }
 
-/// The terms of all sessions: the table, the most lines of each session, and the most processors of a turn, which all other sessions
+/// The terms of all sessions: the table, the most lines of each session, and the most threads of a turn, which all other sessions
 /// wait for.
 #[derive(Drop)]
 pub(crate) struct Terms {
     pub(crate) table: Table,
     pub(crate) lines: u32,
-    pub(crate) processors: u32,
+    pub(crate) most_threads: u32,
     pub(crate) ghost some: { 1 ≤ lines },
     pub(crate) ghost few: { lines ≤ MAX_LINES },
 }
@@ -130,7 +130,7 @@ fn serve_one<R: Threads + Wait + Sync, E: Duplex>(
     let expert = pass.number();
     let search = SideBySide {
         rt,
-        most_threads: terms.processors,
+        most_threads: terms.most_threads,
     };
     let mut desk = Seated {
         rt,

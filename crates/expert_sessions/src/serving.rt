@@ -138,11 +138,11 @@ fn prepare<E: Drop>(
 {
     let room = make_room(alloc, usize::from(explore.experts()))?;
     let table = explore.table().copy()?;
-    let processors = u32::from(explore.experts());
+    let most_threads = u32::from(explore.experts());
     let terms = Terms {
         table,
         lines,
-        processors,
+        most_threads,
     };
     Ok((terms, room))
 }
