@@ -74,10 +74,7 @@ fn run_seat<X: Expert + Send, R: Threads + Wait + Sync>(
     requires { IsSeatOf X.width gate.now seat.old }
     ensures { HasRun X.width X.memory X.answers X.learns gate.now.base seat.old seat.new }
 {
-    let search = SideBySide {
-        rt,
-        most_threads: most_threads,
-    };
+    let search = SideBySide { rt, most_threads };
     let end = attend(rt, alloc, &search, gate, &mut seat.pass, &mut seat.expert);
     seat.ended = Some(end);
 }
