@@ -6,7 +6,7 @@ pub returns-in-Ok : goal.returns-in-Ok
 returns-in-Ok c =
     let parts = c.into_parts-objects in
     record {
-      names = c.in-Ok.ensures.names ∙ parts.ensures.attributes;
+      names = c.in-Ok.ensures ∙ parts.ensures.attributes;
       rows = parts.ensures.context;
       each_attribute = ap (λ (K : Context). K.width) parts.ensures.context ∙ sym parts.ensures.width
           ∙ sym c.rows-rows.ensures.table.each_attribute ∙ ap length parts.ensures.attributes;

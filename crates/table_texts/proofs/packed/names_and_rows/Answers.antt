@@ -8,7 +8,7 @@ pub returns-in-Ok : goal.returns-in-Ok
 returns-in-Ok c =
     let parts = c.into_parts-objects in
     record {
-      names = c.in-Ok.ensures.names ∙ ap₂ {C = Named} (λ (xs ys : List Text). record { attributes = xs; objects = ys })
+      names = c.in-Ok.ensures ∙ ap₂ {C = Named} (λ (xs ys : List Text). record { attributes = xs; objects = ys })
           parts.ensures.attributes parts.ensures.objects;
       rows = parts.ensures.context;
       each_attribute = ap length (sym parts.ensures.attributes) ∙ c.rows-rows.ensures.table.each_attribute ∙ parts.ensures.width;
