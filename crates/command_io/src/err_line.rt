@@ -8,7 +8,8 @@ ghost use Rattle.command_io.specs.ErrLines.{plain_line, placed_line, numbered_li
 ghost use Rattle.command_io.specs.Streams.{moment, GainsLine};
 
 use crate::stop::{Origin, Stop};
-use fca_io::{Put, READ_FAULT, Sink, TOO_LONG, write_text};
+use expert_wire::write_bytes;
+use fca_io::{Put, READ_FAULT, Sink, TOO_LONG};
 use fca_model::NO_MEMORY;
 use itoa::Buffer;
 use text_pieces::faults::{Description, Place, UNKNOWN_ATTRIBUTE};
@@ -192,14 +193,7 @@ fn write_all_bytes<E: Sink>(err: &mut E, parts: &[&[u8]]) -> Result<(), Put>
     ensures { WritesTo E.held E.faults E.beside E.asked_beside err.old err.new (flat_map (λ part. part.now) parts.now) result }
 {
     for part in parts {
-        write_part(err, part)?;
+        write_bytes(err, part)?;
     }
     Ok(())
-}
-
-/// Appends the part to a stream. After an `Err`, the stream holds a front of it.
-pub(crate) fn write_part<E: Sink>(err: &mut E, part: &[u8]) -> Result<(), Put>
-    ensures { WritesTo E.held E.faults E.beside E.asked_beside err.old err.new part.now result }
-{
-    write_text(err, part)
 }

@@ -4,7 +4,7 @@ ghost use Rattle.std.specs.Prelude.{◌≡◌};
 ghost use Rattle.std.specs.List.{flat_map};
 ghost use Rattle.expert_wire.specs.Parts.{WritesTo};
 
-use crate::err_line::write_part;
+use expert_wire::write_bytes;
 use fca_io::{Put, Sink};
 use packed_concepts::ConceptsText;
 use std::marker::Model;
@@ -66,7 +66,7 @@ impl Text {
         ensures { WritesTo K.held K.faults K.beside K.asked_beside out.old out.new self result }
     {
         match self.layout {
-            Layout::OneList(bytes) => write_part(out, &bytes),
+            Layout::OneList(bytes) => write_bytes(out, &bytes),
             Layout::Pieces(pieces) => write_pieces(out, &pieces),
             Layout::Packed(text) => text.write(rt, out),
         }
@@ -78,7 +78,7 @@ fn write_pieces<K: Sink>(out: &mut K, pieces: &[Vec<u8>]) -> Result<(), Put>
     ensures { WritesTo K.held K.faults K.beside K.asked_beside out.old out.new (flat_map (λ piece. piece.items) pieces.now) result }
 {
     for piece in pieces {
-        write_part(out, piece)?;
+        write_bytes(out, piece)?;
     }
     Ok(())
 }

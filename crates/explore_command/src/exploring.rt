@@ -35,17 +35,17 @@ pub fn explore<R: Threads + Wait + Sync, H: Shelf>(
     file: &Word,
     known: Option<&Word>,
     wants_names: bool,
-    experts: &[Word],
+    files: &[Word],
 ) -> Result<Output, Stop>
-    requires { is_expert (length experts.now) ≡ true }
-    ensures output { IfOk result (MayExplore (explore_read file.now (option_copied known.entry) wants_names experts.now (H.tells shelf.old))) }
-    ensures refused { IfErr result (λ stop. IsRefusal stop → MayRefuse (explore_read file.now (option_copied known.entry) wants_names experts.now (H.tells shelf.old))) }
-    ensures cause { IfErr result (IsExploreStop file.now (option_copied known.entry) experts.now (H.tells shelf.old)
+    requires { is_expert (length files.now) ≡ true }
+    ensures output { IfOk result (MayExplore (explore_read file.now (option_copied known.entry) wants_names files.now (H.tells shelf.old))) }
+    ensures refused { IfErr result (λ stop. IsRefusal stop → MayRefuse (explore_read file.now (option_copied known.entry) wants_names files.now (H.tells shelf.old))) }
+    ensures cause { IfErr result (IsExploreStop file.now (option_copied known.entry) files.now (H.tells shelf.old)
         (Rises (H.faults shelf.old) (H.faults shelf.new))) }
     ensures quiet { UnlessFault result (SameCounts (H.faults shelf.old) (H.faults shelf.new)) }
-    ensures few { RoseAtMost (H.fetches shelf.old) (H.fetches shelf.new) (length (file.now ∷ option_to_list (option_copied known.entry) ++ experts.now)) }
+    ensures few { RoseAtMost (H.fetches shelf.old) (H.fetches shelf.new) (length (file.now ∷ option_to_list (option_copied known.entry) ++ files.now)) }
 {
-    let start = load_explore_start(alloc, shelf, file, known, wants_names, experts)?;
+    let start = load_explore_start(alloc, shelf, file, known, wants_names, files)?;
     Ok(explore_output(rt, alloc, start)?)
 }
 

@@ -55,21 +55,21 @@ pub fn load_explore_start<H: Shelf>(
     file: &Word,
     known: Option<&Word>,
     wants_names: bool,
-    experts: &[Word],
+    files: &[Word],
 ) -> Result<ExploreStart, Stop>
-    requires { is_expert (length experts.now) ≡ true }
-    ensures start { IfOk result (λ start. MayRead (explore_read file.now (option_copied known.entry) wants_names experts.now (H.tells shelf.old)) start) }
-    ensures count { IfOk result (λ start. length start.experts ≡ length experts.now) }
+    requires { is_expert (length files.now) ≡ true }
+    ensures start { IfOk result (λ start. MayRead (explore_read file.now (option_copied known.entry) wants_names files.now (H.tells shelf.old)) start) }
+    ensures count { IfOk result (λ start. length start.experts ≡ length files.now) }
     ensures wide { IfOk result (λ start. All (λ expert. expert.context.width ≡ start.table.context.width) start.experts) }
-    ensures refused { IfErr result (λ stop. IsRefusal stop → MayRefuse (explore_read file.now (option_copied known.entry) wants_names experts.now (H.tells shelf.old))) }
-    ensures cause { IfErr result (IsExploreStop file.now (option_copied known.entry) experts.now (H.tells shelf.old)
+    ensures refused { IfErr result (λ stop. IsRefusal stop → MayRefuse (explore_read file.now (option_copied known.entry) wants_names files.now (H.tells shelf.old))) }
+    ensures cause { IfErr result (IsExploreStop file.now (option_copied known.entry) files.now (H.tells shelf.old)
         (Rises (H.faults shelf.old) (H.faults shelf.new))) }
     ensures quiet { UnlessFault result (SameCounts (H.faults shelf.old) (H.faults shelf.new)) }
-    ensures few { RoseAtMost (H.fetches shelf.old) (H.fetches shelf.new) (length (file.now ∷ option_to_list (option_copied known.entry) ++ experts.now)) }
+    ensures few { RoseAtMost (H.fetches shelf.old) (H.fetches shelf.new) (length (file.now ∷ option_to_list (option_copied known.entry) ++ files.now)) }
 {
-    let names = names_by_files(alloc, wants_names, experts)?;
+    let names = names_by_files(alloc, wants_names, files)?;
     let start = load_start(alloc, shelf, file, known)?;
-    let tables = load_experts(alloc, shelf, &start.table, experts)?;
+    let tables = load_experts(alloc, shelf, &start.table, files)?;
     Ok(explore_start_of(start, names, tables))
 }
 

@@ -82,9 +82,9 @@ fn accepted_count<R: Threads + Wait + Sync>(
     requires table { table.now ≡ recipe_table recipe.now }
     ensures { IfOk result (λ count. count ≡ length (basis table.now.context)) }
 {
-    let oracles = copies(alloc, table, experts)?;
+    let tables = copies(alloc, table, experts)?;
     let explore = open_bare(alloc, recipe, experts)?;
-    let explored = explore_with_oracles(rt, alloc, explore, oracles, MAX_TURNS)?;
+    let explored = explore_with_oracles(rt, alloc, explore, tables, MAX_TURNS)?;
     let accepted = explored.explore.accepted().len();
     drop(explored);
     Ok(accepted)

@@ -22,9 +22,9 @@ returns-in_err-tables-clause-refused g c =
     let known = option_copied c.args.known in
     let tells = g.H.Shelf.tells c.args.shelf.now in
     err-passed c.from_residual-in_err-tables.result c.in_err-tables.field-0.0
-    (λ (s : Stop). (IsRefusal s → MayRefuse (explore_read c.args.file.now known c.args.wants_names c.args.experts.now tells)))
+    (λ (s : Stop). (IsRefusal s → MayRefuse (explore_read c.args.file.now known c.args.wants_names c.args.files.now tells)))
     c.from_residual-in_err-tables.ensures.1
-    (λ refusal. refused-explore c.args.file.now known c.args.wants_names c.args.experts.now tells (g.H.Shelf.tells c.load_start.new.shelf)
+    (λ refusal. refused-explore c.args.file.now known c.args.wants_names c.args.files.now tells (g.H.Shelf.tells c.load_start.new.shelf)
     (start_of c.in_ok-start.start)
     c.in_ok-start.ensures.start c.in_ok-start.ensures.kept (c.in_err-tables.ensures.refused refusal))
 
@@ -39,11 +39,11 @@ returns-in_err-tables-clause-cause g c =
     let start = start_of c.in_ok-start.start in
     let stop = c.in_err-tables.field-0.0 in
     err-passed c.from_residual-in_err-tables.result stop
-    (IsExploreStop c.args.file.now known c.args.experts.now tells (Rises counts after)) c.from_residual-in_err-tables.ensures.1
+    (IsExploreStop c.args.file.now known c.args.files.now tells (Rises counts after)) c.from_residual-in_err-tables.ensures.1
     (inr (
       start,
       c.in_ok-start.ensures.start,
-      IsExpertsStop-same start.table 0 c.args.experts.now tells now (Rises between after)
+      IsExpertsStop-same start.table 0 c.args.files.now tells now (Rises between after)
           (Rises counts after) stop c.in_ok-start.ensures.kept
           (λ other. Rises-before counts between after other c.in_ok-start.ensures.later) c.in_err-tables.ensures.cause,
     ))
@@ -53,7 +53,7 @@ explore_start_of-requires-clause-may g c =
     let table = c.in_ok-start.start.table in
     let S = c.in_ok-start.start.known.members in
     let May : List (ℕ × RowName) → Type 0 = λ l. MayOpen table (record { known = S; holders = MAX_EXPERTS; expert_names = l }) in
-    subst May (sym c.in_ok-names.ensures) (may_open table S c.args.wants_names c.args.experts.now c.requires c.in_ok-start.ensures.even
+    subst May (sym c.in_ok-names.ensures) (may_open table S c.args.wants_names c.args.files.now c.requires c.in_ok-start.ensures.even
     c.in_ok-start.ensures.respected)
 
 pub returns-clause-start : goal.returns-clause-start
@@ -66,9 +66,9 @@ returns-clause-start g c =
       experts = c.in_ok-tables.tables.items;
     } in
     let Read : ExploreStart → Type 0 = MayRead (explore_read c.args.file.now (option_copied c.args.known) c.args.wants_names
-    c.args.experts.now (g.H.Shelf.tells c.args.shelf.now)) in
+    c.args.files.now (g.H.Shelf.tells c.args.shelf.now)) in
     subst Read (sym (c.explore_start_of.ensures ∙ ap made c.in_ok-names.ensures))
-    (explore-read c.args.file.now (option_copied c.args.known) c.args.wants_names c.args.experts.now (g.H.Shelf.tells c.args.shelf.now)
+    (explore-read c.args.file.now (option_copied c.args.known) c.args.wants_names c.args.files.now (g.H.Shelf.tells c.args.shelf.now)
     (g.H.Shelf.tells c.load_start.new.shelf) (start_of c.in_ok-start.start)
     c.in_ok-tables.tables.items c.in_ok-start.ensures.start c.in_ok-start.ensures.kept c.in_ok-tables.ensures.tables)
 
@@ -102,29 +102,29 @@ returns-clause-quiet g c =
 pub returns-in_err-names-clause-few : goal.returns-in_err-names-clause-few
 returns-in_err-names-clause-few g c =
     fetched_none (g.H.Shelf.fetches c.args.shelf.now)
-    (length (c.args.file.now ∷ option_to_list (option_copied c.args.known) ++ c.args.experts.now))
+    (length (c.args.file.now ∷ option_to_list (option_copied c.args.known) ++ c.args.files.now))
 
 pub returns-in_err-start-clause-few : goal.returns-in_err-start-clause-few
 returns-in_err-start-clause-few g c =
     let files : List Text = c.args.file.now ∷ option_to_list (option_copied c.args.known) in
-    let all = length-append files c.args.experts.now in
+    let all = length-append files c.args.files.now in
     fetched_within (g.H.Shelf.fetches c.args.shelf.now) (g.H.Shelf.fetches c.load_start.new.shelf) (length files)
-    (length (files ++ c.args.experts.now)) (omega (arith, all)) c.in_err-start.ensures.few
+    (length (files ++ c.args.files.now)) (omega (arith, all)) c.in_err-start.ensures.few
 
 pub returns-in_err-tables-clause-few : goal.returns-in_err-tables-clause-few
 returns-in_err-tables-clause-few g c =
     let files : List Text = c.args.file.now ∷ option_to_list (option_copied c.args.known) in
     subst (RoseAtMost (g.H.Shelf.fetches c.args.shelf.now) (g.H.Shelf.fetches c.load_experts.new.shelf))
-    (sym (length-append files c.args.experts.now))
+    (sym (length-append files c.args.files.now))
     (fetched_then (g.H.Shelf.fetches c.args.shelf.now) (g.H.Shelf.fetches c.load_start.new.shelf)
-    (g.H.Shelf.fetches c.load_experts.new.shelf) (length files) (length c.args.experts.now) c.in_ok-start.ensures.few
+    (g.H.Shelf.fetches c.load_experts.new.shelf) (length files) (length c.args.files.now) c.in_ok-start.ensures.few
     c.in_err-tables.ensures.few)
 
 pub returns-clause-few : goal.returns-clause-few
 returns-clause-few g c =
     let files : List Text = c.args.file.now ∷ option_to_list (option_copied c.args.known) in
     subst (RoseAtMost (g.H.Shelf.fetches c.args.shelf.now) (g.H.Shelf.fetches c.load_experts.new.shelf))
-    (sym (length-append files c.args.experts.now))
+    (sym (length-append files c.args.files.now))
     (fetched_then (g.H.Shelf.fetches c.args.shelf.now) (g.H.Shelf.fetches c.load_start.new.shelf)
-    (g.H.Shelf.fetches c.load_experts.new.shelf) (length files) (length c.args.experts.now) c.in_ok-start.ensures.few
+    (g.H.Shelf.fetches c.load_experts.new.shelf) (length files) (length c.args.files.now) c.in_ok-start.ensures.few
     c.in_ok-tables.ensures.few)

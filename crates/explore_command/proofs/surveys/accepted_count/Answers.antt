@@ -21,7 +21,7 @@ explore_with_oracles-requires-clause-width g c κs within =
     ap width c.requires.table ∙ recipe_width r ∙ sym (recipe_width none)
     ∙ sym (ap (λ (o : Opening). width o.table) c.in_ok-explore.ensures.opening) in
     All-weaker (λ (D : NamedContext). D ≡ c.args.table.now) (λ (D : NamedContext). width D ≡ n)
-    (λ D same. ap width same ∙ wide) _ c.in_ok-oracles.ensures.same
+    (λ D same. ap width same ∙ wide) _ c.in_ok-tables.ensures.same
 
 pub returns : goal.returns
 returns g c =
@@ -33,9 +33,9 @@ returns g c =
     let small : c.in_ok-explore.explore.opening.table.context.width ≤ MAX_SURVEYED =
     (let wide = ap (λ (t : NamedContext). t.context.width) bare ∙ recipe_width _ in let few = c.requires.recipe.attributes in
     omega arith) in
-    let same : All (λ (D : NamedContext). HasIntentsOf C D.context) c.in_ok-oracles.oracles.items =
+    let same : All (λ (D : NamedContext). HasIntentsOf C D.context) c.in_ok-tables.tables.items =
     All-weaker (λ (D : NamedContext). D ≡ table) (λ (D : NamedContext). HasIntentsOf C D.context)
-    (λ D e. intents-itself C D.context (ap (λ (t : NamedContext). t.context) e)) _ c.in_ok-oracles.ensures.same in
+    (λ D e. intents-itself C D.context (ap (λ (t : NamedContext). t.context) e)) _ c.in_ok-tables.ensures.same in
     let part : are_intents C c.in_ok-explore.explore.opening.table.context.rows ≡ true =
     ap (λ (t : NamedContext). are_intents C t.context.rows) bare ∙ are_intents-none _ _ _ C in
     length-agreed C c.in_ok-explored.explored.explore c.accepted-accepted.result.now c.in_ok-explored.explored.oracles.items
