@@ -65,7 +65,7 @@ fn narrow_csv_table(alloc: Global, bytes: &[u8], origin: Origin) -> Result<Narro
     ensures cause { (name : List ℕ) → is_csv name ≡ true → IfErr result (IsFormStop name origin bytes.now) }
 {
     let table = csv_table(alloc, bytes, origin)?;
-    match NarrowTable::of(alloc, &table) {
+    match NarrowTable::of(alloc, table) {
         Ok(narrow) => Ok(narrow),
         Err(_) => Err(Stop::Memory),
     }

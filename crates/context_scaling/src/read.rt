@@ -17,7 +17,7 @@ use crate::PlanFault;
 use crate::plan::{Plan, PlanRecord};
 use crate::scales::{Kind, Relation, ScaleValue};
 use csv::{ByteRecord, Reader};
-use csv_context::{field_at, next_record, open, text_of};
+use csv_context::{field_at, next_record, open};
 use fca_model::{MAX_ATTRIBUTES, Memory, Name, NameFault};
 use indexmap::IndexSet;
 use itoa::Buffer;

@@ -5,7 +5,7 @@ ghost use Rattle.context_table.specs.Table.{first_repeat, untitled_context};
 ghost use Rattle.context_table.specs.Narrow.{context_in};
 
 use crate::rows::{NarrowRows, narrow_rows};
-use crate::{Table, TableFault, copy_names};
+use crate::{Table, TableFault};
 use derivation::Rows;
 use fca_model::{MAX_ATTRIBUTES, MAX_OBJECTS, Memory, Name};
 use std::alloc::Global;
@@ -16,7 +16,7 @@ use std::marker::Model;
 pub struct NarrowTable {
     objects: Vec<Name>,
     /// A table of no objects, which has the names of the attributes.
-    attributes: Table,
+    header: Table,
     rows: NarrowRows,
 }
 
@@ -28,15 +28,15 @@ impl Model for NarrowTable {
 
     ghost Value = { NamedContext };
 
-    ghost view = { λ t. record { title = None; objects = t.objects.items; attributes = t.attributes.attributes; context = context_in t.rows } };
+    ghost view = { λ t. record { title = None; objects = t.objects.items; attributes = t.header.attributes; context = context_in t.rows } };
 
     ghost invariant = { λ t. record {
       each_object : vec_len t.objects ≡ length (context_in t.rows).rows;
       few_objects : vec_len t.objects ≤ MAX_OBJECTS;
-      width : t.attributes.context.width ≡ (context_in t.rows).width;
-      untitled : t.attributes.title ≡ None;
-      no_objects : t.attributes.objects ≡ [];
-      no_rows : t.attributes.context.rows ≡ [];
+      width : t.header.context.width ≡ (context_in t.rows).width;
+      untitled : t.header.title ≡ None;
+      no_objects : t.header.objects ≡ [];
+      no_rows : t.header.context.rows ≡ [];
     } };
 }
 
@@ -59,27 +59,32 @@ impl NarrowTable {
     {
         let none = Rows::new(alloc, attributes.len() as u32)?;
         match Table::new(alloc, None, Vec::new(alloc), attributes, none) {
-            Ok(attributes) => Ok(NarrowTable {
+            Ok(header) => Ok(NarrowTable {
                 objects,
-                attributes,
+                header,
                 rows,
             }),
             Err(fault) => Err(fault),
         }
     }
 
-    /// A copy of the table without its title.
-    pub fn of(alloc: Global, table: &Table) -> Result<NarrowTable, Memory>
-        ensures { IfOk result (λ narrow. narrow ≡ untitled_context table.now) }
+    /// The table without its title.
+    pub fn of(alloc: Global, table: Table) -> Result<NarrowTable, Memory>
+        ensures { IfOk result (λ narrow. narrow ≡ untitled_context table) }
     {
         let rows = narrow_rows(alloc, table.rows())?;
-        let objects = copy_names(alloc, table.objects())?;
-        let attributes = copy_names(alloc, table.attributes())?;
-        match NarrowTable::new(alloc, objects, attributes, rows) {
-            Ok(narrow) => Ok(narrow),
-            // (the names are a table's, so no other fault can come)
-            Err(_) => Err(Memory),
-        }
+        let none = Rows::new(alloc, table.rows().width())?;
+        let header = Table {
+            title: None,
+            objects: Vec::new(alloc),
+            attributes: table.attributes,
+            rows: none,
+        };
+        Ok(NarrowTable {
+            objects: table.objects,
+            header,
+            rows,
+        })
     }
 
     /// The names of the objects, a table of no objects that has the names of the attributes, and the rows.
@@ -94,6 +99,6 @@ impl NarrowTable {
         ensures no_objects { result.1.objects ≡ [] }
         ensures no_rows { result.1.context.rows ≡ [] }
     {
-        (self.objects, self.attributes, self.rows)
+        (self.objects, self.header, self.rows)
     }
 }

@@ -14,7 +14,7 @@ fn concepts_are_found_side_by_side(rt: HostRuntime) -> Result<(), Memory> {
     let table = Table::make(rt.alloc(), 1, 150, 30, 3)?;
     let concepts = all_concepts(rt.alloc(), table.rows())?;
     let plain = concepts_text(rt.alloc(), &table, &concepts)?;
-    let narrow = NarrowTable::of(rt.alloc(), &table)?;
+    let narrow = NarrowTable::of(rt.alloc(), table)?;
     let text = narrow_concepts_text(&rt, rt.alloc(), narrow)?.into_bytes()?;
     assert!(&rt; text.as_slice() == plain.as_slice());
     Ok(())
@@ -26,7 +26,7 @@ fn the_basis_of_a_table_is_written(rt: HostRuntime) -> Result<(), Memory> {
     let table = Table::make(rt.alloc(), 1, 20, 10, 4)?;
     let list = basis(&rt, rt.alloc(), table.rows())?;
     let plain = basis_text(rt.alloc(), &table, &list)?;
-    let text = narrow_basis_text(rt.alloc(), NarrowTable::of(rt.alloc(), &table)?)?;
+    let text = narrow_basis_text(rt.alloc(), NarrowTable::of(rt.alloc(), table)?)?;
     assert!(&rt; text.as_slice() == plain.as_slice());
     Ok(())
 }

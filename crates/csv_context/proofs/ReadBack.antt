@@ -26,9 +26,9 @@ use Rattle.csv.specs.declared.parser.State.TheVariants as st
 use lib.Utf8.{encode}
 use Rattle.csv_context.specs.Records.{Record, csv_records}
 use Rattle.csv_context.specs.Form.{attributes_form, row_form, objects_form, table_form, csv_form}
-use Rattle.csv_context.specs.Written.{cell_text, header_record, object_record, object_records, table_records, text_of, csv_text}
+use Rattle.csv_context.specs.Written.{cell_text, header_record, object_record, object_records, table_records, records_text, csv_text}
 use Rattle.csv_context.specs.declared.CsvFault.{CsvFault}
-use Rattle.csv_context.proofs.WrittenTexts.{EachText, IsUtf8-text_of}
+use Rattle.csv_context.proofs.WrittenTexts.{EachText, IsUtf8-records_text}
 
 -- ---- the records of the text
 
@@ -38,26 +38,26 @@ EachFilled [] = Unit {0}
 EachFilled ([] ∷ records) = ⊥
 EachFilled ((field ∷ fields) ∷ records) = EachFilled records
 
-records_from-text_of : (n : ℕ) (records : List Record) → length records ≤ n → EachFilled records
-    → records_from default_config n st.StartRecord (text_of records) ≡ records
+records_from-records_text : (n : ℕ) (records : List Record) → length records ≤ n → EachFilled records
+    → records_from default_config n st.StartRecord (records_text records) ≡ records
 unfolding records_from next_record
-records_from-text_of zero [] few filled = refl
-records_from-text_of zero (fields ∷ records) few filled = absurd (omega arith)
-records_from-text_of (suc n) [] few filled = refl
-records_from-text_of (suc n) ([] ∷ records) few filled = absurd filled
-records_from-text_of (suc n) ((field ∷ fields) ∷ records) few filled =
+records_from-records_text zero [] few filled = refl
+records_from-records_text zero (fields ∷ records) few filled = absurd (omega arith)
+records_from-records_text (suc n) [] few filled = refl
+records_from-records_text (suc n) ([] ∷ records) few filled = absurd filled
+records_from-records_text (suc n) ((field ∷ fields) ∷ records) few filled =
     let less : length records ≤ n = omega arith in
-    rw (read-write (field ∷ fields) (text_of records)) (ap (λ rest. (field ∷ fields) ∷ rest) (records_from-text_of n records less filled))
+    rw (read-write (field ∷ fields) (records_text records)) (ap (λ rest. (field ∷ fields) ∷ rest) (records_from-records_text n records less filled))
 
 row_text-some : (fields : Record) → 0 < length (row_text default_writer fields)
 row_text-some fields = simp length-append (omega arith)
 
-text_of-long : (records : List Record) → length records ≤ length (text_of records)
-text_of-long [] = omega arith
-text_of-long (fields ∷ records) =
+records_text-long : (records : List Record) → length records ≤ length (records_text records)
+records_text-long [] = omega arith
+records_text-long (fields ∷ records) =
     let more = row_text-some fields in
-    let rest = text_of-long records in
-    rw (length-append (row_text default_writer fields) (text_of records)) (omega arith)
+    let rest = records_text-long records in
+    rw (length-append (row_text default_writer fields) (records_text records)) (omega arith)
 
 EachFilled-objects : (names : List Text) (rows : List Set) → EachFilled (object_records names rows)
 EachFilled-objects [] rows = tt
@@ -68,13 +68,13 @@ strip_bom-text : (t : NamedContext) → strip_bom (csv_text t) ≡ csv_text t
 unfolding strip_bom
 strip_bom-text t = refl
 
-pub csv_records-text_of : (all : List Record) → EachFilled all → strip_bom (text_of all) ≡ text_of all → csv_records (text_of all) ≡ all
-csv_records-text_of all filled unmarked =
-    let long = text_of-long all in
-    ap (records default_config) unmarked ∙ records_from-text_of (length (text_of all) + 1) all (omega arith) filled
+pub csv_records-records_text : (all : List Record) → EachFilled all → strip_bom (records_text all) ≡ records_text all → csv_records (records_text all) ≡ all
+csv_records-records_text all filled unmarked =
+    let long = records_text-long all in
+    ap (records default_config) unmarked ∙ records_from-records_text (length (records_text all) + 1) all (omega arith) filled
 
 csv_records-csv_text : (t : NamedContext) → csv_records (csv_text t) ≡ table_records t
-csv_records-csv_text t = csv_records-text_of (table_records t) (EachFilled-objects t.objects t.context.rows) (strip_bom-text t)
+csv_records-csv_text t = csv_records-records_text (table_records t) (EachFilled-objects t.objects t.context.rows) (strip_bom-text t)
 
 -- ---- the texts
 
@@ -165,5 +165,5 @@ csv_form-csv_text t table objects attributes =
     let header : AllText (header_record t) = (object-text, AllText-names t.attributes attributes) in
     let texts : EachText (table_records t) = (header, EachText-objects t.objects t.context.rows objects) in
     let whole : utf8_valid_len (csv_text t) == length (csv_text t) ≡ true =
-    eq-eqb _ _ (utf8_valid_len-IsUtf8 (csv_text t) (IsUtf8-text_of (table_records t) texts)) in
+    eq-eqb _ _ (utf8_valid_len-IsUtf8 (csv_text t) (IsUtf8-records_text (table_records t) texts)) in
     rw whole (ap table_form (csv_records-csv_text t) ∙ table-back t table objects attributes)

@@ -11,7 +11,7 @@ use Rattle.text_pieces.specs.Lists.{EachName}
 use Rattle.text_pieces.proofs.ItemLemmas.{drop-item, written-all}
 use Rattle.csv.specs.Writing.{default_writer, escaped, field_text, fields_text, is_blank, needs_byte, needs_quotes, row_text}
 use Rattle.csv_context.specs.Records.{Record}
-use Rattle.csv_context.specs.Written.{cell_text, cells_text, object_record, object_records, text_of}
+use Rattle.csv_context.specs.Written.{cell_text, cells_text, object_record, object_records, records_text}
 
 pub EachName-more : (names : List Text) (i : ℕ) (name : Text) → Some name ≡ slice_get names i → IsName name
     → (EachName (drop i names) → EachName names)
@@ -21,12 +21,12 @@ EachName-more names i name at is so_far rest = so_far (rw (drop-item names i nam
 -- one object more
 pub objects-more : (names : List Text) (rows : List Set) (i : ℕ) (name : Text) (row : Set) (text more all : List ℕ)
     → Some name ≡ slice_get names i → slice_get rows i ≡ Some row → more ≡ text ++ row_text default_writer (object_record name row)
-    → text ++ text_of (object_records (drop i names) (drop i rows)) ≡ all
-    → more ++ text_of (object_records (drop (i + 1) names) (drop (i + 1) rows)) ≡ all
+    → text ++ records_text (object_records (drop i names) (drop i rows)) ≡ all
+    → more ++ records_text (object_records (drop (i + 1) names) (drop (i + 1) rows)) ≡ all
 objects-more names rows i name row text more all named wide is so_far =
     let left = rw (drop-item names i name (sym named), drop-item rows i row wide) at so_far in
     rw is (append_assoc text (row_text default_writer (object_record name row))
-    (text_of (object_records (drop (i + 1) names) (drop (i + 1) rows))) ∙ left)
+    (records_text (object_records (drop (i + 1) names) (drop (i + 1) rows))) ∙ left)
 
 -- ---- cells
 

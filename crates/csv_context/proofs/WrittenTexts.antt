@@ -8,7 +8,7 @@ use Rattle.csv.specs.Records.{AllText}
 use Rattle.csv.specs.Writing.{default_writer, escaped, field_text, fields_text, is_blank, needs_quotes, quoted, row_body, row_text}
 use Rattle.text_pieces.proofs.TextLemmas.{IsUtf8-cons, IsUtf8-one}
 use Rattle.csv_context.specs.Records.{Record}
-use Rattle.csv_context.specs.Written.{text_of}
+use Rattle.csv_context.specs.Written.{records_text}
 use Rattle.csv_context.proofs.Texts.{High, encode-high, not-mark}
 use lib.Utf8.{encode, encodes, scalar, scalars}
 use mathlib.Core.Logic.{dite}
@@ -78,7 +78,7 @@ abbrev pub EachText : List Record → Type 0
 EachText [] = Unit {0}
 EachText (fields ∷ records) = AllText fields × EachText records
 
-pub IsUtf8-text_of : (records : List Record) → EachText records → IsUtf8 (text_of records)
-IsUtf8-text_of [] text = IsUtf8-nil
-IsUtf8-text_of (fields ∷ records) text =
-    IsUtf8-append (row_text default_writer fields) (text_of records) (row_text-text fields text.0) (IsUtf8-text_of records text.1)
+pub IsUtf8-records_text : (records : List Record) → EachText records → IsUtf8 (records_text records)
+IsUtf8-records_text [] text = IsUtf8-nil
+IsUtf8-records_text (fields ∷ records) text =
+    IsUtf8-append (row_text default_writer fields) (records_text records) (row_text-text fields text.0) (IsUtf8-records_text records text.1)

@@ -32,10 +32,10 @@ abbrev pub table_records : NamedContext → List Record
 table_records t = header_record t ∷ object_records t.objects t.context.rows
 
 -- the bytes of records: a field has quotes if it needs them, and a line feed ends each record
-abbrev pub text_of : List Record → List ℕ
-text_of [] = []
-text_of (fields ∷ records) = row_text default_writer fields ++ text_of records
+abbrev pub records_text : List Record → List ℕ
+records_text [] = []
+records_text (fields ∷ records) = row_text default_writer fields ++ records_text records
 
 -- the bytes of the file
 abbrev pub csv_text : NamedContext → List ℕ
-csv_text t = text_of (table_records t)
+csv_text t = records_text (table_records t)

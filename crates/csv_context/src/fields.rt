@@ -29,7 +29,7 @@ pub fn field_at(fields: &ByteRecord, place: usize) -> &[u8]
 }
 
 /// The field as text.
-pub fn text_of(field: &[u8]) -> &str
+pub fn as_text(field: &[u8]) -> &str
     requires { IsUtf8 field.now }
     ensures { result.now ≡ field.now }
 {
@@ -44,7 +44,7 @@ pub fn name_of(alloc: Global, i: usize, j: usize, field: &[u8]) -> Result<Name, 
     requires { IsUtf8 field.now }
     ensures { Tells CsvFault.Memory result (form.name_form i j field.now) }
 {
-    match Name::new(alloc, text_of(field)) {
+    match Name::new(alloc, as_text(field)) {
         Ok(name) => Ok(name),
         Err(NameFault::Empty) => Err(CsvFault::EmptyName(i, j)),
         Err(NameFault::Long) => Err(CsvFault::LongName(i, j)),

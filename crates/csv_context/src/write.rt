@@ -7,7 +7,7 @@ ghost use Rattle.text_pieces.specs.Lists.{EachName};
 ghost use Rattle.csv.specs.Writing as csv;
 ghost use Rattle.csv.specs.Writing.{default_writer, row_text};
 ghost use Rattle.csv_context.specs.Form.{csv_form};
-ghost use Rattle.csv_context.specs.Written.{cells_text, csv_text, header_record, object_record, object_records, text_of};
+ghost use Rattle.csv_context.specs.Written.{cells_text, csv_text, header_record, object_record, object_records, records_text};
 
 use attr_bits::Attrs;
 use context_table::Table;
@@ -43,7 +43,7 @@ fn write_header(text: &mut Vec<u8>, table: &Table) -> Result<(), Memory>
 }
 
 fn write_objects(text: &mut Vec<u8>, table: &Table) -> Result<(), Memory>
-    ensures written { OnOk result (text.new.items ≡ text.old.items ++ text_of (object_records table.now.objects table.now.context.rows)) }
+    ensures written { OnOk result (text.new.items ≡ text.old.items ++ records_text (object_records table.now.objects table.now.context.rows)) }
     ensures named { OnOk result (EachName table.now.objects) }
     ensures table { OnOk result (IsTable table.now) }
 {

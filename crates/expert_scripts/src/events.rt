@@ -5,7 +5,7 @@ ghost use Rattle.fca_model.specs.declared.TheConstants.{MAX_ATTRIBUTES};
 ghost use Rattle.expert_scripts.specs.Scripts.{event_of, event_of_words, expert_in, row_event};
 
 use crate::fault::ScriptFault;
-use expert_wire::{RequestFault, expert_of, read_row, text_of};
+use expert_wire::{RequestFault, small_number, read_row, utf8_text};
 use exploration_terms::Event;
 use std::alloc::Global;
 use text_pieces::{is_numeral, split_word};
@@ -21,7 +21,7 @@ pub(crate) fn read_event(
     ensures ok { IfOk result (λ event. event_of n number line.now ≡ Ok event) }
     ensures refused { IfErr result (λ e. (e ≡ ScriptFault.Memory) ⊎ (event_of n number line.now ≡ Err e)) }
 {
-    match text_of(line) {
+    match utf8_text(line) {
         Some(text) => {
             let (verb, words) = split_word(text);
             event_of_words(alloc, verb, words, n, number)
@@ -58,7 +58,7 @@ fn read_expert(word: &str, number: usize) -> Result<u8, ScriptFault>
     if !is_numeral(word.as_bytes()) {
         return Err(ScriptFault::BadLine(number));
     }
-    expert_of(word).ok_or(ScriptFault::BadExpert(number))
+    small_number(word).ok_or(ScriptFault::BadExpert(number))
 }
 
 /// The row after the word `row`.

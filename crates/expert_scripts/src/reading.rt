@@ -13,7 +13,7 @@ use crate::events::read_event;
 use crate::fault::ScriptFault;
 use crate::partial::PartialSettings;
 use crate::scripts::{Events, Script};
-use expert_wire::text_of;
+use expert_wire::utf8_text;
 use exploration_terms::Event;
 use fca_model::Memory;
 use std::alloc::Global;
@@ -192,7 +192,7 @@ fn take_setting_line(
     ensures refused { IfErr result (λ e. (e ≡ ScriptFault.Memory)
         ⊎ (setting_of n number (partial_of settings.old) line.now ≡ Some (Err e))) }
 {
-    match text_of(line) {
+    match utf8_text(line) {
         Some(text) => {
             let (verb, words) = split_word(text);
             settings.take(alloc, verb, words, n, number)

@@ -16,4 +16,4 @@ pub use lines::is_skipped;
 pub use parts::{Part, write_bytes};
 pub use replies::write_reply;
 pub use requests::{Request, RequestFault, read_request};
-pub use words::{expert_of, pattern_marks, read_row, text_of};
+pub use words::{small_number, pattern_marks, read_row, utf8_text};

@@ -4,7 +4,7 @@ ghost use Rattle.std.specs.Prelude.{◌≡◌, ◌≤◌, ◌⊎◌, Ok, Err, If
 ghost use Rattle.fca_model.specs.declared.TheConstants.{MAX_ATTRIBUTES};
 ghost use Rattle.expert_wire.specs.Requests.{TakesMemory, request_form, request_of};
 
-use crate::words::{read_row, text_of};
+use crate::words::{read_row, utf8_text};
 use attr_bits::Attrs;
 use fca_model::{NO_MEMORY, Name};
 use std::alloc::Global;
@@ -40,7 +40,7 @@ pub fn read_request(alloc: Global, line: &[u8], n: u32) -> Result<Request, Reque
     ensures refused { IfErr result (λ e. (e ≡ RequestFault.Memory) ⊎ (request_form line.now n ≡ Err e)) }
     ensures memory { IsErrOf result RequestFault.Memory → TakesMemory (request_form line.now n) }
 {
-    match text_of(without_return(line)) {
+    match utf8_text(without_return(line)) {
         Some(text) => request_of(alloc, text, n),
         None => Err(RequestFault::Line),
     }

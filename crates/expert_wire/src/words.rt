@@ -15,25 +15,25 @@ use std::alloc::Global;
 use text_pieces::{are_marks, set_of_marks, split_word, value_of};
 
 /// The text of the bytes, if they are UTF-8.
-pub fn text_of(bytes: &[u8]) -> Option<&str>
+pub fn utf8_text(bytes: &[u8]) -> Option<&str>
     ensures { MatchOption result (is_utf8 bytes.now ≡ false) (λ text. (text.now ≡ bytes.now) × (is_utf8 bytes.now ≡ true)) }
 {
     str::from_utf8(bytes).ok()
 }
 
 /// The number of an expert, if the digits write one.
-pub fn expert_of(digits: &str) -> Option<u8>
+pub fn small_number(digits: &str) -> Option<u8>
     requires { is_numeral digits.now ≡ true }
     ensures { result ≡ cond (is_expert (value_of digits.now)) (Some (value_of digits.now)) None }
 {
     match value_of(digits.as_bytes()) {
-        Some(number) => expert_from_number(number),
+        Some(number) => as_small(number),
         None => None,
     }
 }
 
 /// The number as that of an expert, if it is one.
-fn expert_from_number(number: u64) -> Option<u8>
+fn as_small(number: u64) -> Option<u8>
     ensures { result ≡ cond (is_expert number) (Some number) None }
 {
     if 1 <= number && number <= u64::from(MAX_EXPERTS) {

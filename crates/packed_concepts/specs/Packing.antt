@@ -20,5 +20,5 @@ pub record IsNamed (t : Named) (c : Set × List ℕ) : Type 0 where
   pub inside : All (λ p. p < length t.objects) c.1
 
 -- so many bytes hold the line of the concept, whatever its number
-pub record Holds (bytes : ℕ) (c : Set × List ℕ) : Type 0 where
+pub record HasRoomForLine (bytes : ℕ) (c : Set × List ℕ) : Type 0 where
   pub room : 30 + 273 * (length c.0 + length c.1) ≤ bytes

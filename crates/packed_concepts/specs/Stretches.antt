@@ -5,7 +5,7 @@ use denote.Ref.{Bor}
 use Rattle.fca_model.specs.Sets.{Set}
 use Rattle.fca_model.specs.Tables.{Text}
 use Rattle.packed_concepts.specs.Lines.{Named, lines_from}
-use Rattle.packed_concepts.specs.Packing.{IsNamed, Holds}
+use Rattle.packed_concepts.specs.Packing.{IsNamed, HasRoomForLine}
 
 -- concepts, and the place of the first among all
 pub record Placed : Type 0 where
@@ -34,8 +34,8 @@ pub record IsReady (t : Named) (s : Placed) : Type 0 where
   pub few : s.first + length s.concepts < 2 ^ 64
 
 -- so many bytes hold each of its lines
-abbrev pub IsHeld : ℕ → Placed → Type 0
-IsHeld bytes s = All (Holds bytes) s.concepts
+abbrev pub HasRoomForLines : ℕ → Placed → Type 0
+HasRoomForLines bytes s = All (HasRoomForLine bytes) s.concepts
 
 -- each stretch begins where the one before it ends, the first at place n
 pub record Follow (n : ℕ) (job : List Placed) : Type 0 where

@@ -2,7 +2,7 @@
 
 ghost use Rattle.std.specs.Prelude.{◌≡◌, ◌<◌, ◌≤◌, All, IfOk, length, slice_index_or};
 ghost use Rattle.expert_wire.specs.Parts.{WritesTo};
-ghost use Rattle.packed_concepts.specs.Stretches.{job_lines, all_lines, IsReady, IsHeld};
+ghost use Rattle.packed_concepts.specs.Stretches.{job_lines, all_lines, IsReady, HasRoomForLines};
 ghost use Rattle.packed_concepts.specs.Sheets.{IsLaid, EachLaid};
 
 use crate::names::Names;
@@ -42,7 +42,7 @@ pub(crate) fn write_jobs<R: Threads + Sync, K: Sink, const W: usize>(
     sheets: &mut [Sheet],
 ) -> Result<(), Put>
     requires ready { All (λ job. All (IsReady names.now) job.now) jobs.now }
-    requires held { All (λ job. All (IsHeld (length buffer.old)) job.now) jobs.now }
+    requires enough { All (λ job. All (HasRoomForLines (length buffer.old)) job.now) jobs.now }
     requires some { 0 < length sheets.old }
     ensures { WritesTo K.held K.faults K.beside K.asked_beside out.old out.new (all_lines names.now jobs.now) result }
 {
@@ -105,7 +105,7 @@ fn write_round<K: Sink, const W: usize>(
     sheets: &[Sheet],
 ) -> Result<(), Put>
     requires ready { All (λ job. All (IsReady names.now) job.now) jobs.now }
-    requires held { All (λ job. All (IsHeld (length buffer.old)) job.now) jobs.now }
+    requires enough { All (λ job. All (HasRoomForLines (length buffer.old)) job.now) jobs.now }
     requires even { length jobs.now ≤ length sheets.now }
     requires laid { EachLaid names.now jobs.now sheets.now }
     ensures written { WritesTo K.held K.faults K.beside K.asked_beside out.old out.new (all_lines names.now jobs.now) result }
@@ -126,7 +126,7 @@ fn write_job<K: Sink, const W: usize>(
     sheet: &Sheet,
 ) -> Result<(), Put>
     requires ready { All (IsReady names.now) job.now }
-    requires held { All (IsHeld (length buffer.old)) job.now }
+    requires enough { All (HasRoomForLines (length buffer.old)) job.now }
     requires laid { IsLaid names.now job.now sheet.now }
     ensures written { WritesTo K.held K.faults K.beside K.asked_beside out.old out.new (job_lines names.now job.now) result }
     ensures room { length buffer.new ≡ length buffer.old }
@@ -145,7 +145,7 @@ fn write_stretches<K: Sink, const W: usize>(
     job: &[Stretch<'_, W>],
 ) -> Result<(), Put>
     requires ready { All (IsReady names.now) job.now }
-    requires held { All (IsHeld (length buffer.old)) job.now }
+    requires enough { All (HasRoomForLines (length buffer.old)) job.now }
     ensures written { WritesTo K.held K.faults K.beside K.asked_beside out.old out.new (job_lines names.now job.now) result }
     ensures room { length buffer.new ≡ length buffer.old }
 {

@@ -4,9 +4,9 @@ ghost use Rattle.std.specs.Prelude.{◌≡◌, ◌<◌, ◌≤◌, ◌++◌, All
 ghost use Rattle.std.specs.List.{flat_map};
 ghost use Rattle.expert_wire.specs.Parts.{WritesTo};
 ghost use Rattle.packed_concepts.specs.Lines.{count_line_of, lines_text};
-ghost use Rattle.packed_concepts.specs.Packing.{IsNamed, Holds};
+ghost use Rattle.packed_concepts.specs.Packing.{IsNamed, HasRoomForLine};
 ghost use Rattle.packed_concepts.specs.Pages.{concepts_on};
-ghost use Rattle.packed_concepts.specs.Stretches.{all_lines, IsReady, IsHeld};
+ghost use Rattle.packed_concepts.specs.Stretches.{all_lines, IsReady, HasRoomForLines};
 
 use crate::gauge::SHARE;
 use crate::jobs::{MOST_WEIGHT, line_jobs, stretches_of};
@@ -46,7 +46,7 @@ pub struct ConceptsText {
 impl Model for ConceptsText {
     ghost use Rattle.std.specs.Prelude.{◌≡◌, ◌^◌, ◌<◌, ◌≤◌, All, List, ℕ, length};
     ghost use Rattle.packed_concepts.specs.Lines.{lines_text};
-    ghost use Rattle.packed_concepts.specs.Packing.{IsNamed, Holds};
+    ghost use Rattle.packed_concepts.specs.Packing.{IsNamed, HasRoomForLine};
     ghost use Rattle.packed_concepts.specs.Pages.{concepts_on};
 
     ghost Value = { List ℕ };
@@ -57,7 +57,7 @@ impl Model for ConceptsText {
       count : t.count ≡ length (concepts_on t.pages);
       few : t.count < 2 ^ 64;
       named : All (IsNamed t.names) (concepts_on t.pages);
-      holds : All (Holds (length t.buffer.items)) (concepts_on t.pages);
+      enough : All (HasRoomForLine (length t.buffer.items)) (concepts_on t.pages);
       room : 64 ≤ length t.buffer.items;
     } };
 }
@@ -140,7 +140,7 @@ fn write_all<R: Threads + Sync, K: Sink, const W: usize>(
 ) -> Result<(), Put>
     requires count { count ≡ length (flat_map (λ page. page) pages.now) }
     requires named { All (IsNamed names.now) (flat_map (λ page. page) pages.now) }
-    requires holds { All (Holds (length buffer.old.items)) (flat_map (λ page. page) pages.now) }
+    requires enough { All (HasRoomForLine (length buffer.old.items)) (flat_map (λ page. page) pages.now) }
     requires room { 64 ≤ length buffer.old.items }
     ensures { WritesTo K.held K.faults K.beside K.asked_beside out.old out.new (lines_text names.now (flat_map (λ page. page) pages.now)) result }
 {
@@ -162,7 +162,7 @@ fn write_side_by_side<R: Threads + Sync, K: Sink, const W: usize>(
 ) -> Option<Result<(), Put>>
     requires count { count ≡ length (flat_map (λ page. page) pages.now) }
     requires named { All (IsNamed names.now) (flat_map (λ page. page) pages.now) }
-    requires holds { All (Holds (length buffer.old.items)) (flat_map (λ page. page) pages.now) }
+    requires enough { All (HasRoomForLine (length buffer.old.items)) (flat_map (λ page. page) pages.now) }
     requires room { 64 ≤ length buffer.old.items }
     ensures written { IfSome result (λ written. WritesTo K.held K.faults K.beside K.asked_beside out.old out.new
         (lines_text names.now (flat_map (λ page. page) pages.now)) written) }
@@ -206,7 +206,7 @@ fn write_jobs_counted<R: Threads + Sync, K: Sink, const W: usize>(
     sheets: &mut [Sheet],
 ) -> Result<(), Put>
     requires ready { All (λ job. All (IsReady names.now) job.now) jobs.now }
-    requires held { All (λ job. All (IsHeld (length buffer.old)) job.now) jobs.now }
+    requires enough { All (λ job. All (HasRoomForLines (length buffer.old)) job.now) jobs.now }
     requires room { 64 ≤ length buffer.old }
     requires some { 0 < length sheets.old }
     ensures { WritesTo K.held K.faults K.beside K.asked_beside out.old out.new (count_line_of count ++ all_lines names.now jobs.now) result }
@@ -226,7 +226,7 @@ fn write_through<K: Sink, const W: usize>(
 ) -> Result<(), Put>
     requires count { count ≡ length (flat_map (λ page. page) pages.now) }
     requires named { All (IsNamed names.now) (flat_map (λ page. page) pages.now) }
-    requires holds { All (Holds (length buffer.old)) (flat_map (λ page. page) pages.now) }
+    requires enough { All (HasRoomForLine (length buffer.old)) (flat_map (λ page. page) pages.now) }
     requires room { 64 ≤ length buffer.old }
     ensures { WritesTo K.held K.faults K.beside K.asked_beside out.old out.new (lines_text names.now (flat_map (λ page. page) pages.now)) result }
 {

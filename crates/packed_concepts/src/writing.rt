@@ -5,9 +5,9 @@ ghost use Rattle.std.specs.List.{flat_map};
 ghost use Rattle.expert_wire.specs.Parts.{WritesTo};
 ghost use Rattle.expert_wire.specs.Texts.{ordinal};
 ghost use Rattle.packed_concepts.specs.Lines.{line_of, lines_from};
-ghost use Rattle.packed_concepts.specs.Packing.{IsNamed, Holds};
+ghost use Rattle.packed_concepts.specs.Packing.{IsNamed, HasRoomForLine};
 ghost use Rattle.packed_concepts.specs.Passing.{HasPassed};
-ghost use Rattle.packed_concepts.specs.Stretches.{lines_on, IsReady, IsHeld};
+ghost use Rattle.packed_concepts.specs.Stretches.{lines_on, IsReady, HasRoomForLines};
 
 use crate::line::{LONGEST_LINE, put_line};
 use crate::names::Names;
@@ -52,7 +52,7 @@ fn pass_line<K: Sink, const W: usize>(
     places: &[u16],
 ) -> Result<usize, Put>
     requires named { IsNamed names.now (intent.now, places.now) }
-    requires holds { Holds (length buffer.old) (intent.now, places.now) }
+    requires enough { HasRoomForLine (length buffer.old) (intent.now, places.now) }
     requires end { end ≤ length buffer.old }
     requires few { place + 1 < 2 ^ 64 }
     ensures passed { IfOk result (λ new_end. HasPassed (K.held out.old) (K.held out.new) (K.faults out.old) (K.faults out.new) (K.beside out.old) (K.beside out.new)
@@ -79,7 +79,7 @@ pub(crate) fn pass_stretch<K: Sink, const W: usize>(
     stretch: &Stretch<'_, W>,
 ) -> Result<usize, Put>
     requires ready { IsReady names.now stretch.now }
-    requires held { IsHeld (length buffer.old) stretch.now }
+    requires enough { HasRoomForLines (length buffer.old) stretch.now }
     requires end { end ≤ length buffer.old }
     ensures passed { IfOk result (λ new_end. HasPassed (K.held out.old) (K.held out.new) (K.faults out.old) (K.faults out.new) (K.beside out.old) (K.beside out.new)
         (K.asked_beside out.old) (K.asked_beside out.new) (take end buffer.old) (take new_end buffer.new)
@@ -112,7 +112,7 @@ pub(crate) fn pass_pages<K: Sink, const W: usize>(
     pages: &[ConceptPage<W>],
 ) -> Result<usize, Put>
     requires named { All (λ page. All (IsNamed names.now) page) pages.now }
-    requires holds { All (λ page. All (Holds (length buffer.old)) page) pages.now }
+    requires enough { All (λ page. All (HasRoomForLine (length buffer.old)) page) pages.now }
     requires end { end ≤ length buffer.old }
     requires few { length (flat_map (λ page. page) pages.now) < 2 ^ 64 }
     ensures passed { IfOk result (λ new_end. HasPassed (K.held out.old) (K.held out.new) (K.faults out.old) (K.faults out.new) (K.beside out.old) (K.beside out.new)

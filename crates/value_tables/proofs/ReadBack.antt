@@ -13,8 +13,8 @@ use Rattle.text_pieces.specs.Lists.{EachName}
 use Rattle.csv.specs.Reading.{strip_bom}
 use Rattle.csv.specs.Records.{AllText}
 use Rattle.csv_context.specs.Records.{Record}
-use Rattle.csv_context.proofs.ReadBack.{AllText-names, EachFilled, csv_records-text_of, object-text}
-use Rattle.csv_context.proofs.WrittenTexts.{EachText, IsUtf8-text_of}
+use Rattle.csv_context.proofs.ReadBack.{AllText-names, EachFilled, csv_records-records_text, object-text}
+use Rattle.csv_context.proofs.WrittenTexts.{EachText, IsUtf8-records_text}
 use Rattle.value_tables.specs.Values.{ObjectValues, ValueTable}
 use Rattle.value_tables.specs.Form.{first_bad, objects_form, table_form, values_form}
 use Rattle.value_tables.specs.Written.{EachObject, EachValue, IsValueTable, object_record, value_records, values_text}
@@ -82,5 +82,5 @@ values_form-values_text t table =
     let header : AllText (codes "object" ∷ t.attributes) = (object-text, AllText-names t.attributes table.attributes) in
     let texts : EachText (value_records t) = (header, EachText-objects (length t.attributes) t.objects table.objects) in
     let whole : utf8_valid_len (values_text t) == length (values_text t) ≡ true =
-    eq-eqb _ _ (utf8_valid_len-IsUtf8 (values_text t) (IsUtf8-text_of (value_records t) texts)) in
-    rw whole (ap table_form (csv_records-text_of (value_records t) (EachFilled-objects t.objects) (strip_bom-text t)) ∙ table-back t table)
+    eq-eqb _ _ (utf8_valid_len-IsUtf8 (values_text t) (IsUtf8-records_text (value_records t) texts)) in
+    rw whole (ap table_form (csv_records-records_text (value_records t) (EachFilled-objects t.objects) (strip_bom-text t)) ∙ table-back t table)

@@ -6,7 +6,7 @@ use Rattle.fca_model.specs.declared.TheConstants.{MAX_ATTRIBUTES, MAX_OBJECTS}
 use Rattle.context_table.specs.Table.{first_repeat}
 use Rattle.text_pieces.specs.Lists.{EachName}
 use Rattle.csv_context.specs.Records.{Record}
-use Rattle.csv_context.specs.Written.{text_of}
+use Rattle.csv_context.specs.Written.{records_text}
 use Rattle.value_tables.specs.Values.{ObjectValues, ValueTable}
 use Rattle.value_tables.specs.Form.{is_field}
 use Rattle.value_tables.specs.declared.fields.FieldKind.TheVariants as kind
@@ -54,4 +54,4 @@ value_records t = (codes "object" ∷ t.attributes) ∷ map object_record t.obje
 
 -- the bytes of the file
 abbrev pub values_text : ValueTable → List ℕ
-values_text t = text_of (value_records t)
+values_text t = records_text (value_records t)

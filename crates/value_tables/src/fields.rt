@@ -8,7 +8,7 @@ ghost use Rattle.value_tables.specs.Form.{is_field, is_name, first_bad};
 
 use crate::numbers::number_of;
 use csv::ByteRecord;
-use csv_context::{field_at, text_of};
+use csv_context::{field_at, as_text};
 use fca_model::{MAX_NAME_BYTES, Memory, Name, NameFault};
 use std::alloc::Global;
 
@@ -75,7 +75,7 @@ pub fn name_at(alloc: Global, fields: &ByteRecord, place: usize) -> Result<Name,
     requires faultless { name_fault (slice_index_or (fields_of fields.now) place []) ≡ None }
     ensures { IfOk result (λ name. name ≡ slice_index_or (fields_of fields.now) place []) }
 {
-    name_of(alloc, text_of(field_at(fields, place)))
+    name_of(alloc, as_text(field_at(fields, place)))
 }
 
 /// The name with this text, which has no fault.

@@ -18,7 +18,7 @@ use crate::fields::{FieldKind, first_bad, has_line_break, name_at, name_of};
 use crate::pieces::pieces_of;
 use crate::values::Values;
 use csv::{ByteRecord, Reader};
-use csv_context::{field_at, next_line, next_record, open, read_fields, text_of, unquoted_bytes};
+use csv_context::{field_at, next_line, next_record, open, read_fields, as_text, unquoted_bytes};
 use fca_model::{MAX_ATTRIBUTES, MAX_NAME_BYTES, MAX_OBJECTS, Memory, Name};
 use indexmap::IndexSet;
 use std::alloc::Global;
@@ -220,7 +220,7 @@ fn put_pieces(alloc: Global, text: &[u8], lengths: &[u8], cells: &mut Cells) -> 
     ensures texts { OnOk result (texts cells.new ≡ texts cells.old ++ drop 1 (cut lengths.now text.now)) }
 {
     let end = lengths[0] as usize;
-    let name = name_of(alloc, text_of(&text[..end]))?;
+    let name = name_of(alloc, as_text(&text[..end]))?;
     cells.push_all(&text[end..], &lengths[1..])?;
     Ok(name)
 }

@@ -4,8 +4,8 @@ use denote.Ref.{Bor}
 use Rattle.fca_model.specs.Tables.{Text}
 use Rattle.expert_wire.proofs.WriteLemmas.{Writes-equal}
 use Rattle.packed_concepts.specs.Lines.{Named, lines_from, count_line_of}
-use Rattle.packed_concepts.specs.Packing.{IsNamed, Holds}
-use Rattle.packed_concepts.specs.Stretches.{Placed, job_lines, all_lines, concepts_of, IsReady, IsHeld}
+use Rattle.packed_concepts.specs.Packing.{IsNamed, HasRoomForLine}
+use Rattle.packed_concepts.specs.Stretches.{Placed, job_lines, all_lines, concepts_of, IsReady, HasRoomForLines}
 use Rattle.packed_concepts.proofs.StretchLemmas.{All-parts, ready-all, lines-jobs}
 use Rattle.packed_concepts.proofs.text.write_side_by_side.Goals as goal
 
@@ -18,8 +18,8 @@ write_jobs_counted-requires-after_bounds g c κs within =
     let named : All (IsNamed t) (concepts_of made) = subst (All (IsNamed t)) (sym c.in-Ok.ensures.concepts) c.requires.named in
     let small : length (concepts_of made) < 2 ^ 64 = omega (arith, ap length c.in-Ok.ensures.concepts, c.requires.count, c.ranges.count.fits) in
     let room : n ≡ length c.args.buffer.now.items = ap length c.deref_mut.ensures.value in
-    let holds : All (Holds n) (concepts_of made) = subst (All (Holds n)) (sym c.in-Ok.ensures.concepts)
-    (subst (λ m. All (Holds m) (flat_map (λ x. x) c.args.pages.now)) (sym room) c.requires.holds) in
+    let enough : All (HasRoomForLine n) (concepts_of made) = subst (All (HasRoomForLine n)) (sym c.in-Ok.ensures.concepts)
+    (subst (λ m. All (HasRoomForLine m) (flat_map (λ x. x) c.args.pages.now)) (sym room) c.requires.enough) in
     let grouped : flat_map (λ (job : Bor (List Placed)). job.now) jobs ≡ made = c.in-Ok-line_jobs.ensures ∙ c.deref.ensures.value in (
       omega arith,
       (
@@ -27,9 +27,9 @@ write_jobs_counted-requires-after_bounds g c κs within =
             (All-parts (IsReady t) (λ (job : Bor (List Placed)). job.now) jobs
             (subst (All (IsReady t)) (sym grouped) (ready-all t made c.in-Ok.ensures.follow named small))),
         (
-          subst (λ (js : List (Bor (List Placed))). All (λ job. All (IsHeld n) job.now) js) (sym c.deref-2.ensures.value)
-              (All-parts (IsHeld n) (λ (job : Bor (List Placed)). job.now) jobs
-              (subst (All (IsHeld n)) (sym grouped) (All-parts (Holds n) (λ (s : Placed). s.concepts) made holds))),
+          subst (λ (js : List (Bor (List Placed))). All (λ job. All (HasRoomForLines n) job.now) js) (sym c.deref-2.ensures.value)
+              (All-parts (HasRoomForLines n) (λ (job : Bor (List Placed)). job.now) jobs
+              (subst (All (HasRoomForLines n)) (sym grouped) (All-parts (HasRoomForLine n) (λ (s : Placed). s.concepts) made enough))),
           (
             omega (arith, room, c.requires.room),
             omega (arith, ap length c.deref_mut-2.ensures.value, c.in-Ok-sheets_of.ensures, c.if-threads-lt2.false),

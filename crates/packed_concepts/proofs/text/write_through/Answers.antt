@@ -5,7 +5,7 @@ use Rattle.fca_model.specs.Sets.{Set}
 use Rattle.fca_model.specs.Tables.{Text}
 use Rattle.expert_wire.proofs.WriteLemmas.{Writes-then, Writes-equal}
 use Rattle.packed_concepts.specs.Lines.{lines_from, count_line_of}
-use Rattle.packed_concepts.specs.Packing.{IsNamed, Holds}
+use Rattle.packed_concepts.specs.Packing.{IsNamed, HasRoomForLine}
 use Rattle.packed_concepts.proofs.PageLemmas.{All-lists}
 use Rattle.packed_concepts.proofs.text.write_through.Goals as goal
 
@@ -15,8 +15,8 @@ pass_pages-requires g c = (
   (
     All-lists (IsNamed c.args.names.now) c.args.pages.now c.requires.named,
     (
-      subst (λ n. All (λ (page : List (Set × List ℕ)). All (Holds n) page) c.args.pages.now) (sym c.put_count_line-head.ensures.room)
-          (All-lists (Holds (length c.args.buffer.now)) c.args.pages.now c.requires.holds),
+      subst (λ n. All (λ (page : List (Set × List ℕ)). All (HasRoomForLine n) page) c.args.pages.now) (sym c.put_count_line-head.ensures.room)
+          (All-lists (HasRoomForLine (length c.args.buffer.now)) c.args.pages.now c.requires.enough),
       (c.put_count_line-head.ensures.end, omega (arith, c.requires.count, c.ranges.count.fits)),
     ),
   ),

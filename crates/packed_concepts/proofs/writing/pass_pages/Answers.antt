@@ -3,8 +3,8 @@ use Rattle.std.specs.List.{flat_map}
 use Rattle.std.proofs.lemmas.Result.{err_from_is_err_and}
 use Rattle.fca_model.specs.Sets.{Set}
 use Rattle.packed_concepts.specs.Lines.{Named, lines_from}
-use Rattle.packed_concepts.specs.Packing.{IsNamed, Holds}
-use Rattle.packed_concepts.specs.Stretches.{Placed, lines_on, IsReady, IsHeld}
+use Rattle.packed_concepts.specs.Packing.{IsNamed, HasRoomForLine}
+use Rattle.packed_concepts.specs.Stretches.{Placed, lines_on, IsReady, HasRoomForLines}
 use Rattle.packed_concepts.proofs.LineLemmas.{lines_from-append}
 use Rattle.packed_concepts.proofs.PageLemmas.{next_page, of_page}
 use Rattle.packed_concepts.proofs.PassingLemmas.{IsPassing-start, IsPassing-more, IsPassing-fault}
@@ -32,12 +32,12 @@ pass_stretch-requires g c =
       named = of_page (All (IsNamed c.args.names.now)) c.args.pages.now i page c.loop-page-test.true c.page-item.is c.requires.named;
       few = omega (arith, count, c.loop-page.invariant.few);
     } in
-    let held : IsHeld (length c.loop-page.buffer) one = subst (λ n. All (Holds n) page) (sym c.loop-page.invariant.room)
-    (of_page (All (Holds (length c.args.buffer.now))) c.args.pages.now i page c.loop-page-test.true c.page-item.is c.requires.holds) in (
+    let enough : HasRoomForLines (length c.loop-page.buffer) one = subst (λ n. All (HasRoomForLine n) page) (sym c.loop-page.invariant.room)
+    (of_page (All (HasRoomForLine (length c.args.buffer.now))) c.args.pages.now i page c.loop-page-test.true c.page-item.is c.requires.enough) in (
       omega arith,
       (
         subst (IsReady c.args.names.now) (sym is) ready,
-        (subst (IsHeld (length c.loop-page.buffer)) (sym is) held, c.loop-page.invariant.end),
+        (subst (HasRoomForLines (length c.loop-page.buffer)) (sym is) enough, c.loop-page.invariant.end),
       ),
     )
 

@@ -7,7 +7,7 @@ use Rattle.fca_model.specs.Tables.{Text}
 use Rattle.expert_wire.specs.Texts.{ordinal}
 use Rattle.expert_wire.proofs.WriteLemmas.{Writes-front}
 use Rattle.packed_concepts.specs.Lines.{Named, line_of, lines_from}
-use Rattle.packed_concepts.specs.Packing.{unpacked, IsNamed, Holds}
+use Rattle.packed_concepts.specs.Packing.{unpacked, IsNamed, HasRoomForLine}
 use Rattle.packed_concepts.specs.declared.page.IntentAndCount.{IntentAndCount}
 use Rattle.packed_concepts.proofs.PackingLemmas.{length-unpacked, total-left, unpacked-left, length-left}
 use Rattle.packed_concepts.proofs.PassingLemmas.{IsPassing-start, IsPassing-more, IsPassing-fault}
@@ -23,8 +23,8 @@ loop-one-init g c =
       room = refl;
       fits = c.parts.ensures.fits;
       named = subst (λ (cs : List (Set × List ℕ)). All (IsNamed c.args.names.now) cs) (sym c.parts.ensures.concepts) c.requires.ready.named;
-      holds = subst (λ (cs : List (Set × List ℕ)). All (Holds (length c.args.buffer.now)) cs)
-          (sym c.parts.ensures.concepts) c.requires.held;
+      enough = subst (λ (cs : List (Set × List ℕ)). All (HasRoomForLine (length c.args.buffer.now)) cs)
+          (sym c.parts.ensures.concepts) c.requires.enough;
       few = omega (arith, count, c.requires.ready.few, c.first-first.ensures.first);
       passing = IsPassing-start _ _ _ _ (take c.args.end c.args.buffer.now) _ _
           (ap₂ (λ n (cs : List (Set × List ℕ)). lines_from c.args.names.now n cs) c.first-first.ensures.first c.parts.ensures.concepts);
@@ -44,14 +44,14 @@ pass_line-requires g c =
     let counts = length-left ps i one c.loop-one-test.true c.one-item.is in
     let named = All-head (IsNamed c.args.names.now) (one.intent, take one.count rest) behind
     (subst (λ (cs : List (Set × List ℕ)). All (IsNamed c.args.names.now) cs) left c.loop-one.invariant.named) in
-    let holds = All-head (Holds (length c.args.buffer.now)) (one.intent, take one.count rest) behind
-    (subst (λ (cs : List (Set × List ℕ)). All (Holds (length c.args.buffer.now)) cs) left c.loop-one.invariant.holds) in (
+    let enough = All-head (HasRoomForLine (length c.args.buffer.now)) (one.intent, take one.count rest) behind
+    (subst (λ (cs : List (Set × List ℕ)). All (HasRoomForLine (length c.args.buffer.now)) cs) left c.loop-one.invariant.enough) in (
       omega (arith, c.first-first.ensures.words),
       (
         subst (λ (E : List ℕ). IsNamed c.args.names.now (one.intent, E)) (sym front) named,
         (
-          subst (λ n. Holds n (one.intent, c.split_at.result.0.now)) (sym c.loop-one.invariant.room)
-              (subst (λ (E : List ℕ). Holds (length c.args.buffer.now) (one.intent, E)) (sym front) holds),
+          subst (λ n. HasRoomForLine n (one.intent, c.split_at.result.0.now)) (sym c.loop-one.invariant.room)
+              (subst (λ (E : List ℕ). HasRoomForLine (length c.args.buffer.now) (one.intent, E)) (sym front) enough),
           (c.loop-one.invariant.end, omega (arith, counts, c.loop-one.invariant.few)),
         ),
       ),
@@ -98,9 +98,9 @@ loop-one-preserved g c =
       named = subst (λ (E : List ℕ). All (IsNamed t) (unpacked (drop (i + 1) ps) E)) (sym back)
           (All-tail (IsNamed t) (one.intent, take one.count rest) behind
           (subst (λ (cs : List (Set × List ℕ)). All (IsNamed t) cs) left c.loop-one.invariant.named));
-      holds = subst (λ (E : List ℕ). All (Holds (length c.args.buffer.now)) (unpacked (drop (i + 1) ps) E)) (sym back)
-          (All-tail (Holds (length c.args.buffer.now)) (one.intent, take one.count rest) behind
-          (subst (λ (cs : List (Set × List ℕ)). All (Holds (length c.args.buffer.now)) cs) left c.loop-one.invariant.holds));
+      enough = subst (λ (E : List ℕ). All (HasRoomForLine (length c.args.buffer.now)) (unpacked (drop (i + 1) ps) E)) (sym back)
+          (All-tail (HasRoomForLine (length c.args.buffer.now)) (one.intent, take one.count rest) behind
+          (subst (λ (cs : List (Set × List ℕ)). All (HasRoomForLine (length c.args.buffer.now)) cs) left c.loop-one.invariant.enough));
       few = omega (arith, counts, c.loop-one.invariant.few);
       passing = IsPassing-more _ _ _ _ line _ _
           (ap (lines_from t n) left ∙ ap₂ (λ (E F : List ℕ). line_of t (ordinal n) one.intent E ++ lines_from t (n + 1)

@@ -1,7 +1,7 @@
 use Rattle.std.proofs.Common.{◌≡◌, ◌+◌, ◌^◌, ◌<◌, ◌≤◌, All, length, take, drop}
 use Rattle.packed_concepts.specs.Lines.{lines_from}
 use Rattle.packed_concepts.specs.Stretches.{lines_on}
-use Rattle.packed_concepts.specs.Packing.{total, unpacked, IsNamed, Holds}
+use Rattle.packed_concepts.specs.Packing.{total, unpacked, IsNamed, HasRoomForLine}
 use Rattle.packed_concepts.proofs.PassingLemmas.{IsPassing}
 use Rattle.packed_concepts.proofs.writing.pass_stretch.Given as goal
 
@@ -12,7 +12,7 @@ invariant-loop-one g l = record {
   room : length l.buffer ≡ length l.fn.buffer;
   fits : total (drop l.one-index l.packed) ≡ length l.rest;
   named : All (IsNamed l.names) (unpacked (drop l.one-index l.packed) l.rest);
-  holds : All (Holds (length l.fn.buffer)) (unpacked (drop l.one-index l.packed) l.rest);
+  enough : All (HasRoomForLine (length l.fn.buffer)) (unpacked (drop l.one-index l.packed) l.rest);
   few : l.next + length (drop l.one-index l.packed) < 2 ^ 64;
   passing : IsPassing (g.K.Sink.held l.fn.out) (g.K.Sink.held l.out) (g.K.Sink.faults l.fn.out) (g.K.Sink.faults l.out)
       (g.K.Sink.beside l.fn.out) (g.K.Sink.beside l.out) (g.K.Sink.asked_beside l.fn.out) (g.K.Sink.asked_beside l.out)
