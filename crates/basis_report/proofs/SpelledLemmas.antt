@@ -22,7 +22,7 @@ use Rattle.expert_scripts.specs.Scripts.{EachEventCanBeWritten, IsNamed, script_
 use Rattle.expert_scripts.specs.Transcripts.{AreNames, SettingsCanBeWritten, transcript}
 use Rattle.expert_scripts.proofs.TranscriptLemmas.{are_names, script_form-transcript}
 use Rattle.report_texts.specs.Reports.{count_line, arrow_line, arrow_lines}
-use Rattle.basis_report.specs.Explorations.{is_recorded, recorded_line, recorded_section, accepted_section, open_section, in_lectic_order}
+use Rattle.basis_report.specs.Explorations.{records_row, recorded_line, recorded_section, accepted_section, open_section, in_lectic_order}
 use Rattle.basis_report.specs.Explorations.{basis_section, sections, state_of_text, explore_text, content_or_plain, Spells, EachNamed}
 
 -- ---- each section is skipped
@@ -52,7 +52,7 @@ Skips-recorded_lines (entry ∷ H) h =
 
 Skips-recorded_section : (H : List SetEntry) → EachNamed H → Skips (recorded_section H)
 Skips-recorded_section H h =
-    let n = length (filter (λ entry. is_recorded entry.event entry.reply) H) in
+    let n = length (filter (λ entry. records_row entry.event entry.reply) H) in
     Skips-append (count_line (codes "# recorded ") n) (flat_map (λ entry. recorded_line entry.event entry.reply) H)
     (Skips-count_line (codes "recorded ") n refl) (Skips-recorded_lines H h)
 

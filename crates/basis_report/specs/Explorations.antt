@@ -21,9 +21,9 @@ use Rattle.basis_report.specs.Comments.{comments}
 -- ---- the recorded rows
 
 -- the event and the reply of an entry that records a row
-abbrev pub is_recorded : SetEvent → SetReply → Bool
-is_recorded (Row e name r) (Taken place) = true
-is_recorded event reply = false
+abbrev pub records_row : SetEvent → SetReply → Bool
+records_row (Row e name r) (Taken place) = true
+records_row event reply = false
 
 -- `# I PATTERN NAME` of the row, if the entry records one
 abbrev pub recorded_line : SetEvent → SetReply → Text
@@ -34,7 +34,7 @@ recorded_line event reply = []
 -- the number of recorded rows, and a line for each
 abbrev pub recorded_section : List SetEntry → Text
 recorded_section H =
-    count_line (codes "# recorded ") (length (filter (λ entry. is_recorded entry.event entry.reply) H))
+    count_line (codes "# recorded ") (length (filter (λ entry. records_row entry.event entry.reply) H))
     ++ flat_map (λ entry. recorded_line entry.event entry.reply) H
 
 -- ---- implications

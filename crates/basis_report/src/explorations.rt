@@ -5,7 +5,7 @@ ghost use Rattle.std.specs.List.{flat_map};
 ghost use Rattle.fca_model.specs.Tables.{Text};
 ghost use Rattle.expert_scripts.specs.Transcripts.{SettingsCanBeWritten};
 ghost use Rattle.basis_report.specs.Comments.{are_lines};
-ghost use Rattle.basis_report.specs.Explorations.{SpellsBefore, is_recorded, recorded_line, recorded_section, accepted_section};
+ghost use Rattle.basis_report.specs.Explorations.{SpellsBefore, records_row, recorded_line, recorded_section, accepted_section};
 ghost use Rattle.basis_report.specs.Explorations.{open_section, conclusions_by_premise, in_lectic_order, basis_section, explore_text};
 
 use crate::names::{look_at_attributes, look_at_rows};
@@ -71,14 +71,14 @@ pub(crate) fn write_recorded(
 
 /// The number of recorded rows.
 fn count_recorded_rows(journal: &[Entry]) -> usize
-    ensures { result ≡ length (filter (λ entry. is_recorded entry.event entry.reply) journal.now) }
+    ensures { result ≡ length (filter (λ entry. records_row entry.event entry.reply) journal.now) }
 {
-    journal.iter().filter(|entry| is_recorded(entry)).count()
+    journal.iter().filter(|entry| records_row(entry)).count()
 }
 
 /// Whether the entry records a row.
-fn is_recorded(entry: &Entry) -> bool
-    ensures { result ≡ is_recorded entry.now.event entry.now.reply }
+fn records_row(entry: &Entry) -> bool
+    ensures { result ≡ records_row entry.now.event entry.now.reply }
 {
     matches!(
         (&entry.event, &entry.reply),

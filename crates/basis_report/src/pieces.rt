@@ -31,11 +31,11 @@ pub fn explore_pieces<R: Threads>(
 {
     look_at_attributes(explore.table());
     look_at_rows(explore.journal());
-    write_pieces(rt, &alloc, explore)
+    make_pieces(rt, &alloc, explore)
 }
 
 /// The pieces. The allocator is lent: proofs lose what a thread writes if the thread owns it.
-fn write_pieces<R: Threads>(
+fn make_pieces<R: Threads>(
     rt: &R,
     alloc: &Global,
     explore: &Explore,

@@ -34,18 +34,18 @@ pub record Scaling : Type 0 where
 
 -- ---- scales
 
-abbrev pub holds : (ℤ → Bool) → Option ℤ → Bool
-holds test None = false
-holds test (Some n) = test n
+abbrev pub some_and : (ℤ → Bool) → Option ℤ → Bool
+some_and test None = false
+some_and test (Some n) = test n
 
 -- the text is a value, and stands in this relation to the scale value
 abbrev pub stands : Text → Relation → ScaleValue → Bool
 stands text relation.Equal (value.Text v) = not (length text == 0) && bytes_eq text v
 stands text relation.Equal (value.Number v) = false
 stands text relation.AtMost (value.Text v) = false
-stands text relation.AtMost (value.Number v) = holds (λ n. int_le n v) (number_of text)
+stands text relation.AtMost (value.Number v) = some_and (λ n. int_le n v) (number_of text)
 stands text relation.AtLeast (value.Text v) = false
-stands text relation.AtLeast (value.Number v) = holds (λ n. int_le v n) (number_of text)
+stands text relation.AtLeast (value.Number v) = some_and (λ n. int_le v n) (number_of text)
 
 -- what each relation of this kind of scale gives, one after the other
 abbrev pub each_relation : {X : Type 0} → Kind → (Relation → List X) → List X

@@ -6,7 +6,7 @@ ghost use Rattle.std.specs.List.{list_any, position_from};
 ghost use Rattle.context_table.specs.Table.{first_repeat};
 ghost use Rattle.fca_model.specs.Names.{name_fault};
 ghost use Rattle.csv.specs.Records.{AllText, fields_of};
-ghost use Rattle.csv_context.specs.Records.{IsOpen, csv_records, records_left};
+ghost use Rattle.csv_context.specs.Records.{IsOpenReader, csv_records, records_left};
 ghost use Rattle.text_pieces.specs.Telling.{Tells, TellsBy};
 ghost use Rattle.value_tables.specs.Values.{column};
 ghost use Rattle.value_tables.specs.Form.{first_bad, is_field};
@@ -52,7 +52,7 @@ fn read_text(alloc: Global, text: &str, values: &Values) -> Result<Plan, PlanFau
 
 /// The plan of the records that the reader has left.
 fn read_left(alloc: Global, reader: &mut Reader<&[u8]>, values: &Values) -> Result<Plan, PlanFault>
-    requires { IsOpen reader.old }
+    requires { IsOpenReader reader.old }
     ensures form { Tells PlanFault.Memory result (form.records_form values.now 1 [] (records_left reader.old)) }
     ensures fits { IfOk result (λ plan. Fits plan values.now) }
 {

@@ -2,7 +2,7 @@
 
 ghost use Rattle.std.specs.Prelude.{◌≡◌, int_le};
 ghost use Rattle.value_tables.specs.Numbers.{number_of};
-ghost use Rattle.context_scaling.specs.Scaling.{holds, stands};
+ghost use Rattle.context_scaling.specs.Scaling.{some_and, stands};
 
 use fca_model::Name;
 
@@ -57,7 +57,7 @@ pub(crate) fn stands(
 
 /// Whether there is a number and it is at most the bound.
 fn is_at_most(number: Option<i64>, bound: i64) -> bool
-    ensures { result ≡ holds (λ n. int_le n bound) number }
+    ensures { result ≡ some_and (λ n. int_le n bound) number }
 {
     match number {
         Some(n) => n <= bound,
@@ -67,7 +67,7 @@ fn is_at_most(number: Option<i64>, bound: i64) -> bool
 
 /// Whether there is a number and it is at least the bound.
 fn is_at_least(number: Option<i64>, bound: i64) -> bool
-    ensures { result ≡ holds (λ n. int_le bound n) number }
+    ensures { result ≡ some_and (λ n. int_le bound n) number }
 {
     match number {
         Some(n) => bound <= n,

@@ -22,12 +22,12 @@ state_after zero x = x
 state_after (suc steps) x = next_state (state_after steps x)
 
 -- whether the cell that is drawn at this state is a cross
-abbrev pub is_cross : ℕ → ℕ → Bool
-is_cross density x = nat_lt (x / 2 ^ 61) density
+abbrev pub draws_cross : ℕ → ℕ → Bool
+draws_cross density x = nat_lt (x / 2 ^ 61) density
 
 -- the row of n cells that is drawn from the state x on
 abbrev pub row_from : ℕ → ℕ → ℕ → Set
-row_from density n x = map (λ j. is_cross density (state_after (j + 1) x)) (range_with_len 0 n)
+row_from density n x = map (λ j. draws_cross density (state_after (j + 1) x)) (range_with_len 0 n)
 
 -- the rows, each drawn after those before it
 abbrev pub rows_from : ℕ → ℕ → ℕ → ℕ → List Set

@@ -2,7 +2,7 @@
 
 ghost use Rattle.std.specs.Prelude.{◌≡◌, ◌+◌, ◌≤◌, IfOk, None};
 ghost use Rattle.attr_bits.specs.Words.{number_of};
-ghost use Rattle.context_table.specs.Generated.{next_state, state_after, is_cross, row_from, rows_from, numbered_names};
+ghost use Rattle.context_table.specs.Generated.{next_state, state_after, draws_cross, row_from, rows_from, numbered_names};
 ghost use Rattle.fca_model.specs.Names.{name_fault};
 
 use attr_bits::Attrs;
@@ -46,7 +46,7 @@ impl CellGenerator {
     fn next_cell(&mut self) -> bool
         ensures state { self.new.state ≡ next_state self.old.state }
         ensures density { self.new.density ≡ self.old.density }
-        ensures cross { result ≡ is_cross self.new.density self.new.state }
+        ensures cross { result ≡ draws_cross self.new.density self.new.state }
     {
         self.state = self.state.wrapping_mul(MULTIPLIER).wrapping_add(INCREMENT);
         self.state >> LOWER < u64::from(self.density)
@@ -57,7 +57,7 @@ impl CellGenerator {
         requires { count ≤ 64 }
         ensures state { self.new.state ≡ state_after count self.old.state }
         ensures density { self.new.density ≡ self.old.density }
-        ensures cells { result ≡ number_of (λ j. is_cross self.old.density (state_after (j + 1) self.old.state)) count }
+        ensures cells { result ≡ number_of (λ j. draws_cross self.old.density (state_after (j + 1) self.old.state)) count }
     {
         let mut bits = 0;
         for j in 0..count {

@@ -20,7 +20,7 @@ use Rattle.csv.specs.declared.parser.State.TheVariants as st
 use Rattle.csv.specs.declared.reader.Reader.{Reader}
 use Rattle.csv.specs.declared.reader.Trim.TheVariants as trim
 use Rattle.csv.proofs.ReadFacts.{rows-end, rows-more}
-use Rattle.csv_context.specs.Records.{Record, IsOpen, IsText, Reads, records_by, records_left, unread_bytes}
+use Rattle.csv_context.specs.Records.{Record, IsOpenReader, IsText, Reads, records_by, records_left, unread_bytes}
 use Rattle.csv_context.proofs.Texts.{GivesText, next_record-text}
 
 -- ---- where a record ends
@@ -161,7 +161,7 @@ took s t xs ys fields p between text e is to left =
       first = cc;
     }
 
-Reads-found : (a b : Reader (Bor (List ℕ))) (fields : Record) → IsOpen a → took_first b ≡ true → ReadRecord bytes_of a b true fields
+Reads-found : (a b : Reader (Bor (List ℕ))) (fields : Record) → IsOpenReader a → took_first b ≡ true → ReadRecord bytes_of a b true fields
     → Reads a b true fields
 unfolding Reached
 Reads-found a b fields open' begun r = by (unread_bytes a) refl open'.text
@@ -182,7 +182,7 @@ Reads-found a b fields open' begun r = by (unread_bytes a) refl open'.text
           rw (e, m.1) q.first,
         )
 
-Reads-none : (a b : Reader (Bor (List ℕ))) (fields : Record) → IsOpen a → ReadRecord bytes_of a b false fields → Reads a b false fields
+Reads-none : (a b : Reader (Bor (List ℕ))) (fields : Record) → IsOpenReader a → ReadRecord bytes_of a b false fields → Reads a b false fields
 Reads-none a b fields open' r = by (unread_bytes a) refl open'.text
   where
     by : (left : Option (List ℕ)) → unread_bytes a ≡ left → IsText left → Reads a b false fields
@@ -190,14 +190,14 @@ Reads-none a b fields open' r = by (unread_bytes a) refl open'.text
     by (Some xs) e text = rw e (records_by-None (reader_state a) xs (rows-end bytes_of a b fields default_config xs open'.settings e r))
 
 -- the answer of a read, by whether there was a record
-Reads-record : (a b : Reader (Bor (List ℕ))) (found : Bool) (fields : Record) → IsOpen a → took_first b ≡ true
+Reads-record : (a b : Reader (Bor (List ℕ))) (found : Bool) (fields : Record) → IsOpenReader a → took_first b ≡ true
     → ReadRecord bytes_of a b found fields → Reads a b found fields
 Reads-record a b true fields open' begun r = Reads-found a b fields open' begun r
 Reads-record a b false fields open' begun r = Reads-none a b fields open' r
 
 -- the same of what the library's call answers, passed on with another error
 pub Reads-told : {E D : Type 0} (Q : E → Type 0) (a b : Reader (Bor (List ℕ))) (fields : Record) (told : Result Bool E)
-    (answer : Result Bool D) → IsOpen a
+    (answer : Result Bool D) → IsOpenReader a
     → (reader_trim a ≡ trim.None → OnOk told (took_first b ≡ true))
     → IfOk told (λ found. reader_trim a ≡ trim.None → Ready a → ReadRecord bytes_of a b found fields)
     → MatchResult told (λ found. answer ≡ Ok found) Q → is_ok answer ≡ is_ok told
@@ -219,7 +219,7 @@ failed-none a b (kind.Utf8 pos err) flexible fails why = let text = why.0 in cc
 failed-none a b (kind.Serialize text) flexible fails why = absurd why
 failed-none a b (kind.Deserialize pos err) flexible fails why = absurd why
 
-pub records_left-failed : {D : Type 0} (a b : Reader (Bor (List ℕ))) (told : Result Bool Error) (answer : Result Bool D) → IsOpen a
+pub records_left-failed : {D : Type 0} (a b : Reader (Bor (List ℕ))) (told : Result Bool Error) (answer : Result Bool D) → IsOpenReader a
     → is_flexible a ≡ true
     → IfErr told (λ e. has_failed b ≡ stops_reader (error_kind e))
     → IfErr told (λ e. Ready a → ExplainsRead bytes_of a b false (error_kind e)) → is_ok answer ≡ is_ok told

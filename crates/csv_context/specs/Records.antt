@@ -36,7 +36,7 @@ IsText None = ⊥
 IsText (Some bytes) = IsUtf8 bytes
 
 -- the reader has read whole records so far, with the usual settings, and what it has left is text
-pub record IsOpen (reader : Reader (Bor (List ℕ))) : Type 0 where
+pub record IsOpenReader (reader : Reader (Bor (List ℕ))) : Type 0 where
   pub plain : reader_trim reader ≡ trim.None
   pub ready : Ready reader
   pub settings : reader_config reader ≡ default_config
@@ -45,5 +45,5 @@ pub record IsOpen (reader : Reader (Bor (List ℕ))) : Type 0 where
 
 -- a read took the first of the records that were left, whose fields are text, or found that none was left
 abbrev pub Reads : Reader (Bor (List ℕ)) → Reader (Bor (List ℕ)) → Bool → Record → Type 0
-Reads old new true fields = IsOpen new × AllText fields × (records_left old ≡ fields ∷ records_left new)
+Reads old new true fields = IsOpenReader new × AllText fields × (records_left old ≡ fields ∷ records_left new)
 Reads old new false fields = records_left old ≡ []

@@ -12,7 +12,7 @@ mod records;
 mod write;
 
 use fca_model::{Memory, NO_MEMORY};
-pub use fields::{field_at, as_text};
+pub use fields::{as_text, field_at};
 pub use lines::{next_field, next_line, read_fields, unquoted_bytes};
 pub use read::read_csv;
 pub use records::{next_record, open};

@@ -2,7 +2,7 @@
 
 ghost use Rattle.std.specs.Prelude.{◌≡◌, ◌<◌, ◌≤◌, ◌+◌, [], IfOk, None, Ok, OnOk, drop, length, vec_len};
 ghost use Rattle.csv.specs.Records.{AllText, fields_of};
-ghost use Rattle.csv_context.specs.Records.{IsOpen, csv_records, records_left};
+ghost use Rattle.csv_context.specs.Records.{IsOpenReader, csv_records, records_left};
 ghost use Rattle.context_table.specs.Table.{first_repeat};
 ghost use Rattle.csv_context.specs.Lines.{IsUnquoted, fields_in, records_in};
 ghost use Rattle.csv_context.specs.Form as form;
@@ -77,7 +77,7 @@ fn read_records(alloc: Global, text: &str) -> Result<Table, CsvFault>
 
 /// Reads the table of the records that the reader has left.
 fn read_left(alloc: Global, reader: &mut Reader<&[u8]>) -> Result<Table, CsvFault>
-    requires { IsOpen reader.old }
+    requires { IsOpenReader reader.old }
     ensures { Tells CsvFault.Memory result (form.table_form (records_left reader.old)) }
 {
     let mut record = ByteRecord::new(alloc);
@@ -139,7 +139,7 @@ fn read_attributes(alloc: Global, fields: &ByteRecord) -> Result<IndexSet<Name>,
 }
 
 fn read_objects(alloc: Global, width: u32, reader: &mut Reader<&[u8]>) -> Result<Objects, CsvFault>
-    requires open { IsOpen reader.old }
+    requires open { IsOpenReader reader.old }
     requires few { width ≤ MAX_ATTRIBUTES }
     ensures form { TellsBy CsvFault.Memory (λ objects. (objects.names.items, objects.rows.rows)) result (form.objects_form width 2 ([], []) (records_left reader.old)) }
     ensures few { IfOk result (λ objects. vec_len objects.names ≤ MAX_OBJECTS) }

@@ -3,7 +3,7 @@
 ghost use Rattle.std.specs.Prelude.{◌≡◌, [], true, IfOk, OnOk, OnErr};
 ghost use Rattle.csv.specs.Reading.{is_flexible};
 ghost use Rattle.csv.specs.Records.{fields_of};
-ghost use Rattle.csv_context.specs.Records.{IsOpen, Reads, csv_records, records_left};
+ghost use Rattle.csv_context.specs.Records.{IsOpenReader, Reads, csv_records, records_left};
 
 use csv::{ByteRecord, Reader, ReaderBuilder};
 use fca_model::Memory;
@@ -11,7 +11,7 @@ use std::alloc::Global;
 
 /// A reader of the records of the text, which may have any length.
 pub fn open<'a>(alloc: Global, text: &'a str) -> Reader<&'a [u8]>
-    ensures open { IsOpen result }
+    ensures open { IsOpenReader result }
     ensures records { records_left result ≡ csv_records text.now }
     ensures flexible { is_flexible result ≡ true }
 {
@@ -24,7 +24,7 @@ pub fn open<'a>(alloc: Global, text: &'a str) -> Reader<&'a [u8]>
 /// Reads the next record, and returns whether there was one. After an `Err` the reader has no record left, and nothing is known of
 /// the fields.
 pub fn next_record(reader: &mut Reader<&[u8]>, fields: &mut ByteRecord) -> Result<bool, Memory>
-    requires { IsOpen reader.old }
+    requires { IsOpenReader reader.old }
     ensures read { IfOk result (λ found. Reads reader.old reader.new found (fields_of fields.new)) }
     ensures flexible { OnOk result (is_flexible reader.new ≡ is_flexible reader.old) }
     ensures failed { is_flexible reader.old ≡ true → OnErr result (records_left reader.new ≡ []) }

@@ -19,7 +19,7 @@ use Rattle.oracle_expert.specs.declared.expert.Answer.{Answer}
 use Rattle.oracle_expert.specs.Runs.{RunsFrom, RunsTo, IsTurn, Stops, IsUnanswered, StopsAtDone, question_after, is_done, ends_done}
 use Rattle.expert_panel.specs.declared.end.SeatEnd.TheVariants as end
 use Rattle.expert_panel.specs.Passes.{HasMade, TookTurns}
-use Rattle.expert_panel.specs.Turns.{IsPlayed, IsRefused, IsStopped}
+use Rattle.expert_panel.specs.Turns.{IsPlayed, IsRefusedTurn, IsStopped}
 use Rattle.expert_panel.specs.Seats.{HasAttended}
 use Rattle.expert_panel.proofs.PassLemmas.{HasMade-none, HasMade-entry, HasMade-look}
 
@@ -52,7 +52,7 @@ length-push entries entry = length-append entries (entry ∷ [])
 -- why it came to no reply
 pub turn_refused : (gate : Lock Opening) (event : SetEvent) (p q : Known Opening SetEntry) (result : Result SetReply TurnFault)
     → MakesTurn gate event p result q
-    → IfErr result (λ fault. IsRefused gate.base fault p q)
+    → IfErr result (λ fault. IsRefusedTurn gate.base fault p q)
 turn_refused gate event p q (Ok reply) t = tt
 turn_refused gate event p q (Err NoTurn) t = (t.unchanged refl, t.spent.0 refl)
 turn_refused gate event p q (Err NoTurnMemory) t = t.memory refl
@@ -167,9 +167,9 @@ module _ {X M : Type 0} (width_of : X → ℕ) (memory_of : X → M) (Answering 
     unchanged : r ≡ q → HasMade o p a.entries r × TookTurns p a.entries r
     unchanged e = (subst (HasMade o p a.entries) (sym e) a.pass, ap (λ (k : Known Opening SetEntry). k.made) e ∙ a.made)
 
-    pub is_spent : IsStopped Answering Learning o due q (memory_of expert) fault.Spent r (memory_of next)
+    pub ended_spent : IsStopped Answering Learning o due q (memory_of expert) fault.Spent r (memory_of next)
         → HasAttended width_of memory_of Answering Learning o p old end.Spent r next
-    is_spent stopped = elim stopped.refused [
+    ended_spent stopped = elim stopped.refused [
       | inl refused ↦
           let at_rest = unchanged refused.0 in
           record {

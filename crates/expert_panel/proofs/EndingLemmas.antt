@@ -23,7 +23,7 @@ use Rattle.oracle_expert.specs.Runs.{ends_done}
 use Rattle.expert_panel.specs.declared.seat.Seat.{Seat}
 use Rattle.expert_gate.specs.Seats.{EachSeat}
 use Rattle.expert_panel.specs.Seats.{IsSeatOf}
-use Rattle.expert_panel.specs.Explorations.{IsOraclesShare, EachNumbered, HasEnded, is_spent, is_out_of_memory}
+use Rattle.expert_panel.specs.Explorations.{IsOraclesShare, EachNumbered, HasEnded, ended_spent, is_out_of_memory}
 use Rattle.expert_panel.proofs.DoneLemmas.{done_leaves_none}
 use Rattle.expert_panel.proofs.ShareLemmas.{count_from, roll-numbers, EachFrom, Tells, each_numbered, Run, passes, experts, tells_all}
 use Rattle.expert_panel.proofs.ShareLemmas.{shares, some_spent, spent_among}
@@ -113,7 +113,7 @@ module _ (gate : Lock Opening) (ps : List (Known Opening SetEntry)) (before : Li
         (ap (λ (S : Settings). open_questions S.known (state_after s (events_of H)).context (state_after s (events_of H)).accepted)
         (sym (run_settings s (events_of H))) ∙ none)
 
-    none_spent : list_any (λ seat. is_spent seat.ended) news ≡ false → open_of explore ≡ []
+    none_spent : list_any (λ seat. ended_spent seat.ended) news ≡ false → open_of explore ≡ []
     none_spent h = elim (cases_Bool (ends_done (own H 1))) [
       | inl t ↦ done_at_last t
       | inr f ↦
@@ -121,7 +121,7 @@ module _ (gate : Lock Opening) (ps : List (Known Opening SetEntry)) (before : Li
           absurd (false≢true (sym h ∙ spent_among gate.base gate.turns H 1 news told.0 1 (omega arith) (omega arith) f))
     ]
 
-    pub ended : (oracles : List Recall) (spent : Bool) → oracles ≡ experts news → spent ≡ list_any (λ seat. is_spent seat.ended) news
+    pub ended : (oracles : List Recall) (spent : Bool) → oracles ≡ experts news → spent ≡ list_any (λ seat. ended_spent seat.ended) news
         → HasEnded gate before explore oracles spent
     ended oracles spent oracles_are spent_is =
         let many : length news ≡ length before = length-news ∙ sym count in

@@ -20,8 +20,8 @@ use Rattle.expert_panel.specs.declared.seat.Seat.{Seat}
 use Rattle.expert_panel.specs.declared.end.SeatEnd.{SeatEnd}
 use Rattle.expert_panel.specs.declared.end.SeatEnd.TheVariants.{Done, Spent, Memory}
 use Rattle.expert_gate.specs.Seats.{EachSeat}
-use Rattle.expert_panel.specs.Seats.{HasRun, IsEnd}
-use Rattle.expert_panel.specs.Explorations.{IsOraclesShare, EachNumbered, is_spent, is_out_of_memory}
+use Rattle.expert_panel.specs.Seats.{HasRunSeat, IsEnd}
+use Rattle.expert_panel.specs.Explorations.{IsOraclesShare, EachNumbered, ended_spent, is_out_of_memory}
 
 -- ---- numbers
 
@@ -60,11 +60,11 @@ each_numbered P xs each k x e = subst (P (k + 1)) (get_or_from_slice_get xs k x 
 -- the seat's share in the history; it is spent exactly where its last reply is not Done
 pub record Tells (turns : ℕ) (H : List SetEntry) (n : ℕ) (seat : Seat Recall) : Type 0 where
   pub share : IsOraclesShare turns H n seat.expert
-  pub spent : is_spent seat.ended ≡ not (ends_done (own H n))
+  pub spent : ended_spent seat.ended ≡ not (ends_done (own H n))
 
 -- a seat of an oracle ran
 abbrev pub Run : Opening → Seat Recall → Seat Recall → Type 0
-Run o = HasRun (λ (r : Recall). r.table.context.width) (λ (r : Recall). r) Answers Learns o
+Run o = HasRunSeat (λ (r : Recall). r.table.context.width) (λ (r : Recall). r) Answers Learns o
 
 abbrev pub passes : List (Seat Recall) → List (Known Opening SetEntry)
 passes seats = map (λ seat. seat.pass) seats
@@ -75,12 +75,12 @@ experts seats = map (λ seat. seat.expert) seats
 module _ (o : Opening) (turns : ℕ) (H : List SetEntry) where
   ending : (end : SeatEnd) (p q : Known Opening SetEntry) (entries : List SetEntry) (ended : Option SeatEnd) → ended ≡ Some end
       → is_out_of_memory ended ≡ false → IsEnd end p entries q → p.made ≡ 0 → q.turns ≡ turns
-      → ((ends_done entries ≡ true) ⊎ ((ends_done entries ≡ false) × (length entries ≡ turns))) × (is_spent ended ≡ not (ends_done entries))
-  ending Done p q entries ended e free end fresh all = (inl end.0, ap is_spent e ∙ ap not (sym end.0))
+      → ((ends_done entries ≡ true) ⊎ ((ends_done entries ≡ false) × (length entries ≡ turns))) × (ended_spent ended ≡ not (ends_done entries))
+  ending Done p q entries ended e free end fresh all = (inl end.0, ap ended_spent e ∙ ap not (sym end.0))
   ending Spent p q entries ended e free end fresh all =
       let took = end.1 in
       let whole = end.2 in
-      (inr (end.0, omega arith), ap is_spent e ∙ ap not (sym end.0))
+      (inr (end.0, omega arith), ap ended_spent e ∙ ap not (sym end.0))
   ending Memory p q entries ended e free end fresh all = absurd (false≢true (sym free ∙ ap is_out_of_memory e))
 
   module _ (n : ℕ) (old new : Seat Recall) (run : Run o old new) (fresh : IsFresh old.pass)
@@ -157,13 +157,13 @@ module _ (o : Opening) (turns : ℕ) (H : List SetEntry) where
 
   -- a seat is spent exactly where one of the numbers was not answered Done last
   pub some_spent : (n : ℕ) (seats : List (Seat Recall)) → EachFrom (Tells turns H) n seats
-      → list_any (λ seat. is_spent seat.ended) seats ≡ true
+      → list_any (λ seat. ended_spent seat.ended) seats ≡ true
       → (e : ℕ) × (n ≤ e) × (e < n + length seats) × (ends_done (own H e) ≡ false)
   some_spent n [] each h = absurd (false≢true h)
-  some_spent n (seat ∷ seats) each h = elim (cases_Bool (is_spent seat.ended)) [
+  some_spent n (seat ∷ seats) each h = elim (cases_Bool (ended_spent seat.ended)) [
     | inl t ↦ (n, omega arith, omega arith, not_back (ends_done (own H n)) (sym each.0.spent ∙ t))
     | inr f ↦
-        let more = some_spent (suc n) seats each.1 (subst (λ b. (b || list_any (λ seat. is_spent seat.ended) seats) ≡ true) f h) in
+        let more = some_spent (suc n) seats each.1 (subst (λ b. (b || list_any (λ seat. ended_spent seat.ended) seats) ≡ true) f h) in
         let from = more.1 in
         let to = more.2 in
         (more.0, omega arith, omega arith, more.3)
@@ -175,14 +175,14 @@ module _ (o : Opening) (turns : ℕ) (H : List SetEntry) where
 
   pub spent_among : (n : ℕ) (seats : List (Seat Recall)) → EachFrom (Tells turns H) n seats → (e : ℕ) → n ≤ e → e < n + length seats
       → ends_done (own H e) ≡ false
-      → list_any (λ seat. is_spent seat.ended) seats ≡ true
+      → list_any (λ seat. ended_spent seat.ended) seats ≡ true
   spent_among n [] each e from to h = absurd (omega arith)
   spent_among n (seat ∷ seats) each e from to h = elim (cases_lt n e) [
     | inr ge ↦
         let same : n ≡ e = omega arith in
-        or_left (is_spent seat.ended) (list_any (λ seat. is_spent seat.ended) seats)
+        or_left (ended_spent seat.ended) (list_any (λ seat. ended_spent seat.ended) seats)
         (each.0.spent ∙ ap not (ap (λ k. ends_done (own H k)) same ∙ h))
-    | inl lt ↦ or_right (is_spent seat.ended) (list_any (λ seat. is_spent seat.ended) seats)
+    | inl lt ↦ or_right (ended_spent seat.ended) (list_any (λ seat. ended_spent seat.ended) seats)
         (spent_among (suc n) seats each.1 e (omega arith) (omega arith) h)
   ]
 

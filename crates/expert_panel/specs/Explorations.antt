@@ -27,9 +27,9 @@ abbrev pub EachNumbered : {X : Type 0} → (ℕ → X → Type 0) → List X →
 EachNumbered P xs = (k : ℕ) (x : _) → slice_get xs k ≡ Some x → P (k + 1) x
 
 -- the seat made all its turns before it was done
-abbrev pub is_spent : Option SeatEnd → Bool
-is_spent (Some Spent) = true
-is_spent _ = false
+abbrev pub ended_spent : Option SeatEnd → Bool
+ended_spent (Some Spent) = true
+ended_spent _ = false
 
 -- the seat ran out of memory
 abbrev pub is_out_of_memory : Option SeatEnd → Bool

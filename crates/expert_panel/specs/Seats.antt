@@ -36,7 +36,7 @@ module _ {X M : Type 0} (width_of : X → ℕ) (memory_of : X → M) (Answering 
     pub width : width_of new ≡ width_of old
 
   -- the seat ran
-  pub record HasRun (old new : Seat X) : Type 0 where
+  pub record HasRunSeat (old new : Seat X) : Type 0 where
     pub end : SeatEnd
     pub ended : new.ended ≡ Some end
     pub attended : HasAttended old.pass old.expert end new.pass new.expert

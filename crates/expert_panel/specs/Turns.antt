@@ -12,9 +12,9 @@ use Rattle.oracle_expert.specs.Runs.{IsTurn, Stops, IsUnanswered}
 
 module _ (o : Opening) where
   -- the pass after a turn was refused: none was left, or memory ran out in it, and it made no entry
-  abbrev pub IsRefused : TurnFault → Known Opening SetEntry → Known Opening SetEntry → Type 0
-  IsRefused Spent p q = (q ≡ p) × (p.made ≡ p.turns)
-  IsRefused Memory p q = Looks o p q
+  abbrev pub IsRefusedTurn : TurnFault → Known Opening SetEntry → Known Opening SetEntry → Type 0
+  IsRefusedTurn Spent p q = (q ≡ p) × (p.made ≡ p.turns)
+  IsRefusedTurn Memory p q = Looks o p q
 
 module _ {M : Type 0} (Answering : M → Rule → Answer → M → Type 0) (Learning : M → SetReply → M → Type 0) (o : Opening) where
   -- a turn of the pass did what was due, and got a reply
@@ -31,5 +31,5 @@ module _ {M : Type 0} (Answering : M → Rule → Answer → M → Type 0) (Lear
   -- no event came of the turn, though the expert may have answered
   pub record IsStopped (due : Option Rule) (p : Known Opening SetEntry) (old : M) (fault : TurnFault) (q : Known Opening SetEntry)
       (new : M) : Type 0 where
-    pub refused : IsRefused o fault p q ⊎ IsSilent due p old fault q new
+    pub refused : IsRefusedTurn o fault p q ⊎ IsSilent due p old fault q new
     pub stops : Stops Answering Learning p.number due old new

@@ -6,7 +6,7 @@ ghost use Rattle.turn_lock.specs.Passes.{badge, Belongs};
 ghost use Rattle.expert_gate.specs.Turns.{RepliesTo};
 ghost use Rattle.oracle_expert.specs.Answers.{HasWideAnswer, event_of};
 ghost use Rattle.oracle_expert.specs.Runs.{question_after, is_done};
-ghost use Rattle.expert_panel.specs.Turns.{IsPlayed, IsRefused, IsStopped};
+ghost use Rattle.expert_panel.specs.Turns.{IsPlayed, IsRefusedTurn, IsStopped};
 ghost use Rattle.expert_panel.specs.Seats.{HasAttended};
 
 use crate::end::SeatEnd;
@@ -94,7 +94,7 @@ fn answer<X: Expert, R: Wait, S: LevelSearch>(
     ensures stopped { IfErr result (λ fault. IsStopped X.answers X.learns gate.now.base (Some question.now)
         pass.old (X.memory expert.old) fault pass.new (X.memory expert.new)) }
 {
-    if pass.is_spent() {
+    if pass.ended_spent() {
         return Err(TurnFault::Spent);
     }
     let answer = expert.answer(alloc, question)?;
@@ -116,7 +116,7 @@ fn give<R: Wait, S: LevelSearch>(
     ensures same { badge pass.new ≡ badge pass.old }
     ensures entry { IfOk result (λ reply. RepliesTo gate.now.base pass.old (event_of pass.old.number answer) reply pass.new) }
     ensures wide { IfOk result (HasWideReply gate.now.base.table.context.width) }
-    ensures refused { IfErr result (λ fault. IsRefused gate.now.base fault pass.old pass.new) }
+    ensures refused { IfErr result (λ fault. IsRefusedTurn gate.now.base fault pass.old pass.new) }
 {
     match answer {
         Answer::Confirm => gate.confirm_by(rt, search, pass),

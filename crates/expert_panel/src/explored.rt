@@ -12,7 +12,7 @@ ghost use Rattle.oracle_expert.specs.Oracles.{untold, no_conflict};
 ghost use Rattle.oracle_expert.specs.Intents.{HasIntentsOf, are_intents};
 ghost use Rattle.oracle_expert.specs.Runs.{ends_done};
 ghost use Rattle.expert_panel.specs.Explorations.{IsOraclesShare, EachNumbered, HasEnded, HasFewRows, IsWithinTurns, HasAgreed};
-ghost use Rattle.expert_panel.specs.Explorations.{HasEvenRows, is_spent, is_out_of_memory};
+ghost use Rattle.expert_panel.specs.Explorations.{HasEvenRows, ended_spent, is_out_of_memory};
 
 use crate::end::SeatEnd;
 use crate::panel::run_panel;
@@ -175,14 +175,14 @@ fn any_out_of_memory(seats: &[Seat<Oracle>]) -> bool
 
 /// Whether a seat made all its turns before it was done.
 fn any_spent(seats: &[Seat<Oracle>]) -> bool
-    ensures { result ≡ list_any (λ seat. is_spent seat.ended) seats.now }
+    ensures { result ≡ list_any (λ seat. ended_spent seat.ended) seats.now }
 {
-    seats.iter().any(|seat| is_spent(&seat.ended))
+    seats.iter().any(|seat| ended_spent(&seat.ended))
 }
 
 /// Whether the seat made all its turns before it was done.
-fn is_spent(ended: &Option<SeatEnd>) -> bool
-    ensures { result ≡ is_spent ended.now }
+fn ended_spent(ended: &Option<SeatEnd>) -> bool
+    ensures { result ≡ ended_spent ended.now }
 {
     matches!(ended, Some(SeatEnd::Spent))
 }

@@ -9,7 +9,7 @@ ghost use Rattle.explore_state.specs.History.{Opening, opening_state};
 ghost use Rattle.oracle_expert.specs.Counts.{recorded_in};
 ghost use Rattle.oracle_expert.specs.Oracles.{Recall, Answers, Learns, no_conflict};
 ghost use Rattle.expert_panel.specs.declared.seat.Seat.{Seat};
-ghost use Rattle.expert_panel.specs.Seats.{HasRun};
+ghost use Rattle.expert_panel.specs.Seats.{HasRunSeat};
 ghost use Rattle.expert_panel.specs.Explorations.{SeatsTurns, HasMadeAtMost, most_turns_between};
 
 /// The number of turns that an oracle makes at a seat of a panel, if all experts may hold one question: `untold` if no row was dropped
@@ -18,13 +18,13 @@ ghost use Rattle.expert_panel.specs.Explorations.{SeatsTurns, HasMadeAtMost, mos
 pub fn turns_of_a_seat()
     ensures untold { (o : Opening) (old new : Seat Recall) → rows_respect o.settings.known o.table.context ≡ true
         → o.settings.holders ≡ MAX_EXPERTS
-        → HasRun (λ oracle. oracle.table.context.width) (λ oracle. oracle) Answers Learns o old new
+        → HasRunSeat (λ oracle. oracle.table.context.width) (λ oracle. oracle) Answers Learns o old new
         → old.expert.conflicts ≡ no_conflict old.expert.table
         → (H : List SetEntry) → IsLegal (opening_state o) H → is_expert new.pass.number ≡ true
         → own H new.pass.number ≡ new.pass.own → SeatsTurns H old new }
     ensures any { (o : Opening) (old new : Seat Recall) → rows_respect o.settings.known o.table.context ≡ true
         → o.settings.holders ≡ MAX_EXPERTS
-        → HasRun (λ oracle. oracle.table.context.width) (λ oracle. oracle) Answers Learns o old new
+        → HasRunSeat (λ oracle. oracle.table.context.width) (λ oracle. oracle) Answers Learns o old new
         → (H : List SetEntry) → IsLegal (opening_state o) H → is_expert new.pass.number ≡ true
         → own H new.pass.number ≡ new.pass.own
         → HasMadeAtMost (most_turns_between H old.expert new.expert) old new }
@@ -35,7 +35,7 @@ pub fn turns_of_a_seat()
 pub fn draws_of_a_seat()
     ensures { (o : Opening) (old new : Seat Recall) → rows_respect o.settings.known o.table.context ≡ true
         → o.settings.holders ≡ MAX_EXPERTS
-        → HasRun (λ oracle. oracle.table.context.width) (λ oracle. oracle) Answers Learns o old new
+        → HasRunSeat (λ oracle. oracle.table.context.width) (λ oracle. oracle) Answers Learns o old new
         → (H : List SetEntry) → IsLegal (opening_state o) H → is_expert new.pass.number ≡ true
         → own H new.pass.number ≡ new.pass.own
         → (before between after : List SetEntry) (first second : SetEntry)

@@ -3,7 +3,7 @@
 ghost use Rattle.std.specs.Prelude.{All};
 ghost use Rattle.std.specs.Thread.{IsSync};
 ghost use Rattle.expert_gate.specs.Seats.{EachSeat};
-ghost use Rattle.expert_panel.specs.Seats.{IsSeatOf, HasRun};
+ghost use Rattle.expert_panel.specs.Seats.{IsSeatOf, HasRunSeat};
 
 use crate::attend::attend;
 use crate::seat::Seat;
@@ -24,15 +24,15 @@ pub fn run_panel<X: Expert + Send, R: Threads + Wait + Sync>(
     seats: &mut [Seat<X>],
 )
     requires { All (IsSeatOf X.width gate.now) seats.old }
-    ensures { EachSeat (HasRun X.width X.memory X.answers X.learns gate.now.base) seats.old seats.new }
+    ensures { EachSeat (HasRunSeat X.width X.memory X.answers X.learns gate.now.base) seats.old seats.new }
 {
     let most_threads = seats.len().min(MAX_EXPERTS as usize) as u32;
-    run_seats(rt, &alloc, &most_threads, gate, seats)
+    run_halves(rt, &alloc, &most_threads, gate, seats)
 }
 
 /// Runs the seats in halves. The allocator and the number of threads are lent: if the threads held them, what they write would be
 /// lost.
-fn run_seats<X: Expert + Send, R: Threads + Wait + Sync>(
+fn run_halves<X: Expert + Send, R: Threads + Wait + Sync>(
     rt: &R,
     alloc: &Global,
     most_threads: &u32,
@@ -40,7 +40,7 @@ fn run_seats<X: Expert + Send, R: Threads + Wait + Sync>(
     seats: &mut [Seat<X>],
 )
     requires { All (IsSeatOf X.width gate.now) seats.old }
-    ensures { EachSeat (HasRun X.width X.memory X.answers X.learns gate.now.base) seats.old seats.new }
+    ensures { EachSeat (HasRunSeat X.width X.memory X.answers X.learns gate.now.base) seats.old seats.new }
 {
     if seats.len() == 0 {
         return;
@@ -54,12 +54,12 @@ fn run_seats<X: Expert + Send, R: Threads + Wait + Sync>(
         rt,
         &mut ||
             requires { IsSync R.row × All (IsSeatOf X.width gate.now) front.now }
-            ensures { EachSeat (HasRun X.width X.memory X.answers X.learns gate.entry.now.base) front.entry.now front.exit.now }
-        { run_seats(rt, alloc, most_threads, gate, front) },
+            ensures { EachSeat (HasRunSeat X.width X.memory X.answers X.learns gate.entry.now.base) front.entry.now front.exit.now }
+        { run_halves(rt, alloc, most_threads, gate, front) },
         &mut ||
             requires { IsSync R.row × All (IsSeatOf X.width gate.now) back.now }
-            ensures { EachSeat (HasRun X.width X.memory X.answers X.learns gate.entry.now.base) back.entry.now back.exit.now }
-        { run_seats(rt, alloc, most_threads, gate, back) },
+            ensures { EachSeat (HasRunSeat X.width X.memory X.answers X.learns gate.entry.now.base) back.entry.now back.exit.now }
+        { run_halves(rt, alloc, most_threads, gate, back) },
     );
 }
 
@@ -72,7 +72,7 @@ fn run_seat<X: Expert + Send, R: Threads + Wait + Sync>(
     seat: &mut Seat<X>,
 )
     requires { IsSeatOf X.width gate.now seat.old }
-    ensures { HasRun X.width X.memory X.answers X.learns gate.now.base seat.old seat.new }
+    ensures { HasRunSeat X.width X.memory X.answers X.learns gate.now.base seat.old seat.new }
 {
     let search = SideBySide { rt, most_threads };
     let end = attend(rt, alloc, &search, gate, &mut seat.pass, &mut seat.expert);

@@ -29,11 +29,11 @@ pub fn seat_experts<X: Drop>(
     ensures experts { IfOk result (λ seats. map (λ seat. seat.expert) seats.items ≡ experts.items) }
 {
     let seats = Vec::with_capacity(alloc, passes.len())?;
-    Ok(zip_seats(seats, passes, experts))
+    Ok(fill_seats(seats, passes, experts))
 }
 
 /// Puts the seats into a list that has room for them.
-fn zip_seats<X: Drop>(
+fn fill_seats<X: Drop>(
     mut seats: Vec<Seat<X>>,
     passes: Vec<ExpertPass>,
     experts: Vec<X>,

@@ -4,7 +4,7 @@ use Rattle.fca_model.specs.Tables.{Text}
 use Rattle.fca_model.specs.Exploration.{SetEvent}
 use Rattle.expert_scripts.specs.declared.fault.ScriptFault.{ScriptFault}
 use Rattle.expert_scripts.specs.declared.partial.PartialSettings as read
-use Rattle.expert_scripts.specs.declared.reading.Reading as part
+use Rattle.expert_scripts.specs.declared.reading.PartialScript as part
 use Rattle.expert_scripts.specs.declared.reading.Stage.{Stage}
 use Rattle.expert_scripts.specs.declared.reading.Stage.TheVariants.{Heading, Settings, Events}
 use Rattle.expert_scripts.specs.Scripts.{ScriptContent, PartialSettings, content_of_lines, settings_then_events, script_content}
@@ -26,5 +26,5 @@ after_events events (Ok said) = Ok (record said { events = events ++ said.events
 after_events events (Err fault) = Err fault
 
 -- the content of the whole script, if these lines are still to come
-abbrev pub content_to_come : ℕ → part.Reading → List (ℕ × Text) → Result ScriptContent ScriptFault
+abbrev pub content_to_come : ℕ → part.PartialScript → List (ℕ × Text) → Result ScriptContent ScriptFault
 content_to_come n r ls = after_events r.events.items (by_stage n (partial_of r.settings) r.stage ls)

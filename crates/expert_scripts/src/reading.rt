@@ -32,20 +32,20 @@ pub(crate) enum Stage {
 
 /// A script of which the first lines were read.
 #[derive(Drop)]
-pub(crate) struct Reading {
+pub(crate) struct PartialScript {
     settings: PartialSettings,
     events: Vec<Event>,
     stage: Stage,
 }
 
-impl Reading {
+impl PartialScript {
     /// A script of which no line was read.
-    pub(crate) fn new(alloc: Global, n: u32) -> Result<Reading, Memory>
+    pub(crate) fn new(alloc: Global, n: u32) -> Result<PartialScript, Memory>
         requires { n ≤ MAX_ATTRIBUTES }
-        ensures width { IfOk result (λ reading. reading.settings.known.width ≡ n) }
-        ensures new { IfOk result (λ reading. (ls : List (ℕ × Text)) → content_to_come n reading ls ≡ content_of_lines n no_settings ls) }
+        ensures width { IfOk result (λ script. script.settings.known.width ≡ n) }
+        ensures new { IfOk result (λ script. (ls : List (ℕ × Text)) → content_to_come n script ls ≡ content_of_lines n no_settings ls) }
     {
-        Ok(Reading {
+        Ok(PartialScript {
             settings: PartialSettings::new(alloc, n)?,
             events: Vec::new(alloc),
             stage: Stage::Heading,

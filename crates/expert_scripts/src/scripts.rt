@@ -8,7 +8,7 @@ ghost use Rattle.expert_scripts.specs.Scripts.{content_of, script_form, may_appl
 ghost use Rattle.expert_scripts.specs.Transcripts.{SettingsCanBeWritten};
 
 use crate::fault::ScriptFault;
-use crate::reading::Reading;
+use crate::reading::PartialScript;
 use expert_wire::is_skipped;
 use exploration_terms::{Event, Settings};
 use std::alloc::Global;
@@ -73,7 +73,7 @@ pub fn read_script(alloc: Global, bytes: &[u8], n: u32) -> Result<Script, Script
     ensures fits { IfOk result (λ script. list_all (may_apply n) script.events ≡ true) }
     ensures refused { IfErr result (λ e. (e ≡ ScriptFault.Memory) ⊎ (script_form bytes.now n ≡ Err e)) }
 {
-    let mut reading = Reading::new(alloc, n)?;
+    let mut script = PartialScript::new(alloc, n)?;
     let mut rest = bytes;
     let mut number = 0;
     while !rest.is_empty() {
@@ -83,7 +83,7 @@ pub fn read_script(alloc: Global, bytes: &[u8], n: u32) -> Result<Script, Script
         if is_skipped(line) {
             continue;
         }
-        reading.take(alloc, line, n, number)?;
+        script.take(alloc, line, n, number)?;
     }
-    Ok(reading.into_script())
+    Ok(script.into_script())
 }

@@ -26,7 +26,7 @@ use Rattle.fca_model.proofs.ValidLemmas.{opening_valid}
 use Rattle.oracle_expert.specs.Counts.{recorded_in}
 use Rattle.oracle_expert.specs.Intents.{HasIntentsOf, are_intents}
 use Rattle.oracle_expert.specs.Oracles.{Recall, Conflicts, no_conflict}
-use Rattle.oracle_expert.specs.Runs.{Moment, start, moment_after, moment_at, OracleRunsFrom, IsOracleFront, ends_done, conflicts_of}
+use Rattle.oracle_expert.specs.Runs.{OracleMoment, start, moment_after, moment_at, OracleRunsFrom, IsOracleFront, ends_done, conflicts_of}
 use Rattle.oracle_expert.proofs.CountLemmas.{oracle_turns}
 use Rattle.oracle_expert.proofs.DrawLemmas.{recorded_between, runs_on}
 use Rattle.fca_model.specs.declared.Memory.{Memory}

@@ -25,7 +25,7 @@ pub(crate) fn give_back(held: &mut Vec<Hold>, expert: u8)
 }
 
 /// How many other experts hold a question with the premise.
-pub(crate) fn holders(held: &[Hold], expert: u8, premise: &Attrs) -> usize
+pub(crate) fn other_holders(held: &[Hold], expert: u8, premise: &Attrs) -> usize
     ensures { result ≡ holders_of premise.now (given_back expert held.now) }
 {
     let mut count = 0;

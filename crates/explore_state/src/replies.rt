@@ -5,7 +5,7 @@ ghost use Rattle.fca_model.specs.declared.Reply.TheVariants.{Accepted};
 ghost use Rattle.fca_model.specs.Exploration.{State, rules_of, given_back, draw_reply, confirm_reply, row_reply};
 ghost use Rattle.explore_state.specs.Fewest.{IsFewest};
 
-use crate::holds::holders;
+use crate::holds::other_holders;
 use crate::{Hold, Implication, Question, Reply};
 use answer_check::{Verdict, check_confirm, check_row};
 use attr_bits::Attrs;
@@ -21,7 +21,7 @@ pub(crate) fn reply_to_draw(questions: &[Question], held: &[Hold], expert: u8, m
         return Reply::Done;
     }
     let question = &questions[place_of_fewest(questions, held, expert)];
-    if holders(held, expert, &question.premise) >= most {
+    if other_holders(held, expert, &question.premise) >= most {
         return Reply::AllHeld;
     }
     Reply::Ask(*question)
@@ -34,12 +34,12 @@ fn place_of_fewest(questions: &[Question], held: &[Hold], expert: u8) -> usize
     ensures { IsFewest (given_back expert held.now) questions.now (length questions.now) result }
 {
     let mut best = 0;
-    let mut fewest = holders(held, expert, &questions[0].premise);
+    let mut fewest = other_holders(held, expert, &questions[0].premise);
     for place in 1..questions.len() {
         if fewest == 0 {
             return best;
         }
-        let count = holders(held, expert, &questions[place].premise);
+        let count = other_holders(held, expert, &questions[place].premise);
         if count < fewest {
             best = place;
             fewest = count;

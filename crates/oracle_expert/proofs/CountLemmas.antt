@@ -44,7 +44,7 @@ use Rattle.exploration_terms.proofs.RecordedLemmas.{draw_not_recorded}
 use Rattle.oracle_expert.specs.Answers.{event_of}
 use Rattle.oracle_expert.specs.Oracles.{Conflicts, Recall, Answers, Learns, no_conflict, conflicts_told, counterexample, answer_with}
 use Rattle.oracle_expert.specs.Oracles.{drop_given, drop_at}
-use Rattle.oracle_expert.specs.Runs.{Moment, SeatRun, IsOracleFront, conflicts_of, row_due, OracleRunsFrom, StopsAtDone, event_due}
+use Rattle.oracle_expert.specs.Runs.{OracleMoment, SeatRun, IsOracleFront, conflicts_of, row_due, OracleRunsFrom, StopsAtDone, event_due}
 use Rattle.oracle_expert.specs.Runs.{moment_after, moment_at, is_done}
 use Rattle.oracle_expert.proofs.AnswerLemmas.{counterexample_is}
 use Rattle.oracle_expert.specs.Counts.{recorded_in, dropped}
@@ -205,7 +205,7 @@ others_keep c n s cs (Some q) x b =
     (λ name r p _ _ _ _ _. let longer = length-append s.context.rows (r ∷ []) in omega arith)
 
 module _ (D : NamedContext) (e : ℕ) (i : is_expert e ≡ true) (c : ℕ) where
-  abbrev Step : ℕ → State → Moment → SetReply → Type 0
+  abbrev Step : ℕ → State → OracleMoment → SetReply → Type 0
   Step n t m reply = ((is_done reply ≡ true) × (n + 1 + 2 * c ≤ 2 * rows_and_rules t + dropped m.conflicts + 1))
       ⊎ (Bounded c (n + 1) t m.conflicts m.due × Holding e t m.due)
 
@@ -320,7 +320,7 @@ length-told cs (Some j) (Breaks k i) = at (slice_get cs j)
     at (Some (Some other)) = refl
 length-told cs given _ = refl
 
-length-conflicts : (D : NamedContext) (m : Moment) (entries : List SetEntry) → length (moment_at D m entries).conflicts ≡ length m.conflicts
+length-conflicts : (D : NamedContext) (m : OracleMoment) (entries : List SetEntry) → length (moment_at D m entries).conflicts ≡ length m.conflicts
 length-conflicts D m [] = refl
 length-conflicts D m (entry ∷ entries) = length-conflicts D (moment_after D m entry.reply) entries
     ∙ length-told m.conflicts (row_due D m) entry.reply

@@ -25,7 +25,7 @@ use Rattle.oracle_expert.specs.declared.expert.Answer.TheVariants.{Confirm, Row}
 use Rattle.oracle_expert.specs.Answers.{event_of}
 use Rattle.oracle_expert.specs.Oracles.{Conflicts, Recall, Answers, Learns, counterexample, answer_with, answer_of}
 use Rattle.oracle_expert.specs.Counts.{recorded_in}
-use Rattle.oracle_expert.specs.Runs.{Moment, OracleRunsFrom, SeatRun, event_due, moment_after, moment_at, is_done}
+use Rattle.oracle_expert.specs.Runs.{OracleMoment, OracleRunsFrom, SeatRun, event_due, moment_after, moment_at, is_done}
 use Rattle.oracle_expert.proofs.AnswerLemmas.{counterexample_is}
 use Rattle.oracle_expert.proofs.TurnLemmas.{is_stale, moment, draws, confirms, gives}
 use Rattle.oracle_expert.proofs.RunLemmas.{oracle_runs}
@@ -55,12 +55,12 @@ draw_is_own e y h = ap (λ x. eqb (expert_of x) e) h ∙ eq-eqb e e refl
 
 module _ (D : NamedContext) (e : ℕ) where
   -- a draw of the expert comes next
-  draws_next : (m : Moment) (y : SetEntry) (after : List SetEntry) → y.event ≡ Draw e → OracleRunsFrom D e m (own (y ∷ after) e)
+  draws_next : (m : OracleMoment) (y : SetEntry) (after : List SetEntry) → y.event ≡ Draw e → OracleRunsFrom D e m (own (y ∷ after) e)
       → OracleRunsFrom D e m (y ∷ own after e)
   draws_next m y after h = subst (λ b. OracleRunsFrom D e m (cond b (y ∷ own after e) (own after e))) (draw_is_own e y h)
 
   -- the answer is recorded, or the question is still due in the same state
-  abbrev Answered : State → Rule → State → Moment → SetReply → Type 0
+  abbrev Answered : State → Rule → State → OracleMoment → SetReply → Type 0
   Answered s q t m reply = (is_recorded reply ≡ true) ⊎ ((t ≡ s) × (m.due ≡ Some q))
 
   abbrev AnsweredBy : State → Rule → Conflicts → SetEvent → Type 0
@@ -142,7 +142,7 @@ module _ (D : NamedContext) (e : ℕ) where
   -- ---- from the first draw on
 
   -- the draw is answered by an open question, which the expert holds, or by Done
-  abbrev Drawn : State → Moment → SetReply → Type 0
+  abbrev Drawn : State → OracleMoment → SetReply → Type 0
   Drawn t m reply = (is_done reply ≡ true) ⊎ ((q : Rule) × (held_by e t.holds ≡ Some q) × (is_stale t q ≡ false) × (m.due ≡ Some q))
 
   abbrev DrawnFrom : State → Conflicts → SetEvent → Type 0
@@ -163,7 +163,7 @@ module _ (D : NamedContext) (e : ℕ) where
   module _ (i : is_expert e ≡ true) where
     pub recorded_between : (es : List SetEvent) (s : State) → IsValid s → s.settings.holders ≡ MAX_EXPERTS
         → list_all (λ event. is_expert (expert_of event)) es ≡ true
-        → (m : Moment) (before between after : List SetEntry) (first second : SetEntry)
+        → (m : OracleMoment) (before between after : List SetEntry) (first second : SetEntry)
         → journal_of s es ≡ before ++ (first ∷ between ++ second ∷ after)
         → first.event ≡ Draw e → second.event ≡ Draw e → OracleRunsFrom D e m (own (first ∷ between ++ second ∷ after) e)
         → 1 ≤ recorded_in between
@@ -209,7 +209,7 @@ module _ (D : NamedContext) (e : ℕ) where
 -- ---- in a history
 
 -- of a run the entries behind some of them are a run
-pub runs_on : (D : NamedContext) (e : ℕ) (m : Moment) (xs ys : List SetEntry) → OracleRunsFrom D e m (xs ++ ys)
+pub runs_on : (D : NamedContext) (e : ℕ) (m : OracleMoment) (xs ys : List SetEntry) → OracleRunsFrom D e m (xs ++ ys)
     → OracleRunsFrom D e (moment_at D m xs) ys
 runs_on D e m [] ys run = run
 runs_on D e m (x ∷ xs) ys run = runs_on D e (moment_after D m x.reply) xs ys run.2

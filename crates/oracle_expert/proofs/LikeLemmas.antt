@@ -31,7 +31,7 @@ use Rattle.fca_model.proofs.RunLemmas.{legal_events}
 use Rattle.oracle_expert.specs.Intents.{HasIntentsOf}
 use Rattle.oracle_expert.specs.Answers.{event_of}
 use Rattle.oracle_expert.specs.Oracles.{Conflicts, no_conflict, is_counterexample, counterexample, answer_with}
-use Rattle.oracle_expert.specs.Runs.{Moment, IsOracleFront, OracleRunsFrom, event_due, moment_after, moment_at, conflicts_of}
+use Rattle.oracle_expert.specs.Runs.{OracleMoment, IsOracleFront, OracleRunsFrom, event_due, moment_after, moment_at, conflicts_of}
 use Rattle.oracle_expert.proofs.AnswerLemmas.{counterexample_is}
 use Rattle.oracle_expert.proofs.IntentLemmas.{of_intents, of_intents-same, intents_among, holds-intents, rows_closed}
 use Rattle.oracle_expert.proofs.TurnLemmas.{moment, draws, confirms, gives}
@@ -117,7 +117,7 @@ pub record IsOpenTo (D : Context) (s : State) : Type 0 where
   pub all : s.settings.holders ≡ MAX_EXPERTS
 
 module _ (D : Context) (T : NamedContext) (like : IsLike D T.context) (e : ℕ) (i : is_expert e ≡ true) where
-  abbrev Step : State → Moment → SetReply → Type 0
+  abbrev Step : State → OracleMoment → SetReply → Type 0
   Step t m reply = IsWithin D t × (m.conflicts ≡ no_conflict T) × Holding e t m.due
 
   abbrev Turned : State → Conflicts → Option Rule → SetEvent → Type 0
@@ -170,16 +170,16 @@ module _ (D : Context) (T : NamedContext) (like : IsLike D T.context) (e : ℕ) 
 
 module _ (D : Context) (tables : ℕ → NamedContext) (like : (e : ℕ) → IsLike D (tables e).context) where
   -- where each expert stands
-  pub record AllStand (s : State) (at : ℕ → Moment) (es : List SetEvent) : Type 0 where
+  pub record AllStand (s : State) (at : ℕ → OracleMoment) (es : List SetEvent) : Type 0 where
     pub free : (e : ℕ) → (at e).conflicts ≡ no_conflict (tables e)
     pub held : (e : ℕ) → Holding e s (at e).due
     pub runs : (e : ℕ) → OracleRunsFrom (tables e) e (at e) (own (journal_of s es) e)
 
   -- after an event of expert e0
-  abbrev moved : State → (ℕ → Moment) → SetEvent → ℕ → Moment
+  abbrev moved : State → (ℕ → OracleMoment) → SetEvent → ℕ → OracleMoment
   moved s at x e = cond (eqb (expert_of x) e) (moment_after (tables e) (at e) (reply_to s x)) (at e)
 
-  module _ (s : State) (at : ℕ → Moment) (x : SetEvent) (es : List SetEvent) (v : IsValid s) (open_to : IsOpenTo D s)
+  module _ (s : State) (at : ℕ → OracleMoment) (x : SetEvent) (es : List SetEvent) (v : IsValid s) (open_to : IsOpenTo D s)
       (wide : D.width ≡ s.context.width) (inside : IsWithin D s) (i : is_expert (expert_of x) ≡ true)
       (stand : AllStand s at (x ∷ es)) where
     abbrev entry : SetEntry
@@ -248,7 +248,7 @@ module _ (D : Context) (tables : ℕ → NamedContext) (like : (e : ℕ) → IsL
     all = ap (λ (t : Settings). t.holders) (next_settings s x) ∙ open_to.all;
   }
 
-  course : (es : List SetEvent) (s : State) (at : ℕ → Moment) → IsValid s → IsOpenTo D s → D.width ≡ s.context.width
+  course : (es : List SetEvent) (s : State) (at : ℕ → OracleMoment) → IsValid s → IsOpenTo D s → D.width ≡ s.context.width
       → list_all (λ event. is_expert (expert_of event)) es ≡ true → IsWithin D s → AllStand s at es
       → IsWithin D (state_after s es) × ((e : ℕ) → (moment_at (tables e) (at e) (own (journal_of s es) e)).conflicts ≡ no_conflict
       (tables e))

@@ -7,19 +7,19 @@ use Rattle.fca_model.specs.Implications.{Rule}
 use Rattle.fca_model.specs.Exploration.{SetReply, SetEntry}
 use Rattle.oracle_expert.specs.Answers.{event_of}
 use Rattle.oracle_expert.specs.Oracles.{Conflicts, Recall, Answers, Learns, counterexample, answer_of, conflicts_told}
-use Rattle.oracle_expert.specs.Runs.{Moment, RunsFrom, OracleRunsFrom, IsAnswered, question_after, moment_at}
+use Rattle.oracle_expert.specs.Runs.{OracleMoment, RunsFrom, OracleRunsFrom, IsAnswered, question_after, moment_at}
 
 conflicts_told-None : (conflicts : Conflicts) (reply : SetReply) → conflicts_told conflicts None reply ≡ conflicts
 conflicts_told-None conflicts (Breaks k i) = refl
 conflicts_told-None conflicts _ = refl
 
 -- the run is an oracle's, and leaves the oracle with its table and with the conflicts of the entries
-pub record IsOracles (D : NamedContext) (e : ℕ) (m : Moment) (entries : List SetEntry) (new : Recall) : Type 0 where
+pub record IsOracles (D : NamedContext) (e : ℕ) (m : OracleMoment) (entries : List SetEntry) (new : Recall) : Type 0 where
   pub run : OracleRunsFrom D e m entries
   pub table : new.table ≡ D
   pub conflicts : new.conflicts ≡ (moment_at D m entries).conflicts
 
-abbrev moment : Option Rule → Conflicts → Moment
+abbrev moment : Option Rule → Conflicts → OracleMoment
 moment due conflicts = record { due = due; conflicts = conflicts }
 
 -- what the oracle remembers after the reply to its answer

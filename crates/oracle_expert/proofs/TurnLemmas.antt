@@ -25,7 +25,7 @@ use Rattle.fca_model.proofs.StepLemmas.{first_with_none, draw_asks}
 use Rattle.fca_model.proofs.ListLemmas.{list_all-from_none}
 use Rattle.fca_model.proofs.ValidLemmas.{never_all_held}
 use Rattle.oracle_expert.specs.Oracles.{Conflicts, counterexample, drop_given}
-use Rattle.oracle_expert.specs.Runs.{Moment, moment_after}
+use Rattle.oracle_expert.specs.Runs.{OracleMoment, moment_after}
 
 -- ---- searches
 
@@ -73,10 +73,10 @@ is_stale s q = list_any (λ r. refutes r q) s.context.rows || has_premise s.acce
 abbrev pub holding : ℕ → Rule → State → State
 holding e q s = record s { holds = given_back e s.holds ++ record { expert = e; question = q } ∷ [] }
 
-abbrev pub moment : Option Rule → Conflicts → Moment
+abbrev pub moment : Option Rule → Conflicts → OracleMoment
 moment due conflicts = record { due = due; conflicts = conflicts }
 
-module _ (s : State) (D : NamedContext) (e : ℕ) (conflicts : Conflicts) (Goal : State → Moment → SetReply → Type 0) where
+module _ (s : State) (D : NamedContext) (e : ℕ) (conflicts : Conflicts) (Goal : State → OracleMoment → SetReply → Type 0) where
   pub draws : IsValid s → s.settings.holders ≡ MAX_EXPERTS → is_expert e ≡ true
       → ((q : Rule) → Among (open_in s) q → Goal (holding e q s) (moment (Some q) conflicts) (Ask q))
       → Goal (release e s) (moment None conflicts) Done

@@ -79,12 +79,12 @@ module _ {M : Type 0} (Answering : M → Rule → Answer → M → Type 0) (Lear
 -- ---- an oracle
 
 -- how far the run of an oracle has come: the question that is due, if one is, and the rows that were dropped
-pub record Moment : Type 0 where
+pub record OracleMoment : Type 0 where
   pub due : Option Rule
   pub conflicts : Conflicts
 
 -- a draw is due, and nothing was dropped
-abbrev pub start : NamedContext → Moment
+abbrev pub start : NamedContext → OracleMoment
 start D = record { due = None; conflicts = no_conflict D }
 
 -- the event of expert e, if this question is due, or a draw
@@ -93,20 +93,20 @@ event_due D e conflicts None = Draw e
 event_due D e conflicts (Some q) = event_of e (answer_of D conflicts q)
 
 -- the row of the table that the answer due gives, if it gives one
-abbrev pub row_due : NamedContext → Moment → Option ℕ
+abbrev pub row_due : NamedContext → OracleMoment → Option ℕ
 row_due D m = option_and_then (counterexample D m.conflicts) m.due
 
 -- after the reply to what was due
-abbrev pub moment_after : NamedContext → Moment → SetReply → Moment
+abbrev pub moment_after : NamedContext → OracleMoment → SetReply → OracleMoment
 moment_after D m reply = record { due = question_after m.due reply; conflicts = conflicts_told m.conflicts (row_due D m) reply }
 
 -- after all replies
-abbrev pub moment_at : NamedContext → Moment → List SetEntry → Moment
+abbrev pub moment_at : NamedContext → OracleMoment → List SetEntry → OracleMoment
 moment_at D m [] = m
 moment_at D m (entry ∷ rest) = moment_at D (moment_after D m entry.reply) rest
 
 -- each event is what is due for an oracle of D with number e, from this moment on, and nothing comes after Done
-abbrev pub OracleRunsFrom : NamedContext → ℕ → Moment → List SetEntry → Type 0
+abbrev pub OracleRunsFrom : NamedContext → ℕ → OracleMoment → List SetEntry → Type 0
 OracleRunsFrom D e m [] = Unit {0}
 OracleRunsFrom D e m (entry ∷ rest) = (entry.event ≡ event_due D e m.conflicts m.due) × StopsAtDone entry.reply rest
     × OracleRunsFrom D e (moment_after D m entry.reply) rest

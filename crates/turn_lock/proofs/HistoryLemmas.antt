@@ -6,7 +6,7 @@ use Rattle.std.proofs.Common.{All, sym, refl, ap, ◌∙◌, subst, inl, inr, �
 use Rattle.std.proofs.lemmas.List.{append-nil}
 use Rattle.std.proofs.lemmas.List.Elements.{filter-append}
 use Rattle.std.proofs.lemmas.Bool.{cases_Bool}
-use Rattle.turn_lock.specs.Histories.{StartsWith, own_of, longer, Among}
+use Rattle.turn_lock.specs.Histories.{StartsWith, own_of, longer, IsOneOf}
 
 module _ {E : Type 0} where
   pub starts_trans : (a b c : List E) → StartsWith c b → StartsWith b a → StartsWith c a
@@ -37,19 +37,19 @@ module _ {E : Type 0} (by : E → ℕ) where
   own_of-other n k e is ne = ap (λ (c : Bool). cond c (e ∷ []) []) (ne_eqb (by e) k (λ h. ne (sym h ∙ is)))
 
 module _ {X : Type 0} where
-  pub among_append : (xs ys : List X) (x : X) → Among (xs ++ ys) x → Among xs x ⊎ Among ys x
+  pub among_append : (xs ys : List X) (x : X) → IsOneOf (xs ++ ys) x → IsOneOf xs x ⊎ IsOneOf ys x
   among_append [] ys x a = inr a
   among_append (y ∷ xs) ys x a = ⊎_elim (λ e. inl (inl e)) (λ m. ⊎_elim (λ p. inl (inr p)) (λ p. inr p) (among_append xs ys x m)) a
 
-  pub among_left : (xs ys : List X) (x : X) → Among xs x → Among (xs ++ ys) x
+  pub among_left : (xs ys : List X) (x : X) → IsOneOf xs x → IsOneOf (xs ++ ys) x
   among_left [] ys x a = absurd a
   among_left (y ∷ xs) ys x a = ⊎_elim (λ e. inl e) (λ m. inr (among_left xs ys x m)) a
 
-  pub among_right : (xs ys : List X) (x : X) → Among ys x → Among (xs ++ ys) x
+  pub among_right : (xs ys : List X) (x : X) → IsOneOf ys x → IsOneOf (xs ++ ys) x
   among_right [] ys x a = a
   among_right (y ∷ xs) ys x a = inr (among_right xs ys x a)
 
-  pub All-among : (Q : X → Type 0) (xs : List X) → ((x : X) → Among xs x → Q x) → All Q xs
+  pub All-among : (Q : X → Type 0) (xs : List X) → ((x : X) → IsOneOf xs x → Q x) → All Q xs
   All-among Q [] f i d l = absurd (omega arith)
   All-among Q (x ∷ xs) f zero d l = f x (inl refl)
   All-among Q (x ∷ xs) f (suc i) d l = All-among Q xs (λ y a. f y (inr a)) i d (omega arith)

@@ -7,7 +7,7 @@ use Rattle.atomic_table.specs.Seated.{TableId}
 use Rattle.atomic_table.specs.declared.shared.Seat.{Seat}
 use Rattle.turn_lock.specs.declared.view.View.{View}
 use Rattle.turn_lock.specs.declared.view.JoinedPass.{JoinedPass}
-use Rattle.turn_lock.specs.Histories.{Among}
+use Rattle.turn_lock.specs.Histories.{IsOneOf}
 use Rattle.turn_lock.specs.Steps.{one_more, newcomer, joined_with}
 use Rattle.turn_lock.specs.Passes.{Known, badge, badges, IsFresh}
 use Rattle.turn_lock.specs.Seats.{known, Making, gathered, all_gathered}
@@ -66,14 +66,14 @@ module _ {B E : Type 0} where
   stays_one v [] = (refl, refl, refl, refl, omega arith)
   stays_one v (p ∷ ps) = let h = stays_one (gathered v p) ps in let s = h.4 in (h.0, h.1, h.2, h.3, omega arith)
 
-  pub keeps_joined : (v : View B E) (ps : List (Known B E)) (left : JoinedPass E) → Among v.joined left → Among (all_gathered v ps).joined left
+  pub keeps_joined : (v : View B E) (ps : List (Known B E)) (left : JoinedPass E) → IsOneOf v.joined left → IsOneOf (all_gathered v ps).joined left
   keeps_joined v [] left a = a
   keeps_joined v (p ∷ ps) left a = keeps_joined (gathered v p) ps left
       (among_left v.joined (record { number = p.number; own = p.own } ∷ []) left a)
 
   -- each pass's entries are kept
-  pub has_joined : (v : View B E) (ps : List (Known B E)) (p : Known B E) → Among ps p
-      → Among (all_gathered v ps).joined (record { number = p.number; own = p.own })
+  pub has_joined : (v : View B E) (ps : List (Known B E)) (p : Known B E) → IsOneOf ps p
+      → IsOneOf (all_gathered v ps).joined (record { number = p.number; own = p.own })
   has_joined v [] p a = absurd a
   has_joined v (q ∷ ps) p a = ⊎_elim
       (λ e. keeps_joined (gathered v q) ps (record { number = p.number; own = p.own })
@@ -83,14 +83,14 @@ module _ {B E : Type 0} where
 
   -- what pass 1 has seen, or was shown
   abbrev Has : View B E → List E → Type 0
-  Has v h = (v.seen ≡ h) ⊎ Among v.shown h
+  Has v h = (v.seen ≡ h) ⊎ IsOneOf v.shown h
 
   pub keeps_seen : (v : View B E) (ps : List (Known B E)) (h : List E) → Has v h → Has (all_gathered v ps) h
   keeps_seen v [] h a = a
   keeps_seen v (p ∷ ps) h a = keeps_seen (gathered v p) ps h
       (inr (⊎_elim (λ e. among_right v.shown (v.seen ∷ p.seen ∷ []) h (inl e)) (λ m. among_left v.shown (v.seen ∷ p.seen ∷ []) h m) a))
 
-  pub has_seen : (v : View B E) (ps : List (Known B E)) (p : Known B E) → Among ps p → Has (all_gathered v ps) p.seen
+  pub has_seen : (v : View B E) (ps : List (Known B E)) (p : Known B E) → IsOneOf ps p → Has (all_gathered v ps) p.seen
   has_seen v [] p a = absurd a
   has_seen v (q ∷ ps) p a = ⊎_elim
       (λ e. keeps_seen (gathered v q) ps p.seen (inr

@@ -15,7 +15,7 @@ use Rattle.atomic_table.proofs.Lists.{set_again, set_here, set_else, at_longer}
 use Rattle.fca_model.specs.declared.TheConstants.{MAX_TURNS}
 use Rattle.turn_lock.specs.declared.view.View.{View}
 use Rattle.turn_lock.specs.declared.view.JoinedPass.{JoinedPass}
-use Rattle.turn_lock.specs.Histories.{StartsWith, own_of, Among}
+use Rattle.turn_lock.specs.Histories.{StartsWith, own_of, IsOneOf}
 use Rattle.turn_lock.specs.Turns.{Tickets, HasTicket, Numbers, Slot, Turned}
 use Rattle.turn_lock.specs.Steps.{Drew, Came, Ended, Grew, first_view, one_more, newcomer, joined_with, spent_view, ended_view}
 use Rattle.turn_lock.proofs.ValueLemmas.{value_at}
@@ -381,9 +381,9 @@ module _ {V B E : Type 0} (base_of : V → B) (history_of : V → List E) (legal
   pub closes : (b : B) (turns id : ℕ) (v : W) (s : S) → Rule b turns s → get_elem? s.views id ≡ some v → v.number ≡ 1 → v.stands ≡ v.passes
       → v.mine ≡ false
       → (value : V) × (s.homes ≡ some value ∷ []) × (base_of value ≡ b) × legal b (history_of value) × StartsWith (history_of value) v.seen
-      × ((h : List E) → Among v.shown h → StartsWith (history_of value) h)
+      × ((h : List E) → IsOneOf v.shown h → StartsWith (history_of value) h)
       × (v.own ≡ own_of by 1 (history_of value))
-      × ((left : JoinedPass E) → Among v.joined left → left.own ≡ own_of by left.number (history_of value))
+      × ((left : JoinedPass E) → IsOneOf v.joined left → left.own ≡ own_of by left.number (history_of value))
       × ((n : ℕ) → (n ≡ 0) ⊎ (v.passes < n) → own_of by n (history_of value) ≡ [])
   closes b turns id v s r at is all idle =
       let pos : 0 < v.number = omega arith in
@@ -399,9 +399,9 @@ module _ {V B E : Type 0} (base_of : V → B) (history_of : V → List E) (legal
         p.2,
         subst (legal b) (sym same) r.is_legal,
         subst (λ (l : List E). StartsWith l v.seen) (sym same) (r.seen id v at),
-        (λ h am. subst (λ (l : List E). StartsWith l h) (sym same) (r.shown h (subst (λ l. Among l h) at_one.3 am))),
+        (λ h am. subst (λ (l : List E). StartsWith l h) (sym same) (r.shown h (subst (λ l. IsOneOf l h) at_one.3 am))),
         k.4 ∙ (ap (λ (n : ℕ). own_of by n r.log) is ∙ ap (own_of by 1) (sym same)),
-        (λ left am. (r.numbers.kept left (subst (λ l. Among l left) at_one.2 am)).2 ∙ ap (own_of by left.number) (sym same)),
+        (λ left am. (r.numbers.kept left (subst (λ l. IsOneOf l left) at_one.2 am)).2 ∙ ap (own_of by left.number) (sym same)),
         (λ n h. ap (own_of by n) same ∙ r.numbers.strange n (⊎_elim (λ z. inl z) (λ z. inr (omega arith)) h)),
       ))
       (λ p.

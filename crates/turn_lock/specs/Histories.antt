@@ -14,9 +14,9 @@ abbrev pub longer : {E : Type 0} → List E → List E → List E
 longer h k = if nat_lt (length h) (length k) then k else h
 
 -- x is one of the list
-abbrev pub Among : {X : Type 0} → List X → X → Type 0
-Among [] x = ⊥
-Among (y ∷ ys) x = (y ≡ x) ⊎ Among ys x
+abbrev pub IsOneOf : {X : Type 0} → List X → X → Type 0
+IsOneOf [] x = ⊥
+IsOneOf (y ∷ ys) x = (y ≡ x) ⊎ IsOneOf ys x
 
 -- the sum of a number of each
 abbrev pub total : {X : Type 0} → (X → ℕ) → List X → ℕ

@@ -8,7 +8,7 @@ use Rattle.atomic_table.specs.Table.{State}
 use Rattle.fca_model.specs.declared.TheConstants.{MAX_TURNS}
 use Rattle.turn_lock.specs.declared.view.View.{View}
 use Rattle.turn_lock.specs.declared.view.JoinedPass.{JoinedPass}
-use Rattle.turn_lock.specs.Histories.{StartsWith, own_of, Among, total}
+use Rattle.turn_lock.specs.Histories.{StartsWith, own_of, IsOneOf, total}
 
 -- the seat i has this view
 abbrev pub Sits : {W : Type 0} → List W → ℕ → W → Type 0
@@ -57,7 +57,7 @@ module _ {B E : Type 0} (by : E → ℕ) where
   -- whose entries are in the history
   pub record Numbers (b : B) (turns made : ℕ) (log : List E) (gone : List (JoinedPass E)) (views : List (View B E)) : Type 0 where
     pub own : (i : ℕ) (v : View B E) → Sits views i v → 0 < v.number → Knows b turns made log v
-    pub kept : (pass : JoinedPass E) → Among gone pass → Keeps made log views pass
+    pub kept : (pass : JoinedPass E) → IsOneOf gone pass → Keeps made log views pass
     -- numbers differ
     pub differ : (i j : ℕ) (v w : View B E) → Sits views i v → Sits views j w → 0 < v.number → v.number ≡ w.number → i ≡ j
     -- a number that no pass was made with is in no entry
@@ -89,5 +89,5 @@ module _ {V B E : Type 0} (base_of : V → B) (history_of : V → List E) (legal
     pub is_legal : legal b log
     -- what each view has seen is the start of the history
     pub seen : (i : ℕ) (v : View B E) → Sits s.views i v → StartsWith log v.seen
-    pub shown : (h : List E) → Among histories h → StartsWith log h
+    pub shown : (h : List E) → IsOneOf histories h → StartsWith log h
     pub numbers : Numbers by b turns made log gone s.views

@@ -8,7 +8,7 @@ ghost use Rattle.value_tables.specs.Form.{is_field, is_name, first_bad};
 
 use crate::numbers::number_of;
 use csv::ByteRecord;
-use csv_context::{field_at, as_text};
+use csv_context::{as_text, field_at};
 use fca_model::{MAX_NAME_BYTES, Memory, Name, NameFault};
 use std::alloc::Global;
 

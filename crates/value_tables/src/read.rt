@@ -4,7 +4,7 @@ ghost use Rattle.std.specs.Prelude.{◌≡◌, ◌<◌, ◌≤◌, ◌+◌, ◌*
 ghost use Rattle.std.specs.Prelude.{length, slice_index_or, sum, vec_len};
 ghost use Rattle.context_table.specs.Table.{first_repeat};
 ghost use Rattle.csv.specs.Records.{AllText, fields_of};
-ghost use Rattle.csv_context.specs.Records.{IsOpen, csv_records, records_left};
+ghost use Rattle.csv_context.specs.Records.{IsOpenReader, csv_records, records_left};
 ghost use Rattle.csv_context.specs.Lines.{IsUnquoted, fields_in, records_in};
 ghost use Rattle.fca_model.specs.Names.{is_line_break, name_fault};
 ghost use Rattle.std.specs.List.{list_any};
@@ -18,7 +18,7 @@ use crate::fields::{FieldKind, first_bad, has_line_break, name_at, name_of};
 use crate::pieces::pieces_of;
 use crate::values::Values;
 use csv::{ByteRecord, Reader};
-use csv_context::{field_at, next_line, next_record, open, read_fields, as_text, unquoted_bytes};
+use csv_context::{as_text, field_at, next_line, next_record, open, read_fields, unquoted_bytes};
 use fca_model::{MAX_ATTRIBUTES, MAX_NAME_BYTES, MAX_OBJECTS, Memory, Name};
 use indexmap::IndexSet;
 use std::alloc::Global;
@@ -73,7 +73,7 @@ fn read_records(alloc: Global, text: &str) -> Result<Values, ValuesFault>
 
 /// The table of the records that the reader has left.
 fn read_left(alloc: Global, reader: &mut Reader<&[u8]>) -> Result<Values, ValuesFault>
-    requires { IsOpen reader.old }
+    requires { IsOpenReader reader.old }
     ensures { Tells ValuesFault.Memory result (form.table_form (records_left reader.old)) }
 {
     let mut record = ByteRecord::new(alloc);
@@ -127,7 +127,7 @@ fn read_objects(
     width: usize,
     reader: &mut Reader<&[u8]>,
 ) -> Result<Objects, ValuesFault>
-    requires open { IsOpen reader.old }
+    requires open { IsOpenReader reader.old }
     requires few { width ≤ MAX_ATTRIBUTES }
     ensures form { TellsBy ValuesFault.Memory (λ objects. objects_of width objects.names.items (texts objects.cells)) result (form.objects_form width 2 [] (records_left reader.old)) }
     ensures few { IfOk result (λ objects. length objects.names.items ≤ MAX_OBJECTS) }

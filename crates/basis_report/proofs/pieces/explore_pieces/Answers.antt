@@ -13,5 +13,5 @@ returns-clause-reads_back g c =
     let names = subst (λ (t : NamedContext). AreNames t.attributes) c.table.ensures c.look_at_attributes.ensures in
     let named = subst EachNamed c.journal.ensures.entries c.look_at_rows.ensures in
     let legal = subst (IsLegal (opening o.table.context o.table.objects o.settings)) c.journal.ensures.entries c.journal.ensures.legal in
-    IfOk-weaker c.write_pieces.result _ _ (λ pieces told. λ lines whole can. spelled-comments o.table o.settings c.args.explore.now.journal
-    lines names can named legal whole) c.write_pieces.ensures
+    IfOk-weaker c.make_pieces.result _ _ (λ pieces told. λ lines whole can. spelled-comments o.table o.settings c.args.explore.now.journal
+    lines names can named legal whole) c.make_pieces.ensures

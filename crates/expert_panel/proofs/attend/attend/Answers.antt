@@ -1,5 +1,5 @@
 use Rattle.std.proofs.Common.{sym, ◌∙◌}
-use Rattle.expert_panel.proofs.AttendLemmas.{begins, goes_on, finishes, is_spent, is_refused_memory}
+use Rattle.expert_panel.proofs.AttendLemmas.{begins, goes_on, finishes, ended_spent, is_refused_memory}
 use Rattle.expert_panel.proofs.attend.attend.Goals as goal
 
 pub loop-init : goal.loop-init
@@ -28,7 +28,7 @@ loop-preserved g c =
 
 pub returns-in-Err-Spent : goal.returns-in-Err-Spent
 returns-in-Err-Spent g c =
-    is_spent g.X.Expert.width g.X.Expert.memory g.X.Expert.answers g.X.Expert.learns c.args.gate.now.base c.args.pass.now c.args.expert.now
+    ended_spent g.X.Expert.width g.X.Expert.memory g.X.Expert.answers g.X.Expert.learns c.args.gate.now.base c.args.pass.now c.args.expert.now
     c.loop.due c.loop.pass c.take_turn.new.pass c.loop.expert c.take_turn.new.expert c.loop.invariant.2 c.take_turn.ensures.same
     c.take_turn.ensures.width
     (rw c.in-Err-Spent.field-0-is at c.in-Err-Spent.ensures).stopped

@@ -6,7 +6,7 @@ use Rattle.turn_lock.proofs.ClosingLemmas.{roll-belongs, length-roll}
 use Rattle.oracle_expert.specs.Oracles.{Recall}
 use Rattle.expert_panel.specs.declared.seat.Seat.{Seat}
 use Rattle.expert_panel.specs.Seats.{IsSeatOf}
-use Rattle.expert_panel.specs.Explorations.{is_spent, is_out_of_memory}
+use Rattle.expert_panel.specs.Explorations.{ended_spent, is_out_of_memory}
 use Rattle.expert_panel.proofs.ShareLemmas.{passes, experts}
 use Rattle.expert_panel.proofs.EndingLemmas.{written_back, seats_of, badges_kept, ended}
 use Rattle.expert_panel.proofs.explored.run_oracles.Goals as goal
@@ -62,4 +62,4 @@ returns g c =
     ∙ c.if-any_out_of_memory.false)
     c.requires.known c.close.ensures.opening c.in_ok-passes.oracles.items c.any_spent-spent.result
     (c.in_ok-passes.ensures.experts ∙ ap experts back)
-    (c.any_spent-spent.ensures ∙ ap (list_any (λ (seat : Seat Recall). is_spent seat.ended)) (c.deref-2.ensures.value ∙ back))
+    (c.any_spent-spent.ensures ∙ ap (list_any (λ (seat : Seat Recall). ended_spent seat.ended)) (c.deref-2.ensures.value ∙ back))

@@ -6,7 +6,7 @@ use Rattle.turn_lock.specs.Passes.{Belongs, Known, Badge, badge}
 use Rattle.oracle_expert.specs.declared.expert.Answer.{Answer}
 use Rattle.expert_panel.specs.declared.seat.Seat.{Seat}
 use Rattle.expert_gate.specs.Seats.{EachSeat}
-use Rattle.expert_panel.specs.Seats.{IsSeatOf, HasRun}
+use Rattle.expert_panel.specs.Seats.{IsSeatOf, HasRunSeat}
 use Rattle.expert_panel.proofs.EndingLemmas.{written_back, seats_of}
 use Rattle.exploration_tests.specs.declared.expert_panel_tests.Silent.{Silent}
 use Rattle.exploration_tests.proofs.expert_panel_tests.two_draws.Goals as goal
@@ -20,7 +20,7 @@ passes seats = map (λ seat. seat.pass) seats
 -- a run changes no badge
 module _ {X M : Type 0} (width : X → ℕ) (memory : X → M) (A : M → Rule → Answer → M → Type 0) (L : M → SetReply → M → Type 0)
     (o : Opening) where
-  badges_kept : (olds news : List (Seat X)) → EachSeat (HasRun width memory A L o) olds news
+  badges_kept : (olds news : List (Seat X)) → EachSeat (HasRunSeat width memory A L o) olds news
       → map badge (passes news) ≡ map badge (passes olds)
   badges_kept [] [] each = refl
   badges_kept [] (new ∷ news) each = absurd each

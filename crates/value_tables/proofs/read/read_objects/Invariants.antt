@@ -1,13 +1,13 @@
 use Rattle.std.proofs.Common.{◌≡◌, ◌≤◌, ◌+◌, ◌*◌, [], length}
 use Rattle.fca_model.specs.declared.TheConstants.{MAX_OBJECTS}
-use Rattle.csv_context.specs.Records.{IsOpen, records_left}
+use Rattle.csv_context.specs.Records.{IsOpenReader, records_left}
 use Rattle.value_tables.specs.Cells.{AreCells, objects_of, texts}
 use Rattle.value_tables.specs.Form.{objects_form}
 use Rattle.value_tables.proofs.read.read_objects.Given as goal
 
 abbrev pub invariant-loop-record : goal.invariant-loop-record
 invariant-loop-record l = record {
-  opened : IsOpen l.reader;
+  opened : IsOpenReader l.reader;
   few : length l.names.items ≤ MAX_OBJECTS;
   cells : AreCells l.cells;
   even : length (texts l.cells) ≡ length l.names.items * l.width;

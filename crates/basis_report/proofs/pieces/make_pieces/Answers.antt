@@ -2,7 +2,7 @@ use Rattle.std.proofs.Common.{rules, ◌≡◌, ◌∙◌, ℕ, Vec, Global, ap}
 use Rattle.std.specs.List.{flat_map}
 use Rattle.basis_report.specs.Explorations.{transcript_of, lists_of, basis_of}
 use Rattle.basis_report.proofs.ExplorationLemmas.{joined-three, explore_text-pieces}
-use Rattle.basis_report.proofs.pieces.write_pieces.Goals as goal
+use Rattle.basis_report.proofs.pieces.make_pieces.Goals as goal
 
 pub returns : goal.returns
 returns g c =
