@@ -18,7 +18,7 @@ use Rattle.expert_wire.specs.Words.{is_name}
 use Rattle.expert_wire.proofs.ReadLemmas.{pattern_no_break}
 use Rattle.expert_wire.proofs.SkipLemmas.{Skips, Skips-nil, Skips-append, Skips-comment, Skips-flat_map, no_break-append}
 use Rattle.expert_wire.proofs.SkipLemmas.{no_break-decimal, no_break-name, no_break-arrow, no_break-full, no_break-rule}
-use Rattle.expert_scripts.specs.Scripts.{EachEventCanBeWritten, IsNamed, script_form}
+use Rattle.expert_scripts.specs.Scripts.{EachEventCanBeWritten, HasRowName, script_form}
 use Rattle.expert_scripts.specs.Transcripts.{AreNames, SettingsCanBeWritten, transcript}
 use Rattle.expert_scripts.proofs.TranscriptLemmas.{are_names, script_form-transcript}
 use Rattle.report_texts.specs.Reports.{count_line, arrow_line, arrow_lines}
@@ -36,7 +36,7 @@ grouped : (a b c : Text) → codes "# " ++ ((a ++ (codes " " ++ (b ++ (codes " "
     ≡ codes "# " ++ (a ++ (codes " " ++ (b ++ (codes " " ++ (c ++ line_end)))))
 grouped a b c = simp append_assoc
 
-Skips-recorded : (event : SetEvent) (reply : SetReply) → IsNamed event → Skips (recorded_line event reply)
+Skips-recorded : (event : SetEvent) (reply : SetReply) → HasRowName event → Skips (recorded_line event reply)
 Skips-recorded (Row e name r) (Taken place) h =
     subst Skips (grouped (ordinal place) (pattern r) name)
     (Skips-comment (ordinal place ++ (codes " " ++ (pattern r ++ (codes " " ++ name))))

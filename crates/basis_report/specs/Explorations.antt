@@ -13,7 +13,7 @@ use Rattle.explore_state.specs.History.{History, state_of, open_of}
 use Rattle.expert_wire.specs.Texts.{line_end, ordinal, pattern, full_text}
 use Rattle.expert_wire.specs.Replies.{numbered_rule}
 use Rattle.expert_scripts.specs.declared.fault.ScriptFault.{ScriptFault}
-use Rattle.expert_scripts.specs.Scripts.{ScriptContent, IsNamed, script_form}
+use Rattle.expert_scripts.specs.Scripts.{ScriptContent, HasRowName, script_form}
 use Rattle.expert_scripts.specs.Transcripts.{transcript}
 use Rattle.report_texts.specs.Reports.{count_line, arrow_lines}
 use Rattle.basis_report.specs.Comments.{comments}
@@ -126,7 +126,7 @@ spelled t text = journal_of (opening t.context t.objects (spelled_settings t tex
 -- the names of the rows of a history are valid
 abbrev pub EachNamed : List SetEntry → Type 0
 EachNamed [] = ⊤
-EachNamed (entry ∷ H) = IsNamed entry.event × EachNamed H
+EachNamed (entry ∷ H) = HasRowName entry.event × EachNamed H
 
 -- the text is a script that spells the settings and the history
 pub record Spells (t : NamedContext) (s : Settings) (H : List SetEntry) (text : Text) : Type 0 where

@@ -3,7 +3,7 @@
 ghost use Rattle.std.specs.Prelude.{◌≡◌, true};
 ghost use Rattle.std.specs.List.{list_all};
 ghost use Rattle.expert_wire.specs.Words.{is_name};
-ghost use Rattle.expert_scripts.specs.Scripts.{IsNamed};
+ghost use Rattle.expert_scripts.specs.Scripts.{HasRowName};
 ghost use Rattle.expert_scripts.specs.Transcripts.{AreNames};
 ghost use Rattle.basis_report.specs.Explorations.{EachNamed};
 
@@ -49,7 +49,7 @@ pub(crate) fn look_at_rows(journal: &[Entry])
 
 /// Looks at the name of the row, if the event gives one.
 fn look_at_row(event: &Event)
-    ensures { IsNamed event.now }
+    ensures { HasRowName event.now }
 {
     if let Event::Row { name, .. } = event {
         let _name = name.bytes();

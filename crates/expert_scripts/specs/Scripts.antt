@@ -187,15 +187,15 @@ abbrev pub may_apply : ℕ → SetEvent → Bool
 may_apply n event = is_expert (expert_of event) && has_width n event
 
 -- the name of the row is valid
-abbrev pub IsNamed : SetEvent → Type 0
-IsNamed (Row e name r) = IsName name
-IsNamed event = ⊤
+abbrev pub HasRowName : SetEvent → Type 0
+HasRowName (Row e name r) = IsName name
+HasRowName event = ⊤
 
 -- an event that is read back from its line: it is of an expert, and its row, if it has one, has width n and a valid name
 pub record EventCanBeWritten (n : ℕ) (event : SetEvent) : Type 0 where
   pub expert : is_expert (expert_of event) ≡ true
   pub wide : has_width n event ≡ true
-  pub named : IsNamed event
+  pub named : HasRowName event
 
 -- each event of the entries is read back from its line
 abbrev pub EachEventCanBeWritten : ℕ → List SetEntry → Type 0
