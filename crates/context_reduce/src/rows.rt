@@ -43,6 +43,7 @@ fn irreducible_rows(alloc: Global, rows: &Rows, places: &Places) -> Result<Place
         WordCount::One => irreducible_rows_in(alloc, &rows.resize::<1>(alloc)?, places),
         WordCount::Two => irreducible_rows_in(alloc, &rows.resize::<2>(alloc)?, places),
         WordCount::Four => irreducible_rows_in(alloc, &rows.resize::<4>(alloc)?, places),
+        WordCount::Eight => irreducible_rows_in(alloc, &rows.resize::<8>(alloc)?, places),
         WordCount::All => irreducible_rows_in(alloc, rows, places),
     }
 }

@@ -14,6 +14,7 @@ pub enum NarrowRows {
     One(RowsOf<1>),
     Two(RowsOf<2>),
     Four(RowsOf<4>),
+    Eight(RowsOf<8>),
     All(RowsOf<WORDS>),
 }
 
@@ -26,6 +27,7 @@ pub fn narrow_rows(alloc: Global, rows: &Rows) -> Result<NarrowRows, Memory>
         WordCount::One => NarrowRows::One(rows.resize(alloc)?),
         WordCount::Two => NarrowRows::Two(rows.resize(alloc)?),
         WordCount::Four => NarrowRows::Four(rows.resize(alloc)?),
+        WordCount::Eight => NarrowRows::Eight(rows.resize(alloc)?),
         WordCount::All => NarrowRows::All(rows.copy()?),
     })
 }

@@ -69,6 +69,7 @@ fn read_narrow_rows(
         WordCount::One => NarrowRows::One(read_rows(alloc, width, count, lines)?),
         WordCount::Two => NarrowRows::Two(read_rows(alloc, width, count, lines)?),
         WordCount::Four => NarrowRows::Four(read_rows(alloc, width, count, lines)?),
+        WordCount::Eight => NarrowRows::Eight(read_rows(alloc, width, count, lines)?),
         WordCount::All => NarrowRows::All(read_rows(alloc, width, count, lines)?),
     })
 }

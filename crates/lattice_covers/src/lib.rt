@@ -28,6 +28,7 @@ pub fn covers(alloc: Global, rows: &Rows, intents: &[Attrs]) -> Result<Vec<(usiz
         WordCount::One => narrow_covers::<1>(alloc, rows, intents),
         WordCount::Two => narrow_covers::<2>(alloc, rows, intents),
         WordCount::Four => narrow_covers::<4>(alloc, rows, intents),
+        WordCount::Eight => narrow_covers::<8>(alloc, rows, intents),
         WordCount::All => covers_of(alloc, rows, intents),
     }
 }

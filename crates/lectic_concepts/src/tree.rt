@@ -26,6 +26,7 @@ pub fn all_intents(alloc: Global, rows: &Rows) -> Result<Vec<Attrs>, Memory>
         WordCount::One => narrow_intents::<1>(alloc, rows),
         WordCount::Two => narrow_intents::<2>(alloc, rows),
         WordCount::Four => narrow_intents::<4>(alloc, rows),
+        WordCount::Eight => narrow_intents::<8>(alloc, rows),
         WordCount::All => intents_of(alloc, rows),
     }
 }

@@ -78,6 +78,7 @@ fn open_next_by<X: Walker<1> + Walker<2> + Walker<4> + Walker<WORDS>>(
         WordCount::One => open_in_words::<X, 1>(walker, alloc, rows, rules, ahead),
         WordCount::Two => open_in_words::<X, 2>(walker, alloc, rows, rules, ahead),
         WordCount::Four => open_in_words::<X, 4>(walker, alloc, rows, rules, ahead),
+        WordCount::Eight => open_in_words::<X, 8>(walker, alloc, rows, rules, ahead),
         WordCount::All => open_in_words::<X, WORDS>(walker, alloc, rows, rules, ahead),
     }
 }

@@ -15,6 +15,7 @@ pub(crate) enum IndexedCopy {
     One(IndexedRows<1>),
     Two(IndexedRows<2>),
     Four(IndexedRows<4>),
+    Eight(IndexedRows<8>),
     /// The attributes need more words. No copy is kept.
     Wide,
 }
@@ -27,6 +28,7 @@ pub(crate) fn indexed_copy(alloc: Global, rows: &Rows) -> Result<IndexedCopy, Me
         WordCount::One => IndexedCopy::One(IndexedRows::new(alloc, rows.resize(alloc)?)?),
         WordCount::Two => IndexedCopy::Two(IndexedRows::new(alloc, rows.resize(alloc)?)?),
         WordCount::Four => IndexedCopy::Four(IndexedRows::new(alloc, rows.resize(alloc)?)?),
+        WordCount::Eight => IndexedCopy::Eight(IndexedRows::new(alloc, rows.resize(alloc)?)?),
         WordCount::All => IndexedCopy::Wide,
     })
 }

@@ -125,6 +125,7 @@ fn counterexample(
         IndexedCopy::One(indexed) => counterexample_on(alloc, indexed, conflicts, question),
         IndexedCopy::Two(indexed) => counterexample_on(alloc, indexed, conflicts, question),
         IndexedCopy::Four(indexed) => counterexample_on(alloc, indexed, conflicts, question),
+        IndexedCopy::Eight(indexed) => counterexample_on(alloc, indexed, conflicts, question),
         IndexedCopy::Wide => counterexample_among(table.rows(), conflicts, question),
     }
 }

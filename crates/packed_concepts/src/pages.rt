@@ -14,6 +14,7 @@ pub enum NarrowPages {
     One(Vec<ConceptPage<1>>),
     Two(Vec<ConceptPage<2>>),
     Four(Vec<ConceptPage<4>>),
+    Eight(Vec<ConceptPage<8>>),
     All(Vec<ConceptPage<WORDS>>),
 }
 
@@ -26,6 +27,7 @@ impl NarrowPages {
             NarrowPages::One(pages) => count_on(pages),
             NarrowPages::Two(pages) => count_on(pages),
             NarrowPages::Four(pages) => count_on(pages),
+            NarrowPages::Eight(pages) => count_on(pages),
             NarrowPages::All(pages) => count_on(pages),
         }
     }
@@ -38,6 +40,7 @@ impl NarrowPages {
             NarrowPages::One(pages) => most_on(pages),
             NarrowPages::Two(pages) => most_on(pages),
             NarrowPages::Four(pages) => most_on(pages),
+            NarrowPages::Eight(pages) => most_on(pages),
             NarrowPages::All(pages) => most_on(pages),
         }
     }

@@ -95,6 +95,7 @@ impl ConceptsText {
             NarrowPages::One(pages) => write_all(rt, out, &names, &mut buffer, count, &pages),
             NarrowPages::Two(pages) => write_all(rt, out, &names, &mut buffer, count, &pages),
             NarrowPages::Four(pages) => write_all(rt, out, &names, &mut buffer, count, &pages),
+            NarrowPages::Eight(pages) => write_all(rt, out, &names, &mut buffer, count, &pages),
             NarrowPages::All(pages) => write_all(rt, out, &names, &mut buffer, count, &pages),
         }
     }
@@ -113,6 +114,7 @@ impl ConceptsText {
             NarrowPages::One(pages) => write_through(out, &names, &mut buffer, count, &pages),
             NarrowPages::Two(pages) => write_through(out, &names, &mut buffer, count, &pages),
             NarrowPages::Four(pages) => write_through(out, &names, &mut buffer, count, &pages),
+            NarrowPages::Eight(pages) => write_through(out, &names, &mut buffer, count, &pages),
             NarrowPages::All(pages) => write_through(out, &names, &mut buffer, count, &pages),
         }
     }

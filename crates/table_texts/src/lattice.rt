@@ -85,6 +85,13 @@ fn lattice_of(alloc: Global, rows: NarrowRows) -> Result<Lattice, Memory>
                 covers,
             })
         }
+        NarrowRows::Eight(rows) => {
+            let (pages, covers) = lattice_in(alloc, &rows)?;
+            Ok(Lattice {
+                pages: NarrowPages::Eight(pages),
+                covers,
+            })
+        }
         NarrowRows::All(rows) => {
             let (pages, covers) = lattice_in(alloc, &rows)?;
             Ok(Lattice {

@@ -20,6 +20,7 @@ pub fn narrow_basis_text(alloc: Global, table: NarrowTable) -> Result<Vec<u8>, M
         NarrowRows::One(rows) => basis_text_in(alloc, &names, rows),
         NarrowRows::Two(rows) => basis_text_in(alloc, &names, rows),
         NarrowRows::Four(rows) => basis_text_in(alloc, &names, rows),
+        NarrowRows::Eight(rows) => basis_text_in(alloc, &names, rows),
         NarrowRows::All(rows) => basis_text_in(alloc, &names, rows),
     }
 }

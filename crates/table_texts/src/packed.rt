@@ -68,6 +68,7 @@ fn narrow_pages<R: Threads + Sync>(
         NarrowRows::One(rows) => NarrowPages::One(pages_of(rt, alloc, &rows)?),
         NarrowRows::Two(rows) => NarrowPages::Two(pages_of(rt, alloc, &rows)?),
         NarrowRows::Four(rows) => NarrowPages::Four(pages_of(rt, alloc, &rows)?),
+        NarrowRows::Eight(rows) => NarrowPages::Eight(pages_of(rt, alloc, &rows)?),
         NarrowRows::All(rows) => NarrowPages::All(pages_of(rt, alloc, &rows)?),
     })
 }
