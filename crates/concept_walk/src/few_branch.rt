@@ -44,7 +44,7 @@ pub(crate) fn gather_apart<const W: usize>(
     requires node { IsNode crosses.now node.now }
     ensures { OnOk result (Fills crosses.now gathering.old gathering.new (branch crosses.now node.now.intent.now node.now.from)) }
 {
-    let _words = crosses.rows().width();
+    let _width = crosses.rows().width();
     let all = pool
         .few
         .set_apart(alloc, crosses.rows(), node.intent, node.places)?;

@@ -18,7 +18,7 @@ pub(crate) fn gather_job<const W: usize>(
     requires { All (IsTop crosses.now) job.now }
     ensures { Wrote crosses.now result job.now }
 {
-    let _words = crosses.rows().width();
+    let _width = crosses.rows().width();
     let mut gathering = Gathering::new(alloc);
     gathering.whole = gather_tops(alloc, crosses, job, &mut gathering).is_ok();
     gathering
@@ -34,7 +34,7 @@ pub(crate) fn gather_tops<const W: usize>(
     requires { All (IsTop crosses.now) job.now }
     ensures { OnOk result (Fills crosses.now gathering.old gathering.new (branches crosses.now job.now)) }
 {
-    let _words = crosses.rows().width();
+    let _width = crosses.rows().width();
     let mut pool = StepListPool::new(alloc, crosses.rows())?;
     for top in job {
         gather_branch(alloc, crosses, gathering, &top.node(crosses), &mut pool)?;

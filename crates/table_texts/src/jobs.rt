@@ -51,7 +51,7 @@ pub(crate) fn branch_jobs<'a, const W: usize>(
     ensures tops { IfOk result (λ jobs. All (λ job. All (IsTop crosses.now) job.now) jobs.items) }
     ensures branches { IfOk result (λ jobs. all_branches crosses.now jobs.items ≡ branches crosses.now tops.now) }
 {
-    let _words = crosses.rows().width();
+    let _width = crosses.rows().width();
     let jobs = split_tops(alloc, tops, density)?;
     Ok(jobs)
 }

@@ -32,7 +32,7 @@ pub(crate) fn gather_jobs<R: Threads + Sync, const W: usize>(
     ensures even { IfOk result (λ gatherings. length gatherings.items ≡ length jobs.now) }
     ensures gatherings { IfOk result (λ gatherings. EachWrote crosses.now gatherings.items jobs.now) }
 {
-    let _words = crosses.rows().width();
+    let _width = crosses.rows().width();
     let next = AtomicUsize::new(0);
     let mut team = team_of(alloc, processors(rt))?;
     let threads = team.len().max(1);
@@ -76,7 +76,7 @@ fn take_jobs<const W: usize>(
     requires done { All (IsDone crosses.now jobs.now) done.old.items }
     ensures { All (IsDone crosses.now jobs.now) done.new.items }
 {
-    let _words = crosses.rows().width();
+    let _width = crosses.rows().width();
     for _ in 0..jobs.len() {
         let place = next.fetch_add(1, Ordering::Relaxed);
         if jobs.len() <= place {
@@ -119,7 +119,7 @@ fn put_all<const W: usize>(
     ensures even { length gatherings.new ≡ length jobs.now }
     ensures gatherings { EachWrote crosses.now gatherings.new jobs.now }
 {
-    let _words = crosses.rows().width();
+    let _width = crosses.rows().width();
     for done in team {
         put_gatherings(crosses, jobs, done, gatherings);
     }
@@ -138,7 +138,7 @@ fn put_gatherings<const W: usize>(
     ensures even { length gatherings.new ≡ length jobs.now }
     ensures gatherings { EachWrote crosses.now gatherings.new jobs.now }
 {
-    let _words = crosses.rows().width();
+    let _width = crosses.rows().width();
     for one in done {
         gatherings[one.place] = one.gathering;
     }

@@ -44,7 +44,7 @@ impl<const W: usize> Top<W> {
         ensures intent { result.intent.now ≡ self.now.intent }
         ensures from { result.from ≡ self.now.from }
     {
-        let _words = crosses.rows().width();
+        let _width = crosses.rows().width();
         Node {
             intent: &self.intent,
             places: &self.places,
@@ -139,7 +139,7 @@ pub(crate) fn split_large<const W: usize>(
     ensures tops { IfOk result (λ more. All (IsTop crosses.now) more.items) }
     ensures branches { IfOk result (λ more. branches crosses.now more.items ≡ branches crosses.now tops.now) }
 {
-    let _words = crosses.rows().width();
+    let _width = crosses.rows().width();
     let mut more = Vec::new(alloc);
     for top in tops {
         split_if_large(alloc, crosses, top, least, &mut more)?;
@@ -161,7 +161,7 @@ fn split_if_large<const W: usize>(
     ensures branches { OnOk result (branches crosses.now more.new.items
         ≡ branches crosses.now more.old.items ++ branch crosses.now top.now.intent top.now.from) }
 {
-    let _words = crosses.rows().width();
+    let _width = crosses.rows().width();
     if least <= top.weight() && more.len() < ENOUGH {
         return split_branch(alloc, crosses, top, more);
     }
@@ -227,7 +227,7 @@ fn add_top<const W: usize>(
     ensures branches { OnOk result (branches crosses.now tops.new.items
         ≡ branches crosses.now tops.old.items ++ branch crosses.now node.now.intent.now node.now.from) }
 {
-    let _words = crosses.rows().width();
+    let _width = crosses.rows().width();
     tops.push(Top {
         intent: *node.intent,
         from: node.from,
