@@ -88,7 +88,7 @@ pub fn next_child<const W: usize>(
     let rows = crosses.rows();
     let a = node.intent;
     let mut place = candidates.end;
-    while let Some(i) = last_member(&candidates.attributes, node.from, place) {
+    while let Some(i) = last_member(&candidates.tries, node.from, place) {
         place = i;
         if !is_open(
             rows,

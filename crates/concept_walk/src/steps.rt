@@ -69,12 +69,12 @@ pub(crate) fn enter<const W: usize>(
         return Ok(None);
     }
     gathering.add(crosses, node.intent, node.places)?;
-    let attributes = tries_of(rows, node.intent, node.places);
-    let Some(last) = last_member(&attributes, node.from, width) else {
+    let tries = tries_of(rows, node.intent, node.places);
+    let Some(last) = last_member(&tries, node.from, width) else {
         return Ok(None);
     };
     Ok(Some(Candidates {
-        attributes,
+        tries,
         end: last + 1,
     }))
 }

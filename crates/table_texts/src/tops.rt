@@ -185,7 +185,7 @@ fn split_branch<const W: usize>(
     let rows = crosses.rows();
     let node = top.node(crosses);
     let mut candidates = Candidates {
-        attributes: tries_of(rows, node.intent, node.places),
+        tries: tries_of(rows, node.intent, node.places),
         end: rows.width(),
     };
     let alone = Node {
