@@ -2,7 +2,7 @@
 
 ghost use Rattle.std.specs.Prelude.{◌≡◌, All, OnOk};
 ghost use Rattle.concept_walk.specs.Gatherings.{Fills};
-ghost use Rattle.table_texts.specs.Tops.{IsTop, branches, Wrote};
+ghost use Rattle.table_texts.specs.Tops.{IsTop, branches, HasGathered};
 
 use crate::tops::Top;
 use concept_walk::{CrossTable, Gathering, StepListPool, gather_branch};
@@ -16,7 +16,7 @@ pub(crate) fn gather_job<const W: usize>(
     job: &[Top<W>],
 ) -> Gathering<W>
     requires { All (IsTop crosses.now) job.now }
-    ensures { Wrote crosses.now result job.now }
+    ensures { HasGathered crosses.now result job.now }
 {
     let _width = crosses.rows().width();
     let mut gathering = Gathering::new(alloc);
