@@ -28,15 +28,15 @@ pub(crate) fn gather_job<const W: usize>(
 pub(crate) fn gather_tops<const W: usize>(
     alloc: Global,
     crosses: &CrossTable<'_, W>,
-    job: &[Top<W>],
+    tops: &[Top<W>],
     gathering: &mut Gathering<W>,
 ) -> Result<(), Memory>
-    requires { All (IsTop crosses.now) job.now }
-    ensures { OnOk result (Fills crosses.now gathering.old gathering.new (branches crosses.now job.now)) }
+    requires { All (IsTop crosses.now) tops.now }
+    ensures { OnOk result (Fills crosses.now gathering.old gathering.new (branches crosses.now tops.now)) }
 {
     let _width = crosses.rows().width();
     let mut pool = StepListPool::new(alloc, crosses.rows())?;
-    for top in job {
+    for top in tops {
         gather_branch(alloc, crosses, gathering, &top.node(crosses), &mut pool)?;
     }
     Ok(())

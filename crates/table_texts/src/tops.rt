@@ -133,7 +133,7 @@ pub(crate) fn split_large<const W: usize>(
     alloc: Global,
     crosses: &CrossTable<'_, W>,
     tops: &[Top<W>],
-    least: usize,
+    least_weight: usize,
 ) -> Result<Vec<Top<W>>, Memory>
     requires tops { All (IsTop crosses.now) tops.now }
     ensures tops { IfOk result (λ more. All (IsTop crosses.now) more.items) }
@@ -142,7 +142,7 @@ pub(crate) fn split_large<const W: usize>(
     let _width = crosses.rows().width();
     let mut more = Vec::new(alloc);
     for top in tops {
-        split_if_large(alloc, crosses, top, least, &mut more)?;
+        split_if_large(alloc, crosses, top, least_weight, &mut more)?;
     }
     Ok(more)
 }
@@ -152,7 +152,7 @@ fn split_if_large<const W: usize>(
     alloc: Global,
     crosses: &CrossTable<'_, W>,
     top: &Top<W>,
-    least: usize,
+    least_weight: usize,
     more: &mut Vec<Top<W>>,
 ) -> Result<(), Memory>
     requires top { IsTop crosses.now top.now }
@@ -162,7 +162,7 @@ fn split_if_large<const W: usize>(
         ≡ branches crosses.now more.old.items ++ branch crosses.now top.now.intent top.now.from) }
 {
     let _width = crosses.rows().width();
-    if least <= top.weight() && more.len() < ENOUGH {
+    if least_weight <= top.weight() && more.len() < ENOUGH {
         return split_branch(alloc, crosses, top, more);
     }
     add_top(alloc, crosses, &top.node(crosses), more)?;
