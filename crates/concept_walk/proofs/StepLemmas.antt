@@ -1,4 +1,4 @@
--- The steps that are not done: what is left of the lines, and how much room is left for more steps.
+-- The steps that are not done: what is left to gather, and how much room is left for more steps.
 use Rattle.std.proofs.Common.{◌≡◌, ◌<◌, ◌≤◌, ◌+◌, ℕ, List, [], ◌∷◌, ◌++◌, length, reverse, refl, sym, ap, ap₂, ◌∙◌, subst, arith}
 use Rattle.std.proofs.Common.{append_assoc}
 use Rattle.std.proofs.lemmas.List.{reverse-append}
@@ -37,7 +37,7 @@ module _ (K : Context) {W : ℕ} (All : List Set) where
 
 -- ---- the walk
 
--- what was written, and the steps that are left, of which the last is the deepest
+-- what was gathered, and the steps that are left, of which the last is the deepest
 abbrev pub IsWalk : (K : Context) {W : ℕ} → List Set → Gathering W → Gathering W → List (Step W) → Type 0
 IsWalk K All old gathering steps = (Done : List Set) × Fills K old gathering Done × AreLeft K All (reverse steps) Done
 

@@ -28,6 +28,6 @@ pub record IsFewNode (K : Context) {W : ℕ} (few : FewObjects W) (node : FewNod
 
 -- a child of A comes from one of these attributes
 pub record AreCandidates (K : Context) {W : ℕ} (A : Set) (candidates : Candidates W) : Type 0 where
-  pub wide : length candidates.attributes ≡ K.width
-  pub tries : AreTries K A candidates.attributes
+  pub wide : length candidates.tries ≡ K.width
+  pub tries : AreTries K A candidates.tries
   pub inside : candidates.end ≤ K.width

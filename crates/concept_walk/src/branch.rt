@@ -31,7 +31,7 @@ pub struct Child<const W: usize> {
     pub count: usize,
 }
 
-/// Adds the concepts of the node's branch to the gathering. The extent of a child is found among that of its parent, and the parent's witnesses are passed
+/// Adds the concepts of the node's branch to the gathering. The extent of a child is found among that of the node above it, whose witnesses are passed
 /// down. The objects of a node that has few are set apart. The steps that are not done wait in a list, so a deep tree takes no more stack than another.
 pub fn gather_branch<const W: usize>(
     alloc: Global,
@@ -43,7 +43,7 @@ pub fn gather_branch<const W: usize>(
     requires { IsNode crosses.now node.now }
     ensures { OnOk result (Fills crosses.now gathering.old gathering.new (branch crosses.now node.now.intent.now node.now.from)) }
 {
-    let _words = crosses.rows().width();
+    let _width = crosses.rows().width();
     let Some(candidates) = enter(alloc, crosses, gathering, node, pool)? else {
         return Ok(());
     };
@@ -53,9 +53,9 @@ pub fn gather_branch<const W: usize>(
         match next_step(alloc, crosses, gathering, &mut step, pool)? {
             Descent::End => put_back(step, &mut pool.free)?,
             Descent::Whole => steps.push(step)?,
-            Descent::Below(below) => {
+            Descent::Below(deeper) => {
                 steps.push(step)?;
-                steps.push(below)?;
+                steps.push(deeper)?;
             }
         }
     }
@@ -88,7 +88,7 @@ pub fn next_child<const W: usize>(
     let rows = crosses.rows();
     let a = node.intent;
     let mut place = candidates.end;
-    while let Some(i) = last_member(&candidates.attributes, node.from, place) {
+    while let Some(i) = last_member(&candidates.tries, node.from, place) {
         place = i;
         if !is_open(
             rows,
@@ -132,7 +132,7 @@ fn child_at<const W: usize>(
 {
     let rows = crosses.rows();
     let a = node.intent;
-    let _words = rows.width();
+    let _width = rows.width();
     have_room(&mut scratch.found, node.places.len())?;
     let child = closure_with(crosses, node, i, &mut scratch.found);
     if is_child(rows, a, i, &child.intent) {

@@ -44,7 +44,7 @@ pub(crate) fn gather_apart<const W: usize>(
     requires node { IsNode crosses.now node.now }
     ensures { OnOk result (Fills crosses.now gathering.old gathering.new (branch crosses.now node.now.intent.now node.now.from)) }
 {
-    let _words = crosses.rows().width();
+    let _width = crosses.rows().width();
     let all = pool
         .few
         .set_apart(alloc, crosses.rows(), node.intent, node.places)?;
@@ -86,25 +86,25 @@ fn gather_few<const W: usize>(
         ) {
             continue;
         }
-        let met = below_at(crosses, few, node, i, &mut scratch.noted)?;
-        let Some(below) = met else {
+        let met = few_child_at(crosses, few, node, i, &mut scratch.noted)?;
+        let Some(child) = met else {
             continue;
         };
         let known = known_witnesses(crosses, a, node.witnesses, &scratch.noted);
-        let child = FewNode {
-            intent: &below.intent,
-            objects: &below.objects,
+        let below = FewNode {
+            intent: &child.intent,
+            objects: &child.objects,
             from: i + 1,
-            witnesses: pass_witnesses(rows, a, known, &below.intent),
+            witnesses: pass_witnesses(rows, a, known, &child.intent),
         };
-        gather_few(alloc, crosses, few, gathering, &child, free)?;
+        gather_few(alloc, crosses, few, gathering, &below, free)?;
     }
     free.push(scratch)?;
     Ok(())
 }
 
 /// The child of the node from attribute i: the least intent with i above the node's, if both agree before i.
-fn below_at<const W: usize>(
+fn few_child_at<const W: usize>(
     crosses: &CrossTable<'_, W>,
     few: &FewObjects<W>,
     node: &FewNode<'_, W>,
@@ -115,28 +115,28 @@ fn below_at<const W: usize>(
     requires inside { i < crosses.now.width }
     requires lacks { slice_index_or node.now.intent.now i false ≡ false }
     requires noted { AreWitnesses crosses.now node.now.intent.now noted.old.items }
-    ensures wide { IfOk result (λ met. IfSome met (λ below. length below.intent ≡ crosses.now.width)) }
-    ensures closed { IfOk result (λ met. IfSome met (λ below. is_closed crosses.now below.intent ≡ true)) }
-    ensures objects { IfOk result (λ met. IfSome met (λ below. AreFew crosses.now below.intent few.now below.objects)) }
-    ensures larger { IfOk result (λ met. IfSome met (λ below. within node.now.intent.now below.intent ≡ true)) }
+    ensures wide { IfOk result (λ met. IfSome met (λ child. length child.intent ≡ crosses.now.width)) }
+    ensures closed { IfOk result (λ met. IfSome met (λ child. is_closed crosses.now child.intent ≡ true)) }
+    ensures objects { IfOk result (λ met. IfSome met (λ child. AreFew crosses.now child.intent few.now child.objects)) }
+    ensures larger { IfOk result (λ met. IfSome met (λ child. within node.now.intent.now child.intent ≡ true)) }
     ensures splits { IfOk result (λ met. MatchOption met
         (branch crosses.now node.now.intent.now i ≡ branch crosses.now node.now.intent.now (i + 1))
-        (λ below. branch crosses.now node.now.intent.now i
-        ≡ branch crosses.now node.now.intent.now (i + 1) ++ branch crosses.now below.intent (i + 1))) }
+        (λ child. branch crosses.now node.now.intent.now i
+        ≡ branch crosses.now node.now.intent.now (i + 1) ++ branch crosses.now child.intent (i + 1))) }
     ensures noted { OnOk result (AreWitnesses crosses.now node.now.intent.now noted.new.items) }
 {
     let rows = crosses.rows();
     let a = node.intent;
-    let below = few.closure_with(rows, a, node.objects, i);
-    if is_child(rows, a, i, &below.intent) {
-        return Ok(Some(below));
+    let child = few.closure_with(rows, a, node.objects, i);
+    if is_child(rows, a, i, &child.intent) {
+        return Ok(Some(child));
     }
     begin_notes(crosses, a, node.witnesses, noted)?;
     note(
         rows,
         a,
         i,
-        &below.intent,
+        &child.intent,
         node.from,
         crosses.supports(),
         noted,

@@ -44,7 +44,7 @@ impl<const W: usize> Gathering<W> {
         ensures unchanged { OnErr result (self.new.concepts ≡ self.old.concepts) }
         ensures whole { self.new.whole ≡ self.old.whole }
     {
-        let _words = crosses.rows().width();
+        let _width = crosses.rows().width();
         self.concepts.add(a, places)?;
         Ok(())
     }

@@ -18,8 +18,8 @@ pub struct Node<'a, const W: usize> {
 /// The attributes from which a child may come.
 #[derive(Drop)]
 pub struct Candidates<const W: usize> {
-    /// The candidates among all attributes of the table.
-    pub attributes: Bits<W>,
+    /// The attributes to try, among all of the table.
+    pub tries: Bits<W>,
     /// From this attribute on all were tried.
     pub end: u32,
 }

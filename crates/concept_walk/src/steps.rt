@@ -69,12 +69,12 @@ pub(crate) fn enter<const W: usize>(
         return Ok(None);
     }
     gathering.add(crosses, node.intent, node.places)?;
-    let attributes = tries_of(rows, node.intent, node.places);
-    let Some(last) = last_member(&attributes, node.from, width) else {
+    let tries = tries_of(rows, node.intent, node.places);
+    let Some(last) = last_member(&tries, node.from, width) else {
         return Ok(None);
     };
     Ok(Some(Candidates {
-        attributes,
+        tries,
         end: last + 1,
     }))
 }
@@ -92,7 +92,7 @@ pub(crate) fn first_step<const W: usize>(
     requires order { node.now.from ≤ candidates.end }
     ensures { IfOk result (λ step. BeginsAt crosses.now node.now.intent.now node.now.from candidates.entry.end step) }
 {
-    let _words = crosses.rows().width();
+    let _width = crosses.rows().width();
     let mut spare = take_lists(alloc, &mut pool.free);
     spare.found.clear();
     spare.found.extend_from_slice(node.places)?;
@@ -119,7 +119,7 @@ pub(crate) fn next_step<const W: usize>(
     requires { IsStep crosses.now step.old }
     ensures { IfOk result (λ descent. HasDescended crosses.now gathering.old gathering.new step.old step.new descent) }
 {
-    let _words = crosses.rows().width();
+    let _width = crosses.rows().width();
     let node = Node {
         intent: &step.intent,
         places: &step.places[..step.count],

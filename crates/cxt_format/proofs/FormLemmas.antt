@@ -1,4 +1,4 @@
--- One turn of a loop that takes one thing after the other, and the byte order mark.
+-- One turn of a loop that parses one thing after the other, and the byte order mark.
 use Rattle.std.proofs.Common.{◌≡◌, ◌≢◌, ◌∙◌, ◌<◌, ◌+◌, ◌-◌, ◌==◌, ◌&&◌, ◌++◌, ◌∷◌, [], ℕ, suc, List, Option, Some, None, Ok, Err, Result}
 use Rattle.std.proofs.Common.{IsErr, IsErrAnd, ◌⊎◌, bytes_eq, cond, MatchOption, Bor, length, drop, refl, sym, ap, inl, inr, arith}
 use Rattle.std.proofs.lemmas.Bool.{cases_Bool, eqb-true, and_parts}
@@ -10,25 +10,25 @@ use Rattle.text_pieces.specs.Left.{Left}
 use Rattle.text_pieces.specs.Lines.{Line}
 use Rattle.cxt_format.specs.Words.{name_form, new_name, attribute_form}
 use Rattle.text_pieces.specs.Telling.{then}
-use Rattle.cxt_format.specs.Form.{Taken, Takes, more, next, next_of, without_bom}
+use Rattle.cxt_format.specs.Form.{Parsed, Parses, more, next, next_of, without_bom}
 use Rattle.cxt_format.specs.declared.CxtFault.{CxtFault}
 use Rattle.cxt_format.specs.declared.CxtFault.TheVariants as fault
 use lib.Utf8.{encode}
 
-module _ {X : Type 0} (take : List X → Left → Taken X) (xs : List X) (n i : ℕ) (left : Left) where
-  pub more-Ok : (x : X) (rest : Left) → i < n → take xs left ≡ Ok (x, rest)
-      → more take xs (n - i) left ≡ more take (xs ++ x ∷ []) (n - (i + 1)) rest
+module _ {X : Type 0} (parse : List X → Left → Parsed X) (xs : List X) (n i : ℕ) (left : Left) where
+  pub more-Ok : (x : X) (rest : Left) → i < n → parse xs left ≡ Ok (x, rest)
+      → more parse xs (n - i) left ≡ more parse (xs ++ x ∷ []) (n - (i + 1)) rest
   more-Ok x rest below is =
       let one : n - i ≡ suc (n - (i + 1)) = omega arith in
       rw (one, is) refl
 
-  pub more-Err : (e : CxtFault) → i < n → take xs left ≡ Err e → more take xs (n - i) left ≡ Err e
+  pub more-Err : (e : CxtFault) → i < n → parse xs left ≡ Err e → more parse xs (n - i) left ≡ Err e
   more-Err e below is =
       let one : n - i ≡ suc (n - (i + 1)) = omega arith in
       rw (one, is) refl
 
--- what is made of a name that was taken: a fault if it stands among those seen
-abbrev pub looked_up : List Text → ℕ → Text × Left → Taken Text
+-- what is made of a name that was parsed: a fault if it stands among those seen
+abbrev pub looked_up : List Text → ℕ → Text × Left → Parsed Text
 looked_up seen k p = cond (list_any (bytes_eq p.0) seen) (Err (fault.DuplicateAttribute k)) (Ok p)
 
 attribute-then : (seen : List Text) (k : ℕ) (rest : Left) (told : Result Text CxtFault)
@@ -74,7 +74,7 @@ without_bom-stripped text (Some x) h =
     rw marked refl
 
 -- a fault that is passed on as it is
-pub Takes-passed : {X Y : Type 0} (view : X → Y) (told : Result X CxtFault) (form : Taken Y) (left : Left) (e : CxtFault)
-    → IsErr told × IsErrAnd told (λ passed. passed ≡ e) → (e ≡ fault.Memory) ⊎ (form ≡ Err e) → Takes view told form left
-Takes-passed view (Ok x) form left e passed why = cc passed.0
-Takes-passed view (Err f) form left e passed why = rw passed.1 why
+pub Parses-passed : {X Y : Type 0} (view : X → Y) (told : Result X CxtFault) (form : Parsed Y) (left : Left) (e : CxtFault)
+    → IsErr told × IsErrAnd told (λ passed. passed ≡ e) → (e ≡ fault.Memory) ⊎ (form ≡ Err e) → Parses view told form left
+Parses-passed view (Ok x) form left e passed why = cc passed.0
+Parses-passed view (Err f) form left e passed why = rw passed.1 why

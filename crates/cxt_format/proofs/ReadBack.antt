@@ -1,6 +1,6 @@
--- Reading what was written gives the table. The lines of the text are the lines that were written, and the form takes them one
--- after the other: each takes what it was written for and leaves the rest. Where there are no attributes, the empty lines of the
--- rows are the blank lines at the end.
+-- Reading what was written gives the table. The lines of the text are the lines that were written, and the form parses them one
+-- after the other: of each it makes what the line was written for, and it leaves the rest. Where there are no attributes, the empty
+-- lines of the rows are the blank lines at the end.
 use Rattle.std.proofs.Common.{◌≡◌, ◌∙◌, ◌<◌, ◌≤◌, ◌+◌, ◌^◌, ◌==◌, ◌++◌, ◌∷◌, [], ℕ, zero, suc, List, true, Option, Some, None, Result, Ok}
 use Rattle.std.proofs.Common.{All, length, map, bytes_eq, refl, sym, ap, subst, append_assoc, eq-eqb, inl, inr, arith}
 use Rattle.std.proofs.lemmas.Bool.{cases_Bool}
@@ -16,8 +16,8 @@ use Rattle.fca_model.specs.declared.TheConstants.{MAX_ATTRIBUTES, MAX_OBJECTS}
 use Rattle.context_table.specs.Table.{IsTable, repeat_from}
 use Rattle.text_pieces.specs.Left.{Left, after_blanks_of}
 use Rattle.text_pieces.specs.Lines.{Line, lines}
-use Rattle.cxt_format.specs.Words.{title_form, row_of}
-use Rattle.cxt_format.specs.Form.{Taken, objects_form, attributes_form, rows_form, head_form, body_form, table_form, end_form, without_bom}
+use Rattle.cxt_format.specs.Words.{title_form, row_in_marks}
+use Rattle.cxt_format.specs.Form.{Parsed, objects_form, attributes_form, rows_form, head_form, body_form, table_form, end_form, without_bom}
 use Rattle.cxt_format.specs.Form.{cxt_form}
 use Rattle.text_pieces.specs.Marks.{marks_of}
 use Rattle.text_pieces.specs.Lists.{EachName, EachWide}
@@ -28,10 +28,10 @@ use Rattle.text_pieces.proofs.LineLemmas.{IsLine, IsLine-more, EachLine, EachLin
 use Rattle.text_pieces.proofs.LineLemmas.{IsUtf8-text_of}
 use Rattle.text_pieces.proofs.MarkLemmas.{IsLine-marks_of}
 use Rattle.text_pieces.proofs.NumeralLemmas.{IsLine-decimal}
-use Rattle.cxt_format.proofs.WordLemmas.{count_form-decimal, row_of-marks_of, is_blank_line-marks_of}
+use Rattle.cxt_format.proofs.WordLemmas.{count_form-decimal, row_in_marks-marks_of, is_blank_line-marks_of}
 
--- the form takes xs, and leaves these lines
-abbrev Gives : {X : Type 0} → Taken X → X → List Line → Type 0
+-- the form parses x, and leaves these lines
+abbrev Gives : {X : Type 0} → Parsed X → X → List Line → Type 0
 Gives form x rest = (k : ℕ) × (form ≡ Ok (x, record { number = k; lines = rest }))
 
 -- ---- names
@@ -70,8 +70,8 @@ rows-back width seen [] k wide = (k, rw (append-nil seen) refl)
 rows-back width seen ([] ∷ rows) k wide = cc wide.0
 rows-back width seen ((mark ∷ row) ∷ rows) k wide =
     let left = rows-back width (seen ++ (mark ∷ row) ∷ []) rows (k + 1) wide.1 in
-    let P : ℕ → Type 0 = λ n. row_of n (marks_of (mark ∷ row)) ≡ Some (mark ∷ row) in
-    let read : row_of (suc width) (marks_of (mark ∷ row)) ≡ Some (mark ∷ row) = subst P wide.0 (row_of-marks_of (mark ∷ row)) in
+    let P : ℕ → Type 0 = λ n. row_in_marks n (marks_of (mark ∷ row)) ≡ Some (mark ∷ row) in
+    let read : row_in_marks (suc width) (marks_of (mark ∷ row)) ≡ Some (mark ∷ row) = subst P wide.0 (row_in_marks-marks_of (mark ∷ row)) in
     (left.0, rw (is_blank_line-marks_of mark row, read) (left.1 ∙ rw (append_assoc seen ((mark ∷ row) ∷ []) rows) refl))
 
 -- no line is read for a row with no place

@@ -12,15 +12,15 @@ use Rattle.text_pieces.specs.Lines.{Line}
 use Rattle.text_pieces.specs.Marks.{is_cross, is_mark, marks_of}
 use Rattle.text_pieces.proofs.MarkLemmas.{marks_of-marks, set_of_marks-marks_of, length-marks_of}
 use Rattle.text_pieces.proofs.NumeralLemmas.{numeral-decimal, trim-decimal}
-use Rattle.cxt_format.specs.Words.{count_form, row_of, row_form}
+use Rattle.cxt_format.specs.Words.{count_form, row_in_marks, row_form}
 
 pub count_form-decimal : (most k n : ℕ) → n ≤ most → n < 2 ^ 64 → count_form most k (decimal n) ≡ Ok n
 count_form-decimal most k n within small =
     let numeral = numeral-decimal n small in
     rw (trim-decimal n, numeral.0, numeral.1, le-ltb most n within) refl
 
-pub row_of-marks_of : (row : Set) → row_of (length row) (marks_of row) ≡ Some row
-row_of-marks_of row =
+pub row_in_marks-marks_of : (row : Set) → row_in_marks (length row) (marks_of row) ≡ Some row
+row_in_marks-marks_of row =
     let same = length-marks_of row in
     let all : take (length row) (marks_of row) ≡ marks_of row = take_all (length row) (marks_of row) (omega (arith, same)) in
     let none : drop (length row) (marks_of row) ≡ [] = drop_of_length-le (marks_of row) (omega (arith, same)) in

@@ -12,42 +12,42 @@ use Rattle.cxt_format.specs.declared.read.Head.{Head}
 use Rattle.cxt_format.specs.declared.CxtFault.{CxtFault}
 use Rattle.cxt_format.specs.declared.CxtFault.TheVariants as fault
 
--- what was read, with what is left, or the first fault
-abbrev pub Taken : Type 0 → Type 0
-Taken X = Result (X × Left) CxtFault
+-- what was parsed, with what is left, or the first fault
+abbrev pub Parsed : Type 0 → Type 0
+Parsed X = Result (X × Left) CxtFault
 
--- the code took what the form takes, seen in this way, and left these lines, unless memory ran out
-abbrev pub Takes : {X Y : Type 0} → (X → Y) → Result X CxtFault → Taken Y → Left → Type 0
-Takes view told form left = MatchResult told (λ x. form ≡ Ok (view x, left)) (λ e. (e ≡ fault.Memory) ⊎ (form ≡ Err e))
+-- the code parsed what the form parses, seen in this way, and left these lines, unless memory ran out
+abbrev pub Parses : {X Y : Type 0} → (X → Y) → Result X CxtFault → Parsed Y → Left → Type 0
+Parses view told form left = MatchResult told (λ x. form ≡ Ok (view x, left)) (λ e. (e ≡ fault.Memory) ⊎ (form ≡ Err e))
 
-abbrev pub next_of : {X : Type 0} → (ℕ → Line → Result X CxtFault) → ℕ → List Line → Taken X
+abbrev pub next_of : {X : Type 0} → (ℕ → Line → Result X CxtFault) → ℕ → List Line → Parsed X
 next_of form k [] = Err (fault.Ended k)
 next_of form k (line ∷ lines) = then (form k line) (λ x. Ok (x, record { number = k + 1; lines = lines }))
 
 -- what the form makes of the next line; it is a fault if there is none
-abbrev pub next : {X : Type 0} → (ℕ → Line → Result X CxtFault) → Left → Taken X
+abbrev pub next : {X : Type 0} → (ℕ → Line → Result X CxtFault) → Left → Parsed X
 next form left = next_of form left.number left.lines
 
--- n more of what `take` takes, which may look at those before
-abbrev pub more : {X : Type 0} → (List X → Left → Taken X) → List X → ℕ → Left → Taken (List X)
-more take xs zero left = Ok (xs, left)
-more take xs (suc n) left = then (take xs left) (λ p. more take (xs ++ p.0 ∷ []) n p.1)
+-- n more of what `parse` parses, which may look at those before
+abbrev pub more : {X : Type 0} → (List X → Left → Parsed X) → List X → ℕ → Left → Parsed (List X)
+more parse xs zero left = Ok (xs, left)
+more parse xs (suc n) left = then (parse xs left) (λ p. more parse (xs ++ p.0 ∷ []) n p.1)
 
 -- n more names of objects, one on each line
-abbrev pub objects_form : List Text → ℕ → Left → Taken (List Text)
+abbrev pub objects_form : List Text → ℕ → Left → Parsed (List Text)
 objects_form names n left = more (λ before. next name_form) names n left
 
 -- n more names of attributes, one on each line, each different from those before
-abbrev pub attributes_form : List Text → ℕ → Left → Taken (List Text)
+abbrev pub attributes_form : List Text → ℕ → Left → Parsed (List Text)
 attributes_form names n left = more (λ before. next (attribute_form before)) names n left
 
 -- the next row, after blank lines; without attributes no line is read
-abbrev pub next_row : ℕ → Left → Taken Set
+abbrev pub next_row : ℕ → Left → Parsed Set
 next_row zero left = Ok ([], left)
 next_row (suc width) left = next (row_form (suc width)) (after_blanks left)
 
 -- n more rows
-abbrev pub rows_form : ℕ → List Set → ℕ → Left → Taken (List Set)
+abbrev pub rows_form : ℕ → List Set → ℕ → Left → Parsed (List Set)
 rows_form width rows n left = more (λ before. next_row width) rows n left
 
 abbrev pub end_of : ℕ → List Line → Result (Unit {0}) CxtFault
@@ -59,7 +59,7 @@ abbrev pub end_form : Left → Result (Unit {0}) CxtFault
 end_form left = let rest = after_blanks left in end_of rest.number rest.lines
 
 -- the letter B, the title, the numbers of objects and of attributes, and a blank line, which may be missing
-abbrev pub head_form : Left → Taken Head
+abbrev pub head_form : Left → Parsed Head
 head_form left =
     then (next b_form left) (λ b.
     then (next title_form b.1) (λ title.

@@ -64,8 +64,8 @@ count_form most k line =
     (Err (fault.BadCount k))
 
 -- the row of n attributes that the line writes: n marks, and then blanks alone
-abbrev pub row_of : ℕ → Line → Option Set
-row_of n line =
+abbrev pub row_in_marks : ℕ → Line → Option Set
+row_in_marks n line =
     cond (nat_le n (length line) && (list_all is_mark (take n line) && is_blank_line (drop n line)))
     (Some (map is_cross (take n line))) None
 
@@ -75,4 +75,4 @@ row_by k (Some row) = Ok row
 
 -- line k is a row
 abbrev pub row_form : ℕ → ℕ → Line → Result Set CxtFault
-row_form width k line = row_by k (row_of width line)
+row_form width k line = row_by k (row_in_marks width line)

@@ -17,7 +17,7 @@ pub fn is_b_line(line: &[u8]) -> bool
     trim(line) == b"B".as_slice()
 }
 
-/// The number on line `number`, which may be at most `most`.
+/// The count on line `number`, which may be at most `most`.
 pub fn count_of(most: usize, number: usize, line: &[u8]) -> Result<usize, CxtFault>
     ensures { result ≡ form.count_form most number line.now }
 {

@@ -5,7 +5,7 @@ ghost use Rattle.text_pieces.specs.Lines.{lines};
 ghost use Rattle.context_table.specs.Narrow.{context_in};
 ghost use Rattle.cxt_format.specs.Form as form;
 ghost use Rattle.text_pieces.specs.Telling.{Tells};
-ghost use Rattle.cxt_format.specs.Form.{Takes};
+ghost use Rattle.cxt_format.specs.Form.{Parses};
 ghost use Rattle.cxt_format.specs.Narrow.{untitled_form};
 
 use crate::CxtFault;
@@ -23,22 +23,26 @@ pub fn read_narrow_cxt(alloc: Global, bytes: &[u8]) -> Result<NarrowTable, CxtFa
     ensures { Tells CxtFault.Memory result (untitled_form (form.cxt_form bytes.now)) }
 {
     match str::from_utf8(bytes) {
-        Ok(text) => read_text(alloc, text),
+        Ok(text) => read_narrow_text(alloc, text),
         Err(fault) => Err(CxtFault::NotUtf8(fault.valid_up_to())),
     }
 }
 
-fn read_text(alloc: Global, text: &str) -> Result<NarrowTable, CxtFault>
+fn read_narrow_text(alloc: Global, text: &str) -> Result<NarrowTable, CxtFault>
     requires { length text.now < 2 ^ 63 }
     ensures { Tells CxtFault.Memory result (untitled_form (form.table_form (lines (form.without_bom text.now)))) }
 {
     let mut lines = Lines::new(without_bom(text));
     let head = read_head(alloc, &mut lines)?;
-    read_body(alloc, head, &mut lines)
+    read_narrow_body(alloc, head, &mut lines)
 }
 
 /// Reads what stands behind the head.
-fn read_body(alloc: Global, head: Head, lines: &mut Lines<'_>) -> Result<NarrowTable, CxtFault>
+fn read_narrow_body(
+    alloc: Global,
+    head: Head,
+    lines: &mut Lines<'_>,
+) -> Result<NarrowTable, CxtFault>
     requires objects { head.objects ≤ MAX_OBJECTS }
     requires attributes { head.attributes ≤ MAX_ATTRIBUTES }
     ensures { Tells CxtFault.Memory result (untitled_form (form.body_form head lines.old)) }
@@ -61,7 +65,7 @@ fn read_narrow_rows(
     lines: &mut Lines<'_>,
 ) -> Result<NarrowRows, CxtFault>
     requires { width ≤ MAX_ATTRIBUTES }
-    ensures form { Takes (λ rows. (context_in rows).rows) result (form.rows_form width [] count lines.old) lines.new }
+    ensures form { Parses (λ rows. (context_in rows).rows) result (form.rows_form width [] count lines.old) lines.new }
     ensures width { IfOk result (λ rows. (context_in rows).width ≡ width) }
     ensures counted { IfOk result (λ rows. length (context_in rows).rows ≡ count) }
 {

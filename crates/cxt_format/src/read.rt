@@ -6,7 +6,7 @@ ghost use Rattle.text_pieces.specs.Lines.{lines};
 ghost use Rattle.cxt_format.specs.Words as word;
 ghost use Rattle.cxt_format.specs.Form as form;
 ghost use Rattle.text_pieces.specs.Telling.{Tells};
-ghost use Rattle.cxt_format.specs.Form.{Takes};
+ghost use Rattle.cxt_format.specs.Form.{Parses};
 
 use crate::CxtFault;
 use crate::line_readers::{count_of, is_b_line, name_of, row_of, title_of};
@@ -53,7 +53,7 @@ pub(crate) fn without_bom(text: &str) -> &str
 }
 
 pub(crate) fn read_head(alloc: Global, lines: &mut Lines<'_>) -> Result<Head, CxtFault>
-    ensures form { Takes (λ head. head) result (form.head_form lines.old) lines.new }
+    ensures form { Parses (λ head. head) result (form.head_form lines.old) lines.new }
     ensures objects { IfOk result (λ head. head.objects ≤ MAX_OBJECTS) }
     ensures attributes { IfOk result (λ head. head.attributes ≤ MAX_ATTRIBUTES) }
 {
@@ -85,7 +85,7 @@ fn read_body(alloc: Global, head: Head, lines: &mut Lines<'_>) -> Result<Table, 
 }
 
 fn next_b_line(lines: &mut Lines<'_>) -> Result<(), CxtFault>
-    ensures { Takes (λ x. x) result (form.next word.b_form lines.old) lines.new }
+    ensures { Parses (λ x. x) result (form.next word.b_form lines.old) lines.new }
 {
     let number = lines.number();
     match lines.next() {
@@ -101,7 +101,7 @@ fn next_b_line(lines: &mut Lines<'_>) -> Result<(), CxtFault>
 }
 
 fn next_title(alloc: Global, lines: &mut Lines<'_>) -> Result<Option<Name>, CxtFault>
-    ensures { Takes (λ x. x) result (form.next word.title_form lines.old) lines.new }
+    ensures { Parses (λ x. x) result (form.next word.title_form lines.old) lines.new }
 {
     let number = lines.number();
     match lines.next() {
@@ -111,7 +111,7 @@ fn next_title(alloc: Global, lines: &mut Lines<'_>) -> Result<Option<Name>, CxtF
 }
 
 fn next_count(most: usize, lines: &mut Lines<'_>) -> Result<usize, CxtFault>
-    ensures form { Takes (λ x. x) result (form.next (word.count_form most) lines.old) lines.new }
+    ensures form { Parses (λ x. x) result (form.next (word.count_form most) lines.old) lines.new }
     ensures within { IfOk result (λ count. count ≤ most) }
 {
     let number = lines.number();
@@ -122,7 +122,7 @@ fn next_count(most: usize, lines: &mut Lines<'_>) -> Result<usize, CxtFault>
 }
 
 fn next_name(alloc: Global, lines: &mut Lines<'_>) -> Result<Name, CxtFault>
-    ensures { Takes (λ x. x) result (form.next word.name_form lines.old) lines.new }
+    ensures { Parses (λ x. x) result (form.next word.name_form lines.old) lines.new }
 {
     let number = lines.number();
     match lines.next() {
@@ -133,7 +133,7 @@ fn next_name(alloc: Global, lines: &mut Lines<'_>) -> Result<Name, CxtFault>
 
 fn next_row(width: u32, lines: &mut Lines<'_>) -> Result<Attrs, CxtFault>
     requires { width ≤ MAX_ATTRIBUTES }
-    ensures form { Takes (λ x. x) result (form.next_row width lines.old) lines.new }
+    ensures form { Parses (λ x. x) result (form.next_row width lines.old) lines.new }
     ensures wide { IfOk result (λ row. length row ≡ width) }
 {
     if width == 0 {
@@ -150,7 +150,7 @@ pub(crate) fn read_objects(
     count: usize,
     lines: &mut Lines<'_>,
 ) -> Result<Vec<Name>, CxtFault>
-    ensures form { Takes (λ names. names.items) result (form.objects_form [] count lines.old) lines.new }
+    ensures form { Parses (λ names. names.items) result (form.objects_form [] count lines.old) lines.new }
     ensures counted { IfOk result (λ names. vec_len names ≡ count) }
 {
     let mut names = Vec::new(alloc);
@@ -165,7 +165,7 @@ pub(crate) fn read_attributes(
     count: usize,
     lines: &mut Lines<'_>,
 ) -> Result<Vec<Name>, CxtFault>
-    ensures form { Takes (λ names. names.items) result (form.attributes_form [] count lines.old) lines.new }
+    ensures form { Parses (λ names. names.items) result (form.attributes_form [] count lines.old) lines.new }
     ensures counted { IfOk result (λ names. vec_len names ≡ count) }
 {
     let names = read_new_names(alloc, count, lines)?;
@@ -178,7 +178,7 @@ fn read_new_names(
     count: usize,
     lines: &mut Lines<'_>,
 ) -> Result<IndexSet<Name>, CxtFault>
-    ensures form { Takes (λ names. names.keys) result (form.attributes_form [] count lines.old) lines.new }
+    ensures form { Parses (λ names. names.keys) result (form.attributes_form [] count lines.old) lines.new }
     ensures counted { IfOk result (λ names. length names.keys ≡ count) }
 {
     let mut names = IndexSet::new(alloc);
@@ -193,7 +193,7 @@ fn next_attribute(
     names: &IndexSet<Name>,
     lines: &mut Lines<'_>,
 ) -> Result<Name, CxtFault>
-    ensures form { Takes (λ x. x) result (form.next (word.attribute_form names.now.keys) lines.old) lines.new }
+    ensures form { Parses (λ x. x) result (form.next (word.attribute_form names.now.keys) lines.old) lines.new }
     ensures new { IfOk result (λ name. list_any (bytes_eq name) names.now.keys ≡ false) }
 {
     let number = lines.number();
@@ -219,7 +219,7 @@ pub(crate) fn read_rows<const W: usize>(
     requires width { width ≤ MAX_ATTRIBUTES }
     requires room { width ≤ 64 * W }
     requires words { W ≤ 1024 }
-    ensures form { Takes (λ rows. rows.rows) result (form.rows_form width [] count lines.old) lines.new }
+    ensures form { Parses (λ rows. rows.rows) result (form.rows_form width [] count lines.old) lines.new }
     ensures width { IfOk result (λ rows. rows.width ≡ width) }
     ensures counted { IfOk result (λ rows. length rows.rows ≡ count) }
 {

@@ -17,12 +17,12 @@ use Rattle.packed_concepts.specs.Packing.{IsNamed}
 use Rattle.concept_walk.specs.Gatherings.{IsGathering, concept_at}
 use Rattle.concept_walk.proofs.LineLemmas.{named, text_whole}
 use Rattle.concept_walk.specs.declared.gathering.Gathering.{Gathering}
-use Rattle.table_texts.specs.Tops.{branches, all_branches, EachWrote}
+use Rattle.table_texts.specs.Tops.{branches, all_branches, EachGathered}
 use Rattle.table_texts.specs.declared.tops.Top.{Top}
 
 -- gatherings of which none lacks a concept have those of all jobs
 pub concepts-jobs : (K : Context) {W : ℕ} (gatherings : List (Gathering W)) (jobs : List (Bor (List (Top W)))) → length gatherings ≡ length jobs
-    → EachWrote K gatherings jobs → All (λ gathering. gathering.whole ≡ true) gatherings
+    → EachGathered K gatherings jobs → All (λ gathering. gathering.whole ≡ true) gatherings
     → flat_map (λ x. x) (map (λ gathering. gathering.concepts) gatherings) ≡ map (concept_at K) (all_branches K jobs)
 concepts-jobs K [] [] even each whole = refl
 concepts-jobs K [] (job ∷ jobs) even each whole = absurd (omega arith)

@@ -1,4 +1,4 @@
--- Branches that are laid out, cut into jobs, and written on pages.
+-- Branches that are laid out and split into jobs.
 use Rattle.std.proofs.Common.{◌≡◌, ℕ, ◌+◌, ◌<◌, All, List, [], ◌∷◌, ◌++◌, length, take, suc, refl, sym, ap, subst, ◌∙◌, arith}
 use Rattle.std.proofs.lemmas.List.{append-nil, take_at, drop_at}
 use Rattle.std.proofs.Math.Seq.{take-suc}
@@ -35,7 +35,7 @@ All-jobs P (job ∷ jobs) h =
     (All-jobs P jobs (subst (All P) (drop_at job.now (flat_map (λ j. j.now) jobs) (length job.now) refl)
     (All-drop P (length job.now) all h)))
 
--- the jobs have the branches that were cut
+-- the jobs have the branches that were split
 pub branches-jobs : (K : Context) {W : ℕ} (jobs : List (Bor (List (Top W))))
     → all_branches K jobs ≡ branches K (flat_map (λ job. job.now) jobs)
 branches-jobs K {W} [] = refl

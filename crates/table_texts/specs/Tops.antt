@@ -1,4 +1,4 @@
--- Branches of the tree of intents that are still to be written.
+-- Branches of the tree of intents, and the gatherings that have their concepts.
 use Rattle.std.specs.Prelude.{◌≡◌, ◌<◌, ◌≤◌, ℕ, true, List, length, slice_index_or}
 use Rattle.std.specs.List.{flat_map}
 use denote.Ref.{Bor}
@@ -26,9 +26,9 @@ abbrev pub all_branches : Context → {W : ℕ} → List (Bor (List (Top W))) �
 all_branches K jobs = flat_map (λ job. branches K job.now) jobs
 
 -- the gathering has the concepts of the branches, unless one is missing
-abbrev pub Wrote : Context → {W : ℕ} → Gathering W → List (Top W) → Type 0
-Wrote K gathering job = gathering.whole ≡ true → IsGathering K gathering (branches K job)
+abbrev pub HasGathered : Context → {W : ℕ} → Gathering W → List (Top W) → Type 0
+HasGathered K gathering job = gathering.whole ≡ true → IsGathering K gathering (branches K job)
 
 -- each gathering has those of the job at its place
-abbrev pub EachWrote : Context → {W : ℕ} → List (Gathering W) → List (Bor (List (Top W))) → Type 0
-EachWrote K gatherings jobs = (i : ℕ) (p : _) (j : _) → i < length jobs → Wrote K (slice_index_or gatherings i p) (slice_index_or jobs i j).now
+abbrev pub EachGathered : Context → {W : ℕ} → List (Gathering W) → List (Bor (List (Top W))) → Type 0
+EachGathered K gatherings jobs = (i : ℕ) (p : _) (j : _) → i < length jobs → HasGathered K (slice_index_or gatherings i p) (slice_index_or jobs i j).now

@@ -2,7 +2,7 @@
 
 ghost use Rattle.std.specs.Prelude.{◌≡◌, All, OnOk};
 ghost use Rattle.concept_walk.specs.Gatherings.{Fills};
-ghost use Rattle.table_texts.specs.Tops.{IsTop, branches, Wrote};
+ghost use Rattle.table_texts.specs.Tops.{IsTop, branches, HasGathered};
 
 use crate::tops::Top;
 use concept_walk::{CrossTable, Gathering, StepListPool, gather_branch};
@@ -16,9 +16,9 @@ pub(crate) fn gather_job<const W: usize>(
     job: &[Top<W>],
 ) -> Gathering<W>
     requires { All (IsTop crosses.now) job.now }
-    ensures { Wrote crosses.now result job.now }
+    ensures { HasGathered crosses.now result job.now }
 {
-    let _words = crosses.rows().width();
+    let _width = crosses.rows().width();
     let mut gathering = Gathering::new(alloc);
     gathering.whole = gather_tops(alloc, crosses, job, &mut gathering).is_ok();
     gathering
@@ -28,15 +28,15 @@ pub(crate) fn gather_job<const W: usize>(
 pub(crate) fn gather_tops<const W: usize>(
     alloc: Global,
     crosses: &CrossTable<'_, W>,
-    job: &[Top<W>],
+    tops: &[Top<W>],
     gathering: &mut Gathering<W>,
 ) -> Result<(), Memory>
-    requires { All (IsTop crosses.now) job.now }
-    ensures { OnOk result (Fills crosses.now gathering.old gathering.new (branches crosses.now job.now)) }
+    requires { All (IsTop crosses.now) tops.now }
+    ensures { OnOk result (Fills crosses.now gathering.old gathering.new (branches crosses.now tops.now)) }
 {
-    let _words = crosses.rows().width();
+    let _width = crosses.rows().width();
     let mut pool = StepListPool::new(alloc, crosses.rows())?;
-    for top in job {
+    for top in tops {
         gather_branch(alloc, crosses, gathering, &top.node(crosses), &mut pool)?;
     }
     Ok(())

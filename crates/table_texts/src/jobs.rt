@@ -17,7 +17,7 @@ const JOBS: usize = 64;
 const PARTS: usize = 4;
 
 /// The work of a line beside its objects, in such parts.
-const LINE: usize = 64;
+const LINE_WORK: usize = 64;
 
 /// About how many of so many cells have a cross.
 #[derive(Clone, Copy, Drop)]
@@ -51,7 +51,7 @@ pub(crate) fn branch_jobs<'a, const W: usize>(
     ensures tops { IfOk result (λ jobs. All (λ job. All (IsTop crosses.now) job.now) jobs.items) }
     ensures branches { IfOk result (λ jobs. all_branches crosses.now jobs.items ≡ branches crosses.now tops.now) }
 {
-    let _words = crosses.rows().width();
+    let _width = crosses.rows().width();
     let jobs = split_tops(alloc, tops, density)?;
     Ok(jobs)
 }
@@ -68,7 +68,7 @@ fn split_tops<const W: usize>(
     let mut jobs = Vec::new(alloc);
     let mut rest = tops;
     while !rest.is_empty() {
-        let (job, behind) = rest.split_at(first_branch_job(rest, density, share));
+        let (job, behind) = rest.split_at(len_of_first_job(rest, density, share));
         jobs.push(job)?;
         rest = behind;
     }
@@ -76,7 +76,7 @@ fn split_tops<const W: usize>(
 }
 
 /// The number of branches of the first job: at least one.
-fn first_branch_job<const W: usize>(tops: &[Top<W>], density: Density, share: usize) -> usize
+fn len_of_first_job<const W: usize>(tops: &[Top<W>], density: Density, share: usize) -> usize
     requires { 0 < length tops.now }
     ensures some { 0 < result }
     ensures inside { result ≤ length tops.now }
@@ -111,7 +111,7 @@ fn work_at<const W: usize>(top: &Top<W>, density: Density) -> usize {
         if objects == 0 {
             return work;
         }
-        work = work.saturating_add(sets.saturating_mul(objects.saturating_add(LINE)));
+        work = work.saturating_add(sets.saturating_mul(objects.saturating_add(LINE_WORK)));
         sets = sets.saturating_mul(left - size) / (size + 1);
         objects = objects.saturating_mul(density.crossed) / density.cells.max(1);
     }

@@ -36,22 +36,22 @@ pub fn narrow_lattice_text(alloc: Global, table: NarrowTable) -> Result<Vec<u8>,
 {
     let (names, rows) = names_and_rows(alloc, table)?;
     let lattice = lattice_of(alloc, rows)?;
-    write_lattice(alloc, names, lattice)
+    lines_with_covers(alloc, names, lattice)
 }
 
 /// The lines of the concepts and then those of the covers.
-fn write_lattice(alloc: Global, names: Names, lattice: Lattice) -> Result<Vec<u8>, Memory>
+fn lines_with_covers(alloc: Global, names: Names, lattice: Lattice) -> Result<Vec<u8>, Memory>
     requires { All (IsNamed names) (concepts_on lattice.pages) }
     ensures { IfOk result (λ v. v.items ≡ lines_text names (concepts_on lattice.pages)
         ++ (count_line (codes "covers ") (length lattice.covers.items) ++ flat_map cover_line lattice.covers.items)) }
 {
     let Lattice { pages, covers } = lattice;
-    let text = write_lines(alloc, names, pages)?;
+    let text = lines_text(alloc, names, pages)?;
     with_covers(alloc, text, &covers)
 }
 
 /// The lines of the concepts.
-fn write_lines(alloc: Global, names: Names, pages: NarrowPages) -> Result<Vec<u8>, Memory>
+fn lines_text(alloc: Global, names: Names, pages: NarrowPages) -> Result<Vec<u8>, Memory>
     requires { All (IsNamed names) (concepts_on pages) }
     ensures { IfOk result (λ v. v.items ≡ lines_text names (concepts_on pages)) }
 {

@@ -106,7 +106,7 @@ pub(crate) fn one_page<const W: usize>(
     requires whole { branches crosses.now tops.now ≡ intents crosses.now }
     ensures { IfOk result (λ page. page ≡ map (concept_at crosses.now) (intents crosses.now)) }
 {
-    let _words = crosses.rows().width();
+    let _width = crosses.rows().width();
     let mut gathering = Gathering::new(alloc);
     gather_tops(alloc, crosses, tops, &mut gathering)?;
     Ok(gathering.concepts)
@@ -123,7 +123,7 @@ fn many_pages<R: Threads + Sync, const W: usize>(
     requires whole { branches crosses.now tops.now ≡ intents crosses.now }
     ensures { IfOk result (λ pages. flat_map (λ page. page) pages.items ≡ map (concept_at crosses.now) (intents crosses.now)) }
 {
-    let _words = crosses.rows().width();
+    let _width = crosses.rows().width();
     let more = split_large(alloc, crosses, tops, 0)?;
     let finer = split_large(alloc, crosses, &more, large_part(&more))?;
     let jobs = branch_jobs(alloc, crosses, &finer, density_of(tops))?;

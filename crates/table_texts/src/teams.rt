@@ -1,7 +1,7 @@
 //! Jobs that several threads do. A thread takes the next job after it has done one, so all have work until no job is left.
 
 ghost use Rattle.std.specs.Prelude.{◌≡◌, ◌≤◌, [], false, All, IfOk, length};
-ghost use Rattle.table_texts.specs.Tops.{IsTop, Wrote, EachWrote};
+ghost use Rattle.table_texts.specs.Tops.{IsTop, HasGathered, EachGathered};
 ghost use Rattle.table_texts.specs.Teams.{IsDone};
 
 use crate::filling::gather_job;
@@ -30,9 +30,9 @@ pub(crate) fn gather_jobs<R: Threads + Sync, const W: usize>(
 ) -> Result<Vec<Gathering<W>>, Memory>
     requires { All (λ job. All (IsTop crosses.now) job.now) jobs.now }
     ensures even { IfOk result (λ gatherings. length gatherings.items ≡ length jobs.now) }
-    ensures gatherings { IfOk result (λ gatherings. EachWrote crosses.now gatherings.items jobs.now) }
+    ensures gatherings { IfOk result (λ gatherings. EachGathered crosses.now gatherings.items jobs.now) }
 {
-    let _words = crosses.rows().width();
+    let _width = crosses.rows().width();
     let next = AtomicUsize::new(0);
     let mut team = team_of(alloc, processors(rt))?;
     let threads = team.len().max(1);
@@ -76,7 +76,7 @@ fn take_jobs<const W: usize>(
     requires done { All (IsDone crosses.now jobs.now) done.old.items }
     ensures { All (IsDone crosses.now jobs.now) done.new.items }
 {
-    let _words = crosses.rows().width();
+    let _width = crosses.rows().width();
     for _ in 0..jobs.len() {
         let place = next.fetch_add(1, Ordering::Relaxed);
         if jobs.len() <= place {
@@ -115,11 +115,11 @@ fn put_all<const W: usize>(
 )
     requires done { All (λ done. All (IsDone crosses.now jobs.now) done.items) team.items }
     requires even { length gatherings.old ≡ length jobs.now }
-    requires gatherings { EachWrote crosses.now gatherings.old jobs.now }
+    requires gatherings { EachGathered crosses.now gatherings.old jobs.now }
     ensures even { length gatherings.new ≡ length jobs.now }
-    ensures gatherings { EachWrote crosses.now gatherings.new jobs.now }
+    ensures gatherings { EachGathered crosses.now gatherings.new jobs.now }
 {
-    let _words = crosses.rows().width();
+    let _width = crosses.rows().width();
     for done in team {
         put_gatherings(crosses, jobs, done, gatherings);
     }
@@ -134,11 +134,11 @@ fn put_gatherings<const W: usize>(
 )
     requires done { All (IsDone crosses.now jobs.now) done.items }
     requires even { length gatherings.old ≡ length jobs.now }
-    requires gatherings { EachWrote crosses.now gatherings.old jobs.now }
+    requires gatherings { EachGathered crosses.now gatherings.old jobs.now }
     ensures even { length gatherings.new ≡ length jobs.now }
-    ensures gatherings { EachWrote crosses.now gatherings.new jobs.now }
+    ensures gatherings { EachGathered crosses.now gatherings.new jobs.now }
 {
-    let _words = crosses.rows().width();
+    let _width = crosses.rows().width();
     for one in done {
         gatherings[one.place] = one.gathering;
     }

@@ -44,7 +44,7 @@ impl<const W: usize> Top<W> {
         ensures intent { result.intent.now ≡ self.now.intent }
         ensures from { result.from ≡ self.now.from }
     {
-        let _words = crosses.rows().width();
+        let _width = crosses.rows().width();
         Node {
             intent: &self.intent,
             places: &self.places,
@@ -133,16 +133,16 @@ pub(crate) fn split_large<const W: usize>(
     alloc: Global,
     crosses: &CrossTable<'_, W>,
     tops: &[Top<W>],
-    least: usize,
+    least_weight: usize,
 ) -> Result<Vec<Top<W>>, Memory>
     requires tops { All (IsTop crosses.now) tops.now }
     ensures tops { IfOk result (λ more. All (IsTop crosses.now) more.items) }
     ensures branches { IfOk result (λ more. branches crosses.now more.items ≡ branches crosses.now tops.now) }
 {
-    let _words = crosses.rows().width();
+    let _width = crosses.rows().width();
     let mut more = Vec::new(alloc);
     for top in tops {
-        split_if_large(alloc, crosses, top, least, &mut more)?;
+        split_if_large(alloc, crosses, top, least_weight, &mut more)?;
     }
     Ok(more)
 }
@@ -152,7 +152,7 @@ fn split_if_large<const W: usize>(
     alloc: Global,
     crosses: &CrossTable<'_, W>,
     top: &Top<W>,
-    least: usize,
+    least_weight: usize,
     more: &mut Vec<Top<W>>,
 ) -> Result<(), Memory>
     requires top { IsTop crosses.now top.now }
@@ -161,8 +161,8 @@ fn split_if_large<const W: usize>(
     ensures branches { OnOk result (branches crosses.now more.new.items
         ≡ branches crosses.now more.old.items ++ branch crosses.now top.now.intent top.now.from) }
 {
-    let _words = crosses.rows().width();
-    if least <= top.weight() && more.len() < ENOUGH {
+    let _width = crosses.rows().width();
+    if least_weight <= top.weight() && more.len() < ENOUGH {
         return split_branch(alloc, crosses, top, more);
     }
     add_top(alloc, crosses, &top.node(crosses), more)?;
@@ -185,7 +185,7 @@ fn split_branch<const W: usize>(
     let rows = crosses.rows();
     let node = top.node(crosses);
     let mut candidates = Candidates {
-        attributes: tries_of(rows, node.intent, node.places),
+        tries: tries_of(rows, node.intent, node.places),
         end: rows.width(),
     };
     let alone = Node {
@@ -227,7 +227,7 @@ fn add_top<const W: usize>(
     ensures branches { OnOk result (branches crosses.now tops.new.items
         ≡ branches crosses.now tops.old.items ++ branch crosses.now node.now.intent.now node.now.from) }
 {
-    let _words = crosses.rows().width();
+    let _width = crosses.rows().width();
     tops.push(Top {
         intent: *node.intent,
         from: node.from,

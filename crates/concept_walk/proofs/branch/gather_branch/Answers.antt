@@ -59,7 +59,7 @@ loop-step-smaller g c =
     let descent = rw c.in-Below.is at c.in_ok-next_step.ensures in
     room_deeper K.width steps c.in-Some-pop.step c.in-Some-pop.ensures.items c.next_step.new.step c.in_ok-push-in-Below.ensures.items descent.0.from
     (omega (arith, descent.0.from, descent.0.step.order)) descent.0.less
-    (walk_step K All c.args.gathering.now c.loop-step.gathering c.next_step.new.gathering steps c.in-Some-pop.step walk).candidates.inside c.in-Below.below
+    (walk_step K All c.args.gathering.now c.loop-step.gathering c.next_step.new.gathering steps c.in-Some-pop.step walk).candidates.inside c.in-Below.deeper
     c.in_ok-push-in-Below-2.ensures.items descent.2
 
 pub loop-step-preserved : goal.loop-step-preserved
@@ -71,6 +71,6 @@ loop-step-preserved g c =
     c.loop-step.invariant in
     subst (λ (xs : List (Step g.row.W)). IsWalk K All c.args.gathering.now c.next_step.new.gathering xs)
     (sym (c.in_ok-push-in-Below-2.ensures.items ∙ ap
-    (λ (xs : List (Step g.row.W)). xs ++ c.in-Below.below ∷ []) c.in_ok-push-in-Below.ensures.items))
+    (λ (xs : List (Step g.row.W)). xs ++ c.in-Below.deeper ∷ []) c.in_ok-push-in-Below.ensures.items))
     (walk_below K All c.args.gathering.now c.loop-step.gathering c.next_step.new.gathering steps c.in-Some-pop.step walk c.next_step.new.step
-    c.in-Below.below (rw c.in-Below.is at c.in_ok-next_step.ensures))
+    c.in-Below.deeper (rw c.in-Below.is at c.in_ok-next_step.ensures))

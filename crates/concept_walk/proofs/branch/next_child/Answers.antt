@@ -18,7 +18,7 @@ loop-i-preserved-then-not-is_open g c =
       from_on = last.0;
       inside = omega (arith, last.1, c.loop-i.invariant.inside);
       noted = c.loop-i.invariant.noted;
-      none = same ∙ branch-behind K K A c.args.candidates.now.attributes c.in-Some.i c.loop-i.place refl c.requires.candidates.tries last.1
+      none = same ∙ branch-behind K K A c.args.candidates.now.tries c.in-Some.i c.loop-i.place refl c.requires.candidates.tries last.1
           (omega (arith, c.loop-i.invariant.inside, c.requires.candidates.inside)) last.2 ∙ c.loop-i.invariant.none;
     }
 
@@ -36,7 +36,7 @@ returns-in-Some-met-clause-splits g c =
     let attribute : c.in-Some-met.child.attribute ≡ i =
     subst (λ (o : Option (Child g.row.W)). IfSome o (λ child. child.attribute ≡ i)) c.in-Some-met.is c.in_ok-met.ensures.attribute in
     let behind : branch K A (i + 1) ≡ branch K A c.args.candidates.now.end =
-    branch-behind K K A c.args.candidates.now.attributes i c.loop-i.place refl c.requires.candidates.tries last.1
+    branch-behind K K A c.args.candidates.now.tries i c.loop-i.place refl c.requires.candidates.tries last.1
     (omega (arith, c.loop-i.invariant.inside, c.requires.candidates.inside)) last.2 ∙ c.loop-i.invariant.none in
     subst (λ k. branch K A k ≡ branch K A c.args.candidates.now.end ++ branch K D (k + 1)) (sym attribute)
     (splits ∙ ap (λ (Xs : List Set). Xs ++ branch K D (i + 1)) behind)
@@ -54,7 +54,7 @@ loop-i-preserved g c =
       from_on = last.0;
       inside = omega (arith, last.1, c.loop-i.invariant.inside);
       noted = c.in_ok-met.ensures.noted;
-      none = same ∙ branch-behind K K A c.args.candidates.now.attributes c.in-Some.i c.loop-i.place refl c.requires.candidates.tries last.1
+      none = same ∙ branch-behind K K A c.args.candidates.now.tries c.in-Some.i c.loop-i.place refl c.requires.candidates.tries last.1
           (omega (arith, c.loop-i.invariant.inside, c.requires.candidates.inside)) last.2 ∙ c.loop-i.invariant.none;
     }
 
@@ -62,6 +62,6 @@ pub returns-clause-splits : goal.returns-clause-splits
 returns-clause-splits g c =
     let K : Context = c.args.crosses.now in
     let A : Set = c.args.node.now.intent.now in
-    branch-between K A c.args.candidates.now.attributes c.args.node.now.from c.loop-i.place c.requires.candidates.tries
+    branch-between K A c.args.candidates.now.tries c.args.node.now.from c.loop-i.place c.requires.candidates.tries
     c.loop-i.invariant.from_on (omega (arith, c.loop-i.invariant.inside, c.requires.candidates.inside)) c.in_default.ensures
     ∙ c.loop-i.invariant.none

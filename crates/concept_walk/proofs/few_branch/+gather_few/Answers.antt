@@ -89,7 +89,7 @@ loop-i-preserved-in_default-met g t c =
     let last = c.in-Some.ensures in
     let same : branch K A i ≡ branch K A (i + 1) =
     subst (λ (o : Option (SmallConcept g.row.W)). MatchOption o (branch K A i ≡ branch K A (i + 1))
-    (λ below. branch K A i ≡ branch K A (i + 1) ++ branch K below.intent (i + 1)))
+    (λ child. branch K A i ≡ branch K A (i + 1) ++ branch K child.intent (i + 1)))
     c.in_default-met.is c.in_ok-met.ensures.splits in
     let behind = branch-behind K c.rows-rows.result.now A c.tries_of-tries.result i c.loop-i.end c.rows-rows.ensures
     c.tries_of-tries.ensures.tries last.1 c.loop-i.invariant.inside last.2 in
@@ -104,12 +104,12 @@ pub loop-i-preserved : goal.loop-i-preserved
 loop-i-preserved g t c =
     let K : Context = c.args.crosses.now in
     let A : Set = c.args.node.now.intent.now in
-    let D : Set = c.in-Some-met.below.intent in
+    let D : Set = c.in-Some-met.child.intent in
     let i = c.in-Some.i in
     let last = c.in-Some.ensures in
     let splits : branch K A i ≡ branch K A (i + 1) ++ branch K D (i + 1) =
     subst (λ (o : Option (SmallConcept g.row.W)). MatchOption o (branch K A i ≡ branch K A (i + 1))
-    (λ below. branch K A i ≡ branch K A (i + 1) ++ branch K below.intent (i + 1)))
+    (λ child. branch K A i ≡ branch K A (i + 1) ++ branch K child.intent (i + 1)))
     c.in-Some-met.is c.in_ok-met.ensures.splits in
     let behind : branch K A (i + 1) ≡ branch K A c.loop-i.end =
     branch-behind K c.rows-rows.result.now A c.tries_of-tries.result i c.loop-i.end c.rows-rows.ensures c.tries_of-tries.ensures.tries

@@ -17,8 +17,8 @@ returns-in-Ok c =
     let text = c.in-Ok.ensures.cases in
     let whole : utf8_valid_len c.args.bytes.now == length c.args.bytes.now ≡ true =
     eq-eqb _ _ (utf8_valid_len-IsUtf8 c.args.bytes.now text.1) in
-    let P : List ℕ → Type 0 = λ bytes. Tells fault.Memory c.read_text.result (untitled_form (table_form (lines (without_bom bytes)))) in
-    rw whole (subst P text.0 c.read_text.ensures)
+    let P : List ℕ → Type 0 = λ bytes. Tells fault.Memory c.read_narrow_text.result (untitled_form (table_form (lines (without_bom bytes)))) in
+    rw whole (subst P text.0 c.read_narrow_text.ensures)
 
 pub returns-in-Err : goal.returns-in-Err
 unfolding cxt_form

@@ -3,7 +3,7 @@ use Rattle.std.proofs.lemmas.List.{length_push}
 use Rattle.cxt_format.specs.Words.{attribute_form}
 use Rattle.cxt_format.specs.Form.{next, attributes_form}
 use Rattle.cxt_format.specs.declared.CxtFault.TheVariants as fault
-use Rattle.cxt_format.proofs.FormLemmas.{more-Ok, more-Err, Takes-passed}
+use Rattle.cxt_format.proofs.FormLemmas.{more-Ok, more-Err, Parses-passed}
 use Rattle.cxt_format.proofs.read.read_new_names.Goals as goal
 
 pub returns-in_err-next_attribute-clause-form : goal.returns-in_err-next_attribute-clause-form
@@ -15,7 +15,7 @@ returns-in_err-next_attribute-clause-form c =
       | inr is ↦ inr (sym loop.invariant.1 ∙ more-Err
           (λ before. next (attribute_form before)) loop.names.keys c.args.count loop._place loop.lines e c.loop-place-test.true is)
     ] in
-    Takes-passed (λ names. names.keys) c.from_residual.result
+    Parses-passed (λ names. names.keys) c.from_residual.result
     (attributes_form [] c.args.count c.args.lines.now) c.next_attribute.new.lines e c.from_residual.ensures why
 
 pub loop-place-preserved : goal.loop-place-preserved

@@ -4,7 +4,7 @@ use Rattle.fca_model.specs.Context.{Context}
 use Rattle.fca_model.specs.Sets.{Set}
 use Rattle.cxt_format.specs.Form.{next_row, rows_form}
 use Rattle.cxt_format.specs.declared.CxtFault.TheVariants as fault
-use Rattle.cxt_format.proofs.FormLemmas.{more-Ok, more-Err, Takes-passed}
+use Rattle.cxt_format.proofs.FormLemmas.{more-Ok, more-Err, Parses-passed}
 use Rattle.cxt_format.proofs.read.read_rows.Goals as goal
 
 pub returns-in_err-next_row-clause-form : goal.returns-in_err-next_row-clause-form
@@ -16,7 +16,7 @@ returns-in_err-next_row-clause-form g c =
       | inr is ↦ inr (sym loop.invariant.2 ∙ more-Err
           (λ before. next_row c.args.width) loop.rows.rows c.args.count loop._place loop.lines e c.loop-place-test.true is)
     ] in
-    Takes-passed (λ rows. rows.rows) c.from_residual-in_err-next_row.result
+    Parses-passed (λ rows. rows.rows) c.from_residual-in_err-next_row.result
     (rows_form c.args.width [] c.args.count c.args.lines.now) c.next_row.new.lines e c.from_residual-in_err-next_row.ensures why
 
 pub loop-place-preserved : goal.loop-place-preserved

@@ -17,7 +17,7 @@ loop-top-preserved g c =
     subst (Fills K c.loop-top.gathering c.gather_branch.new.gathering) (ap₂ (λ (A : Set) (k : ℕ). branch K A k) c.node.ensures.intent c.node.ensures.from)
     c.in_ok-gather_branch.ensures in
     subst (Fills K c.args.gathering.now c.gather_branch.new.gathering)
-    (sym (flat_map-next (λ (x : Top g.row.W). branch K x.intent x.from) c.args.job.now c.loop-top.top-index top c.loop-top-test.true
+    (sym (flat_map-next (λ (x : Top g.row.W). branch K x.intent x.from) c.args.tops.now c.loop-top.top-index top c.loop-top-test.true
     c.top-item.is))
-    (Fills-append K c.args.gathering.now c.loop-top.gathering c.gather_branch.new.gathering (branches K (take c.loop-top.top-index c.args.job.now))
+    (Fills-append K c.args.gathering.now c.loop-top.gathering c.gather_branch.new.gathering (branches K (take c.loop-top.top-index c.args.tops.now))
     (branch K top.intent top.from) c.loop-top.invariant filled)

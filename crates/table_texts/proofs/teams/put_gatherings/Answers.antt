@@ -2,7 +2,7 @@ use Rattle.std.proofs.Common.{◌≡◌, ◌∙◌, All, List, ◌∷◌, suc, s
 use Rattle.std.specs.Vec.Iter.{into_iter_items}
 use Rattle.table_texts.specs.Teams.{IsDone}
 use Rattle.table_texts.specs.declared.teams.DoneJob.{DoneJob}
-use Rattle.table_texts.proofs.TeamLemmas.{wrote-set}
+use Rattle.table_texts.proofs.TeamLemmas.{gathered-set}
 use Rattle.table_texts.proofs.teams.put_gatherings.Goals as goal
 
 pub loop-one-preserved : goal.loop-one-preserved
@@ -15,6 +15,6 @@ loop-one-preserved g c =
     record {
       to_come = λ k d l. all (suc k) d (omega (arith, l));
       even = length-set c.loop-one.gatherings one.place one.gathering ∙ c.loop-one.invariant.even;
-      gatherings = wrote-set c.args.crosses.now c.loop-one.gatherings c.args.jobs.now one c.loop-one.invariant.even c.loop-one.invariant.gatherings
+      gatherings = gathered-set c.args.crosses.now c.loop-one.gatherings c.args.jobs.now one c.loop-one.invariant.even c.loop-one.invariant.gatherings
           (all 0 one (omega arith));
     }
