@@ -89,9 +89,9 @@ unread t e a b c ahead ahead' ended r h = record {
 }
   where
     at : (ended : Ended) → LacksLine a b ahead' ended → HaltsAt t.context.width e a b c ended [] ahead' []
-    at EndOfInput h = (refl, refl, h.0, h.1, record { reads = h.2; writes = r.writes })
-    at ReadFault h = (refl, refl, h.0, h.1, r.writes)
-    at LongLine h = (refl, refl, h.0, record { reads = h.1; writes = r.writes })
+    at EndOfInput h = (refl, refl, h.0, h.1, record { read_faults = h.2; write_faults = r.write_faults })
+    at ReadFault h = (refl, refl, h.0, h.1, r.write_faults)
+    at LongLine h = (refl, refl, h.0, record { read_faults = h.1; write_faults = r.write_faults })
     at Quit h = absurd h
     at WriteFault h = absurd h
     at Limit h = absurd h
@@ -112,7 +112,7 @@ begins-event n e text at event feed few asks = record {
 
 -- the line was read, and no turn was left for it
 pub unturned : (t : NamedContext) (e : ℕ) (a b : Wire) (c d : Place) (ahead ahead' : Text) (at : ℕ) (ended : Ended) (event : SetEvent)
-    → Reads a b ahead ahead' → b.reads ≡ a.reads
+    → Reads a b ahead ahead' → b.read_faults ≡ a.read_faults
     → HasFeedAt ahead' at → at ≤ LINE_BYTES → Asks e (request_form (take at ahead') t.context.width) event → ended ≡ Spent
     → d.turns ≡ Some 0 → Enters c d [] 0
     → Halts t e a b c d ahead ended
@@ -128,7 +128,7 @@ unturned t e a b c d ahead ahead' at ended event r quiet feed few asks s none en
   read = sym r.joined;
   said = refl;
   halts = subst (λ x. HaltsAt t.context.width e a b d x [] ahead' []) (sym s)
-      (refl, refl, none, begins-event t.context.width e ahead' at event feed few asks, record { reads = quiet; writes = r.writes });
+      (refl, refl, none, begins-event t.context.width e ahead' at event feed few asks, record { read_faults = quiet; write_faults = r.write_faults });
 }
 
 one_turn : (turns : ℕ) → turns ≡ turns + 0
@@ -137,14 +137,14 @@ one_turn turns = omega arith
 -- the line was read, and answered; then what was read is the line, and what stands ahead now
 module _ (t : NamedContext) (e : ℕ) (a b b' : Wire) (c d : Place) (ahead ahead' ahead'' : Text) (at : ℕ) (said : Said)
     (made : List SetEntry) (turns : ℕ)
-    (r : Reads a b ahead ahead') (still : b.reads ≡ a.reads) (feed : HasFeedAt ahead' at) (few : at ≤ LINE_BYTES)
+    (r : Reads a b ahead ahead') (still : b.read_faults ≡ a.read_faults) (feed : HasFeedAt ahead' at) (few : at ≤ LINE_BYTES)
     (answered : Answers e (request_form (take at ahead') t.context.width) said made turns)
     (enters : Enters c d made turns) (gone : ahead'' ≡ drop (at + 1) ahead') where
   abbrev exchange : Exchange
   exchange = record { line = take at ahead'; said = said; made = made; turns = turns }
 
   read_quiet : IsQuiet a b
-  read_quiet = record { reads = still; writes = r.writes }
+  read_quiet = record { read_faults = still; write_faults = r.write_faults }
 
   line_read : ahead ++ r.taken ≡ (take at ahead' ++ line_end) ++ ahead''
   line_read = sym r.joined ∙ feed.split ∙ ap (λ z. (take at ahead' ++ line_end) ++ z) (sym gone)
@@ -195,7 +195,7 @@ module _ (t : NamedContext) (e : ℕ) (a b b' : Wire) (c d : Place) (ahead ahead
     enters = Enters-equal (sym (append-nil made)) (one_turn turns) enters;
     read = ap (λ z. ahead ++ z) (append-nil r.taken) ∙ line_read ∙ ap (λ z. z ++ ahead'') (sym (append-nil (take at ahead' ++ line_end)));
     said = append-nil (said_line t.attributes said) ∙ w.split;
-    halts = (exchange, refl, Rose-later a.writes b.writes b'.writes r.moves.writes (write_rose result w failed), w.reads ∙ still);
+    halts = (exchange, refl, Rose-later a.write_faults b.write_faults b'.write_faults r.moves.write_faults (write_rose result w failed), w.read_faults ∙ still);
   }
 
 -- ---- all lines
@@ -233,7 +233,7 @@ ungreeted t e lines a b c result w failed = record {
     whole = inr (write_rose result w failed);
   };
   enters = Enters-nil c;
-  closes = (write_rose result w failed, tt, w.reads);
+  closes = (write_rose result w failed, tt, w.read_faults);
 }
 
 pub one_more_line : (t : NamedContext) (e : ℕ) (a b b' : Wire) (c d d' : Place) (ahead ahead' : Text) (k : ℕ) → Goes t e a b c d ahead k
@@ -358,13 +358,13 @@ closing t e lines a b b' d xs more rest sent unsent l quiet Quit h =
 closing t e lines a b b' d xs more rest sent unsent l quiet EndOfInput h =
     (goes_on t.context.width lines xs more l.asking l.fewer h.0, h.2, h.3, h.1, IsQuiet-trans quiet h.4)
 closing t e lines a b b' d xs more rest sent unsent l quiet ReadFault h =
-    (goes_on t.context.width lines xs more l.asking l.fewer h.0, subst (λ n. Rose n b'.reads) quiet.reads h.2, h.3, h.1, h.4 ∙ quiet.writes)
+    (goes_on t.context.width lines xs more l.asking l.fewer h.0, subst (λ n. Rose n b'.read_faults) quiet.read_faults h.2, h.3, h.1, h.4 ∙ quiet.write_faults)
 closing t e lines a b b' d xs more rest sent unsent l quiet LongLine h =
     (goes_on t.context.width lines xs more l.asking l.fewer h.0, h.2, h.1, IsQuiet-trans quiet h.3)
 closing t e lines a b b' d xs more rest sent unsent l quiet WriteFault h = (
-  subst (λ n. Rose n b'.writes) quiet.writes h.2,
+  subst (λ n. Rose n b'.write_faults) quiet.write_faults h.2,
   lacks_last t e xs h.0 (xs ++ more) sent l.part (ap (λ z. xs ++ z) h.1) l.split,
-  h.3 ∙ quiet.reads,
+  h.3 ∙ quiet.read_faults,
 )
 closing t e lines a b b' d xs more rest sent unsent l quiet Spent h =
     (h.2, goes_on t.context.width lines xs more l.asking l.fewer h.0, h.3, h.1, IsQuiet-trans quiet h.4)
@@ -372,11 +372,11 @@ closing t e lines a b b' d xs more rest sent unsent l quiet Limit h = absurd h
 closing t e lines a b b' d xs more rest sent unsent l quiet Memory h = absurd h
 
 -- all that can be sent was sent, where no write failed
-whole_or_failed : (n e : ℕ) (a b b' : Wire) (d : Place) (ended : Ended) (more : List Exchange) (rest unsent : Text) → a.writes ≤ b.writes
+whole_or_failed : (n e : ℕ) (a b b' : Wire) (d : Place) (ended : Ended) (more : List Exchange) (rest unsent : Text) → a.write_faults ≤ b.write_faults
     → HaltsAt n e b b' d ended more rest unsent
-    → (unsent ≡ []) ⊎ Rose a.writes b'.writes
+    → (unsent ≡ []) ⊎ Rose a.write_faults b'.write_faults
 whole_or_failed n e a b b' d Quit more rest unsent w h = inl h.3
-whole_or_failed n e a b b' d WriteFault more rest unsent w h = inr (Rose-later a.writes b.writes b'.writes w h.2)
+whole_or_failed n e a b b' d WriteFault more rest unsent w h = inr (Rose-later a.write_faults b.write_faults b'.write_faults w h.2)
 whole_or_failed n e a b b' d EndOfInput more rest unsent w h = inl h.1
 whole_or_failed n e a b b' d ReadFault more rest unsent w h = inl h.1
 whole_or_failed n e a b b' d LongLine more rest unsent w h = inl h.1
@@ -413,7 +413,7 @@ halted t e lines a b b' c d d' ahead k ended x below y =
             ∙ ap (λ z. replies_of t.attributes x.served ++ z) y.said)
             ∙ sym (append_assoc (greeting t e) (replies_of t.attributes x.served) (y.sent ++ y.unsent))
             ∙ sym (append_assoc (greeting t e ++ replies_of t.attributes x.served) y.sent y.unsent);
-        whole = whole_or_failed t.context.width e a b b' d' ended y.more y.rest y.unsent x.moves.writes y.halts;
+        whole = whole_or_failed t.context.width e a b b' d' ended y.more y.rest y.unsent x.moves.write_faults y.halts;
       };
       enters = Enters-equal (sym (entries_of-append x.served y.more)) (sym turns) (Enters-trans x.enters y.enters);
       closes = closing t e lines a b b' d' x.served y.more y.rest sent y.unsent

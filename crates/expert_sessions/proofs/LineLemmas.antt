@@ -128,31 +128,31 @@ sent_whole {a} {b} {text} (Ok u) w e = subst (λ z. Moves a b [] z)
 sent_whole (Err x) w e = cc
 
 pub sent_quiet : {a b : Wire} {text : Text} (r : Result (Unit {0}) Put) → Writes a b text r → is_err r ≡ false → IsQuiet a b
-sent_quiet (Ok u) w e = record { reads = w.reads; writes = w.quiet }
+sent_quiet (Ok u) w e = record { read_faults = w.read_faults; write_faults = w.quiet }
 sent_quiet (Err x) w e = cc
 
-pub write_rose : {a b : Wire} {text : Text} (r : Result (Unit {0}) Put) → Writes a b text r → is_err r ≡ true → Rose a.writes b.writes
+pub write_rose : {a b : Wire} {text : Text} (r : Result (Unit {0}) Put) → Writes a b text r → is_err r ≡ true → Rose a.write_faults b.write_faults
 write_rose (Ok u) w e = cc
 write_rose (Err x) w e = w.failed
 
 -- what stands beside a sink stays: at an end that is how often it was read, and its count of faults
-module _ (calls calls' : Option ℕ) (faults faults' : ℕ) (aside aside' : Asked) (same : aside' ≡ aside)
-    (before : aside ≡ record { reads = calls; faults = faults }) (after : aside' ≡ record { reads = calls'; faults = faults' }) where
-  pub calls-kept : calls' ≡ calls
-  calls-kept = ap (λ (asked : Asked). asked.reads) (sym after ∙ same ∙ before)
+module _ (reads reads' : Option ℕ) (faults faults' : ℕ) (aside aside' : Asked) (same : aside' ≡ aside)
+    (before : aside ≡ record { reads = reads; faults = faults }) (after : aside' ≡ record { reads = reads'; faults = faults' }) where
+  pub reads-kept : reads' ≡ reads
+  reads-kept = ap (λ (asked : Asked). asked.reads) (sym after ∙ same ∙ before)
 
   faults-kept : faults' ≡ faults
   faults-kept = ap (λ (asked : Asked). asked.faults) (sym after ∙ same ∙ before)
 
 -- a call that writes leaves alone what stands beside a sink: at an end that is what is left to read
-pub writes-from : (a b : Wire) (text : Text) (r : Result (Unit {0}) Put) (other other' : Option Text) (calls calls' : Option ℕ)
+pub writes-from : (a b : Wire) (text : Text) (r : Result (Unit {0}) Put) (other other' : Option Text) (reads reads' : Option ℕ)
     (aside aside' : Asked)
-    → OnOk r (Appends a.held b.held text) → AppendsFront a.held b.held text → OnOk r (b.writes ≡ a.writes)
-    → OnErr r (Rose a.writes b.writes) → a.writes ≤ b.writes → Keeps other other' → aside' ≡ aside
-    → other ≡ a.left → other' ≡ b.left → aside ≡ record { reads = calls; faults = a.reads }
-    → aside' ≡ record { reads = calls'; faults = b.reads } → Writes a b text r
-writes-from a b text (Ok u) other other' calls calls' aside aside' whole front quiet failed later keeps same p q u' v =
-    let still = faults-kept calls calls' a.reads b.reads aside aside' same u' v in
+    → OnOk r (Appends a.held b.held text) → AppendsFront a.held b.held text → OnOk r (b.write_faults ≡ a.write_faults)
+    → OnErr r (Rose a.write_faults b.write_faults) → a.write_faults ≤ b.write_faults → Keeps other other' → aside' ≡ aside
+    → other ≡ a.left → other' ≡ b.left → aside ≡ record { reads = reads; faults = a.read_faults }
+    → aside' ≡ record { reads = reads'; faults = b.read_faults } → Writes a b text r
+writes-from a b text (Ok u) other other' reads reads' aside aside' whole front quiet failed later keeps same p q u' v =
+    let still = faults-kept reads reads' a.read_faults b.read_faults aside aside' same u' v in
     record {
       sent = text;
       unsent = [];
@@ -161,16 +161,16 @@ writes-from a b text (Ok u) other other' calls calls' aside aside' whole front q
         lost = subst (λ z. Consumes a.left z []) q
             (subst (λ z. Consumes z other' []) p (Consumes-kept other other other' [] (Consumes-nil other) keeps));
         gained = whole;
-        reads = omega arith;
-        writes = later;
+        read_faults = omega arith;
+        write_faults = later;
       };
       whole = refl;
       quiet = quiet;
       failed = tt;
-      reads = still;
+      read_faults = still;
     }
-writes-from a b text (Err e) other other' calls calls' aside aside' whole front quiet failed later keeps same p q u' v =
-    let still = faults-kept calls calls' a.reads b.reads aside aside' same u' v in
+writes-from a b text (Err e) other other' reads reads' aside aside' whole front quiet failed later keeps same p q u' v =
+    let still = faults-kept reads reads' a.read_faults b.read_faults aside aside' same u' v in
     record {
       sent = front.front;
       unsent = front.rest;
@@ -179,11 +179,11 @@ writes-from a b text (Err e) other other' calls calls' aside aside' whole front 
         lost = subst (λ z. Consumes a.left z []) q
             (subst (λ z. Consumes z other' []) p (Consumes-kept other other other' [] (Consumes-nil other) keeps));
         gained = front.gained;
-        reads = omega arith;
-        writes = later;
+        read_faults = omega arith;
+        write_faults = later;
       };
       whole = tt;
       quiet = tt;
       failed = failed;
-      reads = still;
+      read_faults = still;
     }

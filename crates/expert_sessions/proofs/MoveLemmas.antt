@@ -13,35 +13,35 @@ use Rattle.expert_sessions.specs.Moves.{Wire, Moves, IsQuiet, Place, Enters, Tak
 use Rattle.expert_sessions.specs.Courses.{Reads}
 
 pub Moves-nil : (a : Wire) → Moves a a [] []
-Moves-nil a = record { lost = Consumes-nil a.left; gained = Appends-nil a.held; reads = omega arith; writes = omega arith }
+Moves-nil a = record { lost = Consumes-nil a.left; gained = Appends-nil a.held; read_faults = omega arith; write_faults = omega arith }
 
 pub Moves-trans : {a b c : Wire} {t t' s s' : Text} → Moves a b t s → Moves b c t' s' → Moves a c (t ++ t') (s ++ s')
 Moves-trans x y = record {
   lost = Consumes-trans _ _ _ _ _ x.lost y.lost;
   gained = Appends-trans _ _ _ _ _ x.gained y.gained;
-  reads = let p = x.reads in let q = y.reads in omega arith;
-  writes = let p = x.writes in let q = y.writes in omega arith;
+  read_faults = let p = x.read_faults in let q = y.read_faults in omega arith;
+  write_faults = let p = x.write_faults in let q = y.write_faults in omega arith;
 }
 
 pub Moves-equal : {a b : Wire} {t t' s s' : Text} → t ≡ t' → s ≡ s' → Moves a b t s → Moves a b t' s'
 Moves-equal {a} {b} {t} {t'} {s} {s'} p q x = subst (λ z. Moves a b t' z) q (subst (λ z. Moves a b z s) p x)
 
 pub IsQuiet-nil : (a : Wire) → IsQuiet a a
-IsQuiet-nil a = record { reads = refl; writes = refl }
+IsQuiet-nil a = record { read_faults = refl; write_faults = refl }
 
 pub IsQuiet-trans : {a b c : Wire} → IsQuiet a b → IsQuiet b c → IsQuiet a c
-IsQuiet-trans x y = record { reads = y.reads ∙ x.reads; writes = y.writes ∙ x.writes }
+IsQuiet-trans x y = record { read_faults = y.read_faults ∙ x.read_faults; write_faults = y.write_faults ∙ x.write_faults }
 
 -- what two calls read stands one behind the other
 pub Reads-nil : (a : Wire) (ahead : Text) → Reads a a ahead ahead
-Reads-nil a ahead = record { taken = []; moves = Moves-nil a; joined = sym (append-nil ahead); writes = refl }
+Reads-nil a ahead = record { taken = []; moves = Moves-nil a; joined = sym (append-nil ahead); write_faults = refl }
 
 pub Reads-trans : {a b c : Wire} {ahead ahead' ahead'' : Text} → Reads a b ahead ahead' → Reads b c ahead' ahead'' → Reads a c ahead ahead''
 Reads-trans {a} {b} {c} {ahead} x y = record {
   taken = x.taken ++ y.taken;
   moves = Moves-trans x.moves y.moves;
   joined = y.joined ∙ ap (λ z. z ++ y.taken) x.joined ∙ append_assoc ahead x.taken y.taken;
-  writes = y.writes ∙ x.writes;
+  write_faults = y.write_faults ∙ x.write_faults;
 }
 
 -- ---- turns

@@ -27,16 +27,16 @@ pub record Writes (a b : Wire) (text : Text) (result : Result (Unit {0}) Put) : 
   pub split : text ≡ sent ++ unsent
   pub moves : Moves a b [] sent
   pub whole : OnOk result (unsent ≡ [])
-  pub quiet : OnOk result (b.writes ≡ a.writes)
-  pub failed : OnErr result (Rose a.writes b.writes)
-  pub reads : b.reads ≡ a.reads
+  pub quiet : OnOk result (b.write_faults ≡ a.write_faults)
+  pub failed : OnErr result (Rose a.write_faults b.write_faults)
+  pub read_faults : b.read_faults ≡ a.read_faults
 
 -- what was taken stands behind the bytes that were read ahead
 pub record Reads (a b : Wire) (ahead ahead' : Text) : Type 0 where
   pub taken : Text
   pub moves : Moves a b taken []
   pub joined : ahead' ≡ ahead ++ taken
-  pub writes : b.writes ≡ a.writes
+  pub write_faults : b.write_faults ≡ a.write_faults
 
 -- the first line feed stands at this place
 pub record HasFeedAt (bytes : Text) (at : ℕ) : Type 0 where
@@ -46,9 +46,9 @@ pub record HasFeedAt (bytes : Text) (at : ℕ) : Type 0 where
 
 -- why no whole line was read
 abbrev pub LacksLine : Wire → Wire → Text → Ended → Type 0
-LacksLine a b ahead EndOfInput = IsAtEnd b.left × IsPartOfLine ahead × (b.reads ≡ a.reads)
-LacksLine a b ahead ReadFault = Rose a.reads b.reads × IsPartOfLine ahead
-LacksLine a b ahead LongLine = IsTooLong ahead × (b.reads ≡ a.reads)
+LacksLine a b ahead EndOfInput = IsAtEnd b.left × IsPartOfLine ahead × (b.read_faults ≡ a.read_faults)
+LacksLine a b ahead ReadFault = Rose a.read_faults b.read_faults × IsPartOfLine ahead
+LacksLine a b ahead LongLine = IsTooLong ahead × (b.read_faults ≡ a.read_faults)
 LacksLine a b ahead ended = ⊥
 
 -- ---- one line
@@ -73,10 +73,10 @@ pub record Serves (t : NamedContext) (e : ℕ) (a b : Wire) (c d : Place) (ahead
 -- why no line is served after these, of which there is at most one
 abbrev pub HaltsAt : (n e : ℕ) → Wire → Wire → Place → Ended → List Exchange → Text → Text → Type 0
 HaltsAt n e a b d Quit more rest unsent = (x : Exchange) × (more ≡ x ∷ []) × IsQuit n x × (unsent ≡ []) × IsQuiet a b
-HaltsAt n e a b d WriteFault more rest unsent = (x : Exchange) × (more ≡ x ∷ []) × Rose a.writes b.writes × (b.reads ≡ a.reads)
+HaltsAt n e a b d WriteFault more rest unsent = (x : Exchange) × (more ≡ x ∷ []) × Rose a.write_faults b.write_faults × (b.read_faults ≡ a.read_faults)
 HaltsAt n e a b d EndOfInput more rest unsent = (more ≡ []) × (unsent ≡ []) × IsAtEnd b.left × IsPartOfLine rest × IsQuiet a b
-HaltsAt n e a b d ReadFault more rest unsent = (more ≡ []) × (unsent ≡ []) × Rose a.reads b.reads × IsPartOfLine rest
-    × (b.writes ≡ a.writes)
+HaltsAt n e a b d ReadFault more rest unsent = (more ≡ []) × (unsent ≡ []) × Rose a.read_faults b.read_faults × IsPartOfLine rest
+    × (b.write_faults ≡ a.write_faults)
 HaltsAt n e a b d LongLine more rest unsent = (more ≡ []) × (unsent ≡ []) × IsTooLong rest × IsQuiet a b
 HaltsAt n e a b d Spent more rest unsent = (more ≡ []) × (unsent ≡ []) × (d.turns ≡ Some 0) × BeginsWithEvent n e rest × IsQuiet a b
 HaltsAt n e a b d ended more rest unsent = ⊥
@@ -120,6 +120,6 @@ pub record HasServed (t : NamedContext) (e lines : ℕ) (a b : Wire) (c d : Plac
   pub taken : Text
   pub sent : Text
   pub moves : Moves a b taken sent
-  pub course : Course t e lines taken sent (Rose a.writes b.writes)
+  pub course : Course t e lines taken sent (Rose a.write_faults b.write_faults)
   pub enters : Enters c d (entries_of course.served) (turns_of course.served)
   pub closes : Closes t e lines a b d ended course.served course.rest sent course.unsent

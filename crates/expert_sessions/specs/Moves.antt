@@ -9,24 +9,24 @@ use Rattle.expert_gate.specs.Desks.{DeskState}
 pub record Wire : Type 0 where
   pub left : Option Text
   pub held : Option Text
-  pub reads : ℕ
-  pub writes : ℕ
+  pub read_faults : ℕ
+  pub write_faults : ℕ
 
 -- of ends that show what is left and what is held, and their counts of faults
-abbrev pub wire_of : {E : Type 0} → (left held : E → Option Text) (reads writes : E → ℕ) → E → Wire
-wire_of left held reads writes end = record { left = left end; held = held end; reads = reads end; writes = writes end }
+abbrev pub wire_of : {E : Type 0} → (left held : E → Option Text) (read_faults write_faults : E → ℕ) → E → Wire
+wire_of left held read_faults write_faults end = record { left = left end; held = held end; read_faults = read_faults end; write_faults = write_faults end }
 
 -- these bytes were taken, and these were sent
 pub record Moves (a b : Wire) (taken sent : Text) : Type 0 where
   pub lost : Consumes a.left b.left taken
   pub gained : Appends a.held b.held sent
-  pub reads : a.reads ≤ b.reads
-  pub writes : a.writes ≤ b.writes
+  pub read_faults : a.read_faults ≤ b.read_faults
+  pub write_faults : a.write_faults ≤ b.write_faults
 
 -- no call of the end failed
 pub record IsQuiet (a b : Wire) : Type 0 where
-  pub reads : b.reads ≡ a.reads
-  pub writes : b.writes ≡ a.writes
+  pub read_faults : b.read_faults ≡ a.read_faults
+  pub write_faults : b.write_faults ≡ a.write_faults
 
 -- a desk: its entries, and the turns that are left, if turns are counted
 pub record Place : Type 0 where

@@ -18,21 +18,21 @@ pub record Reading (E : Type 0) : Type 0 where
   pub after : E
 
 -- over ends that show what is left and what is held, how often they were read, if they count that, and their counts of faults
-module _ {E : Type 0} (left held : E → Option Text) (calls : E → Option ℕ) (reads writes : E → ℕ) where
+module _ {E : Type 0} (left held : E → Option Text) (reads : E → Option ℕ) (read_faults write_faults : E → ℕ) where
   abbrev pub wire : E → Wire
-  wire end = wire_of left held reads writes end
+  wire end = wire_of left held read_faults write_faults end
 
   -- from the state a to the state b the end was not read
   pub record ReadsNothing (a b : E) : Type 0 where
     pub kept : Consumes (left a) (left b) []
-    pub uncounted : calls b ≡ calls a
-    pub quiet : reads b ≡ reads a
+    pub uncounted : reads b ≡ reads a
+    pub quiet : read_faults b ≡ read_faults a
 
   -- it was read once, if it counts that, and nothing was sent
   pub record ReadsOnce (a b : E) : Type 0 where
     pub kept : Appends (held a) (held b) []
-    pub counted : calls b ≡ option_map one_more (calls a)
-    pub quiet : writes b ≡ writes a
+    pub counted : reads b ≡ option_map one_more (reads a)
+    pub quiet : write_faults b ≡ write_faults a
 
   -- from this state on to the last, it was read in these places and no other, and P held before each
   abbrev pub AreReadings : (E → Type 0) → E → E → List (Reading E) → Type 0

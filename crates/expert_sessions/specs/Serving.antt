@@ -25,21 +25,21 @@ abbrev pub entered : List SetEntry → Place
 entered entries = record { entries = entries; turns = None }
 
 -- over ends that show what is left and what is held, how often they were read, if they count that, and their counts of faults
-module _ {E : Type 0} (left held : E → Option Text) (calls : E → Option ℕ) (reads writes : E → ℕ) (t : NamedContext) (lines : ℕ) where
+module _ {E : Type 0} (left held : E → Option Text) (reads : E → Option ℕ) (read_faults write_faults : E → ℕ) (t : NamedContext) (lines : ℕ) where
   -- the expert of the seat's pass has talked over the seat's end, and never ran out of turns, which are not shown; the pass has the
   -- entries of the talk; and the end was read only where each whole line was answered
   pub record HasSat (old new : SessionSeat E) : Type 0 where
     pub same : badge new.pass ≡ badge old.pass
-    pub talk : HasTalked t new.pass.number lines (wire_of left held reads writes old.end) (wire_of left held reads writes new.end)
+    pub talk : HasTalked t new.pass.number lines (wire_of left held read_faults write_faults old.end) (wire_of left held read_faults write_faults new.end)
         (entered []) (entered new.pass.own) new.ended
-    pub order : ReadsInTurn left held calls reads writes t new.pass.number old.end new.end
+    pub order : ReadsInTurn left held reads read_faults write_faults t new.pass.number old.end new.end
 
   -- expert k has talked over the first end, expert k + 1 over the next, and so on; their entries are their own ones of the
   -- history, none of them ran out of turns, and each end was read only where each whole line was answered
   abbrev pub EachTalks : List SetEntry → ℕ → List E → List E → List Ended → Type 0
   EachTalks H k [] [] [] = Unit {0}
   EachTalks H k (a ∷ olds) (b ∷ news) (ended ∷ endings) =
-      HasTalked t k lines (wire_of left held reads writes a) (wire_of left held reads writes b) (entered []) (entered (own H k)) ended
-      × ReadsInTurn left held calls reads writes t k a b
+      HasTalked t k lines (wire_of left held read_faults write_faults a) (wire_of left held read_faults write_faults b) (entered []) (entered (own H k)) ended
+      × ReadsInTurn left held reads read_faults write_faults t k a b
       × EachTalks H (suc k) olds news endings
   EachTalks H k _ _ _ = ⊥

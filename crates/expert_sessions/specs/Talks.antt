@@ -69,11 +69,11 @@ module _ (t : NamedContext) (e lines : ℕ) (a b : Wire) where
   Stops Quit served rest sent unsent = HasQuit t.context.width served × (unsent ≡ []) × IsQuiet a b
   Stops EndOfInput served rest sent unsent = GoesOn t.context.width lines served × IsAtEnd b.left × IsPartOfLine rest × (unsent ≡ [])
       × IsQuiet a b
-  Stops ReadFault served rest sent unsent = GoesOn t.context.width lines served × Rose a.reads b.reads × IsPartOfLine rest × (unsent ≡ [])
-      × (b.writes ≡ a.writes)
+  Stops ReadFault served rest sent unsent = GoesOn t.context.width lines served × Rose a.read_faults b.read_faults × IsPartOfLine rest × (unsent ≡ [])
+      × (b.write_faults ≡ a.write_faults)
   Stops LongLine served rest sent unsent = GoesOn t.context.width lines served × IsTooLong rest × (unsent ≡ []) × IsQuiet a b
   Stops Limit served rest sent unsent = All (IsNotQuit t.context.width) served × (length served ≡ lines) × (unsent ≡ []) × IsQuiet a b
-  Stops WriteFault served rest sent unsent = Rose a.writes b.writes × LacksLastAnswer t e served sent × (b.reads ≡ a.reads)
+  Stops WriteFault served rest sent unsent = Rose a.write_faults b.write_faults × LacksLastAnswer t e served sent × (b.read_faults ≡ a.read_faults)
   Stops Spent served rest sent unsent = ⊥
   Stops Memory served rest sent unsent = ⊥
 
@@ -102,7 +102,7 @@ Makes e ended entries k made turns = AndLeaves e entries made × (turns ≡ k + 
 -- a session that had room for a line
 pub record IsServed (t : NamedContext) (e lines : ℕ) (a b : Wire) (d : Place) (taken : Text) (made : List SetEntry) (turns : ℕ)
     (sent : Text) (ended : Ended) : Type 0 where
-  pub course : Course t e lines taken sent (Rose a.writes b.writes)
+  pub course : Course t e lines taken sent (Rose a.write_faults b.write_faults)
   pub entries : Makes e ended (entries_of course.served) (turns_of course.served) made turns
   pub ending : Ends t e lines a b d ended course.served course.rest sent course.unsent
 

@@ -145,7 +145,7 @@ module _ {H S D E : Type 0} (talk : Sides E) (s s' : ShelfMoment H) (input : Mom
 module _ {E : Type 0} (talk : Sides E) where
   serve-ends : (file : Text) (known : Option Text) (listen : Text) (reading : Reading Start) (experts holders : ℕ)
       (old new : Option (Ends E)) (output : Output)
-      → MayServe talk.left talk.held talk.calls talk.reads talk.writes reading experts holders old new output
+      → MayServe talk.left talk.held talk.reads talk.read_faults talk.write_faults reading experts holders old new output
       → MayEnd (Serve file known experts holders listen) output.ending
   serve-ends file known listen reading experts holders old new output serve =
       let command : Command = Serve file known experts holders listen in
@@ -154,9 +154,9 @@ module _ {E : Type 0} (talk : Sides E) where
       (open_at (serving_record (opening_by experts holders serve.0) is.history)) refl)
 
   serve-back : (reading : Reading Start) (experts holders : ℕ) (old new : Option (Ends E)) (output : Result Output Stop)
-      → IfOk output (MayServe talk.left talk.held talk.calls talk.reads talk.writes reading experts holders old new)
-      → IfErr output (λ stop. GaveAllBack talk.left talk.held talk.calls talk.reads talk.writes experts old new (stop ≡ Listener))
-      → GaveAllBack talk.left talk.held talk.calls talk.reads talk.writes experts old new (output ≡ Err Listener)
+      → IfOk output (MayServe talk.left talk.held talk.reads talk.read_faults talk.write_faults reading experts holders old new)
+      → IfErr output (λ stop. GaveAllBack talk.left talk.held talk.reads talk.read_faults talk.write_faults experts old new (stop ≡ Listener))
+      → GaveAllBack talk.left talk.held talk.reads talk.read_faults talk.write_faults experts old new (output ≡ Err Listener)
   serve-back reading experts holders old new (Ok output) serve back =
       let is = serve.2 in
       let many = is.count in
@@ -179,14 +179,14 @@ module _ {E : Type 0} (talk : Sides E) where
 
 module _ {H S D E : Type 0} (talk : Sides E) (s s' : ShelfMoment H) (input : Moment S) (link link' : LinkMoment D E) where
   pub serve-comes : (file : Text) (known : Option Text) (experts holders : ℕ) (listen : Text) (output : Result Output Stop)
-      → IfOk output (MayServe talk.left talk.held talk.calls talk.reads talk.writes
+      → IfOk output (MayServe talk.left talk.held talk.reads talk.read_faults talk.write_faults
       (start_read file known s.tells) experts holders link.ends link'.ends)
       → OnOk output ((link'.listens ≡ true) × MayListenAt link'.listens_at listen)
       → IfErr output (λ stop. (IsRefusal stop → MayRefuse (start_read file known s.tells)))
       → IfErr output (IsServeStop file known s.tells (Rises s.faults s'.faults)
       (Rises link.open_faults link'.open_faults listen ⊎ Rose link.accept_faults link'.accept_faults))
       → IfErr output (λ stop. (IsUnread stop → link' ≡ link))
-      → IfErr output (λ stop. GaveAllBack talk.left talk.held talk.calls talk.reads talk.writes experts link.ends link'.ends
+      → IfErr output (λ stop. GaveAllBack talk.left talk.held talk.reads talk.read_faults talk.write_faults experts link.ends link'.ends
       (stop ≡ Listener))
       → UnlessFault output (SameCounts s.faults s'.faults)
       → RoseAtMost s.fetches s'.fetches (length (file ∷ option_to_list known))
@@ -205,7 +205,7 @@ module _ {H S D E : Type 0} (talk : Sides E) (s s' : ShelfMoment H) (input : Mom
       let blames : IfErr output (IsBlamed (FaultRose command old new) (LinkFaultRose command old new)) =
       IfErr-weaker output (IsCommandStop command old new) (IsBlamed (FaultRose command old new) (LinkFaultRose command old new))
       (λ stop is. stop-blamed command old new stop is) causes in
-      let Serves : Output → Type 0 = MayServe talk.left talk.held talk.calls talk.reads talk.writes reading experts holders link.ends
+      let Serves : Output → Type 0 = MayServe talk.left talk.held talk.reads talk.read_faults talk.write_faults reading experts holders link.ends
       link'.ends in
       record {
         allowed = answers;

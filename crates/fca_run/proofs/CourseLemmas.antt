@@ -83,7 +83,7 @@ replay-tells reading output replay =
 -- by experts at the ends of a link
 module _ {E : Type 0} (talk : Sides E) where
   pub serve-tells : (reading : Reading Start) (experts holders : ℕ) (old new : Option (Ends E)) (output : Output)
-      → MayServe talk.left talk.held talk.calls talk.reads talk.writes reading experts holders old new output
+      → MayServe talk.left talk.held talk.reads talk.read_faults talk.write_faults reading experts holders old new output
       → TellsExploration (then reading (λ start. Read (opening_by experts holders start))) output.text
   serve-tells reading experts holders old new output serve =
       let o : Opening = opening_by experts holders serve.0 in

@@ -73,16 +73,16 @@ no_input = record { it = tt; bytes = None; faults = 0 }
 pub record Sides (E : Type 0) : Type 0 where
   pub left : E → Option Text
   pub held : E → Option Text
-  pub calls : E → Option ℕ
-  pub reads : E → ℕ
-  pub writes : E → ℕ
+  pub reads : E → Option ℕ
+  pub read_faults : E → ℕ
+  pub write_faults : E → ℕ
 
 abbrev pub sides : {E : Type 0} → (E → Option Text) → (E → Option Text) → (E → Option ℕ) → (E → ℕ) → (E → ℕ) → Sides E
-sides left held calls reads writes = record { left = left; held = held; calls = calls; reads = reads; writes = writes }
+sides left held reads read_faults write_faults = record { left = left; held = held; reads = reads; read_faults = read_faults; write_faults = write_faults }
 
 -- ends that nobody has
 abbrev pub no_sides : Sides (Unit {0})
-no_sides = record { left = λ _. None; held = λ _. None; calls = λ _. None; reads = λ _. 0; writes = λ _. 0 }
+no_sides = record { left = λ _. None; held = λ _. None; reads = λ _. None; read_faults = λ _. 0; write_faults = λ _. 0 }
 
 -- all that a command reads, or talks to
 pub record Outside (H S L E : Type 0) : Type 0 where
@@ -129,7 +129,7 @@ module _ {L E : Type 0} where
   -- if the command serves experts at ends, the accepted ends are given back; if the listener failed, they are fewer than the experts
   abbrev pub HasGivenBack : Sides E → Command → LinkMoment L E → LinkMoment L E → Result Output Stop → Type 0
   HasGivenBack talk (Serve file known experts holders listen) old new output =
-      GaveAllBack talk.left talk.held talk.calls talk.reads talk.writes experts old.ends new.ends (output ≡ Err Listener)
+      GaveAllBack talk.left talk.held talk.reads talk.read_faults talk.write_faults experts old.ends new.ends (output ≡ Err Listener)
   HasGivenBack talk _ old new output = ⊤
 
 module _ {H S L E : Type 0} where
@@ -199,7 +199,7 @@ module _ {H S L E : Type 0} where
   MayOutput talk (Explore file known names experts) old new output =
       MayExplore (explore_read file known names experts old.shelf.tells) output
   MayOutput talk (Serve file known experts holders listen) old new output =
-      MayServe talk.left talk.held talk.calls talk.reads talk.writes
+      MayServe talk.left talk.held talk.reads talk.read_faults talk.write_faults
       (start_read file known old.shelf.tells) experts holders old.link.ends new.link.ends output
   MayOutput talk command old new output = MayRead (output_read command old.shelf.tells old.input.bytes) output
 

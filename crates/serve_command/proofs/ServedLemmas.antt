@@ -64,10 +64,10 @@ new-opened experts holders start h is none expert most respecting even = record 
 
 -- ---- sessions
 
-module _ {E : Type 0} (left held : E → Option Text) (calls : E → Option ℕ) (reads writes : E → ℕ) where
+module _ {E : Type 0} (left held : E → Option Text) (reads : E → Option ℕ) (read_faults write_faults : E → ℕ) where
   -- as many ends come back as went in
   pub talks-long : (table : NamedContext) (n : ℕ) (H : List SetEntry) (k : ℕ) (before after : List E) (endings : List Ended)
-      → EachTalks left held calls reads writes table n H k before after endings → length after ≡ length before
+      → EachTalks left held reads read_faults write_faults table n H k before after endings → length after ≡ length before
   talks-long table n H k [] [] [] talks = refl
   talks-long table n H k [] [] (e ∷ endings) talks = absurd talks
   talks-long table n H k [] (b ∷ after) [] talks = absurd talks
@@ -82,7 +82,7 @@ module _ {E : Type 0} (left held : E → Option Text) (calls : E → Option ℕ)
   pub record IsOver (o : Opening) (before after : List E) (explore : History) (endings : List Ended) : Type 0 where
     pub opening : explore.opening ≡ o
     pub history : IsHistory explore.opening explore.journal
-    pub talks : EachTalks left held calls reads writes o.table MAX_LINES explore.journal 1 before after endings
+    pub talks : EachTalks left held reads read_faults write_faults o.table MAX_LINES explore.journal 1 before after endings
     pub others : (e : ℕ) → (e ≡ 0) ⊎ (length before < e) → own explore.journal e ≡ []
 
   -- the text that was made of it
@@ -95,7 +95,7 @@ module _ {E : Type 0} (left held : E → Option Text) (calls : E → Option ℕ)
   pub served-text : (o : Opening) (before after : List E) (explore : History) (endings : List Ended) (text : Text) (ending : Ending)
       → is_expert o.experts ≡ true → rows_respect o.settings.known o.table.context ≡ true → HaveWidth o.table.context.width o.settings.known
       → IsOver o before after explore endings → IsTextOf explore endings text ending
-      → IsServedText left held calls reads writes o before after text ending
+      → IsServedText left held reads read_faults write_faults o before after text ending
   served-text o before after explore endings text ending expert known even over made =
       let H = explore.journal in
       let legal : IsLegal (opening_state o) H = let P : Opening → Type 0 = λ x. IsLegal (opening_state x) H in
@@ -119,7 +119,7 @@ module _ {E : Type 0} (left held : E → Option Text) (calls : E → Option ℕ)
       → is_expert o.experts ≡ true → rows_respect o.settings.known o.table.context ≡ true → HaveWidth o.table.context.width o.settings.known
       → IsOver o before after explore endings
       → (HasRoomFor old (length after) → GaveBack old new after) → IsTextOf explore endings output.text output.ending
-      → HasSat left held calls reads writes o before old new output
+      → HasSat left held reads read_faults write_faults o before old new output
   has-sat o before after old new explore endings output expert known even over gave made =
       let long = talks-long o.table MAX_LINES explore.journal 1 before after endings over.talks in
       record {
@@ -130,13 +130,13 @@ module _ {E : Type 0} (left held : E → Option Text) (calls : E → Option ℕ)
       }
 
   pub risen-talks : (table : NamedContext) (H : List SetEntry) (before after : List E) (old new : Option (Ends E)) (endings : List Ended)
-      → EachTalks left held calls reads writes table MAX_LINES H 1 before after endings
+      → EachTalks left held reads read_faults write_faults table MAX_LINES H 1 before after endings
       → (HasRoomFor old (length after) → GaveBack old new after)
-      → HasRisen left held calls reads writes before old new
+      → HasRisen left held reads read_faults write_faults before old new
   risen-talks table H before after old new endings talks gave =
       let long = talks-long table MAX_LINES H 1 before after endings talks in
       record { after = after; gave = gave; long = long; talked = inr (table, H, endings, talks) }
 
   pub risen-same : (before after : List E) (old new : Option (Ends E)) → after ≡ before
-      → (HasRoomFor old (length after) → GaveBack old new after) → HasRisen left held calls reads writes before old new
+      → (HasRoomFor old (length after) → GaveBack old new after) → HasRisen left held reads read_faults write_faults before old new
   risen-same before after old new same gave = record { after = after; gave = gave; long = ap length same; talked = inl same }

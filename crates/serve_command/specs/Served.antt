@@ -46,7 +46,7 @@ abbrev pub served_text : Opening → List SetEntry → List Ended → Text
 served_text o H endings = explore_text o.table o.settings H ++ sessions_text (map ending_words endings)
 
 -- over ends that show what is left and what is held, how often they were read, if they count that, and their counts of faults
-module _ {E : Type 0} (left held : E → Option Text) (calls : E → Option ℕ) (reads writes : E → ℕ) where
+module _ {E : Type 0} (left held : E → Option Text) (reads : E → Option ℕ) (read_faults write_faults : E → ℕ) where
   -- The text spells the settings of the exploration and one legal history, which has no entries but those of the experts at these ends.
   -- Expert k has talked over the k-th of them, which was read only after each whole line was answered, and the text says how that session
   -- ended. Its ending says whether a question is open after the last entry
@@ -56,7 +56,7 @@ module _ {E : Type 0} (left held : E → Option Text) (calls : E → Option ℕ)
     pub text : written ≡ served_text o history endings
     pub spells : Spells o.table o.settings history written
     pub course : IsExplored (serving_record o history)
-    pub talks : EachTalks left held calls reads writes o.table MAX_LINES history 1 before after endings
+    pub talks : EachTalks left held reads read_faults write_faults o.table MAX_LINES history 1 before after endings
     pub others : (e : ℕ) → (e ≡ 0) ⊎ (length before < e) → own history e ≡ []
     pub ending : end ≡ ending_of (open_at (serving_record o history))
 
@@ -65,7 +65,7 @@ module _ {E : Type 0} (left held : E → Option Text) (calls : E → Option ℕ)
   MayHaveTalked before after =
       (after ≡ before)
       ⊎ ((table : NamedContext) × (H : List SetEntry) × (endings : List Ended)
-      × EachTalks left held calls reads writes table MAX_LINES H 1 before after endings)
+      × EachTalks left held reads read_faults write_faults table MAX_LINES H 1 before after endings)
 
   -- an output: the accepted ends, as many as there are experts, are given back, and the text is that of their sessions
   pub record IsOutput (o : Opening) (old new : Option (Ends E)) (output : Output) : Type 0 where

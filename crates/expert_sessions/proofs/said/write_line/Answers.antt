@@ -1,7 +1,7 @@
 use Rattle.std.proofs.Common.{subst}
 use Rattle.expert_sessions.specs.Moves.{wire_of}
 use Rattle.expert_sessions.specs.Courses.{Writes}
-use Rattle.expert_sessions.proofs.LineLemmas.{writes-from, calls-kept}
+use Rattle.expert_sessions.proofs.LineLemmas.{writes-from, reads-kept}
 use Rattle.expert_sessions.proofs.said.write_line.Goals as goal
 
 pub returns-clause-written : goal.returns-clause-written
@@ -21,7 +21,7 @@ returns-clause-written g c =
     (g.met.E.Duplex.reads_beside c.args.end.now) (g.met.E.Duplex.reads_beside c.write_text.new.sink))
 
 pub returns-clause-unread : goal.returns-clause-unread
-returns-clause-unread g c = calls-kept (g.E.Source.reads c.args.end.now) (g.E.Source.reads c.write_text.new.sink)
+returns-clause-unread g c = reads-kept (g.E.Source.reads c.args.end.now) (g.E.Source.reads c.write_text.new.sink)
     (g.E.Source.faults c.args.end.now) (g.E.Source.faults c.write_text.new.sink)
     (g.E.Sink.asked_beside c.args.end.now) (g.E.Sink.asked_beside c.write_text.new.sink) c.write_text.ensures.same_beside
     (g.met.E.Duplex.reads_beside c.args.end.now) (g.met.E.Duplex.reads_beside c.write_text.new.sink)

@@ -1,6 +1,6 @@
 use Rattle.expert_wire.specs.Replies.{reply_line}
 use Rattle.expert_sessions.specs.Moves.{wire_of}
-use Rattle.expert_sessions.proofs.LineLemmas.{writes-from, calls-kept}
+use Rattle.expert_sessions.proofs.LineLemmas.{writes-from, reads-kept}
 use Rattle.expert_sessions.proofs.said.write_said.Goals as goal
 
 pub returns-in-Replied-clause-written : goal.returns-in-Replied-clause-written
@@ -16,7 +16,7 @@ returns-in-Replied-clause-written g c = rw c.in-Replied.is (writes-from
     (g.met.E.Duplex.reads_beside c.args.end.now) (g.met.E.Duplex.reads_beside c.write_at_once.new.sink))
 
 pub returns-in-Replied-clause-unread : goal.returns-in-Replied-clause-unread
-returns-in-Replied-clause-unread g c = calls-kept (g.E.Source.reads c.args.end.now) (g.E.Source.reads c.write_at_once.new.sink)
+returns-in-Replied-clause-unread g c = reads-kept (g.E.Source.reads c.args.end.now) (g.E.Source.reads c.write_at_once.new.sink)
     (g.E.Source.faults c.args.end.now) (g.E.Source.faults c.write_at_once.new.sink)
     (g.E.Sink.asked_beside c.args.end.now) (g.E.Sink.asked_beside c.write_at_once.new.sink) c.write_at_once.ensures.same_beside
     (g.met.E.Duplex.reads_beside c.args.end.now) (g.met.E.Duplex.reads_beside c.write_at_once.new.sink)
