@@ -26,7 +26,7 @@ use Rattle.expert_sessions.specs.declared.ended.Ended.TheVariants.{Quit, EndOfIn
 use Rattle.expert_sessions.specs.Lines.{Asks, Answers, BeginsWithEvent, Exchange, IsExchange, IsQuit, IsNotQuit, lines_of, replies_of}
 use Rattle.expert_sessions.specs.Lines.{entries_of, said_line, before_last}
 use Rattle.expert_sessions.specs.Talks.{GoesOn, HasQuit, LacksLastAnswer}
-use Rattle.expert_sessions.specs.Moves.{Wire, Moves, IsQuiet, Place, Enters}
+use Rattle.expert_sessions.specs.Moves.{EndState, Moves, IsQuiet, DeskCount, Enters}
 use Rattle.expert_sessions.specs.Courses.{said_of, Writes, Reads, HasFeedAt, LacksLine, Serves, HaltsAt, Halts, Goes, Closes, HasServed}
 use Rattle.expert_sessions.proofs.MoveLemmas.{Moves-trans, Moves-equal, IsQuiet-trans, Enters-nil, Enters-trans, Enters-equal}
 use Rattle.expert_sessions.proofs.MoveLemmas.{one_less-taken, one_less-none}
@@ -37,7 +37,7 @@ use Rattle.expert_sessions.proofs.LineLemmas.{before_last-snoc, before_last-All,
 -- ---- one line
 
 -- what a turn is answered, what it enters, and that it is taken
-module _ (e : ℕ) (form : Result Request RequestFault) (event : SetEvent) (c d : Place) (asks : Asks e form event)
+module _ (e : ℕ) (form : Result Request RequestFault) (event : SetEvent) (c d : DeskCount) (asks : Asks e form event)
     (left : d.turns ≡ one_less c.turns) where
   pub turn-answered : (turn : Result SetReply TurnFault)
       → IfOk turn (λ reply. d.entries ≡ c.entries ++ record { event = event; reply = reply } ∷ []) → OnErr turn (d.entries ≡ c.entries)
@@ -61,7 +61,7 @@ module _ (e : ℕ) (form : Result Request RequestFault) (event : SetEvent) (c d 
   turn-answered (Err NoTurn) entered same spent = tt
 
 -- no turn is left for what was asked
-pub turn-refused : (e : ℕ) (form : Result Request RequestFault) (event : SetEvent) (c d : Place) → Asks e form event
+pub turn-refused : (e : ℕ) (form : Result Request RequestFault) (event : SetEvent) (c d : DeskCount) → Asks e form event
     → d.turns ≡ one_less c.turns → (turn : Result SetReply TurnFault)
     → OnErr turn (d.entries ≡ c.entries) → (IsErrOf turn NoTurn → c.turns ≡ Some 0) × (c.turns ≡ Some 0 → IsErrOf turn NoTurn)
     → IfErr (said_of turn) (λ ended. (ended ≡ Spent) × (d.turns ≡ Some 0) × Enters c d [] 0 × (asked : SetEvent) × Asks e form asked)
@@ -72,7 +72,7 @@ turn-refused e form event c d asks left (Err NoTurn) same spent =
     (refl, none.0, record { added = same ∙ sym (append-nil c.entries); turns = none.1 }, event, asks)
 
 -- no whole line was read
-pub unread : (t : NamedContext) (e : ℕ) (a b : Wire) (c : Place) (ahead ahead' : Text) (ended : Ended) → Reads a b ahead ahead'
+pub unread : (t : NamedContext) (e : ℕ) (a b : EndState) (c : DeskCount) (ahead ahead' : Text) (ended : Ended) → Reads a b ahead ahead'
     → LacksLine a b ahead' ended → Halts t e a b c c ahead ended
 unread t e a b c ahead ahead' ended r h = record {
   more = [];
@@ -111,7 +111,7 @@ begins-event n e text at event feed few asks = record {
 }
 
 -- the line was read, and no turn was left for it
-pub unturned : (t : NamedContext) (e : ℕ) (a b : Wire) (c d : Place) (ahead ahead' : Text) (at : ℕ) (ended : Ended) (event : SetEvent)
+pub unturned : (t : NamedContext) (e : ℕ) (a b : EndState) (c d : DeskCount) (ahead ahead' : Text) (at : ℕ) (ended : Ended) (event : SetEvent)
     → Reads a b ahead ahead' → b.read_faults ≡ a.read_faults
     → HasFeedAt ahead' at → at ≤ LINE_BYTES → Asks e (request_form (take at ahead') t.context.width) event → ended ≡ Spent
     → d.turns ≡ Some 0 → Enters c d [] 0
@@ -135,7 +135,7 @@ one_turn : (turns : ℕ) → turns ≡ turns + 0
 one_turn turns = omega arith
 
 -- the line was read, and answered; then what was read is the line, and what stands ahead now
-module _ (t : NamedContext) (e : ℕ) (a b b' : Wire) (c d : Place) (ahead ahead' ahead'' : Text) (at : ℕ) (said : Said)
+module _ (t : NamedContext) (e : ℕ) (a b b' : EndState) (c d : DeskCount) (ahead ahead' ahead'' : Text) (at : ℕ) (said : Said)
     (made : List SetEntry) (turns : ℕ)
     (r : Reads a b ahead ahead') (still : b.read_faults ≡ a.read_faults) (feed : HasFeedAt ahead' at) (few : at ≤ LINE_BYTES)
     (answered : Answers e (request_form (take at ahead') t.context.width) said made turns)
@@ -200,7 +200,7 @@ module _ (t : NamedContext) (e : ℕ) (a b b' : Wire) (c d : Place) (ahead ahead
 
 -- ---- all lines
 
-pub greeted : (t : NamedContext) (e : ℕ) (a b : Wire) (c : Place) (result : Result (Unit {0}) Put) → Writes a b (greeting t e) result
+pub greeted : (t : NamedContext) (e : ℕ) (a b : EndState) (c : DeskCount) (result : Result (Unit {0}) Put) → Writes a b (greeting t e) result
     → is_err result ≡ false → Goes t e a b c c [] 0
 greeted t e a b c result w ok = record {
   served = [];
@@ -214,7 +214,7 @@ greeted t e a b c result w ok = record {
   read = refl;
 }
 
-pub ungreeted : (t : NamedContext) (e lines : ℕ) (a b : Wire) (c : Place) (result : Result (Unit {0}) Put)
+pub ungreeted : (t : NamedContext) (e lines : ℕ) (a b : EndState) (c : DeskCount) (result : Result (Unit {0}) Put)
     → Writes a b (greeting t e) result → is_err result ≡ true
     → HasServed t e lines a b c c WriteFault
 ungreeted t e lines a b c result w failed = record {
@@ -236,7 +236,7 @@ ungreeted t e lines a b c result w failed = record {
   closes = (write_rose result w failed, tt, w.read_faults);
 }
 
-pub one_more_line : (t : NamedContext) (e : ℕ) (a b b' : Wire) (c d d' : Place) (ahead ahead' : Text) (k : ℕ) → Goes t e a b c d ahead k
+pub one_more_line : (t : NamedContext) (e : ℕ) (a b b' : EndState) (c d d' : DeskCount) (ahead ahead' : Text) (k : ℕ) → Goes t e a b c d ahead k
     → Serves t e b b' d d' ahead ahead'
     → Goes t e a b' c d' ahead' (k + 1)
 one_more_line t e a b b' c d d' ahead ahead' k x y =
@@ -268,7 +268,7 @@ one_more_line t e a b b' c d d' ahead ahead' k x y =
           ∙ sym (append_assoc (lines_of x.served) (y.exchange.line ++ line_end) ahead') ∙ ap (λ z. z ++ ahead') lines;
     }
 
-pub limited : (t : NamedContext) (e lines : ℕ) (a b : Wire) (c d : Place) (ahead : Text) → Goes t e a b c d ahead lines
+pub limited : (t : NamedContext) (e lines : ℕ) (a b : EndState) (c d : DeskCount) (ahead : Text) → Goes t e a b c d ahead lines
     → HasServed t e lines a b c d Limit
 limited t e lines a b c d ahead x = record {
   taken = x.taken;
@@ -299,7 +299,7 @@ record Last (t : NamedContext) (e lines : ℕ) (xs more : List Exchange) (sent :
   split : sent ≡ (greeting t e ++ replies_of t.attributes xs) ++ part
 
 -- at most one line more was served
-more-few : (n e : ℕ) (a b : Wire) (d : Place) (ended : Ended) (more : List Exchange) (rest unsent : Text)
+more-few : (n e : ℕ) (a b : EndState) (d : DeskCount) (ended : Ended) (more : List Exchange) (rest unsent : Text)
     → HaltsAt n e a b d ended more rest unsent → (more ≡ []) ⊎ ((x : Exchange) × (more ≡ x ∷ []))
 more-few n e a b d Quit more rest unsent h = inr (h.0, h.1)
 more-few n e a b d WriteFault more rest unsent h = inr (h.0, h.1)
@@ -349,7 +349,7 @@ lacks_last t e xs x (y ∷ ys) sent part split all =
     let front : before_last (y ∷ ys) ≡ xs = ap before_last split ∙ before_last-snoc xs x in
     (part, all ∙ ap (λ z. (greeting t e ++ replies_of t.attributes z) ++ part) (sym front))
 
-closing : (t : NamedContext) (e lines : ℕ) (a b b' : Wire) (d : Place) (xs more : List Exchange) (rest sent unsent : Text)
+closing : (t : NamedContext) (e lines : ℕ) (a b b' : EndState) (d : DeskCount) (xs more : List Exchange) (rest sent unsent : Text)
     → Last t e lines xs more sent → IsQuiet a b
     → (ended : Ended) → HaltsAt t.context.width e b b' d ended more rest unsent
     → Closes t e lines a b' d ended (xs ++ more) rest sent unsent
@@ -372,7 +372,7 @@ closing t e lines a b b' d xs more rest sent unsent l quiet Limit h = absurd h
 closing t e lines a b b' d xs more rest sent unsent l quiet Memory h = absurd h
 
 -- all that can be sent was sent, where no write failed
-whole_or_failed : (n e : ℕ) (a b b' : Wire) (d : Place) (ended : Ended) (more : List Exchange) (rest unsent : Text) → a.write_faults ≤ b.write_faults
+whole_or_failed : (n e : ℕ) (a b b' : EndState) (d : DeskCount) (ended : Ended) (more : List Exchange) (rest unsent : Text) → a.write_faults ≤ b.write_faults
     → HaltsAt n e b b' d ended more rest unsent
     → (unsent ≡ []) ⊎ Rose a.write_faults b'.write_faults
 whole_or_failed n e a b b' d Quit more rest unsent w h = inl h.3
@@ -384,7 +384,7 @@ whole_or_failed n e a b b' d Spent more rest unsent w h = inl h.1
 whole_or_failed n e a b b' d Limit more rest unsent w h = absurd h
 whole_or_failed n e a b b' d Memory more rest unsent w h = absurd h
 
-pub halted : (t : NamedContext) (e lines : ℕ) (a b b' : Wire) (c d d' : Place) (ahead : Text) (k : ℕ) (ended : Ended)
+pub halted : (t : NamedContext) (e lines : ℕ) (a b b' : EndState) (c d d' : DeskCount) (ahead : Text) (k : ℕ) (ended : Ended)
     → Goes t e a b c d ahead k → k < lines → Halts t e b b' d d' ahead ended
     → HasServed t e lines a b' c d' ended
 halted t e lines a b b' c d d' ahead k ended x below y =

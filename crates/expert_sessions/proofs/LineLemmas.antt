@@ -23,7 +23,7 @@ use Rattle.expert_sessions.specs.declared.said.Said.{Said}
 use Rattle.expert_sessions.specs.declared.said.Said.TheVariants.{Replied, Bye, BadLine, BadWidth, NoMemory}
 use Rattle.expert_sessions.specs.Lines.{Asks, LacksMemory, Answers, Exchange, IsExchange, lines_of, replies_of, entries_of, turns_of}
 use Rattle.expert_sessions.specs.Lines.{said_line, before_last}
-use Rattle.expert_sessions.specs.Moves.{Wire, Moves, IsQuiet}
+use Rattle.expert_sessions.specs.Moves.{EndState, Moves, IsQuiet}
 use Rattle.expert_sessions.specs.Courses.{Writes, HasFeedAt}
 
 -- ---- answers
@@ -122,16 +122,16 @@ All-one P x h = All-cons P x [] h (All-nil P)
 -- ---- writes
 
 -- what succeeded was sent whole
-pub sent_whole : {a b : Wire} {text : Text} (r : Result (Unit {0}) Put) → Writes a b text r → is_err r ≡ false → Moves a b [] text
+pub sent_whole : {a b : EndState} {text : Text} (r : Result (Unit {0}) Put) → Writes a b text r → is_err r ≡ false → Moves a b [] text
 sent_whole {a} {b} {text} (Ok u) w e = subst (λ z. Moves a b [] z)
     (sym (w.split ∙ ap (λ z. w.sent ++ z) w.whole ∙ append-nil w.sent)) w.moves
 sent_whole (Err x) w e = cc
 
-pub sent_quiet : {a b : Wire} {text : Text} (r : Result (Unit {0}) Put) → Writes a b text r → is_err r ≡ false → IsQuiet a b
+pub sent_quiet : {a b : EndState} {text : Text} (r : Result (Unit {0}) Put) → Writes a b text r → is_err r ≡ false → IsQuiet a b
 sent_quiet (Ok u) w e = record { read_faults = w.read_faults; write_faults = w.quiet }
 sent_quiet (Err x) w e = cc
 
-pub write_rose : {a b : Wire} {text : Text} (r : Result (Unit {0}) Put) → Writes a b text r → is_err r ≡ true → Rose a.write_faults b.write_faults
+pub write_rose : {a b : EndState} {text : Text} (r : Result (Unit {0}) Put) → Writes a b text r → is_err r ≡ true → Rose a.write_faults b.write_faults
 write_rose (Ok u) w e = cc
 write_rose (Err x) w e = w.failed
 
@@ -145,7 +145,7 @@ module _ (reads reads' : Option ℕ) (faults faults' : ℕ) (aside aside' : Aske
   faults-kept = ap (λ (asked : Asked). asked.faults) (sym after ∙ same ∙ before)
 
 -- a call that writes leaves alone what stands beside a sink: at an end that is what is left to read
-pub writes-from : (a b : Wire) (text : Text) (r : Result (Unit {0}) Put) (other other' : Option Text) (reads reads' : Option ℕ)
+pub writes-from : (a b : EndState) (text : Text) (r : Result (Unit {0}) Put) (other other' : Option Text) (reads reads' : Option ℕ)
     (aside aside' : Asked)
     → OnOk r (Appends a.held b.held text) → AppendsFront a.held b.held text → OnOk r (b.write_faults ≡ a.write_faults)
     → OnErr r (Rose a.write_faults b.write_faults) → a.write_faults ≤ b.write_faults → Keeps other other' → aside' ≡ aside

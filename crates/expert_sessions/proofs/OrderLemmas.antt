@@ -7,9 +7,9 @@ use Rattle.fca_io.specs.declared.outside.Put.{Put}
 use Rattle.fca_model.specs.Tables.{Text, NamedContext}
 use Rattle.expert_wire.specs.Greetings.{greeting}
 use Rattle.expert_sessions.specs.Lines.{HasNoFeed, lines_of, replies_of}
-use Rattle.expert_sessions.specs.Moves.{Place}
+use Rattle.expert_sessions.specs.Moves.{DeskCount}
 use Rattle.expert_sessions.specs.Courses.{Writes, Reads, Goes}
-use Rattle.expert_sessions.specs.Order.{Reading, wire, ReadsNothing, ReadsOnce, AreReadings, ReadsOnlyWhere, AwaitsLine, ReadsForLine}
+use Rattle.expert_sessions.specs.Order.{Reading, end_state, ReadsNothing, ReadsOnce, AreReadings, ReadsOnlyWhere, AwaitsLine, ReadsForLine}
 use Rattle.expert_sessions.specs.Order.{IsAnswered, ReadsInTurn}
 use Rattle.expert_sessions.proofs.MoveLemmas.{Moves-trans, Moves-equal}
 
@@ -26,7 +26,7 @@ module _ {E : Type 0} (left held : E → Option Text) (reads : E → Option ℕ)
   }
 
   written : (P : E → Type 0) (a b : E) (text : Text) (result : Result (Unit {0}) Put)
-      → Writes (wire left held reads read_faults write_faults a) (wire left held reads read_faults write_faults b) text result → reads b ≡ reads a
+      → Writes (end_state left held reads read_faults write_faults a) (end_state left held reads read_faults write_faults b) text result → reads b ≡ reads a
       → ReadsOnlyWhere left held reads read_faults write_faults P a b
   written P a b text result w same = ([], record { kept = w.moves.lost; uncounted = same; quiet = w.read_faults })
 
@@ -63,8 +63,8 @@ module _ {E : Type 0} (left held : E → Option Text) (reads : E → Option ℕ)
   unread ahead a = ([], ReadsNothing-nil a)
 
   pub read_on : (ahead grown grown' : Text) (first a b : E) → ReadsForLine left held reads read_faults write_faults ahead first a
-      → Reads (wire left held reads read_faults write_faults first) (wire left held reads read_faults write_faults a) ahead grown → HasNoFeed grown
-      → Reads (wire left held reads read_faults write_faults a) (wire left held reads read_faults write_faults b) grown grown'
+      → Reads (end_state left held reads read_faults write_faults first) (end_state left held reads read_faults write_faults a) ahead grown → HasNoFeed grown
+      → Reads (end_state left held reads read_faults write_faults a) (end_state left held reads read_faults write_faults b) grown grown'
       → reads b ≡ option_map one_more (reads a)
       → ReadsForLine left held reads read_faults write_faults ahead first b
   read_on ahead grown grown' first a b x r none next counted =
@@ -77,7 +77,7 @@ module _ {E : Type 0} (left held : E → Option Text) (reads : E → Option ℕ)
   -- the line was answered
   pub answered : (ahead : Text) (first a b : E) → ReadsForLine left held reads read_faults write_faults ahead first a
       → (text : Text) (result : Result (Unit {0}) Put)
-      → Writes (wire left held reads read_faults write_faults a) (wire left held reads read_faults write_faults b) text result → reads b ≡ reads a
+      → Writes (end_state left held reads read_faults write_faults a) (end_state left held reads read_faults write_faults b) text result → reads b ≡ reads a
       → ReadsForLine left held reads read_faults write_faults ahead first b
   answered ahead first a b x text result w same =
       joined (AwaitsLine left held reads read_faults write_faults ahead first) first a b x
@@ -89,14 +89,14 @@ module _ {E : Type 0} (left held : E → Option Text) (reads : E → Option ℕ)
   nothing-in_turn t e a = ([], ReadsNothing-nil a)
 
   pub greeted-first : (t : NamedContext) (e : ℕ) (a b : E) (text : Text) (result : Result (Unit {0}) Put)
-      → Writes (wire left held reads read_faults write_faults a) (wire left held reads read_faults write_faults b) text result → reads b ≡ reads a
+      → Writes (end_state left held reads read_faults write_faults a) (end_state left held reads read_faults write_faults b) text result → reads b ≡ reads a
       → ReadsInTurn left held reads read_faults write_faults t e a b
   greeted-first t e a b text result w same = written (IsAnswered left held reads read_faults write_faults t e a) a b text result w same
 
   -- behind lines that were answered, the end was read for one line
-  pub line-in_turn : (t : NamedContext) (e : ℕ) (first a b : E) (c d : Place) (ahead : Text) (k : ℕ)
+  pub line-in_turn : (t : NamedContext) (e : ℕ) (first a b : E) (c d : DeskCount) (ahead : Text) (k : ℕ)
       → ReadsInTurn left held reads read_faults write_faults t e first a
-      → Goes t e (wire left held reads read_faults write_faults first) (wire left held reads read_faults write_faults a) c d ahead k
+      → Goes t e (end_state left held reads read_faults write_faults first) (end_state left held reads read_faults write_faults a) c d ahead k
       → ReadsForLine left held reads read_faults write_faults ahead a b
       → ReadsInTurn left held reads read_faults write_faults t e first b
   line-in_turn t e first a b c d ahead k x goes y =

@@ -14,7 +14,7 @@ use Rattle.turn_lock.proofs.ClosingLemmas.{length-roll}
 use Rattle.expert_gate.specs.Turns.{HasClosed}
 use Rattle.expert_gate.proofs.SeatLemmas.{EachSeat-length}
 use Rattle.expert_sessions.specs.declared.ended.Ended.{Ended}
-use Rattle.expert_sessions.specs.Moves.{Wire, TakesAtMost, wire_of}
+use Rattle.expert_sessions.specs.Moves.{EndState, TakesAtMost, end_state_of}
 use Rattle.expert_sessions.specs.Order.{ReadsInTurn}
 use Rattle.expert_sessions.specs.Talks.{HasTalked}
 use Rattle.expert_gate.specs.Seats.{EachSeat}
@@ -35,7 +35,7 @@ at_number P e p q r holds same number is =
     let badges : badge q ≡ badge p = cc in
     subst P (number ∙ sym (ap (λ (k : Badge Opening). k.number) badges) ∙ sym (ap (λ (k : Known Opening SetEntry). k.number) is)) holds
 
-pub at_pass : (t : NamedContext) (e lines : ℕ) (a b : Wire) (p q r : Known Opening SetEntry) (gate : Lock Opening) (ended : Ended)
+pub at_pass : (t : NamedContext) (e lines : ℕ) (a b : EndState) (p q r : Known Opening SetEntry) (gate : Lock Opening) (ended : Ended)
     → HasTalked t e lines a b (record { entries = p.own; turns = Some (p.turns - p.made) })
     (record { entries = q.own; turns = Some (q.turns - q.made) }) ended
     → TakesAtMost (lines + 1) (Some (p.turns - p.made)) (Some (q.turns - q.made))
@@ -91,8 +91,8 @@ module _ {E : Type 0} (left held : E → Option Text) (reads : E → Option ℕ)
   abbrev pub endings : List (SessionSeat E) → List Ended
   endings seats = map (λ seat. seat.ended) seats
 
-  abbrev wire : E → Wire
-  wire end = wire_of left held read_faults write_faults end
+  abbrev end_state : E → EndState
+  end_state end = end_state_of left held read_faults write_faults end
 
   -- no session changes a badge
   pub badges_kept : (olds news : List (SessionSeat E)) → EachSeat (HasSat left held reads read_faults write_faults t lines) olds news
@@ -114,8 +114,8 @@ module _ {E : Type 0} (left held : E → Option Text) (reads : E → Option ℕ)
   each_talks H k (old ∷ olds) (new ∷ news) numbers own_is h =
       let entries : new.pass.own ≡ own H k = sym (All-head (λ p. own H p.number ≡ p.own) new.pass (passes news) own_is)
       ∙ ap (own H) numbers.0 in (
-        subst (λ es. HasTalked t k lines (wire old.end) (wire new.end) (entered []) (entered es) new.ended) entries
-            (subst (λ n. HasTalked t n lines (wire old.end) (wire new.end) (entered []) (entered new.pass.own) new.ended) numbers.0
+        subst (λ es. HasTalked t k lines (end_state old.end) (end_state new.end) (entered []) (entered es) new.ended) entries
+            (subst (λ n. HasTalked t n lines (end_state old.end) (end_state new.end) (entered []) (entered new.pass.own) new.ended) numbers.0
             h.0.talk),
         subst (λ n. ReadsInTurn left held reads read_faults write_faults t n old.end new.end) numbers.0 h.0.order,
         each_talks H (suc k) olds news numbers.1 (All-tail (λ p. own H p.number ≡ p.own) new.pass (passes news) own_is) h.1,

@@ -10,7 +10,7 @@ use Rattle.fca_io.specs.Faults.{one_more}
 use Rattle.fca_model.specs.Tables.{Text, NamedContext}
 use Rattle.expert_wire.specs.Greetings.{greeting}
 use Rattle.expert_sessions.specs.Lines.{HasNoFeed, Exchange, IsExchange, lines_of, replies_of}
-use Rattle.expert_sessions.specs.Moves.{Wire, Moves, wire_of}
+use Rattle.expert_sessions.specs.Moves.{EndState, Moves, end_state_of}
 
 -- an end before and after one read
 pub record Reading (E : Type 0) : Type 0 where
@@ -19,8 +19,8 @@ pub record Reading (E : Type 0) : Type 0 where
 
 -- over ends that show what is left and what is held, how often they were read, if they count that, and their counts of faults
 module _ {E : Type 0} (left held : E → Option Text) (reads : E → Option ℕ) (read_faults write_faults : E → ℕ) where
-  abbrev pub wire : E → Wire
-  wire end = wire_of left held read_faults write_faults end
+  abbrev pub end_state : E → EndState
+  end_state end = end_state_of left held read_faults write_faults end
 
   -- from the state a to the state b the end was not read
   pub record ReadsNothing (a b : E) : Type 0 where
@@ -46,7 +46,7 @@ module _ {E : Type 0} (left held : E → Option Text) (reads : E → Option ℕ)
   -- since the first state bytes were taken and nothing was sent, and behind those read ahead they end no line
   pub record AwaitsLine (ahead : Text) (first now : E) : Type 0 where
     pub taken : Text
-    pub moves : Moves (wire first) (wire now) taken []
+    pub moves : Moves (end_state first) (end_state now) taken []
     pub unbroken : HasNoFeed (ahead ++ taken)
 
   -- for one line, the end was read only where the line was not whole
@@ -59,7 +59,7 @@ module _ {E : Type 0} (left held : E → Option Text) (reads : E → Option ℕ)
     pub rest : Text
     pub each : All (IsExchange t.context.width e) served
     pub unbroken : HasNoFeed rest
-    pub moves : Moves (wire first) (wire now) (lines_of served ++ rest) (greeting t e ++ replies_of t.attributes served)
+    pub moves : Moves (end_state first) (end_state now) (lines_of served ++ rest) (greeting t e ++ replies_of t.attributes served)
 
   -- for a session, the end was read only where each whole line was answered
   abbrev pub ReadsInTurn : NamedContext → ℕ → E → E → Type 0

@@ -4,7 +4,7 @@ ghost use Rattle.std.specs.Prelude.{◌≡◌, ◌≤◌, ◌<◌, ◌+◌, [], 
 ghost use Rattle.std.specs.Thread.{IsSync};
 ghost use Rattle.fca_model.specs.declared.TheConstants.{MAX_LINES};
 ghost use Rattle.turn_lock.specs.Passes.{Belongs, IsFresh, badge};
-ghost use Rattle.expert_sessions.specs.Moves.{wire_of};
+ghost use Rattle.expert_sessions.specs.Moves.{end_state_of};
 ghost use Rattle.expert_sessions.specs.Order.{ReadsInTurn};
 ghost use Rattle.expert_sessions.specs.Talks.{HasTalked};
 ghost use Rattle.expert_gate.specs.Seats.{EachSeat};
@@ -121,8 +121,8 @@ fn serve_one<R: Threads + Wait + Sync, E: Duplex>(
     requires terms { Suits gate.now terms.now.table terms.now.lines }
     ensures same { badge pass.new ≡ badge pass.old }
     ensures talk { HasTalked terms.now.table pass.new.number terms.now.lines
-        (wire_of E.Source.left E.Sink.held E.Source.faults E.Sink.faults end.old)
-        (wire_of E.Source.left E.Sink.held E.Source.faults E.Sink.faults end.new)
+        (end_state_of E.Source.left E.Sink.held E.Source.faults E.Sink.faults end.old)
+        (end_state_of E.Source.left E.Sink.held E.Source.faults E.Sink.faults end.new)
         (entered []) (entered pass.new.own) result }
     ensures order { ReadsInTurn E.Source.left E.Sink.held E.Source.reads E.Source.faults E.Sink.faults
         terms.now.table pass.new.number end.old end.new }

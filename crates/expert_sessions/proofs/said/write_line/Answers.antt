@@ -1,5 +1,5 @@
 use Rattle.std.proofs.Common.{subst}
-use Rattle.expert_sessions.specs.Moves.{wire_of}
+use Rattle.expert_sessions.specs.Moves.{end_state_of}
 use Rattle.expert_sessions.specs.Courses.{Writes}
 use Rattle.expert_sessions.proofs.LineLemmas.{writes-from, reads-kept}
 use Rattle.expert_sessions.proofs.said.write_line.Goals as goal
@@ -7,11 +7,11 @@ use Rattle.expert_sessions.proofs.said.write_line.Goals as goal
 pub returns-clause-written : goal.returns-clause-written
 returns-clause-written g c =
     subst (λ z. Writes
-    (wire_of g.E.Source.left g.E.Sink.held g.E.Source.faults g.E.Sink.faults c.args.end.now)
-    (wire_of g.E.Source.left g.E.Sink.held g.E.Source.faults g.E.Sink.faults c.write_text.new.sink)
+    (end_state_of g.E.Source.left g.E.Sink.held g.E.Source.faults g.E.Sink.faults c.args.end.now)
+    (end_state_of g.E.Source.left g.E.Sink.held g.E.Source.faults g.E.Sink.faults c.write_text.new.sink)
     z c.write_text.result) c.as_bytes.ensures.value (writes-from
-    (wire_of g.E.Source.left g.E.Sink.held g.E.Source.faults g.E.Sink.faults c.args.end.now)
-    (wire_of g.E.Source.left g.E.Sink.held g.E.Source.faults g.E.Sink.faults c.write_text.new.sink)
+    (end_state_of g.E.Source.left g.E.Sink.held g.E.Source.faults g.E.Sink.faults c.args.end.now)
+    (end_state_of g.E.Source.left g.E.Sink.held g.E.Source.faults g.E.Sink.faults c.write_text.new.sink)
     c.as_bytes.result.now c.write_text.result
     (g.E.Sink.beside c.args.end.now) (g.E.Sink.beside c.write_text.new.sink) (g.E.Source.reads c.args.end.now)
     (g.E.Source.reads c.write_text.new.sink) (g.E.Sink.asked_beside c.args.end.now) (g.E.Sink.asked_beside c.write_text.new.sink)

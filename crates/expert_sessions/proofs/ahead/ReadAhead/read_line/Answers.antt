@@ -1,5 +1,5 @@
 use Rattle.std.proofs.Common.{rules, refl}
-use Rattle.expert_sessions.specs.Moves.{wire_of}
+use Rattle.expert_sessions.specs.Moves.{end_state_of}
 use Rattle.expert_sessions.specs.Lines.{HasNoFeed}
 use Rattle.expert_sessions.proofs.MoveLemmas.{Reads-nil, Reads-trans}
 use Rattle.expert_sessions.proofs.OrderLemmas.{unread, read_on}
@@ -7,7 +7,7 @@ use Rattle.expert_sessions.proofs.ahead.ReadAhead.read_line.Goals as goal
 
 pub loop-at-init : goal.loop-at-init
 loop-at-init g c = record {
-  read = Reads-nil (wire_of g.E.Source.left g.E.Sink.held g.E.Source.faults g.E.Sink.faults c.args.end.now) c.args.self.now;
+  read = Reads-nil (end_state_of g.E.Source.left g.E.Sink.held g.E.Source.faults g.E.Sink.faults c.args.end.now) c.args.self.now;
   order = unread g.E.Source.left g.E.Sink.held g.E.Source.reads g.E.Source.faults g.E.Sink.faults c.args.self.now c.args.end.now;
   quiet = refl;
 }
