@@ -23,11 +23,11 @@ use Rattle.expert_sessions.specs.declared.said.Said.{Said}
 use Rattle.expert_sessions.specs.declared.said.Said.TheVariants.{Bye}
 use Rattle.expert_sessions.specs.declared.ended.Ended.{Ended}
 use Rattle.expert_sessions.specs.declared.ended.Ended.TheVariants.{Quit, EndOfInput, ReadFault, WriteFault, LongLine, Limit, Spent, Memory}
-use Rattle.expert_sessions.specs.Lines.{Asks, Answers, BeginsWithEvent, Exchange, IsExchange, IsQuit, IsNotQuit, lines_of, replies_of}
+use Rattle.expert_sessions.specs.Lines.{Asks, Says, BeginsWithEvent, Exchange, IsExchange, IsQuit, IsNotQuit, lines_of, replies_of}
 use Rattle.expert_sessions.specs.Lines.{entries_of, said_line, before_last}
 use Rattle.expert_sessions.specs.Talks.{GoesOn, HasQuit, LacksLastAnswer}
 use Rattle.expert_sessions.specs.Moves.{EndState, Moves, IsQuiet, DeskCount, Enters}
-use Rattle.expert_sessions.specs.Courses.{said_of, Writes, Reads, HasFeedAt, LacksLine, Serves, HaltsAt, Halts, Goes, Closes, HasServed}
+use Rattle.expert_sessions.specs.Courses.{said_of, SendsText, ReadsOn, HasFeedAt, LacksLine, Serves, HaltsAt, Halts, Goes, Closes, HasServed}
 use Rattle.expert_sessions.proofs.MoveLemmas.{Moves-trans, Moves-equal, IsQuiet-trans, Enters-nil, Enters-trans, Enters-equal}
 use Rattle.expert_sessions.proofs.MoveLemmas.{one_less-taken, one_less-none}
 use Rattle.expert_sessions.proofs.LineLemmas.{not_bye, bye_quits, is-exchange, lines_of-append, replies_of-append, entries_of-append}
@@ -42,7 +42,7 @@ module _ (e : ℕ) (form : Result Request RequestFault) (event : SetEvent) (c d 
   pub turn-answered : (turn : Result SetReply TurnFault)
       → IfOk turn (λ reply. d.entries ≡ c.entries ++ record { event = event; reply = reply } ∷ []) → OnErr turn (d.entries ≡ c.entries)
       → (IsErrOf turn NoTurn → c.turns ≡ Some 0) × (c.turns ≡ Some 0 → IsErrOf turn NoTurn)
-      → IfOk (said_of turn) (λ said. (made : List SetEntry) × (turns : ℕ) × Answers e form said made turns × Enters c d made turns)
+      → IfOk (said_of turn) (λ said. (made : List SetEntry) × (turns : ℕ) × Says e form said made turns × Enters c d made turns)
   turn-answered (Ok reply) entered same spent = (
     record { event = event; reply = reply } ∷ [],
     1,
@@ -72,7 +72,7 @@ turn-refused e form event c d asks left (Err NoTurn) same spent =
     (refl, none.0, record { added = same ∙ sym (append-nil c.entries); turns = none.1 }, event, asks)
 
 -- no whole line was read
-pub unread : (t : NamedContext) (e : ℕ) (a b : EndState) (c : DeskCount) (ahead ahead' : Text) (ended : Ended) → Reads a b ahead ahead'
+pub unread : (t : NamedContext) (e : ℕ) (a b : EndState) (c : DeskCount) (ahead ahead' : Text) (ended : Ended) → ReadsOn a b ahead ahead'
     → LacksLine a b ahead' ended → Halts t e a b c c ahead ended
 unread t e a b c ahead ahead' ended r h = record {
   more = [];
@@ -112,7 +112,7 @@ begins-event n e text at event feed few asks = record {
 
 -- the line was read, and no turn was left for it
 pub unturned : (t : NamedContext) (e : ℕ) (a b : EndState) (c d : DeskCount) (ahead ahead' : Text) (at : ℕ) (ended : Ended) (event : SetEvent)
-    → Reads a b ahead ahead' → b.read_faults ≡ a.read_faults
+    → ReadsOn a b ahead ahead' → b.read_faults ≡ a.read_faults
     → HasFeedAt ahead' at → at ≤ LINE_BYTES → Asks e (request_form (take at ahead') t.context.width) event → ended ≡ Spent
     → d.turns ≡ Some 0 → Enters c d [] 0
     → Halts t e a b c d ahead ended
@@ -137,8 +137,8 @@ one_turn turns = omega arith
 -- the line was read, and answered; then what was read is the line, and what stands ahead now
 module _ (t : NamedContext) (e : ℕ) (a b b' : EndState) (c d : DeskCount) (ahead ahead' ahead'' : Text) (at : ℕ) (said : Said)
     (made : List SetEntry) (turns : ℕ)
-    (r : Reads a b ahead ahead') (still : b.read_faults ≡ a.read_faults) (feed : HasFeedAt ahead' at) (few : at ≤ LINE_BYTES)
-    (answered : Answers e (request_form (take at ahead') t.context.width) said made turns)
+    (r : ReadsOn a b ahead ahead') (still : b.read_faults ≡ a.read_faults) (feed : HasFeedAt ahead' at) (few : at ≤ LINE_BYTES)
+    (answered : Says e (request_form (take at ahead') t.context.width) said made turns)
     (enters : Enters c d made turns) (gone : ahead'' ≡ drop (at + 1) ahead') where
   abbrev exchange : Exchange
   exchange = record { line = take at ahead'; said = said; made = made; turns = turns }
@@ -182,7 +182,7 @@ module _ (t : NamedContext) (e : ℕ) (a b b' : EndState) (c d : DeskCount) (ahe
     );
   }
 
-  pub line-unanswered : (result : Result (Unit {0}) Put) → Writes b b' (said_line t.attributes said) result → is_err result ≡ true
+  pub line-unanswered : (result : Result (Unit {0}) Put) → SendsText b b' (said_line t.attributes said) result → is_err result ≡ true
       → Halts t e a b' c d ahead WriteFault
   line-unanswered result w failed = record {
     more = exchange ∷ [];
@@ -200,7 +200,7 @@ module _ (t : NamedContext) (e : ℕ) (a b b' : EndState) (c d : DeskCount) (ahe
 
 -- ---- all lines
 
-pub greeted : (t : NamedContext) (e : ℕ) (a b : EndState) (c : DeskCount) (result : Result (Unit {0}) Put) → Writes a b (greeting t e) result
+pub greeted : (t : NamedContext) (e : ℕ) (a b : EndState) (c : DeskCount) (result : Result (Unit {0}) Put) → SendsText a b (greeting t e) result
     → is_err result ≡ false → Goes t e a b c c [] 0
 greeted t e a b c result w ok = record {
   served = [];
@@ -215,7 +215,7 @@ greeted t e a b c result w ok = record {
 }
 
 pub ungreeted : (t : NamedContext) (e lines : ℕ) (a b : EndState) (c : DeskCount) (result : Result (Unit {0}) Put)
-    → Writes a b (greeting t e) result → is_err result ≡ true
+    → SendsText a b (greeting t e) result → is_err result ≡ true
     → HasServed t e lines a b c c WriteFault
 ungreeted t e lines a b c result w failed = record {
   taken = [];

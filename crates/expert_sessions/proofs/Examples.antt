@@ -12,7 +12,7 @@ use Rattle.expert_wire.specs.Replies.{reply_text}
 use Rattle.expert_sessions.specs.declared.said.Said.{Said}
 use Rattle.expert_sessions.specs.declared.said.Said.TheVariants.{Replied, Bye, BadLine, BadWidth, NoMemory}
 use Rattle.expert_sessions.specs.Lines.{HasNoFeed, Exchange, lines_of, replies_of, said_line}
-use Rattle.expert_sessions.specs.Order.{Reading, IsAnswered, AreReadings, ReadsInTurn}
+use Rattle.expert_sessions.specs.Order.{OneRead, IsAnswered, AreReadings, ReadsInTurn}
 
 data State : Type 0 where
   New : State
@@ -79,7 +79,7 @@ module _ (t : NamedContext) (e : ℕ) (answer : Text) where
   not_ready Past one a = cc
   not_ready Answered one a = cc
 
-  second : (now : State) (rs : List (Reading State)) → reads now ≡ Some 1
+  second : (now : State) (rs : List (OneRead State)) → reads now ≡ Some 1
       → AreReadings left held reads faults faults WasAnswered now Answered rs → ⊥
   second now [] one x = let two : Some 2 ≡ Some 1 = x.uncounted ∙ one in cc
   second now (r ∷ rs) one x = not_ready r.before (x.0.uncounted ∙ one) x.1
@@ -87,6 +87,6 @@ module _ (t : NamedContext) (e : ℕ) (answer : Text) where
   reads_on : ReadsInTurn left held reads faults faults t e New Answered → ⊥
   reads_on x = at x.0 x.1
     where
-      at : (rs : List (Reading State)) → AreReadings left held reads faults faults WasAnswered New Answered rs → ⊥
+      at : (rs : List (OneRead State)) → AreReadings left held reads faults faults WasAnswered New Answered rs → ⊥
       at [] x = let two : Some 2 ≡ Some 0 = x.uncounted in cc
       at (r ∷ rs) x = second r.after rs (x.2.counted ∙ ap (option_map one_more) x.0.uncounted) x.3

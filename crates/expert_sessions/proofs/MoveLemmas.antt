@@ -10,7 +10,7 @@ use Rattle.fca_model.specs.Tables.{Text}
 use Rattle.fca_model.specs.Exploration.{SetEntry}
 use Rattle.expert_gate.specs.Desks.{one_less}
 use Rattle.expert_sessions.specs.Moves.{EndState, Moves, IsQuiet, DeskCount, Enters, Takes, TakesAtMost}
-use Rattle.expert_sessions.specs.Courses.{Reads}
+use Rattle.expert_sessions.specs.Courses.{ReadsOn}
 
 pub Moves-nil : (a : EndState) → Moves a a [] []
 Moves-nil a = record { lost = Consumes-nil a.left; gained = Appends-nil a.held; read_faults = omega arith; write_faults = omega arith }
@@ -33,11 +33,11 @@ pub IsQuiet-trans : {a b c : EndState} → IsQuiet a b → IsQuiet b c → IsQui
 IsQuiet-trans x y = record { read_faults = y.read_faults ∙ x.read_faults; write_faults = y.write_faults ∙ x.write_faults }
 
 -- what two calls read stands one behind the other
-pub Reads-nil : (a : EndState) (ahead : Text) → Reads a a ahead ahead
-Reads-nil a ahead = record { taken = []; moves = Moves-nil a; joined = sym (append-nil ahead); write_faults = refl }
+pub ReadsOn-nil : (a : EndState) (ahead : Text) → ReadsOn a a ahead ahead
+ReadsOn-nil a ahead = record { taken = []; moves = Moves-nil a; joined = sym (append-nil ahead); write_faults = refl }
 
-pub Reads-trans : {a b c : EndState} {ahead ahead' ahead'' : Text} → Reads a b ahead ahead' → Reads b c ahead' ahead'' → Reads a c ahead ahead''
-Reads-trans {a} {b} {c} {ahead} x y = record {
+pub ReadsOn-trans : {a b c : EndState} {ahead ahead' ahead'' : Text} → ReadsOn a b ahead ahead' → ReadsOn b c ahead' ahead'' → ReadsOn a c ahead ahead''
+ReadsOn-trans {a} {b} {c} {ahead} x y = record {
   taken = x.taken ++ y.taken;
   moves = Moves-trans x.moves y.moves;
   joined = y.joined ∙ ap (λ z. z ++ y.taken) x.joined ∙ append_assoc ahead x.taken y.taken;

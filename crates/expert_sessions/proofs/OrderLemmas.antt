@@ -8,8 +8,8 @@ use Rattle.fca_model.specs.Tables.{Text, NamedContext}
 use Rattle.expert_wire.specs.Greetings.{greeting}
 use Rattle.expert_sessions.specs.Lines.{HasNoFeed, lines_of, replies_of}
 use Rattle.expert_sessions.specs.Moves.{DeskCount}
-use Rattle.expert_sessions.specs.Courses.{Writes, Reads, Goes}
-use Rattle.expert_sessions.specs.Order.{Reading, end_state, ReadsNothing, ReadsOnce, AreReadings, ReadsOnlyWhere, AwaitsLine, ReadsForLine}
+use Rattle.expert_sessions.specs.Courses.{SendsText, ReadsOn, Goes}
+use Rattle.expert_sessions.specs.Order.{OneRead, end_state, ReadsNothing, ReadsOnce, AreReadings, ReadsOnlyWhere, AwaitsLine, ReadsForLine}
 use Rattle.expert_sessions.specs.Order.{IsAnswered, ReadsInTurn}
 use Rattle.expert_sessions.proofs.MoveLemmas.{Moves-trans, Moves-equal}
 
@@ -26,23 +26,23 @@ module _ {E : Type 0} (left held : E → Option Text) (reads : E → Option ℕ)
   }
 
   written : (P : E → Type 0) (a b : E) (text : Text) (result : Result (Unit {0}) Put)
-      → Writes (end_state left held reads read_faults write_faults a) (end_state left held reads read_faults write_faults b) text result → reads b ≡ reads a
+      → SendsText (end_state left held reads read_faults write_faults a) (end_state left held reads read_faults write_faults b) text result → reads b ≡ reads a
       → ReadsOnlyWhere left held reads read_faults write_faults P a b
   written P a b text result w same = ([], record { kept = w.moves.lost; uncounted = same; quiet = w.read_faults })
 
   module _ (P Q : E → Type 0) (weaker : (a : E) → Q a → P a) where
-    weaken : (now last : E) (rs : List (Reading E)) → AreReadings left held reads read_faults write_faults Q now last rs
+    weaken : (now last : E) (rs : List (OneRead E)) → AreReadings left held reads read_faults write_faults Q now last rs
         → AreReadings left held reads read_faults write_faults P now last rs
     weaken now last [] x = x
     weaken now last (r ∷ rs) x = (x.0, weaker r.before x.1, x.2, weaken r.after last rs x.3)
 
-    after_nothing : (now a last : E) (rs : List (Reading E)) → ReadsNothing left held reads read_faults write_faults now a
+    after_nothing : (now a last : E) (rs : List (OneRead E)) → ReadsNothing left held reads read_faults write_faults now a
         → AreReadings left held reads read_faults write_faults Q a last rs
         → AreReadings left held reads read_faults write_faults P now last rs
     after_nothing now a last [] x y = ReadsNothing-trans now a last x y
     after_nothing now a last (r ∷ rs) x y = (ReadsNothing-trans now a r.before x y.0, weaker r.before y.1, y.2, weaken r.after last rs y.3)
 
-    AreReadings-join : (now a last : E) (rs qs : List (Reading E)) → AreReadings left held reads read_faults write_faults P now a rs
+    AreReadings-join : (now a last : E) (rs qs : List (OneRead E)) → AreReadings left held reads read_faults write_faults P now a rs
         → AreReadings left held reads read_faults write_faults Q a last qs
         → AreReadings left held reads read_faults write_faults P now last (rs ++ qs)
     AreReadings-join now a last [] qs x y = after_nothing now a last qs x y
@@ -63,8 +63,8 @@ module _ {E : Type 0} (left held : E → Option Text) (reads : E → Option ℕ)
   unread ahead a = ([], ReadsNothing-nil a)
 
   pub read_on : (ahead grown grown' : Text) (first a b : E) → ReadsForLine left held reads read_faults write_faults ahead first a
-      → Reads (end_state left held reads read_faults write_faults first) (end_state left held reads read_faults write_faults a) ahead grown → HasNoFeed grown
-      → Reads (end_state left held reads read_faults write_faults a) (end_state left held reads read_faults write_faults b) grown grown'
+      → ReadsOn (end_state left held reads read_faults write_faults first) (end_state left held reads read_faults write_faults a) ahead grown → HasNoFeed grown
+      → ReadsOn (end_state left held reads read_faults write_faults a) (end_state left held reads read_faults write_faults b) grown grown'
       → reads b ≡ option_map one_more (reads a)
       → ReadsForLine left held reads read_faults write_faults ahead first b
   read_on ahead grown grown' first a b x r none next counted =
@@ -77,7 +77,7 @@ module _ {E : Type 0} (left held : E → Option Text) (reads : E → Option ℕ)
   -- the line was answered
   pub answered : (ahead : Text) (first a b : E) → ReadsForLine left held reads read_faults write_faults ahead first a
       → (text : Text) (result : Result (Unit {0}) Put)
-      → Writes (end_state left held reads read_faults write_faults a) (end_state left held reads read_faults write_faults b) text result → reads b ≡ reads a
+      → SendsText (end_state left held reads read_faults write_faults a) (end_state left held reads read_faults write_faults b) text result → reads b ≡ reads a
       → ReadsForLine left held reads read_faults write_faults ahead first b
   answered ahead first a b x text result w same =
       joined (AwaitsLine left held reads read_faults write_faults ahead first) first a b x
@@ -89,7 +89,7 @@ module _ {E : Type 0} (left held : E → Option Text) (reads : E → Option ℕ)
   nothing-in_turn t e a = ([], ReadsNothing-nil a)
 
   pub greeted-first : (t : NamedContext) (e : ℕ) (a b : E) (text : Text) (result : Result (Unit {0}) Put)
-      → Writes (end_state left held reads read_faults write_faults a) (end_state left held reads read_faults write_faults b) text result → reads b ≡ reads a
+      → SendsText (end_state left held reads read_faults write_faults a) (end_state left held reads read_faults write_faults b) text result → reads b ≡ reads a
       → ReadsInTurn left held reads read_faults write_faults t e a b
   greeted-first t e a b text result w same = written (IsAnswered left held reads read_faults write_faults t e a) a b text result w same
 

@@ -8,7 +8,7 @@ use Rattle.fca_model.specs.Exploration.{SetReply, SetEntry}
 use Rattle.expert_sessions.specs.declared.ended.Ended.{Ended}
 use Rattle.expert_sessions.specs.declared.ended.Ended.TheVariants.{Quit, EndOfInput, ReadFault, WriteFault, LongLine, Limit, Spent, Memory}
 use Rattle.expert_sessions.specs.Lines.{Exchange, entries_of, turns_of}
-use Rattle.expert_sessions.specs.Talks.{Stops, Ends, AndLeaves, Makes, Talk, HasTalked}
+use Rattle.expert_sessions.specs.Talks.{Stops, EndsTalk, AndLeaves, Makes, Talk, HasTalked}
 use Rattle.expert_sessions.specs.Moves.{EndState, DeskCount, Enters, Takes, TakesAtMost}
 use Rattle.expert_sessions.specs.Courses.{Closes, HasServed}
 use Rattle.expert_sessions.proofs.MoveLemmas.{Moves-nil, IsQuiet-nil, Enters-nil, Takes-few, Enters-trans, Enters-equal}
@@ -74,7 +74,7 @@ stops t e lines a b d Memory served rest sent unsent n h = h
 
 module _ (t : NamedContext) (e lines : ℕ) (a b : EndState) where
   ends : (d : DeskCount) (ended : Ended) (served : List Exchange) (rest sent unsent : Text) → Stops t e lines a b ended served rest sent unsent
-      → Ends t e lines a b d ended served rest sent unsent
+      → EndsTalk t e lines a b d ended served rest sent unsent
   ends d Quit served rest sent unsent h = h
   ends d EndOfInput served rest sent unsent h = h
   ends d ReadFault served rest sent unsent h = h
@@ -184,8 +184,8 @@ untold t e lines a b c d ended x never = record {
   ];
 }
   where
-    kept : (ended : Ended) (served : List Exchange) (rest sent unsent : Text) → Ends t e lines a b d ended served rest sent unsent
-        → Ends t e lines a b (record { entries = d.entries; turns = None }) ended served rest sent unsent
+    kept : (ended : Ended) (served : List Exchange) (rest sent unsent : Text) → EndsTalk t e lines a b d ended served rest sent unsent
+        → EndsTalk t e lines a b (record { entries = d.entries; turns = None }) ended served rest sent unsent
     kept Quit served rest sent unsent h = h
     kept EndOfInput served rest sent unsent h = h
     kept ReadFault served rest sent unsent h = h

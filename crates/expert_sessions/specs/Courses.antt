@@ -21,7 +21,7 @@ use Rattle.expert_sessions.specs.declared.ended.Ended.TheVariants.{Quit, EndOfIn
 -- ---- one call
 
 -- a front of the text was sent, and all of it if the call succeeded
-pub record Writes (a b : EndState) (text : Text) (result : Result (Unit {0}) Put) : Type 0 where
+pub record SendsText (a b : EndState) (text : Text) (result : Result (Unit {0}) Put) : Type 0 where
   pub sent : Text
   pub unsent : Text
   pub split : text ≡ sent ++ unsent
@@ -32,7 +32,7 @@ pub record Writes (a b : EndState) (text : Text) (result : Result (Unit {0}) Put
   pub read_faults : b.read_faults ≡ a.read_faults
 
 -- what was taken stands behind the bytes that were read ahead
-pub record Reads (a b : EndState) (ahead ahead' : Text) : Type 0 where
+pub record ReadsOn (a b : EndState) (ahead ahead' : Text) : Type 0 where
   pub taken : Text
   pub moves : Moves a b taken []
   pub joined : ahead' ≡ ahead ++ taken

@@ -13,7 +13,7 @@ use Rattle.expert_sessions.specs.Lines.{HasNoFeed, Exchange, IsExchange, lines_o
 use Rattle.expert_sessions.specs.Moves.{EndState, Moves, end_state_of}
 
 -- an end before and after one read
-pub record Reading (E : Type 0) : Type 0 where
+pub record OneRead (E : Type 0) : Type 0 where
   pub before : E
   pub after : E
 
@@ -35,13 +35,13 @@ module _ {E : Type 0} (left held : E → Option Text) (reads : E → Option ℕ)
     pub quiet : write_faults b ≡ write_faults a
 
   -- from this state on to the last, it was read in these places and no other, and P held before each
-  abbrev pub AreReadings : (E → Type 0) → E → E → List (Reading E) → Type 0
+  abbrev pub AreReadings : (E → Type 0) → E → E → List (OneRead E) → Type 0
   AreReadings P now last [] = ReadsNothing now last
   AreReadings P now last (r ∷ rs) = ReadsNothing now r.before × P r.before × ReadsOnce r.before r.after × AreReadings P r.after last rs
 
   -- from the first state to the last, it was read only where P holds
   abbrev pub ReadsOnlyWhere : (E → Type 0) → E → E → Type 0
-  ReadsOnlyWhere P first last = (readings : List (Reading E)) × AreReadings P first last readings
+  ReadsOnlyWhere P first last = (readings : List (OneRead E)) × AreReadings P first last readings
 
   -- since the first state bytes were taken and nothing was sent, and behind those read ahead they end no line
   pub record AwaitsLine (ahead : Text) (first now : E) : Type 0 where

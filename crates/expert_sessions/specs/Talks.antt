@@ -83,10 +83,10 @@ module _ (t : NamedContext) (e lines : ℕ) (a b : EndState) where
       × IsQuiet a b) ⊎ ((reason : Ended) × Stops reason served rest sent unsent)
 
   -- the ending: if memory ran out in the leave, the session stopped for another reason
-  abbrev pub Ends : DeskCount → Ended → List Exchange → Text → Text → Text → Type 0
-  Ends d Spent served rest sent unsent = (d.turns ≡ Some 0) × Pauses served rest sent unsent
-  Ends d Memory served rest sent unsent = (reason : Ended) × Stops reason served rest sent unsent
-  Ends d ended served rest sent unsent = Stops ended served rest sent unsent
+  abbrev pub EndsTalk : DeskCount → Ended → List Exchange → Text → Text → Text → Type 0
+  EndsTalk d Spent served rest sent unsent = (d.turns ≡ Some 0) × Pauses served rest sent unsent
+  EndsTalk d Memory served rest sent unsent = (reason : Ended) × Stops reason served rest sent unsent
+  EndsTalk d ended served rest sent unsent = Stops ended served rest sent unsent
 
 -- an entry in which expert e leaves stands last
 abbrev pub AndLeaves : ℕ → List SetEntry → List SetEntry → Type 0
@@ -104,7 +104,7 @@ pub record IsServed (t : NamedContext) (e lines : ℕ) (a b : EndState) (d : Des
     (sent : Text) (ended : Ended) : Type 0 where
   pub course : Course t e lines taken sent (Rose a.write_faults b.write_faults)
   pub entries : Makes e ended (entries_of course.served) (turns_of course.served) made turns
-  pub ending : Ends t e lines a b d ended course.served course.rest sent course.unsent
+  pub ending : EndsTalk t e lines a b d ended course.served course.rest sent course.unsent
 
 -- a session that had none
 pub record IsRefused (a b : EndState) (taken : Text) (made : List SetEntry) (turns : ℕ) (sent : Text) (ended : Ended) : Type 0 where

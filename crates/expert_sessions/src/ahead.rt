@@ -7,7 +7,7 @@ ghost use Rattle.fca_io.specs.Faults.{Rose, one_more};
 ghost use Rattle.fca_model.specs.declared.TheConstants.{LINE_BYTES};
 ghost use Rattle.expert_sessions.specs.Lines.{HasNoFeed};
 ghost use Rattle.expert_sessions.specs.Moves.{end_state_of};
-ghost use Rattle.expert_sessions.specs.Courses.{Reads, HasFeedAt, LacksLine};
+ghost use Rattle.expert_sessions.specs.Courses.{ReadsOn, HasFeedAt, LacksLine};
 ghost use Rattle.expert_sessions.specs.Order.{ReadsForLine};
 
 use crate::ended::Ended;
@@ -48,7 +48,7 @@ impl ReadAhead {
 
     /// Reads until there is a whole line, and gives the place of its line feed.
     pub(crate) fn read_line<E: Duplex>(&mut self, end: &mut E) -> Result<usize, Ended>
-        ensures read { Reads
+        ensures read { ReadsOn
             (end_state_of E.Source.left E.Sink.held E.Source.faults E.Sink.faults end.old)
             (end_state_of E.Source.left E.Sink.held E.Source.faults E.Sink.faults end.new)
             self.old self.new }
@@ -113,7 +113,7 @@ impl ReadAhead {
     /// Reads once, and gives the number of bytes that came. It is 0 only at the end of the input.
     fn read<E: Duplex>(&mut self, end: &mut E) -> Result<usize, Failed>
         requires room { length self.old ≤ LINE_BYTES }
-        ensures read { Reads
+        ensures read { ReadsOn
             (end_state_of E.Source.left E.Sink.held E.Source.faults E.Sink.faults end.old)
             (end_state_of E.Source.left E.Sink.held E.Source.faults E.Sink.faults end.new)
             self.old self.new }

@@ -1,12 +1,12 @@
 use Rattle.std.proofs.Common.{subst}
 use Rattle.expert_sessions.specs.Moves.{end_state_of}
-use Rattle.expert_sessions.specs.Courses.{Writes}
+use Rattle.expert_sessions.specs.Courses.{SendsText}
 use Rattle.expert_sessions.proofs.LineLemmas.{writes-from, reads-kept}
 use Rattle.expert_sessions.proofs.said.write_line.Goals as goal
 
 pub returns-clause-written : goal.returns-clause-written
 returns-clause-written g c =
-    subst (λ z. Writes
+    subst (λ z. SendsText
     (end_state_of g.E.Source.left g.E.Sink.held g.E.Source.faults g.E.Sink.faults c.args.end.now)
     (end_state_of g.E.Source.left g.E.Sink.held g.E.Source.faults g.E.Sink.faults c.write_text.new.sink)
     z c.write_text.result) c.as_bytes.ensures.value (writes-from

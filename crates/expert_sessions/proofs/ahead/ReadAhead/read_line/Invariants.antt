@@ -3,13 +3,13 @@
 use Rattle.std.proofs.Common.{◌≡◌, ◌+◌, ◌-◌, length}
 use Rattle.fca_model.specs.declared.TheConstants.{LINE_BYTES}
 use Rattle.expert_sessions.specs.Moves.{end_state_of}
-use Rattle.expert_sessions.specs.Courses.{Reads}
+use Rattle.expert_sessions.specs.Courses.{ReadsOn}
 use Rattle.expert_sessions.specs.Order.{ReadsForLine}
 use Rattle.expert_sessions.proofs.ahead.ReadAhead.read_line.Given as goal
 
 abbrev pub invariant-loop-at : goal.invariant-loop-at
 invariant-loop-at g l = record {
-  read : Reads
+  read : ReadsOn
       (end_state_of g.E.Source.left g.E.Sink.held g.E.Source.faults g.E.Sink.faults l.initial.end)
       (end_state_of g.E.Source.left g.E.Sink.held g.E.Source.faults g.E.Sink.faults l.end)
       l.initial.self l.self;
