@@ -88,8 +88,8 @@ module _ {E : Type 0} (left held : E → Option Text) (reads : E → Option ℕ)
   abbrev pub ends : List (SessionSeat E) → List E
   ends seats = map (λ seat. seat.end) seats
 
-  abbrev pub endings : List (SessionSeat E) → List Ended
-  endings seats = map (λ seat. seat.ended) seats
+  abbrev pub all_ended : List (SessionSeat E) → List Ended
+  all_ended seats = map (λ seat. seat.ended) seats
 
   abbrev end_state : E → EndState
   end_state end = end_state_of left held read_faults write_faults end
@@ -107,7 +107,7 @@ module _ {E : Type 0} (left held : E → Option Text) (reads : E → Option ℕ)
   each_talks : (H : List SetEntry) (k : ℕ) (olds news : List (SessionSeat E)) → HasNumbers k (passes news)
       → All (λ p. own H p.number ≡ p.own) (passes news)
       → EachSeat (HasSat left held reads read_faults write_faults t lines) olds news
-      → EachTalks left held reads read_faults write_faults t lines H k (ends olds) (ends news) (endings news)
+      → EachTalks left held reads read_faults write_faults t lines H k (ends olds) (ends news) (all_ended news)
   each_talks H k [] [] numbers own_is h = tt
   each_talks H k [] (new ∷ news) numbers own_is h = absurd h
   each_talks H k (old ∷ olds) [] numbers own_is h = absurd h
@@ -125,7 +125,7 @@ module _ {E : Type 0} (left held : E → Option Text) (reads : E → Option ℕ)
   pub talks : (gate : Lock Opening) (H : List SetEntry) (olds news : List (SessionSeat E)) → map badge (passes olds) ≡ roll gate
       → HasClosed gate.base H (passes news)
       → EachSeat (HasSat left held reads read_faults write_faults t lines) olds news
-      → EachTalks left held reads read_faults write_faults t lines H 1 (ends olds) (ends news) (endings news)
+      → EachTalks left held reads read_faults write_faults t lines H 1 (ends olds) (ends news) (all_ended news)
   talks gate H olds news e closed h = each_talks H 1 olds news (roll-numbers gate (passes news) (badges_kept olds news h ∙ e)) closed.own h
 
   -- the seats of passes that have made no turn
@@ -144,7 +144,7 @@ module _ {E : Type 0} (left held : E → Option Text) (reads : E → Option ℕ)
 module _ {E : Type 0} (left held : E → Option Text) (reads : E → Option ℕ) (read_faults write_faults : E → ℕ) (t t' : NamedContext) (lines lines' : ℕ)
     (gate : Lock Opening) (ps qs : List (Known Opening SetEntry)) (olds news : List (SessionSeat E))
     (some : 1 ≤ gate.passes) (roll_is : map badge ps ≡ roll gate) (fill_seats : map (λ (seat : SessionSeat E). seat.pass) olds ≡ ps)
-    (split_seats : qs ≡ map (λ (seat : SessionSeat E). seat.pass) news)
+    (split_into : qs ≡ map (λ (seat : SessionSeat E). seat.pass) news)
     (sat : EachSeat (HasSat left held reads read_faults write_faults t' lines') olds news) where
   -- there are as many seats as passes, before and afterwards
   pub length-news : length news ≡ gate.passes
@@ -153,21 +153,21 @@ module _ {E : Type 0} (left held : E → Option Text) (reads : E → Option ℕ)
 
   -- the passes come back with their badges
   pub roll_kept : map badge qs ≡ roll gate
-  roll_kept = ap (map badge) split_seats ∙ badges_kept left held reads read_faults write_faults t' lines' olds news sat ∙ ap (map badge) fill_seats
+  roll_kept = ap (map badge) split_into ∙ badges_kept left held reads read_faults write_faults t' lines' olds news sat ∙ ap (map badge) fill_seats
       ∙ roll_is
 
   -- what the closed gate shows
   module _ (H : List SetEntry) (closed : HasClosed gate.base H qs) where
-    pub talks_told : (before after : List E) (endings : List Ended) → t' ≡ t → lines' ≡ lines
+    pub talks_told : (before after : List E) (all_ended : List Ended) → t' ≡ t → lines' ≡ lines
         → map (λ (seat : SessionSeat E). seat.end) olds ≡ before → after ≡ map (λ (seat : SessionSeat E). seat.end) news
-        → endings ≡ map (λ (seat : SessionSeat E). seat.ended) news → EachTalks left held reads read_faults write_faults t lines H 1 before after endings
-    talks_told before after endings table few ends_before ends_after ended =
+        → all_ended ≡ map (λ (seat : SessionSeat E). seat.ended) news → EachTalks left held reads read_faults write_faults t lines H 1 before after all_ended
+    talks_told before after all_ended table few ends_before ends_after ended =
         let all = talks left held reads read_faults write_faults t' lines' gate H olds news (ap (map badge) fill_seats ∙ roll_is)
-        (subst (HasClosed gate.base H) split_seats closed) sat in
-        subst (λ z. EachTalks left held reads read_faults write_faults z lines H 1 before after endings) table
-        (subst (λ z. EachTalks left held reads read_faults write_faults t' z H 1 before after endings) few
-        (subst (λ z. EachTalks left held reads read_faults write_faults t' lines' H 1 z after endings) ends_before
-        (subst (λ z. EachTalks left held reads read_faults write_faults t' lines' H 1 (map (λ (seat : SessionSeat E). seat.end) olds) z endings)
+        (subst (HasClosed gate.base H) split_into closed) sat in
+        subst (λ z. EachTalks left held reads read_faults write_faults z lines H 1 before after all_ended) table
+        (subst (λ z. EachTalks left held reads read_faults write_faults t' z H 1 before after all_ended) few
+        (subst (λ z. EachTalks left held reads read_faults write_faults t' lines' H 1 z after all_ended) ends_before
+        (subst (λ z. EachTalks left held reads read_faults write_faults t' lines' H 1 (map (λ (seat : SessionSeat E). seat.end) olds) z all_ended)
         (sym ends_after)
         (subst (λ z. EachTalks left held reads read_faults write_faults t' lines' H 1 (map (λ (seat : SessionSeat E). seat.end) olds)
         (map (λ (seat : SessionSeat E). seat.end) news) z) (sym ended) all))))
@@ -177,6 +177,6 @@ module _ {E : Type 0} (left held : E → Option Text) (reads : E → Option ℕ)
       | inl none ↦ inl none
       | inr more ↦ inr (
           let many = length-news in
-          let same : length qs ≡ length news = ap length split_seats ∙ length-map news (λ (seat : SessionSeat E). seat.pass) in
+          let same : length qs ≡ length news = ap length split_into ∙ length-map news (λ (seat : SessionSeat E). seat.pass) in
           omega arith)
     ])

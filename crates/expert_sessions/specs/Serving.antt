@@ -38,8 +38,8 @@ module _ {E : Type 0} (left held : E → Option Text) (reads : E → Option ℕ)
   -- history, none of them ran out of turns, and each end was read only where each whole line was answered
   abbrev pub EachTalks : List SetEntry → ℕ → List E → List E → List Ended → Type 0
   EachTalks H k [] [] [] = Unit {0}
-  EachTalks H k (a ∷ olds) (b ∷ news) (ended ∷ endings) =
+  EachTalks H k (a ∷ olds) (b ∷ news) (ended ∷ more) =
       HasTalked t k lines (end_state_of left held read_faults write_faults a) (end_state_of left held read_faults write_faults b) (entered []) (entered (own H k)) ended
       × ReadsInTurn left held reads read_faults write_faults t k a b
-      × EachTalks H (suc k) olds news endings
+      × EachTalks H (suc k) olds news more
   EachTalks H k _ _ _ = ⊥

@@ -168,24 +168,24 @@ pub(crate) fn fill_seats<E: Drop>(
 }
 
 /// Puts what the seats hold into lists that have room for it.
-pub(crate) fn split_seats<E: Drop>(
+pub(crate) fn split_into<E: Drop>(
     seats: Vec<SessionSeat<E>>,
     mut passes: Vec<ExpertPass>,
     mut ends: Vec<E>,
-    mut endings: Vec<Ended>,
+    mut all_ended: Vec<Ended>,
 ) -> (Vec<ExpertPass>, Vec<E>, Vec<Ended>)
-    requires empty { (passes.items ≡ []) × (ends.items ≡ []) × (endings.items ≡ []) }
+    requires empty { (passes.items ≡ []) × (ends.items ≡ []) × (all_ended.items ≡ []) }
     requires room { (vec_len seats ≤ vec_capacity passes)
-        × (vec_len seats ≤ vec_capacity ends) × (vec_len seats ≤ vec_capacity endings) }
+        × (vec_len seats ≤ vec_capacity ends) × (vec_len seats ≤ vec_capacity all_ended) }
     ensures passes { result.0.items ≡ map (λ seat. seat.pass) seats.items }
     ensures ends { result.1.items ≡ map (λ seat. seat.end) seats.items }
-    ensures endings { result.2.items ≡ map (λ seat. seat.ended) seats.items }
+    ensures ended { result.2.items ≡ map (λ seat. seat.ended) seats.items }
 {
     for seat in seats {
         let SessionSeat { pass, end, ended } = seat;
         passes.push_reserved(pass);
         ends.push_reserved(end);
-        endings.push_reserved(ended);
+        all_ended.push_reserved(ended);
     }
-    (passes, ends, endings)
+    (passes, ends, all_ended)
 }

@@ -164,7 +164,7 @@ module _ {E : Type 0} (talk : Sides E) where
         before = is.before;
         after = is.after;
         ends = is.ends;
-        talked = inr (serve.0.table, is.is.history, is.is.endings, is.is.talks);
+        talked = inr (serve.0.table, is.is.history, is.is.ended, is.is.talks);
         few = omega arith;
         fewer = λ failed. cc;
       }

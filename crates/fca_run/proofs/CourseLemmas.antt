@@ -23,7 +23,7 @@ use Rattle.replay_command.proofs.FedBackLemmas.{opened-respecting, fed_back}
 use Rattle.explore_command.specs.Starts.{ExploreStart}
 use Rattle.explore_command.specs.Explored.{dropped_in, exploring_record, MayExplore}
 use Rattle.serve_command.specs.Openings.{opening_by}
-use Rattle.serve_command.specs.Served.{serving_record, ending_words, MayServe}
+use Rattle.serve_command.specs.Served.{serving_record, ended_words, MayServe}
 use Rattle.fca_run.specs.Courses.{basis_of, TellsExploration}
 use Rattle.fca_run.specs.Calls.{Sides}
 
@@ -89,5 +89,5 @@ module _ {E : Type 0} (talk : Sides E) where
       let o : Opening = opening_by experts holders serve.0 in
       let is = serve.2.is in
       tells (then reading (λ start. Read (opening_by experts holders start))) (serving_record o is.history)
-      (sessions_text (map ending_words is.endings)) output.text
+      (sessions_text (map ended_words is.ended)) output.text
       (read_after reading serve.0 (λ start. Read (opening_by experts holders start)) o serve.1 refl) is.text is.spells is.course

@@ -4,7 +4,7 @@ use Rattle.fca_model.proofs.ListLemmas.{IfErr-any}
 use Rattle.basis_report.specs.Explorations.{explore_text}
 use Rattle.basis_report.specs.Sessions.{sessions_text}
 use Rattle.serve_command.specs.Accepted.{HasRoomFor}
-use Rattle.serve_command.specs.Served.{ending_words}
+use Rattle.serve_command.specs.Served.{ended_words}
 use Rattle.serve_command.proofs.StepLemmas.{ok-from-three}
 use Rattle.serve_command.proofs.ServedLemmas.{IsOver, has-sat, risen-talks}
 use Rattle.serve_command.proofs.serving.explore_over.Goals as goal
@@ -15,7 +15,7 @@ returns-in-Ok-clause-risen g c =
     IfErr-any c.output_of.result _ (λ s.
     risen-talks g.L.End.Source.left g.L.End.Sink.held g.L.End.Source.reads g.L.End.Source.faults g.L.End.Sink.faults
     c.args.explore.opening.table c.in-Ok.served.explore.journal
-    c.args.ends.items c.in-Ok.served.ends.items _ _ c.in-Ok.served.endings.items c.in-Ok.ensures.talks
+    c.args.ends.items c.in-Ok.served.ends.items _ _ c.in-Ok.served.ended.items c.in-Ok.ensures.talks
     (λ room. c.give_back.ensures.given (subst Room (sym c.in-Ok.served.ends.ok.0) room)))
 
 pub returns-in-Ok-clause-sat : goal.returns-in-Ok-clause-sat
@@ -29,7 +29,7 @@ returns-in-Ok-clause-sat g c =
     let told = c.output_of.ensures in
     let over : IsOver g.L.End.Source.left g.L.End.Sink.held g.L.End.Source.reads g.L.End.Source.faults g.L.End.Sink.faults
     c.args.explore.opening c.args.ends.items c.in-Ok.served.ends.items
-    explore c.in-Ok.served.endings.items = record {
+    explore c.in-Ok.served.ended.items = record {
       opening = c.in-Ok.ensures.opening;
       history = c.in-Ok.ensures.history;
       talks = c.in-Ok.ensures.talks;
@@ -38,11 +38,11 @@ returns-in-Ok-clause-sat g c =
     ok-from-three c.output_of.result _ _ _ _ told.text told.spells told.ending (λ output text spells ending.
     has-sat g.L.End.Source.left g.L.End.Sink.held g.L.End.Source.reads g.L.End.Source.faults g.L.End.Sink.faults c.args.explore.opening
     c.args.ends.items c.in-Ok.served.ends.items _ _
-    explore c.in-Ok.served.endings.items output new.experts new.respecting new.writable.known over
+    explore c.in-Ok.served.ended.items output new.experts new.respecting new.writable.known over
     (λ room. c.give_back.ensures.given (subst Room (sym c.in-Ok.served.ends.ok.0) room))
     (record {
-      joined = text ∙ ap (λ endings. explore_text explore.opening.table explore.opening.settings H
-          ++ sessions_text (map ending_words endings)) c.deref.ensures.value;
+      joined = text ∙ ap (λ ended. explore_text explore.opening.table explore.opening.settings H
+          ++ sessions_text (map ended_words ended)) c.deref.ensures.value;
       spells = spells;
       ending = ending;
     }))
