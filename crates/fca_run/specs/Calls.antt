@@ -25,7 +25,7 @@ use Rattle.explore_command.specs.Explored.{MayExplore}
 use Rattle.serve_command.specs.Served.{MayServe, IsServeStop, GaveAllBack}
 use Rattle.fca_run.specs.Outputs.{output_read}
 use Rattle.fca_run.specs.Courses.{HasCourse}
-use Rattle.fca_run.specs.Causes.{IsScaleStop, IsReportStop, fault_file}
+use Rattle.fca_run.specs.Causes.{IsScaleStop, IsReportStop, command_file_at_fault}
 
 -- ---- the outside at one moment
 
@@ -96,11 +96,11 @@ outside shelf input link = record { shelf = shelf; input = input; link = link }
 -- ---- how a text may end
 
 -- a question may be open if the command takes answers of others, and turns may be spent if oracles answer
-abbrev pub MayEnd : Command → Ending → Type 0
-MayEnd command Finished = ⊤
-MayEnd command Open = may_end_open command ≡ true
-MayEnd (Explore file known names experts) Spent = ⊤
-MayEnd _ Spent = ⊥
+abbrev pub MayEndWith : Command → Ending → Type 0
+MayEndWith command Finished = ⊤
+MayEndWith command Open = may_end_open command ≡ true
+MayEndWith (Explore file known names experts) Spent = ⊤
+MayEndWith _ Spent = ⊥
 
 -- ---- what is to be read, and why it is not
 
@@ -209,7 +209,7 @@ module _ {H S L E : Type 0} where
   pub record ComesTo (talk : Sides E) (command : Command) (old new : Outside H S L E) (output : Result Output Stop) : Type 0 where
     -- An output is one of the command, and ends as its outputs may. If the command explores, it tells of the exploration of its table
     pub allowed : IfOk output (MayOutput talk command old new)
-    pub ending : IfOk output (λ output. MayEnd command output.ending)
+    pub ending : IfOk output (λ output. MayEndWith command output.ending)
     pub course : IfOk output (λ output. HasCourse command old.shelf.tells old.input.bytes output.text)
     -- A stop has its cause, and refuses only what may be refused. The counts of the outside say so too, of faults and of fetches
     pub cause : IfErr output (IsCommandStop command old new)
@@ -241,4 +241,4 @@ module _ {H S L E : Type 0} where
       (result : ℕ) : Type 0 where
     pub output : Result Output Stop
     pub comes : CallComesTo talk call old new output
-    pub concluded : HasConcluded output (fault_file call) out out' err err' result
+    pub concluded : HasConcluded output (command_file_at_fault call) out out' err err' result

@@ -23,7 +23,7 @@ use Rattle.command_io.specs.Known.{Start}
 use Rattle.command_io.proofs.CourseLemmas.{legal-course}
 use Rattle.serve_command.specs.Accepted.{GaveBack, HasRoomFor}
 use Rattle.serve_command.specs.Openings.{opening_by, IsNew}
-use Rattle.serve_command.specs.Served.{ended_words, IsServedText, HasSat, HasRisen}
+use Rattle.serve_command.specs.Served.{ended_words, IsServedText, HasServedAll, HasRisen}
 
 -- ---- words
 
@@ -114,13 +114,13 @@ module _ {E : Type 0} (left held : E → Option Text) (reads : E → Option ℕ)
         ending = subst EndsSo over.opening made.ending;
       }
 
-  pub has-sat : (o : Opening) (before after : List E) (old new : Option (Ends E)) (explore : History) (ended : List Ended)
+  pub has-served-all : (o : Opening) (before after : List E) (old new : Option (Ends E)) (explore : History) (ended : List Ended)
       (output : Output)
       → is_expert o.experts ≡ true → rows_respect o.settings.known o.table.context ≡ true → HaveWidth o.table.context.width o.settings.known
       → IsOver o before after explore ended
       → (HasRoomFor old (length after) → GaveBack old new after) → IsTextOf explore ended output.text output.ending
-      → HasSat left held reads read_faults write_faults o before old new output
-  has-sat o before after old new explore ended output expert known even over gave made =
+      → HasServedAll left held reads read_faults write_faults o before old new output
+  has-served-all o before after old new explore ended output expert known even over gave made =
       let long = talks-long o.table MAX_LINES explore.journal 1 before after ended over.talks in
       record {
         after = after;

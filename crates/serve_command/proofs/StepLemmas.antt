@@ -16,7 +16,7 @@ use Rattle.command_io.specs.Endings.{Output, IsRefusal, IsUnread}
 use Rattle.command_io.specs.declared.stop.Stop.{Stop}
 use Rattle.command_io.specs.declared.stop.Stop.TheVariants.{Listener, Memory}
 use Rattle.serve_command.specs.Accepted.{TookFirst, FallsShort}
-use Rattle.serve_command.specs.Served.{IsServeStop, IsOutput, GaveAllBack, HasSat, HasRisen}
+use Rattle.serve_command.specs.Served.{IsServeStop, IsOutput, GaveAllBack, HasServedAll, HasRisen}
 use Rattle.serve_command.proofs.AcceptedLemmas.{TookAndGave-none, TookAndGave-both}
 
 -- ---- results
@@ -91,16 +91,16 @@ module _ {E : Type 0} where
   risen-ends left held reads read_faults write_faults count a b c before (Err s) within took many risen memory =
       risen-back left held reads read_faults write_faults count a b c before s within took many risen memory
 
-  pub sat-output : (left held : E → Option Text) (reads : E → Option ℕ) (read_faults write_faults : E → ℕ) (o : Opening) (a b c : Option (Ends E))
+  pub served-output : (left held : E → Option Text) (reads : E → Option ℕ) (read_faults write_faults : E → ℕ) (o : Opening) (a b c : Option (Ends E))
       (before : List E) (output : Output)
-      → IsWithinRoom a → TookFirst a b before → length before ≡ o.experts → HasSat left held reads read_faults write_faults o before b c output
+      → IsWithinRoom a → TookFirst a b before → length before ≡ o.experts → HasServedAll left held reads read_faults write_faults o before b c output
       → IsOutput left held reads read_faults write_faults o a c output
-  sat-output left held reads read_faults write_faults o a b c before output within took many sat = record {
+  served-output left held reads read_faults write_faults o a b c before output within took many served_all = record {
     before = before;
-    after = sat.after;
+    after = served_all.after;
     count = many;
-    ends = TookAndGave-both a b c before sat.after within sat.long took sat.gave;
-    is = sat.is;
+    ends = TookAndGave-both a b c before served_all.after within served_all.long took served_all.gave;
+    is = served_all.is;
   }
 
 -- ---- which stop it is

@@ -93,7 +93,7 @@ module _ {E : Type 0} (left held : E → Option Text) (reads : E → Option ℕ)
   -- ---- the steps of a call
 
   -- these ends went through their sessions and were given back if there was room, and the output is that of their sessions
-  pub record HasSat (o : Opening) (before : List E) (old new : Option (Ends E)) (output : Output) : Type 0 where
+  pub record HasServedAll (o : Opening) (before : List E) (old new : Option (Ends E)) (output : Output) : Type 0 where
     pub after : List E
     pub gave : HasRoomFor old (length after) → GaveBack old new after
     pub long : length after ≡ length before

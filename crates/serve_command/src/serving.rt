@@ -14,7 +14,7 @@ ghost use Rattle.command_io.specs.Causes.{UnlessFault, UnlessListener};
 ghost use Rattle.command_io.specs.Known.{start_read};
 ghost use Rattle.command_io.specs.Endings.{ending_of, IsRefusal, IsUnread};
 ghost use Rattle.serve_command.specs.Openings.{IsNew};
-ghost use Rattle.serve_command.specs.Served.{ended_words, IsServeStop, MayServe, GaveAllBack, HasSat, HasRisen};
+ghost use Rattle.serve_command.specs.Served.{ended_words, IsServeStop, MayServe, GaveAllBack, HasServedAll, HasRisen};
 
 use crate::accepting::{ends_at, give_back};
 use crate::ended_words::all_ended_words;
@@ -89,7 +89,7 @@ fn explore_over<R: Threads + Wait + Sync, L: Listener>(
     requires new { IsNew explore }
     requires count { explore.opening.experts ≡ vec_len ends }
 
-    ensures sat { IfOk result (λ output. HasSat L.End.Source.left L.End.Sink.held L.End.Source.reads L.End.Source.faults L.End.Sink.faults
+    ensures served_all { IfOk result (λ output. HasServedAll L.End.Source.left L.End.Sink.held L.End.Source.reads L.End.Source.faults L.End.Sink.faults
         explore.opening ends.items (L.ends link.old) (L.ends link.new) output) }
     ensures risen { IfErr result (λ _. HasRisen L.End.Source.left L.End.Sink.held L.End.Source.reads L.End.Source.faults L.End.Sink.faults
         ends.items (L.ends link.old) (L.ends link.new)) }

@@ -6,7 +6,7 @@ use Rattle.basis_report.specs.Sessions.{sessions_text}
 use Rattle.serve_command.specs.Accepted.{HasRoomFor}
 use Rattle.serve_command.specs.Served.{ended_words}
 use Rattle.serve_command.proofs.StepLemmas.{ok-from-three}
-use Rattle.serve_command.proofs.ServedLemmas.{IsOver, has-sat, risen-talks}
+use Rattle.serve_command.proofs.ServedLemmas.{IsOver, has-served-all, risen-talks}
 use Rattle.serve_command.proofs.serving.explore_over.Goals as goal
 
 pub returns-in-Ok-clause-risen : goal.returns-in-Ok-clause-risen
@@ -18,8 +18,8 @@ returns-in-Ok-clause-risen g c =
     c.args.ends.items c.in-Ok.served.ends.items _ _ c.in-Ok.served.ended.items c.in-Ok.ensures.talks
     (λ room. c.give_back.ensures.given (subst Room (sym c.in-Ok.served.ends.ok.0) room)))
 
-pub returns-in-Ok-clause-sat : goal.returns-in-Ok-clause-sat
-returns-in-Ok-clause-sat g c =
+pub returns-in-Ok-clause-served_all : goal.returns-in-Ok-clause-served_all
+returns-in-Ok-clause-served_all g c =
     let Room : ℕ → Type 0 = HasRoomFor (g.L.Listener.ends c.args.link.now) in
     let explore = c.in-Ok.served.explore in
     let H = explore.journal in
@@ -36,7 +36,7 @@ returns-in-Ok-clause-sat g c =
       others = subst Others many c.in-Ok.ensures.others;
     } in
     ok-from-three c.output_of.result _ _ _ _ told.text told.spells told.ending (λ output text spells ending.
-    has-sat g.L.End.Source.left g.L.End.Sink.held g.L.End.Source.reads g.L.End.Source.faults g.L.End.Sink.faults c.args.explore.opening
+    has-served-all g.L.End.Source.left g.L.End.Sink.held g.L.End.Source.reads g.L.End.Source.faults g.L.End.Sink.faults c.args.explore.opening
     c.args.ends.items c.in-Ok.served.ends.items _ _
     explore c.in-Ok.served.ended.items output new.experts new.respecting new.writable.known over
     (λ room. c.give_back.ensures.given (subst Room (sym c.in-Ok.served.ends.ok.0) room))
