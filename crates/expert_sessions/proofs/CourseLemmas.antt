@@ -27,7 +27,8 @@ use Rattle.expert_sessions.specs.Lines.{Asks, Says, BeginsWithEvent, Exchange, I
 use Rattle.expert_sessions.specs.Lines.{entries_of, said_line, before_last}
 use Rattle.expert_sessions.specs.Talks.{GoesOn, HasQuit, LacksLastAnswer}
 use Rattle.expert_sessions.specs.Moves.{EndState, Moves, IsQuiet, DeskCount, Enters}
-use Rattle.expert_sessions.specs.Courses.{said_of, SendsText, ReadsOn, HasFeedAt, LacksLine, Serves, HaltsAt, Halts, Goes, Closes, HasServed}
+use Rattle.expert_sessions.specs.Courses.{said_of, SendsText, ReadsOn, HasFeedAt, LacksLine, Serves, HaltsAt, Halts, Goes, Closes}
+use Rattle.expert_sessions.specs.Courses.{HasServed}
 use Rattle.expert_sessions.proofs.MoveLemmas.{Moves-trans, Moves-equal, IsQuiet-trans, Enters-nil, Enters-trans, Enters-equal}
 use Rattle.expert_sessions.proofs.MoveLemmas.{one_less-taken, one_less-none}
 use Rattle.expert_sessions.proofs.LineLemmas.{not_bye, bye_quits, is-exchange, lines_of-append, replies_of-append, entries_of-append}
@@ -111,7 +112,8 @@ begins-event n e text at event feed few asks = record {
 }
 
 -- the line was read, and no turn was left for it
-pub unturned : (t : NamedContext) (e : ℕ) (a b : EndState) (c d : DeskCount) (ahead ahead' : Text) (at : ℕ) (ended : Ended) (event : SetEvent)
+pub unturned : (t : NamedContext) (e : ℕ) (a b : EndState) (c d : DeskCount) (ahead ahead' : Text) (at : ℕ) (ended : Ended)
+    (event : SetEvent)
     → ReadsOn a b ahead ahead' → b.read_faults ≡ a.read_faults
     → HasFeedAt ahead' at → at ≤ LINE_BYTES → Asks e (request_form (take at ahead') t.context.width) event → ended ≡ Spent
     → d.turns ≡ Some 0 → Enters c d [] 0
@@ -127,8 +129,13 @@ unturned t e a b c d ahead ahead' at ended event r quiet feed few asks s none en
   enters = enters;
   read = sym r.joined;
   said = refl;
-  halts = subst (λ x. HaltsAt t.context.width e a b d x [] ahead' []) (sym s)
-      (refl, refl, none, begins-event t.context.width e ahead' at event feed few asks, record { read_faults = quiet; write_faults = r.write_faults });
+  halts = subst (λ x. HaltsAt t.context.width e a b d x [] ahead' []) (sym s) (
+    refl,
+    refl,
+    none,
+    begins-event t.context.width e ahead' at event feed few asks,
+    record { read_faults = quiet; write_faults = r.write_faults },
+  );
 }
 
 one_turn : (turns : ℕ) → turns ≡ turns + 0
@@ -195,12 +202,19 @@ module _ (t : NamedContext) (e : ℕ) (a b b' : EndState) (c d : DeskCount) (ahe
     enters = Enters-equal (sym (append-nil made)) (one_turn turns) enters;
     read = ap (λ z. ahead ++ z) (append-nil r.taken) ∙ line_read ∙ ap (λ z. z ++ ahead'') (sym (append-nil (take at ahead' ++ line_end)));
     said = append-nil (said_line t.attributes said) ∙ w.split;
-    halts = (exchange, refl, Rose-later a.write_faults b.write_faults b'.write_faults r.moves.write_faults (write_rose result w failed), w.read_faults ∙ still);
+    halts = (
+      exchange,
+      refl,
+      Rose-later a.write_faults b.write_faults b'.write_faults r.moves.write_faults
+          (write_rose result w failed),
+      w.read_faults ∙ still,
+    );
   }
 
 -- ---- all lines
 
-pub greeted : (t : NamedContext) (e : ℕ) (a b : EndState) (c : DeskCount) (result : Result (Unit {0}) Put) → SendsText a b (greeting t e) result
+pub greeted : (t : NamedContext) (e : ℕ) (a b : EndState) (c : DeskCount) (result : Result (Unit {0}) Put)
+    → SendsText a b (greeting t e) result
     → is_err result ≡ false → Goes t e a b c c [] 0
 greeted t e a b c result w ok = record {
   served = [];
@@ -236,7 +250,8 @@ ungreeted t e lines a b c result w failed = record {
   closes = (write_rose result w failed, tt, w.read_faults);
 }
 
-pub one_more_line : (t : NamedContext) (e : ℕ) (a b b' : EndState) (c d d' : DeskCount) (ahead ahead' : Text) (k : ℕ) → Goes t e a b c d ahead k
+pub one_more_line : (t : NamedContext) (e : ℕ) (a b b' : EndState) (c d d' : DeskCount) (ahead ahead' : Text) (k : ℕ)
+    → Goes t e a b c d ahead k
     → Serves t e b b' d d' ahead ahead'
     → Goes t e a b' c d' ahead' (k + 1)
 one_more_line t e a b b' c d d' ahead ahead' k x y =
@@ -357,8 +372,14 @@ closing t e lines a b b' d xs more rest sent unsent l quiet Quit h =
     (has_quit t.context.width xs more h.0 h.1 h.2, h.3, IsQuiet-trans quiet h.4)
 closing t e lines a b b' d xs more rest sent unsent l quiet EndOfInput h =
     (goes_on t.context.width lines xs more l.asking l.fewer h.0, h.2, h.3, h.1, IsQuiet-trans quiet h.4)
-closing t e lines a b b' d xs more rest sent unsent l quiet ReadFault h =
-    (goes_on t.context.width lines xs more l.asking l.fewer h.0, subst (λ n. Rose n b'.read_faults) quiet.read_faults h.2, h.3, h.1, h.4 ∙ quiet.write_faults)
+closing t e lines a b b' d xs more rest sent unsent l quiet ReadFault h = (
+  goes_on t.context.width lines xs more l.asking l.fewer h.0,
+  subst (λ n. Rose n b'.read_faults) quiet.read_faults h.2,
+  h.3,
+  h.1,
+  h.4
+      ∙ quiet.write_faults,
+)
 closing t e lines a b b' d xs more rest sent unsent l quiet LongLine h =
     (goes_on t.context.width lines xs more l.asking l.fewer h.0, h.2, h.1, IsQuiet-trans quiet h.3)
 closing t e lines a b b' d xs more rest sent unsent l quiet WriteFault h = (
@@ -372,7 +393,8 @@ closing t e lines a b b' d xs more rest sent unsent l quiet Limit h = absurd h
 closing t e lines a b b' d xs more rest sent unsent l quiet Memory h = absurd h
 
 -- all that can be sent was sent, where no write failed
-whole_or_failed : (n e : ℕ) (a b b' : EndState) (d : DeskCount) (ended : Ended) (more : List Exchange) (rest unsent : Text) → a.write_faults ≤ b.write_faults
+whole_or_failed : (n e : ℕ) (a b b' : EndState) (d : DeskCount) (ended : Ended) (more : List Exchange) (rest unsent : Text)
+    → a.write_faults ≤ b.write_faults
     → HaltsAt n e b b' d ended more rest unsent
     → (unsent ≡ []) ⊎ Rose a.write_faults b'.write_faults
 whole_or_failed n e a b b' d Quit more rest unsent w h = inl h.3

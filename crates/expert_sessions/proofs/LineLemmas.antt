@@ -131,7 +131,8 @@ pub sent_quiet : {a b : EndState} {text : Text} (r : Result (Unit {0}) Put) → 
 sent_quiet (Ok u) w e = record { read_faults = w.read_faults; write_faults = w.quiet }
 sent_quiet (Err x) w e = cc
 
-pub write_rose : {a b : EndState} {text : Text} (r : Result (Unit {0}) Put) → SendsText a b text r → is_err r ≡ true → Rose a.write_faults b.write_faults
+pub write_rose : {a b : EndState} {text : Text} (r : Result (Unit {0}) Put) → SendsText a b text r → is_err r ≡ true
+    → Rose a.write_faults b.write_faults
 write_rose (Ok u) w e = cc
 write_rose (Err x) w e = w.failed
 

@@ -36,7 +36,8 @@ IsQuiet-trans x y = record { read_faults = y.read_faults ∙ x.read_faults; writ
 pub ReadsOn-nil : (a : EndState) (ahead : Text) → ReadsOn a a ahead ahead
 ReadsOn-nil a ahead = record { taken = []; moves = Moves-nil a; joined = sym (append-nil ahead); write_faults = refl }
 
-pub ReadsOn-trans : {a b c : EndState} {ahead ahead' ahead'' : Text} → ReadsOn a b ahead ahead' → ReadsOn b c ahead' ahead'' → ReadsOn a c ahead ahead''
+pub ReadsOn-trans : {a b c : EndState} {ahead ahead' ahead'' : Text} → ReadsOn a b ahead ahead' → ReadsOn b c ahead' ahead''
+    → ReadsOn a c ahead ahead''
 ReadsOn-trans {a} {b} {c} {ahead} x y = record {
   taken = x.taken ++ y.taken;
   moves = Moves-trans x.moves y.moves;

@@ -17,7 +17,8 @@ module _ {E : Type 0} (left held : E → Option Text) (reads : E → Option ℕ)
   ReadsNothing-nil : (a : E) → ReadsNothing left held reads read_faults write_faults a a
   ReadsNothing-nil a = record { kept = Consumes-nil (left a); uncounted = refl; quiet = refl }
 
-  ReadsNothing-trans : (a b c : E) → ReadsNothing left held reads read_faults write_faults a b → ReadsNothing left held reads read_faults write_faults b c
+  ReadsNothing-trans : (a b c : E) → ReadsNothing left held reads read_faults write_faults a b
+      → ReadsNothing left held reads read_faults write_faults b c
       → ReadsNothing left held reads read_faults write_faults a c
   ReadsNothing-trans a b c x y = record {
     kept = Consumes-trans (left a) (left b) (left c) [] [] x.kept y.kept;
@@ -26,7 +27,8 @@ module _ {E : Type 0} (left held : E → Option Text) (reads : E → Option ℕ)
   }
 
   written : (P : E → Type 0) (a b : E) (text : Text) (result : Result (Unit {0}) Put)
-      → SendsText (end_state left held reads read_faults write_faults a) (end_state left held reads read_faults write_faults b) text result → reads b ≡ reads a
+      → SendsText (end_state left held reads read_faults write_faults a) (end_state left held reads read_faults write_faults b) text result
+      → reads b ≡ reads a
       → ReadsOnlyWhere left held reads read_faults write_faults P a b
   written P a b text result w same = ([], record { kept = w.moves.lost; uncounted = same; quiet = w.read_faults })
 
@@ -48,7 +50,8 @@ module _ {E : Type 0} (left held : E → Option Text) (reads : E → Option ℕ)
     AreReadings-join now a last [] qs x y = after_nothing now a last qs x y
     AreReadings-join now a last (r ∷ rs) qs x y = (x.0, x.1, x.2, AreReadings-join r.after a last rs qs x.3 y)
 
-    join : (a b c : E) → ReadsOnlyWhere left held reads read_faults write_faults P a b → ReadsOnlyWhere left held reads read_faults write_faults Q b c
+    join : (a b c : E) → ReadsOnlyWhere left held reads read_faults write_faults P a b
+        → ReadsOnlyWhere left held reads read_faults write_faults Q b c
         → ReadsOnlyWhere left held reads read_faults write_faults P a c
     join a b c x y = (x.0 ++ y.0, AreReadings-join a b c x.0 y.0 x.1 y.1)
 
@@ -63,21 +66,24 @@ module _ {E : Type 0} (left held : E → Option Text) (reads : E → Option ℕ)
   unread ahead a = ([], ReadsNothing-nil a)
 
   pub read_on : (ahead grown grown' : Text) (first a b : E) → ReadsForLine left held reads read_faults write_faults ahead first a
-      → ReadsOn (end_state left held reads read_faults write_faults first) (end_state left held reads read_faults write_faults a) ahead grown → HasNoFeed grown
+      → ReadsOn (end_state left held reads read_faults write_faults first)
+      (end_state left held reads read_faults write_faults a) ahead grown → HasNoFeed grown
       → ReadsOn (end_state left held reads read_faults write_faults a) (end_state left held reads read_faults write_faults b) grown grown'
       → reads b ≡ option_map one_more (reads a)
       → ReadsForLine left held reads read_faults write_faults ahead first b
   read_on ahead grown grown' first a b x r none next counted =
       let awaits : AwaitsLine left held reads read_faults write_faults ahead first a =
       record { taken = r.taken; moves = r.moves; unbroken = subst HasNoFeed r.joined none } in
-      let once : ReadsOnce left held reads read_faults write_faults a b = record { kept = next.moves.gained; counted = counted; quiet = next.write_faults } in
+      let once : ReadsOnce left held reads read_faults write_faults a b =
+      record { kept = next.moves.gained; counted = counted; quiet = next.write_faults } in
       joined (AwaitsLine left held reads read_faults write_faults ahead first) first a b x
       (record { before = a; after = b } ∷ [], (ReadsNothing-nil a, awaits, once, ReadsNothing-nil b))
 
   -- the line was answered
   pub answered : (ahead : Text) (first a b : E) → ReadsForLine left held reads read_faults write_faults ahead first a
       → (text : Text) (result : Result (Unit {0}) Put)
-      → SendsText (end_state left held reads read_faults write_faults a) (end_state left held reads read_faults write_faults b) text result → reads b ≡ reads a
+      → SendsText (end_state left held reads read_faults write_faults a) (end_state left held reads read_faults write_faults b) text result
+      → reads b ≡ reads a
       → ReadsForLine left held reads read_faults write_faults ahead first b
   answered ahead first a b x text result w same =
       joined (AwaitsLine left held reads read_faults write_faults ahead first) first a b x
@@ -89,20 +95,24 @@ module _ {E : Type 0} (left held : E → Option Text) (reads : E → Option ℕ)
   nothing-in_turn t e a = ([], ReadsNothing-nil a)
 
   pub greeted-first : (t : NamedContext) (e : ℕ) (a b : E) (text : Text) (result : Result (Unit {0}) Put)
-      → SendsText (end_state left held reads read_faults write_faults a) (end_state left held reads read_faults write_faults b) text result → reads b ≡ reads a
+      → SendsText (end_state left held reads read_faults write_faults a) (end_state left held reads read_faults write_faults b) text result
+      → reads b ≡ reads a
       → ReadsInTurn left held reads read_faults write_faults t e a b
   greeted-first t e a b text result w same = written (IsAnswered left held reads read_faults write_faults t e a) a b text result w same
 
   -- behind lines that were answered, the end was read for one line
   pub line-in_turn : (t : NamedContext) (e : ℕ) (first a b : E) (c d : DeskCount) (ahead : Text) (k : ℕ)
       → ReadsInTurn left held reads read_faults write_faults t e first a
-      → Goes t e (end_state left held reads read_faults write_faults first) (end_state left held reads read_faults write_faults a) c d ahead k
+      → Goes t e (end_state left held reads read_faults write_faults first)
+      (end_state left held reads read_faults write_faults a) c d ahead k
       → ReadsForLine left held reads read_faults write_faults ahead a b
       → ReadsInTurn left held reads read_faults write_faults t e first b
   line-in_turn t e first a b c d ahead k x goes y =
-      join (IsAnswered left held reads read_faults write_faults t e first) (AwaitsLine left held reads read_faults write_faults ahead a) line-awaited first a b x y
+      join (IsAnswered left held reads read_faults write_faults t e first)
+      (AwaitsLine left held reads read_faults write_faults ahead a) line-awaited first a b x y
     where
-      line-awaited : (now : E) → AwaitsLine left held reads read_faults write_faults ahead a now → IsAnswered left held reads read_faults write_faults t e first now
+      line-awaited : (now : E) → AwaitsLine left held reads read_faults write_faults ahead a now
+          → IsAnswered left held reads read_faults write_faults t e first now
       line-awaited now w = record {
         served = goes.served;
         rest = ahead ++ w.taken;

@@ -81,7 +81,8 @@ roll-numbers gate (p ∷ ps) e =
     let tail : map badge ps ≡ badges gate.id (Some gate.base) gate.turns 2 (gate.passes - 1) = cc in
     (ap (λ (b : Badge Opening). b.number) head, badges-numbers gate.id (Some gate.base) gate.turns 2 (gate.passes - 1) ps tail)
 
-module _ {E : Type 0} (left held : E → Option Text) (reads : E → Option ℕ) (read_faults write_faults : E → ℕ) (t : NamedContext) (lines : ℕ) where
+module _ {E : Type 0} (left held : E → Option Text) (reads : E → Option ℕ) (read_faults write_faults : E → ℕ) (t : NamedContext)
+    (lines : ℕ) where
   abbrev pub passes : List (SessionSeat E) → List (Known Opening SetEntry)
   passes seats = map (λ seat. seat.pass) seats
 
@@ -115,7 +116,8 @@ module _ {E : Type 0} (left held : E → Option Text) (reads : E → Option ℕ)
       let entries : new.pass.own ≡ own H k = sym (All-head (λ p. own H p.number ≡ p.own) new.pass (passes news) own_is)
       ∙ ap (own H) numbers.0 in (
         subst (λ es. HasTalked t k lines (end_state old.end) (end_state new.end) (entered []) (entered es) new.ended) entries
-            (subst (λ n. HasTalked t n lines (end_state old.end) (end_state new.end) (entered []) (entered new.pass.own) new.ended) numbers.0
+            (subst (λ n. HasTalked t n lines (end_state old.end) (end_state new.end) (entered [])
+            (entered new.pass.own) new.ended) numbers.0
             h.0.talk),
         subst (λ n. ReadsInTurn left held reads read_faults write_faults t n old.end new.end) numbers.0 h.0.order,
         each_talks H (suc k) olds news numbers.1 (All-tail (λ p. own H p.number ≡ p.own) new.pass (passes news) own_is) h.1,
@@ -141,7 +143,8 @@ module _ {E : Type 0} (left held : E → Option Text) (reads : E → Option ℕ)
 
 -- ---- the passes of a gate
 
-module _ {E : Type 0} (left held : E → Option Text) (reads : E → Option ℕ) (read_faults write_faults : E → ℕ) (t t' : NamedContext) (lines lines' : ℕ)
+module _ {E : Type 0} (left held : E → Option Text) (reads : E → Option ℕ) (read_faults write_faults : E → ℕ) (t t' : NamedContext)
+    (lines lines' : ℕ)
     (gate : Lock Opening) (ps qs : List (Known Opening SetEntry)) (olds news : List (SessionSeat E))
     (some : 1 ≤ gate.passes) (roll_is : map badge ps ≡ roll gate) (fill_seats : map (λ (seat : SessionSeat E). seat.pass) olds ≡ ps)
     (split_into : qs ≡ map (λ (seat : SessionSeat E). seat.pass) news)
@@ -153,21 +156,24 @@ module _ {E : Type 0} (left held : E → Option Text) (reads : E → Option ℕ)
 
   -- the passes come back with their badges
   pub roll_kept : map badge qs ≡ roll gate
-  roll_kept = ap (map badge) split_into ∙ badges_kept left held reads read_faults write_faults t' lines' olds news sat ∙ ap (map badge) fill_seats
+  roll_kept = ap (map badge) split_into ∙ badges_kept left held reads read_faults write_faults t' lines' olds news sat
+      ∙ ap (map badge) fill_seats
       ∙ roll_is
 
   -- what the closed gate shows
   module _ (H : List SetEntry) (closed : HasClosed gate.base H qs) where
     pub talks_told : (before after : List E) (all_ended : List Ended) → t' ≡ t → lines' ≡ lines
         → map (λ (seat : SessionSeat E). seat.end) olds ≡ before → after ≡ map (λ (seat : SessionSeat E). seat.end) news
-        → all_ended ≡ map (λ (seat : SessionSeat E). seat.ended) news → EachTalks left held reads read_faults write_faults t lines H 1 before after all_ended
+        → all_ended ≡ map (λ (seat : SessionSeat E). seat.ended) news
+        → EachTalks left held reads read_faults write_faults t lines H 1 before after all_ended
     talks_told before after all_ended table few ends_before ends_after ended =
         let all = talks left held reads read_faults write_faults t' lines' gate H olds news (ap (map badge) fill_seats ∙ roll_is)
         (subst (HasClosed gate.base H) split_into closed) sat in
         subst (λ z. EachTalks left held reads read_faults write_faults z lines H 1 before after all_ended) table
         (subst (λ z. EachTalks left held reads read_faults write_faults t' z H 1 before after all_ended) few
         (subst (λ z. EachTalks left held reads read_faults write_faults t' lines' H 1 z after all_ended) ends_before
-        (subst (λ z. EachTalks left held reads read_faults write_faults t' lines' H 1 (map (λ (seat : SessionSeat E). seat.end) olds) z all_ended)
+        (subst (λ z. EachTalks left held reads read_faults write_faults t' lines' H 1
+        (map (λ (seat : SessionSeat E). seat.end) olds) z all_ended)
         (sym ends_after)
         (subst (λ z. EachTalks left held reads read_faults write_faults t' lines' H 1 (map (λ (seat : SessionSeat E). seat.end) olds)
         (map (λ (seat : SessionSeat E). seat.end) news) z) (sym ended) all))))

@@ -73,7 +73,8 @@ stops t e lines a b d Spent served rest sent unsent n h = absurd (n refl)
 stops t e lines a b d Memory served rest sent unsent n h = h
 
 module _ (t : NamedContext) (e lines : ℕ) (a b : EndState) where
-  ends : (d : DeskCount) (ended : Ended) (served : List Exchange) (rest sent unsent : Text) → Stops t e lines a b ended served rest sent unsent
+  ends : (d : DeskCount) (ended : Ended) (served : List Exchange) (rest sent unsent : Text)
+      → Stops t e lines a b ended served rest sent unsent
       → EndsTalk t e lines a b d ended served rest sent unsent
   ends d Quit served rest sent unsent h = h
   ends d EndOfInput served rest sent unsent h = h
@@ -144,7 +145,8 @@ spent_late t e lines a b c d d' ended x unspent same none =
     }
 
 -- there was no memory to leave
-pub unremembered : (t : NamedContext) (e lines : ℕ) (a b : EndState) (c d d' : DeskCount) (ended : Ended) → HasServed t e lines a b c d ended
+pub unremembered : (t : NamedContext) (e lines : ℕ) (a b : EndState) (c d d' : DeskCount) (ended : Ended)
+    → HasServed t e lines a b c d ended
     → ended ≢ Spent → d'.entries ≡ d.entries
     → Takes 1 d.turns d'.turns → HasTalked t e lines a b c d' Memory
 unremembered t e lines a b c d d' ended x unspent same turn =

@@ -73,7 +73,8 @@ pub record Serves (t : NamedContext) (e : ℕ) (a b : EndState) (c d : DeskCount
 -- why no line is served after these, of which there is at most one
 abbrev pub HaltsAt : (n e : ℕ) → EndState → EndState → DeskCount → Ended → List Exchange → Text → Text → Type 0
 HaltsAt n e a b d Quit more rest unsent = (x : Exchange) × (more ≡ x ∷ []) × IsQuit n x × (unsent ≡ []) × IsQuiet a b
-HaltsAt n e a b d WriteFault more rest unsent = (x : Exchange) × (more ≡ x ∷ []) × Rose a.write_faults b.write_faults × (b.read_faults ≡ a.read_faults)
+HaltsAt n e a b d WriteFault more rest unsent = (x : Exchange) × (more ≡ x ∷ []) × Rose a.write_faults b.write_faults
+    × (b.read_faults ≡ a.read_faults)
 HaltsAt n e a b d EndOfInput more rest unsent = (more ≡ []) × (unsent ≡ []) × IsAtEnd b.left × IsPartOfLine rest × IsQuiet a b
 HaltsAt n e a b d ReadFault more rest unsent = (more ≡ []) × (unsent ≡ []) × Rose a.read_faults b.read_faults × IsPartOfLine rest
     × (b.write_faults ≡ a.write_faults)

@@ -14,7 +14,8 @@ pub record EndState : Type 0 where
 
 -- of ends that show what is left and what is held, and their counts of faults
 abbrev pub end_state_of : {E : Type 0} → (left held : E → Option Text) (read_faults write_faults : E → ℕ) → E → EndState
-end_state_of left held read_faults write_faults end = record { left = left end; held = held end; read_faults = read_faults end; write_faults = write_faults end }
+end_state_of left held read_faults write_faults end =
+    record { left = left end; held = held end; read_faults = read_faults end; write_faults = write_faults end }
 
 -- these bytes were taken, and these were sent
 pub record Moves (a b : EndState) (taken sent : Text) : Type 0 where

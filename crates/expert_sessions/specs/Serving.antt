@@ -25,12 +25,14 @@ abbrev pub entered : List SetEntry → DeskCount
 entered entries = record { entries = entries; turns = None }
 
 -- over ends that show what is left and what is held, how often they were read, if they count that, and their counts of faults
-module _ {E : Type 0} (left held : E → Option Text) (reads : E → Option ℕ) (read_faults write_faults : E → ℕ) (t : NamedContext) (lines : ℕ) where
+module _ {E : Type 0} (left held : E → Option Text) (reads : E → Option ℕ) (read_faults write_faults : E → ℕ) (t : NamedContext)
+    (lines : ℕ) where
   -- the expert of the seat's pass has talked over the seat's end, and never ran out of turns, which are not shown; the pass has the
   -- entries of the talk; and the end was read only where each whole line was answered
   pub record HasSat (old new : SessionSeat E) : Type 0 where
     pub same : badge new.pass ≡ badge old.pass
-    pub talk : HasTalked t new.pass.number lines (end_state_of left held read_faults write_faults old.end) (end_state_of left held read_faults write_faults new.end)
+    pub talk : HasTalked t new.pass.number lines (end_state_of left held read_faults write_faults old.end)
+        (end_state_of left held read_faults write_faults new.end)
         (entered []) (entered new.pass.own) new.ended
     pub order : ReadsInTurn left held reads read_faults write_faults t new.pass.number old.end new.end
 
@@ -39,7 +41,8 @@ module _ {E : Type 0} (left held : E → Option Text) (reads : E → Option ℕ)
   abbrev pub EachTalks : List SetEntry → ℕ → List E → List E → List Ended → Type 0
   EachTalks H k [] [] [] = Unit {0}
   EachTalks H k (a ∷ olds) (b ∷ news) (ended ∷ more) =
-      HasTalked t k lines (end_state_of left held read_faults write_faults a) (end_state_of left held read_faults write_faults b) (entered []) (entered (own H k)) ended
+      HasTalked t k lines (end_state_of left held read_faults write_faults a) (end_state_of left held read_faults write_faults b)
+      (entered []) (entered (own H k)) ended
       × ReadsInTurn left held reads read_faults write_faults t k a b
       × EachTalks H (suc k) olds news more
   EachTalks H k _ _ _ = ⊥

@@ -69,11 +69,13 @@ module _ (t : NamedContext) (e lines : ℕ) (a b : EndState) where
   Stops Quit served rest sent unsent = HasQuit t.context.width served × (unsent ≡ []) × IsQuiet a b
   Stops EndOfInput served rest sent unsent = GoesOn t.context.width lines served × IsAtEnd b.left × IsPartOfLine rest × (unsent ≡ [])
       × IsQuiet a b
-  Stops ReadFault served rest sent unsent = GoesOn t.context.width lines served × Rose a.read_faults b.read_faults × IsPartOfLine rest × (unsent ≡ [])
+  Stops ReadFault served rest sent unsent = GoesOn t.context.width lines served × Rose a.read_faults b.read_faults × IsPartOfLine rest
+      × (unsent ≡ [])
       × (b.write_faults ≡ a.write_faults)
   Stops LongLine served rest sent unsent = GoesOn t.context.width lines served × IsTooLong rest × (unsent ≡ []) × IsQuiet a b
   Stops Limit served rest sent unsent = All (IsNotQuit t.context.width) served × (length served ≡ lines) × (unsent ≡ []) × IsQuiet a b
-  Stops WriteFault served rest sent unsent = Rose a.write_faults b.write_faults × LacksLastAnswer t e served sent × (b.read_faults ≡ a.read_faults)
+  Stops WriteFault served rest sent unsent = Rose a.write_faults b.write_faults × LacksLastAnswer t e served sent
+      × (b.read_faults ≡ a.read_faults)
   Stops Spent served rest sent unsent = ⊥
   Stops Memory served rest sent unsent = ⊥
 

@@ -42,8 +42,9 @@ use Rattle.serve_command.specs.Served.{serving_record, MayServe, IsServeStop, Ga
 use Rattle.serve_command.proofs.AcceptedLemmas.{TookAndGave-none}
 use Rattle.fca_run.specs.Causes.{command_file_at_fault}
 use Rattle.fca_run.specs.Outputs.{output_read, survey_output}
-use Rattle.fca_run.specs.Calls.{ShelfMoment, LinkMoment, Sides, Outside, outside, unlinked, no_input, no_sides, MayEndWith, read_by, IsGiven}
-use Rattle.fca_run.specs.Calls.{IsBlamed, FaultRose, LinkFaultRose, IsQuiet, IsCommandStop, HasGivenBack, MayListen, ComesTo, CallComesTo}
+use Rattle.fca_run.specs.Calls.{ShelfMoment, LinkMoment, Sides, Outside, outside, unlinked, no_input, no_sides, MayEndWith, read_by}
+use Rattle.fca_run.specs.Calls.{IsGiven, IsBlamed, FaultRose, LinkFaultRose, IsQuiet, IsCommandStop, HasGivenBack, MayListen, ComesTo}
+use Rattle.fca_run.specs.Calls.{CallComesTo}
 use Rattle.fca_run.specs.Courses.{HasCourse}
 use Rattle.fca_run.proofs.CourseLemmas.{explore-tells, serve-tells}
 use Rattle.fca_run.proofs.BlameLemmas.{stop-blamed, given-comes}
@@ -155,7 +156,8 @@ module _ {E : Type 0} (talk : Sides E) where
 
   serve-back : (reading : Reading Start) (experts holders : ℕ) (old new : Option (Ends E)) (output : Result Output Stop)
       → IfOk output (MayServe talk.left talk.held talk.reads talk.read_faults talk.write_faults reading experts holders old new)
-      → IfErr output (λ stop. GaveAllBack talk.left talk.held talk.reads talk.read_faults talk.write_faults experts old new (stop ≡ Listener))
+      → IfErr output (λ stop. GaveAllBack talk.left talk.held talk.reads talk.read_faults talk.write_faults experts old new
+      (stop ≡ Listener))
       → GaveAllBack talk.left talk.held talk.reads talk.read_faults talk.write_faults experts old new (output ≡ Err Listener)
   serve-back reading experts holders old new (Ok output) serve back =
       let is = serve.2 in
@@ -205,8 +207,8 @@ module _ {H S D E : Type 0} (talk : Sides E) (s s' : ShelfMoment H) (input : Mom
       let blames : IfErr output (IsBlamed (FaultRose command old new) (LinkFaultRose command old new)) =
       IfErr-weaker output (IsCommandStop command old new) (IsBlamed (FaultRose command old new) (LinkFaultRose command old new))
       (λ stop is. stop-blamed command old new stop is) causes in
-      let Serves : Output → Type 0 = MayServe talk.left talk.held talk.reads talk.read_faults talk.write_faults reading experts holders link.ends
-      link'.ends in
+      let Serves : Output → Type 0 = MayServe talk.left talk.held talk.reads talk.read_faults talk.write_faults reading experts holders
+      link.ends link'.ends in
       record {
         allowed = answers;
         ending = IfOk-weaker output Serves (λ output. MayEndWith command output.ending)

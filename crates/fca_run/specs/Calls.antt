@@ -78,7 +78,8 @@ pub record Sides (E : Type 0) : Type 0 where
   pub write_faults : E → ℕ
 
 abbrev pub sides : {E : Type 0} → (E → Option Text) → (E → Option Text) → (E → Option ℕ) → (E → ℕ) → (E → ℕ) → Sides E
-sides left held reads read_faults write_faults = record { left = left; held = held; reads = reads; read_faults = read_faults; write_faults = write_faults }
+sides left held reads read_faults write_faults =
+    record { left = left; held = held; reads = reads; read_faults = read_faults; write_faults = write_faults }
 
 -- ends that nobody has
 abbrev pub no_sides : Sides (Unit {0})

@@ -48,7 +48,8 @@ pub record TellsExploration (opened : Reading Opening) (text : Text) : Type 0 wh
   -- if no question is open at the end, they are that basis
   pub explored : IsExplored told
   -- if no question is open, the section of the basis is the basis of all recorded rows from scratch, in lectic order
-  pub basis : open_at told ≡ [] → text ≡ text_before_basis told.opening.table told.opening.settings told.journal ++ (known_basis_lines told ++ later)
+  pub basis : open_at told ≡ []
+      → text ≡ text_before_basis told.opening.table told.opening.settings told.journal ++ (known_basis_lines told ++ later)
   -- if the text is no longer than a file may be, its replay is exactly this exploration
   pub fed_back : length text ≤ FILE_BYTES → IsFedBack told text
 

@@ -155,8 +155,8 @@ fn finish<R: Threads + Sync, K: Sink, E: Sink>(
     out: &mut K,
     err: &mut E,
 ) -> u8
-    ensures { HasConcluded output (command_file_at_fault (Some command.now)) (moment K.held K.faults out.old) (moment K.held K.faults out.new)
-        (moment E.held E.faults err.old) (moment E.held E.faults err.new) result }
+    ensures { HasConcluded output (command_file_at_fault (Some command.now)) (moment K.held K.faults out.old)
+        (moment K.held K.faults out.new) (moment E.held E.faults err.old) (moment E.held E.faults err.new) result }
 {
     let file = name_at_fault(command, &output);
     conclude(rt, output, file, out, err)

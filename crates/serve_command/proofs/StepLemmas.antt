@@ -57,7 +57,8 @@ module _ {E : Type 0} where
     fewer = λ _. (omega arith, refl);
   }
 
-  pub short-back : (left held : E → Option Text) (reads : E → Option ℕ) (read_faults write_faults : E → ℕ) (count : ℕ) (a b : Option (Ends E))
+  pub short-back : (left held : E → Option Text) (reads : E → Option ℕ) (read_faults write_faults : E → ℕ) (count : ℕ)
+      (a b : Option (Ends E))
       (link_rose : Type 0) (s : Stop) → FallsShort count a b link_rose s
       → GaveAllBack left held reads read_faults write_faults count a b (s ≡ Listener)
   short-back left held reads read_faults write_faults count a b link_rose s short = record {
@@ -82,7 +83,8 @@ module _ {E : Type 0} where
     fewer = λ listener. cc;
   }
 
-  pub risen-ends : (left held : E → Option Text) (reads : E → Option ℕ) (read_faults write_faults : E → ℕ) (count : ℕ) (a b c : Option (Ends E))
+  pub risen-ends : (left held : E → Option Text) (reads : E → Option ℕ) (read_faults write_faults : E → ℕ) (count : ℕ)
+      (a b c : Option (Ends E))
       (before : List E) (r : Result Output Stop) → IsWithinRoom a
       → TookFirst a b before → length before ≡ count → IfErr r (λ _. HasRisen left held reads read_faults write_faults before b c)
       → IfErr r (λ stop. stop ≡ Memory)
@@ -91,9 +93,11 @@ module _ {E : Type 0} where
   risen-ends left held reads read_faults write_faults count a b c before (Err s) within took many risen memory =
       risen-back left held reads read_faults write_faults count a b c before s within took many risen memory
 
-  pub served-output : (left held : E → Option Text) (reads : E → Option ℕ) (read_faults write_faults : E → ℕ) (o : Opening) (a b c : Option (Ends E))
+  pub served-output : (left held : E → Option Text) (reads : E → Option ℕ) (read_faults write_faults : E → ℕ) (o : Opening)
+      (a b c : Option (Ends E))
       (before : List E) (output : Output)
-      → IsWithinRoom a → TookFirst a b before → length before ≡ o.experts → HasServedAll left held reads read_faults write_faults o before b c output
+      → IsWithinRoom a → TookFirst a b before → length before ≡ o.experts
+      → HasServedAll left held reads read_faults write_faults o before b c output
       → IsOutput left held reads read_faults write_faults o a c output
   served-output left held reads read_faults write_faults o a b c before output within took many served_all = record {
     before = before;

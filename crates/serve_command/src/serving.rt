@@ -89,8 +89,8 @@ fn explore_over<R: Threads + Wait + Sync, L: Listener>(
     requires new { IsNew explore }
     requires count { explore.opening.experts ≡ vec_len ends }
 
-    ensures served_all { IfOk result (λ output. HasServedAll L.End.Source.left L.End.Sink.held L.End.Source.reads L.End.Source.faults L.End.Sink.faults
-        explore.opening ends.items (L.ends link.old) (L.ends link.new) output) }
+    ensures served_all { IfOk result (λ output. HasServedAll L.End.Source.left L.End.Sink.held L.End.Source.reads L.End.Source.faults
+        L.End.Sink.faults explore.opening ends.items (L.ends link.old) (L.ends link.new) output) }
     ensures risen { IfErr result (λ _. HasRisen L.End.Source.left L.End.Sink.held L.End.Source.reads L.End.Source.faults L.End.Sink.faults
         ends.items (L.ends link.old) (L.ends link.new)) }
     ensures cause { IfErr result (λ stop. stop ≡ Stop.Memory) }

@@ -28,7 +28,8 @@ returns-in-Replay-clause-ending g c =
     (g.S.Source.left c.args.input.now) in
     let Ends : Command → Type 0 = λ command. IfOk c.replay.result (λ (output : Output). MayEndWith command output.ending) in
     subst Ends (sym c.in-Replay.is)
-    (IfOk-weaker c.replay.result (MayReplay reading) (λ (output : Output). MayEndWith (Replay c.in-Replay.file c.in-Replay.known) output.ending)
+    (IfOk-weaker c.replay.result (MayReplay reading)
+    (λ (output : Output). MayEndWith (Replay c.in-Replay.file c.in-Replay.known) output.ending)
     (λ output replay. replay-ends c.in-Replay.file c.in-Replay.known reading output replay) c.replay.ensures.replayed)
 
 pub returns-in-Replay-clause-course : goal.returns-in-Replay-clause-course

@@ -36,7 +36,8 @@ returns-in-Ok-clause-served_all g c =
       others = subst Others many c.in-Ok.ensures.others;
     } in
     ok-from-three c.output_of.result _ _ _ _ told.text told.spells told.ending (λ output text spells ending.
-    has-served-all g.L.End.Source.left g.L.End.Sink.held g.L.End.Source.reads g.L.End.Source.faults g.L.End.Sink.faults c.args.explore.opening
+    has-served-all g.L.End.Source.left g.L.End.Sink.held g.L.End.Source.reads g.L.End.Source.faults g.L.End.Sink.faults
+    c.args.explore.opening
     c.args.ends.items c.in-Ok.served.ends.items _ _
     explore c.in-Ok.served.ended.items output new.experts new.respecting new.writable.known over
     (λ room. c.give_back.ensures.given (subst Room (sym c.in-Ok.served.ends.ok.0) room))
