@@ -205,8 +205,7 @@ module _ (t : NamedContext) (e : ℕ) (a b b' : EndState) (c d : DeskCount) (ahe
     halts = (
       exchange,
       refl,
-      Rose-later a.write_faults b.write_faults b'.write_faults r.moves.write_faults
-          (write_rose result w failed),
+      Rose-later a.write_faults b.write_faults b'.write_faults r.moves.write_faults (write_rose result w failed),
       w.read_faults ∙ still,
     );
   }
