@@ -23,11 +23,12 @@ use Rattle.expert_sessions.specs.declared.said.Said.{Said}
 use Rattle.expert_sessions.specs.declared.said.Said.TheVariants.{Bye}
 use Rattle.expert_sessions.specs.declared.ended.Ended.{Ended}
 use Rattle.expert_sessions.specs.declared.ended.Ended.TheVariants.{Quit, EndOfInput, ReadFault, WriteFault, LongLine, Limit, Spent, Memory}
-use Rattle.expert_sessions.specs.Lines.{Asks, Answers, BeginsWithEvent, Exchange, IsExchange, IsQuit, IsNotQuit, lines_of, replies_of}
+use Rattle.expert_sessions.specs.Lines.{Asks, Says, BeginsWithEvent, Exchange, IsExchange, IsQuit, IsNotQuit, lines_of, replies_of}
 use Rattle.expert_sessions.specs.Lines.{entries_of, said_line, before_last}
 use Rattle.expert_sessions.specs.Talks.{GoesOn, HasQuit, LacksLastAnswer}
-use Rattle.expert_sessions.specs.Moves.{Wire, Moves, IsQuiet, Place, Enters}
-use Rattle.expert_sessions.specs.Courses.{said_of, Writes, Reads, HasFeedAt, LacksLine, Serves, HaltsAt, Halts, Goes, Closes, HasServed}
+use Rattle.expert_sessions.specs.Moves.{EndState, Moves, IsQuiet, DeskCount, Enters}
+use Rattle.expert_sessions.specs.Courses.{said_of, SendsText, ReadsOn, HasFeedAt, LacksLine, Serves, HaltsAt, Halts, Goes, Closes}
+use Rattle.expert_sessions.specs.Courses.{HasServed}
 use Rattle.expert_sessions.proofs.MoveLemmas.{Moves-trans, Moves-equal, IsQuiet-trans, Enters-nil, Enters-trans, Enters-equal}
 use Rattle.expert_sessions.proofs.MoveLemmas.{one_less-taken, one_less-none}
 use Rattle.expert_sessions.proofs.LineLemmas.{not_bye, bye_quits, is-exchange, lines_of-append, replies_of-append, entries_of-append}
@@ -37,12 +38,12 @@ use Rattle.expert_sessions.proofs.LineLemmas.{before_last-snoc, before_last-All,
 -- ---- one line
 
 -- what a turn is answered, what it enters, and that it is taken
-module _ (e : ℕ) (form : Result Request RequestFault) (event : SetEvent) (c d : Place) (asks : Asks e form event)
+module _ (e : ℕ) (form : Result Request RequestFault) (event : SetEvent) (c d : DeskCount) (asks : Asks e form event)
     (left : d.turns ≡ one_less c.turns) where
   pub turn-answered : (turn : Result SetReply TurnFault)
       → IfOk turn (λ reply. d.entries ≡ c.entries ++ record { event = event; reply = reply } ∷ []) → OnErr turn (d.entries ≡ c.entries)
       → (IsErrOf turn NoTurn → c.turns ≡ Some 0) × (c.turns ≡ Some 0 → IsErrOf turn NoTurn)
-      → IfOk (said_of turn) (λ said. (made : List SetEntry) × (turns : ℕ) × Answers e form said made turns × Enters c d made turns)
+      → IfOk (said_of turn) (λ said. (made : List SetEntry) × (turns : ℕ) × Says e form said made turns × Enters c d made turns)
   turn-answered (Ok reply) entered same spent = (
     record { event = event; reply = reply } ∷ [],
     1,
@@ -61,7 +62,7 @@ module _ (e : ℕ) (form : Result Request RequestFault) (event : SetEvent) (c d 
   turn-answered (Err NoTurn) entered same spent = tt
 
 -- no turn is left for what was asked
-pub turn-refused : (e : ℕ) (form : Result Request RequestFault) (event : SetEvent) (c d : Place) → Asks e form event
+pub turn-refused : (e : ℕ) (form : Result Request RequestFault) (event : SetEvent) (c d : DeskCount) → Asks e form event
     → d.turns ≡ one_less c.turns → (turn : Result SetReply TurnFault)
     → OnErr turn (d.entries ≡ c.entries) → (IsErrOf turn NoTurn → c.turns ≡ Some 0) × (c.turns ≡ Some 0 → IsErrOf turn NoTurn)
     → IfErr (said_of turn) (λ ended. (ended ≡ Spent) × (d.turns ≡ Some 0) × Enters c d [] 0 × (asked : SetEvent) × Asks e form asked)
@@ -72,7 +73,7 @@ turn-refused e form event c d asks left (Err NoTurn) same spent =
     (refl, none.0, record { added = same ∙ sym (append-nil c.entries); turns = none.1 }, event, asks)
 
 -- no whole line was read
-pub unread : (t : NamedContext) (e : ℕ) (a b : Wire) (c : Place) (ahead ahead' : Text) (ended : Ended) → Reads a b ahead ahead'
+pub unread : (t : NamedContext) (e : ℕ) (a b : EndState) (c : DeskCount) (ahead ahead' : Text) (ended : Ended) → ReadsOn a b ahead ahead'
     → LacksLine a b ahead' ended → Halts t e a b c c ahead ended
 unread t e a b c ahead ahead' ended r h = record {
   more = [];
@@ -89,9 +90,9 @@ unread t e a b c ahead ahead' ended r h = record {
 }
   where
     at : (ended : Ended) → LacksLine a b ahead' ended → HaltsAt t.context.width e a b c ended [] ahead' []
-    at EndOfInput h = (refl, refl, h.0, h.1, record { reads = h.2; writes = r.writes })
-    at ReadFault h = (refl, refl, h.0, h.1, r.writes)
-    at LongLine h = (refl, refl, h.0, record { reads = h.1; writes = r.writes })
+    at EndOfInput h = (refl, refl, h.0, h.1, record { read_faults = h.2; write_faults = r.write_faults })
+    at ReadFault h = (refl, refl, h.0, h.1, r.write_faults)
+    at LongLine h = (refl, refl, h.0, record { read_faults = h.1; write_faults = r.write_faults })
     at Quit h = absurd h
     at WriteFault h = absurd h
     at Limit h = absurd h
@@ -111,8 +112,9 @@ begins-event n e text at event feed few asks = record {
 }
 
 -- the line was read, and no turn was left for it
-pub unturned : (t : NamedContext) (e : ℕ) (a b : Wire) (c d : Place) (ahead ahead' : Text) (at : ℕ) (ended : Ended) (event : SetEvent)
-    → Reads a b ahead ahead' → b.reads ≡ a.reads
+pub unturned : (t : NamedContext) (e : ℕ) (a b : EndState) (c d : DeskCount) (ahead ahead' : Text) (at : ℕ) (ended : Ended)
+    (event : SetEvent)
+    → ReadsOn a b ahead ahead' → b.read_faults ≡ a.read_faults
     → HasFeedAt ahead' at → at ≤ LINE_BYTES → Asks e (request_form (take at ahead') t.context.width) event → ended ≡ Spent
     → d.turns ≡ Some 0 → Enters c d [] 0
     → Halts t e a b c d ahead ended
@@ -127,24 +129,29 @@ unturned t e a b c d ahead ahead' at ended event r quiet feed few asks s none en
   enters = enters;
   read = sym r.joined;
   said = refl;
-  halts = subst (λ x. HaltsAt t.context.width e a b d x [] ahead' []) (sym s)
-      (refl, refl, none, begins-event t.context.width e ahead' at event feed few asks, record { reads = quiet; writes = r.writes });
+  halts = subst (λ x. HaltsAt t.context.width e a b d x [] ahead' []) (sym s) (
+    refl,
+    refl,
+    none,
+    begins-event t.context.width e ahead' at event feed few asks,
+    record { read_faults = quiet; write_faults = r.write_faults },
+  );
 }
 
 one_turn : (turns : ℕ) → turns ≡ turns + 0
 one_turn turns = omega arith
 
 -- the line was read, and answered; then what was read is the line, and what stands ahead now
-module _ (t : NamedContext) (e : ℕ) (a b b' : Wire) (c d : Place) (ahead ahead' ahead'' : Text) (at : ℕ) (said : Said)
+module _ (t : NamedContext) (e : ℕ) (a b b' : EndState) (c d : DeskCount) (ahead ahead' ahead'' : Text) (at : ℕ) (said : Said)
     (made : List SetEntry) (turns : ℕ)
-    (r : Reads a b ahead ahead') (still : b.reads ≡ a.reads) (feed : HasFeedAt ahead' at) (few : at ≤ LINE_BYTES)
-    (answered : Answers e (request_form (take at ahead') t.context.width) said made turns)
+    (r : ReadsOn a b ahead ahead') (still : b.read_faults ≡ a.read_faults) (feed : HasFeedAt ahead' at) (few : at ≤ LINE_BYTES)
+    (answered : Says e (request_form (take at ahead') t.context.width) said made turns)
     (enters : Enters c d made turns) (gone : ahead'' ≡ drop (at + 1) ahead') where
   abbrev exchange : Exchange
   exchange = record { line = take at ahead'; said = said; made = made; turns = turns }
 
   read_quiet : IsQuiet a b
-  read_quiet = record { reads = still; writes = r.writes }
+  read_quiet = record { read_faults = still; write_faults = r.write_faults }
 
   line_read : ahead ++ r.taken ≡ (take at ahead' ++ line_end) ++ ahead''
   line_read = sym r.joined ∙ feed.split ∙ ap (λ z. (take at ahead' ++ line_end) ++ z) (sym gone)
@@ -182,7 +189,7 @@ module _ (t : NamedContext) (e : ℕ) (a b b' : Wire) (c d : Place) (ahead ahead
     );
   }
 
-  pub line-unanswered : (result : Result (Unit {0}) Put) → Writes b b' (said_line t.attributes said) result → is_err result ≡ true
+  pub line-unanswered : (result : Result (Unit {0}) Put) → SendsText b b' (said_line t.attributes said) result → is_err result ≡ true
       → Halts t e a b' c d ahead WriteFault
   line-unanswered result w failed = record {
     more = exchange ∷ [];
@@ -195,12 +202,18 @@ module _ (t : NamedContext) (e : ℕ) (a b b' : Wire) (c d : Place) (ahead ahead
     enters = Enters-equal (sym (append-nil made)) (one_turn turns) enters;
     read = ap (λ z. ahead ++ z) (append-nil r.taken) ∙ line_read ∙ ap (λ z. z ++ ahead'') (sym (append-nil (take at ahead' ++ line_end)));
     said = append-nil (said_line t.attributes said) ∙ w.split;
-    halts = (exchange, refl, Rose-later a.writes b.writes b'.writes r.moves.writes (write_rose result w failed), w.reads ∙ still);
+    halts = (
+      exchange,
+      refl,
+      Rose-later a.write_faults b.write_faults b'.write_faults r.moves.write_faults (write_rose result w failed),
+      w.read_faults ∙ still,
+    );
   }
 
 -- ---- all lines
 
-pub greeted : (t : NamedContext) (e : ℕ) (a b : Wire) (c : Place) (result : Result (Unit {0}) Put) → Writes a b (greeting t e) result
+pub greeted : (t : NamedContext) (e : ℕ) (a b : EndState) (c : DeskCount) (result : Result (Unit {0}) Put)
+    → SendsText a b (greeting t e) result
     → is_err result ≡ false → Goes t e a b c c [] 0
 greeted t e a b c result w ok = record {
   served = [];
@@ -214,8 +227,8 @@ greeted t e a b c result w ok = record {
   read = refl;
 }
 
-pub ungreeted : (t : NamedContext) (e lines : ℕ) (a b : Wire) (c : Place) (result : Result (Unit {0}) Put)
-    → Writes a b (greeting t e) result → is_err result ≡ true
+pub ungreeted : (t : NamedContext) (e lines : ℕ) (a b : EndState) (c : DeskCount) (result : Result (Unit {0}) Put)
+    → SendsText a b (greeting t e) result → is_err result ≡ true
     → HasServed t e lines a b c c WriteFault
 ungreeted t e lines a b c result w failed = record {
   taken = [];
@@ -233,10 +246,11 @@ ungreeted t e lines a b c result w failed = record {
     whole = inr (write_rose result w failed);
   };
   enters = Enters-nil c;
-  closes = (write_rose result w failed, tt, w.reads);
+  closes = (write_rose result w failed, tt, w.read_faults);
 }
 
-pub one_more_line : (t : NamedContext) (e : ℕ) (a b b' : Wire) (c d d' : Place) (ahead ahead' : Text) (k : ℕ) → Goes t e a b c d ahead k
+pub one_more_line : (t : NamedContext) (e : ℕ) (a b b' : EndState) (c d d' : DeskCount) (ahead ahead' : Text) (k : ℕ)
+    → Goes t e a b c d ahead k
     → Serves t e b b' d d' ahead ahead'
     → Goes t e a b' c d' ahead' (k + 1)
 one_more_line t e a b b' c d d' ahead ahead' k x y =
@@ -268,7 +282,7 @@ one_more_line t e a b b' c d d' ahead ahead' k x y =
           ∙ sym (append_assoc (lines_of x.served) (y.exchange.line ++ line_end) ahead') ∙ ap (λ z. z ++ ahead') lines;
     }
 
-pub limited : (t : NamedContext) (e lines : ℕ) (a b : Wire) (c d : Place) (ahead : Text) → Goes t e a b c d ahead lines
+pub limited : (t : NamedContext) (e lines : ℕ) (a b : EndState) (c d : DeskCount) (ahead : Text) → Goes t e a b c d ahead lines
     → HasServed t e lines a b c d Limit
 limited t e lines a b c d ahead x = record {
   taken = x.taken;
@@ -299,7 +313,7 @@ record Last (t : NamedContext) (e lines : ℕ) (xs more : List Exchange) (sent :
   split : sent ≡ (greeting t e ++ replies_of t.attributes xs) ++ part
 
 -- at most one line more was served
-more-few : (n e : ℕ) (a b : Wire) (d : Place) (ended : Ended) (more : List Exchange) (rest unsent : Text)
+more-few : (n e : ℕ) (a b : EndState) (d : DeskCount) (ended : Ended) (more : List Exchange) (rest unsent : Text)
     → HaltsAt n e a b d ended more rest unsent → (more ≡ []) ⊎ ((x : Exchange) × (more ≡ x ∷ []))
 more-few n e a b d Quit more rest unsent h = inr (h.0, h.1)
 more-few n e a b d WriteFault more rest unsent h = inr (h.0, h.1)
@@ -349,7 +363,7 @@ lacks_last t e xs x (y ∷ ys) sent part split all =
     let front : before_last (y ∷ ys) ≡ xs = ap before_last split ∙ before_last-snoc xs x in
     (part, all ∙ ap (λ z. (greeting t e ++ replies_of t.attributes z) ++ part) (sym front))
 
-closing : (t : NamedContext) (e lines : ℕ) (a b b' : Wire) (d : Place) (xs more : List Exchange) (rest sent unsent : Text)
+closing : (t : NamedContext) (e lines : ℕ) (a b b' : EndState) (d : DeskCount) (xs more : List Exchange) (rest sent unsent : Text)
     → Last t e lines xs more sent → IsQuiet a b
     → (ended : Ended) → HaltsAt t.context.width e b b' d ended more rest unsent
     → Closes t e lines a b' d ended (xs ++ more) rest sent unsent
@@ -357,14 +371,20 @@ closing t e lines a b b' d xs more rest sent unsent l quiet Quit h =
     (has_quit t.context.width xs more h.0 h.1 h.2, h.3, IsQuiet-trans quiet h.4)
 closing t e lines a b b' d xs more rest sent unsent l quiet EndOfInput h =
     (goes_on t.context.width lines xs more l.asking l.fewer h.0, h.2, h.3, h.1, IsQuiet-trans quiet h.4)
-closing t e lines a b b' d xs more rest sent unsent l quiet ReadFault h =
-    (goes_on t.context.width lines xs more l.asking l.fewer h.0, subst (λ n. Rose n b'.reads) quiet.reads h.2, h.3, h.1, h.4 ∙ quiet.writes)
+closing t e lines a b b' d xs more rest sent unsent l quiet ReadFault h = (
+  goes_on t.context.width lines xs more l.asking l.fewer h.0,
+  subst (λ n. Rose n b'.read_faults) quiet.read_faults h.2,
+  h.3,
+  h.1,
+  h.4
+      ∙ quiet.write_faults,
+)
 closing t e lines a b b' d xs more rest sent unsent l quiet LongLine h =
     (goes_on t.context.width lines xs more l.asking l.fewer h.0, h.2, h.1, IsQuiet-trans quiet h.3)
 closing t e lines a b b' d xs more rest sent unsent l quiet WriteFault h = (
-  subst (λ n. Rose n b'.writes) quiet.writes h.2,
+  subst (λ n. Rose n b'.write_faults) quiet.write_faults h.2,
   lacks_last t e xs h.0 (xs ++ more) sent l.part (ap (λ z. xs ++ z) h.1) l.split,
-  h.3 ∙ quiet.reads,
+  h.3 ∙ quiet.read_faults,
 )
 closing t e lines a b b' d xs more rest sent unsent l quiet Spent h =
     (h.2, goes_on t.context.width lines xs more l.asking l.fewer h.0, h.3, h.1, IsQuiet-trans quiet h.4)
@@ -372,11 +392,12 @@ closing t e lines a b b' d xs more rest sent unsent l quiet Limit h = absurd h
 closing t e lines a b b' d xs more rest sent unsent l quiet Memory h = absurd h
 
 -- all that can be sent was sent, where no write failed
-whole_or_failed : (n e : ℕ) (a b b' : Wire) (d : Place) (ended : Ended) (more : List Exchange) (rest unsent : Text) → a.writes ≤ b.writes
+whole_or_failed : (n e : ℕ) (a b b' : EndState) (d : DeskCount) (ended : Ended) (more : List Exchange) (rest unsent : Text)
+    → a.write_faults ≤ b.write_faults
     → HaltsAt n e b b' d ended more rest unsent
-    → (unsent ≡ []) ⊎ Rose a.writes b'.writes
+    → (unsent ≡ []) ⊎ Rose a.write_faults b'.write_faults
 whole_or_failed n e a b b' d Quit more rest unsent w h = inl h.3
-whole_or_failed n e a b b' d WriteFault more rest unsent w h = inr (Rose-later a.writes b.writes b'.writes w h.2)
+whole_or_failed n e a b b' d WriteFault more rest unsent w h = inr (Rose-later a.write_faults b.write_faults b'.write_faults w h.2)
 whole_or_failed n e a b b' d EndOfInput more rest unsent w h = inl h.1
 whole_or_failed n e a b b' d ReadFault more rest unsent w h = inl h.1
 whole_or_failed n e a b b' d LongLine more rest unsent w h = inl h.1
@@ -384,7 +405,7 @@ whole_or_failed n e a b b' d Spent more rest unsent w h = inl h.1
 whole_or_failed n e a b b' d Limit more rest unsent w h = absurd h
 whole_or_failed n e a b b' d Memory more rest unsent w h = absurd h
 
-pub halted : (t : NamedContext) (e lines : ℕ) (a b b' : Wire) (c d d' : Place) (ahead : Text) (k : ℕ) (ended : Ended)
+pub halted : (t : NamedContext) (e lines : ℕ) (a b b' : EndState) (c d d' : DeskCount) (ahead : Text) (k : ℕ) (ended : Ended)
     → Goes t e a b c d ahead k → k < lines → Halts t e b b' d d' ahead ended
     → HasServed t e lines a b' c d' ended
 halted t e lines a b b' c d d' ahead k ended x below y =
@@ -413,7 +434,7 @@ halted t e lines a b b' c d d' ahead k ended x below y =
             ∙ ap (λ z. replies_of t.attributes x.served ++ z) y.said)
             ∙ sym (append_assoc (greeting t e) (replies_of t.attributes x.served) (y.sent ++ y.unsent))
             ∙ sym (append_assoc (greeting t e ++ replies_of t.attributes x.served) y.sent y.unsent);
-        whole = whole_or_failed t.context.width e a b b' d' ended y.more y.rest y.unsent x.moves.writes y.halts;
+        whole = whole_or_failed t.context.width e a b b' d' ended y.more y.rest y.unsent x.moves.write_faults y.halts;
       };
       enters = Enters-equal (sym (entries_of-append x.served y.more)) (sym turns) (Enters-trans x.enters y.enters);
       closes = closing t e lines a b b' d' x.served y.more y.rest sent y.unsent

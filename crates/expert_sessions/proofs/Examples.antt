@@ -12,7 +12,7 @@ use Rattle.expert_wire.specs.Replies.{reply_text}
 use Rattle.expert_sessions.specs.declared.said.Said.{Said}
 use Rattle.expert_sessions.specs.declared.said.Said.TheVariants.{Replied, Bye, BadLine, BadWidth, NoMemory}
 use Rattle.expert_sessions.specs.Lines.{HasNoFeed, Exchange, lines_of, replies_of, said_line}
-use Rattle.expert_sessions.specs.Order.{Reading, IsAnswered, AreReadings, ReadsInTurn}
+use Rattle.expert_sessions.specs.Order.{OneRead, IsAnswered, AreReadings, ReadsInTurn}
 
 data State : Type 0 where
   New : State
@@ -44,18 +44,18 @@ module _ (t : NamedContext) (e : ℕ) (answer : Text) where
   held Past = Some (greeting t e)
   held Answered = Some (greeting t e ++ answer)
 
-  abbrev calls : State → Option ℕ
-  calls New = Some 0
-  calls Greeted = Some 0
-  calls Ready = Some 1
-  calls Past = Some 2
-  calls Answered = Some 2
+  abbrev reads : State → Option ℕ
+  reads New = Some 0
+  reads Greeted = Some 0
+  reads Ready = Some 1
+  reads Past = Some 2
+  reads Answered = Some 2
 
   abbrev faults : State → ℕ
   faults _ = 0
 
   abbrev WasAnswered : State → Type 0
-  WasAnswered now = IsAnswered left held calls faults faults t e New now
+  WasAnswered now = IsAnswered left held reads faults faults t e New now
 
   unanswered : (served : List Exchange) (rest : Text) → [] ≡ replies_of t.attributes served → HasNoFeed rest
       → 120 ∷ 10 ∷ 121 ∷ [] ≡ (lines_of served ++ rest) ++ 121 ∷ [] → ⊥
@@ -70,7 +70,7 @@ module _ (t : NamedContext) (e : ℕ) (answer : Text) where
       absurd (omega arith)
 
   -- where the second read comes, a whole line was not answered
-  not_ready : (now : State) → calls now ≡ Some 1 → WasAnswered now → ⊥
+  not_ready : (now : State) → reads now ≡ Some 1 → WasAnswered now → ⊥
   not_ready New one a = cc
   not_ready Greeted one a = cc
   not_ready Ready one a = unanswered a.served a.rest
@@ -79,14 +79,14 @@ module _ (t : NamedContext) (e : ℕ) (answer : Text) where
   not_ready Past one a = cc
   not_ready Answered one a = cc
 
-  second : (now : State) (rs : List (Reading State)) → calls now ≡ Some 1
-      → AreReadings left held calls faults faults WasAnswered now Answered rs → ⊥
+  second : (now : State) (rs : List (OneRead State)) → reads now ≡ Some 1
+      → AreReadings left held reads faults faults WasAnswered now Answered rs → ⊥
   second now [] one x = let two : Some 2 ≡ Some 1 = x.uncounted ∙ one in cc
   second now (r ∷ rs) one x = not_ready r.before (x.0.uncounted ∙ one) x.1
 
-  reads_on : ReadsInTurn left held calls faults faults t e New Answered → ⊥
+  reads_on : ReadsInTurn left held reads faults faults t e New Answered → ⊥
   reads_on x = at x.0 x.1
     where
-      at : (rs : List (Reading State)) → AreReadings left held calls faults faults WasAnswered New Answered rs → ⊥
+      at : (rs : List (OneRead State)) → AreReadings left held reads faults faults WasAnswered New Answered rs → ⊥
       at [] x = let two : Some 2 ≡ Some 0 = x.uncounted in cc
       at (r ∷ rs) x = second r.after rs (x.2.counted ∙ ap (option_map one_more) x.0.uncounted) x.3

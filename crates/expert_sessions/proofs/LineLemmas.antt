@@ -21,10 +21,10 @@ use Rattle.expert_wire.specs.declared.requests.Request.TheVariants.{Quit as Quit
 use Rattle.expert_wire.specs.declared.requests.RequestFault.{RequestFault}
 use Rattle.expert_sessions.specs.declared.said.Said.{Said}
 use Rattle.expert_sessions.specs.declared.said.Said.TheVariants.{Replied, Bye, BadLine, BadWidth, NoMemory}
-use Rattle.expert_sessions.specs.Lines.{Asks, LacksMemory, Answers, Exchange, IsExchange, lines_of, replies_of, entries_of, turns_of}
+use Rattle.expert_sessions.specs.Lines.{Asks, LacksMemory, Says, Exchange, IsExchange, lines_of, replies_of, entries_of, turns_of}
 use Rattle.expert_sessions.specs.Lines.{said_line, before_last}
-use Rattle.expert_sessions.specs.Moves.{Wire, Moves, IsQuiet}
-use Rattle.expert_sessions.specs.Courses.{Writes, HasFeedAt}
+use Rattle.expert_sessions.specs.Moves.{EndState, Moves, IsQuiet}
+use Rattle.expert_sessions.specs.Courses.{SendsText, HasFeedAt}
 
 -- ---- answers
 
@@ -40,7 +40,7 @@ lacks-not_quit e form turns h = elim h as (λ _. form ≢ Ok QuitAsked) [
 ]
 
 -- only `quit` gets `bye`
-pub not_bye : (e : ℕ) (form : Result Request RequestFault) (said : Said) (made : List SetEntry) (turns : ℕ) → Answers e form said made turns
+pub not_bye : (e : ℕ) (form : Result Request RequestFault) (said : Said) (made : List SetEntry) (turns : ℕ) → Says e form said made turns
     → said ≢ Bye → form ≢ Ok QuitAsked
 not_bye e form (Replied reply) made turns h n = asks-not_quit e form h.0 h.1
 not_bye e form Bye made turns h n = absurd (n refl)
@@ -49,8 +49,8 @@ not_bye e form BadWidth made turns h n = λ q. let p = h.0 in cc
 not_bye e form NoMemory made turns h n = lacks-not_quit e form turns h.0
 
 pub bye_quits : (e : ℕ) (form : Result Request RequestFault) (said : Said) (made : List SetEntry) (turns : ℕ)
-    → Answers e form said made turns → said ≡ Bye → form ≡ Ok QuitAsked
-bye_quits e form said made turns h b = let q : Answers e form Bye made turns = subst (λ s. Answers e form s made turns) b h in q.0
+    → Says e form said made turns → said ≡ Bye → form ≡ Ok QuitAsked
+bye_quits e form said made turns h b = let q : Says e form Bye made turns = subst (λ s. Says e form s made turns) b h in q.0
 
 -- a line takes one turn at most
 lacks-few : (e : ℕ) (form : Result Request RequestFault) (turns : ℕ) → LacksMemory e form turns → turns ≤ 1
@@ -59,24 +59,24 @@ lacks-few e form turns h = elim h as (λ _. turns ≤ 1) [
   | inr unread ↦ (let none = unread.1 in omega arith)
 ]
 
-answers-few : (e : ℕ) (form : Result Request RequestFault) (said : Said) (made : List SetEntry) (turns : ℕ) → Answers e form said made turns
+says-few : (e : ℕ) (form : Result Request RequestFault) (said : Said) (made : List SetEntry) (turns : ℕ) → Says e form said made turns
     → turns ≤ 1
-answers-few e form (Replied reply) made turns h = let one = h.3 in omega arith
-answers-few e form Bye made turns h = let none = h.2 in omega arith
-answers-few e form BadLine made turns h = let none = h.2 in omega arith
-answers-few e form BadWidth made turns h = let none = h.2 in omega arith
-answers-few e form NoMemory made turns h = lacks-few e form turns h.0
+says-few e form (Replied reply) made turns h = let one = h.3 in omega arith
+says-few e form Bye made turns h = let none = h.2 in omega arith
+says-few e form BadLine made turns h = let none = h.2 in omega arith
+says-few e form BadWidth made turns h = let none = h.2 in omega arith
+says-few e form NoMemory made turns h = lacks-few e form turns h.0
 
 pub turns_of-few : (n e : ℕ) (xs : List Exchange) → All (IsExchange n e) xs → turns_of xs ≤ length xs
 turns_of-few n e [] h = omega arith
 turns_of-few n e (x ∷ xs) h =
-    let first = answers-few e (request_form x.line n) x.said x.made x.turns (All-head (IsExchange n e) x xs h).answered in
+    let first = says-few e (request_form x.line n) x.said x.made x.turns (All-head (IsExchange n e) x xs h).answered in
     let others = turns_of-few n e xs (All-tail (IsExchange n e) x xs h) in
     omega arith
 
 -- the bytes before the first line feed are a line that was answered
 pub is-exchange : (n e : ℕ) (bytes : Text) (at : ℕ) (said : Said) (made : List SetEntry) (turns : ℕ) → HasFeedAt bytes at → at ≤ LINE_BYTES
-    → Answers e (request_form (take at bytes) n) said made turns
+    → Says e (request_form (take at bytes) n) said made turns
     → IsExchange n e (record { line = take at bytes; said = said; made = made; turns = turns })
 is-exchange n e bytes at said made turns feed few answered = record {
   short = let long = length-take at bytes in let low = min-le_left at (length bytes) in omega arith;
@@ -122,37 +122,38 @@ All-one P x h = All-cons P x [] h (All-nil P)
 -- ---- writes
 
 -- what succeeded was sent whole
-pub sent_whole : {a b : Wire} {text : Text} (r : Result (Unit {0}) Put) → Writes a b text r → is_err r ≡ false → Moves a b [] text
+pub sent_whole : {a b : EndState} {text : Text} (r : Result (Unit {0}) Put) → SendsText a b text r → is_err r ≡ false → Moves a b [] text
 sent_whole {a} {b} {text} (Ok u) w e = subst (λ z. Moves a b [] z)
     (sym (w.split ∙ ap (λ z. w.sent ++ z) w.whole ∙ append-nil w.sent)) w.moves
 sent_whole (Err x) w e = cc
 
-pub sent_quiet : {a b : Wire} {text : Text} (r : Result (Unit {0}) Put) → Writes a b text r → is_err r ≡ false → IsQuiet a b
-sent_quiet (Ok u) w e = record { reads = w.reads; writes = w.quiet }
+pub sent_quiet : {a b : EndState} {text : Text} (r : Result (Unit {0}) Put) → SendsText a b text r → is_err r ≡ false → IsQuiet a b
+sent_quiet (Ok u) w e = record { read_faults = w.read_faults; write_faults = w.quiet }
 sent_quiet (Err x) w e = cc
 
-pub write_rose : {a b : Wire} {text : Text} (r : Result (Unit {0}) Put) → Writes a b text r → is_err r ≡ true → Rose a.writes b.writes
+pub write_rose : {a b : EndState} {text : Text} (r : Result (Unit {0}) Put) → SendsText a b text r → is_err r ≡ true
+    → Rose a.write_faults b.write_faults
 write_rose (Ok u) w e = cc
 write_rose (Err x) w e = w.failed
 
 -- what stands beside a sink stays: at an end that is how often it was read, and its count of faults
-module _ (calls calls' : Option ℕ) (faults faults' : ℕ) (aside aside' : Asked) (same : aside' ≡ aside)
-    (before : aside ≡ record { reads = calls; faults = faults }) (after : aside' ≡ record { reads = calls'; faults = faults' }) where
-  pub calls-kept : calls' ≡ calls
-  calls-kept = ap (λ (asked : Asked). asked.reads) (sym after ∙ same ∙ before)
+module _ (reads reads' : Option ℕ) (faults faults' : ℕ) (aside aside' : Asked) (same : aside' ≡ aside)
+    (before : aside ≡ record { reads = reads; faults = faults }) (after : aside' ≡ record { reads = reads'; faults = faults' }) where
+  pub reads-kept : reads' ≡ reads
+  reads-kept = ap (λ (asked : Asked). asked.reads) (sym after ∙ same ∙ before)
 
   faults-kept : faults' ≡ faults
   faults-kept = ap (λ (asked : Asked). asked.faults) (sym after ∙ same ∙ before)
 
 -- a call that writes leaves alone what stands beside a sink: at an end that is what is left to read
-pub writes-from : (a b : Wire) (text : Text) (r : Result (Unit {0}) Put) (other other' : Option Text) (calls calls' : Option ℕ)
+pub writes-from : (a b : EndState) (text : Text) (r : Result (Unit {0}) Put) (other other' : Option Text) (reads reads' : Option ℕ)
     (aside aside' : Asked)
-    → OnOk r (Appends a.held b.held text) → AppendsFront a.held b.held text → OnOk r (b.writes ≡ a.writes)
-    → OnErr r (Rose a.writes b.writes) → a.writes ≤ b.writes → Keeps other other' → aside' ≡ aside
-    → other ≡ a.left → other' ≡ b.left → aside ≡ record { reads = calls; faults = a.reads }
-    → aside' ≡ record { reads = calls'; faults = b.reads } → Writes a b text r
-writes-from a b text (Ok u) other other' calls calls' aside aside' whole front quiet failed later keeps same p q u' v =
-    let still = faults-kept calls calls' a.reads b.reads aside aside' same u' v in
+    → OnOk r (Appends a.held b.held text) → AppendsFront a.held b.held text → OnOk r (b.write_faults ≡ a.write_faults)
+    → OnErr r (Rose a.write_faults b.write_faults) → a.write_faults ≤ b.write_faults → Keeps other other' → aside' ≡ aside
+    → other ≡ a.left → other' ≡ b.left → aside ≡ record { reads = reads; faults = a.read_faults }
+    → aside' ≡ record { reads = reads'; faults = b.read_faults } → SendsText a b text r
+writes-from a b text (Ok u) other other' reads reads' aside aside' whole front quiet failed later keeps same p q u' v =
+    let still = faults-kept reads reads' a.read_faults b.read_faults aside aside' same u' v in
     record {
       sent = text;
       unsent = [];
@@ -161,16 +162,16 @@ writes-from a b text (Ok u) other other' calls calls' aside aside' whole front q
         lost = subst (λ z. Consumes a.left z []) q
             (subst (λ z. Consumes z other' []) p (Consumes-kept other other other' [] (Consumes-nil other) keeps));
         gained = whole;
-        reads = omega arith;
-        writes = later;
+        read_faults = omega arith;
+        write_faults = later;
       };
       whole = refl;
       quiet = quiet;
       failed = tt;
-      reads = still;
+      read_faults = still;
     }
-writes-from a b text (Err e) other other' calls calls' aside aside' whole front quiet failed later keeps same p q u' v =
-    let still = faults-kept calls calls' a.reads b.reads aside aside' same u' v in
+writes-from a b text (Err e) other other' reads reads' aside aside' whole front quiet failed later keeps same p q u' v =
+    let still = faults-kept reads reads' a.read_faults b.read_faults aside aside' same u' v in
     record {
       sent = front.front;
       unsent = front.rest;
@@ -179,11 +180,11 @@ writes-from a b text (Err e) other other' calls calls' aside aside' whole front 
         lost = subst (λ z. Consumes a.left z []) q
             (subst (λ z. Consumes z other' []) p (Consumes-kept other other other' [] (Consumes-nil other) keeps));
         gained = front.gained;
-        reads = omega arith;
-        writes = later;
+        read_faults = omega arith;
+        write_faults = later;
       };
       whole = tt;
       quiet = tt;
       failed = failed;
-      reads = still;
+      read_faults = still;
     }

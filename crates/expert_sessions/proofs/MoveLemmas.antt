@@ -9,39 +9,40 @@ use Rattle.fca_io.specs.Faults.{Rose, one_more}
 use Rattle.fca_model.specs.Tables.{Text}
 use Rattle.fca_model.specs.Exploration.{SetEntry}
 use Rattle.expert_gate.specs.Desks.{one_less}
-use Rattle.expert_sessions.specs.Moves.{Wire, Moves, IsQuiet, Place, Enters, Takes, TakesAtMost}
-use Rattle.expert_sessions.specs.Courses.{Reads}
+use Rattle.expert_sessions.specs.Moves.{EndState, Moves, IsQuiet, DeskCount, Enters, Takes, TakesAtMost}
+use Rattle.expert_sessions.specs.Courses.{ReadsOn}
 
-pub Moves-nil : (a : Wire) → Moves a a [] []
-Moves-nil a = record { lost = Consumes-nil a.left; gained = Appends-nil a.held; reads = omega arith; writes = omega arith }
+pub Moves-nil : (a : EndState) → Moves a a [] []
+Moves-nil a = record { lost = Consumes-nil a.left; gained = Appends-nil a.held; read_faults = omega arith; write_faults = omega arith }
 
-pub Moves-trans : {a b c : Wire} {t t' s s' : Text} → Moves a b t s → Moves b c t' s' → Moves a c (t ++ t') (s ++ s')
+pub Moves-trans : {a b c : EndState} {t t' s s' : Text} → Moves a b t s → Moves b c t' s' → Moves a c (t ++ t') (s ++ s')
 Moves-trans x y = record {
   lost = Consumes-trans _ _ _ _ _ x.lost y.lost;
   gained = Appends-trans _ _ _ _ _ x.gained y.gained;
-  reads = let p = x.reads in let q = y.reads in omega arith;
-  writes = let p = x.writes in let q = y.writes in omega arith;
+  read_faults = let p = x.read_faults in let q = y.read_faults in omega arith;
+  write_faults = let p = x.write_faults in let q = y.write_faults in omega arith;
 }
 
-pub Moves-equal : {a b : Wire} {t t' s s' : Text} → t ≡ t' → s ≡ s' → Moves a b t s → Moves a b t' s'
+pub Moves-equal : {a b : EndState} {t t' s s' : Text} → t ≡ t' → s ≡ s' → Moves a b t s → Moves a b t' s'
 Moves-equal {a} {b} {t} {t'} {s} {s'} p q x = subst (λ z. Moves a b t' z) q (subst (λ z. Moves a b z s) p x)
 
-pub IsQuiet-nil : (a : Wire) → IsQuiet a a
-IsQuiet-nil a = record { reads = refl; writes = refl }
+pub IsQuiet-nil : (a : EndState) → IsQuiet a a
+IsQuiet-nil a = record { read_faults = refl; write_faults = refl }
 
-pub IsQuiet-trans : {a b c : Wire} → IsQuiet a b → IsQuiet b c → IsQuiet a c
-IsQuiet-trans x y = record { reads = y.reads ∙ x.reads; writes = y.writes ∙ x.writes }
+pub IsQuiet-trans : {a b c : EndState} → IsQuiet a b → IsQuiet b c → IsQuiet a c
+IsQuiet-trans x y = record { read_faults = y.read_faults ∙ x.read_faults; write_faults = y.write_faults ∙ x.write_faults }
 
 -- what two calls read stands one behind the other
-pub Reads-nil : (a : Wire) (ahead : Text) → Reads a a ahead ahead
-Reads-nil a ahead = record { taken = []; moves = Moves-nil a; joined = sym (append-nil ahead); writes = refl }
+pub ReadsOn-nil : (a : EndState) (ahead : Text) → ReadsOn a a ahead ahead
+ReadsOn-nil a ahead = record { taken = []; moves = Moves-nil a; joined = sym (append-nil ahead); write_faults = refl }
 
-pub Reads-trans : {a b c : Wire} {ahead ahead' ahead'' : Text} → Reads a b ahead ahead' → Reads b c ahead' ahead'' → Reads a c ahead ahead''
-Reads-trans {a} {b} {c} {ahead} x y = record {
+pub ReadsOn-trans : {a b c : EndState} {ahead ahead' ahead'' : Text} → ReadsOn a b ahead ahead' → ReadsOn b c ahead' ahead''
+    → ReadsOn a c ahead ahead''
+ReadsOn-trans {a} {b} {c} {ahead} x y = record {
   taken = x.taken ++ y.taken;
   moves = Moves-trans x.moves y.moves;
   joined = y.joined ∙ ap (λ z. z ++ y.taken) x.joined ∙ append_assoc ahead x.taken y.taken;
-  writes = y.writes ∙ x.writes;
+  write_faults = y.write_faults ∙ x.write_faults;
 }
 
 -- ---- turns
@@ -81,14 +82,14 @@ leave-few (Some n) y z k p e =
     let bound = p.2 in
     (p.0 - 1, e ∙ ap one_less p.1, omega arith)
 
-pub Enters-nil : (c : Place) → Enters c c [] 0
+pub Enters-nil : (c : DeskCount) → Enters c c [] 0
 Enters-nil c = record { added = sym (append-nil c.entries); turns = Takes-nil c.turns }
 
-pub Enters-trans : {c d f : Place} {m m' : List SetEntry} {k l : ℕ} → Enters c d m k → Enters d f m' l → Enters c f (m ++ m') (k + l)
+pub Enters-trans : {c d f : DeskCount} {m m' : List SetEntry} {k l : ℕ} → Enters c d m k → Enters d f m' l → Enters c f (m ++ m') (k + l)
 Enters-trans {c} {d} {f} {m} {m'} {k} {l} x y = record {
   added = y.added ∙ ap (λ z. z ++ m') x.added ∙ append_assoc c.entries m m';
   turns = Takes-trans k l c.turns d.turns f.turns x.turns y.turns;
 }
 
-pub Enters-equal : {c d : Place} {m m' : List SetEntry} {k l : ℕ} → m ≡ m' → k ≡ l → Enters c d m k → Enters c d m' l
+pub Enters-equal : {c d : DeskCount} {m m' : List SetEntry} {k l : ℕ} → m ≡ m' → k ≡ l → Enters c d m k → Enters c d m' l
 Enters-equal {c} {d} {m} {m'} {k} {l} e h x = subst (Enters c d m') h (subst (λ z. Enters c d z k) e x)

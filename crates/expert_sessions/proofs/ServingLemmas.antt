@@ -14,7 +14,7 @@ use Rattle.turn_lock.proofs.ClosingLemmas.{length-roll}
 use Rattle.expert_gate.specs.Turns.{HasClosed}
 use Rattle.expert_gate.proofs.SeatLemmas.{EachSeat-length}
 use Rattle.expert_sessions.specs.declared.ended.Ended.{Ended}
-use Rattle.expert_sessions.specs.Moves.{Wire, TakesAtMost, wire_of}
+use Rattle.expert_sessions.specs.Moves.{EndState, TakesAtMost, end_state_of}
 use Rattle.expert_sessions.specs.Order.{ReadsInTurn}
 use Rattle.expert_sessions.specs.Talks.{HasTalked}
 use Rattle.expert_gate.specs.Seats.{EachSeat}
@@ -35,7 +35,7 @@ at_number P e p q r holds same number is =
     let badges : badge q ≡ badge p = cc in
     subst P (number ∙ sym (ap (λ (k : Badge Opening). k.number) badges) ∙ sym (ap (λ (k : Known Opening SetEntry). k.number) is)) holds
 
-pub at_pass : (t : NamedContext) (e lines : ℕ) (a b : Wire) (p q r : Known Opening SetEntry) (gate : Lock Opening) (ended : Ended)
+pub at_pass : (t : NamedContext) (e lines : ℕ) (a b : EndState) (p q r : Known Opening SetEntry) (gate : Lock Opening) (ended : Ended)
     → HasTalked t e lines a b (record { entries = p.own; turns = Some (p.turns - p.made) })
     (record { entries = q.own; turns = Some (q.turns - q.made) }) ended
     → TakesAtMost (lines + 1) (Some (p.turns - p.made)) (Some (q.turns - q.made))
@@ -81,21 +81,22 @@ roll-numbers gate (p ∷ ps) e =
     let tail : map badge ps ≡ badges gate.id (Some gate.base) gate.turns 2 (gate.passes - 1) = cc in
     (ap (λ (b : Badge Opening). b.number) head, badges-numbers gate.id (Some gate.base) gate.turns 2 (gate.passes - 1) ps tail)
 
-module _ {E : Type 0} (left held : E → Option Text) (calls : E → Option ℕ) (reads writes : E → ℕ) (t : NamedContext) (lines : ℕ) where
+module _ {E : Type 0} (left held : E → Option Text) (reads : E → Option ℕ) (read_faults write_faults : E → ℕ) (t : NamedContext)
+    (lines : ℕ) where
   abbrev pub passes : List (SessionSeat E) → List (Known Opening SetEntry)
   passes seats = map (λ seat. seat.pass) seats
 
   abbrev pub ends : List (SessionSeat E) → List E
   ends seats = map (λ seat. seat.end) seats
 
-  abbrev pub endings : List (SessionSeat E) → List Ended
-  endings seats = map (λ seat. seat.ended) seats
+  abbrev pub all_ended : List (SessionSeat E) → List Ended
+  all_ended seats = map (λ seat. seat.ended) seats
 
-  abbrev wire : E → Wire
-  wire end = wire_of left held reads writes end
+  abbrev end_state : E → EndState
+  end_state end = end_state_of left held read_faults write_faults end
 
   -- no session changes a badge
-  pub badges_kept : (olds news : List (SessionSeat E)) → EachSeat (HasSat left held calls reads writes t lines) olds news
+  pub badges_kept : (olds news : List (SessionSeat E)) → EachSeat (HasSat left held reads read_faults write_faults t lines) olds news
       → map badge (passes news) ≡ map badge (passes olds)
   badges_kept [] [] h = refl
   badges_kept [] (new ∷ news) h = absurd h
@@ -106,26 +107,27 @@ module _ {E : Type 0} (left held : E → Option Text) (calls : E → Option ℕ)
 
   each_talks : (H : List SetEntry) (k : ℕ) (olds news : List (SessionSeat E)) → HasNumbers k (passes news)
       → All (λ p. own H p.number ≡ p.own) (passes news)
-      → EachSeat (HasSat left held calls reads writes t lines) olds news
-      → EachTalks left held calls reads writes t lines H k (ends olds) (ends news) (endings news)
+      → EachSeat (HasSat left held reads read_faults write_faults t lines) olds news
+      → EachTalks left held reads read_faults write_faults t lines H k (ends olds) (ends news) (all_ended news)
   each_talks H k [] [] numbers own_is h = tt
   each_talks H k [] (new ∷ news) numbers own_is h = absurd h
   each_talks H k (old ∷ olds) [] numbers own_is h = absurd h
   each_talks H k (old ∷ olds) (new ∷ news) numbers own_is h =
       let entries : new.pass.own ≡ own H k = sym (All-head (λ p. own H p.number ≡ p.own) new.pass (passes news) own_is)
       ∙ ap (own H) numbers.0 in (
-        subst (λ es. HasTalked t k lines (wire old.end) (wire new.end) (entered []) (entered es) new.ended) entries
-            (subst (λ n. HasTalked t n lines (wire old.end) (wire new.end) (entered []) (entered new.pass.own) new.ended) numbers.0
+        subst (λ es. HasTalked t k lines (end_state old.end) (end_state new.end) (entered []) (entered es) new.ended) entries
+            (subst (λ n. HasTalked t n lines (end_state old.end) (end_state new.end) (entered [])
+            (entered new.pass.own) new.ended) numbers.0
             h.0.talk),
-        subst (λ n. ReadsInTurn left held calls reads writes t n old.end new.end) numbers.0 h.0.order,
+        subst (λ n. ReadsInTurn left held reads read_faults write_faults t n old.end new.end) numbers.0 h.0.order,
         each_talks H (suc k) olds news numbers.1 (All-tail (λ p. own H p.number ≡ p.own) new.pass (passes news) own_is) h.1,
       )
 
   -- the gate was closed
   pub talks : (gate : Lock Opening) (H : List SetEntry) (olds news : List (SessionSeat E)) → map badge (passes olds) ≡ roll gate
       → HasClosed gate.base H (passes news)
-      → EachSeat (HasSat left held calls reads writes t lines) olds news
-      → EachTalks left held calls reads writes t lines H 1 (ends olds) (ends news) (endings news)
+      → EachSeat (HasSat left held reads read_faults write_faults t lines) olds news
+      → EachTalks left held reads read_faults write_faults t lines H 1 (ends olds) (ends news) (all_ended news)
   talks gate H olds news e closed h = each_talks H 1 olds news (roll-numbers gate (passes news) (badges_kept olds news h ∙ e)) closed.own h
 
   -- the seats of passes that have made no turn
@@ -141,35 +143,39 @@ module _ {E : Type 0} (left held : E → Option Text) (calls : E → Option ℕ)
 
 -- ---- the passes of a gate
 
-module _ {E : Type 0} (left held : E → Option Text) (calls : E → Option ℕ) (reads writes : E → ℕ) (t t' : NamedContext) (lines lines' : ℕ)
+module _ {E : Type 0} (left held : E → Option Text) (reads : E → Option ℕ) (read_faults write_faults : E → ℕ) (t t' : NamedContext)
+    (lines lines' : ℕ)
     (gate : Lock Opening) (ps qs : List (Known Opening SetEntry)) (olds news : List (SessionSeat E))
     (some : 1 ≤ gate.passes) (roll_is : map badge ps ≡ roll gate) (fill_seats : map (λ (seat : SessionSeat E). seat.pass) olds ≡ ps)
-    (split_seats : qs ≡ map (λ (seat : SessionSeat E). seat.pass) news)
-    (sat : EachSeat (HasSat left held calls reads writes t' lines') olds news) where
+    (split_into : qs ≡ map (λ (seat : SessionSeat E). seat.pass) news)
+    (sat : EachSeat (HasSat left held reads read_faults write_faults t' lines') olds news) where
   -- there are as many seats as passes, before and afterwards
   pub length-news : length news ≡ gate.passes
-  length-news = EachSeat-length (HasSat left held calls reads writes t' lines') olds news sat
+  length-news = EachSeat-length (HasSat left held reads read_faults write_faults t' lines') olds news sat
       ∙ sym (length-map olds (λ (seat : SessionSeat E). seat.pass)) ∙ ap length fill_seats ∙ length-roll gate ps some roll_is
 
   -- the passes come back with their badges
   pub roll_kept : map badge qs ≡ roll gate
-  roll_kept = ap (map badge) split_seats ∙ badges_kept left held calls reads writes t' lines' olds news sat ∙ ap (map badge) fill_seats
+  roll_kept = ap (map badge) split_into ∙ badges_kept left held reads read_faults write_faults t' lines' olds news sat
+      ∙ ap (map badge) fill_seats
       ∙ roll_is
 
   -- what the closed gate shows
   module _ (H : List SetEntry) (closed : HasClosed gate.base H qs) where
-    pub talks_told : (before after : List E) (endings : List Ended) → t' ≡ t → lines' ≡ lines
+    pub talks_told : (before after : List E) (all_ended : List Ended) → t' ≡ t → lines' ≡ lines
         → map (λ (seat : SessionSeat E). seat.end) olds ≡ before → after ≡ map (λ (seat : SessionSeat E). seat.end) news
-        → endings ≡ map (λ (seat : SessionSeat E). seat.ended) news → EachTalks left held calls reads writes t lines H 1 before after endings
-    talks_told before after endings table few ends_before ends_after ended =
-        let all = talks left held calls reads writes t' lines' gate H olds news (ap (map badge) fill_seats ∙ roll_is)
-        (subst (HasClosed gate.base H) split_seats closed) sat in
-        subst (λ z. EachTalks left held calls reads writes z lines H 1 before after endings) table
-        (subst (λ z. EachTalks left held calls reads writes t' z H 1 before after endings) few
-        (subst (λ z. EachTalks left held calls reads writes t' lines' H 1 z after endings) ends_before
-        (subst (λ z. EachTalks left held calls reads writes t' lines' H 1 (map (λ (seat : SessionSeat E). seat.end) olds) z endings)
+        → all_ended ≡ map (λ (seat : SessionSeat E). seat.ended) news
+        → EachTalks left held reads read_faults write_faults t lines H 1 before after all_ended
+    talks_told before after all_ended table few ends_before ends_after ended =
+        let all = talks left held reads read_faults write_faults t' lines' gate H olds news (ap (map badge) fill_seats ∙ roll_is)
+        (subst (HasClosed gate.base H) split_into closed) sat in
+        subst (λ z. EachTalks left held reads read_faults write_faults z lines H 1 before after all_ended) table
+        (subst (λ z. EachTalks left held reads read_faults write_faults t' z H 1 before after all_ended) few
+        (subst (λ z. EachTalks left held reads read_faults write_faults t' lines' H 1 z after all_ended) ends_before
+        (subst (λ z. EachTalks left held reads read_faults write_faults t' lines' H 1
+        (map (λ (seat : SessionSeat E). seat.end) olds) z all_ended)
         (sym ends_after)
-        (subst (λ z. EachTalks left held calls reads writes t' lines' H 1 (map (λ (seat : SessionSeat E). seat.end) olds)
+        (subst (λ z. EachTalks left held reads read_faults write_faults t' lines' H 1 (map (λ (seat : SessionSeat E). seat.end) olds)
         (map (λ (seat : SessionSeat E). seat.end) news) z) (sym ended) all))))
 
     pub others_told : (e : ℕ) → (e ≡ 0) ⊎ (gate.passes < e) → own H e ≡ []
@@ -177,6 +183,6 @@ module _ {E : Type 0} (left held : E → Option Text) (calls : E → Option ℕ)
       | inl none ↦ inl none
       | inr more ↦ inr (
           let many = length-news in
-          let same : length qs ≡ length news = ap length split_seats ∙ length-map news (λ (seat : SessionSeat E). seat.pass) in
+          let same : length qs ≡ length news = ap length split_into ∙ length-map news (λ (seat : SessionSeat E). seat.pass) in
           omega arith)
     ])

@@ -12,7 +12,7 @@ use Rattle.expert_wire.specs.Greetings.{greeting}
 use Rattle.expert_sessions.specs.Lines.{HasNoFeed, BeginsWithEvent, Exchange, IsExchange, IsQuit, IsNotQuit, lines_of, replies_of}
 use Rattle.expert_sessions.specs.Lines.{entries_of, turns_of, said_line}
 use Rattle.expert_sessions.specs.Talks.{Course, GoesOn, IsPartOfLine, IsTooLong, Stops}
-use Rattle.expert_sessions.specs.Moves.{Wire, Moves, IsQuiet, Place, Enters}
+use Rattle.expert_sessions.specs.Moves.{EndState, Moves, IsQuiet, DeskCount, Enters}
 use Rattle.expert_sessions.specs.declared.said.Said.{Said}
 use Rattle.expert_sessions.specs.declared.said.Said.TheVariants.{Replied, NoMemory}
 use Rattle.expert_sessions.specs.declared.ended.Ended.{Ended}
@@ -21,22 +21,22 @@ use Rattle.expert_sessions.specs.declared.ended.Ended.TheVariants.{Quit, EndOfIn
 -- ---- one call
 
 -- a front of the text was sent, and all of it if the call succeeded
-pub record Writes (a b : Wire) (text : Text) (result : Result (Unit {0}) Put) : Type 0 where
+pub record SendsText (a b : EndState) (text : Text) (result : Result (Unit {0}) Put) : Type 0 where
   pub sent : Text
   pub unsent : Text
   pub split : text ≡ sent ++ unsent
   pub moves : Moves a b [] sent
   pub whole : OnOk result (unsent ≡ [])
-  pub quiet : OnOk result (b.writes ≡ a.writes)
-  pub failed : OnErr result (Rose a.writes b.writes)
-  pub reads : b.reads ≡ a.reads
+  pub quiet : OnOk result (b.write_faults ≡ a.write_faults)
+  pub failed : OnErr result (Rose a.write_faults b.write_faults)
+  pub read_faults : b.read_faults ≡ a.read_faults
 
 -- what was taken stands behind the bytes that were read ahead
-pub record Reads (a b : Wire) (ahead ahead' : Text) : Type 0 where
+pub record ReadsOn (a b : EndState) (ahead ahead' : Text) : Type 0 where
   pub taken : Text
   pub moves : Moves a b taken []
   pub joined : ahead' ≡ ahead ++ taken
-  pub writes : b.writes ≡ a.writes
+  pub write_faults : b.write_faults ≡ a.write_faults
 
 -- the first line feed stands at this place
 pub record HasFeedAt (bytes : Text) (at : ℕ) : Type 0 where
@@ -45,10 +45,10 @@ pub record HasFeedAt (bytes : Text) (at : ℕ) : Type 0 where
   pub inside : at < length bytes
 
 -- why no whole line was read
-abbrev pub LacksLine : Wire → Wire → Text → Ended → Type 0
-LacksLine a b ahead EndOfInput = IsAtEnd b.left × IsPartOfLine ahead × (b.reads ≡ a.reads)
-LacksLine a b ahead ReadFault = Rose a.reads b.reads × IsPartOfLine ahead
-LacksLine a b ahead LongLine = IsTooLong ahead × (b.reads ≡ a.reads)
+abbrev pub LacksLine : EndState → EndState → Text → Ended → Type 0
+LacksLine a b ahead EndOfInput = IsAtEnd b.left × IsPartOfLine ahead × (b.read_faults ≡ a.read_faults)
+LacksLine a b ahead ReadFault = Rose a.read_faults b.read_faults × IsPartOfLine ahead
+LacksLine a b ahead LongLine = IsTooLong ahead × (b.read_faults ≡ a.read_faults)
 LacksLine a b ahead ended = ⊥
 
 -- ---- one line
@@ -60,7 +60,7 @@ said_of (Err NoTurnMemory) = Ok NoMemory
 said_of (Err NoTurn) = Err Spent
 
 -- one line was served that is not `quit`
-pub record Serves (t : NamedContext) (e : ℕ) (a b : Wire) (c d : Place) (ahead ahead' : Text) : Type 0 where
+pub record Serves (t : NamedContext) (e : ℕ) (a b : EndState) (c d : DeskCount) (ahead ahead' : Text) : Type 0 where
   pub exchange : Exchange
   pub is : IsExchange t.context.width e exchange
   pub asking : IsNotQuit t.context.width exchange
@@ -71,18 +71,19 @@ pub record Serves (t : NamedContext) (e : ℕ) (a b : Wire) (c d : Place) (ahead
   pub read : ahead ++ taken ≡ (exchange.line ++ line_end) ++ ahead'
 
 -- why no line is served after these, of which there is at most one
-abbrev pub HaltsAt : (n e : ℕ) → Wire → Wire → Place → Ended → List Exchange → Text → Text → Type 0
+abbrev pub HaltsAt : (n e : ℕ) → EndState → EndState → DeskCount → Ended → List Exchange → Text → Text → Type 0
 HaltsAt n e a b d Quit more rest unsent = (x : Exchange) × (more ≡ x ∷ []) × IsQuit n x × (unsent ≡ []) × IsQuiet a b
-HaltsAt n e a b d WriteFault more rest unsent = (x : Exchange) × (more ≡ x ∷ []) × Rose a.writes b.writes × (b.reads ≡ a.reads)
+HaltsAt n e a b d WriteFault more rest unsent = (x : Exchange) × (more ≡ x ∷ []) × Rose a.write_faults b.write_faults
+    × (b.read_faults ≡ a.read_faults)
 HaltsAt n e a b d EndOfInput more rest unsent = (more ≡ []) × (unsent ≡ []) × IsAtEnd b.left × IsPartOfLine rest × IsQuiet a b
-HaltsAt n e a b d ReadFault more rest unsent = (more ≡ []) × (unsent ≡ []) × Rose a.reads b.reads × IsPartOfLine rest
-    × (b.writes ≡ a.writes)
+HaltsAt n e a b d ReadFault more rest unsent = (more ≡ []) × (unsent ≡ []) × Rose a.read_faults b.read_faults × IsPartOfLine rest
+    × (b.write_faults ≡ a.write_faults)
 HaltsAt n e a b d LongLine more rest unsent = (more ≡ []) × (unsent ≡ []) × IsTooLong rest × IsQuiet a b
 HaltsAt n e a b d Spent more rest unsent = (more ≡ []) × (unsent ≡ []) × (d.turns ≡ Some 0) × BeginsWithEvent n e rest × IsQuiet a b
 HaltsAt n e a b d ended more rest unsent = ⊥
 
 -- no line is served after this one
-pub record Halts (t : NamedContext) (e : ℕ) (a b : Wire) (c d : Place) (ahead : Text) (ended : Ended) : Type 0 where
+pub record Halts (t : NamedContext) (e : ℕ) (a b : EndState) (c d : DeskCount) (ahead : Text) (ended : Ended) : Type 0 where
   pub more : List Exchange
   pub rest : Text
   pub taken : Text
@@ -98,7 +99,7 @@ pub record Halts (t : NamedContext) (e : ℕ) (a b : Wire) (c d : Place) (ahead 
 -- ---- all lines
 
 -- the expert was greeted, and then k lines were served that are not `quit`
-pub record Goes (t : NamedContext) (e : ℕ) (a b : Wire) (c d : Place) (ahead : Text) (k : ℕ) : Type 0 where
+pub record Goes (t : NamedContext) (e : ℕ) (a b : EndState) (c d : DeskCount) (ahead : Text) (k : ℕ) : Type 0 where
   pub served : List Exchange
   pub each : All (IsExchange t.context.width e) served
   pub asking : All (IsNotQuit t.context.width) served
@@ -110,16 +111,16 @@ pub record Goes (t : NamedContext) (e : ℕ) (a b : Wire) (c d : Place) (ahead :
   pub read : taken ≡ lines_of served ++ ahead
 
 -- why no line is served any more: no turn is left, or a reason that lies not in the desk
-abbrev pub Closes : (t : NamedContext) (e lines : ℕ) → Wire → Wire → Place → Ended → List Exchange → Text → Text → Text → Type 0
+abbrev pub Closes : (t : NamedContext) (e lines : ℕ) → EndState → EndState → DeskCount → Ended → List Exchange → Text → Text → Text → Type 0
 Closes t e lines a b d Spent served rest sent unsent = (d.turns ≡ Some 0) × GoesOn t.context.width lines served
     × BeginsWithEvent t.context.width e rest × (unsent ≡ []) × IsQuiet a b
 Closes t e lines a b d ended served rest sent unsent = Stops t e lines a b ended served rest sent unsent
 
 -- all lines were served, before the expert leaves
-pub record HasServed (t : NamedContext) (e lines : ℕ) (a b : Wire) (c d : Place) (ended : Ended) : Type 0 where
+pub record HasServed (t : NamedContext) (e lines : ℕ) (a b : EndState) (c d : DeskCount) (ended : Ended) : Type 0 where
   pub taken : Text
   pub sent : Text
   pub moves : Moves a b taken sent
-  pub course : Course t e lines taken sent (Rose a.writes b.writes)
+  pub course : Course t e lines taken sent (Rose a.write_faults b.write_faults)
   pub enters : Enters c d (entries_of course.served) (turns_of course.served)
   pub closes : Closes t e lines a b d ended course.served course.rest sent course.unsent

@@ -41,13 +41,13 @@ abbrev pub LacksMemory : ℕ → Result Request RequestFault → ℕ → Type 0
 LacksMemory e form turns = ((event : SetEvent) × Asks e form event × (turns ≡ 1)) ⊎ (TakesMemory form × (turns ≡ 0))
 
 -- what was read is answered so, and these entries are made, in so many turns
-abbrev pub Answers : ℕ → Result Request RequestFault → Said → List SetEntry → ℕ → Type 0
-Answers e form (Replied reply) made turns = (event : SetEvent) × Asks e form event × (made ≡ record { event = event; reply = reply } ∷ [])
+abbrev pub Says : ℕ → Result Request RequestFault → Said → List SetEntry → ℕ → Type 0
+Says e form (Replied reply) made turns = (event : SetEvent) × Asks e form event × (made ≡ record { event = event; reply = reply } ∷ [])
     × (turns ≡ 1)
-Answers e form Bye made turns = (form ≡ Ok Quit) × (made ≡ []) × (turns ≡ 0)
-Answers e form BadLine made turns = (form ≡ Err Line) × (made ≡ []) × (turns ≡ 0)
-Answers e form BadWidth made turns = (form ≡ Err Width) × (made ≡ []) × (turns ≡ 0)
-Answers e form NoMemory made turns = LacksMemory e form turns × (made ≡ [])
+Says e form Bye made turns = (form ≡ Ok Quit) × (made ≡ []) × (turns ≡ 0)
+Says e form BadLine made turns = (form ≡ Err Line) × (made ≡ []) × (turns ≡ 0)
+Says e form BadWidth made turns = (form ≡ Err Width) × (made ≡ []) × (turns ≡ 0)
+Says e form NoMemory made turns = LacksMemory e form turns × (made ≡ [])
 
 -- the line of an answer, if the attributes have these names
 abbrev pub said_line : List Text → Said → Text
@@ -68,7 +68,7 @@ pub record Exchange : Type 0 where
 pub record IsExchange (n e : ℕ) (x : Exchange) : Type 0 where
   pub short : length x.line ≤ LINE_BYTES
   pub unbroken : HasNoFeed x.line
-  pub answered : Answers e (request_form x.line n) x.said x.made x.turns
+  pub answered : Says e (request_form x.line n) x.said x.made x.turns
 
 -- the text begins with a whole line that asks for an event of expert e
 pub record BeginsWithEvent (n e : ℕ) (text : Text) : Type 0 where

@@ -6,35 +6,36 @@ use Rattle.fca_model.specs.Exploration.{SetEntry}
 use Rattle.expert_gate.specs.Desks.{DeskState}
 
 -- an end: the bytes left and the bytes held, if they are known, and its counts of faults
-pub record Wire : Type 0 where
+pub record EndState : Type 0 where
   pub left : Option Text
   pub held : Option Text
-  pub reads : ℕ
-  pub writes : ℕ
+  pub read_faults : ℕ
+  pub write_faults : ℕ
 
 -- of ends that show what is left and what is held, and their counts of faults
-abbrev pub wire_of : {E : Type 0} → (left held : E → Option Text) (reads writes : E → ℕ) → E → Wire
-wire_of left held reads writes end = record { left = left end; held = held end; reads = reads end; writes = writes end }
+abbrev pub end_state_of : {E : Type 0} → (left held : E → Option Text) (read_faults write_faults : E → ℕ) → E → EndState
+end_state_of left held read_faults write_faults end =
+    record { left = left end; held = held end; read_faults = read_faults end; write_faults = write_faults end }
 
 -- these bytes were taken, and these were sent
-pub record Moves (a b : Wire) (taken sent : Text) : Type 0 where
+pub record Moves (a b : EndState) (taken sent : Text) : Type 0 where
   pub lost : Consumes a.left b.left taken
   pub gained : Appends a.held b.held sent
-  pub reads : a.reads ≤ b.reads
-  pub writes : a.writes ≤ b.writes
+  pub read_faults : a.read_faults ≤ b.read_faults
+  pub write_faults : a.write_faults ≤ b.write_faults
 
 -- no call of the end failed
-pub record IsQuiet (a b : Wire) : Type 0 where
-  pub reads : b.reads ≡ a.reads
-  pub writes : b.writes ≡ a.writes
+pub record IsQuiet (a b : EndState) : Type 0 where
+  pub read_faults : b.read_faults ≡ a.read_faults
+  pub write_faults : b.write_faults ≡ a.write_faults
 
 -- a desk: its entries, and the turns that are left, if turns are counted
-pub record Place : Type 0 where
+pub record DeskCount : Type 0 where
   pub entries : List SetEntry
   pub turns : Option ℕ
 
-abbrev pub place_of : DeskState → Place
-place_of desk = record { entries = desk.entries; turns = desk.left }
+abbrev pub desk_count_of : DeskState → DeskCount
+desk_count_of desk = record { entries = desk.entries; turns = desk.left }
 
 -- at most k turns were taken, if turns are counted
 abbrev pub TakesAtMost : ℕ → Option ℕ → Option ℕ → Type 0
@@ -47,6 +48,6 @@ Takes k None new = new ≡ None
 Takes k (Some turns) new = (left : ℕ) × (new ≡ Some left) × (turns ≡ left + k)
 
 -- these entries were made, in k turns
-pub record Enters (c d : Place) (made : List SetEntry) (k : ℕ) : Type 0 where
+pub record Enters (c d : DeskCount) (made : List SetEntry) (k : ℕ) : Type 0 where
   pub added : d.entries ≡ c.entries ++ made
   pub turns : Takes k c.turns d.turns

@@ -10,43 +10,43 @@ use Rattle.fca_io.specs.Faults.{one_more}
 use Rattle.fca_model.specs.Tables.{Text, NamedContext}
 use Rattle.expert_wire.specs.Greetings.{greeting}
 use Rattle.expert_sessions.specs.Lines.{HasNoFeed, Exchange, IsExchange, lines_of, replies_of}
-use Rattle.expert_sessions.specs.Moves.{Wire, Moves, wire_of}
+use Rattle.expert_sessions.specs.Moves.{EndState, Moves, end_state_of}
 
 -- an end before and after one read
-pub record Reading (E : Type 0) : Type 0 where
+pub record OneRead (E : Type 0) : Type 0 where
   pub before : E
   pub after : E
 
 -- over ends that show what is left and what is held, how often they were read, if they count that, and their counts of faults
-module _ {E : Type 0} (left held : E → Option Text) (calls : E → Option ℕ) (reads writes : E → ℕ) where
-  abbrev pub wire : E → Wire
-  wire end = wire_of left held reads writes end
+module _ {E : Type 0} (left held : E → Option Text) (reads : E → Option ℕ) (read_faults write_faults : E → ℕ) where
+  abbrev pub end_state : E → EndState
+  end_state end = end_state_of left held read_faults write_faults end
 
   -- from the state a to the state b the end was not read
   pub record ReadsNothing (a b : E) : Type 0 where
     pub kept : Consumes (left a) (left b) []
-    pub uncounted : calls b ≡ calls a
-    pub quiet : reads b ≡ reads a
+    pub uncounted : reads b ≡ reads a
+    pub quiet : read_faults b ≡ read_faults a
 
   -- it was read once, if it counts that, and nothing was sent
   pub record ReadsOnce (a b : E) : Type 0 where
     pub kept : Appends (held a) (held b) []
-    pub counted : calls b ≡ option_map one_more (calls a)
-    pub quiet : writes b ≡ writes a
+    pub counted : reads b ≡ option_map one_more (reads a)
+    pub quiet : write_faults b ≡ write_faults a
 
   -- from this state on to the last, it was read in these places and no other, and P held before each
-  abbrev pub AreReadings : (E → Type 0) → E → E → List (Reading E) → Type 0
+  abbrev pub AreReadings : (E → Type 0) → E → E → List (OneRead E) → Type 0
   AreReadings P now last [] = ReadsNothing now last
   AreReadings P now last (r ∷ rs) = ReadsNothing now r.before × P r.before × ReadsOnce r.before r.after × AreReadings P r.after last rs
 
   -- from the first state to the last, it was read only where P holds
   abbrev pub ReadsOnlyWhere : (E → Type 0) → E → E → Type 0
-  ReadsOnlyWhere P first last = (readings : List (Reading E)) × AreReadings P first last readings
+  ReadsOnlyWhere P first last = (readings : List (OneRead E)) × AreReadings P first last readings
 
   -- since the first state bytes were taken and nothing was sent, and behind those read ahead they end no line
   pub record AwaitsLine (ahead : Text) (first now : E) : Type 0 where
     pub taken : Text
-    pub moves : Moves (wire first) (wire now) taken []
+    pub moves : Moves (end_state first) (end_state now) taken []
     pub unbroken : HasNoFeed (ahead ++ taken)
 
   -- for one line, the end was read only where the line was not whole
@@ -59,7 +59,7 @@ module _ {E : Type 0} (left held : E → Option Text) (calls : E → Option ℕ)
     pub rest : Text
     pub each : All (IsExchange t.context.width e) served
     pub unbroken : HasNoFeed rest
-    pub moves : Moves (wire first) (wire now) (lines_of served ++ rest) (greeting t e ++ replies_of t.attributes served)
+    pub moves : Moves (end_state first) (end_state now) (lines_of served ++ rest) (greeting t e ++ replies_of t.attributes served)
 
   -- for a session, the end was read only where each whole line was answered
   abbrev pub ReadsInTurn : NamedContext → ℕ → E → E → Type 0

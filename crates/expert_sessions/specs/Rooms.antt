@@ -7,11 +7,11 @@ pub record IsEmpty {E : Type 0} (room : Room E) : Type 0 where
   pub seats : room.seats.items ≡ []
   pub passes : room.passes.items ≡ []
   pub ends : room.ends.items ≡ []
-  pub endings : room.endings.items ≡ []
+  pub ended : room.ended.items ≡ []
 
 -- each list has room for this many
 pub record HasRoom {E : Type 0} (count : ℕ) (room : Room E) : Type 0 where
   pub seats : count ≤ vec_capacity room.seats
   pub passes : count ≤ vec_capacity room.passes
   pub ends : count ≤ vec_capacity room.ends
-  pub endings : count ≤ vec_capacity room.endings
+  pub ended : count ≤ vec_capacity room.ended

@@ -4,7 +4,7 @@ use Rattle.fca_model.specs.Tables.{Text, NamedContext}
 use Rattle.fca_model.specs.Exploration.{SetEntry, own}
 use Rattle.explore_state.specs.History.{Opening}
 use Rattle.turn_lock.specs.Passes.{Lock, Belongs, IsFresh, badge}
-use Rattle.expert_sessions.specs.Moves.{Place, wire_of}
+use Rattle.expert_sessions.specs.Moves.{DeskCount, end_state_of}
 use Rattle.expert_sessions.specs.Order.{ReadsInTurn}
 use Rattle.expert_sessions.specs.Talks.{HasTalked}
 use Rattle.expert_sessions.specs.declared.ended.Ended.{Ended}
@@ -21,25 +21,28 @@ pub record Suits (gate : Lock Opening) (t : NamedContext) (lines : ℕ) : Type 0
   pub turns : lines + 1 < gate.turns
 
 -- a desk of which only the entries are shown
-abbrev pub entered : List SetEntry → Place
+abbrev pub entered : List SetEntry → DeskCount
 entered entries = record { entries = entries; turns = None }
 
 -- over ends that show what is left and what is held, how often they were read, if they count that, and their counts of faults
-module _ {E : Type 0} (left held : E → Option Text) (calls : E → Option ℕ) (reads writes : E → ℕ) (t : NamedContext) (lines : ℕ) where
+module _ {E : Type 0} (left held : E → Option Text) (reads : E → Option ℕ) (read_faults write_faults : E → ℕ) (t : NamedContext)
+    (lines : ℕ) where
   -- the expert of the seat's pass has talked over the seat's end, and never ran out of turns, which are not shown; the pass has the
   -- entries of the talk; and the end was read only where each whole line was answered
   pub record HasSat (old new : SessionSeat E) : Type 0 where
     pub same : badge new.pass ≡ badge old.pass
-    pub talk : HasTalked t new.pass.number lines (wire_of left held reads writes old.end) (wire_of left held reads writes new.end)
+    pub talk : HasTalked t new.pass.number lines (end_state_of left held read_faults write_faults old.end)
+        (end_state_of left held read_faults write_faults new.end)
         (entered []) (entered new.pass.own) new.ended
-    pub order : ReadsInTurn left held calls reads writes t new.pass.number old.end new.end
+    pub order : ReadsInTurn left held reads read_faults write_faults t new.pass.number old.end new.end
 
   -- expert k has talked over the first end, expert k + 1 over the next, and so on; their entries are their own ones of the
   -- history, none of them ran out of turns, and each end was read only where each whole line was answered
   abbrev pub EachTalks : List SetEntry → ℕ → List E → List E → List Ended → Type 0
   EachTalks H k [] [] [] = Unit {0}
-  EachTalks H k (a ∷ olds) (b ∷ news) (ended ∷ endings) =
-      HasTalked t k lines (wire_of left held reads writes a) (wire_of left held reads writes b) (entered []) (entered (own H k)) ended
-      × ReadsInTurn left held calls reads writes t k a b
-      × EachTalks H (suc k) olds news endings
+  EachTalks H k (a ∷ olds) (b ∷ news) (ended ∷ more) =
+      HasTalked t k lines (end_state_of left held read_faults write_faults a) (end_state_of left held read_faults write_faults b)
+      (entered []) (entered (own H k)) ended
+      × ReadsInTurn left held reads read_faults write_faults t k a b
+      × EachTalks H (suc k) olds news more
   EachTalks H k _ _ _ = ⊥

@@ -13,7 +13,7 @@ use Rattle.fca_model.specs.Exploration.{SetReply, SetEntry}
 use Rattle.expert_wire.specs.Greetings.{greeting}
 use Rattle.expert_sessions.specs.Lines.{HasNoFeed, BeginsWithEvent, Exchange, IsExchange, IsQuit, IsNotQuit, lines_of, replies_of}
 use Rattle.expert_sessions.specs.Lines.{entries_of, turns_of, before_last}
-use Rattle.expert_sessions.specs.Moves.{Wire, Moves, IsQuiet, Place, Enters}
+use Rattle.expert_sessions.specs.Moves.{EndState, Moves, IsQuiet, DeskCount, Enters}
 use Rattle.expert_sessions.specs.declared.ended.Ended.{Ended}
 use Rattle.expert_sessions.specs.declared.ended.Ended.TheVariants.{Quit, EndOfInput, ReadFault, WriteFault, LongLine, Limit, Spent, Memory}
 
@@ -63,17 +63,19 @@ abbrev pub LacksLastAnswer : NamedContext → ℕ → List Exchange → Text →
 LacksLastAnswer t e [] sent = ⊤
 LacksLastAnswer t e (x ∷ xs) sent = (part : Text) × (sent ≡ (greeting t e ++ replies_of t.attributes (before_last (x ∷ xs))) ++ part)
 
-module _ (t : NamedContext) (e lines : ℕ) (a b : Wire) where
+module _ (t : NamedContext) (e lines : ℕ) (a b : EndState) where
   -- why no further line was served, if neither turns nor memory ran out: a call of the end failed only if this is the reason
   abbrev pub Stops : Ended → List Exchange → Text → Text → Text → Type 0
   Stops Quit served rest sent unsent = HasQuit t.context.width served × (unsent ≡ []) × IsQuiet a b
   Stops EndOfInput served rest sent unsent = GoesOn t.context.width lines served × IsAtEnd b.left × IsPartOfLine rest × (unsent ≡ [])
       × IsQuiet a b
-  Stops ReadFault served rest sent unsent = GoesOn t.context.width lines served × Rose a.reads b.reads × IsPartOfLine rest × (unsent ≡ [])
-      × (b.writes ≡ a.writes)
+  Stops ReadFault served rest sent unsent = GoesOn t.context.width lines served × Rose a.read_faults b.read_faults × IsPartOfLine rest
+      × (unsent ≡ [])
+      × (b.write_faults ≡ a.write_faults)
   Stops LongLine served rest sent unsent = GoesOn t.context.width lines served × IsTooLong rest × (unsent ≡ []) × IsQuiet a b
   Stops Limit served rest sent unsent = All (IsNotQuit t.context.width) served × (length served ≡ lines) × (unsent ≡ []) × IsQuiet a b
-  Stops WriteFault served rest sent unsent = Rose a.writes b.writes × LacksLastAnswer t e served sent × (b.reads ≡ a.reads)
+  Stops WriteFault served rest sent unsent = Rose a.write_faults b.write_faults × LacksLastAnswer t e served sent
+      × (b.read_faults ≡ a.read_faults)
   Stops Spent served rest sent unsent = ⊥
   Stops Memory served rest sent unsent = ⊥
 
@@ -83,10 +85,10 @@ module _ (t : NamedContext) (e lines : ℕ) (a b : Wire) where
       × IsQuiet a b) ⊎ ((reason : Ended) × Stops reason served rest sent unsent)
 
   -- the ending: if memory ran out in the leave, the session stopped for another reason
-  abbrev pub Ends : Place → Ended → List Exchange → Text → Text → Text → Type 0
-  Ends d Spent served rest sent unsent = (d.turns ≡ Some 0) × Pauses served rest sent unsent
-  Ends d Memory served rest sent unsent = (reason : Ended) × Stops reason served rest sent unsent
-  Ends d ended served rest sent unsent = Stops ended served rest sent unsent
+  abbrev pub EndsTalk : DeskCount → Ended → List Exchange → Text → Text → Text → Type 0
+  EndsTalk d Spent served rest sent unsent = (d.turns ≡ Some 0) × Pauses served rest sent unsent
+  EndsTalk d Memory served rest sent unsent = (reason : Ended) × Stops reason served rest sent unsent
+  EndsTalk d ended served rest sent unsent = Stops ended served rest sent unsent
 
 -- an entry in which expert e leaves stands last
 abbrev pub AndLeaves : ℕ → List SetEntry → List SetEntry → Type 0
@@ -100,14 +102,14 @@ Makes e Memory entries k made turns = (made ≡ entries) × (turns ≡ k + 1)
 Makes e ended entries k made turns = AndLeaves e entries made × (turns ≡ k + 1)
 
 -- a session that had room for a line
-pub record IsServed (t : NamedContext) (e lines : ℕ) (a b : Wire) (d : Place) (taken : Text) (made : List SetEntry) (turns : ℕ)
+pub record IsServed (t : NamedContext) (e lines : ℕ) (a b : EndState) (d : DeskCount) (taken : Text) (made : List SetEntry) (turns : ℕ)
     (sent : Text) (ended : Ended) : Type 0 where
-  pub course : Course t e lines taken sent (Rose a.writes b.writes)
+  pub course : Course t e lines taken sent (Rose a.write_faults b.write_faults)
   pub entries : Makes e ended (entries_of course.served) (turns_of course.served) made turns
-  pub ending : Ends t e lines a b d ended course.served course.rest sent course.unsent
+  pub ending : EndsTalk t e lines a b d ended course.served course.rest sent course.unsent
 
 -- a session that had none
-pub record IsRefused (a b : Wire) (taken : Text) (made : List SetEntry) (turns : ℕ) (sent : Text) (ended : Ended) : Type 0 where
+pub record IsRefused (a b : EndState) (taken : Text) (made : List SetEntry) (turns : ℕ) (sent : Text) (ended : Ended) : Type 0 where
   pub nothing_taken : taken ≡ []
   pub nothing_made : made ≡ []
   pub no_turn : turns ≡ 0
@@ -117,12 +119,12 @@ pub record IsRefused (a b : Wire) (taken : Text) (made : List SetEntry) (turns :
 
 -- the talk of expert e, who may have this many lines served, over the table and between these two states of the end, which leaves
 -- the desk like d
-abbrev pub Talk : NamedContext → ℕ → ℕ → Wire → Wire → Place → Text → List SetEntry → ℕ → Text → Ended → Type 0
+abbrev pub Talk : NamedContext → ℕ → ℕ → EndState → EndState → DeskCount → Text → List SetEntry → ℕ → Text → Ended → Type 0
 Talk t e lines a b d taken made turns sent ended = IsRefused a b taken made turns sent ended
     ⊎ IsServed t e lines a b d taken made turns sent ended
 
 -- what the end lost, what was added to the entries of the desk in how many turns, and what the end gained is a talk
-pub record HasTalked (t : NamedContext) (e lines : ℕ) (a b : Wire) (c d : Place) (ended : Ended) : Type 0 where
+pub record HasTalked (t : NamedContext) (e lines : ℕ) (a b : EndState) (c d : DeskCount) (ended : Ended) : Type 0 where
   pub taken : Text
   pub made : List SetEntry
   pub turns : ℕ

@@ -6,8 +6,8 @@ ghost use Rattle.std.specs.Option.{option_map};
 ghost use Rattle.fca_io.specs.Faults.{Rose, one_more};
 ghost use Rattle.fca_model.specs.declared.TheConstants.{LINE_BYTES};
 ghost use Rattle.expert_sessions.specs.Lines.{HasNoFeed};
-ghost use Rattle.expert_sessions.specs.Moves.{wire_of};
-ghost use Rattle.expert_sessions.specs.Courses.{Reads, HasFeedAt, LacksLine};
+ghost use Rattle.expert_sessions.specs.Moves.{end_state_of};
+ghost use Rattle.expert_sessions.specs.Courses.{ReadsOn, HasFeedAt, LacksLine};
 ghost use Rattle.expert_sessions.specs.Order.{ReadsForLine};
 
 use crate::ended::Ended;
@@ -48,17 +48,17 @@ impl ReadAhead {
 
     /// Reads until there is a whole line, and gives the place of its line feed.
     pub(crate) fn read_line<E: Duplex>(&mut self, end: &mut E) -> Result<usize, Ended>
-        ensures read { Reads
-            (wire_of E.Source.left E.Sink.held E.Source.faults E.Sink.faults end.old)
-            (wire_of E.Source.left E.Sink.held E.Source.faults E.Sink.faults end.new)
+        ensures read { ReadsOn
+            (end_state_of E.Source.left E.Sink.held E.Source.faults E.Sink.faults end.old)
+            (end_state_of E.Source.left E.Sink.held E.Source.faults E.Sink.faults end.new)
             self.old self.new }
         ensures order { ReadsForLine E.Source.left E.Sink.held E.Source.reads E.Source.faults E.Sink.faults self.old end.old end.new }
         ensures line { IfOk result (HasFeedAt self.new) }
         ensures quiet { OnOk result (E.Source.faults end.new ≡ E.Source.faults end.old) }
         ensures short { IfOk result (λ at. at ≤ LINE_BYTES) }
         ensures none { IfErr result (LacksLine
-            (wire_of E.Source.left E.Sink.held E.Source.faults E.Sink.faults end.old)
-            (wire_of E.Source.left E.Sink.held E.Source.faults E.Sink.faults end.new)
+            (end_state_of E.Source.left E.Sink.held E.Source.faults E.Sink.faults end.old)
+            (end_state_of E.Source.left E.Sink.held E.Source.faults E.Sink.faults end.new)
             self.new) }
     {
         loop {
@@ -113,9 +113,9 @@ impl ReadAhead {
     /// Reads once, and gives the number of bytes that came. It is 0 only at the end of the input.
     fn read<E: Duplex>(&mut self, end: &mut E) -> Result<usize, Failed>
         requires room { length self.old ≤ LINE_BYTES }
-        ensures read { Reads
-            (wire_of E.Source.left E.Sink.held E.Source.faults E.Sink.faults end.old)
-            (wire_of E.Source.left E.Sink.held E.Source.faults E.Sink.faults end.new)
+        ensures read { ReadsOn
+            (end_state_of E.Source.left E.Sink.held E.Source.faults E.Sink.faults end.old)
+            (end_state_of E.Source.left E.Sink.held E.Source.faults E.Sink.faults end.new)
             self.old self.new }
         ensures counted { E.Source.reads end.new ≡ option_map one_more (E.Source.reads end.old) }
         ensures count { IfOk result (λ count. length self.new ≡ length self.old + count) }

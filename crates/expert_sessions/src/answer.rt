@@ -4,8 +4,8 @@ ghost use Rattle.std.specs.Prelude.{◌≡◌, ℕ, Some, [], List, IfOk, IfErr}
 ghost use Rattle.fca_model.specs.Exploration.{SetEvent, SetEntry};
 ghost use Rattle.expert_wire.specs.Requests.{request_form};
 ghost use Rattle.expert_gate.specs.Desks.{Works};
-ghost use Rattle.expert_sessions.specs.Lines.{Asks, Answers};
-ghost use Rattle.expert_sessions.specs.Moves.{Enters, place_of};
+ghost use Rattle.expert_sessions.specs.Lines.{Asks, Says};
+ghost use Rattle.expert_sessions.specs.Moves.{Enters, desk_count_of};
 ghost use Rattle.expert_sessions.specs.Courses.{said_of};
 
 use crate::ended::Ended;
@@ -28,10 +28,10 @@ pub(crate) fn answer<D: Desk>(
     ensures desk { Works (D.state desk.old) (D.state desk.new) }
     ensures width { D.attributes desk.new ≡ D.attributes desk.old }
     ensures answered { IfOk result (λ said. (made : List SetEntry) × (turns : ℕ)
-        × Answers (D.state desk.old).number (request_form line.now table.now.context.width) said made turns
-        × Enters (place_of (D.state desk.old)) (place_of (D.state desk.new)) made turns) }
+        × Says (D.state desk.old).number (request_form line.now table.now.context.width) said made turns
+        × Enters (desk_count_of (D.state desk.old)) (desk_count_of (D.state desk.new)) made turns) }
     ensures spent { IfErr result (λ ended. (ended ≡ Ended.Spent) × ((D.state desk.new).left ≡ Some 0)
-        × Enters (place_of (D.state desk.old)) (place_of (D.state desk.new)) [] 0
+        × Enters (desk_count_of (D.state desk.old)) (desk_count_of (D.state desk.new)) [] 0
         × (event : SetEvent) × Asks (D.state desk.old).number (request_form line.now table.now.context.width) event) }
 {
     match read_request(alloc, line, table.rows().width()) {

@@ -5,8 +5,8 @@ ghost use Rattle.std.specs.Io.KnownBytes.{Appends, Keeps};
 ghost use Rattle.fca_io.specs.Faults.{Rose};
 ghost use Rattle.fca_io.specs.Transfers.{AppendsFront};
 ghost use Rattle.expert_sessions.specs.Lines.{said_line};
-ghost use Rattle.expert_sessions.specs.Moves.{wire_of};
-ghost use Rattle.expert_sessions.specs.Courses.{Writes};
+ghost use Rattle.expert_sessions.specs.Moves.{end_state_of};
+ghost use Rattle.expert_sessions.specs.Courses.{SendsText};
 ghost use Rattle.expert_wire.specs.Greetings.{greeting};
 ghost use Rattle.expert_wire.specs.Replies.{reply_line};
 
@@ -42,9 +42,9 @@ pub enum Said {
 
 /// Greets the expert.
 pub(crate) fn greet<E: Duplex>(end: &mut E, table: &Table, expert: u8) -> Result<(), Put>
-    ensures written { Writes
-        (wire_of E.Source.left E.Sink.held E.Source.faults E.Sink.faults end.old)
-        (wire_of E.Source.left E.Sink.held E.Source.faults E.Sink.faults end.new)
+    ensures written { SendsText
+        (end_state_of E.Source.left E.Sink.held E.Source.faults E.Sink.faults end.old)
+        (end_state_of E.Source.left E.Sink.held E.Source.faults E.Sink.faults end.new)
         (greeting table.now expert) result }
     ensures unread { E.Source.reads end.new ≡ E.Source.reads end.old }
 {
@@ -58,9 +58,9 @@ pub(crate) fn write_said<E: Duplex>(
     table: &Table,
     said: &Said,
 ) -> Result<(), Put>
-    ensures written { Writes
-        (wire_of E.Source.left E.Sink.held E.Source.faults E.Sink.faults end.old)
-        (wire_of E.Source.left E.Sink.held E.Source.faults E.Sink.faults end.new)
+    ensures written { SendsText
+        (end_state_of E.Source.left E.Sink.held E.Source.faults E.Sink.faults end.old)
+        (end_state_of E.Source.left E.Sink.held E.Source.faults E.Sink.faults end.new)
         (said_line table.now.attributes said.now) result }
     ensures unread { E.Source.reads end.new ≡ E.Source.reads end.old }
 {
@@ -75,9 +75,9 @@ pub(crate) fn write_said<E: Duplex>(
 
 /// Writes the whole line.
 fn write_line<E: Duplex>(end: &mut E, line: &str) -> Result<(), Put>
-    ensures written { Writes
-        (wire_of E.Source.left E.Sink.held E.Source.faults E.Sink.faults end.old)
-        (wire_of E.Source.left E.Sink.held E.Source.faults E.Sink.faults end.new)
+    ensures written { SendsText
+        (end_state_of E.Source.left E.Sink.held E.Source.faults E.Sink.faults end.old)
+        (end_state_of E.Source.left E.Sink.held E.Source.faults E.Sink.faults end.new)
         line.now result }
     ensures unread { E.Source.reads end.new ≡ E.Source.reads end.old }
 {

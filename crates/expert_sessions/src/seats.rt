@@ -4,7 +4,7 @@ ghost use Rattle.std.specs.Prelude.{◌≡◌, ◌≤◌, ◌<◌, ◌+◌, [], 
 ghost use Rattle.std.specs.Thread.{IsSync};
 ghost use Rattle.fca_model.specs.declared.TheConstants.{MAX_LINES};
 ghost use Rattle.turn_lock.specs.Passes.{Belongs, IsFresh, badge};
-ghost use Rattle.expert_sessions.specs.Moves.{wire_of};
+ghost use Rattle.expert_sessions.specs.Moves.{end_state_of};
 ghost use Rattle.expert_sessions.specs.Order.{ReadsInTurn};
 ghost use Rattle.expert_sessions.specs.Talks.{HasTalked};
 ghost use Rattle.expert_gate.specs.Seats.{EachSeat};
@@ -121,8 +121,8 @@ fn serve_one<R: Threads + Wait + Sync, E: Duplex>(
     requires terms { Suits gate.now terms.now.table terms.now.lines }
     ensures same { badge pass.new ≡ badge pass.old }
     ensures talk { HasTalked terms.now.table pass.new.number terms.now.lines
-        (wire_of E.Source.left E.Sink.held E.Source.faults E.Sink.faults end.old)
-        (wire_of E.Source.left E.Sink.held E.Source.faults E.Sink.faults end.new)
+        (end_state_of E.Source.left E.Sink.held E.Source.faults E.Sink.faults end.old)
+        (end_state_of E.Source.left E.Sink.held E.Source.faults E.Sink.faults end.new)
         (entered []) (entered pass.new.own) result }
     ensures order { ReadsInTurn E.Source.left E.Sink.held E.Source.reads E.Source.faults E.Sink.faults
         terms.now.table pass.new.number end.old end.new }
@@ -168,24 +168,24 @@ pub(crate) fn fill_seats<E: Drop>(
 }
 
 /// Puts what the seats hold into lists that have room for it.
-pub(crate) fn split_seats<E: Drop>(
+pub(crate) fn split_into<E: Drop>(
     seats: Vec<SessionSeat<E>>,
     mut passes: Vec<ExpertPass>,
     mut ends: Vec<E>,
-    mut endings: Vec<Ended>,
+    mut all_ended: Vec<Ended>,
 ) -> (Vec<ExpertPass>, Vec<E>, Vec<Ended>)
-    requires empty { (passes.items ≡ []) × (ends.items ≡ []) × (endings.items ≡ []) }
+    requires empty { (passes.items ≡ []) × (ends.items ≡ []) × (all_ended.items ≡ []) }
     requires room { (vec_len seats ≤ vec_capacity passes)
-        × (vec_len seats ≤ vec_capacity ends) × (vec_len seats ≤ vec_capacity endings) }
+        × (vec_len seats ≤ vec_capacity ends) × (vec_len seats ≤ vec_capacity all_ended) }
     ensures passes { result.0.items ≡ map (λ seat. seat.pass) seats.items }
     ensures ends { result.1.items ≡ map (λ seat. seat.end) seats.items }
-    ensures endings { result.2.items ≡ map (λ seat. seat.ended) seats.items }
+    ensures ended { result.2.items ≡ map (λ seat. seat.ended) seats.items }
 {
     for seat in seats {
         let SessionSeat { pass, end, ended } = seat;
         passes.push_reserved(pass);
         ends.push_reserved(end);
-        endings.push_reserved(ended);
+        all_ended.push_reserved(ended);
     }
-    (passes, ends, endings)
+    (passes, ends, all_ended)
 }

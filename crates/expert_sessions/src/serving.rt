@@ -9,7 +9,7 @@ ghost use Rattle.expert_sessions.specs.Serving.{EachTalks};
 ghost use Rattle.expert_sessions.specs.Rooms.{IsEmpty, HasRoom};
 
 use crate::ended::Ended;
-use crate::seats::{SessionSeat, Terms, fill_seats, run_seats, split_seats};
+use crate::seats::{SessionSeat, Terms, fill_seats, run_seats, split_into};
 use expert_gate::{ExpertPass, Gate};
 use explore_state::Explore;
 use fca_io::Duplex;
@@ -26,7 +26,7 @@ pub struct Served<E> {
     /// The ends, in the order of their experts.
     pub ends: Vec<E>,
     /// How each session ended.
-    pub endings: Vec<Ended>,
+    pub ended: Vec<Ended>,
 }
 
 /// Memory ran out before the first session.
@@ -53,7 +53,7 @@ pub fn serve_ends<R: Threads + Wait + Sync, E: Duplex + Send + Drop>(
     ensures opening { IfOk result (λ r. r.explore.opening ≡ explore.opening) }
     ensures history { IfOk result (λ r. IsHistory r.explore.opening r.explore.journal) }
     ensures talks { IfOk result (λ r. EachTalks E.Source.left E.Sink.held E.Source.reads E.Source.faults E.Sink.faults explore.opening.table lines
-        r.explore.journal 1 ends.items r.ends.items r.endings.items) }
+        r.explore.journal 1 ends.items r.ends.items r.ended.items) }
     ensures others { IfOk result (λ r. (e : ℕ) → (e ≡ 0) ⊎ (vec_len ends < e) → own r.explore.journal e ≡ []) }
     ensures untouched { IfErr result (λ e. e.ends ≡ ends) }
 {
@@ -68,11 +68,11 @@ pub fn serve_ends<R: Threads + Wait + Sync, E: Duplex + Send + Drop>(
     } = hall;
     let mut seats = fill_seats(room.seats, passes, ends);
     run_seats(rt, alloc, &gate, &terms, &mut seats);
-    let (passes, ends, endings) = split_seats(seats, room.passes, room.ends, room.endings);
+    let (passes, ends, ended) = split_into(seats, room.passes, room.ends, room.ended);
     Ok(Served {
         explore: gate.close(passes),
         ends,
-        endings,
+        ended,
     })
 }
 
@@ -82,7 +82,7 @@ struct Room<E> {
     seats: Vec<SessionSeat<E>>,
     passes: Vec<ExpertPass>,
     ends: Vec<E>,
-    endings: Vec<Ended>,
+    ended: Vec<Ended>,
 }
 
 /// All that the sessions need.
@@ -156,6 +156,6 @@ fn make_room<E: Drop>(alloc: Global, count: usize) -> Result<Room<E>, Memory>
         seats: Vec::with_capacity(alloc, count)?,
         passes: Vec::with_capacity(alloc, count)?,
         ends: Vec::with_capacity(alloc, count)?,
-        endings: Vec::with_capacity(alloc, count)?,
+        ended: Vec::with_capacity(alloc, count)?,
     })
 }

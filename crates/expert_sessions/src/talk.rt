@@ -3,7 +3,7 @@
 ghost use Rattle.std.specs.Prelude.{◌≡◌, ◌≤◌, ◌+◌, [], OnOk, IfErr};
 ghost use Rattle.fca_model.specs.declared.TheConstants.{MAX_LINES};
 ghost use Rattle.expert_gate.specs.Desks.{Works};
-ghost use Rattle.expert_sessions.specs.Moves.{TakesAtMost, wire_of, place_of};
+ghost use Rattle.expert_sessions.specs.Moves.{TakesAtMost, end_state_of, desk_count_of};
 ghost use Rattle.expert_sessions.specs.Talks.{HasTalked};
 ghost use Rattle.expert_sessions.specs.Courses.{Serves, Halts, HasServed};
 ghost use Rattle.expert_sessions.specs.Order.{ReadsForLine, ReadsInTurn};
@@ -31,9 +31,9 @@ pub fn session<D: Desk, E: Duplex>(
     requires width { D.attributes desk.old ≡ table.now.context.width }
     requires lines { (1 ≤ lines) × (lines ≤ MAX_LINES) }
     ensures talk { HasTalked table.now expert lines
-        (wire_of E.Source.left E.Sink.held E.Source.faults E.Sink.faults end.old)
-        (wire_of E.Source.left E.Sink.held E.Source.faults E.Sink.faults end.new)
-        (place_of (D.state desk.old)) (place_of (D.state desk.new)) result }
+        (end_state_of E.Source.left E.Sink.held E.Source.faults E.Sink.faults end.old)
+        (end_state_of E.Source.left E.Sink.held E.Source.faults E.Sink.faults end.new)
+        (desk_count_of (D.state desk.old)) (desk_count_of (D.state desk.new)) result }
     ensures order { ReadsInTurn E.Source.left E.Sink.held E.Source.reads E.Source.faults E.Sink.faults table.now expert end.old end.new }
     ensures turns { TakesAtMost (lines + 1) (D.state desk.old).left (D.state desk.new).left }
     ensures desk { Works (D.state desk.old) (D.state desk.new) }
@@ -66,9 +66,9 @@ fn serve_lines<D: Desk, E: Duplex>(
     requires expert { expert ≡ (D.state desk.old).number }
     requires width { D.attributes desk.old ≡ table.now.context.width }
     ensures served { HasServed table.now expert lines
-        (wire_of E.Source.left E.Sink.held E.Source.faults E.Sink.faults end.old)
-        (wire_of E.Source.left E.Sink.held E.Source.faults E.Sink.faults end.new)
-        (place_of (D.state desk.old)) (place_of (D.state desk.new)) result }
+        (end_state_of E.Source.left E.Sink.held E.Source.faults E.Sink.faults end.old)
+        (end_state_of E.Source.left E.Sink.held E.Source.faults E.Sink.faults end.new)
+        (desk_count_of (D.state desk.old)) (desk_count_of (D.state desk.new)) result }
     ensures order { ReadsInTurn E.Source.left E.Sink.held E.Source.reads E.Source.faults E.Sink.faults table.now expert end.old end.new }
     ensures desk { Works (D.state desk.old) (D.state desk.new) }
     ensures width { D.attributes desk.new ≡ D.attributes desk.old }
@@ -94,14 +94,14 @@ fn serve_line<D: Desk, E: Duplex>(
 ) -> Result<(), Ended>
     requires width { D.attributes desk.old ≡ table.now.context.width }
     ensures served { OnOk result (Serves table.now (D.state desk.old).number
-        (wire_of E.Source.left E.Sink.held E.Source.faults E.Sink.faults end.old)
-        (wire_of E.Source.left E.Sink.held E.Source.faults E.Sink.faults end.new)
-        (place_of (D.state desk.old)) (place_of (D.state desk.new))
+        (end_state_of E.Source.left E.Sink.held E.Source.faults E.Sink.faults end.old)
+        (end_state_of E.Source.left E.Sink.held E.Source.faults E.Sink.faults end.new)
+        (desk_count_of (D.state desk.old)) (desk_count_of (D.state desk.new))
         ahead.old ahead.new) }
     ensures halted { IfErr result (Halts table.now (D.state desk.old).number
-        (wire_of E.Source.left E.Sink.held E.Source.faults E.Sink.faults end.old)
-        (wire_of E.Source.left E.Sink.held E.Source.faults E.Sink.faults end.new)
-        (place_of (D.state desk.old)) (place_of (D.state desk.new))
+        (end_state_of E.Source.left E.Sink.held E.Source.faults E.Sink.faults end.old)
+        (end_state_of E.Source.left E.Sink.held E.Source.faults E.Sink.faults end.new)
+        (desk_count_of (D.state desk.old)) (desk_count_of (D.state desk.new))
         ahead.old) }
     ensures order { ReadsForLine E.Source.left E.Sink.held E.Source.reads E.Source.faults E.Sink.faults ahead.old end.old end.new }
     ensures desk { Works (D.state desk.old) (D.state desk.new) }

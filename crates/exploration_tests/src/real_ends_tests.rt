@@ -55,7 +55,7 @@ fn serve_both<R: Threads + Wait + Sync, E: Duplex + Send + Drop>(
     ends.push(first)?;
     ends.push(second)?;
     match serve_ends(rt, alloc, opened(alloc, 2)?, ends, 2, 9) {
-        Ok(served) => Ok(served.endings),
+        Ok(served) => Ok(served.ended),
         Err(_) => Err(Memory),
     }
 }
@@ -71,7 +71,7 @@ fn sessions_run_at_once_over_sockets(rt: HostRuntime) -> Result<(), Fail> {
     let first_end = link.accept()?;
     let second = TcpStream::connect(&rt, address.as_str())?;
     let second_end = link.accept()?;
-    let (asked, endings) = join(
+    let (asked, ended) = join(
         &rt,
         move || draw_and_quit(first, second),
         || serve_both(&rt, alloc, first_end, second_end),
@@ -83,6 +83,6 @@ fn sessions_run_at_once_over_sockets(rt: HostRuntime) -> Result<(), Fail> {
             *b"exploration 1\nexpert 2\nattributes 2\na\nb\nask .. XX {} -> {a, b}\n",
         ]
     );
-    assert_eq!(rt; endings?.as_slice(), [Ended::Quit, Ended::Limit].as_slice());
+    assert_eq!(rt; ended?.as_slice(), [Ended::Quit, Ended::Limit].as_slice());
     Ok(())
 }

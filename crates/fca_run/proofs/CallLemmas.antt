@@ -40,10 +40,11 @@ use Rattle.explore_command.specs.Explored.{explored_ending, MayExplore}
 use Rattle.serve_command.specs.Openings.{opening_by}
 use Rattle.serve_command.specs.Served.{serving_record, MayServe, IsServeStop, GaveAllBack}
 use Rattle.serve_command.proofs.AcceptedLemmas.{TookAndGave-none}
-use Rattle.fca_run.specs.Causes.{fault_file}
+use Rattle.fca_run.specs.Causes.{command_file_at_fault}
 use Rattle.fca_run.specs.Outputs.{output_read, survey_output}
-use Rattle.fca_run.specs.Calls.{ShelfMoment, LinkMoment, Sides, Outside, outside, unlinked, no_input, no_sides, MayEnd, read_by, IsGiven}
-use Rattle.fca_run.specs.Calls.{IsBlamed, FaultRose, LinkFaultRose, IsQuiet, IsCommandStop, HasGivenBack, MayListen, ComesTo, CallComesTo}
+use Rattle.fca_run.specs.Calls.{ShelfMoment, LinkMoment, Sides, Outside, outside, unlinked, no_input, no_sides, MayEndWith, read_by}
+use Rattle.fca_run.specs.Calls.{IsGiven, IsBlamed, FaultRose, LinkFaultRose, IsQuiet, IsCommandStop, HasGivenBack, MayListen, ComesTo}
+use Rattle.fca_run.specs.Calls.{CallComesTo}
 use Rattle.fca_run.specs.Courses.{HasCourse}
 use Rattle.fca_run.proofs.CourseLemmas.{explore-tells, serve-tells}
 use Rattle.fca_run.proofs.BlameLemmas.{stop-blamed, given-comes}
@@ -74,21 +75,21 @@ module _ {H S L E : Type 0} (output : Result Output Stop) where
 -- ---- how texts end
 
 explore-ends : (file : Text) (known : Option Text) (names : Bool) (experts : List Text) (spent : Bool)
-    → MayEnd (Explore file known names experts) (explored_ending spent)
+    → MayEndWith (Explore file known names experts) (explored_ending spent)
 explore-ends file known names experts true = tt
 explore-ends file known names experts false = tt
 
-questions-end : (command : Command) (questions : List Rule) → may_end_open command ≡ true → MayEnd command (ending_of questions)
+questions-end : (command : Command) (questions : List Rule) → may_end_open command ≡ true → MayEndWith command (ending_of questions)
 questions-end command [] may = tt
 questions-end command (question ∷ later) may = may
 
-pub finished-ends : (command : Command) (ending : Ending) → ending ≡ Finished → MayEnd command ending
-finished-ends command ending e = subst (MayEnd command) (sym e) tt
+pub finished-ends : (command : Command) (ending : Ending) → ending ≡ Finished → MayEndWith command ending
+finished-ends command ending e = subst (MayEndWith command) (sym e) tt
 
 pub replay-ends : (file : Text) (known : Option Text) (reading : Reading Recorded) (output : Output) → MayReplay reading output
-    → MayEnd (Replay file known) output.ending
+    → MayEndWith (Replay file known) output.ending
 replay-ends file known reading output replay =
-    subst (MayEnd (Replay file known)) (sym (ap (λ (o : Output). o.ending) replay.whole))
+    subst (MayEndWith (Replay file known)) (sym (ap (λ (o : Output). o.ending) replay.whole))
     (questions-end (Replay file known) (open_at replay.made) refl)
 
 -- ---- explorations by oracles
@@ -115,8 +116,8 @@ module _ {H S D E : Type 0} (talk : Sides E) (s s' : ShelfMoment H) (input : Mom
       (λ stop is. stop-blamed command old new stop is) causes in
       record {
         allowed = answers;
-        ending = IfOk-weaker output (MayExplore reading) (λ output. MayEnd command output.ending)
-            (λ output explored. subst (MayEnd command) (sym explored.ending) (explore-ends file known names experts explored.spent))
+        ending = IfOk-weaker output (MayExplore reading) (λ output. MayEndWith command output.ending)
+            (λ output explored. subst (MayEndWith command) (sym explored.ending) (explore-ends file known names experts explored.spent))
             answers;
         course = IfOk-weaker output (MayExplore reading) (λ output. HasCourse command s.tells input.bytes output.text)
             (λ output explored. explore-tells reading output explored) answers;
@@ -145,18 +146,19 @@ module _ {H S D E : Type 0} (talk : Sides E) (s s' : ShelfMoment H) (input : Mom
 module _ {E : Type 0} (talk : Sides E) where
   serve-ends : (file : Text) (known : Option Text) (listen : Text) (reading : Reading Start) (experts holders : ℕ)
       (old new : Option (Ends E)) (output : Output)
-      → MayServe talk.left talk.held talk.calls talk.reads talk.writes reading experts holders old new output
-      → MayEnd (Serve file known experts holders listen) output.ending
+      → MayServe talk.left talk.held talk.reads talk.read_faults talk.write_faults reading experts holders old new output
+      → MayEndWith (Serve file known experts holders listen) output.ending
   serve-ends file known listen reading experts holders old new output serve =
       let command : Command = Serve file known experts holders listen in
       let is = serve.2.is in
-      subst (MayEnd command) (sym is.ending) (questions-end command
+      subst (MayEndWith command) (sym is.ending) (questions-end command
       (open_at (serving_record (opening_by experts holders serve.0) is.history)) refl)
 
   serve-back : (reading : Reading Start) (experts holders : ℕ) (old new : Option (Ends E)) (output : Result Output Stop)
-      → IfOk output (MayServe talk.left talk.held talk.calls talk.reads talk.writes reading experts holders old new)
-      → IfErr output (λ stop. GaveAllBack talk.left talk.held talk.calls talk.reads talk.writes experts old new (stop ≡ Listener))
-      → GaveAllBack talk.left talk.held talk.calls talk.reads talk.writes experts old new (output ≡ Err Listener)
+      → IfOk output (MayServe talk.left talk.held talk.reads talk.read_faults talk.write_faults reading experts holders old new)
+      → IfErr output (λ stop. GaveAllBack talk.left talk.held talk.reads talk.read_faults talk.write_faults experts old new
+      (stop ≡ Listener))
+      → GaveAllBack talk.left talk.held talk.reads talk.read_faults talk.write_faults experts old new (output ≡ Err Listener)
   serve-back reading experts holders old new (Ok output) serve back =
       let is = serve.2 in
       let many = is.count in
@@ -164,7 +166,7 @@ module _ {E : Type 0} (talk : Sides E) where
         before = is.before;
         after = is.after;
         ends = is.ends;
-        talked = inr (serve.0.table, is.is.history, is.is.endings, is.is.talks);
+        talked = inr (serve.0.table, is.is.history, is.is.ended, is.is.talks);
         few = omega arith;
         fewer = λ failed. cc;
       }
@@ -179,14 +181,14 @@ module _ {E : Type 0} (talk : Sides E) where
 
 module _ {H S D E : Type 0} (talk : Sides E) (s s' : ShelfMoment H) (input : Moment S) (link link' : LinkMoment D E) where
   pub serve-comes : (file : Text) (known : Option Text) (experts holders : ℕ) (listen : Text) (output : Result Output Stop)
-      → IfOk output (MayServe talk.left talk.held talk.calls talk.reads talk.writes
+      → IfOk output (MayServe talk.left talk.held talk.reads talk.read_faults talk.write_faults
       (start_read file known s.tells) experts holders link.ends link'.ends)
       → OnOk output ((link'.listens ≡ true) × MayListenAt link'.listens_at listen)
       → IfErr output (λ stop. (IsRefusal stop → MayRefuse (start_read file known s.tells)))
       → IfErr output (IsServeStop file known s.tells (Rises s.faults s'.faults)
       (Rises link.open_faults link'.open_faults listen ⊎ Rose link.accept_faults link'.accept_faults))
       → IfErr output (λ stop. (IsUnread stop → link' ≡ link))
-      → IfErr output (λ stop. GaveAllBack talk.left talk.held talk.calls talk.reads talk.writes experts link.ends link'.ends
+      → IfErr output (λ stop. GaveAllBack talk.left talk.held talk.reads talk.read_faults talk.write_faults experts link.ends link'.ends
       (stop ≡ Listener))
       → UnlessFault output (SameCounts s.faults s'.faults)
       → RoseAtMost s.fetches s'.fetches (length (file ∷ option_to_list known))
@@ -205,11 +207,11 @@ module _ {H S D E : Type 0} (talk : Sides E) (s s' : ShelfMoment H) (input : Mom
       let blames : IfErr output (IsBlamed (FaultRose command old new) (LinkFaultRose command old new)) =
       IfErr-weaker output (IsCommandStop command old new) (IsBlamed (FaultRose command old new) (LinkFaultRose command old new))
       (λ stop is. stop-blamed command old new stop is) causes in
-      let Serves : Output → Type 0 = MayServe talk.left talk.held talk.calls talk.reads talk.writes reading experts holders link.ends
-      link'.ends in
+      let Serves : Output → Type 0 = MayServe talk.left talk.held talk.reads talk.read_faults talk.write_faults reading experts holders
+      link.ends link'.ends in
       record {
         allowed = answers;
-        ending = IfOk-weaker output Serves (λ output. MayEnd command output.ending)
+        ending = IfOk-weaker output Serves (λ output. MayEndWith command output.ending)
             (λ output serve. serve-ends talk file known listen reading experts holders link.ends link'.ends output serve) answers;
         course = IfOk-weaker output Serves (λ output. HasCourse command s.tells input.bytes output.text)
             (λ output serve. serve-tells talk reading experts holders link.ends link'.ends output serve) answers;
@@ -248,7 +250,7 @@ module _ {H S D E : Type 0} (talk : Sides E) (s : ShelfMoment H) (input : Moment
       (λ stop is. stop-blamed command old old stop is) causes in
       record {
         allowed = answers;
-        ending = IfOk-weaker output (λ output. output ≡ survey_output r) (λ output. MayEnd command output.ending)
+        ending = IfOk-weaker output (λ output. output ≡ survey_output r) (λ output. MayEndWith command output.ending)
             (λ output is. finished-ends command output.ending (ap (λ (o : Output). o.ending) is)) answers;
         course = any-ok output (Unit {0}) tt;
         cause = causes;
@@ -324,7 +326,7 @@ module _ {H S : Type 0} (s s' : ShelfMoment H) (input input' : Moment S) (output
   -- the same of each of them
   plainly : (command : Command) → is_plain command ≡ true
       → IfOk output (MayRead (output_read command s.tells input.bytes))
-      → IfOk output (λ output. MayEnd command output.ending)
+      → IfOk output (λ output. MayEndWith command output.ending)
       → IfOk output (λ output. HasCourse command s.tells input.bytes output.text)
       → IfErr output (IsCommandStop command before behind)
       → IfErr output (λ stop. (IsRefusal stop → MayRefuse (then {Y = Unit {0}} (output_read command s.tells input.bytes) (λ _. Read tt))))
@@ -366,7 +368,7 @@ module _ {H S : Type 0} (s s' : ShelfMoment H) (input input' : Moment S) (output
 
   pub plain-comes : (command : Command) → is_plain command ≡ true
       → IfOk output (MayRead (output_read command s.tells input.bytes))
-      → IfOk output (λ output. MayEnd command output.ending)
+      → IfOk output (λ output. MayEndWith command output.ending)
       → IfOk output (λ output. HasCourse command s.tells input.bytes output.text)
       → IfErr output (IsCommandStop command before behind)
       → IfErr output (λ stop. (IsRefusal stop → MayRefuse (output_read command s.tells input.bytes)))
@@ -547,10 +549,10 @@ reads_more (Serve file known experts holders listen) = true
 reads_more _ = false
 
 -- where it reads no other, the file at fault is its first
-pub fault_file-one : (command : Command) → reads_more command ≡ false → (stop : Stop)
-    → fault_file (Some command) stop ≡ first_file_of (files_of command)
-fault_file-one (Scale values plan) one stop = cc
-fault_file-one (Replay file known) one stop = cc
-fault_file-one (Explore file known names experts) one stop = cc
-fault_file-one (Serve file known experts holders listen) one stop = cc
-fault_file-one _ one stop = one_file _ (stop_origin stop)
+pub command_file_at_fault-one : (command : Command) → reads_more command ≡ false → (stop : Stop)
+    → command_file_at_fault (Some command) stop ≡ first_file_of (files_of command)
+command_file_at_fault-one (Scale values plan) one stop = cc
+command_file_at_fault-one (Replay file known) one stop = cc
+command_file_at_fault-one (Explore file known names experts) one stop = cc
+command_file_at_fault-one (Serve file known experts holders listen) one stop = cc
+command_file_at_fault-one _ one stop = one_file _ (stop_origin stop)

@@ -23,14 +23,14 @@ use Rattle.replay_command.proofs.FedBackLemmas.{opened-respecting, fed_back}
 use Rattle.explore_command.specs.Starts.{ExploreStart}
 use Rattle.explore_command.specs.Explored.{dropped_in, exploring_record, MayExplore}
 use Rattle.serve_command.specs.Openings.{opening_by}
-use Rattle.serve_command.specs.Served.{serving_record, ending_words, MayServe}
-use Rattle.fca_run.specs.Courses.{basis_of, TellsExploration}
+use Rattle.serve_command.specs.Served.{serving_record, ended_words, MayServe}
+use Rattle.fca_run.specs.Courses.{known_basis_lines, TellsExploration}
 use Rattle.fca_run.specs.Calls.{Sides}
 
 -- where no question is open at its end, the text ends with the basis, and then come the lines behind
 ends-with-basis : (r : Recorded) (later text : Text) → IsExplored r
     → text ≡ explore_text r.opening.table r.opening.settings r.journal ++ later → open_at r ≡ []
-    → text ≡ text_before_basis r.opening.table r.opening.settings r.journal ++ (basis_of r ++ later)
+    → text ≡ text_before_basis r.opening.table r.opening.settings r.journal ++ (known_basis_lines r ++ later)
 ends-with-basis r later text explored printed none =
     let t : NamedContext = r.opening.table in
     let s : Settings = r.opening.settings in
@@ -39,7 +39,7 @@ ends-with-basis r later text explored printed none =
     (run_settings (opening t.context t.objects s) (events_of r.journal)) in
     let done : open_in now ≡ [] = ap (λ S. open_questions S now.context now.accepted) settled ∙ none in
     printed ∙ ap (λ l. l ++ later) (finished_text t s r.journal (opened-respecting r explored) explored.legal done)
-    ∙ append_assoc (text_before_basis t s r.journal) (basis_of r) later
+    ∙ append_assoc (text_before_basis t s r.journal) (known_basis_lines r) later
 
 tells : (opened : Reading Opening) (r : Recorded) (later text : Text) → MayRead opened r.opening
     → text ≡ explore_text r.opening.table r.opening.settings r.journal ++ later
@@ -83,11 +83,11 @@ replay-tells reading output replay =
 -- by experts at the ends of a link
 module _ {E : Type 0} (talk : Sides E) where
   pub serve-tells : (reading : Reading Start) (experts holders : ℕ) (old new : Option (Ends E)) (output : Output)
-      → MayServe talk.left talk.held talk.calls talk.reads talk.writes reading experts holders old new output
+      → MayServe talk.left talk.held talk.reads talk.read_faults talk.write_faults reading experts holders old new output
       → TellsExploration (then reading (λ start. Read (opening_by experts holders start))) output.text
   serve-tells reading experts holders old new output serve =
       let o : Opening = opening_by experts holders serve.0 in
       let is = serve.2.is in
       tells (then reading (λ start. Read (opening_by experts holders start))) (serving_record o is.history)
-      (sessions_text (map ending_words is.endings)) output.text
+      (sessions_text (map ended_words is.ended)) output.text
       (read_after reading serve.0 (λ start. Read (opening_by experts holders start)) o serve.1 refl) is.text is.spells is.course

@@ -25,7 +25,7 @@ use Rattle.explore_command.specs.Explored.{MayExplore}
 use Rattle.serve_command.specs.Served.{MayServe, IsServeStop, GaveAllBack}
 use Rattle.fca_run.specs.Outputs.{output_read}
 use Rattle.fca_run.specs.Courses.{HasCourse}
-use Rattle.fca_run.specs.Causes.{IsScaleStop, IsReportStop, fault_file}
+use Rattle.fca_run.specs.Causes.{IsScaleStop, IsReportStop, command_file_at_fault}
 
 -- ---- the outside at one moment
 
@@ -73,16 +73,17 @@ no_input = record { it = tt; bytes = None; faults = 0 }
 pub record Sides (E : Type 0) : Type 0 where
   pub left : E → Option Text
   pub held : E → Option Text
-  pub calls : E → Option ℕ
-  pub reads : E → ℕ
-  pub writes : E → ℕ
+  pub reads : E → Option ℕ
+  pub read_faults : E → ℕ
+  pub write_faults : E → ℕ
 
 abbrev pub sides : {E : Type 0} → (E → Option Text) → (E → Option Text) → (E → Option ℕ) → (E → ℕ) → (E → ℕ) → Sides E
-sides left held calls reads writes = record { left = left; held = held; calls = calls; reads = reads; writes = writes }
+sides left held reads read_faults write_faults =
+    record { left = left; held = held; reads = reads; read_faults = read_faults; write_faults = write_faults }
 
 -- ends that nobody has
 abbrev pub no_sides : Sides (Unit {0})
-no_sides = record { left = λ _. None; held = λ _. None; calls = λ _. None; reads = λ _. 0; writes = λ _. 0 }
+no_sides = record { left = λ _. None; held = λ _. None; reads = λ _. None; read_faults = λ _. 0; write_faults = λ _. 0 }
 
 -- all that a command reads, or talks to
 pub record Outside (H S L E : Type 0) : Type 0 where
@@ -96,11 +97,11 @@ outside shelf input link = record { shelf = shelf; input = input; link = link }
 -- ---- how a text may end
 
 -- a question may be open if the command takes answers of others, and turns may be spent if oracles answer
-abbrev pub MayEnd : Command → Ending → Type 0
-MayEnd command Finished = ⊤
-MayEnd command Open = may_end_open command ≡ true
-MayEnd (Explore file known names experts) Spent = ⊤
-MayEnd _ Spent = ⊥
+abbrev pub MayEndWith : Command → Ending → Type 0
+MayEndWith command Finished = ⊤
+MayEndWith command Open = may_end_open command ≡ true
+MayEndWith (Explore file known names experts) Spent = ⊤
+MayEndWith _ Spent = ⊥
 
 -- ---- what is to be read, and why it is not
 
@@ -129,7 +130,7 @@ module _ {L E : Type 0} where
   -- if the command serves experts at ends, the accepted ends are given back; if the listener failed, they are fewer than the experts
   abbrev pub HasGivenBack : Sides E → Command → LinkMoment L E → LinkMoment L E → Result Output Stop → Type 0
   HasGivenBack talk (Serve file known experts holders listen) old new output =
-      GaveAllBack talk.left talk.held talk.calls talk.reads talk.writes experts old.ends new.ends (output ≡ Err Listener)
+      GaveAllBack talk.left talk.held talk.reads talk.read_faults talk.write_faults experts old.ends new.ends (output ≡ Err Listener)
   HasGivenBack talk _ old new output = ⊤
 
 module _ {H S L E : Type 0} where
@@ -199,7 +200,7 @@ module _ {H S L E : Type 0} where
   MayOutput talk (Explore file known names experts) old new output =
       MayExplore (explore_read file known names experts old.shelf.tells) output
   MayOutput talk (Serve file known experts holders listen) old new output =
-      MayServe talk.left talk.held talk.calls talk.reads talk.writes
+      MayServe talk.left talk.held talk.reads talk.read_faults talk.write_faults
       (start_read file known old.shelf.tells) experts holders old.link.ends new.link.ends output
   MayOutput talk command old new output = MayRead (output_read command old.shelf.tells old.input.bytes) output
 
@@ -209,7 +210,7 @@ module _ {H S L E : Type 0} where
   pub record ComesTo (talk : Sides E) (command : Command) (old new : Outside H S L E) (output : Result Output Stop) : Type 0 where
     -- An output is one of the command, and ends as its outputs may. If the command explores, it tells of the exploration of its table
     pub allowed : IfOk output (MayOutput talk command old new)
-    pub ending : IfOk output (λ output. MayEnd command output.ending)
+    pub ending : IfOk output (λ output. MayEndWith command output.ending)
     pub course : IfOk output (λ output. HasCourse command old.shelf.tells old.input.bytes output.text)
     -- A stop has its cause, and refuses only what may be refused. The counts of the outside say so too, of faults and of fetches
     pub cause : IfErr output (IsCommandStop command old new)
@@ -241,4 +242,4 @@ module _ {H S L E : Type 0} where
       (result : ℕ) : Type 0 where
     pub output : Result Output Stop
     pub comes : CallComesTo talk call old new output
-    pub concluded : HasConcluded output (fault_file call) out out' err err' result
+    pub concluded : HasConcluded output (command_file_at_fault call) out out' err err' result

@@ -27,6 +27,7 @@ IsReportStop command file told rose stop = IsFileStop file told rose File stop
     ⊎ ((stop ≡ UnknownAttribute) × ((table : NamedContext) × MayRead (table_read file told) table × (table_report command table ≡ Refused)))
 
 -- the name of the file at fault if the command stops, or an empty name without a command
-abbrev pub fault_file : Option Command → Stop → Text
-fault_file None stop = []
-fault_file (Some command) stop = file_at_fault (first_file_of (files_of command)) (known_file_of command) (later_files_of command) stop
+abbrev pub command_file_at_fault : Option Command → Stop → Text
+command_file_at_fault None stop = []
+command_file_at_fault (Some command) stop = file_at_fault (first_file_of (files_of command)) (known_file_of command)
+    (later_files_of command) stop

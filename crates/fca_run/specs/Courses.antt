@@ -32,8 +32,8 @@ opening_read (Serve file known experts holders listen) files input =
 opening_read _ files input = Refused
 
 -- the lines of the basis of what is recorded, beside what is known
-abbrev pub basis_of : Recorded → Text
-basis_of r = basis_lines r.opening.table.attributes (basis_known r.opening.settings.known (last_state r).context)
+abbrev pub known_basis_lines : Recorded → Text
+known_basis_lines r = basis_lines r.opening.table.attributes (basis_known r.opening.settings.known (last_state r).context)
 
 -- The text tells of the exploration that was opened so
 pub record TellsExploration (opened : Reading Opening) (text : Text) : Type 0 where
@@ -48,7 +48,8 @@ pub record TellsExploration (opened : Reading Opening) (text : Text) : Type 0 wh
   -- if no question is open at the end, they are that basis
   pub explored : IsExplored told
   -- if no question is open, the section of the basis is the basis of all recorded rows from scratch, in lectic order
-  pub basis : open_at told ≡ [] → text ≡ text_before_basis told.opening.table told.opening.settings told.journal ++ (basis_of told ++ later)
+  pub basis : open_at told ≡ []
+      → text ≡ text_before_basis told.opening.table told.opening.settings told.journal ++ (known_basis_lines told ++ later)
   -- if the text is no longer than a file may be, its replay is exactly this exploration
   pub fed_back : length text ≤ FILE_BYTES → IsFedBack told text
 

@@ -10,8 +10,8 @@ ghost use Rattle.command_io.specs.Endings.{IsRefusal, IsOfFile};
 ghost use Rattle.command_io.specs.Streams.{moment, HasConcluded};
 ghost use Rattle.fca_run.specs.Outputs.{output_read, other_output};
 ghost use Rattle.fca_run.specs.Courses.{HasCourse};
-ghost use Rattle.fca_run.specs.Causes.{fault_file};
-ghost use Rattle.fca_run.specs.Calls.{shelf_moment, link_moment, unlinked, no_input, sides, no_sides, outside, MayEnd, IsOtherStop};
+ghost use Rattle.fca_run.specs.Causes.{command_file_at_fault};
+ghost use Rattle.fca_run.specs.Calls.{shelf_moment, link_moment, unlinked, no_input, sides, no_sides, outside, MayEndWith, IsOtherStop};
 ghost use Rattle.fca_run.specs.Calls.{IsCommandStop, ComesTo, HasRun};
 
 use crate::made::{make_output, survey_output};
@@ -155,8 +155,8 @@ fn finish<R: Threads + Sync, K: Sink, E: Sink>(
     out: &mut K,
     err: &mut E,
 ) -> u8
-    ensures { HasConcluded output (fault_file (Some command.now)) (moment K.held K.faults out.old) (moment K.held K.faults out.new)
-        (moment E.held E.faults err.old) (moment E.held E.faults err.new) result }
+    ensures { HasConcluded output (command_file_at_fault (Some command.now)) (moment K.held K.faults out.old)
+        (moment K.held K.faults out.new) (moment E.held E.faults err.old) (moment E.held E.faults err.new) result }
 {
     let file = name_at_fault(command, &output);
     conclude(rt, output, file, out, err)
@@ -164,17 +164,17 @@ fn finish<R: Threads + Sync, K: Sink, E: Sink>(
 
 /// The name of the file at fault if the command stopped, or else an empty name.
 fn name_at_fault<'a>(command: &'a Command, output: &Result<Output, Stop>) -> &'a [u8]
-    ensures { IfErr output.now (λ stop. result.now ≡ fault_file (Some command.now) stop) }
+    ensures { IfErr output.now (λ stop. result.now ≡ command_file_at_fault (Some command.now) stop) }
 {
     match output {
         Ok(_) => b"",
-        Err(stop) => fault_file(command, stop),
+        Err(stop) => command_file_at_fault(command, stop),
     }
 }
 
 /// The name of the command's file that is at fault, if one is.
-fn fault_file<'a>(command: &'a Command, stop: &Stop) -> &'a [u8]
-    ensures { result.now ≡ fault_file (Some command.now) stop.now }
+fn command_file_at_fault<'a>(command: &'a Command, stop: &Stop) -> &'a [u8]
+    ensures { result.now ≡ command_file_at_fault (Some command.now) stop.now }
 {
     match command {
         Command::Scale { values, plan } => file_at_fault(stop, values, None, slice::from_ref(plan)),
@@ -202,7 +202,7 @@ fn plain_output<R: Threads + Sync, H: Shelf, S: Source>(
     requires plain { is_plain command.now ≡ true }
     requires limits { IsWithinLimits command.now }
     ensures output { IfOk result (λ output. MayRead (output_read command.now (H.tells shelf.old) (S.left input.old)) output) }
-    ensures ending { IfOk result (λ output. MayEnd command.now output.ending) }
+    ensures ending { IfOk result (λ output. MayEndWith command.now output.ending) }
     ensures course { IfOk result (λ output. HasCourse command.now (H.tells shelf.old) (S.left input.old) output.text) }
     ensures cause { IfErr result (IsCommandStop command.now
         (outside (shelf_moment H.tells H.faults H.fetches shelf.old) (moment S.left S.faults input.old) unlinked)
@@ -232,7 +232,7 @@ fn other_output<H: Shelf, S: Source>(
     requires limits { IsWithinLimits command.now }
     requires other { report_file command.now ≡ None }
     ensures output { IfOk result (λ output. MayRead (other_output command.now (H.tells shelf.old) (S.left input.old)) output) }
-    ensures ending { IfOk result (λ output. MayEnd command.now output.ending) }
+    ensures ending { IfOk result (λ output. MayEndWith command.now output.ending) }
     ensures course { IfOk result (λ output. HasCourse command.now (H.tells shelf.old) (S.left input.old) output.text) }
     ensures cause { IfErr result (IsOtherStop command.now
         (outside (shelf_moment H.tells H.faults H.fetches shelf.old) (moment S.left S.faults input.old) unlinked)

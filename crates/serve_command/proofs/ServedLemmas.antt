@@ -23,20 +23,20 @@ use Rattle.command_io.specs.Known.{Start}
 use Rattle.command_io.proofs.CourseLemmas.{legal-course}
 use Rattle.serve_command.specs.Accepted.{GaveBack, HasRoomFor}
 use Rattle.serve_command.specs.Openings.{opening_by, IsNew}
-use Rattle.serve_command.specs.Served.{ending_words, IsServedText, HasSat, HasRisen}
+use Rattle.serve_command.specs.Served.{ended_words, IsServedText, HasServedAll, HasRisen}
 
 -- ---- words
 
-pub words_are_lines : (endings : List Ended) → are_lines (map ending_words endings) ≡ true
+pub words_are_lines : (ended : List Ended) → are_lines (map ended_words ended) ≡ true
 words_are_lines [] = refl
-words_are_lines (Quit ∷ endings) = words_are_lines endings
-words_are_lines (EndOfInput ∷ endings) = words_are_lines endings
-words_are_lines (ReadFault ∷ endings) = words_are_lines endings
-words_are_lines (WriteFault ∷ endings) = words_are_lines endings
-words_are_lines (LongLine ∷ endings) = words_are_lines endings
-words_are_lines (Limit ∷ endings) = words_are_lines endings
-words_are_lines (Spent ∷ endings) = words_are_lines endings
-words_are_lines (Memory ∷ endings) = words_are_lines endings
+words_are_lines (Quit ∷ ended) = words_are_lines ended
+words_are_lines (EndOfInput ∷ ended) = words_are_lines ended
+words_are_lines (ReadFault ∷ ended) = words_are_lines ended
+words_are_lines (WriteFault ∷ ended) = words_are_lines ended
+words_are_lines (LongLine ∷ ended) = words_are_lines ended
+words_are_lines (Limit ∷ ended) = words_are_lines ended
+words_are_lines (Spent ∷ ended) = words_are_lines ended
+words_are_lines (Memory ∷ ended) = words_are_lines ended
 
 -- lines behind the text of an exploration change nothing of what it spells
 pub spelled-sessions : (sessions text : Text) (explore : History) → SettingsCanBeWritten explore.opening.table.context.width explore.opening.settings
@@ -64,48 +64,48 @@ new-opened experts holders start h is none expert most respecting even = record 
 
 -- ---- sessions
 
-module _ {E : Type 0} (left held : E → Option Text) (calls : E → Option ℕ) (reads writes : E → ℕ) where
+module _ {E : Type 0} (left held : E → Option Text) (reads : E → Option ℕ) (read_faults write_faults : E → ℕ) where
   -- as many ends come back as went in
-  pub talks-long : (table : NamedContext) (n : ℕ) (H : List SetEntry) (k : ℕ) (before after : List E) (endings : List Ended)
-      → EachTalks left held calls reads writes table n H k before after endings → length after ≡ length before
+  pub talks-long : (table : NamedContext) (n : ℕ) (H : List SetEntry) (k : ℕ) (before after : List E) (ended : List Ended)
+      → EachTalks left held reads read_faults write_faults table n H k before after ended → length after ≡ length before
   talks-long table n H k [] [] [] talks = refl
-  talks-long table n H k [] [] (e ∷ endings) talks = absurd talks
+  talks-long table n H k [] [] (e ∷ ended) talks = absurd talks
   talks-long table n H k [] (b ∷ after) [] talks = absurd talks
-  talks-long table n H k [] (b ∷ after) (e ∷ endings) talks = absurd talks
+  talks-long table n H k [] (b ∷ after) (e ∷ ended) talks = absurd talks
   talks-long table n H k (a ∷ before) [] [] talks = absurd talks
-  talks-long table n H k (a ∷ before) [] (e ∷ endings) talks = absurd talks
+  talks-long table n H k (a ∷ before) [] (e ∷ ended) talks = absurd talks
   talks-long table n H k (a ∷ before) (b ∷ after) [] talks = absurd talks
-  talks-long table n H k (a ∷ before) (b ∷ after) (e ∷ endings) talks =
-      let rest = talks-long table n H (suc k) before after endings talks.2 in omega arith
+  talks-long table n H k (a ∷ before) (b ∷ after) (e ∷ ended) talks =
+      let rest = talks-long table n H (suc k) before after ended talks.2 in omega arith
 
   -- what sessions come to
-  pub record IsOver (o : Opening) (before after : List E) (explore : History) (endings : List Ended) : Type 0 where
+  pub record IsOver (o : Opening) (before after : List E) (explore : History) (ended : List Ended) : Type 0 where
     pub opening : explore.opening ≡ o
     pub history : IsHistory explore.opening explore.journal
-    pub talks : EachTalks left held calls reads writes o.table MAX_LINES explore.journal 1 before after endings
+    pub talks : EachTalks left held reads read_faults write_faults o.table MAX_LINES explore.journal 1 before after ended
     pub others : (e : ℕ) → (e ≡ 0) ⊎ (length before < e) → own explore.journal e ≡ []
 
   -- the text that was made of it
-  pub record IsTextOf (explore : History) (endings : List Ended) (text : Text) (end : Ending) : Type 0 where
+  pub record IsTextOf (explore : History) (ended : List Ended) (text : Text) (end : Ending) : Type 0 where
     pub joined : text ≡ explore_text explore.opening.table explore.opening.settings explore.journal
-        ++ sessions_text (map ending_words endings)
+        ++ sessions_text (map ended_words ended)
     pub spells : Spells explore.opening.table explore.opening.settings explore.journal text
     pub ending : end ≡ ending_of (open_of explore)
 
-  pub served-text : (o : Opening) (before after : List E) (explore : History) (endings : List Ended) (text : Text) (ending : Ending)
+  pub served-text : (o : Opening) (before after : List E) (explore : History) (ended : List Ended) (text : Text) (ending : Ending)
       → is_expert o.experts ≡ true → rows_respect o.settings.known o.table.context ≡ true → HaveWidth o.table.context.width o.settings.known
-      → IsOver o before after explore endings → IsTextOf explore endings text ending
-      → IsServedText left held calls reads writes o before after text ending
-  served-text o before after explore endings text ending expert known even over made =
+      → IsOver o before after explore ended → IsTextOf explore ended text ending
+      → IsServedText left held reads read_faults write_faults o before after text ending
+  served-text o before after explore ended text ending expert known even over made =
       let H = explore.journal in
       let legal : IsLegal (opening_state o) H = let P : Opening → Type 0 = λ x. IsLegal (opening_state x) H in
       subst P over.opening over.history.legal in
-      let Joined : Opening → Type 0 = λ x. text ≡ explore_text x.table x.settings H ++ sessions_text (map ending_words endings) in
+      let Joined : Opening → Type 0 = λ x. text ≡ explore_text x.table x.settings H ++ sessions_text (map ended_words ended) in
       let Spelled : Opening → Type 0 = λ x. Spells x.table x.settings H text in
       let EndsSo : Opening → Type 0 = λ x. ending ≡ ending_of (open_of (record { opening = x; journal = H; spare = 0 })) in
       record {
         history = H;
-        endings = endings;
+        ended = ended;
         text = subst Joined over.opening made.joined;
         spells = subst Spelled over.opening made.spells;
         course = legal-course o.table o.experts o.settings H expert known even legal;
@@ -114,29 +114,29 @@ module _ {E : Type 0} (left held : E → Option Text) (calls : E → Option ℕ)
         ending = subst EndsSo over.opening made.ending;
       }
 
-  pub has-sat : (o : Opening) (before after : List E) (old new : Option (Ends E)) (explore : History) (endings : List Ended)
+  pub has-served-all : (o : Opening) (before after : List E) (old new : Option (Ends E)) (explore : History) (ended : List Ended)
       (output : Output)
       → is_expert o.experts ≡ true → rows_respect o.settings.known o.table.context ≡ true → HaveWidth o.table.context.width o.settings.known
-      → IsOver o before after explore endings
-      → (HasRoomFor old (length after) → GaveBack old new after) → IsTextOf explore endings output.text output.ending
-      → HasSat left held calls reads writes o before old new output
-  has-sat o before after old new explore endings output expert known even over gave made =
-      let long = talks-long o.table MAX_LINES explore.journal 1 before after endings over.talks in
+      → IsOver o before after explore ended
+      → (HasRoomFor old (length after) → GaveBack old new after) → IsTextOf explore ended output.text output.ending
+      → HasServedAll left held reads read_faults write_faults o before old new output
+  has-served-all o before after old new explore ended output expert known even over gave made =
+      let long = talks-long o.table MAX_LINES explore.journal 1 before after ended over.talks in
       record {
         after = after;
         gave = gave;
         long = long;
-        is = served-text o before after explore endings output.text output.ending expert known even over made;
+        is = served-text o before after explore ended output.text output.ending expert known even over made;
       }
 
-  pub risen-talks : (table : NamedContext) (H : List SetEntry) (before after : List E) (old new : Option (Ends E)) (endings : List Ended)
-      → EachTalks left held calls reads writes table MAX_LINES H 1 before after endings
+  pub risen-talks : (table : NamedContext) (H : List SetEntry) (before after : List E) (old new : Option (Ends E)) (ended : List Ended)
+      → EachTalks left held reads read_faults write_faults table MAX_LINES H 1 before after ended
       → (HasRoomFor old (length after) → GaveBack old new after)
-      → HasRisen left held calls reads writes before old new
-  risen-talks table H before after old new endings talks gave =
-      let long = talks-long table MAX_LINES H 1 before after endings talks in
-      record { after = after; gave = gave; long = long; talked = inr (table, H, endings, talks) }
+      → HasRisen left held reads read_faults write_faults before old new
+  risen-talks table H before after old new ended talks gave =
+      let long = talks-long table MAX_LINES H 1 before after ended talks in
+      record { after = after; gave = gave; long = long; talked = inr (table, H, ended, talks) }
 
   pub risen-same : (before after : List E) (old new : Option (Ends E)) → after ≡ before
-      → (HasRoomFor old (length after) → GaveBack old new after) → HasRisen left held calls reads writes before old new
+      → (HasRoomFor old (length after) → GaveBack old new after) → HasRisen left held reads read_faults write_faults before old new
   risen-same before after old new same gave = record { after = after; gave = gave; long = ap length same; talked = inl same }

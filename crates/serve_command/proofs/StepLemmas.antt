@@ -16,7 +16,7 @@ use Rattle.command_io.specs.Endings.{Output, IsRefusal, IsUnread}
 use Rattle.command_io.specs.declared.stop.Stop.{Stop}
 use Rattle.command_io.specs.declared.stop.Stop.TheVariants.{Listener, Memory}
 use Rattle.serve_command.specs.Accepted.{TookFirst, FallsShort}
-use Rattle.serve_command.specs.Served.{IsServeStop, IsOutput, GaveAllBack, HasSat, HasRisen}
+use Rattle.serve_command.specs.Served.{IsServeStop, IsOutput, GaveAllBack, HasServedAll, HasRisen}
 use Rattle.serve_command.proofs.AcceptedLemmas.{TookAndGave-none, TookAndGave-both}
 
 -- ---- results
@@ -46,9 +46,9 @@ heard s Same (inr e) unread = absurd (subst IsUnread e unread)
 -- ---- ends
 
 module _ {E : Type 0} where
-  pub early-back : (left held : E → Option Text) (calls : E → Option ℕ) (reads writes : E → ℕ) (count : ℕ) (a : Option (Ends E))
-      (failed : Type 0) → 1 ≤ count → GaveAllBack left held calls reads writes count a a failed
-  early-back left held calls reads writes count a failed some = record {
+  pub early-back : (left held : E → Option Text) (reads : E → Option ℕ) (read_faults write_faults : E → ℕ) (count : ℕ) (a : Option (Ends E))
+      (failed : Type 0) → 1 ≤ count → GaveAllBack left held reads read_faults write_faults count a a failed
+  early-back left held reads read_faults write_faults count a failed some = record {
     before = [];
     after = [];
     ends = TookAndGave-none a;
@@ -57,10 +57,11 @@ module _ {E : Type 0} where
     fewer = λ _. (omega arith, refl);
   }
 
-  pub short-back : (left held : E → Option Text) (calls : E → Option ℕ) (reads writes : E → ℕ) (count : ℕ) (a b : Option (Ends E))
+  pub short-back : (left held : E → Option Text) (reads : E → Option ℕ) (read_faults write_faults : E → ℕ) (count : ℕ)
+      (a b : Option (Ends E))
       (link_rose : Type 0) (s : Stop) → FallsShort count a b link_rose s
-      → GaveAllBack left held calls reads writes count a b (s ≡ Listener)
-  short-back left held calls reads writes count a b link_rose s short = record {
+      → GaveAllBack left held reads read_faults write_faults count a b (s ≡ Listener)
+  short-back left held reads read_faults write_faults count a b link_rose s short = record {
     before = short.taken;
     after = short.taken;
     ends = short.served;
@@ -69,11 +70,11 @@ module _ {E : Type 0} where
     fewer = λ listener. (short.fewer listener, refl);
   }
 
-  risen-back : (left held : E → Option Text) (calls : E → Option ℕ) (reads writes : E → ℕ) (count : ℕ) (a b c : Option (Ends E))
+  risen-back : (left held : E → Option Text) (reads : E → Option ℕ) (read_faults write_faults : E → ℕ) (count : ℕ) (a b c : Option (Ends E))
       (before : List E) (s : Stop) → IsWithinRoom a → TookFirst a b before
-      → length before ≡ count → HasRisen left held calls reads writes before b c → s ≡ Memory
-      → GaveAllBack left held calls reads writes count a c (s ≡ Listener)
-  risen-back left held calls reads writes count a b c before s within took many risen memory = record {
+      → length before ≡ count → HasRisen left held reads read_faults write_faults before b c → s ≡ Memory
+      → GaveAllBack left held reads read_faults write_faults count a c (s ≡ Listener)
+  risen-back left held reads read_faults write_faults count a b c before s within took many risen memory = record {
     before = before;
     after = risen.after;
     ends = TookAndGave-both a b c before risen.after within risen.long took risen.gave;
@@ -82,25 +83,28 @@ module _ {E : Type 0} where
     fewer = λ listener. cc;
   }
 
-  pub risen-ends : (left held : E → Option Text) (calls : E → Option ℕ) (reads writes : E → ℕ) (count : ℕ) (a b c : Option (Ends E))
+  pub risen-ends : (left held : E → Option Text) (reads : E → Option ℕ) (read_faults write_faults : E → ℕ) (count : ℕ)
+      (a b c : Option (Ends E))
       (before : List E) (r : Result Output Stop) → IsWithinRoom a
-      → TookFirst a b before → length before ≡ count → IfErr r (λ _. HasRisen left held calls reads writes before b c)
+      → TookFirst a b before → length before ≡ count → IfErr r (λ _. HasRisen left held reads read_faults write_faults before b c)
       → IfErr r (λ stop. stop ≡ Memory)
-      → IfErr r (λ stop. GaveAllBack left held calls reads writes count a c (stop ≡ Listener))
-  risen-ends left held calls reads writes count a b c before (Ok o) within took many risen memory = tt
-  risen-ends left held calls reads writes count a b c before (Err s) within took many risen memory =
-      risen-back left held calls reads writes count a b c before s within took many risen memory
+      → IfErr r (λ stop. GaveAllBack left held reads read_faults write_faults count a c (stop ≡ Listener))
+  risen-ends left held reads read_faults write_faults count a b c before (Ok o) within took many risen memory = tt
+  risen-ends left held reads read_faults write_faults count a b c before (Err s) within took many risen memory =
+      risen-back left held reads read_faults write_faults count a b c before s within took many risen memory
 
-  pub sat-output : (left held : E → Option Text) (calls : E → Option ℕ) (reads writes : E → ℕ) (o : Opening) (a b c : Option (Ends E))
+  pub served-output : (left held : E → Option Text) (reads : E → Option ℕ) (read_faults write_faults : E → ℕ) (o : Opening)
+      (a b c : Option (Ends E))
       (before : List E) (output : Output)
-      → IsWithinRoom a → TookFirst a b before → length before ≡ o.experts → HasSat left held calls reads writes o before b c output
-      → IsOutput left held calls reads writes o a c output
-  sat-output left held calls reads writes o a b c before output within took many sat = record {
+      → IsWithinRoom a → TookFirst a b before → length before ≡ o.experts
+      → HasServedAll left held reads read_faults write_faults o before b c output
+      → IsOutput left held reads read_faults write_faults o a c output
+  served-output left held reads read_faults write_faults o a b c before output within took many served_all = record {
     before = before;
-    after = sat.after;
+    after = served_all.after;
     count = many;
-    ends = TookAndGave-both a b c before sat.after within sat.long took sat.gave;
-    is = sat.is;
+    ends = TookAndGave-both a b c before served_all.after within served_all.long took served_all.gave;
+    is = served_all.is;
   }
 
 -- ---- which stop it is

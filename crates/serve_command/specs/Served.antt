@@ -24,18 +24,18 @@ use Rattle.command_io.specs.declared.output.Ending.{Ending}
 use Rattle.command_io.specs.Explorations.{Recorded, open_at, IsExplored}
 use Rattle.serve_command.specs.Accepted.{TookAndGave, GaveBack, HasRoomFor}
 use Rattle.serve_command.specs.Openings.{opening_by}
-use Rattle.serve_command.specs.declared.ending_words.TheConstants.{QUIT, END_OF_INPUT, LONG_LINE, LIMIT, SPENT}
+use Rattle.serve_command.specs.declared.ended_words.TheConstants.{QUIT, END_OF_INPUT, LONG_LINE, LIMIT, SPENT}
 
 -- the words that say how a session ended
-abbrev pub ending_words : Ended → Text
-ending_words Quit = QUIT.now
-ending_words EndOfInput = END_OF_INPUT.now
-ending_words ReadFault = READ_FAULT.now
-ending_words WriteFault = WRITE_FAULT.now
-ending_words LongLine = LONG_LINE.now
-ending_words Limit = LIMIT.now
-ending_words Spent = SPENT.now
-ending_words Memory = NO_MEMORY.now
+abbrev pub ended_words : Ended → Text
+ended_words Quit = QUIT.now
+ended_words EndOfInput = END_OF_INPUT.now
+ended_words ReadFault = READ_FAULT.now
+ended_words WriteFault = WRITE_FAULT.now
+ended_words LongLine = LONG_LINE.now
+ended_words Limit = LIMIT.now
+ended_words Spent = SPENT.now
+ended_words Memory = NO_MEMORY.now
 
 -- the exploration that was opened so and has this history
 abbrev pub serving_record : Opening → List SetEntry → Recorded
@@ -43,20 +43,20 @@ serving_record o H = record { opening = o; journal = H }
 
 -- its text, and how the sessions ended
 abbrev pub served_text : Opening → List SetEntry → List Ended → Text
-served_text o H endings = explore_text o.table o.settings H ++ sessions_text (map ending_words endings)
+served_text o H ended = explore_text o.table o.settings H ++ sessions_text (map ended_words ended)
 
 -- over ends that show what is left and what is held, how often they were read, if they count that, and their counts of faults
-module _ {E : Type 0} (left held : E → Option Text) (calls : E → Option ℕ) (reads writes : E → ℕ) where
+module _ {E : Type 0} (left held : E → Option Text) (reads : E → Option ℕ) (read_faults write_faults : E → ℕ) where
   -- The text spells the settings of the exploration and one legal history, which has no entries but those of the experts at these ends.
   -- Expert k has talked over the k-th of them, which was read only after each whole line was answered, and the text says how that session
   -- ended. Its ending says whether a question is open after the last entry
   pub record IsServedText (o : Opening) (before after : List E) (written : Text) (end : Ending) : Type 0 where
     pub history : List SetEntry
-    pub endings : List Ended
-    pub text : written ≡ served_text o history endings
+    pub ended : List Ended
+    pub text : written ≡ served_text o history ended
     pub spells : Spells o.table o.settings history written
     pub course : IsExplored (serving_record o history)
-    pub talks : EachTalks left held calls reads writes o.table MAX_LINES history 1 before after endings
+    pub talks : EachTalks left held reads read_faults write_faults o.table MAX_LINES history 1 before after ended
     pub others : (e : ℕ) → (e ≡ 0) ⊎ (length before < e) → own history e ≡ []
     pub ending : end ≡ ending_of (open_at (serving_record o history))
 
@@ -64,8 +64,8 @@ module _ {E : Type 0} (left held : E → Option Text) (calls : E → Option ℕ)
   abbrev pub MayHaveTalked : List E → List E → Type 0
   MayHaveTalked before after =
       (after ≡ before)
-      ⊎ ((table : NamedContext) × (H : List SetEntry) × (endings : List Ended)
-      × EachTalks left held calls reads writes table MAX_LINES H 1 before after endings)
+      ⊎ ((table : NamedContext) × (H : List SetEntry) × (ended : List Ended)
+      × EachTalks left held reads read_faults write_faults table MAX_LINES H 1 before after ended)
 
   -- an output: the accepted ends, as many as there are experts, are given back, and the text is that of their sessions
   pub record IsOutput (o : Opening) (old new : Option (Ends E)) (output : Output) : Type 0 where
@@ -93,7 +93,7 @@ module _ {E : Type 0} (left held : E → Option Text) (calls : E → Option ℕ)
   -- ---- the steps of a call
 
   -- these ends went through their sessions and were given back if there was room, and the output is that of their sessions
-  pub record HasSat (o : Opening) (before : List E) (old new : Option (Ends E)) (output : Output) : Type 0 where
+  pub record HasServedAll (o : Opening) (before : List E) (old new : Option (Ends E)) (output : Output) : Type 0 where
     pub after : List E
     pub gave : HasRoomFor old (length after) → GaveBack old new after
     pub long : length after ≡ length before

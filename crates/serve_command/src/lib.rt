@@ -2,7 +2,7 @@
 #![tactic(auto)]
 
 mod accepting;
-mod ending_words;
+mod ended_words;
 mod opening;
 mod serving;
 

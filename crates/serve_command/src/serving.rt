@@ -14,10 +14,10 @@ ghost use Rattle.command_io.specs.Causes.{UnlessFault, UnlessListener};
 ghost use Rattle.command_io.specs.Known.{start_read};
 ghost use Rattle.command_io.specs.Endings.{ending_of, IsRefusal, IsUnread};
 ghost use Rattle.serve_command.specs.Openings.{IsNew};
-ghost use Rattle.serve_command.specs.Served.{ending_words, IsServeStop, MayServe, GaveAllBack, HasSat, HasRisen};
+ghost use Rattle.serve_command.specs.Served.{ended_words, IsServeStop, MayServe, GaveAllBack, HasServedAll, HasRisen};
 
 use crate::accepting::{ends_at, give_back};
-use crate::ending_words::all_ending_words;
+use crate::ended_words::all_ended_words;
 use crate::opening::open_exploration;
 use basis_report::{explore_text, sessions_text};
 use command_io::{Ending, Output, Stop, Text, load_start};
@@ -89,8 +89,8 @@ fn explore_over<R: Threads + Wait + Sync, L: Listener>(
     requires new { IsNew explore }
     requires count { explore.opening.experts ≡ vec_len ends }
 
-    ensures sat { IfOk result (λ output. HasSat L.End.Source.left L.End.Sink.held L.End.Source.reads L.End.Source.faults L.End.Sink.faults
-        explore.opening ends.items (L.ends link.old) (L.ends link.new) output) }
+    ensures served_all { IfOk result (λ output. HasServedAll L.End.Source.left L.End.Sink.held L.End.Source.reads L.End.Source.faults
+        L.End.Sink.faults explore.opening ends.items (L.ends link.old) (L.ends link.new) output) }
     ensures risen { IfErr result (λ _. HasRisen L.End.Source.left L.End.Sink.held L.End.Source.reads L.End.Source.faults L.End.Sink.faults
         ends.items (L.ends link.old) (L.ends link.new)) }
     ensures cause { IfErr result (λ stop. stop ≡ Stop.Memory) }
@@ -103,10 +103,10 @@ fn explore_over<R: Threads + Wait + Sync, L: Listener>(
             let Served {
                 explore,
                 ends,
-                endings,
+                ended,
             } = served;
             give_back(link, ends);
-            output_of(alloc, &explore, &endings)
+            output_of(alloc, &explore, &ended)
         }
         Err(Unserved { ends }) => {
             give_back(link, ends);
@@ -119,12 +119,12 @@ fn explore_over<R: Threads + Wait + Sync, L: Listener>(
 fn output_of(alloc: Global, explore: &Explore, ended: &[Ended]) -> Result<Output, Stop>
     requires { SettingsCanBeWritten explore.now.opening.table.context.width explore.now.opening.settings }
     ensures text { IfOk result (λ output. output.text ≡ explore_text explore.now.opening.table explore.now.opening.settings explore.now.journal
-        ++ sessions_text (map ending_words ended.now)) }
+        ++ sessions_text (map ended_words ended.now)) }
     ensures spells { IfOk result (λ output. Spells explore.now.opening.table explore.now.opening.settings explore.now.journal output.text) }
     ensures ending { IfOk result (λ output. output.ending ≡ ending_of (open_of explore.now)) }
     ensures cause { IfErr result (λ stop. stop ≡ Stop.Memory) }
 {
-    let words = all_ending_words(alloc, ended)?;
+    let words = all_ended_words(alloc, ended)?;
     let mut text = explore_text(alloc, explore)?;
     let sessions = sessions_text(alloc, &words)?;
     text.extend_from_slice(&sessions)?;

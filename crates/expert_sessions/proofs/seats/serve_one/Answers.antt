@@ -1,5 +1,5 @@
 use Rattle.std.proofs.Common.{rules}
-use Rattle.expert_sessions.specs.Moves.{wire_of}
+use Rattle.expert_sessions.specs.Moves.{end_state_of}
 use Rattle.expert_sessions.specs.Order.{ReadsInTurn}
 use Rattle.expert_sessions.proofs.ServingLemmas.{same_badge, at_number, at_pass}
 use Rattle.expert_sessions.proofs.seats.serve_one.Goals as goal
@@ -8,8 +8,8 @@ pub returns-clause-talk : goal.returns-clause-talk
 returns-clause-talk g c =
     let place = c.session.ensures.desk.same.place in
     at_pass c.args.terms.now.table c.number-expert.result c.args.terms.now.lines
-    (wire_of g.E.Source.left g.E.Sink.held g.E.Source.faults g.E.Sink.faults c.args.end.now)
-    (wire_of g.E.Source.left g.E.Sink.held g.E.Source.faults g.E.Sink.faults c.session.new.end)
+    (end_state_of g.E.Source.left g.E.Sink.held g.E.Source.faults g.E.Sink.faults c.args.end.now)
+    (end_state_of g.E.Source.left g.E.Sink.held g.E.Source.faults g.E.Sink.faults c.session.new.end)
     c.args.pass.now c.session.new.desk.pass.now c.pass-1.given.0 c.args.gate.now c.session.result
     c.session.ensures.talk c.session.ensures.turns c.requires.lock c.requires.fresh c.session.ensures.desk.same.lock c.number-expert.ensures
     c.requires.terms.turns (search rules)

@@ -23,8 +23,8 @@ run_seats-requires-clause-ready g c κs within =
     (subst (All (Belongs c.in-Ok.hall.gate)) (sym c.fill_seats-seats.ensures.passes) belong)
     (subst (All IsFresh) (sym c.fill_seats-seats.ensures.passes) c.in-Ok.ensures.fresh)
 
-pub split_seats-passes-requires-clause-room : goal.split_seats-passes-requires-clause-room
-split_seats-passes-requires-clause-room g c =
+pub split_into-passes-requires-clause-room : goal.split_into-passes-requires-clause-room
+split_into-passes-requires-clause-room g c =
     let counts = c.in-Ok.ensures.counts in
     let some : 1 ≤ c.in-Ok.hall.gate.passes = c.in-Ok.ensures.some in
     let many = length-news g.E.Source.left g.E.Sink.held g.E.Source.reads g.E.Source.faults g.E.Sink.faults c.args.explore.opening.table
@@ -35,7 +35,7 @@ split_seats-passes-requires-clause-room g c =
     let room = c.in-Ok.ensures.room in
     let passes = room.passes in
     let ends = room.ends in
-    let endings = room.endings in
+    let ended = room.ended in
     (omega arith, omega arith, omega arith)
 
 pub close-requires : goal.close-requires
@@ -45,9 +45,9 @@ close-requires g c =
     record {
       passes = roll_kept g.E.Source.left g.E.Sink.held g.E.Source.reads g.E.Source.faults g.E.Sink.faults c.args.explore.opening.table
           c.in-Ok.hall.terms.table c.args.lines c.in-Ok.hall.terms.lines c.in-Ok.hall.gate c.in-Ok.hall.passes.items
-          c.split_seats-passes.result.0.items
+          c.split_into-passes.result.0.items
           c.fill_seats-seats.result.items c.run_seats.new.seats.items some c.in-Ok.ensures.passes c.fill_seats-seats.ensures.passes
-          c.split_seats-passes.ensures.passes c.run_seats.ensures;
+          c.split_into-passes.ensures.passes c.run_seats.ensures;
     }
 
 pub returns-clause-talks : goal.returns-clause-talks
@@ -56,12 +56,12 @@ returns-clause-talks g c =
     let some : 1 ≤ c.in-Ok.hall.gate.passes = c.in-Ok.ensures.some in
     talks_told g.E.Source.left g.E.Sink.held g.E.Source.reads g.E.Source.faults g.E.Sink.faults c.args.explore.opening.table
     c.in-Ok.hall.terms.table c.args.lines c.in-Ok.hall.terms.lines c.in-Ok.hall.gate c.in-Ok.hall.passes.items
-    c.split_seats-passes.result.0.items
+    c.split_into-passes.result.0.items
     c.fill_seats-seats.result.items c.run_seats.new.seats.items some c.in-Ok.ensures.passes c.fill_seats-seats.ensures.passes
-    c.split_seats-passes.ensures.passes c.run_seats.ensures
-    c.close.result.journal c.close.ensures.entries c.args.ends.items c.split_seats-passes.result.1.items c.split_seats-passes.result.2.items
-    c.in-Ok.ensures.terms.0 c.in-Ok.ensures.terms.1 c.fill_seats-seats.ensures.ends c.split_seats-passes.ensures.ends
-    c.split_seats-passes.ensures.endings
+    c.split_into-passes.ensures.passes c.run_seats.ensures
+    c.close.result.journal c.close.ensures.entries c.args.ends.items c.split_into-passes.result.1.items c.split_into-passes.result.2.items
+    c.in-Ok.ensures.terms.0 c.in-Ok.ensures.terms.1 c.fill_seats-seats.ensures.ends c.split_into-passes.ensures.ends
+    c.split_into-passes.ensures.ended
 
 pub returns-clause-others : goal.returns-clause-others
 returns-clause-others g c = λ e h.
@@ -69,9 +69,9 @@ returns-clause-others g c = λ e h.
     let some : 1 ≤ c.in-Ok.hall.gate.passes = c.in-Ok.ensures.some in
     others_told g.E.Source.left g.E.Sink.held g.E.Source.reads g.E.Source.faults g.E.Sink.faults c.args.explore.opening.table
     c.in-Ok.hall.terms.table c.args.lines c.in-Ok.hall.terms.lines c.in-Ok.hall.gate c.in-Ok.hall.passes.items
-    c.split_seats-passes.result.0.items
+    c.split_into-passes.result.0.items
     c.fill_seats-seats.result.items c.run_seats.new.seats.items some c.in-Ok.ensures.passes c.fill_seats-seats.ensures.passes
-    c.split_seats-passes.ensures.passes c.run_seats.ensures
+    c.split_into-passes.ensures.passes c.run_seats.ensures
     c.close.result.journal c.close.ensures.entries e
     (elim h as (λ _. (e ≡ 0) ⊎ (c.in-Ok.hall.gate.passes < e)) [ inl none ↦ inl none | inr more ↦ inr (omega arith) ])
 

@@ -2,7 +2,7 @@ use Rattle.std.proofs.Common.{◌≡◌, true, false}
 use Rattle.std.specs.Prelude.{is_err}
 use Rattle.std.proofs.lemmas.Result.{err_from_is_err_and}
 use Rattle.expert_gate.proofs.DeskLemmas.{Works-nil}
-use Rattle.expert_sessions.specs.Moves.{wire_of, place_of}
+use Rattle.expert_sessions.specs.Moves.{end_state_of, desk_count_of}
 use Rattle.expert_sessions.proofs.LineLemmas.{sent_whole, sent_quiet}
 use Rattle.expert_sessions.proofs.CourseLemmas.{unread, unturned, line-served, line-quits, line-unanswered}
 use Rattle.expert_sessions.proofs.OrderLemmas.{answered}
@@ -12,9 +12,9 @@ pub returns-in_err-at-clause-halted : goal.returns-in_err-at-clause-halted
 returns-in_err-at-clause-halted g c =
     let p = err_from_is_err_and c.from_residual.result c.from_residual.ensures.1 in
     rw (p.1, p.2) (unread c.args.table.now (g.D.Desk.state c.args.desk.now).number
-    (wire_of g.E.Source.left g.E.Sink.held g.E.Source.faults g.E.Sink.faults c.args.end.now)
-    (wire_of g.E.Source.left g.E.Sink.held g.E.Source.faults g.E.Sink.faults c.read_line.new.end)
-    (place_of (g.D.Desk.state c.args.desk.now))
+    (end_state_of g.E.Source.left g.E.Sink.held g.E.Source.faults g.E.Sink.faults c.args.end.now)
+    (end_state_of g.E.Source.left g.E.Sink.held g.E.Source.faults g.E.Sink.faults c.read_line.new.end)
+    (desk_count_of (g.D.Desk.state c.args.desk.now))
     c.args.ahead.now c.read_line.new.self _ c.read_line.ensures.read c.in_err-at.ensures.none)
 
 pub returns-in_err-said-clause-halted : goal.returns-in_err-said-clause-halted
@@ -22,10 +22,10 @@ returns-in_err-said-clause-halted g c =
     let p = err_from_is_err_and c.from_residual-in_err-said.result c.from_residual-in_err-said.ensures.1 in
     let spent = rw c.line.ensures at c.in_err-said.ensures.spent in
     rw (p.1, p.2) (unturned c.args.table.now (g.D.Desk.state c.args.desk.now).number
-    (wire_of g.E.Source.left g.E.Sink.held g.E.Source.faults g.E.Sink.faults c.args.end.now)
-    (wire_of g.E.Source.left g.E.Sink.held g.E.Source.faults g.E.Sink.faults c.read_line.new.end)
-    (place_of (g.D.Desk.state c.args.desk.now))
-    (place_of (g.D.Desk.state c.answer.new.desk))
+    (end_state_of g.E.Source.left g.E.Sink.held g.E.Source.faults g.E.Sink.faults c.args.end.now)
+    (end_state_of g.E.Source.left g.E.Sink.held g.E.Source.faults g.E.Sink.faults c.read_line.new.end)
+    (desk_count_of (g.D.Desk.state c.args.desk.now))
+    (desk_count_of (g.D.Desk.state c.answer.new.desk))
     c.args.ahead.now c.read_line.new.self c.in_ok-at.at _ spent.3 c.read_line.ensures.read c.in_ok-at.ensures.quiet c.in_ok-at.ensures.line
     c.in_ok-at.ensures.short spent.4 spent.0 spent.1 spent.2)
 
@@ -34,11 +34,11 @@ returns-then-is_err-clause-halted g c =
     let answered = rw c.line.ensures at c.in_ok-said.ensures.answered in
     let failed : is_err c.write_said.result ≡ true = cc (c.is_err.ensures.value, c.if-is_err.true) in
     line-unanswered c.args.table.now (g.D.Desk.state c.args.desk.now).number
-    (wire_of g.E.Source.left g.E.Sink.held g.E.Source.faults g.E.Sink.faults c.args.end.now)
-    (wire_of g.E.Source.left g.E.Sink.held g.E.Source.faults g.E.Sink.faults c.read_line.new.end)
-    (wire_of g.E.Source.left g.E.Sink.held g.E.Source.faults g.E.Sink.faults c.write_said.new.end)
-    (place_of (g.D.Desk.state c.args.desk.now))
-    (place_of (g.D.Desk.state c.answer.new.desk))
+    (end_state_of g.E.Source.left g.E.Sink.held g.E.Source.faults g.E.Sink.faults c.args.end.now)
+    (end_state_of g.E.Source.left g.E.Sink.held g.E.Source.faults g.E.Sink.faults c.read_line.new.end)
+    (end_state_of g.E.Source.left g.E.Sink.held g.E.Source.faults g.E.Sink.faults c.write_said.new.end)
+    (desk_count_of (g.D.Desk.state c.args.desk.now))
+    (desk_count_of (g.D.Desk.state c.answer.new.desk))
     c.args.ahead.now c.read_line.new.self c.forget.new.self c.in_ok-at.at c.in_ok-said.said answered.0 answered.1
     c.read_line.ensures.read c.in_ok-at.ensures.quiet c.in_ok-at.ensures.line c.in_ok-at.ensures.short answered.2 answered.3
     c.forget.ensures
@@ -49,11 +49,11 @@ returns-in-Bye-clause-halted g c =
     let answered = rw c.line.ensures at c.in_ok-said.ensures.answered in
     let ok : is_err c.write_said.result ≡ false = cc (c.is_err.ensures.value, c.if-is_err.false) in
     line-quits c.args.table.now (g.D.Desk.state c.args.desk.now).number
-    (wire_of g.E.Source.left g.E.Sink.held g.E.Source.faults g.E.Sink.faults c.args.end.now)
-    (wire_of g.E.Source.left g.E.Sink.held g.E.Source.faults g.E.Sink.faults c.read_line.new.end)
-    (wire_of g.E.Source.left g.E.Sink.held g.E.Source.faults g.E.Sink.faults c.write_said.new.end)
-    (place_of (g.D.Desk.state c.args.desk.now))
-    (place_of (g.D.Desk.state c.answer.new.desk))
+    (end_state_of g.E.Source.left g.E.Sink.held g.E.Source.faults g.E.Sink.faults c.args.end.now)
+    (end_state_of g.E.Source.left g.E.Sink.held g.E.Source.faults g.E.Sink.faults c.read_line.new.end)
+    (end_state_of g.E.Source.left g.E.Sink.held g.E.Source.faults g.E.Sink.faults c.write_said.new.end)
+    (desk_count_of (g.D.Desk.state c.args.desk.now))
+    (desk_count_of (g.D.Desk.state c.answer.new.desk))
     c.args.ahead.now c.read_line.new.self c.forget.new.self c.in_ok-at.at c.in_ok-said.said answered.0 answered.1
     c.read_line.ensures.read c.in_ok-at.ensures.quiet c.in_ok-at.ensures.line c.in_ok-at.ensures.short answered.2 answered.3
     c.forget.ensures
@@ -65,11 +65,11 @@ returns-in_default-clause-served g c =
     let answered = rw c.line.ensures at c.in_ok-said.ensures.answered in
     let ok : is_err c.write_said.result ≡ false = cc (c.is_err.ensures.value, c.if-is_err.false) in
     line-served c.args.table.now (g.D.Desk.state c.args.desk.now).number
-    (wire_of g.E.Source.left g.E.Sink.held g.E.Source.faults g.E.Sink.faults c.args.end.now)
-    (wire_of g.E.Source.left g.E.Sink.held g.E.Source.faults g.E.Sink.faults c.read_line.new.end)
-    (wire_of g.E.Source.left g.E.Sink.held g.E.Source.faults g.E.Sink.faults c.write_said.new.end)
-    (place_of (g.D.Desk.state c.args.desk.now))
-    (place_of (g.D.Desk.state c.answer.new.desk))
+    (end_state_of g.E.Source.left g.E.Sink.held g.E.Source.faults g.E.Sink.faults c.args.end.now)
+    (end_state_of g.E.Source.left g.E.Sink.held g.E.Source.faults g.E.Sink.faults c.read_line.new.end)
+    (end_state_of g.E.Source.left g.E.Sink.held g.E.Source.faults g.E.Sink.faults c.write_said.new.end)
+    (desk_count_of (g.D.Desk.state c.args.desk.now))
+    (desk_count_of (g.D.Desk.state c.answer.new.desk))
     c.args.ahead.now c.read_line.new.self c.forget.new.self c.in_ok-at.at c.in_ok-said.said answered.0 answered.1
     c.read_line.ensures.read c.in_ok-at.ensures.quiet c.in_ok-at.ensures.line c.in_ok-at.ensures.short answered.2 answered.3
     c.forget.ensures

@@ -8,7 +8,7 @@ use Rattle.fca_command.specs.declared.command.Command.{Command}
 use Rattle.fca_command.specs.declared.command.Command.TheVariants.{Replay}
 use Rattle.command_io.specs.Endings.{Output}
 use Rattle.replay_command.specs.Replayed.{replay_read, MayReplay}
-use Rattle.fca_run.specs.Calls.{MayEnd}
+use Rattle.fca_run.specs.Calls.{MayEndWith}
 use Rattle.fca_run.specs.Courses.{HasCourse}
 use Rattle.command_io.specs.Readings.{SameCounts}
 use Rattle.command_io.proofs.QuietLemmas.{unless_fault}
@@ -26,9 +26,10 @@ pub returns-in-Replay-clause-ending : goal.returns-in-Replay-clause-ending
 returns-in-Replay-clause-ending g c =
     let reading = replay_read c.in-Replay.file (option_copied c.as_ref.result) (g.H.Shelf.tells c.args.shelf.now)
     (g.S.Source.left c.args.input.now) in
-    let Ends : Command → Type 0 = λ command. IfOk c.replay.result (λ (output : Output). MayEnd command output.ending) in
+    let Ends : Command → Type 0 = λ command. IfOk c.replay.result (λ (output : Output). MayEndWith command output.ending) in
     subst Ends (sym c.in-Replay.is)
-    (IfOk-weaker c.replay.result (MayReplay reading) (λ (output : Output). MayEnd (Replay c.in-Replay.file c.in-Replay.known) output.ending)
+    (IfOk-weaker c.replay.result (MayReplay reading)
+    (λ (output : Output). MayEndWith (Replay c.in-Replay.file c.in-Replay.known) output.ending)
     (λ output replay. replay-ends c.in-Replay.file c.in-Replay.known reading output replay) c.replay.ensures.replayed)
 
 pub returns-in-Replay-clause-course : goal.returns-in-Replay-clause-course

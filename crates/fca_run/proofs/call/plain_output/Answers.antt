@@ -8,7 +8,7 @@ use Rattle.command_io.specs.Streams.{moment}
 use Rattle.fca_io.specs.Faults.{RoseAtMost}
 use Rattle.fca_command.specs.Commands.{files_by, reads_input}
 use Rattle.fca_run.specs.Outputs.{output_by}
-use Rattle.fca_run.specs.Calls.{shelf_moment, unlinked, outside, IsStopBy, MayEnd}
+use Rattle.fca_run.specs.Calls.{shelf_moment, unlinked, outside, IsStopBy, MayEndWith}
 use Rattle.command_io.proofs.QuietLemmas.{unless_fault}
 use Rattle.command_io.proofs.FetchLemmas.{fetched_one}
 use Rattle.fca_run.proofs.CallLemmas.{any-ok, finished-ends, course-report_file, reads_input-report_file}

@@ -3,7 +3,7 @@ use Rattle.fca_command.specs.Commands.{command_form, is_plain}
 use Rattle.fca_command.specs.declared.command.Command.{Command}
 use Rattle.command_io.specs.Streams.{moment}
 use Rattle.command_io.specs.declared.stop.Stop.TheVariants.{NoCommand, Memory}
-use Rattle.fca_run.specs.Causes.{fault_file}
+use Rattle.fca_run.specs.Causes.{command_file_at_fault}
 use Rattle.fca_run.specs.Calls.{shelf_moment, link_moment, sides, outside, HasRun, CallComesTo}
 use Rattle.fca_run.proofs.CallLemmas.{plain-linked, unread-input, concluded-memory, call-memory}
 use Rattle.fca_run.proofs.call.run.Goals as goal
@@ -86,6 +86,6 @@ returns-in-Err g c =
         concluded = concluded-memory (moment g.K.Sink.held g.K.Sink.faults c.args.out.now)
             (moment g.K.Sink.held g.K.Sink.faults end.new.out)
             (moment g.E.Sink.held g.E.Sink.faults c.args.err.now) (moment g.E.Sink.held g.E.Sink.faults end.new.err) end.result (λ _. [])
-            (fault_file call) end.ensures;
+            (command_file_at_fault call) end.ensures;
       };
     }

@@ -4,9 +4,9 @@ use Rattle.fca_model.proofs.ListLemmas.{IfErr-any}
 use Rattle.basis_report.specs.Explorations.{explore_text}
 use Rattle.basis_report.specs.Sessions.{sessions_text}
 use Rattle.serve_command.specs.Accepted.{HasRoomFor}
-use Rattle.serve_command.specs.Served.{ending_words}
+use Rattle.serve_command.specs.Served.{ended_words}
 use Rattle.serve_command.proofs.StepLemmas.{ok-from-three}
-use Rattle.serve_command.proofs.ServedLemmas.{IsOver, has-sat, risen-talks}
+use Rattle.serve_command.proofs.ServedLemmas.{IsOver, has-served-all, risen-talks}
 use Rattle.serve_command.proofs.serving.explore_over.Goals as goal
 
 pub returns-in-Ok-clause-risen : goal.returns-in-Ok-clause-risen
@@ -15,11 +15,11 @@ returns-in-Ok-clause-risen g c =
     IfErr-any c.output_of.result _ (λ s.
     risen-talks g.L.End.Source.left g.L.End.Sink.held g.L.End.Source.reads g.L.End.Source.faults g.L.End.Sink.faults
     c.args.explore.opening.table c.in-Ok.served.explore.journal
-    c.args.ends.items c.in-Ok.served.ends.items _ _ c.in-Ok.served.endings.items c.in-Ok.ensures.talks
+    c.args.ends.items c.in-Ok.served.ends.items _ _ c.in-Ok.served.ended.items c.in-Ok.ensures.talks
     (λ room. c.give_back.ensures.given (subst Room (sym c.in-Ok.served.ends.ok.0) room)))
 
-pub returns-in-Ok-clause-sat : goal.returns-in-Ok-clause-sat
-returns-in-Ok-clause-sat g c =
+pub returns-in-Ok-clause-served_all : goal.returns-in-Ok-clause-served_all
+returns-in-Ok-clause-served_all g c =
     let Room : ℕ → Type 0 = HasRoomFor (g.L.Listener.ends c.args.link.now) in
     let explore = c.in-Ok.served.explore in
     let H = explore.journal in
@@ -29,20 +29,21 @@ returns-in-Ok-clause-sat g c =
     let told = c.output_of.ensures in
     let over : IsOver g.L.End.Source.left g.L.End.Sink.held g.L.End.Source.reads g.L.End.Source.faults g.L.End.Sink.faults
     c.args.explore.opening c.args.ends.items c.in-Ok.served.ends.items
-    explore c.in-Ok.served.endings.items = record {
+    explore c.in-Ok.served.ended.items = record {
       opening = c.in-Ok.ensures.opening;
       history = c.in-Ok.ensures.history;
       talks = c.in-Ok.ensures.talks;
       others = subst Others many c.in-Ok.ensures.others;
     } in
     ok-from-three c.output_of.result _ _ _ _ told.text told.spells told.ending (λ output text spells ending.
-    has-sat g.L.End.Source.left g.L.End.Sink.held g.L.End.Source.reads g.L.End.Source.faults g.L.End.Sink.faults c.args.explore.opening
+    has-served-all g.L.End.Source.left g.L.End.Sink.held g.L.End.Source.reads g.L.End.Source.faults g.L.End.Sink.faults
+    c.args.explore.opening
     c.args.ends.items c.in-Ok.served.ends.items _ _
-    explore c.in-Ok.served.endings.items output new.experts new.respecting new.writable.known over
+    explore c.in-Ok.served.ended.items output new.experts new.respecting new.writable.known over
     (λ room. c.give_back.ensures.given (subst Room (sym c.in-Ok.served.ends.ok.0) room))
     (record {
-      joined = text ∙ ap (λ endings. explore_text explore.opening.table explore.opening.settings H
-          ++ sessions_text (map ending_words endings)) c.deref.ensures.value;
+      joined = text ∙ ap (λ ended. explore_text explore.opening.table explore.opening.settings H
+          ++ sessions_text (map ended_words ended)) c.deref.ensures.value;
       spells = spells;
       ending = ending;
     }))

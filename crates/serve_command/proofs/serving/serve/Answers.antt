@@ -11,7 +11,7 @@ use Rattle.command_io.proofs.ErrLemmas.{err-passed}
 use Rattle.command_io.proofs.QuietLemmas.{unless_fault, unless_listener, fault-passed, listener-passed, SameCounts-then}
 use Rattle.command_io.specs.Known.{start_of}
 use Rattle.serve_command.specs.Served.{IsOutput}
-use Rattle.serve_command.proofs.StepLemmas.{early-back, short-back, risen-ends, sat-output, memory-serve, link-serve}
+use Rattle.serve_command.proofs.StepLemmas.{early-back, short-back, risen-ends, served-output, memory-serve, link-serve}
 use Rattle.serve_command.proofs.StepLemmas.{heard, heard-refused}
 use Rattle.serve_command.proofs.serving.serve.Goals as goal
 
@@ -49,14 +49,14 @@ returns-clause-output g c =
     let o : Opening = c.in_ok-explore.explore.opening in
     let is = c.in_ok-explore.ensures.opening in
     let many = sym c.in_ok-ends.ends.ok.0 ∙ c.in_ok-ends.ensures.count ∙ sym (ap (λ (p : Opening). p.experts) is) in
-    IfOk-weaker c.explore_over.result _ _ (λ output sat. (
+    IfOk-weaker c.explore_over.result _ _ (λ output served_all. (
       start_of c.in_ok-start.start,
       c.in_ok-start.ensures.start,
       subst (λ (p : Opening). IsOutput g.L.End.Source.left g.L.End.Sink.held g.L.End.Source.reads g.L.End.Source.faults g.L.End.Sink.faults
           p (g.L.Listener.ends c.args.link.now) (g.L.Listener.ends c.explore_over.new.link) output) is
-          (sat-output _ _ _ _ _ o _ _ _ _ _ c.in_ok-ends.ensures.within c.in_ok-ends.ensures.taken many sat),
+          (served-output _ _ _ _ _ o _ _ _ _ _ c.in_ok-ends.ensures.within c.in_ok-ends.ensures.taken many served_all),
     ))
-    c.explore_over.ensures.sat
+    c.explore_over.ensures.served_all
 
 pub returns-clause-refused : goal.returns-clause-refused
 returns-clause-refused g c = IfErr-weaker c.explore_over.result _ _

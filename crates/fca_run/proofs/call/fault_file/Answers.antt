@@ -1,8 +1,0 @@
-use Rattle.std.proofs.Common.{rules, ◌≡◌, ◌∙◌, false, sym}
-use Rattle.fca_run.proofs.CallLemmas.{reads_more, fault_file-one}
-use Rattle.fca_run.proofs.call.fault_file.Goals as goal
-
-pub returns-in_default : goal.returns-in_default
-returns-in_default c =
-    let one : reads_more c.args.command.now ≡ false = search rules in
-    c.first_file.ensures ∙ sym (fault_file-one c.args.command.now one c.args.stop.now)
