@@ -51,7 +51,7 @@ impl Drop for LevelQueue {
 impl Model for LevelQueue {
     ghost use Rattle.std.specs.Prelude.{◌≡◌, ◌++◌};
     ghost use Rattle.next_level.specs.Among.{IsAhead};
-    ghost use Rattle.level_queue.specs.Queue.{Base, IsKept};
+    ghost use Rattle.level_queue.specs.Queue.{Base, IsKeptQueue};
 
     ghost Value = { Base };
 
@@ -59,7 +59,7 @@ impl Model for LevelQueue {
 
     ghost invariant = { λ a. record {
       wide : a.rules.width ≡ a.rows.width;
-      kept : IsKept a.rules.known a.rows a.level.size a.rules.accepted a.level.questions;
+      kept : IsKeptQueue a.rules.known a.rows a.level.size a.rules.accepted a.level.questions;
       ahead_wide : a.level.ahead.sets.width ≡ a.rows.width;
       ahead : IsAhead (a.rules.known ++ a.rules.accepted) a.rows a.level.size a.level.ahead.whole a.level.ahead.sets.rows;
     } };

@@ -11,7 +11,7 @@ ghost use Rattle.next_level.specs.LevelWalks.{IsInside};
 ghost use Rattle.next_level.specs.Openings.{CanOpen};
 
 use crate::ahead::Ahead;
-use crate::among::Among;
+use crate::shortlist::Shortlist;
 use crate::open_sets::OpenSets;
 use crate::walk::{child_among, enter_all};
 use attr_bits::{Attrs, Bits};
@@ -41,7 +41,7 @@ pub(crate) struct Limits {
 /// Who walks through the branches.
 pub(crate) trait Walker<const W: usize> {
     /// All open sets up to the bound, or up to a lower one after the visits.
-    fn walk(&self, alloc: Global, walk: &Walk<W>, limits: Limits) -> Result<OpenSets<W>, Memory>
+    fn walk(&self, alloc: Global, walk: &LevelWalk<W>, limits: Limits) -> Result<OpenSets<W>, Memory>
         requires { size walk.now.least ≤ limits.bound }
         ensures listed { IfOk result (λ sets. sets.members.items ≡ open_where walk.now.list.members walk.now.indexed sets.bound everything) }
         ensures steady { IfOk result (λ sets. sets.members.items ≡ [] → sets.bound ≡ limits.bound) };
@@ -49,23 +49,23 @@ pub(crate) trait Walker<const W: usize> {
 
 /// What is walked through: the sets that respect a list, the least of which is given, and candidates to which the open ones may be limited.
 #[derive(Drop)]
-pub(crate) struct Walk<const W: usize> {
+pub(crate) struct LevelWalk<const W: usize> {
     pub indexed: IndexedRows<W>,
     pub list: ImplicationListOf<W>,
     pub least: Bits<W>,
-    pub among: Among<W>,
+    pub among: Shortlist<W>,
     pub ghost root: { IsRoot indexed list least },
     pub ghost all_among: { AllAmong list.members indexed among.whole among.sets.items },
 }
 
-impl<const W: usize> Walk<W> {
+impl<const W: usize> LevelWalk<W> {
     /// The walk through the sets that respect the rules.
     pub(crate) fn new(
         alloc: Global,
         rows: &Rows,
         rules: &ImplicationList,
         ahead: &Ahead,
-    ) -> Result<Walk<W>, Memory>
+    ) -> Result<LevelWalk<W>, Memory>
         requires words { W ≤ 1024 }
         requires fits { rows.now.width ≤ 64 * W }
         requires opening { CanOpen rows.now rules.now ahead.now }
@@ -76,8 +76,8 @@ impl<const W: usize> Walk<W> {
         let least = rules.naive_closure(&Attrs::empty(rows.width()));
         let indexed = IndexedRows::new(alloc, rows.resize::<W>(alloc)?)?;
         let sets = ahead.sets.resize::<W>(alloc)?;
-        let among = Among::of(alloc, ahead.whole, sets.as_slice())?;
-        Ok(Walk {
+        let among = Shortlist::of(alloc, ahead.whole, sets.as_slice())?;
+        Ok(LevelWalk {
             indexed,
             list: rules.resize::<W>(alloc)?,
             least: least.resize(),

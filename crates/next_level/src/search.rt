@@ -6,7 +6,7 @@ ghost use Rattle.next_level.specs.NextLevel.{open_where, everything};
 ghost use Rattle.next_level.specs.Openings.{CanOpen, IsOpened};
 
 use crate::ahead::Ahead;
-use crate::branches::{Limits, Walk, Walker};
+use crate::branches::{Limits, LevelWalk, Walker};
 use crate::open_sets::OpenSets;
 use crate::{FoundLevel, open_next_by};
 use derivation::Rows;
@@ -84,7 +84,7 @@ impl<'a, R: Threads> SideBySide<'a, R> {
 }
 
 impl<const W: usize> Walker<W> for OneThread {
-    fn walk(&self, alloc: Global, walk: &Walk<W>, limits: Limits) -> Result<OpenSets<W>, Memory>
+    fn walk(&self, alloc: Global, walk: &LevelWalk<W>, limits: Limits) -> Result<OpenSets<W>, Memory>
         requires { size walk.now.least ≤ limits.bound }
         ensures listed { IfOk result (λ sets. sets.members.items ≡ open_where walk.now.list.members walk.now.indexed sets.bound everything) }
         ensures steady { IfOk result (λ sets. sets.members.items ≡ [] → sets.bound ≡ limits.bound) }
@@ -94,7 +94,7 @@ impl<const W: usize> Walker<W> for OneThread {
 }
 
 impl<'a, R: Threads, const W: usize> Walker<W> for SideBySide<'a, R> {
-    fn walk(&self, alloc: Global, walk: &Walk<W>, limits: Limits) -> Result<OpenSets<W>, Memory>
+    fn walk(&self, alloc: Global, walk: &LevelWalk<W>, limits: Limits) -> Result<OpenSets<W>, Memory>
         requires { size walk.now.least ≤ limits.bound }
         ensures listed { IfOk result (λ sets. sets.members.items ≡ open_where walk.now.list.members walk.now.indexed sets.bound everything) }
         ensures steady { IfOk result (λ sets. sets.members.items ≡ [] → sets.bound ≡ limits.bound) }
