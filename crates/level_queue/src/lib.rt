@@ -84,10 +84,24 @@ impl LevelQueue {
         requires hold { list_all (holds rows.now) known.now.members ≡ true }
         ensures { IfOk result (λ queue. queue ≡ record { context = rows.now; known = known.now.members; accepted = [] }) }
     {
+        LevelQueue::open_known_by(&OneThread, alloc, rows, known)
+    }
+
+    /// The queue of these rows, with nothing accepted, as `open_known` gives it. The search looks for the first level.
+    pub fn open_known_by<S: LevelSearch>(
+        search: &S,
+        alloc: Global,
+        rows: &Rows,
+        known: &ImplicationList,
+    ) -> Result<LevelQueue, Memory>
+        requires wide { known.now.width ≡ rows.now.width }
+        requires hold { list_all (holds rows.now) known.now.members ≡ true }
+        ensures { IfOk result (λ queue. queue ≡ record { context = rows.now; known = known.now.members; accepted = [] }) }
+    {
         let rows = rows.copy()?;
         let rules = Rules::new(alloc, known)?;
         let nothing = Ahead::none(alloc, rows.width())?;
-        let first = open_level(&OneThread, alloc, &rows, rules.all(), &nothing)?;
+        let first = open_level(search, alloc, &rows, rules.all(), &nothing)?;
         Ok(LevelQueue {
             alloc,
             rows,

@@ -3,11 +3,11 @@
 #![tactic(auto)]
 
 mod ahead;
-mod shortlist;
 mod branches;
 mod open_sets;
 mod parts;
 mod search;
+mod shortlist;
 mod walk;
 
 ghost use Rattle.std.specs.Prelude.{◌≡◌, ◌≤◌, ◌+◌, ◌*◌, ◌++◌, ◌==◌, ℕ, true, List, [], IfOk, filter};
@@ -23,7 +23,7 @@ ghost use Rattle.fca_model.specs.Sets.{size};
 pub use ahead::Ahead;
 use ahead::ahead_of;
 use attr_bits::{Attrs, WORDS, WordCount};
-use branches::{Limits, LevelWalk, Walker};
+use branches::{LevelWalk, Limits, Walker};
 use derivation::Rows;
 use fca_model::{Implication, Memory};
 use implication_closure::{ImplicationList, ImplicationListOf, resize_implications};

@@ -5,7 +5,7 @@ ghost use Rattle.fca_model.specs.Sets.{size};
 ghost use Rattle.next_level.specs.NextLevel.{everything};
 ghost use Rattle.next_level.specs.Branches.{AreOpen, HasParts, in_part, part_at};
 
-use crate::branches::{Limits, LevelWalk};
+use crate::branches::{LevelWalk, Limits};
 use crate::open_sets::OpenSets;
 use fca_model::Memory;
 use rayon::prelude::*;

@@ -12,8 +12,8 @@ ghost use Rattle.next_level.specs.Among.{AreAmong};
 ghost use Rattle.next_level.specs.LevelWalks.{IsEntered, IsLeft, IsTrying, HasLevel, IsSteady};
 ghost use Rattle.next_level.specs.Steps.{IsBegun, IsBelow, IsChild, IsStep};
 
-use crate::shortlist::Shortlist;
 use crate::open_sets::OpenSets;
+use crate::shortlist::Shortlist;
 use attr_bits::Bits;
 use extent_blocks::{BlockExtent, IndexedRows};
 use fca_model::{Implication, Memory};
