@@ -19,7 +19,7 @@ use basis_report::{conflicts_text, explore_pieces, explore_text};
 use command_io::{Ending, Output, Stop, Text};
 use context_table::Table;
 use expert_panel::{Explored, explore_with_oracles};
-use explore_state::{Explore, Settings};
+use explore_state::{Explore, Settings, SideBySide};
 use fca_io::Shelf;
 use fca_model::{MAX_TURNS, Memory, Word};
 use std::alloc::Global;
@@ -76,7 +76,7 @@ fn explore_by_oracles<R: Threads + Wait + Sync>(
     ensures { IfOk result (λ r. HasExplored start r.explore r.oracles.items r.spent) }
 {
     let count = start.experts.len() as u8;
-    let explore = open_exploration(alloc, start.table, count, start.settings)?;
+    let explore = open_exploration(rt, alloc, start.table, count, start.settings)?;
     explore_with_oracles(rt, alloc, explore, start.experts, MAX_TURNS)
 }
 
@@ -136,8 +136,9 @@ fn explored_ending(spent: bool) -> Ending
     }
 }
 
-/// Opens an exploration of the table, whose rows respect the known implications.
-fn open_exploration(
+/// Opens an exploration of the table, whose rows respect the known implications. All processors look for the first questions.
+fn open_exploration<R: Threads>(
+    rt: &R,
     alloc: Global,
     table: Table,
     count: u8,
@@ -147,7 +148,8 @@ fn open_exploration(
     ensures opening { IfOk result (λ explore. explore.opening ≡ opening_of table count (settings_of settings)) }
     ensures journal { IfOk result (λ explore. explore.journal ≡ []) }
 {
-    match Explore::open_with(alloc, table, count, settings) {
+    let search = SideBySide::on_all_processors(rt);
+    match Explore::open_with_by(&search, alloc, table, count, settings) {
         Ok(explore) => Ok(explore),
         // (each row respects what is known)
         Err(_) => Err(Memory),

@@ -150,7 +150,26 @@ impl Explore {
         ensures no_other { IfErr result (λ fault. (fault ≡ OpenFault.Memory)
             ⊎ (open_fault table.context experts (settings_of settings) ≡ Some fault)) }
     {
-        let (queue, held) = begin(alloc, &table, experts, &settings)?;
+        Explore::open_with_by(&OneThread, alloc, table, experts, settings)
+    }
+
+    /// Opens an exploration of the table under the settings as `open_with` does. The search looks for the first level.
+    pub fn open_with_by<S: LevelSearch>(
+        search: &S,
+        alloc: Global,
+        table: Table,
+        experts: u8,
+        settings: Settings,
+    ) -> Result<Explore, OpenFault>
+        requires { settings.known.width ≡ table.context.width }
+        ensures opening { IfOk result (λ explore. explore.opening
+            ≡ record { table = table; experts = experts; settings = settings_of settings }) }
+        ensures journal { IfOk result (λ explore. explore.journal ≡ []) }
+        ensures refused { IfSome (open_fault table.context experts (settings_of settings)) (IsErrOf result) }
+        ensures no_other { IfErr result (λ fault. (fault ≡ OpenFault.Memory)
+            ⊎ (open_fault table.context experts (settings_of settings) ≡ Some fault)) }
+    {
+        let (queue, held) = begin(search, alloc, &table, experts, &settings)?;
         Ok(Explore {
             table,
             experts,
@@ -378,8 +397,9 @@ impl Explore {
     }
 }
 
-/// The queue that an exploration of the table begins with, and room for the questions that its experts hold.
-fn begin(
+/// The queue that an exploration of the table begins with, whose first level the search looks for, and room for the questions that its experts hold.
+fn begin<S: LevelSearch>(
+    search: &S,
     alloc: Global,
     table: &Table,
     experts: u8,
@@ -400,7 +420,7 @@ fn begin(
     }
     let _known = settings.known.as_slice();
     let held = Vec::with_capacity(alloc, MAX_EXPERTS as usize)?;
-    let queue = LevelQueue::open_known(alloc, table.rows(), &settings.known)?;
+    let queue = LevelQueue::open_known_by(search, alloc, table.rows(), &settings.known)?;
     Ok((queue, held))
 }
 

@@ -26,7 +26,7 @@ use Rattle.fca_model.proofs.DoneLemmas.{basis_increasing}
 use Rattle.fca_model.proofs.QuestionLemmas.{open_none}
 use Rattle.fca_model.proofs.LevelLemmas.{level_waiting, none_waits, smallest_is, level_all}
 use Rattle.next_level.specs.NextLevel.{IsNextLevel}
-use Rattle.level_queue.specs.Queue.{HasPart, IsQueue, IsKept, narrowed, is_unclosed, still_open}
+use Rattle.level_queue.specs.Queue.{HasPart, IsQueue, IsKeptQueue, narrowed, is_unclosed, still_open}
 use Rattle.level_queue.proofs.RowLemmas.{questions_all, row_keeps_queue}
 use Rattle.level_queue.proofs.NarrowLemmas.{closure-with_row, narrowed_in}
 use Rattle.level_queue.proofs.AcceptLemmas.{question_member, question_size, question_new, question_wide, conclusion_wide}
@@ -241,7 +241,7 @@ not_nil xs n e b is f z = eqb-false n 0 (sym is ∙ f) (e ∙ ap length z)
 
 -- ---- between two calls
 
-module _ {S : List Rule} {K : Context} {k : ℕ} {acc questions : List Rule} (kept : IsKept S K k acc questions) where
+module _ {S : List Rule} {K : Context} {k : ℕ} {acc questions : List Rule} (kept : IsKeptQueue S K k acc questions) where
   -- the questions are the open ones
   pub kept_open : questions ≡ open_questions S K acc
   kept_open = at questions refl
@@ -283,7 +283,7 @@ module _ {S : List Rule} {K : Context} {k : ℕ} {acc questions : List Rule} (ke
 
 -- a level that was found
 pub opened_kept : {S : List Rule} {K : Context} {k : ℕ} {acc questions : List Rule} → list_all (holds K) S ≡ true
-    → distinct_premises acc ≡ true → IsNextLevel S K acc k questions → IsKept S K k acc questions
+    → distinct_premises acc ≡ true → IsNextLevel S K acc k questions → IsKeptQueue S K k acc questions
 opened_kept {S = S} {K = K} {k = k} {acc = acc} {questions = questions} hold distinct next = record {
   hold = hold;
   distinct = distinct;
@@ -292,7 +292,7 @@ opened_kept {S = S} {K = K} {k = k} {acc = acc} {questions = questions} hold dis
 }
 
 -- where one question is left, and it is accepted
-module _ {S : List Rule} {K : Context} {k : ℕ} {acc questions : List Rule} (kept : IsKept S K k acc questions) (n : ℕ) (q : Rule)
+module _ {S : List Rule} {K : Context} {k : ℕ} {acc questions : List Rule} (kept : IsKeptQueue S K k acc questions) (n : ℕ) (q : Rule)
     (inside : n < length questions) (at : q ≡ get_or questions n q) where
   among : Among questions q
   among = among_at questions n q inside at
@@ -311,7 +311,7 @@ module _ {S : List Rule} {K : Context} {k : ℕ} {acc questions : List Rule} (ke
       (sym (others_remove questions n q (kept_increasing kept) inside at))
 
   -- others are left
-  pub accepted_kept : 1 < length questions → IsKept S K k (acc ++ q ∷ []) (remove questions n)
+  pub accepted_kept : 1 < length questions → IsKeptQueue S K k (acc ++ q ∷ []) (remove questions n)
   accepted_kept more = record {
     hold = kept.hold;
     distinct = accepted_distinct;
@@ -333,7 +333,7 @@ module _ {S : List Rule} {K : Context} {k : ℕ} {acc questions : List Rule} (ke
   accepted_bounded = let le = kept_bounded kept q among in omega (arith, le)
 
 -- a row was recorded
-module _ {S : List Rule} {K : Context} {k : ℕ} {acc questions : List Rule} (kept : IsKept S K k acc questions) (r : Set)
+module _ {S : List Rule} {K : Context} {k : ℕ} {acc questions : List Rule} (kept : IsKeptQueue S K k acc questions) (r : Set)
     (respecting : respects_all (S ++ acc) r ≡ true) where
   both : (respects_all S r ≡ true) × (respects_all acc r ≡ true)
   both = and_parts (respects_all S r) (respects_all acc r) (sym (list_all-append (respects r) S acc) ∙ respecting)
@@ -364,7 +364,7 @@ module _ {S : List Rule} {K : Context} {k : ℕ} {acc questions : List Rule} (ke
         (is ∙ ap still_open (narrowed_in S K r k acc questions kept.queue))
 
     -- there was no question, or some are left
-    pub row_kept : (rest ≡ [] → questions ≡ []) → IsKept S (with_row K r) k acc rest
+    pub row_kept : (rest ≡ [] → questions ≡ []) → IsKeptQueue S (with_row K r) k acc rest
     row_kept left = record { hold = row_hold; distinct = kept.distinct; queue = row_queue; done = λ none. kept.done (left none) }
 
     -- none is left

@@ -33,7 +33,7 @@ pub record IsQueue (S : List Rule) (K : Context) (k : ℕ) (acc questions : List
 
 -- between two calls: what is known holds in the rows, no two accepted implications have one premise, and a level past the width is the only
 -- one with no question
-pub record IsKept (S : List Rule) (K : Context) (k : ℕ) (acc questions : List Rule) : Type 0 where
+pub record IsKeptQueue (S : List Rule) (K : Context) (k : ℕ) (acc questions : List Rule) : Type 0 where
   pub hold : list_all (holds K) S ≡ true
   pub distinct : distinct_premises acc ≡ true
   pub queue : IsQueue S K k acc questions

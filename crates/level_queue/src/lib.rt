@@ -51,7 +51,7 @@ impl Drop for LevelQueue {
 impl Model for LevelQueue {
     ghost use Rattle.std.specs.Prelude.{◌≡◌, ◌++◌};
     ghost use Rattle.next_level.specs.Among.{IsAhead};
-    ghost use Rattle.level_queue.specs.Queue.{Base, IsKept};
+    ghost use Rattle.level_queue.specs.Queue.{Base, IsKeptQueue};
 
     ghost Value = { Base };
 
@@ -59,7 +59,7 @@ impl Model for LevelQueue {
 
     ghost invariant = { λ a. record {
       wide : a.rules.width ≡ a.rows.width;
-      kept : IsKept a.rules.known a.rows a.level.size a.rules.accepted a.level.questions;
+      kept : IsKeptQueue a.rules.known a.rows a.level.size a.rules.accepted a.level.questions;
       ahead_wide : a.level.ahead.sets.width ≡ a.rows.width;
       ahead : IsAhead (a.rules.known ++ a.rules.accepted) a.rows a.level.size a.level.ahead.whole a.level.ahead.sets.rows;
     } };
@@ -84,10 +84,24 @@ impl LevelQueue {
         requires hold { list_all (holds rows.now) known.now.members ≡ true }
         ensures { IfOk result (λ queue. queue ≡ record { context = rows.now; known = known.now.members; accepted = [] }) }
     {
+        LevelQueue::open_known_by(&OneThread, alloc, rows, known)
+    }
+
+    /// The queue of these rows, with nothing accepted, as `open_known` gives it. The search looks for the first level.
+    pub fn open_known_by<S: LevelSearch>(
+        search: &S,
+        alloc: Global,
+        rows: &Rows,
+        known: &ImplicationList,
+    ) -> Result<LevelQueue, Memory>
+        requires wide { known.now.width ≡ rows.now.width }
+        requires hold { list_all (holds rows.now) known.now.members ≡ true }
+        ensures { IfOk result (λ queue. queue ≡ record { context = rows.now; known = known.now.members; accepted = [] }) }
+    {
         let rows = rows.copy()?;
         let rules = Rules::new(alloc, known)?;
         let nothing = Ahead::none(alloc, rows.width())?;
-        let first = open_level(&OneThread, alloc, &rows, rules.all(), &nothing)?;
+        let first = open_level(search, alloc, &rows, rules.all(), &nothing)?;
         Ok(LevelQueue {
             alloc,
             rows,

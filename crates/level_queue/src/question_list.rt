@@ -93,7 +93,7 @@ impl QuestionList {
         ensures left { (question : Rule) → question ≡ slice_index_or self.old place question → result ≡ is_left row.now question }
         ensures long { length self.new ≡ length self.old }
     {
-        let met = question_after(&row.whole, &self.questions[place]);
+        let met = narrow_question(&row.whole, &self.questions[place]);
         self.questions[place] = met;
         met.premise != met.conclusion
     }
@@ -164,7 +164,7 @@ fn fit_one_word(questions: &[Question]) -> bool
 }
 
 /// The question after a row that has its premise: the conclusion loses what the row lacks.
-fn question_after(row: &Attrs, question: &Question) -> Question
+fn narrow_question(row: &Attrs, question: &Question) -> Question
     requires reached { within question.now.premise row.now ≡ true }
     ensures { result ≡ narrowed row.now question.now }
 {

@@ -11,8 +11,8 @@ ghost use Rattle.next_level.specs.LevelWalks.{IsInside};
 ghost use Rattle.next_level.specs.Openings.{CanOpen};
 
 use crate::ahead::Ahead;
-use crate::among::Among;
 use crate::open_sets::OpenSets;
+use crate::shortlist::Shortlist;
 use crate::walk::{child_among, enter_all};
 use attr_bits::{Attrs, Bits};
 use derivation::Rows;
@@ -31,6 +31,12 @@ const LARGE: u32 = 4;
 /// Without implications they share it from this many attributes on.
 const WIDE: u32 = 24;
 
+/// On very wide tables they share it from this size on, as there the walk through the sets of one small size is long.
+const LARGE_IF_VERY_WIDE: u32 = 3;
+
+/// A table is very wide from this many attributes on.
+const VERY_WIDE: u32 = 96;
+
 /// How far a walk goes: to sets of the size of the bound, which falls to the least open ones after a number of visits.
 #[derive(Clone, Copy)]
 pub(crate) struct Limits {
@@ -41,7 +47,12 @@ pub(crate) struct Limits {
 /// Who walks through the branches.
 pub(crate) trait Walker<const W: usize> {
     /// All open sets up to the bound, or up to a lower one after the visits.
-    fn walk(&self, alloc: Global, walk: &Walk<W>, limits: Limits) -> Result<OpenSets<W>, Memory>
+    fn walk(
+        &self,
+        alloc: Global,
+        walk: &LevelWalk<W>,
+        limits: Limits,
+    ) -> Result<OpenSets<W>, Memory>
         requires { size walk.now.least ≤ limits.bound }
         ensures listed { IfOk result (λ sets. sets.members.items ≡ open_where walk.now.list.members walk.now.indexed sets.bound everything) }
         ensures steady { IfOk result (λ sets. sets.members.items ≡ [] → sets.bound ≡ limits.bound) };
@@ -49,23 +60,23 @@ pub(crate) trait Walker<const W: usize> {
 
 /// What is walked through: the sets that respect a list, the least of which is given, and candidates to which the open ones may be limited.
 #[derive(Drop)]
-pub(crate) struct Walk<const W: usize> {
+pub(crate) struct LevelWalk<const W: usize> {
     pub indexed: IndexedRows<W>,
     pub list: ImplicationListOf<W>,
     pub least: Bits<W>,
-    pub among: Among<W>,
+    pub among: Shortlist<W>,
     pub ghost root: { IsRoot indexed list least },
     pub ghost all_among: { AllAmong list.members indexed among.whole among.sets.items },
 }
 
-impl<const W: usize> Walk<W> {
+impl<const W: usize> LevelWalk<W> {
     /// The walk through the sets that respect the rules.
     pub(crate) fn new(
         alloc: Global,
         rows: &Rows,
         rules: &ImplicationList,
         ahead: &Ahead,
-    ) -> Result<Walk<W>, Memory>
+    ) -> Result<LevelWalk<W>, Memory>
         requires words { W ≤ 1024 }
         requires fits { rows.now.width ≤ 64 * W }
         requires opening { CanOpen rows.now rules.now ahead.now }
@@ -76,8 +87,8 @@ impl<const W: usize> Walk<W> {
         let least = rules.naive_closure(&Attrs::empty(rows.width()));
         let indexed = IndexedRows::new(alloc, rows.resize::<W>(alloc)?)?;
         let sets = ahead.sets.resize::<W>(alloc)?;
-        let among = Among::of(alloc, ahead.whole, sets.as_slice())?;
-        Ok(Walk {
+        let among = Shortlist::of(alloc, ahead.whole, sets.as_slice())?;
+        Ok(LevelWalk {
             indexed,
             list: rules.resize::<W>(alloc)?,
             least: least.resize(),
@@ -172,7 +183,7 @@ impl<const W: usize> Walk<W> {
         let width = self.list.width();
         let count = self.list.as_slice().len();
         let many = count >= MANY;
-        let large = count == 0 && limits.bound >= LARGE && width >= WIDE;
+        let large = count == 0 && has_many_sets(width, limits.bound);
         let few = self.among.whole && self.among.sets.len() < MANY;
         !few && (many || large)
     }
@@ -195,4 +206,14 @@ impl<const W: usize> Walk<W> {
         }
         self.open_in_branch(alloc, count - k, limits)
     }
+}
+
+/// Whether sets of these many attributes, up to this size, are so many that several threads share a walk through all of them.
+fn has_many_sets(width: u32, size: u32) -> bool {
+    let large = if width >= VERY_WIDE {
+        LARGE_IF_VERY_WIDE
+    } else {
+        LARGE
+    };
+    width >= WIDE && size >= large
 }

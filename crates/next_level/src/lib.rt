@@ -3,11 +3,11 @@
 #![tactic(auto)]
 
 mod ahead;
-mod among;
 mod branches;
 mod open_sets;
 mod parts;
 mod search;
+mod shortlist;
 mod walk;
 
 ghost use Rattle.std.specs.Prelude.{◌≡◌, ◌≤◌, ◌+◌, ◌*◌, ◌++◌, ◌==◌, ℕ, true, List, [], IfOk, filter};
@@ -23,7 +23,7 @@ ghost use Rattle.fca_model.specs.Sets.{size};
 pub use ahead::Ahead;
 use ahead::ahead_of;
 use attr_bits::{Attrs, WORDS, WordCount};
-use branches::{Limits, Walk, Walker};
+use branches::{LevelWalk, Limits, Walker};
 use derivation::Rows;
 use fca_model::{Implication, Memory};
 use implication_closure::{ImplicationList, ImplicationListOf, resize_implications};
@@ -96,7 +96,7 @@ fn open_in_words<X: Walker<W>, const W: usize>(
     requires opening { CanOpen rows.now rules.now ahead.now }
     ensures { IfOk result (λ opened. IsOpened rows.now rules.now opened.level.size opened.level.members.items opened.ahead) }
 {
-    let walk = Walk::<W>::new(alloc, rows, rules, ahead)?;
+    let walk = LevelWalk::<W>::new(alloc, rows, rules, ahead)?;
     let seen = find_open_sets(walker, alloc, &walk)?;
     let most = rules.as_slice().len().saturating_mul(KEPT);
     let opened = least_of(alloc, rows.width(), &seen, most)?;
@@ -133,7 +133,7 @@ fn least_of<const W: usize>(
 fn find_open_sets<X: Walker<W>, const W: usize>(
     walker: &X,
     alloc: Global,
-    walk: &Walk<W>,
+    walk: &LevelWalk<W>,
 ) -> Result<OpenSets<W>, Memory>
     ensures listed { IfOk result (λ sets. sets.members.items ≡ open_where walk.now.list.members walk.now.indexed sets.bound everything) }
     ensures all { IfOk result (λ sets. sets.members.items ≡ [] → walk.now.indexed.width ≤ sets.bound) }
@@ -168,7 +168,7 @@ fn sizes_in_turn<const W: usize>(rules: &ImplicationListOf<W>) -> u32 {
 fn open_up_to<X: Walker<W>, const W: usize>(
     walker: &X,
     alloc: Global,
-    walk: &Walk<W>,
+    walk: &LevelWalk<W>,
     limits: Limits,
 ) -> Result<OpenSets<W>, Memory>
     ensures listed { IfOk result (λ sets. sets.members.items ≡ open_where walk.now.list.members walk.now.indexed sets.bound everything) }

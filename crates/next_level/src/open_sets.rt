@@ -69,7 +69,7 @@ impl<const W: usize> OpenSets<W> {
     }
 
     /// Lowers the bound to the size of an open set, if no visits are left.
-    pub(crate) fn make_room(&mut self, alloc: Global, size: u32) -> Result<(), Memory>
+    pub(crate) fn fall_to(&mut self, alloc: Global, size: u32) -> Result<(), Memory>
         requires words { W ≤ 1024 }
         requires small { size ≤ self.old.bound }
         ensures at_least { OnOk result (size ≤ self.new.bound) }

@@ -5,7 +5,7 @@ ghost use Rattle.fca_model.specs.Sets.{size};
 ghost use Rattle.next_level.specs.NextLevel.{everything};
 ghost use Rattle.next_level.specs.Branches.{AreOpen, HasParts, in_part, part_at};
 
-use crate::branches::{Limits, Walk};
+use crate::branches::{LevelWalk, Limits};
 use crate::open_sets::OpenSets;
 use fca_model::Memory;
 use rayon::prelude::*;
@@ -30,7 +30,7 @@ impl<R: Threads> Spawner<R> {
     }
 }
 
-impl<const W: usize> Walk<W> {
+impl<const W: usize> LevelWalk<W> {
     /// All open sets, part by part. Several threads share the parts, and each piece that `collect` makes of their list has about as much to do.
     pub(crate) fn open_parts<R: Threads>(
         &self,

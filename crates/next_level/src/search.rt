@@ -6,14 +6,14 @@ ghost use Rattle.next_level.specs.NextLevel.{open_where, everything};
 ghost use Rattle.next_level.specs.Openings.{CanOpen, IsOpened};
 
 use crate::ahead::Ahead;
-use crate::branches::{Limits, Walk, Walker};
+use crate::branches::{LevelWalk, Limits, Walker};
 use crate::open_sets::OpenSets;
 use crate::{FoundLevel, open_next_by};
 use derivation::Rows;
 use fca_model::Memory;
 use implication_closure::ImplicationList;
 use std::alloc::Global;
-use std::thread::Threads;
+use std::thread::{Threads, available_parallelism};
 
 /// How many parts a walk has for each processor: two for each of the two pieces that `collect` makes.
 const PARTS: u32 = 4;
@@ -71,6 +71,16 @@ impl<'a, R: Threads> LevelSearch for SideBySide<'a, R> {
 }
 
 impl<'a, R: Threads> SideBySide<'a, R> {
+    /// The search by as many threads as there are processors.
+    pub fn on_all_processors(rt: &'a R) -> SideBySide<'a, R> {
+        let most = MOST as usize;
+        let count = available_parallelism(rt).map_or(1, |count| count.get());
+        SideBySide {
+            rt,
+            most_threads: count.min(most) as u32,
+        }
+    }
+
     /// How many branches a walk over this many attributes has beside its first part.
     fn branches(&self, width: u32) -> u32
         ensures { result ≤ width }
@@ -84,7 +94,12 @@ impl<'a, R: Threads> SideBySide<'a, R> {
 }
 
 impl<const W: usize> Walker<W> for OneThread {
-    fn walk(&self, alloc: Global, walk: &Walk<W>, limits: Limits) -> Result<OpenSets<W>, Memory>
+    fn walk(
+        &self,
+        alloc: Global,
+        walk: &LevelWalk<W>,
+        limits: Limits,
+    ) -> Result<OpenSets<W>, Memory>
         requires { size walk.now.least ≤ limits.bound }
         ensures listed { IfOk result (λ sets. sets.members.items ≡ open_where walk.now.list.members walk.now.indexed sets.bound everything) }
         ensures steady { IfOk result (λ sets. sets.members.items ≡ [] → sets.bound ≡ limits.bound) }
@@ -94,7 +109,12 @@ impl<const W: usize> Walker<W> for OneThread {
 }
 
 impl<'a, R: Threads, const W: usize> Walker<W> for SideBySide<'a, R> {
-    fn walk(&self, alloc: Global, walk: &Walk<W>, limits: Limits) -> Result<OpenSets<W>, Memory>
+    fn walk(
+        &self,
+        alloc: Global,
+        walk: &LevelWalk<W>,
+        limits: Limits,
+    ) -> Result<OpenSets<W>, Memory>
         requires { size walk.now.least ≤ limits.bound }
         ensures listed { IfOk result (λ sets. sets.members.items ≡ open_where walk.now.list.members walk.now.indexed sets.bound everything) }
         ensures steady { IfOk result (λ sets. sets.members.items ≡ [] → sets.bound ≡ limits.bound) }

@@ -12,8 +12,8 @@ ghost use Rattle.next_level.specs.Among.{AreAmong};
 ghost use Rattle.next_level.specs.LevelWalks.{IsEntered, IsLeft, IsTrying, HasLevel, IsSteady};
 ghost use Rattle.next_level.specs.Steps.{IsBegun, IsBelow, IsChild, IsStep};
 
-use crate::among::Among;
 use crate::open_sets::OpenSets;
+use crate::shortlist::Shortlist;
 use attr_bits::Bits;
 use extent_blocks::{BlockExtent, IndexedRows};
 use fca_model::{Implication, Memory};
@@ -28,7 +28,7 @@ pub(crate) struct Step<const W: usize> {
     pub(crate) from: u32,
     pub(crate) end: u32,
     pub(crate) near: BlockExtent,
-    pub(crate) among: Among<W>,
+    pub(crate) among: Shortlist<W>,
 }
 
 /// A set that the walk has entered below another, by the attribute that was tried.
@@ -46,7 +46,7 @@ pub(crate) fn enter_all<const W: usize>(
     seen: &mut OpenSets<W>,
     a: &Bits<W>,
     from: u32,
-    among: Among<W>,
+    among: Shortlist<W>,
 ) -> Result<(), Memory>
     requires entered { IsEntered indexed.now a.now from rules.old seen.old.bound seen.old.members.items }
     requires small { size a.now ≤ seen.old.bound }
@@ -202,9 +202,9 @@ pub(crate) fn child_among<const W: usize>(
     rules: &WatchedList<W>,
     a: &Bits<W>,
     i: u32,
-    among: &Among<W>,
+    among: &Shortlist<W>,
     child: &Bits<W>,
-) -> Result<Among<W>, Memory>
+) -> Result<Shortlist<W>, Memory>
     requires inside { i < indexed.now.width }
     requires wide { length a.now ≡ indexed.now.width }
     requires among { AreAmong rules.now.list.members indexed.now a.now i among.now.whole among.now.sets.items }
@@ -244,7 +244,7 @@ fn enter<const W: usize>(
     if closed == a {
         return Ok(count < seen.bound);
     }
-    seen.make_room(alloc, count)?;
+    seen.fall_to(alloc, count)?;
     seen.members.push(Implication {
         premise: *a,
         conclusion: *closed,

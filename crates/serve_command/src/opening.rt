@@ -7,12 +7,14 @@ ghost use Rattle.command_io.specs.Known.{start_of};
 ghost use Rattle.serve_command.specs.Openings.{opening_by, IsNew};
 
 use command_io::Start;
-use explore_state::{ExpertNames, Explore, Settings};
+use explore_state::{ExpertNames, Explore, Settings, SideBySide};
 use fca_model::Memory;
 use std::alloc::Global;
+use std::thread::Threads;
 
-/// Opens an exploration of the table. At most `holders` of the experts may hold one question.
-pub(crate) fn open_exploration(
+/// Opens an exploration of the table. At most `holders` of the experts may hold one question. All processors look for the first questions.
+pub(crate) fn open_exploration<R: Threads>(
+    rt: &R,
     alloc: Global,
     start: Start,
     experts: u8,
@@ -31,8 +33,9 @@ pub(crate) fn open_exploration(
         holders,
         names: ExpertNames::new(alloc),
     };
+    let search = SideBySide::on_all_processors(rt);
     // (each row respects what is known, so no other fault can come)
-    let Ok(explore) = Explore::open_with(alloc, start.table, experts, settings) else {
+    let Ok(explore) = Explore::open_with_by(&search, alloc, start.table, experts, settings) else {
         return Err(Memory);
     };
     Ok(explore)

@@ -73,7 +73,7 @@ pub fn serve<R: Threads + Wait + Sync, H: Shelf, L: Listener>(
         invitation.now.experts (L.ends link.old) (L.ends link.new) (stop ≡ Stop.Listener)) }
 {
     let start = load_start(alloc, shelf, file, known)?;
-    let explore = open_exploration(alloc, start, invitation.experts, invitation.holders)?;
+    let explore = open_exploration(rt, alloc, start, invitation.experts, invitation.holders)?;
     let ends = ends_at(alloc, link, invitation.address.bytes(), invitation.experts)?;
     explore_over(rt, alloc, explore, ends, link)
 }

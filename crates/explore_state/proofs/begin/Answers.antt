@@ -7,8 +7,8 @@ use Rattle.exploration_terms.specs.Settings.{settings_of}
 use Rattle.explore_state.proofs.OpenLemmas.{no_fault, wide_conclusions}
 use Rattle.explore_state.proofs.begin.Goals as goal
 
-pub open_known-requires-clause-hold : goal.open_known-requires-clause-hold
-open_known-requires-clause-hold c =
+pub open_known_by-requires-clause-hold : goal.open_known_by-requires-clause-hold
+open_known_by-requires-clause-hold g c =
     let K = c.args.table.now.context in
     let S = c.args.settings.now.known.members in
     let told = no_fault K c.args.experts (settings_of c.args.settings.now) (sym c.open_fault.ensures ∙ c.in_default.is) in

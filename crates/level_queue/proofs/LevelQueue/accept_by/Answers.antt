@@ -5,7 +5,7 @@ use Rattle.fca_model.specs.Levels.{HasBelow}
 use Rattle.fca_model.specs.Questions.{open_questions}
 use Rattle.implication_closure.specs.Closing.{RuleList}
 use Rattle.std.specs.List.{list_all, remove}
-use Rattle.level_queue.specs.Queue.{Base, IsKept}
+use Rattle.level_queue.specs.Queue.{Base, IsKeptQueue}
 use Rattle.level_queue.specs.Rules.{RuleParts}
 use Rattle.next_level.specs.Among.{AllAmong, IsAhead}
 use Rattle.level_queue.proofs.AheadLemmas.{rule_ahead, ahead_all}
@@ -66,8 +66,8 @@ invariant_of-self-then-as_slice-gt1 g c =
     let ok = c.in_ok-push.ensures.ok in
     record {
       wide = ap (λ (p : RuleParts). p.width) ok ∙ c.self.invariant.wide;
-      kept = subst (λ qs. IsKept c.push.new.self.known a.rows a.level.size c.push.new.self.accepted qs) (sym c.take_out.ensures)
-          (subst (λ (p : RuleParts). IsKept p.known a.rows a.level.size p.accepted (remove a.level.questions c.args.i)) (sym ok)
+      kept = subst (λ qs. IsKeptQueue c.push.new.self.known a.rows a.level.size c.push.new.self.accepted qs) (sym c.take_out.ensures)
+          (subst (λ (p : RuleParts). IsKeptQueue p.known a.rows a.level.size p.accepted (remove a.level.questions c.args.i)) (sym ok)
           (accepted_kept c.self.invariant.kept c.args.i q l c.get-question.ensures
           (omega (arith, c.if-as_slice-gt1.true, ap length c.as_slice.ensures))));
       ahead_wide = c.self.invariant.ahead_wide;

@@ -4,7 +4,7 @@ use Rattle.fca_model.specs.Context.{Context, with_row}
 use Rattle.fca_model.specs.Implications.{holds, respects_all}
 use Rattle.fca_model.specs.Levels.{HasBelow}
 use Rattle.implication_closure.specs.Closing.{RuleList}
-use Rattle.level_queue.specs.Queue.{Base, IsKept, narrowed, still_open}
+use Rattle.level_queue.specs.Queue.{Base, IsKeptQueue, narrowed, still_open}
 use Rattle.next_level.specs.Among.{AllAmong, IsAhead}
 use Rattle.level_queue.proofs.AheadLemmas.{row_ahead, ahead_all}
 use Rattle.level_queue.proofs.OpenLemmas.{kept_unclosed, row_kept, row_hold, row_below, row_bounded, opened_kept}
@@ -18,7 +18,7 @@ invariant_of-self-then-not-closes_all g c =
     let respecting = ap (λ (b : Base). respects_all (b.known ++ b.accepted) r) c.self.view_is ∙ c.requires.respecting in
     record {
       wide = c.self.invariant.wide ∙ sym (ap (λ (K : Context). K.width) c.in_ok-push.ensures.ok);
-      kept = subst (λ (K : Context). IsKept a.rules.known K a.level.size a.rules.accepted c.narrow.new.self) (sym c.in_ok-push.ensures.ok)
+      kept = subst (λ (K : Context). IsKeptQueue a.rules.known K a.level.size a.rules.accepted c.narrow.new.self) (sym c.in_ok-push.ensures.ok)
           (row_kept c.self.invariant.kept r respecting c.narrow.new.self c.narrow.ensures
           (λ none. not_settled r a.level.questions
           (sym (c.closes_all.ensures ∙ ap (settles r) c.as_slice.ensures) ∙ c.if-not-closes_all.true)

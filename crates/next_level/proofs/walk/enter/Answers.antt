@@ -32,21 +32,21 @@ returns-clause-left g c = λ e.
     let entered = enter_lower c.requires.entered c.visit.new.self.bound c.visit.new.self.members.items
     (c.in_ok-visit.ensures.listed c.args.rules.now.list.members c.args.indexed.now
     (before c.args.from c.args.a.now) c.requires.entered.level) in
-    let lower = enter_lower entered c.make_room.new.self.bound c.make_room.new.self.members.items
-    (c.in_ok-make_room.ensures.listed c.args.rules.now.list.members c.args.indexed.now (before c.args.from c.args.a.now) entered.level)
+    let lower = enter_lower entered c.fall_to.new.self.bound c.fall_to.new.self.members.items
+    (c.in_ok-fall_to.ensures.listed c.args.rules.now.list.members c.args.indexed.now (before c.args.from c.args.a.now) entered.level)
     in
     enter_left lower (enter_open lower c.requires.closed (sym c.eq.ensures ∙ c.if-eq.false)
-    (omega (arith, c.size-count.ensures.size, c.in_ok-make_room.ensures.at_least)) _ c.in_ok-push.ensures.items)
+    (omega (arith, c.size-count.ensures.size, c.in_ok-fall_to.ensures.at_least)) _ c.in_ok-push.ensures.items)
 
 pub returns-clause-done : goal.returns-clause-done
 returns-clause-done g c = λ e.
     let entered = enter_lower c.requires.entered c.visit.new.self.bound c.visit.new.self.members.items
     (c.in_ok-visit.ensures.listed c.args.rules.now.list.members c.args.indexed.now
     (before c.args.from c.args.a.now) c.requires.entered.level) in
-    let lower = enter_lower entered c.make_room.new.self.bound c.make_room.new.self.members.items
-    (c.in_ok-make_room.ensures.listed c.args.rules.now.list.members c.args.indexed.now (before c.args.from c.args.a.now) entered.level)
+    let lower = enter_lower entered c.fall_to.new.self.bound c.fall_to.new.self.members.items
+    (c.in_ok-fall_to.ensures.listed c.args.rules.now.list.members c.args.indexed.now (before c.args.from c.args.a.now) entered.level)
     in
-    let at_most : c.make_room.new.self.bound ≤ c.size-count.result = ltb-false c.size-count.result c.make_room.new.self.bound e in
+    let at_most : c.fall_to.new.self.bound ≤ c.size-count.result = ltb-false c.size-count.result c.fall_to.new.self.bound e in
     enter_done lower (enter_open lower c.requires.closed (sym c.eq.ensures ∙ c.if-eq.false)
-    (omega (arith, c.size-count.ensures.size, c.in_ok-make_room.ensures.at_least)) _ c.in_ok-push.ensures.items)
+    (omega (arith, c.size-count.ensures.size, c.in_ok-fall_to.ensures.at_least)) _ c.in_ok-push.ensures.items)
     (omega (arith, c.size-count.ensures.size, at_most))

@@ -8,7 +8,7 @@ use Rattle.serve_command.proofs.ServedLemmas.{new-opened}
 use Rattle.serve_command.proofs.opening.open_exploration.Goals as goal
 
 pub returns-clause-new : goal.returns-clause-new
-returns-clause-new c =
+returns-clause-new g c =
     let S : List Rule = c.args.start.known.members in
     let even : HaveWidth c.args.start.table.context.width S =
     subst (λ n. HaveWidth n S) c.requires.width (subst

@@ -10,10 +10,10 @@ use Rattle.level_queue.specs.Rules.{RuleParts}
 use Rattle.next_level.specs.Among.{IsAhead}
 use Rattle.level_queue.proofs.OpenLemmas.{opened_kept}
 use Rattle.next_level.proofs.NextLevelLemmas.{unknown_among}
-use Rattle.level_queue.proofs.LevelQueue.open_known.Goals as goal
+use Rattle.level_queue.proofs.LevelQueue.open_known_by.Goals as goal
 
 pub open_level-requires : goal.open_level-requires
-open_level-requires c = record {
+open_level-requires g c = record {
   wide = ap (λ (J : RuleList). J.width) c.all.ensures ∙ ap (λ (p : RuleParts). p.width) c.in_ok-rules.ensures ∙ c.requires.wide
       ∙ sym (ap (λ (L : Context). L.width) c.in_ok-rows.ensures);
   ahead_wide = ap (λ (L : Context). L.width) c.in_ok-nothing.ensures.1 ∙ c.width.ensures.width;
@@ -22,7 +22,7 @@ open_level-requires c = record {
 }
 
 pub invariant_of-result : goal.invariant_of-result
-invariant_of-result c =
+invariant_of-result g c =
     let K = c.in_ok-rows.rows in
     let rules : RuleParts = c.in_ok-rules.rules in
     let known_is : rules.known ≡ c.args.known.now.members = ap (λ (p : RuleParts). p.known) c.in_ok-rules.ensures in

@@ -8,7 +8,7 @@ use Rattle.rayon.proofs.ToStd.{nat_range-All}
 use Rattle.next_level.specs.Branches.{AreOpen, in_part, part_at}
 use Rattle.next_level.specs.declared.open_sets.OpenSets.{OpenSets}
 use Rattle.next_level.proofs.BranchLemmas.{parts_told}
-use Rattle.next_level.proofs.branches.Walk.walk_parts.Goals as goal
+use Rattle.next_level.proofs.branches.LevelWalk.walk_parts.Goals as goal
 
 pub collect-parts-requires-clause-ready : goal.collect-parts-requires-clause-ready
 collect-parts-requires-clause-ready g c κs within =

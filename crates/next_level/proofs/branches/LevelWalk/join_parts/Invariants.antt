@@ -1,5 +1,5 @@
 use Rattle.next_level.specs.Branches.{AreOpen, in_parts}
-use Rattle.next_level.proofs.branches.Walk.join_parts.Given as goal
+use Rattle.next_level.proofs.branches.LevelWalk.join_parts.Given as goal
 
 abbrev pub invariant-loop-part : goal.invariant-loop-part
 invariant-loop-part g l =

@@ -4,7 +4,7 @@ use Rattle.implication_closure.specs.Closing.{RuleList}
 use Rattle.lectic_basis.specs.Watches.{IsFiled, IsGood}
 use Rattle.next_level.proofs.BranchLemmas.{root_at, root_wide}
 use Rattle.next_level.proofs.ConcernLemmas.{concerning_root}
-use Rattle.next_level.proofs.branches.Walk.rules_from.Goals as goal
+use Rattle.next_level.proofs.branches.LevelWalk.rules_from.Goals as goal
 
 pub of_narrow-requires : goal.of_narrow-requires
 of_narrow-requires g c =

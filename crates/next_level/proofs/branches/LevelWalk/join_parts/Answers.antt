@@ -1,7 +1,7 @@
 use Rattle.std.proofs.Common.{◌≡◌, ◌+◌, ◌<◌, suc, length, subst, arith}
 use Rattle.next_level.specs.Branches.{AreOpen, in_part, in_parts}
 use Rattle.next_level.proofs.BranchLemmas.{root_wide, parts_start, parts_more, parts_long, open_at, all_parts}
-use Rattle.next_level.proofs.branches.Walk.join_parts.Goals as goal
+use Rattle.next_level.proofs.branches.LevelWalk.join_parts.Goals as goal
 
 pub loop-part-init : goal.loop-part-init
 loop-part-init g c =

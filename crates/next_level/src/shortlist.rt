@@ -11,36 +11,36 @@ use std::alloc::Global;
 
 /// If `whole`, every open set is one of these; otherwise they say nothing.
 #[derive(Drop)]
-pub(crate) struct Among<const W: usize> {
+pub(crate) struct Shortlist<const W: usize> {
     pub whole: bool,
     pub sets: Vec<Bits<W>>,
 }
 
-impl<const W: usize> Among<W> {
+impl<const W: usize> Shortlist<W> {
     /// These sets.
-    pub(crate) fn of(alloc: Global, whole: bool, sets: &[Bits<W>]) -> Result<Among<W>, Memory>
+    pub(crate) fn of(alloc: Global, whole: bool, sets: &[Bits<W>]) -> Result<Shortlist<W>, Memory>
         requires words { W ≤ 1024 }
         ensures { IfOk result (λ among. (among.whole ≡ whole) × (among.sets.items ≡ sets.now)) }
     {
         let sets = sets.iter().copied().collect(alloc)?;
-        Ok(Among { whole, sets })
+        Ok(Shortlist { whole, sets })
     }
 
     /// These sets once more.
-    pub(crate) fn copy(&self, alloc: Global) -> Result<Among<W>, Memory>
+    pub(crate) fn copy(&self, alloc: Global) -> Result<Shortlist<W>, Memory>
         requires words { W ≤ 1024 }
         ensures { IfOk result (λ among. (among.whole ≡ self.now.whole) × (among.sets.items ≡ self.now.sets.items)) }
     {
-        Among::of(alloc, self.whole, &self.sets)
+        Shortlist::of(alloc, self.whole, &self.sets)
     }
 
     /// Those whose first attribute outside a is i.
-    pub(crate) fn branch(&self, alloc: Global, a: &Bits<W>, i: u32) -> Result<Among<W>, Memory>
+    pub(crate) fn branch(&self, alloc: Global, a: &Bits<W>, i: u32) -> Result<Shortlist<W>, Memory>
         requires words { W ≤ 1024 }
         ensures { IfOk result (λ part. (part.whole ≡ self.now.whole) × (part.sets.items ≡ filter (λ X. stands_at i (first_missing 0 X a.now)) self.now.sets.items)) }
     {
         let sets = part_of(alloc, &self.sets, a, i)?;
-        Ok(Among {
+        Ok(Shortlist {
             whole: self.whole,
             sets,
         })

@@ -3,10 +3,10 @@ use Rattle.level_queue.specs.Queue.{Base}
 use Rattle.exploration_terms.specs.Settings.{settings_of}
 use Rattle.explore_state.proofs.KeptLemmas.{kept_opening}
 use Rattle.explore_state.proofs.OpenLemmas.{no_fault}
-use Rattle.explore_state.proofs.Explore.open_with.Goals as goal
+use Rattle.explore_state.proofs.Explore.open_with_by.Goals as goal
 
 pub invariant_of-result : goal.invariant_of-result
-invariant_of-result c =
+invariant_of-result g c =
     let s = settings_of c.args.settings in
     let told = no_fault c.args.table.context c.args.experts s c.in_ok-queue.ensures.sound in
     let queue = c.in_ok-queue.ensures.queue in
