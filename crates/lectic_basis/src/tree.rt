@@ -46,7 +46,7 @@ pub(crate) fn visit_all<const W: usize>(
     a: &Bits<W>,
     from: u32,
 ) -> Result<(), Memory>
-    requires { IsVisit known.now.members indexed.now indexed.now a.now from found.old }
+    requires { IsVisit known.now.members indexed.now a.now from found.old }
     ensures { OnOk result (HasFound known.now.members indexed.now a.now from (IsPartBefore a.now from) found.old found.new) }
 {
     let _width = found.width();
@@ -100,7 +100,7 @@ fn next_below<const W: usize>(
     i: u32,
     spare: &mut Vec<StepLists>,
 ) -> Result<Option<Step<W>>, Memory>
-    requires trying { IsTrying known.now.members indexed.now indexed.now step.old.intent i found.old }
+    requires trying { IsTrying known.now.members indexed.now step.old.intent i found.old }
     requires lacks { slice_index_or step.old.intent i false ≡ false }
     requires near { IsExtent indexed.now step.old.intent step.old.lists.near }
     requires forced { AreForced found.old.list.members step.old.intent step.old.lists.forced.items }
@@ -190,11 +190,11 @@ fn child_at<const W: usize>(
     lists: &mut StepLists,
     from: u32,
 ) -> Result<Option<Bits<W>>, Memory>
-    requires trying { IsTrying known.now.members indexed.now indexed.now a.now i found.old }
+    requires trying { IsTrying known.now.members indexed.now a.now i found.old }
     requires lacks { slice_index_or a.now i false ≡ false }
     requires near { IsExtent indexed.now a.now lists.old.near }
     requires forced { AreForced found.old.list.members a.now lists.old.forced.items }
-    ensures below { IfOk result (λ child. IfSome child (λ b. IsBelow known.now.members indexed.now indexed.now b (i + 1) found.new)) }
+    ensures below { IfOk result (λ child. IfSome child (λ b. IsBelow known.now.members indexed.now b (i + 1) found.new)) }
     ensures same { lists.new.near ≡ lists.old.near }
     ensures near { IfOk result (λ child. IfSome child (λ b. IsExtentWith indexed.now b i lists.new.near)) }
     ensures done { IfOk result (λ child. MatchOption child
@@ -232,9 +232,9 @@ fn visit<const W: usize>(
     closed: &Bits<W>,
     from: u32,
 ) -> Result<Option<Bits<W>>, Memory>
-    requires visit { IsVisit known.now.members indexed.now indexed.now a.now from found.old }
+    requires visit { IsVisit known.now.members indexed.now a.now from found.old }
     requires closed { closed.now ≡ closure indexed.now a.now }
-    ensures below { IfOk result (λ intent. IfSome intent (λ b. IsBelow known.now.members indexed.now indexed.now b from found.new)) }
+    ensures below { IfOk result (λ intent. IfSome intent (λ b. IsBelow known.now.members indexed.now b from found.new)) }
     ensures done { IfOk result (λ intent. MatchOption intent
         (HasFound known.now.members indexed.now a.now from (IsPartBefore a.now from) found.old found.new)
         (λ b. (new : Watched) → HasFound known.now.members indexed.now b from (IsPart b) found.new new → HasFound known.now.members indexed.now a.now from (IsPartBefore a.now from) found.old new)) }

@@ -30,7 +30,7 @@ visit_all-requires g c =
         omega arith,
         (
           omega (arith, c.width-width.ensures.words),
-          subst (λ X. IsVisit L.members K K X 0 F) (sym c.resize.ensures) is,
+          subst (λ X. IsVisit L.members K X 0 F) (sym c.resize.ensures) is,
         ),
       ),
     )
