@@ -365,13 +365,13 @@ none_found {S = S} {K = K} {A = A} {F = F} {G = G} ws b f (suc d) j i e least le
     none_found ws b f d k i refl least (omega (arith, le, e)) (found_then h step) (λ m l u. none m l (omega (arith, u, e)))
 
 -- the last attribute that is tried
-pub last_found : {S : List Rule} {K : Context} {A : Set} {from before i : ℕ} {F G : Watched} (ws : List ℕ) → IsBelow S K A from F
-    → AreForced G.list.members A ws → before ≤ K.width
-    → HasFound S K A before (IsPart A) F G → IsLastTried A ws from before i → HasFound S K A (i + 1) (IsPart A) F G
-last_found {before = before} {i = i} ws b f le h t =
-    let inside : i < before = t.in_range in
+pub last_found : {S : List Rule} {K : Context} {A : Set} {from end i : ℕ} {F G : Watched} (ws : List ℕ) → IsBelow S K A from F
+    → AreForced G.list.members A ws → end ≤ K.width
+    → HasFound S K A end (IsPart A) F G → IsLastTried A ws from end i → HasFound S K A (i + 1) (IsPart A) F G
+last_found {end = end} {i = i} ws b f le h t =
+    let inside : i < end = t.in_range in
     let least = t.at_least in
-    none_found ws b f (before - (i + 1)) before (i + 1) (omega (arith, inside)) (omega (arith, least)) le h t.last
+    none_found ws b f (end - (i + 1)) end (i + 1) (omega (arith, inside)) (omega (arith, least)) le h t.last
 
 pub tried_lacks : (A : Set) (ws : List ℕ) (i : ℕ) → is_tried A ws i ≡ true → get_or A i false ≡ false
 tried_lacks A ws i t = lacking (get_or A i false)
@@ -382,10 +382,10 @@ tried_lacks A ws i t = lacking (get_or A i false)
     lacking false e = refl
 
 -- where nothing is told, nothing is tried
-pub none_told : (A : Set) (ws : List ℕ) (from before : ℕ) (o : Option ℕ) → is_some o ≡ false
-    → MatchOption o (NoneTried A ws from before) (IsLastTried A ws from before) → NoneTried A ws from before
-none_told A ws from before None e h = h
-none_told A ws from before (Some i) e h = absurd (false≢true (sym e))
+pub none_told : (A : Set) (ws : List ℕ) (from end : ℕ) (o : Option ℕ) → is_some o ≡ false
+    → MatchOption o (NoneTried A ws from end) (IsLastTried A ws from end) → NoneTried A ws from end
+none_told A ws from end None e h = h
+none_told A ws from end (Some i) e h = absurd (false≢true (sym e))
 
 pub below_up : (A X C : Set) (i : ℕ) (J : List Rule) → X ≡ set A i true → IsClosure J X C → within A C ≡ true
 below_up A X C i J x c = within_trans A (set A i true) C (within_set A i) (subst (λ Y. within Y C ≡ true) x c.above)
