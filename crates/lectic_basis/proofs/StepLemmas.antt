@@ -46,7 +46,7 @@ module _ (S : List Rule) (K : Context) (Wanted : Watched → Type 0) {W : ℕ} (
     found_behind : HasFound S K step.intent (i + 1) (IsPart step.intent) left.0 F
     found_behind = last_found step.lists.forced.items walk_step.below walk_step.forced walk_step.inside walk_step.found last
 
-    pub walk_trying : IsTrying S K K step.intent i F
+    pub walk_trying : IsTrying S K step.intent i F
     walk_trying = trying walk_step.below (omega (arith, last.in_range, walk_step.inside)) found_behind (omega arith) last.at_least
 
     pub walk_lacks : get_or step.intent i false ≡ false
@@ -86,7 +86,7 @@ walk_done S K Wanted F (step ∷ steps) none w = absurd (omega (arith, none))
 
 -- the step begun at the child
 module _ {S : List Rule} {K : Context} {A : Set} {i : ℕ} {F G : Watched} {W : ℕ} {old new : Step W} (f : IsFurther K i G old new)
-    (below : IsBelow S K K A (i + 1) G) (forced : AreForced G.list.members A new.lists.forced.items)
+    (below : IsBelow S K A (i + 1) G) (forced : AreForced G.list.members A new.lists.forced.items)
     (done : (H : Watched) → HasFound S K A (i + 1) (IsPart A) G H → HasFound S K old.intent i (IsPart old.intent) F H) where
   pub tried_none : NoneTried A new.lists.forced.items (i + 1) K.width → HasTried S K i F G old new None
   tried_none none = (
@@ -118,7 +118,7 @@ module _ {S : List Rule} {K : Context} {A : Set} {i : ℕ} {F G : Watched} {W : 
   tried_told (Ok None) told = tried_none told
   tried_told (Ok (Some step)) told = tried_begun step told
 
-pub step_first : {S : List Rule} {K : Context} {W : ℕ} {F : Watched} (step : Step W) → IsBelow S K K step.intent step.from F
+pub step_first : {S : List Rule} {K : Context} {W : ℕ} {F : Watched} (step : Step W) → IsBelow S K step.intent step.from F
     → step.end ≡ K.width → IsExtent K step.intent step.lists.near
     → AreForced F.list.members step.intent step.lists.forced.items → IsStep S K step F F
 step_first step below all near forced = record {

@@ -32,9 +32,9 @@ use Rattle.lectic_basis.proofs.WaitLemmas.{push_filed, push_good, push_covers, k
 pub root_visit : (S : List Rule) (K : Context) (A : Set) (F : Watched) → list_all (holds K) S ≡ true
     → IsClosure S (replicate K.width false) A
     → F.list ≡ record { width = K.width; members = S } → IsFiled F.list.width F.list.members F.buckets → IsGood F.list.members F.buckets A
-    → IsVisit S K K A 0 F
+    → IsVisit S K A 0 F
 root_visit S K A F known a list filed good = record {
-  at = record { holds = known; family = tree.root_family S K A a; inside = omega arith; near = λ X h. refl; filed = filed; good = good };
+  at = record { holds = known; family = tree.root_family S K A a; inside = omega arith; filed = filed; good = good };
   least = tree.root_from S K A a;
   found = list ∙ ap (λ Zs. record { width = K.width; members = Zs }) (sym (tree.where_none S K A));
   entered = λ k e. absurd (omega (arith, e));
@@ -48,7 +48,7 @@ module _ {S : List Rule} {K : Context} {A : Set} {from : ℕ} {F G : Watched} wh
 
 -- ---- a visit
 
-module _ {S : List Rule} {K L : Context} {A : Set} {from : ℕ} {F : Watched} (v : IsVisit S K L A from F) where
+module _ {S : List Rule} {K : Context} {A : Set} {from : ℕ} {F : Watched} (v : IsVisit S K A from F) where
   wide : length A ≡ K.width
   wide = v.at.family.wide
 
@@ -61,10 +61,7 @@ module _ {S : List Rule} {K L : Context} {A : Set} {from : ℕ} {F : Watched} (v
   pub visit_inside : from ≤ length F.buckets
   visit_inside = omega (arith, v.at.inside, width, v.at.filed.room)
 
-  module _ {B : Set} (b : B ≡ closure L A) where
-    closure_is : B ≡ closure K A
-    closure_is = b ∙ v.at.near A (within_refl A)
-
+  module _ {B : Set} (closure_is : B ≡ closure K A) where
     pub closure_wide : length B ≡ F.list.width
     closure_wide = ap length closure_is ∙ length-closure K A ∙ sym width
 
@@ -72,7 +69,7 @@ module _ {S : List Rule} {K L : Context} {A : Set} {from : ℕ} {F : Watched} (v
     closure_up = subst (λ X. within A X ≡ true) (sym closure_is) (closure_extensive K A wide)
 
     -- an intent
-    pub visit_closed : same B A ≡ true → IsBelow S K L A from F
+    pub visit_closed : same B A ≡ true → IsBelow S K A from F
     visit_closed one = record {
       at = v.at;
       least = tree.visit_behind S K A v.at.family from v.at.inside v.least;
@@ -138,13 +135,12 @@ module _ {S : List Rule} {K L : Context} {A : Set} {from : ℕ} {F : Watched} (v
               (closed_respects_where S K (up_to K.width B) B family_b closed_b)
 
           pub visit_below : (C : Set) (agrees : Bool) → (agrees ≡ true → IsClosedBefore G.list.members H.buckets from A B C)
-              → (agrees ≡ false → Differs G.list.members from A B) → IsBelow S K L B from H
+              → (agrees ≡ false → Differs G.list.members from A B) → IsBelow S K B from H
           visit_below C agrees closed differs = record {
             at = record {
               holds = v.at.holds;
               family = family_b;
               inside = v.at.inside;
-              near = λ X h. v.at.near X (within_trans A B X closure_up h);
               filed = m.filed;
               good = subst (λ (M : RuleList). IsGood M.members H.buckets B) (sym m.list)
                   (closed_good G.list.members H.buckets from A B C agrees closed differs respecting agree);
@@ -196,15 +192,14 @@ told_forced M A C ws (Some b) f up larger = forced_larger M A b ws (within_trans
 -- ---- below an intent
 
 -- all behind attribute j - 1 were visited
-pub trying : {S : List Rule} {K L : Context} {A : Set} {from j i : ℕ} {F G : Watched} → IsBelow S K L A from F → j ≤ K.width
-    → HasFound S K A j (IsPart A) F G → j ≡ suc i → from ≤ i → IsTrying S K L A i G
+pub trying : {S : List Rule} {K : Context} {A : Set} {from j i : ℕ} {F G : Watched} → IsBelow S K A from F → j ≤ K.width
+    → HasFound S K A j (IsPart A) F G → j ≡ suc i → from ≤ i → IsTrying S K A i G
 trying {S = S} {K = K} {A = A} {from = from} {i = i} {F = F} {G = G} b le g e on =
     record {
       at = record {
         holds = b.at.holds;
         family = b.at.family;
         inside = omega (arith, le, e);
-        near = b.at.near;
         filed = g.filed;
         good = g.kept A (within_refl A) b.at.good;
       };
@@ -213,7 +208,7 @@ trying {S = S} {K = K} {A = A} {from = from} {i = i} {F = F} {G = G} b le g e on
       found = subst (λ k. G.list ≡ found_where S K (up_to k A)) e g.found;
     }
 
-pub below_start : {S : List Rule} {K L : Context} {A : Set} {from : ℕ} {F : Watched} → IsBelow S K L A from F
+pub below_start : {S : List Rule} {K : Context} {A : Set} {from : ℕ} {F : Watched} → IsBelow S K A from F
     → HasFound S K A K.width (IsPart A) F F
 below_start b = record { found = b.found; filed = b.at.filed; kept = λ X h good. good }
 
@@ -222,7 +217,7 @@ pub found_then : {S : List Rule} {K : Context} {A : Set} {j i : ℕ} {F G H : Wa
     → HasFound S K A i (IsPart A) G H → HasFound S K A i (IsPart A) F H
 found_then x y = record { found = y.found; filed = y.filed; kept = λ X h good. y.kept X h (x.kept X h good) }
 
-module _ {S : List Rule} {K L : Context} {A : Set} {i : ℕ} {G : Watched} (t : IsTrying S K L A i G) where
+module _ {S : List Rule} {K : Context} {A : Set} {i : ℕ} {G : Watched} (t : IsTrying S K A i G) where
   abbrev inside : i < K.width
   inside = t.inside
 
@@ -280,13 +275,12 @@ module _ {S : List Rule} {K L : Context} {A : Set} {i : ℕ} {G : Watched} (t : 
         up_c : within A C ≡ true
         up_c = tree.child_up S K A t.at.family.wide i i on inside t.least lacks C closed
 
-        pub below_visit : IsVisit S K L C (i + 1) H
-        below_visit = subst (λ k. IsVisit S K L C k H) next (record {
+        pub below_visit : IsVisit S K C (i + 1) H
+        below_visit = subst (λ k. IsVisit S K C k H) next (record {
           at = record {
             holds = t.at.holds;
             family = tree.child_family S K A t.at.family.wide i i on inside t.least lacks C closed c.agree;
             inside = omega (arith, inside);
-            near = λ Y h. t.at.near Y (within_trans A C Y up_c h);
             filed = m.filed;
             good = subst (λ (M : RuleList). IsGood M.members H.buckets C) (sym m.list) c.good;
           };
@@ -341,7 +335,7 @@ told_extent K C i Ps None extent larger shared = larger
 told_extent K C i Ps (Some b) extent larger shared = extent_shared K C b i Ps extent larger shared
 
 -- where i is seen to force an attribute before it that A lacks, no member is left out
-pub below_forced : {S : List Rule} {K L : Context} {A : Set} {i : ℕ} {G : Watched} (w : ℕ) (ws : List ℕ) → IsTrying S K L A i G
+pub below_forced : {S : List Rule} {K : Context} {A : Set} {i : ℕ} {G : Watched} (w : ℕ) (ws : List ℕ) → IsTrying S K A i G
     → get_or A i false ≡ false → AreForced G.list.members A ws → get_or ws i i ≡ w → w < i → get_or A w false ≡ false
     → HasFound S K A i (IsPart A) G G
 below_forced {A = A} {i = i} {G = G} w ws t lacks f is lt missing =
@@ -355,14 +349,14 @@ tried_parts false true b e = absurd (false≢true (sym e))
 tried_parts false false true e = absurd (false≢true (sym e))
 
 -- where none of some attributes is tried, no member is left out
-pub none_found : {S : List Rule} {K L : Context} {A : Set} {from : ℕ} {F G : Watched} (ws : List ℕ) → IsBelow S K L A from F
+pub none_found : {S : List Rule} {K : Context} {A : Set} {from : ℕ} {F G : Watched} (ws : List ℕ) → IsBelow S K A from F
     → AreForced G.list.members A ws → (d j i : ℕ) → j ≡ d + i → from ≤ i → j ≤ K.width
     → HasFound S K A j (IsPart A) F G → NoneTried A ws i j → HasFound S K A i (IsPart A) F G
 none_found {S = S} {K = K} {A = A} {F = F} {G = G} ws b f zero j i e least le h none = let same : j ≡ i = omega (arith, e) in
     subst (λ k. HasFound S K A k (IsPart A) F G) same h
-none_found {S = S} {K = K} {L = L} {A = A} {F = F} {G = G} ws b f (suc d) j i e least le h none =
+none_found {S = S} {K = K} {A = A} {F = F} {G = G} ws b f (suc d) j i e least le h none =
     let k : ℕ = d + i in
-    let t : IsTrying S K L A k G = trying b le h (omega (arith, e)) (omega (arith, least)) in
+    let t : IsTrying S K A k G = trying b le h (omega (arith, e)) (omega (arith, least)) in
     let step : HasFound S K A k (IsPart A) G G = elim (tried_parts (get_or A k false) (leb k (get_or ws k k))
     (get_or A (get_or ws k k) false) (none k (omega arith) (omega (arith, e)))) [
       | inl has ↦ below_member t has
@@ -371,13 +365,13 @@ none_found {S = S} {K = K} {L = L} {A = A} {F = F} {G = G} ws b f (suc d) j i e 
     none_found ws b f d k i refl least (omega (arith, le, e)) (found_then h step) (λ m l u. none m l (omega (arith, u, e)))
 
 -- the last attribute that is tried
-pub last_found : {S : List Rule} {K L : Context} {A : Set} {from before i : ℕ} {F G : Watched} (ws : List ℕ) → IsBelow S K L A from F
-    → AreForced G.list.members A ws → before ≤ K.width
-    → HasFound S K A before (IsPart A) F G → IsLastTried A ws from before i → HasFound S K A (i + 1) (IsPart A) F G
-last_found {before = before} {i = i} ws b f le h t =
-    let inside : i < before = t.in_range in
+pub last_found : {S : List Rule} {K : Context} {A : Set} {from end i : ℕ} {F G : Watched} (ws : List ℕ) → IsBelow S K A from F
+    → AreForced G.list.members A ws → end ≤ K.width
+    → HasFound S K A end (IsPart A) F G → IsLastTried A ws from end i → HasFound S K A (i + 1) (IsPart A) F G
+last_found {end = end} {i = i} ws b f le h t =
+    let inside : i < end = t.in_range in
     let least = t.at_least in
-    none_found ws b f (before - (i + 1)) before (i + 1) (omega (arith, inside)) (omega (arith, least)) le h t.last
+    none_found ws b f (end - (i + 1)) end (i + 1) (omega (arith, inside)) (omega (arith, least)) le h t.last
 
 pub tried_lacks : (A : Set) (ws : List ℕ) (i : ℕ) → is_tried A ws i ≡ true → get_or A i false ≡ false
 tried_lacks A ws i t = lacking (get_or A i false)
@@ -388,10 +382,10 @@ tried_lacks A ws i t = lacking (get_or A i false)
     lacking false e = refl
 
 -- where nothing is told, nothing is tried
-pub none_told : (A : Set) (ws : List ℕ) (from before : ℕ) (o : Option ℕ) → is_some o ≡ false
-    → MatchOption o (NoneTried A ws from before) (IsLastTried A ws from before) → NoneTried A ws from before
-none_told A ws from before None e h = h
-none_told A ws from before (Some i) e h = absurd (false≢true (sym e))
+pub none_told : (A : Set) (ws : List ℕ) (from end : ℕ) (o : Option ℕ) → is_some o ≡ false
+    → MatchOption o (NoneTried A ws from end) (IsLastTried A ws from end) → NoneTried A ws from end
+none_told A ws from end None e h = h
+none_told A ws from end (Some i) e h = absurd (false≢true (sym e))
 
 pub below_up : (A X C : Set) (i : ℕ) (J : List Rule) → X ≡ set A i true → IsClosure J X C → within A C ≡ true
 below_up A X C i J x c = within_trans A (set A i true) C (within_set A i) (subst (λ Y. within Y C ≡ true) x c.above)

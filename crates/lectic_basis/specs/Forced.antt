@@ -24,11 +24,11 @@ is_tried A ws i = not (slice_index_or A i false) && (nat_le i (slice_index_or ws
 
 -- none of these attributes is tried
 abbrev pub NoneTried : Set → List ℕ → ℕ → ℕ → Type 0
-NoneTried A ws from before = (j : ℕ) → from ≤ j → j < before → is_tried A ws j ≡ false
+NoneTried A ws from end = (j : ℕ) → from ≤ j → j < end → is_tried A ws j ≡ false
 
 -- i is the last of these attributes that is tried
-pub record IsLastTried (A : Set) (ws : List ℕ) (from before i : ℕ) : Type 0 where
+pub record IsLastTried (A : Set) (ws : List ℕ) (from end i : ℕ) : Type 0 where
   pub at_least : from ≤ i
-  pub in_range : i < before
+  pub in_range : i < end
   pub tried : is_tried A ws i ≡ true
-  pub last : NoneTried A ws (i + 1) before
+  pub last : NoneTried A ws (i + 1) end

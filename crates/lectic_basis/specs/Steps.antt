@@ -13,7 +13,7 @@ use Rattle.lectic_basis.specs.declared.tree.Step.{Step}
 
 -- the step was begun when `first` was found, and now F is; all from its end on were visited
 pub record IsStep (S : List Rule) (K : Context) {W : ℕ} (step : Step W) (first F : Watched) : Type 0 where
-  pub below : IsBelow S K K step.intent step.from first
+  pub below : IsBelow S K step.intent step.from first
   pub found : HasFound S K step.intent step.end (IsPart step.intent) first F
   pub near : IsExtent K step.intent step.lists.near
   pub forced : AreForced F.list.members step.intent step.lists.forced.items

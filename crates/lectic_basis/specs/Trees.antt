@@ -36,10 +36,6 @@ up_to k A X = before k A X || agree_before k A X
 abbrev pub IsLeastBehind : List Rule → Context → Set → ℕ → Type 0
 IsLeastBehind S K A k = (X : Set) → InFamily S K X → agree_before k A X ≡ true → up_to K.width A X ≡ false → within A X ≡ true
 
--- the sets that contain A have one closure in both contexts
-abbrev pub ClosesAlike : Context → Context → Set → Type 0
-ClosesAlike K L A = (X : Set) → within A X ≡ true → closure L X ≡ closure K X
-
 -- the known implications, and then the basis members whose premise passes the test
 unfoldable pub members_where : List Rule → Context → (Set → Bool) → List Rule
 members_where S K p = S ++ filter (λ i. p i.premise) (basis_known S K)

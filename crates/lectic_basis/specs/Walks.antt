@@ -7,34 +7,33 @@ use Rattle.std.specs.List.{list_all}
 use Rattle.fca_model.specs.Sets.{Set, within}
 use Rattle.fca_model.specs.Context.{Context}
 use Rattle.fca_model.specs.Implications.{Rule, holds}
-use Rattle.lectic_basis.specs.Trees.{InFamily, IsLeastFrom, IsLeastBehind, ClosesAlike, before, up_to, found_where}
+use Rattle.lectic_basis.specs.Trees.{InFamily, IsLeastFrom, IsLeastBehind, before, up_to, found_where}
 use Rattle.lectic_basis.specs.Watches.{Watched, IsFiled, IsGood}
 
--- A is a set of the family, the rows of L are enough for its closures, and its members wait
-pub record IsAt (S : List Rule) (K L : Context) (A : Set) (from : ℕ) (F : Watched) : Type 0 where
+-- A is a set of the family; each member waits for an attribute outside it, or has its conclusion within it
+pub record IsAt (S : List Rule) (K : Context) (A : Set) (from : ℕ) (F : Watched) : Type 0 where
   pub holds : list_all (holds K) S ≡ true
   pub family : InFamily S K A
   pub inside : from ≤ K.width
-  pub near : ClosesAlike K L A
   pub filed : IsFiled F.list.width F.list.members F.buckets
   pub good : IsGood F.list.members F.buckets A
 
 -- A is to be visited, and then all that agree with it before attribute `from`; A was entered by the attribute before
-pub record IsVisit (S : List Rule) (K L : Context) (A : Set) (from : ℕ) (F : Watched) : Type 0 where
-  pub at : IsAt S K L A from F
+pub record IsVisit (S : List Rule) (K : Context) (A : Set) (from : ℕ) (F : Watched) : Type 0 where
+  pub at : IsAt S K A from F
   pub least : IsLeastFrom S K A from
   pub found : F.list ≡ found_where S K (before from A)
   pub entered : (k : ℕ) → from ≡ suc k → slice_index_or A k false ≡ true
 
 -- the intent A was visited, and what agrees with it before attribute `from` and comes behind it is left
-pub record IsBelow (S : List Rule) (K L : Context) (A : Set) (from : ℕ) (F : Watched) : Type 0 where
-  pub at : IsAt S K L A from F
+pub record IsBelow (S : List Rule) (K : Context) (A : Set) (from : ℕ) (F : Watched) : Type 0 where
+  pub at : IsAt S K A from F
   pub least : IsLeastBehind S K A from
   pub found : F.list ≡ found_where S K (up_to K.width A)
 
 -- attribute i is to be tried below the intent A, and all behind it were
-pub record IsTrying (S : List Rule) (K L : Context) (A : Set) (i : ℕ) (F : Watched) : Type 0 where
-  pub at : IsAt S K L A i F
+pub record IsTrying (S : List Rule) (K : Context) (A : Set) (i : ℕ) (F : Watched) : Type 0 where
+  pub at : IsAt S K A i F
   pub least : IsLeastBehind S K A i
   pub inside : i < K.width
   pub found : F.list ≡ found_where S K (up_to (suc i) A)

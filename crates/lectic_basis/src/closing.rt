@@ -79,6 +79,6 @@ pub(crate) fn agrees<const W: usize>(a: &Bits<W>, larger: &Bits<W>, from: u32) -
 {
     match larger.first_missing(a) {
         None => true,
-        Some(new) => from <= new,
+        Some(first) => from <= first,
     }
 }

@@ -32,15 +32,16 @@ pub fn known_with_basis(
     ensures { IfOk result (λ list. list ≡ record { width = rows.now.width; members = known.now.members ++ basis_known known.now.members rows.now }) }
 {
     match WordCount::of(rows.width()) {
-        WordCount::One => basis_in_all_words(alloc, rows.resize::<1>(alloc)?, known),
-        WordCount::Two => basis_in_all_words(alloc, rows.resize::<2>(alloc)?, known),
-        WordCount::Four => basis_in_all_words(alloc, rows.resize::<4>(alloc)?, known),
-        WordCount::All => basis_in_all_words(alloc, rows.copy()?, known),
+        WordCount::One => known_with_basis_resized(alloc, rows.resize::<1>(alloc)?, known),
+        WordCount::Two => known_with_basis_resized(alloc, rows.resize::<2>(alloc)?, known),
+        WordCount::Four => known_with_basis_resized(alloc, rows.resize::<4>(alloc)?, known),
+        WordCount::Eight => known_with_basis_resized(alloc, rows.resize::<8>(alloc)?, known),
+        WordCount::All => known_with_basis_resized(alloc, rows.copy()?, known),
     }
 }
 
 /// The known implications and the basis relative to them, found in W words and given in all words.
-fn basis_in_all_words<const W: usize>(
+fn known_with_basis_resized<const W: usize>(
     alloc: Global,
     rows: RowsOf<W>,
     known: &ImplicationList,
@@ -49,14 +50,14 @@ fn basis_in_all_words<const W: usize>(
     requires holds { list_all (holds rows) known.now.members ≡ true }
     ensures { IfOk result (λ list. list ≡ record { width = rows.entry.width; members = known.now.members ++ basis_known known.now.members rows.entry }) }
 {
-    let list = basis_in_words(alloc, rows, known)?;
+    let list = known_with_basis_in_words(alloc, rows, known)?;
     let _width = list.width();
     list.resize(alloc)
 }
 
 /// The known implications, and behind them the basis relative to them, in lectic order of the premises, in sets of W words. (Ganter, "Two basic algorithms in
 /// concept analysis", 1984, for the order; Janostik, Konecny and Krajca, "LinCbO", 2021, for the tree; Moskewicz and others, "Chaff", 2001, for what waits.)
-pub fn basis_in_words<const W: usize>(
+pub fn known_with_basis_in_words<const W: usize>(
     alloc: Global,
     rows: RowsOf<W>,
     known: &ImplicationList,

@@ -46,7 +46,7 @@ pub(crate) fn visit_all<const W: usize>(
     a: &Bits<W>,
     from: u32,
 ) -> Result<(), Memory>
-    requires { IsVisit known.now.members indexed.now indexed.now a.now from found.old }
+    requires { IsVisit known.now.members indexed.now a.now from found.old }
     ensures { OnOk result (HasFound known.now.members indexed.now a.now from (IsPartBefore a.now from) found.old found.new) }
 {
     let _width = found.width();
@@ -100,7 +100,7 @@ fn next_below<const W: usize>(
     i: u32,
     spare: &mut Vec<StepLists>,
 ) -> Result<Option<Step<W>>, Memory>
-    requires trying { IsTrying known.now.members indexed.now indexed.now step.old.intent i found.old }
+    requires trying { IsTrying known.now.members indexed.now step.old.intent i found.old }
     requires lacks { slice_index_or step.old.intent i false ≡ false }
     requires near { IsExtent indexed.now step.old.intent step.old.lists.near }
     requires forced { AreForced found.old.list.members step.old.intent step.old.lists.forced.items }
@@ -154,12 +154,12 @@ fn step_below<const W: usize>(
 }
 
 /// The last of these attributes that is to be tried below a.
-fn last_to_try<const W: usize>(a: &Bits<W>, forced: &[u32], from: u32, before: u32) -> Option<u32>
-    requires order { from ≤ before }
-    requires inside { before ≤ length a.now }
-    ensures { MatchOption result (NoneTried a.now forced.now from before) (IsLastTried a.now forced.now from before) }
+fn last_to_try<const W: usize>(a: &Bits<W>, forced: &[u32], from: u32, end: u32) -> Option<u32>
+    requires order { from ≤ end }
+    requires inside { end ≤ length a.now }
+    ensures { MatchOption result (NoneTried a.now forced.now from end) (IsLastTried a.now forced.now from end) }
 {
-    for i in (from..before).rev() {
+    for i in (from..end).rev() {
         if tries(a, forced, i) {
             return Some(i);
         }
@@ -175,8 +175,8 @@ fn tries<const W: usize>(a: &Bits<W>, forced: &[u32], i: u32) -> bool
     if a.has(i) {
         return false;
     }
-    let member = forced.get(i as usize).copied().unwrap_or(i);
-    i <= member || a.has(member)
+    let attribute = forced.get(i as usize).copied().unwrap_or(i);
+    i <= attribute || a.has(attribute)
 }
 
 /// Visits the least set of the family that contains a and attribute i, which a lacks, if the set agrees with a before i. If more is left there, it is behind the
@@ -190,11 +190,11 @@ fn child_at<const W: usize>(
     lists: &mut StepLists,
     from: u32,
 ) -> Result<Option<Bits<W>>, Memory>
-    requires trying { IsTrying known.now.members indexed.now indexed.now a.now i found.old }
+    requires trying { IsTrying known.now.members indexed.now a.now i found.old }
     requires lacks { slice_index_or a.now i false ≡ false }
     requires near { IsExtent indexed.now a.now lists.old.near }
     requires forced { AreForced found.old.list.members a.now lists.old.forced.items }
-    ensures below { IfOk result (λ child. IfSome child (λ b. IsBelow known.now.members indexed.now indexed.now b (i + 1) found.new)) }
+    ensures below { IfOk result (λ child. IfSome child (λ b. IsBelow known.now.members indexed.now b (i + 1) found.new)) }
     ensures same { lists.new.near ≡ lists.old.near }
     ensures near { IfOk result (λ child. IfSome child (λ b. IsExtentWith indexed.now b i lists.new.near)) }
     ensures done { IfOk result (λ child. MatchOption child
@@ -232,9 +232,9 @@ fn visit<const W: usize>(
     closed: &Bits<W>,
     from: u32,
 ) -> Result<Option<Bits<W>>, Memory>
-    requires visit { IsVisit known.now.members indexed.now indexed.now a.now from found.old }
+    requires visit { IsVisit known.now.members indexed.now a.now from found.old }
     requires closed { closed.now ≡ closure indexed.now a.now }
-    ensures below { IfOk result (λ intent. IfSome intent (λ b. IsBelow known.now.members indexed.now indexed.now b from found.new)) }
+    ensures below { IfOk result (λ intent. IfSome intent (λ b. IsBelow known.now.members indexed.now b from found.new)) }
     ensures done { IfOk result (λ intent. MatchOption intent
         (HasFound known.now.members indexed.now a.now from (IsPartBefore a.now from) found.old found.new)
         (λ b. (new : Watched) → HasFound known.now.members indexed.now b from (IsPart b) found.new new → HasFound known.now.members indexed.now a.now from (IsPartBefore a.now from) found.old new)) }
@@ -331,27 +331,27 @@ fn initial_forces<const W: usize>(
     Ok(forced)
 }
 
-/// Notes that attribute i forces an attribute before it that the set has and a lacks, and that the sets below a lack for long (`lasting_member`).
+/// Notes that attribute i forces an attribute before it that the larger set has and a lacks, and that the sets below a lack for long (`lasting_member`).
 fn note<const W: usize>(
     forced: &mut Vec<u32>,
     a: &Bits<W>,
     i: u32,
-    closed: &Bits<W>,
+    larger: &Bits<W>,
     from: u32,
     supports: &[u32],
 )
-    ensures { (J : List Rule) → IsBounded J (slice_set a.now i true) closed.now → AreForced J a.now forced.old.items → AreForced J a.now forced.new.items }
+    ensures { (J : List Rule) → IsBounded J (slice_set a.now i true) larger.now → AreForced J a.now forced.old.items → AreForced J a.now forced.new.items }
 {
-    if let Some(new) = lasting_member(closed, a, i, from, supports) {
-        put(forced, i, new);
+    if let Some(lasting) = lasting_member(larger, a, i, from, supports) {
+        put(forced, i, lasting);
     }
 }
 
 /// Puts the attribute in the place of what stood there.
-fn put(forced: &mut Vec<u32>, i: u32, member: u32)
-    ensures { forced.new.items ≡ slice_set forced.old.items i member }
+fn put(forced: &mut Vec<u32>, i: u32, attribute: u32)
+    ensures { forced.new.items ≡ slice_set forced.old.items i attribute }
 {
     if let Some(kept) = forced.get_mut(i as usize) {
-        *kept = member;
+        *kept = attribute;
     }
 }

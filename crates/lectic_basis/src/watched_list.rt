@@ -59,8 +59,8 @@ impl<const W: usize> WatchedList<W> {
     {
         let mut watched = WatchedList::new(alloc, list)?;
         for (place, member) in list.as_slice().iter().enumerate() {
-            if let Some(w) = member.premise.first_missing(x) {
-                watched.wait_for(place, w)?;
+            if let Some(z) = member.premise.first_missing(x) {
+                watched.wait_for(place, z)?;
             }
         }
         Ok(watched)
@@ -70,7 +70,7 @@ impl<const W: usize> WatchedList<W> {
     fn new(alloc: Global, list: &ImplicationListOf<W>) -> Result<WatchedList<W>, Memory>
         ensures list { IfOk result (λ watched. watched.list ≡ list.now) }
         ensures room { IfOk result (λ watched. length watched.buckets ≡ list.now.width) }
-        ensures empty { IfOk result (λ watched. (w : ℕ) → bucket w watched.buckets ≡ []) }
+        ensures empty { IfOk result (λ watched. (z : ℕ) → bucket z watched.buckets ≡ []) }
     {
         let buckets = empty_buckets(alloc, list.width())?;
         Ok(WatchedList {
@@ -95,54 +95,54 @@ impl<const W: usize> WatchedList<W> {
         self.list
     }
 
-    /// How many members wait for attribute w.
-    pub(crate) fn count(&self, w: u32) -> usize
-        requires { w < length self.now.buckets }
-        ensures { result ≡ length (bucket w self.now.buckets) }
+    /// How many members wait for attribute z.
+    pub(crate) fn count(&self, z: u32) -> usize
+        requires { z < length self.now.buckets }
+        ensures { result ≡ length (bucket z self.now.buckets) }
     {
-        self.buckets[w as usize].len()
+        self.buckets[z as usize].len()
     }
 
-    /// The premise at place k of the bucket of attribute w.
-    pub(crate) fn premise(&self, w: u32, k: usize) -> Bits<W>
-        requires inside { w < length self.now.buckets }
-        requires there { k < length (bucket w self.now.buckets) }
-        ensures { result ≡ (waiting_at w k self.now.buckets).premise }
+    /// The premise at place k of the bucket of attribute z.
+    pub(crate) fn premise(&self, z: u32, k: usize) -> Bits<W>
+        requires inside { z < length self.now.buckets }
+        requires there { k < length (bucket z self.now.buckets) }
+        ensures { result ≡ (waiting_at z k self.now.buckets).premise }
     {
-        self.waiting(w, k).premise
+        self.waiting_member(z, k).premise
     }
 
-    /// The conclusion at place k of the bucket of attribute w.
-    pub(crate) fn conclusion(&self, w: u32, k: usize) -> Bits<W>
-        requires inside { w < length self.now.buckets }
-        requires there { k < length (bucket w self.now.buckets) }
-        ensures { result ≡ (waiting_at w k self.now.buckets).conclusion }
+    /// The conclusion at place k of the bucket of attribute z.
+    pub(crate) fn conclusion(&self, z: u32, k: usize) -> Bits<W>
+        requires inside { z < length self.now.buckets }
+        requires there { k < length (bucket z self.now.buckets) }
+        ensures { result ≡ (waiting_at z k self.now.buckets).conclusion }
     {
-        self.waiting(w, k).conclusion
+        self.waiting_member(z, k).conclusion
     }
 
-    /// The member at place k of the bucket of attribute w.
-    fn waiting(&self, w: u32, k: usize) -> &Implication<Bits<W>>
-        requires inside { w < length self.now.buckets }
-        requires there { k < length (bucket w self.now.buckets) }
-        ensures { result.now ≡ waiting_at w k self.now.buckets }
+    /// The member at place k of the bucket of attribute z.
+    fn waiting_member(&self, z: u32, k: usize) -> &Implication<Bits<W>>
+        requires inside { z < length self.now.buckets }
+        requires there { k < length (bucket z self.now.buckets) }
+        ensures { result.now ≡ waiting_at z k self.now.buckets }
     {
-        let place = self.buckets[w as usize][k];
+        let place = self.buckets[z as usize][k];
         &self.list.as_slice()[place]
     }
 
-    /// Moves the member at place k of bucket w to another bucket.
-    pub(crate) fn move_to(&mut self, w: u32, k: usize, other: u32) -> Result<(), Memory>
-        requires inside { w < length self.old.buckets }
+    /// Moves the member at place k of bucket z to another bucket.
+    pub(crate) fn move_to(&mut self, z: u32, k: usize, other: u32) -> Result<(), Memory>
+        requires inside { z < length self.old.buckets }
         requires other_inside { other < length self.old.buckets }
-        requires there { k < length (bucket w self.old.buckets) }
-        requires elsewhere { other ≢ w }
+        requires there { k < length (bucket z self.old.buckets) }
+        requires elsewhere { other ≢ z }
         ensures list { self.new.list ≡ self.old.list }
-        ensures moved { OnOk result (IsMoved self.old.buckets self.new.buckets w k other (waiting_at w k self.old.buckets)) }
+        ensures moved { OnOk result (IsMoved self.old.buckets self.new.buckets z k other (waiting_at z k self.old.buckets)) }
     {
-        let place = self.buckets[w as usize][k];
+        let place = self.buckets[z as usize][k];
         self.buckets[other as usize].push(place)?;
-        self.buckets[w as usize].swap_remove(k);
+        self.buckets[z as usize].swap_remove(k);
         Ok(())
     }
 
@@ -173,14 +173,14 @@ impl<const W: usize> WatchedList<W> {
         Ok(())
     }
 
-    /// Has the member at the place wait for attribute w.
-    fn wait_for(&mut self, place: usize, w: u32) -> Result<(), Memory>
+    /// Has the member at the place wait for attribute z.
+    fn wait_for(&mut self, place: usize, z: u32) -> Result<(), Memory>
         requires there { place < length self.old.list.members }
-        requires inside { w < length self.old.buckets }
+        requires inside { z < length self.old.buckets }
         ensures list { self.new.list ≡ self.old.list }
-        ensures put { OnOk result (IsPut self.old.buckets self.new.buckets w (member_at self.old.list.members place)) }
+        ensures put { OnOk result (IsPut self.old.buckets self.new.buckets z (member_at self.old.list.members place)) }
     {
-        self.buckets[w as usize].push(place)?;
+        self.buckets[z as usize].push(place)?;
         Ok(())
     }
 }
@@ -188,7 +188,7 @@ impl<const W: usize> WatchedList<W> {
 /// As many empty buckets.
 fn empty_buckets(alloc: Global, n: u32) -> Result<Vec<Vec<usize>>, Memory>
     ensures room { IfOk result (λ buckets. length buckets.items ≡ n) }
-    ensures empty { IfOk result (λ buckets. (w : ℕ) → bucket w (map (λ v. v.items) buckets.items) ≡ []) }
+    ensures empty { IfOk result (λ buckets. (z : ℕ) → bucket z (map (λ v. v.items) buckets.items) ≡ []) }
 {
     let mut buckets = Vec::new(alloc);
     for _ in 0..n {

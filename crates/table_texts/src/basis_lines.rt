@@ -13,7 +13,7 @@ use derivation::RowsOf;
 use fca_model::{Implication, MAX_ATTRIBUTES, Memory};
 use implication_closure::ImplicationList;
 use itoa::Buffer;
-use lectic_basis::basis_in_words;
+use lectic_basis::known_with_basis_in_words;
 use packed_concepts::{PIECE_ROOM, PUNCTUATION, make_room, put_bytes, room_of};
 use std::alloc::Global;
 
@@ -28,7 +28,7 @@ pub(crate) fn basis_text_in<const W: usize>(
     ensures { IfOk result (λ v. v.items ≡ basis_text names.now (basis rows.entry)) }
 {
     let nothing = ImplicationList::new(alloc, rows.width())?;
-    let list = basis_in_words(alloc, rows, &nothing)?;
+    let list = known_with_basis_in_words(alloc, rows, &nothing)?;
     implications_text(alloc, names, list.as_slice())
 }
 

@@ -12,9 +12,9 @@ pub returns-in-Some : goal.returns-in-Some
 returns-in-Some g c =
     let A : Set = c.args.a.now in
     let C : Set = c.args.larger.now in
-    let new : ℕ = c.in-Some.new in
-    let found : first_missing 0 C A ≡ Some new = sym c.first_missing.ensures ∙ c.in-Some.is in
-    elim (cases_Bool (leb c.args.from new)) [
-      | inl t ↦ t ∙ sym (agrees_some c.args.from new A C c.requires found (leb-true c.args.from new t))
-      | inr f ↦ f ∙ sym (differs_some c.args.from new A C found (leb-false c.args.from new f))
+    let first : ℕ = c.in-Some.first in
+    let found : first_missing 0 C A ≡ Some first = sym c.first_missing.ensures ∙ c.in-Some.is in
+    elim (cases_Bool (leb c.args.from first)) [
+      | inl t ↦ t ∙ sym (agrees_some c.args.from first A C c.requires found (leb-true c.args.from first t))
+      | inr f ↦ f ∙ sym (differs_some c.args.from first A C found (leb-false c.args.from first f))
     ]

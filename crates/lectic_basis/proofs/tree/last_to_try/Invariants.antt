@@ -5,6 +5,6 @@ use Rattle.lectic_basis.proofs.tree.last_to_try.Given as goal
 abbrev pub invariant-loop-i : goal.invariant-loop-i
 invariant-loop-i g l = record {
   from_on : l.from ≤ l.i;
-  inside : l.i ≤ l.before;
-  none : NoneTried l.a l.forced l.i l.before;
+  inside : l.i ≤ l.end;
+  none : NoneTried l.a l.forced l.i l.end;
 }

@@ -5,5 +5,5 @@ use Rattle.lectic_basis.proofs.tree.note.Goals as goal
 
 pub returns-in-Some : goal.returns-in-Some
 returns-in-Some g c J bounded forced = subst (AreForced J c.args.a.now) (sym c.put.ensures)
-    (forced_set J c.args.a.now (set c.args.a.now c.args.i true) c.args.closed.now c.args.forced.now.items c.args.i c.in-Some.new refl
+    (forced_set J c.args.a.now (set c.args.a.now c.args.i true) c.args.larger.now c.args.forced.now.items c.args.i c.in-Some.lasting refl
     bounded c.in-Some.ensures.member forced)

@@ -7,7 +7,7 @@ use Rattle.lectic_basis.proofs.watched_list.WatchedList.move_to.Goals as goal
 pub index-place-requires : goal.index-place-requires
 index-place-requires g c =
     let held = stored_count (λ v. v.items) c.self.inside.list c.self.inside.buckets.items c.args.self.now
-    (c.self.view_is, c.self.invariant.entries) c.args.w c.index.result.now c.requires.inside c.index.ensures in
+    (c.self.view_is, c.self.invariant.entries) c.args.z c.index.result.now c.requires.inside c.index.ensures in
     omega (arith, held, c.requires.there, c.index.result.now.ok.0)
 
 pub invariant_of-self : goal.invariant_of-self
@@ -23,9 +23,9 @@ swap_remove-requires g c =
     let room = stored_room (λ v. v.items) c.self.inside.list c.self.inside.buckets.items c.args.self.now
     (c.self.view_is, c.self.invariant.entries) in
     let there = stored_there (λ v. v.items) c.self.inside.list c.self.inside.buckets.items c.args.self.now
-    (c.self.view_is, c.self.invariant.entries) c.args.w c.index.result.now c.requires.inside c.index.ensures c.args.k
+    (c.self.view_is, c.self.invariant.entries) c.args.z c.index.result.now c.requires.inside c.index.ensures c.args.k
     c.index-place.result.now c.requires.there c.index-place.ensures in
-    let still = still_is (λ v. v.items) c.self.inside.buckets.items c.args.w c.args.other c.push.new.self c.index_mut-2.result.now
+    let still = still_is (λ v. v.items) c.self.inside.buckets.items c.args.z c.args.other c.push.new.self c.index_mut-2.result.now
     (omega (arith, c.requires.inside, room)) c.requires.elsewhere c.index_mut-2.ensures.value in
     omega (arith, there, ap length still, c.index_mut-2.result.now.ok.0)
 
@@ -34,10 +34,10 @@ invariant_of-self-2 g c =
     let room = stored_room (λ v. v.items) c.self.inside.list c.self.inside.buckets.items c.args.self.now
     (c.self.view_is, c.self.invariant.entries) in
     let there = stored_there (λ v. v.items) c.self.inside.list c.self.inside.buckets.items c.args.self.now
-    (c.self.view_is, c.self.invariant.entries) c.args.w c.index.result.now c.requires.inside c.index.ensures c.args.k
+    (c.self.view_is, c.self.invariant.entries) c.args.z c.index.result.now c.requires.inside c.index.ensures c.args.k
     c.index-place.result.now c.requires.there c.index-place.ensures in
     let entries = moved_all (is_entry c.self.inside.list.members)
-    (moved_is (λ v. v.items) c.self.inside.buckets.items c.args.w c.args.k c.args.other c.index.result.now c.index_mut.result.now
+    (moved_is (λ v. v.items) c.self.inside.buckets.items c.args.z c.args.k c.args.other c.index.result.now c.index_mut.result.now
     c.push.new.self c.index_mut-2.result.now c.swap_remove.new.self
     c.index-place.result.now c.swap_remove.result (omega (arith, c.requires.inside, room))
     (omega (arith, c.requires.other_inside, room)) there c.requires.elsewhere
@@ -51,12 +51,12 @@ returns-clause-moved g c =
     let room = stored_room (λ v. v.items) c.self.inside.list c.self.inside.buckets.items c.args.self.now
     (c.self.view_is, c.self.invariant.entries) in
     let there = stored_there (λ v. v.items) c.self.inside.list c.self.inside.buckets.items c.args.self.now
-    (c.self.view_is, c.self.invariant.entries) c.args.w c.index.result.now c.requires.inside c.index.ensures c.args.k
+    (c.self.view_is, c.self.invariant.entries) c.args.z c.index.result.now c.requires.inside c.index.ensures c.args.k
     c.index-place.result.now c.requires.there c.index-place.ensures in
     stored_moved (λ v. v.items) c.self.inside.list c.self.inside.buckets.items c.args.self.now
-    (c.self.view_is, c.self.invariant.entries) c.args.w c.index.result.now c.requires.inside c.index.ensures c.args.k
+    (c.self.view_is, c.self.invariant.entries) c.args.z c.index.result.now c.requires.inside c.index.ensures c.args.k
     c.index-place.result.now c.requires.there c.index-place.ensures
-    (moved_is (λ v. v.items) c.self.inside.buckets.items c.args.w c.args.k c.args.other c.index.result.now c.index_mut.result.now
+    (moved_is (λ v. v.items) c.self.inside.buckets.items c.args.z c.args.k c.args.other c.index.result.now c.index_mut.result.now
     c.push.new.self c.index_mut-2.result.now c.swap_remove.new.self
     c.index-place.result.now c.swap_remove.result (omega (arith, c.requires.inside, room))
     (omega (arith, c.requires.other_inside, room)) there c.requires.elsewhere

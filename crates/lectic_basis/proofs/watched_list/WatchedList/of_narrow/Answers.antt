@@ -19,8 +19,8 @@ wait_for-requires g c =
     c.loop-place-test.true in
     let premise : length i.premise ≡ n = eqb-true (length i.premise) n
     (and_parts (eqb (length i.premise) n) (eqb (length i.conclusion) n) wide).0 in
-    let below : c.in-Some.w < length i.premise = member_below i.premise c.in-Some.w
-    (first_missing-parts i.premise c.args.x.now c.in-Some.w (sym c.first_missing.ensures ∙ c.in-Some.is)).0 in
+    let below : c.in-Some.z < length i.premise = member_below i.premise c.in-Some.z
+    (first_missing-parts i.premise c.args.x.now c.in-Some.z (sym c.first_missing.ensures ∙ c.in-Some.is)).0 in
     let there : c.loop-place.place < length c.loop-place.watched.list.members =
     subst (λ (L : RuleList). c.loop-place.place < length L.members) (sym c.loop-place.invariant.list)
     (subst (λ Zs. c.loop-place.place < length Zs) c.as_slice-member-items.ensures.members c.loop-place-test.true) in
@@ -40,9 +40,9 @@ loop-place-preserved g c =
           record {
             list = ap (λ (F : Watched). F.list) w.watched-is ∙ w.wait_for.ensures.list ∙ c.loop-place.invariant.list;
             waiting = subst (λ (F : Watched). IsWaiting c.args.list.now.width J c.args.x.now (k + 1) F.buckets) (sym w.watched-is)
-                (waiting_more c.loop-place.invariant.waiting i lt is w.wait_for.new.self.buckets w.in-Some.w
+                (waiting_more c.loop-place.invariant.waiting i lt is w.wait_for.new.self.buckets w.in-Some.z
                 (sym c.first_missing.ensures ∙ w.in-Some.is)
-                (subst (λ j. IsPut c.loop-place.watched.buckets w.wait_for.new.self.buckets w.in-Some.w j) here
+                (subst (λ j. IsPut c.loop-place.watched.buckets w.wait_for.new.self.buckets w.in-Some.z j) here
                 w.in_ok-wait_for.ensures.put));
           }
       | in_default w ↦ record {

@@ -9,7 +9,7 @@ use Rattle.lectic_basis.specs.Walks.{IsVisit}
 use Rattle.lectic_basis.specs.Watches.{IsFiled, IsGood}
 use Rattle.lectic_basis.proofs.TreeLemmas.{where_every}
 use Rattle.lectic_basis.proofs.WalkLemmas.{root_visit}
-use Rattle.lectic_basis.proofs.basis_in_words.Goals as goal
+use Rattle.lectic_basis.proofs.known_with_basis_in_words.Goals as goal
 
 pub visit_all-requires : goal.visit_all-requires
 visit_all-requires g c =
@@ -30,7 +30,7 @@ visit_all-requires g c =
         omega arith,
         (
           omega (arith, c.width-width.ensures.words),
-          subst (λ X. IsVisit L.members K K X 0 F) (sym c.resize.ensures) is,
+          subst (λ X. IsVisit L.members K X 0 F) (sym c.resize.ensures) is,
         ),
       ),
     )
