@@ -10,7 +10,7 @@ ghost use Rattle.fca_io.specs.Faults.{Rose, one_more};
 ghost use Rattle.command_io.specs.Causes.{UnlessFault, IsFileStop};
 ghost use Rattle.command_io.specs.Forms.{table_read};
 ghost use Rattle.command_io.specs.Endings.{finished, IsRefusal};
-ghost use Rattle.fca_run.specs.Reports.{attributes_read, table_concepts, table_basis, table_direct, table_verdict, verdict_read};
+ghost use Rattle.fca_run.specs.Reports.{attributes_read, table_concepts, table_basis, table_direct, verdict_read};
 ghost use Rattle.fca_run.specs.Reports.{table_text, reduced_text, table_arrows, table_report, reads_narrow, report_read};
 ghost use Rattle.fca_run.specs.Causes.{IsReportStop};
 
@@ -191,7 +191,7 @@ fn verdict<R: Threads + Sync>(
 {
     let premise = attributes_in(table, premise)?;
     let conclusion = attributes_in(table, conclusion)?;
-    Ok(table_verdict(rt, alloc, &premise, &conclusion, table)?)
+    Ok(verdict_text(rt, alloc, table, &premise, &conclusion)?)
 }
 
 /// The attributes of the table that the word names.
@@ -205,21 +205,6 @@ fn attributes_in(table: &Table, word: &Word) -> Result<Attrs, Stop>
         Some(set) => Ok(set),
         None => Err(Stop::UnknownAttribute),
     }
-}
-
-/// The text that says whether the implication holds. Its contract speaks of the definition that the contract of `run` has for it.
-fn table_verdict<R: Threads + Sync>(
-    rt: &R,
-    alloc: Global,
-    premise: &Attrs,
-    conclusion: &Attrs,
-    table: &Table,
-) -> Result<Vec<u8>, Memory>
-    requires premise { length premise.now ≡ table.now.context.width }
-    requires conclusion { length conclusion.now ≡ table.now.context.width }
-    ensures { IfOk result (λ text. text.items ≡ table_verdict premise.now conclusion.now table.now) }
-{
-    verdict_text(rt, alloc, table, premise, conclusion)
 }
 
 /// The text of the table in this form.
