@@ -2,12 +2,12 @@
 use Rattle.std.proofs.Common.{◌≡◌, ℕ, zero, suc, ◌+◌, ◌<◌, Bool, true, false, ◌&&◌, ◌||◌, Some, None, List, [], ◌∷◌, ◌++◌, length, get_or}
 use Rattle.std.proofs.Common.{Option, IfSome, take, refl, sym, ap, ◌∙◌, subst, arith, inl, inr}
 use Rattle.std.proofs.lemmas.Bool.{false≢true, and_parts, and_from, cases_eq, or_left, or_right}
-use Rattle.std.proofs.lemmas.List.{take_more, get_or_default}
+use Rattle.std.proofs.lemmas.List.{take_more}
 use Rattle.std.proofs.lemmas.List.Sums.{AllPass-from_list_all}
 use Rattle.std.proofs.lemmas.List.Folds.{list_all-append}
 use Rattle.std.specs.List.{list_all}
 use Rattle.fca_model.specs.Sets.{Set, within, agree_before}
-use Rattle.fca_model.specs.Implications.{Rule, rule, respects, respects_all}
+use Rattle.fca_model.specs.Implications.{Rule, respects, respects_all}
 use Rattle.fca_model.specs.Exploration.{first_missing}
 use Rattle.fca_model.proofs.SetLemmas.{within_refl, within_trans, within_antisymm}
 use Rattle.fca_model.proofs.ClosureLemmas.{respects_at}
@@ -16,7 +16,7 @@ use Rattle.fca_model.proofs.ListLemmas.{list_all-mono}
 use Rattle.attr_bits.proofs.DifferenceLemmas.{first_missing-parts}
 use Rattle.attr_bits.proofs.PlaceLemmas.{member_below}
 use Rattle.lectic_basis.proofs.BucketLemmas.{put_all}
-use Rattle.lectic_basis.specs.Watches.{bucket, member_at, Outside, Covers, IsGood, HasKept, IsFiled, IsPut, IsPutBefore, IsClosedBefore}
+use Rattle.lectic_basis.specs.Watches.{bucket, Outside, Covers, IsGood, HasKept, IsFiled, IsPut, IsPutBefore, IsClosedBefore}
 use Rattle.lectic_basis.specs.Watches.{Differs}
 
 -- ---- one member more
