@@ -1,21 +1,22 @@
 -- A member more that waits, and what the tree needs of a closure.
 use Rattle.std.proofs.Common.{◌≡◌, ℕ, zero, suc, ◌+◌, ◌<◌, Bool, true, false, ◌&&◌, ◌||◌, Some, None, List, [], ◌∷◌, ◌++◌, length, get_or}
-use Rattle.std.proofs.Common.{take, refl, sym, ap, ◌∙◌, subst, arith, inl, inr}
+use Rattle.std.proofs.Common.{Option, IfSome, take, refl, sym, ap, ◌∙◌, subst, arith, inl, inr}
 use Rattle.std.proofs.lemmas.Bool.{false≢true, and_parts, and_from, cases_eq, or_left, or_right}
-use Rattle.std.proofs.lemmas.List.{take_more, get_or_default}
+use Rattle.std.proofs.lemmas.List.{take_more}
 use Rattle.std.proofs.lemmas.List.Sums.{AllPass-from_list_all}
 use Rattle.std.proofs.lemmas.List.Folds.{list_all-append}
 use Rattle.std.specs.List.{list_all}
 use Rattle.fca_model.specs.Sets.{Set, within, agree_before}
-use Rattle.fca_model.specs.Implications.{Rule, rule, respects, respects_all}
+use Rattle.fca_model.specs.Implications.{Rule, respects, respects_all}
 use Rattle.fca_model.specs.Exploration.{first_missing}
 use Rattle.fca_model.proofs.SetLemmas.{within_refl, within_trans, within_antisymm}
 use Rattle.fca_model.proofs.ClosureLemmas.{respects_at}
 use Rattle.fca_model.proofs.StepLemmas.{first_missing_none}
 use Rattle.fca_model.proofs.ListLemmas.{list_all-mono}
 use Rattle.attr_bits.proofs.DifferenceLemmas.{first_missing-parts}
+use Rattle.attr_bits.proofs.PlaceLemmas.{member_below}
 use Rattle.lectic_basis.proofs.BucketLemmas.{put_all}
-use Rattle.lectic_basis.specs.Watches.{bucket, member_at, Outside, Covers, IsGood, HasKept, IsFiled, IsPut, IsPutBefore, IsClosedBefore}
+use Rattle.lectic_basis.specs.Watches.{bucket, Outside, Covers, IsGood, HasKept, IsFiled, IsPut, IsPutBefore, IsClosedBefore}
 use Rattle.lectic_basis.specs.Watches.{Differs}
 
 -- ---- one member more
@@ -158,6 +159,7 @@ module _ {n : ℕ} {J : List Rule} {X : Set} {k : ℕ} {old : List (List Rule)} 
         good = subst (λ Zs. IsGood Zs old X) (sym next) (covers_more (take k J) old old i X X (λ p out. out) w.good (within_refl X) inside);
       }
 
--- a member as it is read
-pub waiting_at_place : (J : List Rule) (k : ℕ) (i : Rule) → k < length J → i ≡ get_or J k i → i ≡ member_at J k
-waiting_at_place J k i lt is = is ∙ get_or_default J k i (rule [] []) lt
+-- what a set lacks of a premise is one of its attributes
+pub missing_inside : (P X : Set) (n : ℕ) → length P ≡ n → (o : Option ℕ) → o ≡ first_missing 0 P X → IfSome o (λ z. z < n)
+missing_inside P X n wide None e = tt
+missing_inside P X n wide (Some z) e = omega (arith, member_below P z (first_missing-parts P X z (sym e)).0, wide)

@@ -7,7 +7,6 @@ use Rattle.std.proofs.Common.{length-set, refl, sym, ap, ◌∙◌, subst, arith
 use Rattle.std.proofs.lemmas.Bool.{false≢true, and_parts, false_from_ne_true, leb-false}
 use Rattle.std.proofs.lemmas.List.Folds.{list_all-append}
 use Rattle.std.specs.List.{list_all}
-use Rattle.std.specs.Option.{is_some}
 use Rattle.fca_model.specs.Sets.{Set, same, within, agree_before}
 use Rattle.fca_model.specs.Context.{Context, closure, is_closed}
 use Rattle.fca_model.specs.Implications.{Rule, rule, respects, respects_all, holds}
@@ -380,12 +379,6 @@ tried_lacks A ws i t = lacking (get_or A i false)
     lacking : (a : Bool) → not a ≡ true → a ≡ false
     lacking true e = absurd (false≢true e)
     lacking false e = refl
-
--- where nothing is told, nothing is tried
-pub none_told : (A : Set) (ws : List ℕ) (from end : ℕ) (o : Option ℕ) → is_some o ≡ false
-    → MatchOption o (NoneTried A ws from end) (IsLastTried A ws from end) → NoneTried A ws from end
-none_told A ws from end None e h = h
-none_told A ws from end (Some i) e h = absurd (false≢true (sym e))
 
 pub below_up : (A X C : Set) (i : ℕ) (J : List Rule) → X ≡ set A i true → IsClosure J X C → within A C ≡ true
 below_up A X C i J x c = within_trans A (set A i true) C (within_set A i) (subst (λ Y. within Y C ≡ true) x c.above)

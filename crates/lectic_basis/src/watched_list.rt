@@ -1,6 +1,7 @@
 //! A list of implications, each of which may wait for an attribute of its premise.
 
-ghost use Rattle.std.specs.Prelude.{◌≡◌, ◌≢◌, ◌<◌, ◌≤◌, ◌*◌, ◌++◌, ◌∷◌, [], ℕ, true, length, map, OnOk, IfOk};
+ghost use Rattle.std.specs.Prelude.{◌≡◌, ◌≢◌, ◌<◌, ◌≤◌, ◌*◌, ◌++◌, ◌∷◌, [], ℕ, true, length, map, OnOk, IfOk, IfSome};
+ghost use Rattle.fca_model.specs.Exploration.{first_missing};
 ghost use Rattle.fca_model.specs.Implications.{respects_all};
 ghost use Rattle.implication_closure.specs.Closing.{HaveWidth};
 ghost use Rattle.lectic_basis.specs.Watches.{bucket, member_at, waiting_at, IsFiled, IsGood, IsMoved, IsPut, IsPutBefore};
@@ -42,24 +43,25 @@ impl<const W: usize> WatchedList<W> {
         ensures good { IfOk result (λ watched. IsGood list.now.members watched.buckets x.now) }
     {
         let narrow = list.resize::<W>(alloc)?;
-        WatchedList::of_narrow(alloc, &narrow, &x.resize())
+        WatchedList::of_narrow(alloc, narrow, &x.resize())
     }
 
     /// The implications of a list in W words. Each waits for an attribute outside x, or has its conclusion within x.
     pub fn of_narrow(
         alloc: Global,
-        list: &ImplicationListOf<W>,
+        list: ImplicationListOf<W>,
         x: &Bits<W>,
     ) -> Result<WatchedList<W>, Memory>
-        requires wide { length x.now ≡ list.now.width }
-        requires respecting { respects_all list.now.members x.now ≡ true }
-        ensures list { IfOk result (λ watched. watched.list ≡ list.now) }
-        ensures filed { IfOk result (λ watched. IsFiled list.now.width list.now.members watched.buckets) }
-        ensures good { IfOk result (λ watched. IsGood list.now.members watched.buckets x.now) }
+        requires wide { length x.now ≡ list.width }
+        requires respecting { respects_all list.members x.now ≡ true }
+        ensures list { IfOk result (λ watched. watched.list ≡ list.entry) }
+        ensures filed { IfOk result (λ watched. IsFiled list.entry.width list.entry.members watched.buckets) }
+        ensures good { IfOk result (λ watched. IsGood list.entry.members watched.buckets x.now) }
     {
+        let count = list.as_slice().len();
         let mut watched = WatchedList::new(alloc, list)?;
-        for (place, member) in list.as_slice().iter().enumerate() {
-            if let Some(z) = member.premise.first_missing(x) {
+        for place in 0..count {
+            if let Some(z) = watched.first_missing_at(place, x) {
                 watched.wait_for(place, z)?;
             }
         }
@@ -67,16 +69,22 @@ impl<const W: usize> WatchedList<W> {
     }
 
     /// The implications of the list. None waits.
-    fn new(alloc: Global, list: &ImplicationListOf<W>) -> Result<WatchedList<W>, Memory>
-        ensures list { IfOk result (λ watched. watched.list ≡ list.now) }
-        ensures room { IfOk result (λ watched. length watched.buckets ≡ list.now.width) }
+    fn new(alloc: Global, list: ImplicationListOf<W>) -> Result<WatchedList<W>, Memory>
+        ensures list { IfOk result (λ watched. watched.list ≡ list.entry) }
+        ensures room { IfOk result (λ watched. length watched.buckets ≡ list.entry.width) }
         ensures empty { IfOk result (λ watched. (z : ℕ) → bucket z watched.buckets ≡ []) }
     {
         let buckets = empty_buckets(alloc, list.width())?;
-        Ok(WatchedList {
-            list: list.copy(alloc)?,
-            buckets,
-        })
+        Ok(WatchedList { list, buckets })
+    }
+
+    /// The least attribute of the premise of the member at the place that x lacks.
+    fn first_missing_at(&self, place: usize, x: &Bits<W>) -> Option<u32>
+        requires { place < length self.now.list.members }
+        ensures missing { result ≡ first_missing 0 (member_at self.now.list.members place).premise x.now }
+        ensures inside { IfSome result (λ z. z < self.now.list.width) }
+    {
+        self.list.as_slice()[place].premise.first_missing(x)
     }
 
     /// The number of attributes.

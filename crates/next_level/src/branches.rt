@@ -131,7 +131,7 @@ impl<const W: usize> LevelWalk<W> {
     {
         let _width = self.list.width();
         let list = self.list.concerning(alloc, &self.least, from)?;
-        let rules = WatchedList::of_narrow(alloc, &list, &self.least)?;
+        let rules = WatchedList::of_narrow(alloc, list, &self.least)?;
         Ok(rules)
     }
 
