@@ -64,7 +64,7 @@ pub fn next_level(alloc: Global, rows: &Rows, rules: &ImplicationList) -> Result
 }
 
 /// The next level by a walker, in sets as narrow as the table.
-fn open_next_by<X: Walker<1> + Walker<2> + Walker<4> + Walker<WORDS>>(
+fn open_next_by<X: Walker<1> + Walker<2> + Walker<4> + Walker<8> + Walker<WORDS>>(
     walker: &X,
     alloc: Global,
     rows: &Rows,
