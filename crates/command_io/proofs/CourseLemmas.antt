@@ -24,7 +24,7 @@ use Rattle.explore_state.specs.History.{Opening, opening_state}
 use Rattle.explore_state.specs.Kept.{IsKept}
 use Rattle.explore_state.proofs.KeptLemmas.{kept_known, kept_valid}
 use Rattle.explore_state.proofs.CourseLemmas.{basis_is}
-use Rattle.command_io.specs.Explorations.{Recorded, opening_of, IsOnCourse, IsAsked, SeesLegalHistories, IsExplored}
+use Rattle.command_io.specs.Explorations.{Exploration, opening_of, IsOnCourse, IsAsked, SeesLegalHistories, IsExplored}
 
 -- ---- moments
 
@@ -84,7 +84,7 @@ done-then s H before after e reply legal split =
 -- ---- what an expert has seen
 
 -- between what it has seen and what is left of the journal stand entries of others
-sees-on : (r : Recorded) (e : ℕ) (seen between rest : List SetEntry) → IsLegal (opening_state r.opening) r.journal
+sees-on : (r : Exploration) (e : ℕ) (seen between rest : List SetEntry) → IsLegal (opening_state r.opening) r.journal
     → r.journal ≡ (seen ++ between) ++ rest
     → SeesLegalHistories r seen (own rest e)
 sees-on r e seen between [] legal split = (between, split ∙ append-nil (seen ++ between))

@@ -18,24 +18,24 @@ abbrev pub opening_of : NamedContext → ℕ → Settings → Opening
 opening_of table experts settings = record { table = table; experts = experts; settings = settings }
 
 -- an exploration: what it was opened with, and its journal
-pub record Recorded : Type 0 where
+pub record Exploration : Type 0 where
   pub opening : Opening
   pub journal : List SetEntry
 
--- what an exploration has recorded
-abbrev pub recorded : History → Recorded
-recorded h = record { opening = h.opening; journal = h.journal }
+-- the exploration of a history
+abbrev pub exploration_of : History → Exploration
+exploration_of h = record { opening = h.opening; journal = h.journal }
 
 -- the state at one moment: after these entries
-abbrev pub state_at : Recorded → List SetEntry → State
+abbrev pub state_at : Exploration → List SetEntry → State
 state_at r before = state_after (opening_state r.opening) (events_of before)
 
 -- the state after its last event
-abbrev pub last_state : Recorded → State
+abbrev pub last_state : Exploration → State
 last_state r = state_at r r.journal
 
 -- the questions open after it, beside what was known at the opening
-abbrev pub open_at : Recorded → List Rule
+abbrev pub open_at : Exploration → List Rule
 open_at r = open_questions r.opening.settings.known (last_state r).context (last_state r).accepted
 
 -- A state as it is at each moment: the rows respect what is known; each accepted implication is a member of the basis of the rows as they
@@ -55,7 +55,7 @@ pub record IsAsked (s : State) (e : ℕ) (q : Rule) : Type 0 where
 
 -- An expert who has seen this front of the journal makes these entries later. At each of them it has seen a legal history, which goes on from
 -- what it had seen before, maybe with entries of others, and ends in the entry. The journal goes on from the last
-abbrev pub SeesLegalHistories : Recorded → List SetEntry → List SetEntry → Type 0
+abbrev pub SeesLegalHistories : Exploration → List SetEntry → List SetEntry → Type 0
 SeesLegalHistories r seen [] = (later : List SetEntry) × (r.journal ≡ seen ++ later)
 SeesLegalHistories r seen (entry ∷ entries) =
     (between : List SetEntry) × IsLegal (opening_state r.opening) ((seen ++ between) ++ entry ∷ [])
@@ -65,7 +65,7 @@ SeesLegalHistories r seen (entry ∷ entries) =
 -- draw was answered Done exactly where no question was open at that moment, and one that was answered by a question was asked one that was
 -- open then. Where none is open at the end, the accepted implications are the basis of the recorded context beside what is known: they hold,
 -- all that holds follows, and no equivalent list has fewer
-pub record IsExplored (r : Recorded) : Type 0 where
+pub record IsExplored (r : Exploration) : Type 0 where
   pub legal : IsLegal (opening_state r.opening) r.journal
   pub moments : (before after : List SetEntry) → r.journal ≡ before ++ after → IsOnCourse (state_at r before)
   pub seen : (e : ℕ) → SeesLegalHistories r [] (own r.journal e)

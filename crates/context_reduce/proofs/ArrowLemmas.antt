@@ -10,7 +10,7 @@ use Rattle.fca_model.specs.Sets.{Set, within}
 use Rattle.fca_model.specs.Context.{Context}
 use Rattle.fca_model.proofs.RangeLemmas.{range_more}
 use Rattle.context_reduce.specs.declared.arrow.Arrow.{Arrow}
-use Rattle.context_reduce.specs.Reduce.{row_at, attributes_above, meet_of_larger, up_arrow, down_arrow}
+use Rattle.context_reduce.specs.Reduce.{row_at, attributes_above, meet_of_strictly_larger, up_arrow, down_arrow}
 use Rattle.context_reduce.specs.Arrows.{arrow_of, arrow_at, arrow_table, points_up, points_down, TellIrreducibles}
 use Rattle.context_reduce.specs.declared.arrow.Arrow.TheVariants.{Plain}
 use Rattle.context_reduce.proofs.RangeLemmas.{append_nil}
@@ -18,7 +18,7 @@ use Rattle.context_reduce.proofs.ColumnLemmas.{larger_at, up_arrow_there, down_a
 
 -- by what the larger rows share, and by the attributes above
 pub arrow_by_sets : (K : Context) (g m : ℕ) → m < K.width
-    → arrow_of (get_or (row_at K g) m false) (get_or (meet_of_larger K (row_at K g)) m false) (within (attributes_above K m) (row_at K g))
+    → arrow_of (get_or (row_at K g) m false) (get_or (meet_of_strictly_larger K (row_at K g)) m false) (within (attributes_above K m) (row_at K g))
     ≡ arrow_at K g m
 arrow_by_sets K g m l =
     let r = row_at K g in

@@ -20,7 +20,7 @@ use Rattle.fca_model.specs.Context.{Context}
 use Rattle.fca_model.proofs.ListLemmas.{list_all_from, implies_from}
 use Rattle.fca_model.proofs.SetLemmas.{within_trans, within_full, within_at_place, within-meet, strictly-parts}
 use Rattle.context_reduce.specs.Blocks.{block, AreBlocks}
-use Rattle.context_reduce.specs.Reduce.{column, transpose, meet_of_larger}
+use Rattle.context_reduce.specs.Reduce.{column, transpose, meet_of_strictly_larger}
 use Rattle.context_reduce.proofs.PartLemmas.{within-map, transposed_at}
 use Rattle.context_reduce.proofs.ReduceLemmas.{columns_count}
 
@@ -124,11 +124,11 @@ module _ (X : Set) where
     meet_skips k M m none = meet_more k M M m (sym (ap (fold meet M) (none_larger (block K k).rows none)))
 
     -- all blocks
-    pub meet_whole : (n : ℕ) (M : Set) → M ≡ meet_before n → length K.rows ≤ n → M ≡ meet_of_larger K X
+    pub meet_whole : (n : ℕ) (M : Set) → M ≡ meet_before n → length K.rows ≤ n → M ≡ meet_of_strictly_larger K X
     meet_whole n M m le = m ∙ ap (λ Rs. fold meet (full K.width) (filter (strictly_within X) Rs)) (take_all n K.rows le)
 
     -- after it has come to lie within X
-    pub meet_settled : (n : ℕ) (M : Set) → M ≡ meet_before n → within M X ≡ true → M ≡ meet_of_larger K X
+    pub meet_settled : (n : ℕ) (M : Set) → M ≡ meet_before n → within M X ≡ true → M ≡ meet_of_strictly_larger K X
     meet_settled n M m inside =
         sym (ap (λ Rs. fold meet (full K.width) (filter (strictly_within X) Rs)) (sym (take-append-drop n K.rows))
         ∙ ap (fold meet (full K.width)) (filter-append (strictly_within X) (take n K.rows) (drop n K.rows))

@@ -33,12 +33,12 @@ abbrev pub is_first : Context → ℕ → Bool
 is_first K g = not (list_any (same (row_at K g)) (take g K.rows))
 
 -- the intersection of all rows that strictly contain X, or the full set if there is none
-abbrev pub meet_of_larger : Context → Set → Set
-meet_of_larger K X = fold meet (full K.width) (filter (strictly_within X) K.rows)
+abbrev pub meet_of_strictly_larger : Context → Set → Set
+meet_of_strictly_larger K X = fold meet (full K.width) (filter (strictly_within X) K.rows)
 
 -- X is the intersection of all rows that strictly contain it
 abbrev pub reducible : Context → Set → Bool
-reducible K X = same X (meet_of_larger K X)
+reducible K X = same X (meet_of_strictly_larger K X)
 
 -- the objects whose row no earlier one has
 unfoldable pub distinct_objects : Context → List ℕ

@@ -8,7 +8,7 @@ ghost use Rattle.context_reduce.specs.Arrows.{arrow_of, arrow_at, arrow_table, T
 
 use crate::arrow::{Arrow, Arrows};
 use crate::columns::{attributes_above, column_order};
-use crate::larger::{ColumnBlock, blocks_of, meet_of_larger};
+use crate::larger::{ColumnBlock, blocks_of, meet_of_strictly_larger};
 use attr_bits::Attrs;
 use context_table::Table;
 use derivation::Rows;
@@ -57,7 +57,7 @@ fn arrows_of_object(
     ensures { IfOk result (λ list. list.items ≡ map (arrow_at rows.now g) (range_with_len 0 rows.now.width)) }
 {
     let row = rows.get(g);
-    let shared = meet_of_larger(rows, blocks, &row);
+    let shared = meet_of_strictly_larger(rows, blocks, &row);
     let mut list = Vec::new(alloc);
     for m in 0..rows.width() {
         let down = shared.has(m);

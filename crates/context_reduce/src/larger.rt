@@ -8,7 +8,7 @@ ghost use Rattle.std.specs.List.{list_any};
 ghost use Rattle.fca_model.specs.Sets.{meet, within, strictly_within};
 ghost use Rattle.fca_model.specs.Context.{Context};
 ghost use Rattle.context_reduce.specs.Blocks.{block, AreBlocks};
-ghost use Rattle.context_reduce.specs.Reduce.{transpose, column, meet_of_larger};
+ghost use Rattle.context_reduce.specs.Reduce.{transpose, column, meet_of_strictly_larger};
 
 use attr_bits::Bits;
 use derivation::RowsOf;
@@ -80,14 +80,14 @@ fn block<const W: usize>(rows: &RowsOf<W>, k: usize) -> &[Bits<W>]
 }
 
 /// The intersection of the rows that strictly contain the set. After it has become the set, the blocks that are left change nothing.
-pub(crate) fn meet_of_larger<const W: usize>(
+pub(crate) fn meet_of_strictly_larger<const W: usize>(
     rows: &RowsOf<W>,
     blocks: &[ColumnBlock],
     set: &Bits<W>,
 ) -> Bits<W>
     requires wide { length set.now ≡ rows.now.width }
     requires blocks { AreBlocks rows.now blocks.now }
-    ensures { result ≡ meet_of_larger rows.now set.now }
+    ensures { result ≡ meet_of_strictly_larger rows.now set.now }
 {
     let mut met = Bits::full(rows.width());
     for k in 0..blocks.len() {

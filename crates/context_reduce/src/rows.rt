@@ -4,7 +4,7 @@ ghost use Rattle.std.specs.Prelude.{◌≡◌, ◌<◌, IfOk, All, not, length, 
 ghost use Rattle.context_reduce.specs.Blocks.{AreBlocks};
 ghost use Rattle.context_reduce.specs.Reduce.{row_at, reducible, distinct_objects, irreducible_objects};
 
-use crate::larger::{ColumnBlock, blocks_of, meet_of_larger};
+use crate::larger::{ColumnBlock, blocks_of, meet_of_strictly_larger};
 use attr_bits::WordCount;
 use derivation::{Rows, RowsOf};
 use fca_model::{Memory, Places};
@@ -75,5 +75,5 @@ fn is_reducible<const W: usize>(rows: &RowsOf<W>, blocks: &[ColumnBlock], g: usi
 {
     let _width = rows.width();
     let row = rows.get(g);
-    row == meet_of_larger(rows, blocks, &row)
+    row == meet_of_strictly_larger(rows, blocks, &row)
 }

@@ -8,12 +8,12 @@ use Rattle.csv_context.specs.Lines.{fields_in, is_comma}
 use Rattle.csv_context.specs.Form.{cross_of, row_form}
 
 -- a byte that alone is a cross
-abbrev pub is_cross : ℕ → Bool
-is_cross b = (b == 88) || (b == 120) || (b == 49)
+abbrev pub is_short_cross : ℕ → Bool
+is_short_cross b = (b == 88) || (b == 120) || (b == 49)
 
 -- a byte that alone is a cell, or the comma behind an empty one
 abbrev pub is_short : ℕ → Bool
-is_short b = is_cross b || (b == 46) || (b == 48) || is_comma b
+is_short b = is_short_cross b || (b == 46) || (b == 48) || is_comma b
 
 -- the first cell of some says whether it is a cross, and others are behind its comma
 pub record TakesCell (cells : Text) (cross : Bool) (behind : Text) : Type 0 where

@@ -20,7 +20,7 @@ pub struct RowStart<'a> {
 #[derive(Drop)]
 struct FirstCell<'a> {
     is_short: bool,
-    is_cross: bool,
+    is_short_cross: bool,
     behind: &'a [u8],
 }
 
@@ -40,7 +40,7 @@ pub fn begin_row(width: u32, cells: &[u8]) -> RowStart<'_>
         if !cell.is_short {
             break;
         }
-        put_cell(&mut row, place, cell.is_cross);
+        put_cell(&mut row, place, cell.is_short_cross);
         left = cell.behind;
         place += 1;
     }
@@ -57,14 +57,14 @@ pub fn put_cell(row: &mut Attrs, place: u32, cross: bool)
 
 fn first_cell(cells: &[u8]) -> FirstCell<'_>
     requires { 2 ≤ length cells.now }
-    ensures cell { IsTrue result.is_short → TakesCell cells.now result.is_cross result.behind.now }
+    ensures cell { IsTrue result.is_short → TakesCell cells.now result.is_short_cross result.behind.now }
     ensures shorter { length result.behind.now < length cells.now }
 {
     let first = cells[0];
     let size = usize::from(first != b',');
     FirstCell {
         is_short: is_short(first) & (cells[size] == b','),
-        is_cross: is_cross(first),
+        is_short_cross: is_short_cross(first),
         behind: &cells[size + 1..],
     }
 }
@@ -73,12 +73,12 @@ fn first_cell(cells: &[u8]) -> FirstCell<'_>
 fn is_short(byte: u8) -> bool
     ensures { result ≡ cell.is_short byte }
 {
-    is_cross(byte) | (byte == b'.') | (byte == b'0') | (byte == b',')
+    is_short_cross(byte) | (byte == b'.') | (byte == b'0') | (byte == b',')
 }
 
 /// Whether a cell of this byte alone is a cross.
-fn is_cross(byte: u8) -> bool
-    ensures { result ≡ cell.is_cross byte }
+fn is_short_cross(byte: u8) -> bool
+    ensures { result ≡ cell.is_short_cross byte }
 {
     (byte == b'X') | (byte == b'x') | (byte == b'1')
 }

@@ -6,7 +6,7 @@ ghost use Rattle.fca_model.specs.Exploration.{SetEntry, is_expert, own, IsLegal}
 ghost use Rattle.fca_model.specs.Invariant.{rows_respect};
 ghost use Rattle.fca_model.specs.declared.TheConstants.{MAX_EXPERTS};
 ghost use Rattle.explore_state.specs.History.{Opening, opening_state};
-ghost use Rattle.oracle_expert.specs.Counts.{recorded_in};
+ghost use Rattle.oracle_expert.specs.Counts.{answers_recorded_in};
 ghost use Rattle.oracle_expert.specs.Oracles.{Recall, Answers, Learns, no_conflict};
 ghost use Rattle.expert_panel.specs.declared.seat.Seat.{Seat};
 ghost use Rattle.expert_panel.specs.Seats.{HasRunSeat};
@@ -42,5 +42,5 @@ pub fn draws_of_a_seat()
         → H ≡ before ++ (first ∷ between ++ second ∷ after)
         → length old.pass.own ≤ length (own before old.pass.number)
         → first.event ≡ Draw old.pass.number → second.event ≡ Draw old.pass.number
-        → 1 ≤ recorded_in between }
+        → 1 ≤ answers_recorded_in between }
 {}

@@ -9,7 +9,7 @@ use Rattle.fca_io.specs.Faults.{Rose, one_more}
 use Rattle.fca_model.specs.Tables.{Text}
 use Rattle.fca_model.specs.Exploration.{SetEntry}
 use Rattle.expert_gate.specs.Desks.{one_less}
-use Rattle.expert_sessions.specs.Moves.{EndState, Moves, IsQuiet, DeskCount, Enters, Takes, TakesAtMost}
+use Rattle.expert_sessions.specs.Moves.{EndState, Moves, IsQuiet, DeskCount, Enters, TakesTurns, TakesTurnsAtMost}
 use Rattle.expert_sessions.specs.Courses.{ReadsOn}
 
 pub Moves-nil : (a : EndState) → Moves a a [] []
@@ -47,48 +47,48 @@ ReadsOn-trans {a} {b} {c} {ahead} x y = record {
 
 -- ---- turns
 
-pub Takes-nil : (x : Option ℕ) → Takes 0 x x
-Takes-nil None = refl
-Takes-nil (Some n) = (n, refl, omega arith)
+pub TakesTurns-nil : (x : Option ℕ) → TakesTurns 0 x x
+TakesTurns-nil None = refl
+TakesTurns-nil (Some n) = (n, refl, omega arith)
 
-pub Takes-trans : (k l : ℕ) (x y z : Option ℕ) → Takes k x y → Takes l y z → Takes (k + l) x z
-Takes-trans k l None y z p q = subst (λ o. Takes l o z) p q
-Takes-trans k l (Some n) y z p q =
-    let r : Takes l (Some p.0) z = subst (λ o. Takes l o z) p.1 q in
+pub TakesTurns-trans : (k l : ℕ) (x y z : Option ℕ) → TakesTurns k x y → TakesTurns l y z → TakesTurns (k + l) x z
+TakesTurns-trans k l None y z p q = subst (λ o. TakesTurns l o z) p q
+TakesTurns-trans k l (Some n) y z p q =
+    let r : TakesTurns l (Some p.0) z = subst (λ o. TakesTurns l o z) p.1 q in
     let first = p.2 in
     let second = r.2 in
     (r.0, r.1, omega arith)
 
-pub Takes-few : (k l : ℕ) (x y : Option ℕ) → Takes k x y → k ≤ l → TakesAtMost l x y
-Takes-few k l None y p h = p
-Takes-few k l (Some n) y p h = let all = p.2 in (p.0, p.1, omega arith)
+pub TakesTurns-few : (k l : ℕ) (x y : Option ℕ) → TakesTurns k x y → k ≤ l → TakesTurnsAtMost l x y
+TakesTurns-few k l None y p h = p
+TakesTurns-few k l (Some n) y p h = let all = p.2 in (p.0, p.1, omega arith)
 
 -- a turn that was left
-pub one_less-taken : (x y : Option ℕ) → y ≡ one_less x → x ≢ Some 0 → Takes 1 x y
+pub one_less-taken : (x y : Option ℕ) → y ≡ one_less x → x ≢ Some 0 → TakesTurns 1 x y
 one_less-taken None y e some = e
 one_less-taken (Some zero) y e some = absurd (some refl)
 one_less-taken (Some (suc n)) y e some = let one : suc n - 1 ≡ n = omega arith in (n, e ∙ ap Some one, omega arith)
 
 -- where none was left
-pub one_less-none : (x y : Option ℕ) → y ≡ one_less x → x ≡ Some 0 → (y ≡ Some 0) × Takes 0 x y
+pub one_less-none : (x y : Option ℕ) → y ≡ one_less x → x ≡ Some 0 → (y ≡ Some 0) × TakesTurns 0 x y
 one_less-none x y e none =
     let still : y ≡ Some 0 = e ∙ ap one_less none in
-    (still, subst (λ o. Takes 0 x o) (none ∙ sym still) (Takes-nil x))
+    (still, subst (λ o. TakesTurns 0 x o) (none ∙ sym still) (TakesTurns-nil x))
 
 -- a call more takes at most one more
-pub leave-few : (x y z : Option ℕ) (k : ℕ) → TakesAtMost k x y → z ≡ one_less y → TakesAtMost (k + 1) x z
+pub leave-few : (x y z : Option ℕ) (k : ℕ) → TakesTurnsAtMost k x y → z ≡ one_less y → TakesTurnsAtMost (k + 1) x z
 leave-few None y z k p e = e ∙ ap one_less p
 leave-few (Some n) y z k p e =
     let bound = p.2 in
     (p.0 - 1, e ∙ ap one_less p.1, omega arith)
 
 pub Enters-nil : (c : DeskCount) → Enters c c [] 0
-Enters-nil c = record { added = sym (append-nil c.entries); turns = Takes-nil c.turns }
+Enters-nil c = record { added = sym (append-nil c.entries); turns = TakesTurns-nil c.turns }
 
 pub Enters-trans : {c d f : DeskCount} {m m' : List SetEntry} {k l : ℕ} → Enters c d m k → Enters d f m' l → Enters c f (m ++ m') (k + l)
 Enters-trans {c} {d} {f} {m} {m'} {k} {l} x y = record {
   added = y.added ∙ ap (λ z. z ++ m') x.added ∙ append_assoc c.entries m m';
-  turns = Takes-trans k l c.turns d.turns f.turns x.turns y.turns;
+  turns = TakesTurns-trans k l c.turns d.turns f.turns x.turns y.turns;
 }
 
 pub Enters-equal : {c d : DeskCount} {m m' : List SetEntry} {k l : ℕ} → m ≡ m' → k ≡ l → Enters c d m k → Enters c d m' l

@@ -14,7 +14,7 @@ use Rattle.turn_lock.proofs.ClosingLemmas.{length-roll}
 use Rattle.expert_gate.specs.Turns.{HasClosed}
 use Rattle.expert_gate.proofs.SeatLemmas.{EachSeat-length}
 use Rattle.expert_sessions.specs.declared.ended.Ended.{Ended}
-use Rattle.expert_sessions.specs.Moves.{EndState, TakesAtMost, end_state_of}
+use Rattle.expert_sessions.specs.Moves.{EndState, TakesTurnsAtMost, end_state_of}
 use Rattle.expert_sessions.specs.Order.{ReadsInTurn}
 use Rattle.expert_sessions.specs.Talks.{HasTalked}
 use Rattle.expert_gate.specs.Seats.{EachSeat}
@@ -38,7 +38,7 @@ at_number P e p q r holds same number is =
 pub at_pass : (t : NamedContext) (e lines : ℕ) (a b : EndState) (p q r : Known Opening SetEntry) (gate : Lock Opening) (ended : Ended)
     → HasTalked t e lines a b (record { entries = p.own; turns = Some (p.turns - p.made) })
     (record { entries = q.own; turns = Some (q.turns - q.made) }) ended
-    → TakesAtMost (lines + 1) (Some (p.turns - p.made)) (Some (q.turns - q.made))
+    → TakesTurnsAtMost (lines + 1) (Some (p.turns - p.made)) (Some (q.turns - q.made))
     → Belongs gate p → IsFresh p → Some (badge q) ≡ Some (badge p) → e ≡ p.number → lines + 1 < gate.turns → r ≡ q
     → HasTalked t r.number lines a b (entered []) (entered r.own) ended
 at_pass t e lines a b p q r gate ended x taken belongs fresh same number few is =

@@ -9,9 +9,9 @@ use Rattle.expert_sessions.specs.declared.ended.Ended.{Ended}
 use Rattle.expert_sessions.specs.declared.ended.Ended.TheVariants.{Quit, EndOfInput, ReadFault, WriteFault, LongLine, Limit, Spent, Memory}
 use Rattle.expert_sessions.specs.Lines.{Exchange, entries_of, turns_of}
 use Rattle.expert_sessions.specs.Talks.{Stops, EndsTalk, AndLeaves, Makes, Talk, HasTalked}
-use Rattle.expert_sessions.specs.Moves.{EndState, DeskCount, Enters, Takes, TakesAtMost}
+use Rattle.expert_sessions.specs.Moves.{EndState, DeskCount, Enters, TakesTurns, TakesTurnsAtMost}
 use Rattle.expert_sessions.specs.Courses.{Closes, HasServed}
-use Rattle.expert_sessions.proofs.MoveLemmas.{Moves-nil, IsQuiet-nil, Enters-nil, Takes-few, Enters-trans, Enters-equal}
+use Rattle.expert_sessions.proofs.MoveLemmas.{Moves-nil, IsQuiet-nil, Enters-nil, TakesTurns-few, Enters-trans, Enters-equal}
 use Rattle.expert_sessions.proofs.LineLemmas.{turns_of-few}
 
 -- there was no room for a line
@@ -53,11 +53,11 @@ spent_early t e lines a b c d ended y is = let x : HasServed t e lines a b c d S
 
 -- a line takes one turn at most
 pub served-few : {t : NamedContext} {e lines : ℕ} {a b : EndState} {c d : DeskCount} {ended : Ended} (k : ℕ) → lines ≤ k
-    → HasServed t e lines a b c d ended → TakesAtMost k c.turns d.turns
+    → HasServed t e lines a b c d ended → TakesTurnsAtMost k c.turns d.turns
 served-few {t} {e} {lines} {a} {b} {c} {d} k h x =
     let each = turns_of-few t.context.width e x.course.served x.course.each in
     let few = x.course.few in
-    Takes-few (turns_of x.course.served) k c.turns d.turns x.enters.turns (omega arith)
+    TakesTurns-few (turns_of x.course.served) k c.turns d.turns x.enters.turns (omega arith)
 
 -- the reason lies not in the desk
 stops : (t : NamedContext) (e lines : ℕ) (a b : EndState) (d : DeskCount) (ended : Ended) (served : List Exchange) (rest sent unsent : Text)
@@ -100,7 +100,7 @@ module _ (t : NamedContext) (e lines : ℕ) (a b : EndState) where
 -- the expert left
 pub left : (t : NamedContext) (e lines : ℕ) (a b : EndState) (c d d' : DeskCount) (ended : Ended) (reply : SetReply) (n : ℕ) → n ≡ e
     → HasServed t e lines a b c d ended → ended ≢ Spent
-    → d'.entries ≡ d.entries ++ record { event = Leave n; reply = reply } ∷ [] → Takes 1 d.turns d'.turns
+    → d'.entries ≡ d.entries ++ record { event = Leave n; reply = reply } ∷ [] → TakesTurns 1 d.turns d'.turns
     → HasTalked t e lines a b c d' ended
 left t e lines a b c d d' ended reply n same x unspent added' turn =
     let entries = entries_of x.course.served in
@@ -127,7 +127,7 @@ left t e lines a b c d d' ended reply n same x unspent added' turn =
 -- no turn was left to leave
 pub spent_late : (t : NamedContext) (e lines : ℕ) (a b : EndState) (c d d' : DeskCount) (ended : Ended) → HasServed t e lines a b c d ended
     → ended ≢ Spent → d'.entries ≡ d.entries
-    → (d'.turns ≡ Some 0) × Takes 0 d.turns d'.turns → HasTalked t e lines a b c d' Spent
+    → (d'.turns ≡ Some 0) × TakesTurns 0 d.turns d'.turns → HasTalked t e lines a b c d' Spent
 spent_late t e lines a b c d d' ended x unspent same none =
     let nothing : Enters d d' [] 0 = record { added = same ∙ sym (append-nil d.entries); turns = none.1 } in
     record {
@@ -148,7 +148,7 @@ spent_late t e lines a b c d d' ended x unspent same none =
 pub unremembered : (t : NamedContext) (e lines : ℕ) (a b : EndState) (c d d' : DeskCount) (ended : Ended)
     → HasServed t e lines a b c d ended
     → ended ≢ Spent → d'.entries ≡ d.entries
-    → Takes 1 d.turns d'.turns → HasTalked t e lines a b c d' Memory
+    → TakesTurns 1 d.turns d'.turns → HasTalked t e lines a b c d' Memory
 unremembered t e lines a b c d d' ended x unspent same turn =
     let nothing : Enters d d' [] 1 = record { added = same ∙ sym (append-nil d.entries); turns = turn } in
     record {

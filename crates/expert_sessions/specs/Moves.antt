@@ -38,16 +38,16 @@ abbrev pub desk_count_of : DeskState → DeskCount
 desk_count_of desk = record { entries = desk.entries; turns = desk.left }
 
 -- at most k turns were taken, if turns are counted
-abbrev pub TakesAtMost : ℕ → Option ℕ → Option ℕ → Type 0
-TakesAtMost k None new = new ≡ None
-TakesAtMost k (Some turns) new = (left : ℕ) × (new ≡ Some left) × (turns ≤ left + k)
+abbrev pub TakesTurnsAtMost : ℕ → Option ℕ → Option ℕ → Type 0
+TakesTurnsAtMost k None new = new ≡ None
+TakesTurnsAtMost k (Some turns) new = (left : ℕ) × (new ≡ Some left) × (turns ≤ left + k)
 
 -- k turns were taken, if turns are counted
-abbrev pub Takes : ℕ → Option ℕ → Option ℕ → Type 0
-Takes k None new = new ≡ None
-Takes k (Some turns) new = (left : ℕ) × (new ≡ Some left) × (turns ≡ left + k)
+abbrev pub TakesTurns : ℕ → Option ℕ → Option ℕ → Type 0
+TakesTurns k None new = new ≡ None
+TakesTurns k (Some turns) new = (left : ℕ) × (new ≡ Some left) × (turns ≡ left + k)
 
 -- these entries were made, in k turns
 pub record Enters (c d : DeskCount) (made : List SetEntry) (k : ℕ) : Type 0 where
   pub added : d.entries ≡ c.entries ++ made
-  pub turns : Takes k c.turns d.turns
+  pub turns : TakesTurns k c.turns d.turns

@@ -3,7 +3,7 @@
 ghost use Rattle.std.specs.Prelude.{◌≡◌, ◌≤◌, ◌+◌, [], OnOk, IfErr};
 ghost use Rattle.fca_model.specs.declared.TheConstants.{MAX_LINES};
 ghost use Rattle.expert_gate.specs.Desks.{Works};
-ghost use Rattle.expert_sessions.specs.Moves.{TakesAtMost, end_state_of, desk_count_of};
+ghost use Rattle.expert_sessions.specs.Moves.{TakesTurnsAtMost, end_state_of, desk_count_of};
 ghost use Rattle.expert_sessions.specs.Talks.{HasTalked};
 ghost use Rattle.expert_sessions.specs.Courses.{Serves, Halts, HasServed};
 ghost use Rattle.expert_sessions.specs.Order.{ReadsForLine, ReadsInTurn};
@@ -35,7 +35,7 @@ pub fn session<D: Desk, E: Duplex>(
         (end_state_of E.Source.left E.Sink.held E.Source.faults E.Sink.faults end.new)
         (desk_count_of (D.state desk.old)) (desk_count_of (D.state desk.new)) result }
     ensures order { ReadsInTurn E.Source.left E.Sink.held E.Source.reads E.Source.faults E.Sink.faults table.now expert end.old end.new }
-    ensures turns { TakesAtMost (lines + 1) (D.state desk.old).left (D.state desk.new).left }
+    ensures turns { TakesTurnsAtMost (lines + 1) (D.state desk.old).left (D.state desk.new).left }
     ensures desk { Works (D.state desk.old) (D.state desk.new) }
     ensures width { D.attributes desk.new ≡ D.attributes desk.old }
 {

@@ -23,7 +23,7 @@ use Rattle.fca_model.specs.Exploration.{Settings, SetEntry, own, rules_of, openi
 use Rattle.fca_model.proofs.CourseLemmas.{run_settings}
 use Rattle.fca_model.proofs.RunLemmas.{own-append, legal_events}
 use Rattle.fca_model.proofs.ValidLemmas.{opening_valid}
-use Rattle.oracle_expert.specs.Counts.{recorded_in}
+use Rattle.oracle_expert.specs.Counts.{answers_recorded_in}
 use Rattle.oracle_expert.specs.Intents.{HasIntentsOf, are_intents}
 use Rattle.oracle_expert.specs.Oracles.{Recall, Conflicts, no_conflict}
 use Rattle.oracle_expert.specs.Runs.{OracleMoment, start, moment_after, moment_at, OracleRunsFrom, IsOracleFront, ends_done, conflicts_of}
@@ -87,7 +87,7 @@ module _ (T : NamedContext) (G : Settings) (H : List SetEntry) (respecting : row
     (most : G.holders ≡ MAX_EXPERTS) (legal : IsLegal (opening T.context T.objects G) H) where
   drawn-apart : (D : NamedContext) (e : ℕ) → is_expert e ≡ true → IsOracleFront D e (own H e)
       → (before between after : List SetEntry) (first second : SetEntry)
-      → H ≡ before ++ (first ∷ between ++ second ∷ after) → first.event ≡ Draw e → second.event ≡ Draw e → 1 ≤ recorded_in between
+      → H ≡ before ++ (first ∷ between ++ second ∷ after) → first.event ≡ Draw e → second.event ≡ Draw e → 1 ≤ answers_recorded_in between
   drawn-apart D e expert front before between after first second cut draw again =
       let from : List SetEntry = first ∷ between ++ second ∷ after in
       let parted : own H e ≡ own before e ++ own from e = ap (λ J. own J e) cut ∙ own-append before from e in
@@ -127,16 +127,16 @@ length-explored p explore oracles spent explored =
 
 -- what came of the oracles of the experts' tables, opened so
 pub explored-oracles : (p : ExploreStart) (o : Opening) (n : ℕ) (output : Result Explored Memory) → MayOpen p.table p.settings
-    → o ≡ opening_of p.table n p.settings → n ≡ length p.experts
+    → o ≡ opening_of p.table n p.settings → n ≡ length p.tables
     → IfOk output (λ r. r.explore.opening ≡ o)
     → IfOk output (λ r. IsLegal (opening_state r.explore.opening) r.explore.journal)
-    → IfOk output (λ r. map (λ oracle. oracle.table) r.oracles.items ≡ p.experts)
+    → IfOk output (λ r. map (λ oracle. oracle.table) r.oracles.items ≡ p.tables)
     → IfOk output (λ r. EachNumbered (IsOraclesShare MAX_TURNS r.explore.journal) r.oracles.items)
     → IfOk output (λ r. (e : ℕ) → (e ≡ 0) ⊎ (n < e) → own r.explore.journal e ≡ [])
     → IfOk output (λ r. (r.spent ≡ true) ↔ ((e : ℕ) × (1 ≤ e) × (e ≤ n) × (ends_done (own r.explore.journal e) ≡ false)))
     → IfOk output (λ r. r.spent ≡ false → open_of r.explore ≡ [])
     → IfOk output (λ r. MAX_TURNS ≡ 2 ^ 48 → o.table.context.width ≤ MAX_SURVEYED → r.spent ≡ false)
-    → IfOk output (λ r. (C : Context) → All (λ expert. HasIntentsOf C expert.context) p.experts → are_intents C o.table.context.rows ≡ true
+    → IfOk output (λ r. (C : Context) → All (λ expert. HasIntentsOf C expert.context) p.tables → are_intents C o.table.context.rows ≡ true
     → rows_respect o.settings.known C ≡ true
     → HasAgreed C r.explore r.oracles.items r.spent)
     → IfOk output (λ r. HasExplored p r.explore r.oracles.items r.spent)
@@ -237,16 +237,16 @@ explored_text-explored p explore oracles spent explored =
     (rules_of (state_after (opening_state o) (events_of H))) dropped in
     let dropped = dropped-oracles H 1 oracles (λ k oracle at. (explored.shares k oracle at).conflicts) in
     ap (λ o. text o (map with_conflicts oracles)) explored.opening
-    ∙ ap (text (opening_of p.table (length p.experts) p.settings)) (dropped ∙ ap (dropped_in H 1) explored.tables)
+    ∙ ap (text (opening_of p.table (length p.tables) p.settings)) (dropped ∙ ap (dropped_in H 1) explored.tables)
 
 agreed-explored : (p : ExploreStart) (explore : History) (oracles : List Recall) (spent : Bool) (text : Text)
     → HasExplored p explore oracles spent → text ≡ text_with_conflicts explore oracles
-    → (C : Context) → All (λ (D : NamedContext). HasIntentsOf C D.context) p.experts → are_intents C p.table.context.rows ≡ true
+    → (C : Context) → All (λ (D : NamedContext). HasIntentsOf C D.context) p.tables → are_intents C p.table.context.rows ≡ true
     → rows_respect p.settings.known C ≡ true → spent ≡ false
     → text ≡ recorded_text p explore.journal ++ basis_alone p.table.attributes (basis_known p.settings.known C)
 agreed-explored p explore oracles spent text explored whole C same part respected unspent =
     let H = explore.journal in
-    let o : Opening = opening_of p.table (length p.experts) p.settings in
+    let o : Opening = opening_of p.table (length p.tables) p.settings in
     let agreed = explored.agreed C same part respected in
     let B = basis_known p.settings.known C in
     let legal : IsLegal (opening_state o) H = subst (λ (x : Opening). IsLegal (opening_state x) H) explored.opening explored.legal in
@@ -264,12 +264,12 @@ agreed-explored p explore oracles spent text explored whole C same part respecte
     ∙ agreed_text p.table p.settings H C (conflicts_section p.table.attributes B []) explored.may.respected legal done same_basis
 
 IsExploredText-explored : (p : ExploreStart) (explore : History) (oracles : List Recall) (spent : Bool) (text : Text)
-    → is_expert (length p.experts) ≡ true
+    → is_expert (length p.tables) ≡ true
     → HasExplored p explore oracles spent → text ≡ text_with_conflicts explore oracles
     → Spells explore.opening.table explore.opening.settings explore.journal text → IsExploredText p text spent
 IsExploredText-explored p explore oracles spent text expert explored whole spelled =
     let H = explore.journal in
-    let o : Opening = opening_of p.table (length p.experts) p.settings in
+    let o : Opening = opening_of p.table (length p.tables) p.settings in
     let legal : IsLegal (opening_state o) H = let P : Opening → Type 0 = λ x. IsLegal (opening_state x) H in
     subst P explored.opening explored.legal in
     let SpellsText : Opening → Type 0 = λ x. Spells x.table x.settings H text in
@@ -279,7 +279,7 @@ IsExploredText-explored p explore oracles spent text expert explored whole spell
       history = H;
       whole = whole ∙ explored_text-explored p explore oracles spent explored;
       spells = spells;
-      course = legal-course p.table (length p.experts) p.settings H expert explored.may.respected explored.may.writable.known legal;
+      course = legal-course p.table (length p.tables) p.settings H expert explored.may.respected explored.may.writable.known legal;
       shares = (let P : List NamedContext → Type 0 = EachNumbered (IsShare H) in
           let few : is_expert (length oracles) ≡ true =
           ap is_expert (sym (length-map oracles (λ (oracle : Recall). oracle.table)) ∙ ap length explored.tables) ∙ expert in
@@ -296,7 +296,7 @@ IsExploredText-explored p explore oracles spent text expert explored whole spell
 
 -- an output that tells of the exploration
 pub MayExplore-explored : (p : ExploreStart) (explore : History) (oracles : List Recall) (spent : Bool) (output : Result Output Memory)
-    → is_expert (length p.experts) ≡ true
+    → is_expert (length p.tables) ≡ true
     → HasExplored p explore oracles spent
     → IfOk output (λ output. output.text ≡ text_with_conflicts explore oracles)
     → IfOk output (λ output. Spells explore.opening.table explore.opening.settings explore.journal output.text)

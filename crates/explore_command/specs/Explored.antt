@@ -10,7 +10,7 @@ use Rattle.fca_model.specs.Exploration.{SetEntry, rules_of, own, IsLegal}
 use Rattle.explore_state.specs.History.{History, opening_state, state_of, open_of}
 use Rattle.fca_model.specs.declared.TheConstants.{MAX_SURVEYED, MAX_TURNS}
 use Rattle.fca_model.specs.declared.Event.TheVariants.{Draw}
-use Rattle.oracle_expert.specs.Counts.{recorded_in, dropped}
+use Rattle.oracle_expert.specs.Counts.{answers_recorded_in, dropped}
 use Rattle.oracle_expert.specs.Intents.{HasIntentsOf, are_intents}
 use Rattle.oracle_expert.specs.Oracles.{Recall, Conflicts}
 use Rattle.oracle_expert.specs.Runs.{IsOracleFront, ends_done, conflicts_of}
@@ -22,7 +22,7 @@ use Rattle.command_io.specs.Endings.{Output}
 use Rattle.command_io.specs.Readings.{Reading, MayRead}
 use Rattle.command_io.specs.declared.output.Ending.{Ending}
 use Rattle.command_io.specs.declared.output.Ending.TheVariants.{Finished, Spent}
-use Rattle.command_io.specs.Explorations.{Recorded, opening_of, last_state, open_at, IsExplored}
+use Rattle.command_io.specs.Explorations.{Exploration, opening_of, last_state, open_at, IsExplored}
 use Rattle.explore_command.specs.Starts.{ExploreStart, MayOpen}
 
 -- Of the history H, the entries of expert e are what is due for an oracle of D. Its last reply is Done; or it is not, and it has taken all
@@ -31,9 +31,9 @@ use Rattle.explore_command.specs.Starts.{ExploreStart, MayOpen}
 pub record IsShare (H : List SetEntry) (e : ℕ) (D : NamedContext) : Type 0 where
   pub front : IsOracleFront D e (own H e)
   pub end : (ends_done (own H e) ≡ true) ⊎ ((ends_done (own H e) ≡ false) × (length (own H e) ≡ MAX_TURNS))
-  pub within : length (own H e) ≤ 2 * recorded_in H + dropped (conflicts_of D (own H e)) + 1
+  pub within : length (own H e) ≤ 2 * answers_recorded_in H + dropped (conflicts_of D (own H e)) + 1
   pub apart : (before between after : List SetEntry) (first second : SetEntry) → H ≡ before ++ (first ∷ between ++ second ∷ after)
-      → first.event ≡ Draw e → second.event ≡ Draw e → 1 ≤ recorded_in between
+      → first.event ≡ Draw e → second.event ≡ Draw e → 1 ≤ answers_recorded_in between
 
 -- the tables of the experts from number e on, each with its rows that were dropped in the history
 abbrev pub dropped_in : List SetEntry → ℕ → List NamedContext → List (NamedContext × Conflicts)
@@ -41,14 +41,14 @@ dropped_in H e [] = []
 dropped_in H e (D ∷ experts) = (D, conflicts_of D (own H e)) ∷ dropped_in H (e + 1) experts
 
 -- the exploration of the start's table that has this history
-abbrev pub exploring_record : ExploreStart → List SetEntry → Recorded
-exploring_record start H = record { opening = opening_of start.table (length start.experts) start.settings; journal = H }
+abbrev pub exploring_record : ExploreStart → List SetEntry → Exploration
+exploring_record start H = record { opening = opening_of start.table (length start.tables) start.settings; journal = H }
 
 -- its text, and the conflicts
 abbrev pub explored_text : ExploreStart → List SetEntry → Text
 explored_text start H =
     explore_text start.table start.settings H
-    ++ conflicts_text start.table.attributes (rules_of (last_state (exploring_record start H))) (dropped_in H 1 start.experts)
+    ++ conflicts_text start.table.attributes (rules_of (last_state (exploring_record start H))) (dropped_in H 1 start.tables)
 
 -- what its text says before the open questions
 abbrev pub recorded_text : ExploreStart → List SetEntry → Text
@@ -70,12 +70,12 @@ pub record IsExploredText (start : ExploreStart) (text : Text) (spent : Bool) : 
   pub whole : text ≡ explored_text start history
   pub spells : Spells start.table start.settings history text
   pub course : IsExplored (exploring_record start history)
-  pub shares : EachNumbered (IsShare history) start.experts
-  pub others : (e : ℕ) → (e ≡ 0) ⊎ (length start.experts < e) → own history e ≡ []
-  pub unfinished : (spent ≡ true) ↔ ((e : ℕ) × (1 ≤ e) × (e ≤ length start.experts) × (ends_done (own history e) ≡ false))
+  pub shares : EachNumbered (IsShare history) start.tables
+  pub others : (e : ℕ) → (e ≡ 0) ⊎ (length start.tables < e) → own history e ≡ []
+  pub unfinished : (spent ≡ true) ↔ ((e : ℕ) × (1 ≤ e) × (e ≤ length start.tables) × (ends_done (own history e) ≡ false))
   pub finished : spent ≡ false → open_at (exploring_record start history) ≡ []
   pub unspent : start.table.context.width ≤ MAX_SURVEYED → spent ≡ false
-  pub agreed : (C : Context) → All (λ D. HasIntentsOf C D.context) start.experts → are_intents C start.table.context.rows ≡ true
+  pub agreed : (C : Context) → All (λ D. HasIntentsOf C D.context) start.tables → are_intents C start.table.context.rows ≡ true
       → rows_respect start.settings.known C ≡ true → spent ≡ false
       → text ≡ recorded_text start history ++ basis_alone start.table.attributes (basis_known start.settings.known C)
 
@@ -93,15 +93,15 @@ text_with_conflicts explore oracles = explore_text explore.opening.table explore
 -- an exploration of the start's table by oracles of the experts' tables, as it ended
 pub record HasExplored (start : ExploreStart) (explore : History) (oracles : List Recall) (spent : Bool) : Type 0 where
   pub may : MayOpen start.table start.settings
-  pub opening : explore.opening ≡ opening_of start.table (length start.experts) start.settings
+  pub opening : explore.opening ≡ opening_of start.table (length start.tables) start.settings
   pub legal : IsLegal (opening_state explore.opening) explore.journal
-  pub tables : map (λ oracle. oracle.table) oracles ≡ start.experts
+  pub tables : map (λ oracle. oracle.table) oracles ≡ start.tables
   pub shares : EachNumbered (IsOraclesShare MAX_TURNS explore.journal) oracles
-  pub others : (e : ℕ) → (e ≡ 0) ⊎ (length start.experts < e) → own explore.journal e ≡ []
-  pub unfinished : (spent ≡ true) ↔ ((e : ℕ) × (1 ≤ e) × (e ≤ length start.experts) × (ends_done (own explore.journal e) ≡ false))
+  pub others : (e : ℕ) → (e ≡ 0) ⊎ (length start.tables < e) → own explore.journal e ≡ []
+  pub unfinished : (spent ≡ true) ↔ ((e : ℕ) × (1 ≤ e) × (e ≤ length start.tables) × (ends_done (own explore.journal e) ≡ false))
   pub finished : spent ≡ false → open_of explore ≡ []
   pub unspent : start.table.context.width ≤ MAX_SURVEYED → spent ≡ false
-  pub agreed : (C : Context) → All (λ D. HasIntentsOf C D.context) start.experts → are_intents C start.table.context.rows ≡ true
+  pub agreed : (C : Context) → All (λ D. HasIntentsOf C D.context) start.tables → are_intents C start.table.context.rows ≡ true
       → rows_respect start.settings.known C ≡ true → HasAgreed C explore oracles spent
 
 -- ---- the output

@@ -55,8 +55,8 @@ fn explore_output<R: Threads + Wait + Sync>(
     alloc: Global,
     start: ExploreStart,
 ) -> Result<Output, Memory>
-    requires count { is_expert (length start.experts) ≡ true }
-    requires wide { All (λ expert. expert.context.width ≡ start.table.context.width) start.experts }
+    requires count { is_expert (length start.tables) ≡ true }
+    requires wide { All (λ expert. expert.context.width ≡ start.table.context.width) start.tables }
     ensures { IfOk result (MayExplore (Read start)) }
 {
     let explored = explore_by_oracles(rt, alloc, start)?;
@@ -71,13 +71,13 @@ fn explore_by_oracles<R: Threads + Wait + Sync>(
     alloc: Global,
     start: ExploreStart,
 ) -> Result<Explored, Memory>
-    requires count { is_expert (length start.experts) ≡ true }
-    requires wide { All (λ expert. expert.context.width ≡ start.table.context.width) start.experts }
+    requires count { is_expert (length start.tables) ≡ true }
+    requires wide { All (λ expert. expert.context.width ≡ start.table.context.width) start.tables }
     ensures { IfOk result (λ r. HasExplored start r.explore r.oracles.items r.spent) }
 {
-    let count = start.experts.len() as u8;
+    let count = start.tables.len() as u8;
     let explore = open_exploration(rt, alloc, start.table, count, start.settings)?;
-    explore_with_oracles(rt, alloc, explore, start.experts, MAX_TURNS)
+    explore_with_oracles(rt, alloc, explore, start.tables, MAX_TURNS)
 }
 
 /// The text of the exploration with the conflicts of its oracles, and its ending.

@@ -29,7 +29,7 @@ pub struct ExploreStart {
     /// What is known of it, how many experts may hold one question, and the names of the experts.
     pub(crate) settings: Settings,
     /// The tables of the experts, in the order of their files.
-    pub(crate) experts: Vec<Table>,
+    pub(crate) tables: Vec<Table>,
 }
 
 impl Model for ExploreStart {
@@ -39,7 +39,7 @@ impl Model for ExploreStart {
 
     ghost Value = { TheStart };
 
-    ghost view = { λ start. record { table = start.table; settings = settings_of start.settings; experts = start.experts.items } };
+    ghost view = { λ start. record { table = start.table; settings = settings_of start.settings; tables = start.tables.items } };
 
     ghost invariant = { λ start. record {
       wide : start.settings.known.width ≡ start.table.context.width;
@@ -59,8 +59,8 @@ pub fn load_explore_start<H: Shelf>(
 ) -> Result<ExploreStart, Stop>
     requires { is_expert (length files.now) ≡ true }
     ensures start { IfOk result (λ start. MayRead (explore_read file.now (option_copied known.entry) wants_names files.now (H.tells shelf.old)) start) }
-    ensures count { IfOk result (λ start. length start.experts ≡ length files.now) }
-    ensures wide { IfOk result (λ start. All (λ expert. expert.context.width ≡ start.table.context.width) start.experts) }
+    ensures count { IfOk result (λ start. length start.tables ≡ length files.now) }
+    ensures wide { IfOk result (λ start. All (λ expert. expert.context.width ≡ start.table.context.width) start.tables) }
     ensures refused { IfErr result (λ stop. IsRefusal stop → MayRefuse (explore_read file.now (option_copied known.entry) wants_names files.now (H.tells shelf.old))) }
     ensures cause { IfErr result (IsExploreStop file.now (option_copied known.entry) files.now (H.tells shelf.old)
         (Rises (H.faults shelf.old) (H.faults shelf.new))) }
@@ -74,13 +74,13 @@ pub fn load_explore_start<H: Shelf>(
 }
 
 /// What `explore` starts from with these tables and names. All experts may hold one question.
-fn explore_start_of(start: Start, names: ExpertNames, experts: Vec<Table>) -> ExploreStart
+fn explore_start_of(start: Start, names: ExpertNames, tables: Vec<Table>) -> ExploreStart
     requires wide { start.known.width ≡ start.table.context.width }
     requires may { MayOpen start.table (record { known = start.known.members; holders = MAX_EXPERTS; expert_names = names }) }
     ensures { result ≡ record {
       table = start.table;
       settings = record { known = start.known.members; holders = MAX_EXPERTS; expert_names = names };
-      experts = experts.items;
+      tables = tables.items;
     } }
 {
     ExploreStart {
@@ -90,7 +90,7 @@ fn explore_start_of(start: Start, names: ExpertNames, experts: Vec<Table>) -> Ex
             holders: MAX_EXPERTS,
             names,
         },
-        experts,
+        tables,
     }
 }
 

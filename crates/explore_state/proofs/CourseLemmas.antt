@@ -24,7 +24,7 @@ use Rattle.fca_model.proofs.CourseLemmas.{exploration_count, draw_done, run_widt
 use Rattle.fca_model.proofs.DoneLemmas.{accepted_members, accepted_length, accepted_sorted, accepted_complete, accepted_least}
 use Rattle.explore_state.specs.History.{Opening, opening_state, Admits}
 use Rattle.explore_state.specs.Kept.{IsKept}
-use Rattle.explore_state.specs.Basis.{IsBasisBeside, IsRecorded}
+use Rattle.explore_state.specs.Basis.{IsBasisBeside, HasRecordedRows}
 use Rattle.explore_state.proofs.KeptLemmas.{kept_settings, kept_known, kept_opened, kept_valid, admitted_expert}
 
 -- ---- the rows
@@ -85,7 +85,7 @@ module _ (o : Opening) (J : List SetEntry) (K : Context) (acc : List Rule) (hs :
     least = accepted_least S now.context now.accepted accepted_is done known;
   }
 
-  pub recorded_is : IsRecorded o.table.context now.context now.accepted
+  pub recorded_is : HasRecordedRows o.table.context now.context now.accepted
   recorded_is =
       let rows = run_rows (opening_state o) (events_of J) in
       record {

@@ -22,7 +22,7 @@ IsBasis K J = IsBasisBeside [] K J
 
 -- The rows of K are those of the table and then the recorded ones. The concepts of the table, the recorded rows and the accepted
 -- implications are together no more than there are sets.
-pub record IsRecorded (table K : Context) (acc : List Rule) : Type 0 where
+pub record HasRecordedRows (table K : Context) (acc : List Rule) : Type 0 where
   pub recorded : List Set
   pub rows : K.rows ≡ table.rows ++ recorded
   pub width : K.width ≡ table.width

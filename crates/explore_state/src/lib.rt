@@ -15,7 +15,7 @@ ghost use Rattle.fca_model.specs.Widths.{HasWideReply};
 ghost use Rattle.exploration_terms.specs.Recorded.{is_recorded};
 ghost use Rattle.exploration_terms.specs.Settings.{settings_of};
 ghost use Rattle.explore_state.specs.History.{opening_state, state_of, open_of, Admits, IsStep, IsSame};
-ghost use Rattle.explore_state.specs.Basis.{IsBasisBeside, IsRecorded};
+ghost use Rattle.explore_state.specs.Basis.{IsBasisBeside, HasRecordedRows};
 ghost use Rattle.explore_state.specs.Faults.{open_fault};
 
 mod changes;
@@ -307,7 +307,7 @@ impl Explore {
     /// The rows of the table and then the recorded ones.
     pub fn rows(&self) -> &Rows
         ensures rows { result.now ≡ (state_of self.now).context }
-        ensures recorded { IsRecorded self.now.opening.table.context result.now
+        ensures recorded { HasRecordedRows self.now.opening.table.context result.now
             (state_of self.now).accepted }
     {
         self.queue.rows()

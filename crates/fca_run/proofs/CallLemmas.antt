@@ -25,7 +25,7 @@ use Rattle.command_io.specs.Endings.Outcome.{Written, CutOff, Stopped}
 use Rattle.command_io.specs.ErrLines.{stop_line, stop_origin, file_from, line_of}
 use Rattle.command_io.specs.declared.stop.Origin.{Origin}
 use Rattle.command_io.specs.declared.stop.Origin.TheVariants.{File, Known, Later, Input}
-use Rattle.command_io.specs.Explorations.{Recorded, open_at}
+use Rattle.command_io.specs.Explorations.{Exploration, open_at}
 use Rattle.command_io.specs.Streams.{Moment, GainsLine, HasConcluded}
 use Rattle.command_io.specs.declared.output.Ending.{Ending}
 use Rattle.command_io.specs.declared.output.Ending.TheVariants.{Finished, Open, Spent}
@@ -86,7 +86,7 @@ questions-end command (question ∷ later) may = may
 pub finished-ends : (command : Command) (ending : Ending) → ending ≡ Finished → MayEndWith command ending
 finished-ends command ending e = subst (MayEndWith command) (sym e) tt
 
-pub replay-ends : (file : Text) (known : Option Text) (reading : Reading Recorded) (output : Output) → MayReplay reading output
+pub replay-ends : (file : Text) (known : Option Text) (reading : Reading Exploration) (output : Output) → MayReplay reading output
     → MayEndWith (Replay file known) output.ending
 replay-ends file known reading output replay =
     subst (MayEndWith (Replay file known)) (sym (ap (λ (o : Output). o.ending) replay.whole))

@@ -16,7 +16,7 @@ use Rattle.command_io.specs.Readings.{Reading, then, MayRead}
 use Rattle.command_io.specs.Readings.Reading.{Read}
 use Rattle.command_io.specs.Known.{Start}
 use Rattle.command_io.specs.Endings.{Output}
-use Rattle.command_io.specs.Explorations.{Recorded, opening_of, last_state, open_at, IsExplored}
+use Rattle.command_io.specs.Explorations.{Exploration, opening_of, last_state, open_at, IsExplored}
 use Rattle.command_io.proofs.ReadingLemmas.{read_after}
 use Rattle.replay_command.specs.Replayed.{MayReplay}
 use Rattle.replay_command.proofs.FedBackLemmas.{opened-respecting, fed_back}
@@ -28,7 +28,7 @@ use Rattle.fca_run.specs.Courses.{known_basis_lines, TellsExploration}
 use Rattle.fca_run.specs.Calls.{Sides}
 
 -- where no question is open at its end, the text ends with the basis, and then come the lines behind
-ends-with-basis : (r : Recorded) (later text : Text) → IsExplored r
+ends-with-basis : (r : Exploration) (later text : Text) → IsExplored r
     → text ≡ explore_text r.opening.table r.opening.settings r.journal ++ later → open_at r ≡ []
     → text ≡ text_before_basis r.opening.table r.opening.settings r.journal ++ (known_basis_lines r ++ later)
 ends-with-basis r later text explored printed none =
@@ -41,7 +41,7 @@ ends-with-basis r later text explored printed none =
     printed ∙ ap (λ l. l ++ later) (finished_text t s r.journal (opened-respecting r explored) explored.legal done)
     ∙ append_assoc (text_before_basis t s r.journal) (known_basis_lines r) later
 
-tells : (opened : Reading Opening) (r : Recorded) (later text : Text) → MayRead opened r.opening
+tells : (opened : Reading Opening) (r : Exploration) (later text : Text) → MayRead opened r.opening
     → text ≡ explore_text r.opening.table r.opening.settings r.journal ++ later
     → Spells r.opening.table r.opening.settings r.journal text → IsExplored r → TellsExploration opened text
 tells opened r later text may printed spells explored = record {
@@ -59,18 +59,18 @@ tells opened r later text may printed spells explored = record {
 
 -- by oracles of experts' tables
 pub explore-tells : (reading : Reading ExploreStart) (output : Output) → MayExplore reading output
-    → TellsExploration (then reading (λ p. Read (opening_of p.table (length p.experts) p.settings))) output.text
+    → TellsExploration (then reading (λ p. Read (opening_of p.table (length p.tables) p.settings))) output.text
 explore-tells reading output explored =
     let p = explored.start in
     let is = explored.is in
-    tells (then reading (λ q. Read (opening_of q.table (length q.experts) q.settings))) (exploring_record p is.history)
-    (conflicts_text p.table.attributes (rules_of (last_state (exploring_record p is.history))) (dropped_in is.history 1 p.experts))
+    tells (then reading (λ q. Read (opening_of q.table (length q.tables) q.settings))) (exploring_record p is.history)
+    (conflicts_text p.table.attributes (rules_of (last_state (exploring_record p is.history))) (dropped_in is.history 1 p.tables))
     output.text
-    (read_after reading p (λ q. Read (opening_of q.table (length q.experts) q.settings))
-    (opening_of p.table (length p.experts) p.settings) explored.read refl) is.whole is.spells is.course
+    (read_after reading p (λ q. Read (opening_of q.table (length q.tables) q.settings))
+    (opening_of p.table (length p.tables) p.settings) explored.read refl) is.whole is.spells is.course
 
 -- by a script
-pub replay-tells : (reading : Reading Recorded) (output : Output) → MayReplay reading output
+pub replay-tells : (reading : Reading Exploration) (output : Output) → MayReplay reading output
     → TellsExploration (then reading (λ r. Read r.opening)) output.text
 replay-tells reading output replay =
     let r = replay.made in

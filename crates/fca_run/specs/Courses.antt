@@ -15,7 +15,7 @@ use Rattle.fca_command.specs.declared.command.Command.TheVariants.{Replay, Explo
 use Rattle.command_io.specs.Readings.{Reading, then, MayRead}
 use Rattle.command_io.specs.Readings.Reading.{Refused, Read}
 use Rattle.command_io.specs.Known.{start_read}
-use Rattle.command_io.specs.Explorations.{Recorded, opening_of, last_state, open_at, IsExplored}
+use Rattle.command_io.specs.Explorations.{Exploration, opening_of, last_state, open_at, IsExplored}
 use Rattle.replay_command.specs.Replayed.{replay_read, IsFedBack}
 use Rattle.explore_command.specs.Starts.{explore_read}
 use Rattle.serve_command.specs.Openings.{opening_by}
@@ -26,19 +26,19 @@ use Rattle.serve_command.specs.Openings.{opening_by}
 abbrev pub opening_read : Command → (Text → Told) → Option Text → Reading Opening
 opening_read (Replay file known) files input = then (replay_read file known files input) (λ r. Read r.opening)
 opening_read (Explore file known names experts) files input =
-    then (explore_read file known names experts files) (λ start. Read (opening_of start.table (length start.experts) start.settings))
+    then (explore_read file known names experts files) (λ start. Read (opening_of start.table (length start.tables) start.settings))
 opening_read (Serve file known experts holders listen) files input =
     then (start_read file known files) (λ start. Read (opening_by experts holders start))
 opening_read _ files input = Refused
 
 -- the lines of the basis of what is recorded, beside what is known
-abbrev pub known_basis_lines : Recorded → Text
+abbrev pub known_basis_lines : Exploration → Text
 known_basis_lines r = basis_lines r.opening.table.attributes (basis_known r.opening.settings.known (last_state r).context)
 
 -- The text tells of the exploration that was opened so
 pub record TellsExploration (opened : Reading Opening) (text : Text) : Type 0 where
   -- one exploration: what it was opened with, which is what the command says, and its one history
-  pub told : Recorded
+  pub told : Exploration
   pub opening : MayRead opened told.opening
   -- the text begins with what is printed of it, and is a script that spells its settings and this history
   pub later : Text

@@ -65,7 +65,7 @@ impl OpenQuestions {
         ensures there { Among self.now question.now → IsSome result }
     {
         let place = self.list.first_from(self.first, &question.premise);
-        if stands_at(self.as_slice(), place, question) {
+        if is_question_at(self.as_slice(), place, question) {
             Some(place)
         } else {
             None
@@ -156,7 +156,7 @@ fn is_left(question: &Question, row: &Attrs) -> bool
 }
 
 /// Whether the question stands at the place.
-fn stands_at(questions: &[Question], place: usize, question: &Question) -> bool
+fn is_question_at(questions: &[Question], place: usize, question: &Question) -> bool
     ensures { result ≡ (nat_lt place (length questions.now) && is_rule question.now (slice_index_or questions.now place question.now)) }
 {
     place < questions.len() && is_same(&questions[place], question)

@@ -47,7 +47,7 @@ use Rattle.oracle_expert.specs.Oracles.{drop_given, drop_at}
 use Rattle.oracle_expert.specs.Runs.{OracleMoment, SeatRun, IsOracleFront, conflicts_of, row_due, OracleRunsFrom, StopsAtDone, event_due}
 use Rattle.oracle_expert.specs.Runs.{moment_after, moment_at, is_done}
 use Rattle.oracle_expert.proofs.AnswerLemmas.{counterexample_is}
-use Rattle.oracle_expert.specs.Counts.{recorded_in, dropped}
+use Rattle.oracle_expert.specs.Counts.{answers_recorded_in, dropped}
 use Rattle.oracle_expert.proofs.TurnLemmas.{is_stale, moment, draws, confirms, gives}
 use Rattle.oracle_expert.proofs.RunLemmas.{oracle_runs}
 
@@ -418,7 +418,7 @@ length-one_more true x xs = omega arith
 length-one_more false x xs = omega arith
 
 -- the rows and the accepted implications are those that were there and those that were recorded
-pub run_adds : (s : State) (es : List SetEvent) → rows_and_rules (state_after s es) ≡ rows_and_rules s + recorded_in (journal_of s es)
+pub run_adds : (s : State) (es : List SetEvent) → rows_and_rules (state_after s es) ≡ rows_and_rules s + answers_recorded_in (journal_of s es)
 unfolding state_after journal_of
 run_adds s [] = omega arith
 run_adds s (x ∷ es) =
@@ -481,13 +481,13 @@ module _ (K : Context) (names : List RowName) (settings : Settings) (H : List Se
   pub valid : IsValid first
   valid = opening_valid K names settings respecting
 
-  counted : rows_and_rules (state_after first (events_of H)) ≡ rows_and_rules first + recorded_in H
-  counted = run_adds first (events_of H) ∙ ap (λ J. rows_and_rules first + recorded_in J) legal.replayed
+  counted : rows_and_rules (state_after first (events_of H)) ≡ rows_and_rules first + answers_recorded_in H
+  counted = run_adds first (events_of H) ∙ ap (λ J. rows_and_rules first + answers_recorded_in J) legal.replayed
 
   -- of an oracle that has dropped these rows before
   any_turns : (D : NamedContext) (e : ℕ) → is_expert e ≡ true → (cs : Conflicts) (before entries : List SetEntry)
       → own H e ≡ before ++ entries → OracleRunsFrom D e (moment None cs) entries
-      → length entries + dropped cs ≤ 2 * recorded_in H + dropped (moment_at D (moment None cs) entries).conflicts + 1
+      → length entries + dropped cs ≤ 2 * answers_recorded_in H + dropped (moment_at D (moment None cs) entries).conflicts + 1
   any_turns D e i cs before entries own_is runs =
       let events = legal_events first H legal in
       let bound = later_bound D e i cs entries runs (events_of H) first before valid most events.0
@@ -497,7 +497,7 @@ module _ (K : Context) (names : List RowName) (settings : Settings) (H : List Se
 
   pub oracle_turns : (D : NamedContext) (e : ℕ) → is_expert e ≡ true → (before entries : List SetEntry) → own H e ≡ before ++ entries
       → IsOracleFront D e entries
-      → length entries ≤ 2 * recorded_in H + dropped (conflicts_of D entries) + 1
+      → length entries ≤ 2 * answers_recorded_in H + dropped (conflicts_of D entries) + 1
   oracle_turns D e i before entries own_is front =
       let none : dropped (no_conflict D) ≡ 0 = none_dropped D.context.rows in
       let turns = any_turns D e i (no_conflict D) before entries own_is front in
@@ -505,7 +505,7 @@ module _ (K : Context) (names : List RowName) (settings : Settings) (H : List Se
 
   pub call_turns : (e : ℕ) → is_expert e ≡ true → (old new : Recall) (before entries : List SetEntry) → own H e ≡ before ++ entries
       → SeatRun Answers Learns e old entries new
-      → length entries ≤ 2 * recorded_in H + (dropped new.conflicts - dropped old.conflicts) + 1
+      → length entries ≤ 2 * answers_recorded_in H + (dropped new.conflicts - dropped old.conflicts) + 1
   call_turns e i old new before entries own_is run =
       let its = oracle_runs old.table e None old.conflicts old entries new refl refl run in
       let turns = any_turns old.table e i old.conflicts before entries own_is its.run in
@@ -513,7 +513,7 @@ module _ (K : Context) (names : List RowName) (settings : Settings) (H : List Se
       ap dropped its.conflicts in
       omega arith
 
-  pub recorded_few : recorded_in H ≤ 2 ^ K.width
+  pub recorded_few : answers_recorded_in H ≤ 2 ^ K.width
   recorded_few =
       let events = legal_events first H legal in
       let rows = recorded_rows first (events_of H) in

@@ -24,7 +24,7 @@ use Rattle.oracle_expert.specs.declared.expert.Answer.{Answer}
 use Rattle.oracle_expert.specs.declared.expert.Answer.TheVariants.{Confirm, Row}
 use Rattle.oracle_expert.specs.Answers.{event_of}
 use Rattle.oracle_expert.specs.Oracles.{Conflicts, Recall, Answers, Learns, counterexample, answer_with, answer_of}
-use Rattle.oracle_expert.specs.Counts.{recorded_in}
+use Rattle.oracle_expert.specs.Counts.{answers_recorded_in}
 use Rattle.oracle_expert.specs.Runs.{OracleMoment, OracleRunsFrom, SeatRun, event_due, moment_after, moment_at, is_done}
 use Rattle.oracle_expert.proofs.AnswerLemmas.{counterexample_is}
 use Rattle.oracle_expert.proofs.TurnLemmas.{is_stale, moment, draws, confirms, gives}
@@ -86,13 +86,13 @@ module _ (D : NamedContext) (e : ℕ) where
   -- what is known from a state on, where the question is held and not stale
   abbrev On : State → Rule → List SetEntry → List SetEntry → Type 0
   On s q between rest = (cs : Conflicts) → held_by e s.holds ≡ Some q → is_stale s q ≡ false
-      → OracleRunsFrom D e (moment (Some q) cs) (own rest e) → 1 ≤ recorded_in between
+      → OracleRunsFrom D e (moment (Some q) cs) (own rest e) → 1 ≤ answers_recorded_in between
 
   -- until a draw of the expert comes, something is recorded
   until_recorded : (es : List SetEvent) (s : State) (cs : Conflicts) (q : Rule) → held_by e s.holds ≡ Some q → is_stale s q ≡ false
       → (between after : List SetEntry) (second : SetEntry)
       → journal_of s es ≡ between ++ second ∷ after → second.event ≡ Draw e
-      → OracleRunsFrom D e (moment (Some q) cs) (own (between ++ second ∷ after) e) → 1 ≤ recorded_in between
+      → OracleRunsFrom D e (moment (Some q) cs) (own (between ++ second ∷ after) e) → 1 ≤ answers_recorded_in between
   unfolding journal_of
   until_recorded [] s cs q held fresh [] after second all draw run = cc
   until_recorded [] s cs q held fresh (b ∷ between) after second all draw run = cc
@@ -123,7 +123,7 @@ module _ (D : NamedContext) (e : ℕ) where
       fresh_on f = quiet_stays s x q (ap is_recorded (sym reply) ∙ f) ∙ fresh
 
       mine : On (next s x) q between (between ++ second ∷ after) → is_recorded b.reply ≡ false → AnsweredBy s q cs x
-          → OracleRunsFrom D e (moment_after D (moment (Some q) cs) b.reply) (own (between ++ second ∷ after) e) → 1 ≤ recorded_in between
+          → OracleRunsFrom D e (moment_after D (moment (Some q) cs) b.reply) (own (between ++ second ∷ after) e) → 1 ≤ answers_recorded_in between
       mine on f (inl recorded) run = absurd (false≢true (sym f ∙ ap is_recorded reply ∙ recorded))
       mine on f (inr same) run =
           let m = moment_after D (moment (Some q) cs) b.reply in
@@ -133,7 +133,7 @@ module _ (D : NamedContext) (e : ℕ) where
 
       go : On (next s x) q between (between ++ second ∷ after) → is_recorded b.reply ≡ false → (c : Bool) → eqb (expert_of b.event) e ≡ c
           → OracleRunsFrom D e (moment (Some q) cs) (cond c (b ∷ own (between ++ second ∷ after) e) (own (between ++ second ∷ after) e))
-          → 1 ≤ recorded_in between
+          → 1 ≤ answers_recorded_in between
       go on f true own_event run =
           let is_due : x ≡ event_due D e cs (Some q) = sym event ∙ run.0 in
           mine on f (subst (AnsweredBy s q cs) (sym is_due) (fresh_answer s q cs held fresh)) run.2
@@ -166,7 +166,7 @@ module _ (D : NamedContext) (e : ℕ) where
         → (m : OracleMoment) (before between after : List SetEntry) (first second : SetEntry)
         → journal_of s es ≡ before ++ (first ∷ between ++ second ∷ after)
         → first.event ≡ Draw e → second.event ≡ Draw e → OracleRunsFrom D e m (own (first ∷ between ++ second ∷ after) e)
-        → 1 ≤ recorded_in between
+        → 1 ≤ answers_recorded_in between
     unfolding journal_of
     recorded_between [] s v holders is m [] between after first second all draw again run = cc
     recorded_between [] s v holders is m (b ∷ before) between after first second all draw again run = cc
@@ -194,7 +194,7 @@ module _ (D : NamedContext) (e : ℕ) where
             (draws s D e m.conflicts Drawn v holders i (λ q among. inr (q, held_new e q s.holds, open_fresh s q among, refl)) (inl refl))
 
         due : (d : Option Rule) → OracleRunsFrom D e (moment d m.conflicts) (first ∷ own (between ++ second ∷ after) e)
-            → 1 ≤ recorded_in between
+            → 1 ≤ answers_recorded_in between
         due (Some q) run = absurd (no_draw e (answer_of D m.conflicts q) (sym run.0 ∙ draw))
         due None run = elim drawn [
           | inl done ↦ absurd (own_is_some between after second again
@@ -226,7 +226,7 @@ module _ (K : Context) (names : List RowName) (settings : Settings) (H : List Se
       → SeatRun Answers Learns e old entries new
       → (before between after : List SetEntry) (first second : SetEntry) → H ≡ before ++ (first ∷ between ++ second ∷ after)
       → length earlier ≤ length (own before e)
-      → first.event ≡ Draw e → second.event ≡ Draw e → 1 ≤ recorded_in between
+      → first.event ≡ Draw e → second.event ≡ Draw e → 1 ≤ answers_recorded_in between
   draws_apart e i old new earlier entries own_is run before between after first second cut late draw again =
       let D = old.table in
       let from = first ∷ between ++ second ∷ after in

@@ -5,8 +5,8 @@ use Rattle.exploration_terms.specs.Recorded.{is_recorded}
 use Rattle.oracle_expert.specs.Oracles.{Conflicts}
 
 -- how many answers were recorded in a history: rows that were taken and implications that were accepted
-abbrev pub recorded_in : List SetEntry → ℕ
-recorded_in H = length (filter (λ entry. is_recorded entry.reply) H)
+abbrev pub answers_recorded_in : List SetEntry → ℕ
+answers_recorded_in H = length (filter (λ entry. is_recorded entry.reply) H)
 
 -- how many rows were dropped
 abbrev pub dropped : Conflicts → ℕ

@@ -12,7 +12,7 @@ ghost use Rattle.fca_model.specs.Invariant.{SameMembers, rows_respect};
 ghost use Rattle.fca_model.specs.Tables.{NamedContext};
 ghost use Rattle.fca_model.specs.Exploration.{RowName, SetEntry, Settings, opening, open_in, state_after, events_of, is_expert, own};
 ghost use Rattle.fca_model.specs.Exploration.{IsLegal};
-ghost use Rattle.oracle_expert.specs.Counts.{recorded_in, dropped};
+ghost use Rattle.oracle_expert.specs.Counts.{answers_recorded_in, dropped};
 ghost use Rattle.oracle_expert.specs.Oracles.{Recall, Answers, Learns, no_conflict};
 ghost use Rattle.oracle_expert.specs.Intents.{HasIntentsOf, are_intents};
 ghost use Rattle.oracle_expert.specs.Runs.{SeatRun, IsOracleFront, IsOracleRun, ends_done, conflicts_of};
@@ -44,7 +44,7 @@ pub fn turns_of_an_oracle()
         → rows_respect settings.known K ≡ true → settings.holders ≡ MAX_EXPERTS → IsLegal (opening K names settings) H
         → (D : NamedContext) (e : ℕ) → is_expert e ≡ true → (before entries : List SetEntry)
         → own H e ≡ before ++ entries → IsOracleFront D e entries
-        → length entries ≤ 2 * recorded_in H + dropped (conflicts_of D entries) + 1 }
+        → length entries ≤ 2 * answers_recorded_in H + dropped (conflicts_of D entries) + 1 }
     ensures drops { (D : NamedContext) (entries : List SetEntry)
         → dropped (conflicts_of D entries) ≤ length D.context.rows }
     ensures few { (K : Context) (names : List RowName) (settings : Settings) (H : List SetEntry)
@@ -56,7 +56,7 @@ pub fn turns_of_an_oracle()
         → rows_respect settings.known K ≡ true → settings.holders ≡ MAX_EXPERTS → IsLegal (opening K names settings) H
         → (e : ℕ) → is_expert e ≡ true → (old new : Recall) (before entries : List SetEntry)
         → own H e ≡ before ++ entries → SeatRun Answers Learns e old entries new
-        → length entries ≤ 2 * recorded_in H + (dropped new.conflicts - dropped old.conflicts) + 1 }
+        → length entries ≤ 2 * answers_recorded_in H + (dropped new.conflicts - dropped old.conflicts) + 1 }
 {}
 
 /// Of a history `H` over a context whose rows respect what is known, where all experts may hold one question:
@@ -69,7 +69,7 @@ pub fn draws_of_an_oracle()
         → own H e ≡ earlier ++ entries → SeatRun Answers Learns e old entries new
         → (before between after : List SetEntry) (first second : SetEntry)
         → H ≡ before ++ (first ∷ between ++ second ∷ after) → length earlier ≤ length (own before e)
-        → first.event ≡ Draw e → second.event ≡ Draw e → 1 ≤ recorded_in between }
+        → first.event ≡ Draw e → second.event ≡ Draw e → 1 ≤ answers_recorded_in between }
 {}
 
 /// All experts are oracles of tables with one context `C`. All that is known holds in it, the rows of the opening are rows of it, and

@@ -146,7 +146,7 @@ fn counterexample_on<const W: usize>(
     if is_seen_to_hold(alloc, indexed, &premise, &conclusion) {
         return None;
     }
-    first_refuting(indexed.rows().as_slice(), conflicts, &premise, &conclusion)
+    first_counterexample(indexed.rows().as_slice(), conflicts, &premise, &conclusion)
 }
 
 /// Whether the columns show that the implication holds. It may hold though they do not: if the premise is empty, or memory runs
@@ -183,11 +183,11 @@ fn counterexample_among<const W: usize>(
     let _width = rows.width();
     let premise = question.premise.resize();
     let conclusion = question.conclusion.resize();
-    first_refuting(rows.as_slice(), conflicts, &premise, &conclusion)
+    first_counterexample(rows.as_slice(), conflicts, &premise, &conclusion)
 }
 
 /// The place of the first row that refutes the implication and was not dropped.
-fn first_refuting<const W: usize>(
+fn first_counterexample<const W: usize>(
     rows: &[Bits<W>],
     conflicts: &[Option<usize>],
     premise: &Bits<W>,

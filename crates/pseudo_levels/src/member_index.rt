@@ -198,14 +198,14 @@ fn search_bucket(buckets: &[Vec<Implication>], place: usize, set: &Attrs) -> Opt
     ensures { result ≡ find (breaks_below set.now) (bucket place (map (λ v. v.items) buckets.now)) }
 {
     if place < buckets.len() {
-        first_broken(&buckets[place], set)
+        first_broken_below(&buckets[place], set)
     } else {
         None
     }
 }
 
 /// The first implication that the set breaks.
-fn first_broken(members: &[Implication], set: &Attrs) -> Option<Implication>
+fn first_broken_below(members: &[Implication], set: &Attrs) -> Option<Implication>
     ensures { result ≡ find (breaks_below set.now) members.now }
 {
     members.iter().copied().find(|i| {

@@ -22,7 +22,7 @@ use Rattle.command_io.specs.Readings.Reading.{Refused, Read}
 use Rattle.command_io.specs.Forms.{table_read, script_read}
 use Rattle.command_io.specs.Known.{Start, known_read}
 use Rattle.command_io.specs.Endings.{Output}
-use Rattle.command_io.specs.Explorations.{Recorded, opening_of, state_at, IsOnCourse, IsExplored}
+use Rattle.command_io.specs.Explorations.{Exploration, opening_of, state_at, IsOnCourse, IsExplored}
 use Rattle.command_io.proofs.KnownLemmas.{if_respected-unbroken}
 use Rattle.replay_command.specs.Replayed.{settings_read, exploration_by, exploration_read, exploration_output, IsFedBack}
 
@@ -49,7 +49,7 @@ unbroken S k (row ∷ rows) all =
     ap (λ m. break_at k m (first_break S (k + 1) rows)) (none-broken row S parts.0) ∙ unbroken S (k + 1) rows parts.1
 
 -- the rows of the table respect what is known, since they do at the first moment
-pub opened-respecting : (r : Recorded) → IsExplored r → rows_respect r.opening.settings.known r.opening.table.context ≡ true
+pub opened-respecting : (r : Exploration) → IsExplored r → rows_respect r.opening.settings.known r.opening.table.context ≡ true
 unfolding state_after
 opened-respecting r explored = (explored.moments [] r.journal refl).valid.known
 
@@ -87,7 +87,7 @@ told-said : (t : NamedContext) (settings : Settings) (H : List SetEntry) (text :
 told-said t settings H text spells = ap (told t (content_of_text t text).settings) spells.history
     ∙ ap (λ (s : Settings). told t s H) spells.settings
 
-pub fed_back : (r : Recorded) (text : Text) → IsExplored r → Spells r.opening.table r.opening.settings r.journal text
+pub fed_back : (r : Exploration) (text : Text) → IsExplored r → Spells r.opening.table r.opening.settings r.journal text
     → length text ≤ FILE_BYTES → IsFedBack r text
 fed_back r text explored spells short = λ file files read.
     let t : NamedContext = r.opening.table in
@@ -98,5 +98,5 @@ fed_back r text explored spells short = λ file files read.
     then (then (then R (λ table. then (known_read None table files) (λ S. Read (record { table = table; known = S }))))
     (exploration_read None (Some text))) (λ x. Read (exploration_output x)) in
     ap From read
-    ∙ ap (λ (R : Reading Recorded). then R (λ x. Read (exploration_output x))) (explored-said t text said short spells.script respecting)
+    ∙ ap (λ (R : Reading Exploration). then R (λ x. Read (exploration_output x))) (explored-said t text said short spells.script respecting)
     ∙ ap Read (told-said t r.opening.settings r.journal text spells)

@@ -13,7 +13,7 @@ use Rattle.expert_scripts.specs.Scripts.{ScriptContent, may_apply}
 use Rattle.command_io.specs.Readings.{Reading, MayRead}
 use Rattle.command_io.specs.Causes.{IsScriptStop}
 use Rattle.command_io.specs.Endings.{Output, IsFile, IsOfFile}
-use Rattle.command_io.specs.Explorations.{Recorded, recorded, IsExplored}
+use Rattle.command_io.specs.Explorations.{Exploration, exploration_of, IsExplored}
 use Rattle.command_io.specs.declared.stop.Stop.{Stop}
 use Rattle.command_io.specs.declared.stop.Stop.TheVariants.{TooLong, NoScript, Fault, Memory}
 use Rattle.replay_command.specs.Replayed.{replay_opening, exploration_by, exploration_output, SpellsItself, MayReplay, IsSettingsStop}
@@ -21,48 +21,48 @@ use Rattle.replay_command.specs.Replayed.{IsInputStop}
 
 -- the parts of an exploration that is as far as these events
 opened : (table : NamedContext) (settings : Settings) (events : List SetEvent) (h : History)
-    → recorded h ≡ exploration_by table settings events → h.opening ≡ replay_opening table settings
-opened table settings events h e = ap (λ (r : Recorded). r.opening) e
+    → exploration_of h ≡ exploration_by table settings events → h.opening ≡ replay_opening table settings
+opened table settings events h e = ap (λ (r : Exploration). r.opening) e
 
 logged : (table : NamedContext) (settings : Settings) (events : List SetEvent) (h : History)
-    → recorded h ≡ exploration_by table settings events
+    → exploration_of h ≡ exploration_by table settings events
     → h.journal ≡ journal_of (opening_state (replay_opening table settings)) events
-logged table settings events h e = ap (λ (r : Recorded). r.journal) e
+logged table settings events h e = ap (λ (r : Exploration). r.journal) e
 
 state_of-explored : (table : NamedContext) (settings : Settings) (events : List SetEvent) (h : History)
-    → recorded h ≡ exploration_by table settings events
+    → exploration_of h ≡ exploration_by table settings events
     → state_of h ≡ state_after (opening_state (replay_opening table settings)) events
 state_of-explored table settings events h e =
-    ap (λ (r : Recorded). state_after (opening_state r.opening) (events_of r.journal)) e
+    ap (λ (r : Exploration). state_after (opening_state r.opening) (events_of r.journal)) e
     ∙ ap (state_after (opening_state (replay_opening table settings)))
     (events_of-journal_of (opening_state (replay_opening table settings)) events)
 
-recorded-parts : (h : History) (o : Opening) (H : List SetEntry) → h.opening ≡ o → h.journal ≡ H
-    → recorded h ≡ record { opening = o; journal = H }
-recorded-parts h o H opening journal = cc
+exploration_of-parts : (h : History) (o : Opening) (H : List SetEntry) → h.opening ≡ o → h.journal ≡ H
+    → exploration_of h ≡ record { opening = o; journal = H }
+exploration_of-parts h o H opening journal = cc
 
-pub recorded-start : (table : NamedContext) (settings : Settings) (h : History) → h.opening ≡ replay_opening table settings → h.journal ≡ []
-    → recorded h ≡ exploration_by table settings []
+pub exploration_of-start : (table : NamedContext) (settings : Settings) (h : History) → h.opening ≡ replay_opening table settings → h.journal ≡ []
+    → exploration_of h ≡ exploration_by table settings []
 unfolding journal_of
-recorded-start table settings h opening journal = recorded-parts h (replay_opening table settings) [] opening journal
+exploration_of-start table settings h opening journal = exploration_of-parts h (replay_opening table settings) [] opening journal
 
-pub recorded-push : (table : NamedContext) (settings : Settings) (events : List SetEvent) (old new : History) (event : SetEvent)
+pub exploration_of-push : (table : NamedContext) (settings : Settings) (events : List SetEvent) (old new : History) (event : SetEvent)
     (reply : SetReply)
-    → recorded old ≡ exploration_by table settings events → IsStep old new event reply
-    → recorded new ≡ exploration_by table settings (events ++ event ∷ [])
-recorded-push table settings events old new event reply e step =
+    → exploration_of old ≡ exploration_by table settings events → IsStep old new event reply
+    → exploration_of new ≡ exploration_by table settings (events ++ event ∷ [])
+exploration_of-push table settings events old new event reply e step =
     let s : State = opening_state (replay_opening table settings) in
     let right : reply ≡ reply_to (state_after s events) event = step.reply
     ∙ ap (λ (t : State). reply_to t event) (state_of-explored table settings events old e) in
     let entry : List SetEntry → SetReply → List SetEntry = λ H r. H ++ record { event = event; reply = r } ∷ [] in
-    recorded-parts new (replay_opening table settings) (journal_of s (events ++ event ∷ []))
+    exploration_of-parts new (replay_opening table settings) (journal_of s (events ++ event ∷ []))
     (step.opening ∙ opened table settings events old e)
     (step.journal ∙ ap (λ H. entry H reply) (logged table settings events old e) ∙ ap (λ r. entry (journal_of s events) r) right
     ∙ sym (journal_of-push s events event))
 
-pub recorded-admits : (table : NamedContext) (settings : Settings) (events : List SetEvent) (h : History) (event : SetEvent)
-    → recorded h ≡ exploration_by table settings events → may_apply table.context.width event ≡ true → Admits h.opening event
-recorded-admits table settings events h event e may =
+pub exploration_of-admits : (table : NamedContext) (settings : Settings) (events : List SetEvent) (h : History) (event : SetEvent)
+    → exploration_of h ≡ exploration_by table settings events → may_apply table.context.width event ≡ true → Admits h.opening event
+exploration_of-admits table settings events h event e may =
     let parts = and_parts (is_expert (expert_of event)) (has_width table.context.width event) may in
     let range = and_parts (nat_le 1 (expert_of event)) (nat_le (expert_of event) MAX_EXPERTS) parts.0 in
     let P : Opening → Type 0 = λ o. Admits o event in
@@ -74,7 +74,7 @@ no_items (x ∷ xs) h = absurd (omega arith)
 
 -- ---- the output
 
-pub MayReplay-made : (reading : Reading Recorded) (made : Recorded) (r : Result Output Stop) → MayRead reading made → IsExplored made
+pub MayReplay-made : (reading : Reading Exploration) (made : Exploration) (r : Result Output Stop) → MayRead reading made → IsExplored made
     → IfOk r (λ output. output ≡ exploration_output made) → OnOk r (SpellsItself made) → IfOk r (MayReplay reading)
 MayReplay-made reading made (Ok output) may course whole spells =
     record { made = made; read = may; is = record { course = course; spells = spells }; whole = whole }

@@ -23,7 +23,7 @@ use Rattle.command_io.specs.Forms.{table_read, script_read}
 use Rattle.command_io.specs.Causes.{IsScriptStop}
 use Rattle.command_io.specs.Known.{Start, if_respected, start_read, IsBreakStop, IsStartStop}
 use Rattle.command_io.specs.Endings.{Output, ending_of}
-use Rattle.command_io.specs.Explorations.{Recorded, opening_of, open_at, IsExplored}
+use Rattle.command_io.specs.Explorations.{Exploration, opening_of, open_at, IsExplored}
 use Rattle.command_io.specs.declared.stop.Origin.TheVariants.{Input}
 use Rattle.command_io.specs.declared.stop.Stop.{Stop}
 use Rattle.command_io.specs.declared.stop.Stop.TheVariants.{NoScript}
@@ -53,23 +53,23 @@ abbrev pub replay_opening : NamedContext → Settings → Opening
 replay_opening table settings = opening_of table MAX_EXPERTS settings
 
 -- the exploration of the table under the settings by the events
-abbrev pub exploration_by : NamedContext → Settings → List SetEvent → Recorded
+abbrev pub exploration_by : NamedContext → Settings → List SetEvent → Exploration
 exploration_by table settings events =
     record { opening = replay_opening table settings; journal = journal_of (opening_state (replay_opening table settings)) events }
 
 -- the exploration by the script on the input, from this start, with this known file, if there is one
-abbrev pub exploration_read : Option Text → Option Text → Start → Reading Recorded
+abbrev pub exploration_read : Option Text → Option Text → Start → Reading Exploration
 exploration_read known input start =
     then (script_read start.table.context.width input) (λ said.
     then (settings_read known start.known start.table said) (λ settings.
     Read (exploration_by start.table settings said.events)))
 
 -- the exploration that `replay` records
-abbrev pub replay_read : Text → Option Text → (Text → Told) → Option Text → Reading Recorded
+abbrev pub replay_read : Text → Option Text → (Text → Told) → Option Text → Reading Exploration
 replay_read file known files input = then (start_read file known files) (exploration_read known input)
 
 -- the text of an exploration
-abbrev pub exploration_output : Recorded → Output
+abbrev pub exploration_output : Exploration → Output
 exploration_output r = record { text = explore_text r.opening.table r.opening.settings r.journal; ending = ending_of (open_at r) }
 
 -- what `replay` writes
@@ -78,23 +78,23 @@ replay_output file known files input = then (replay_read file known files input)
 
 -- The replay of the exploration's table on the text is exactly this exploration, whatever file has the table, if there is no known file.
 -- Its text is the transcript and the sections, without the lines after them
-abbrev pub IsFedBack : Recorded → Text → Type 0
+abbrev pub IsFedBack : Exploration → Text → Type 0
 IsFedBack r text = (file : Text) (files : Text → Told) → table_read file (files file) ≡ Read r.opening.table
     → replay_output file None files (Some text) ≡ Read (exploration_output r)
 
 -- its text spells its settings and its history
-abbrev pub SpellsItself : Recorded → Type 0
+abbrev pub SpellsItself : Exploration → Type 0
 SpellsItself r = Spells r.opening.table r.opening.settings r.journal (exploration_output r).text
 
 -- What is promised of it, whatever its events were: its journal is one legal history with the questions and the basis of an exploration,
 -- and the text that is written spells this history
-pub record IsReplayed (r : Recorded) : Type 0 where
+pub record IsReplayed (r : Exploration) : Type 0 where
   pub course : IsExplored r
   pub spells : SpellsItself r
 
 -- the output of a replay that may have read this
-pub record MayReplay (reading : Reading Recorded) (output : Output) : Type 0 where
-  pub made : Recorded
+pub record MayReplay (reading : Reading Exploration) (output : Output) : Type 0 where
+  pub made : Exploration
   pub read : MayRead reading made
   pub is : IsReplayed made
   pub whole : output ≡ exploration_output made

@@ -12,7 +12,7 @@ ghost use Rattle.expert_scripts.specs.Transcripts.{SettingsCanBeWritten};
 ghost use Rattle.command_io.specs.Readings.{MayRead, MayRefuse, Rises, SameCounts};
 ghost use Rattle.command_io.specs.Causes.{UnlessFault};
 ghost use Rattle.command_io.specs.Known.{start_of};
-ghost use Rattle.command_io.specs.Explorations.{IsExplored, recorded};
+ghost use Rattle.command_io.specs.Explorations.{IsExplored, exploration_of};
 ghost use Rattle.command_io.specs.Endings.{IsRefusal, IsOfFile};
 ghost use Rattle.replay_command.specs.Replayed.{exploration_by, exploration_read, replay_read, replay_output, exploration_output};
 ghost use Rattle.replay_command.specs.Replayed.{SpellsItself, MayReplay, IsInputStop, IsReplayStop};
@@ -58,8 +58,8 @@ fn exploration<H: Shelf, S: Source>(
     file: &Word,
     known: Option<&Word>,
 ) -> Result<Explore, Stop>
-    ensures exploration { IfOk result (λ explore. MayRead (replay_read file.now (option_copied known.entry) (H.tells shelf.old) (S.left input.old)) (recorded explore)) }
-    ensures course { IfOk result (λ explore. IsExplored (recorded explore)) }
+    ensures exploration { IfOk result (λ explore. MayRead (replay_read file.now (option_copied known.entry) (H.tells shelf.old) (S.left input.old)) (exploration_of explore)) }
+    ensures course { IfOk result (λ explore. IsExplored (exploration_of explore)) }
     ensures writable { IfOk result (λ explore. SettingsCanBeWritten explore.opening.table.context.width explore.opening.settings) }
     ensures end { OnOk result (IsAtEnd (S.left input.new)) }
     ensures unread { IfErr result (λ stop. IsOfFile stop → input.new ≡ input.old) }
@@ -84,8 +84,8 @@ fn explore_by_script<S: Source>(
     requires width { start.known.width ≡ start.table.context.width }
     requires even { HaveWidth start.table.context.width start.known.members }
     requires respected { first_break start.known.members 0 start.table.context.rows ≡ None }
-    ensures exploration { IfOk result (λ explore. MayRead (exploration_read (option_copied known_file.entry) (S.left input.old) (start_of start)) (recorded explore)) }
-    ensures course { IfOk result (λ explore. IsExplored (recorded explore)) }
+    ensures exploration { IfOk result (λ explore. MayRead (exploration_read (option_copied known_file.entry) (S.left input.old) (start_of start)) (exploration_of explore)) }
+    ensures course { IfOk result (λ explore. IsExplored (exploration_of explore)) }
     ensures writable { IfOk result (λ explore. SettingsCanBeWritten explore.opening.table.context.width explore.opening.settings) }
     ensures end { OnOk result (IsAtEnd (S.left input.new)) }
     ensures refused { IfErr result (λ stop. IsRefusal stop → MayRefuse (exploration_read (option_copied known_file.entry) (S.left input.old) (start_of start))) }
@@ -108,7 +108,7 @@ fn apply_events(
 ) -> Result<Explore, Memory>
     requires width { settings.known.width ≡ table.context.width }
     requires may { list_all (may_apply table.context.width) events.items ≡ true }
-    ensures { IfOk result (λ explore. recorded explore ≡ exploration_by table (settings_of settings) events.items) }
+    ensures { IfOk result (λ explore. exploration_of explore ≡ exploration_by table (settings_of settings) events.items) }
 {
     // (each row respects what is known, so no other fault can come)
     let Ok(mut explore) = Explore::open_with(alloc, table, MAX_EXPERTS, settings) else {
@@ -123,8 +123,8 @@ fn apply_events(
 /// The text of an exploration.
 fn exploration_output(alloc: Global, explore: &Explore) -> Result<Output, Stop>
     requires { SettingsCanBeWritten explore.now.opening.table.context.width explore.now.opening.settings }
-    ensures text { IfOk result (λ output. output ≡ exploration_output (recorded explore.now)) }
-    ensures spells { OnOk result (SpellsItself (recorded explore.now)) }
+    ensures text { IfOk result (λ output. output ≡ exploration_output (exploration_of explore.now)) }
+    ensures spells { OnOk result (SpellsItself (exploration_of explore.now)) }
     ensures cause { IfErr result (λ stop. stop ≡ Stop.Memory) }
 {
     Ok(Output {

@@ -21,7 +21,7 @@ use Rattle.command_io.specs.declared.stop.Stop.{Stop}
 use Rattle.command_io.specs.declared.stop.Stop.TheVariants.{Listener}
 use Rattle.command_io.specs.Endings.{Output, ending_of}
 use Rattle.command_io.specs.declared.output.Ending.{Ending}
-use Rattle.command_io.specs.Explorations.{Recorded, open_at, IsExplored}
+use Rattle.command_io.specs.Explorations.{Exploration, open_at, IsExplored}
 use Rattle.serve_command.specs.Accepted.{TookAndGave, GaveBack, HasRoomFor}
 use Rattle.serve_command.specs.Openings.{opening_by}
 use Rattle.serve_command.specs.declared.ended_words.TheConstants.{QUIT, END_OF_INPUT, LONG_LINE, LIMIT, SPENT}
@@ -38,7 +38,7 @@ ended_words Spent = SPENT.now
 ended_words Memory = NO_MEMORY.now
 
 -- the exploration that was opened so and has this history
-abbrev pub serving_record : Opening → List SetEntry → Recorded
+abbrev pub serving_record : Opening → List SetEntry → Exploration
 serving_record o H = record { opening = o; journal = H }
 
 -- its text, and how the sessions ended

@@ -30,13 +30,13 @@ loop-left-preserved c =
     let takes = cell.ensures.cell c.if-not-cell.false in
     let found = left-field cells loop.place takes.field (fields_in cell.result.behind.now) (loop.invariant.left ∙ takes.fields) in
     record {
-      wide = ap length c.put_cell.ensures ∙ length-put loop.row loop.place cell.result.is_cross ∙ loop.invariant.wide;
+      wide = ap length c.put_cell.ensures ∙ length-put loop.row loop.place cell.result.is_short_cross ∙ loop.invariant.wide;
       within = omega (arith, c.if-place-width.true);
       read = λ i.
-          let says : cell_form i (loop.place + 2) takes.field ≡ Ok cell.result.is_cross = ap (cell_by i (loop.place + 2)) takes.says in
+          let says : cell_form i (loop.place + 2) takes.field ≡ Ok cell.result.is_short_cross = ap (cell_by i (loop.place + 2)) takes.says in
           subst (λ (row : Set). ReadTo i width cells row (loop.place + 1)) (sym c.put_cell.ensures)
           (ReadTo-more i width cells loop.row loop.place takes.field found.0
-          (loop.invariant.read i) cell.result.is_cross c.if-place-width.true says);
+          (loop.invariant.read i) cell.result.is_short_cross c.if-place-width.true says);
       left = found.1;
     }
   where

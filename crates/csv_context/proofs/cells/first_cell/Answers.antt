@@ -8,4 +8,4 @@ returns-clause-cell c h =
     let cells : List ℕ = c.args.cells.now in
     let size : ℕ = c.from-size.result in
     let short = both-true c.is_short.result (get_or cells size 0 == 44) h in
-    rw c.is_cross.ensures (TakesCell-first cells size c.requires c.from-size.ensures (sym c.is_short.ensures ∙ short.0) short.1)
+    rw c.is_short_cross.ensures (TakesCell-first cells size c.requires c.from-size.ensures (sym c.is_short.ensures ∙ short.0) short.1)

@@ -12,8 +12,8 @@ use Rattle.explore_command.proofs.exploring.explore_by_oracles.Goals as goal
 
 pub explore_with_oracles-requires-clause-width : goal.explore_with_oracles-requires-clause-width
 explore_with_oracles-requires-clause-width g c κs within =
-    let tables = c.start.inside.experts in
-    let AreWide : ExploreStart → Type 0 = λ q. All (λ (t : NamedContext). t.context.width ≡ q.table.context.width) q.experts in
+    let tables = c.start.inside.tables in
+    let AreWide : ExploreStart → Type 0 = λ q. All (λ (t : NamedContext). t.context.width ≡ q.table.context.width) q.tables in
     let HaveWide : ℕ → Type 0 = λ n. All (λ (t : NamedContext). t.context.width ≡ n) tables.items in
     subst HaveWide (sym (ap (λ (o : Opening). o.table.context.width) c.in_ok-explore.ensures.opening))
     (subst AreWide (sym c.start.view_is) c.requires.wide)
@@ -21,8 +21,8 @@ explore_with_oracles-requires-clause-width g c κs within =
 pub returns : goal.returns
 returns g c =
     let settings = settings_of c.start.inside.settings in
-    let tables = c.start.inside.experts in
-    let p : ExploreStart = record { table = c.start.inside.table; settings = settings; experts = tables.items } in
+    let tables = c.start.inside.tables in
+    let p : ExploreStart = record { table = c.start.inside.table; settings = settings; tables = tables.items } in
     let output = c.explore_with_oracles in
     let end = output.ensures in
     let opened = c.in_ok-explore.ensures.opening ∙ ap (λ n. opening_of p.table n settings) c.len-count.ensures in

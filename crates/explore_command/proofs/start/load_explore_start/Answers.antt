@@ -63,7 +63,7 @@ returns-clause-start g c =
     let made : List (ℕ × RowName) → ExploreStart = λ l. record {
       table = table;
       settings = record { known = S; holders = MAX_EXPERTS; expert_names = l };
-      experts = c.in_ok-tables.tables.items;
+      tables = c.in_ok-tables.tables.items;
     } in
     let Read : ExploreStart → Type 0 = MayRead (explore_read c.args.file.now (option_copied c.args.known) c.args.wants_names
     c.args.files.now (g.H.Shelf.tells c.args.shelf.now)) in

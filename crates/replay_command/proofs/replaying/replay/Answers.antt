@@ -5,7 +5,7 @@ use Rattle.fca_io.specs.Faults.{Rose}
 use Rattle.command_io.specs.Readings.{MayRefuse, Rises, SameCounts}
 use Rattle.command_io.specs.Readings.Reading.{Read}
 use Rattle.command_io.specs.Endings.{Output, IsRefusal, IsOfFile}
-use Rattle.command_io.specs.Explorations.{recorded}
+use Rattle.command_io.specs.Explorations.{exploration_of}
 use Rattle.command_io.specs.declared.stop.Stop.{Stop}
 use Rattle.command_io.specs.declared.stop.Stop.TheVariants.{Memory}
 use Rattle.command_io.proofs.ErrLemmas.{err-passed}
@@ -19,7 +19,7 @@ pub returns-clause-output : goal.returns-clause-output
 returns-clause-output g c =
     let reading = replay_read c.args.file.now (option_copied c.args.known) (g.H.Shelf.tells c.args.shelf.now)
     (g.S.Source.left c.args.input.now) in
-    let made = recorded c.in_ok-explore.explore in
+    let made = exploration_of c.in_ok-explore.explore in
     IfOk-weaker c.exploration_output.result _ _ (λ (output : Output) is. read_after reading made
     (λ r. Read (exploration_output r)) output c.in_ok-explore.ensures.exploration is)
     c.exploration_output.ensures.text
@@ -28,7 +28,7 @@ pub returns-clause-replayed : goal.returns-clause-replayed
 returns-clause-replayed g c =
     let reading = replay_read c.args.file.now (option_copied c.args.known) (g.H.Shelf.tells c.args.shelf.now)
     (g.S.Source.left c.args.input.now) in
-    MayReplay-made reading (recorded c.in_ok-explore.explore) c.exploration_output.result c.in_ok-explore.ensures.exploration
+    MayReplay-made reading (exploration_of c.in_ok-explore.explore) c.exploration_output.result c.in_ok-explore.ensures.exploration
     c.in_ok-explore.ensures.course
     c.exploration_output.ensures.text c.exploration_output.ensures.spells
 

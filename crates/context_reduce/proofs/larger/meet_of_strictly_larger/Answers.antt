@@ -3,8 +3,8 @@ use Rattle.fca_model.specs.Sets.{Set, meet, strictly_within}
 use Rattle.fca_model.specs.Context.{Context}
 use Rattle.context_reduce.specs.Blocks.{block}
 use Rattle.context_reduce.proofs.BlockLemmas.{block_at, block_wide, meet_more, meet_skips, meet_settled}
-use Rattle.context_reduce.proofs.larger.meet_of_larger.Goals as goal
-use Rattle.context_reduce.proofs.larger.meet_of_larger.Goals.{then-may_contain+else-within, else-may_contain}
+use Rattle.context_reduce.proofs.larger.meet_of_strictly_larger.Goals as goal
+use Rattle.context_reduce.proofs.larger.meet_of_strictly_larger.Goals.{then-may_contain+else-within, else-may_contain}
 
 pub may_contain-requires : goal.may_contain-requires
 may_contain-requires g c =
