@@ -11,7 +11,7 @@ returns-then-other_holders-most c =
     let q = c.index-questions-place_of_fewest.result in
     sym (draw_all_held hs c.args.questions.now c.place_of_fewest.result q c.place_of_fewest.ensures c.args.most
     (subst (λ (n : ℕ). c.args.most ≤ n) (c.other_holders.ensures
-    ∙ ap (λ (i : Rule). holders_of i.premise hs) c.index-questions-place_of_fewest.is) c.if-holders-most.true))
+    ∙ ap (λ (i : Rule). holders_of i.premise hs) c.index-questions-place_of_fewest.is) c.if-other_holders-most.true))
 
 pub returns : goal.returns
 returns c =
@@ -20,4 +20,4 @@ returns c =
     ap (λ (i : Rule). Ask i) c.index-questions-place_of_fewest.is
     ∙ sym (draw_asks_fewest hs c.args.questions.now c.place_of_fewest.result q c.place_of_fewest.ensures c.args.most
     (subst (λ (n : ℕ). n < c.args.most) (c.other_holders.ensures
-    ∙ ap (λ (i : Rule). holders_of i.premise hs) c.index-questions-place_of_fewest.is) c.if-holders-most.false))
+    ∙ ap (λ (i : Rule). holders_of i.premise hs) c.index-questions-place_of_fewest.is) c.if-other_holders-most.false))
