@@ -94,7 +94,7 @@ fn answer<X: Expert, R: Wait, S: LevelSearch>(
     ensures stopped { IfErr result (λ fault. IsStopped X.answers X.learns gate.now.base (Some question.now)
         pass.old (X.memory expert.old) fault pass.new (X.memory expert.new)) }
 {
-    if pass.ended_spent() {
+    if pass.is_spent() {
         return Err(TurnFault::Spent);
     }
     let answer = expert.answer(alloc, question)?;
