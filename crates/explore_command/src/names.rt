@@ -10,7 +10,7 @@ ghost use Rattle.exploration_terms.specs.Settings.{name_of};
 ghost use Rattle.expert_wire.specs.Words.{is_name};
 ghost use Rattle.explore_command.specs.Starts.{is_named, names_by_files};
 
-use expert_wire::text_of;
+use expert_wire::utf8_text;
 use explore_state::ExpertNames;
 use fca_model::{Memory, Name, NameFault, Word};
 use std::alloc::Global;
@@ -52,7 +52,7 @@ fn add_name(alloc: Global, list: &mut ExpertNames, expert: u8, file: &Word) -> R
 fn name_in(alloc: Global, file: &Word) -> Result<Option<Name>, Memory>
     ensures { IfOk result (λ name. name ≡ cond (is_named file.now) (Some file.now) None) }
 {
-    let Some(text) = text_of(file.bytes()) else {
+    let Some(text) = utf8_text(file.bytes()) else {
         return Ok(None);
     };
     match Name::new(alloc, text) {
