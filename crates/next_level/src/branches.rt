@@ -178,6 +178,11 @@ impl<const W: usize> LevelWalk<W> {
         Ok(seen)
     }
 
+    /// Whether there are implications.
+    pub(crate) fn has_rules(&self) -> bool {
+        !self.list.as_slice().is_empty()
+    }
+
     /// Whether several threads are likely to be faster than one.
     pub(crate) fn pays(&self, limits: Limits) -> bool {
         let width = self.list.width();

@@ -81,10 +81,14 @@ impl<'a, R: Threads> SideBySide<'a, R> {
         }
     }
 
-    /// How many branches a walk over this many attributes has beside its first part.
-    fn branches(&self, width: u32) -> u32
+    /// How many branches a walk over this many attributes has beside its first part. Without implications a part has no list to be made, so half of the
+    /// attributes have a branch each, and the first part is small.
+    fn branches(&self, width: u32, has_rules: bool) -> u32
         ensures { result ≤ width }
     {
+        if !has_rules {
+            return width / 2;
+        }
         self.most_threads
             .saturating_mul(PARTS)
             .min(MOST)
@@ -120,7 +124,8 @@ impl<'a, R: Threads, const W: usize> Walker<W> for SideBySide<'a, R> {
         ensures steady { IfOk result (λ sets. sets.members.items ≡ [] → sets.bound ≡ limits.bound) }
     {
         if self.most_threads > 1 && walk.pays(limits) {
-            let branches = self.branches(walk.indexed.rows().width());
+            let width = walk.indexed.rows().width();
+            let branches = self.branches(width, walk.has_rules());
             let all = walk.open_parts(self.rt, alloc, branches, limits)?;
             return Ok(all);
         }
