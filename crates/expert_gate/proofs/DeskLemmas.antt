@@ -8,7 +8,7 @@ use Rattle.fca_model.specs.Exploration.{SetEvent, SetReply, SetEntry, expert_of,
 use Rattle.fca_model.specs.Widths.{HasWideReply}
 use Rattle.explore_state.specs.History.{Opening, History, opening_state, IsStep, IsSame}
 use Rattle.turn_lock.specs.Histories.{StartsWith}
-use Rattle.turn_lock.specs.Passes.{Lock, Known, Badge, badge}
+use Rattle.turn_lock.specs.Passes.{Lock, PassModel, Badge, badge}
 use Rattle.turn_lock.specs.Passes.{TakesTurn}
 use Rattle.turn_lock.specs.declared.fault.TurnFault.{TurnFault}
 use Rattle.turn_lock.specs.declared.fault.TurnFault.TheVariants.{Spent, Memory}
@@ -21,7 +21,7 @@ use Rattle.expert_gate.proofs.ReplyLemmas.{answer_wide, step_wide}
 -- ---- behind a gate
 
 -- a turn of the lock, whose replies have the width of the table
-pub makes_turn : (gate : Lock Opening) (event : SetEvent) (p q : Known Opening SetEntry) (result : Result SetReply TurnFault)
+pub makes_turn : (gate : Lock Opening) (event : SetEvent) (p q : PassModel Opening SetEntry) (result : Result SetReply TurnFault)
     → TakesTurn IsHistory by_expert gate.base (λ (reply : SetReply). record { event = event; reply = reply }) p result q
     → MakesTurn gate event p result q
 makes_turn gate event p q result t = record {
@@ -34,7 +34,7 @@ makes_turn gate event p q result t = record {
   within = t.within;
 }
 
-module _ (gate : Lock Opening) (event : SetEvent) (p q : Known Opening SetEntry) (at : GName) where
+module _ (gate : Lock Opening) (event : SetEvent) (p q : PassModel Opening SetEntry) (at : GName) where
   same_pass : badge q ≡ badge p → IsSameDesk (at_gate gate p at) (at_gate gate q at)
   same_pass same = record { number = ap (λ (b : Badge Opening). b.number) same; lock = ap Some same; opening = refl; place = refl }
 
@@ -73,12 +73,12 @@ module _ (gate : Lock Opening) (event : SetEvent) (p q : Known Opening SetEntry)
         entry = tt;
         seen = tt;
         wide = tt;
-        err = ap (λ (k : Known Opening SetEntry). k.own) still;
-        looked = subst (λ (k : Known Opening SetEntry). StartsWith k.seen p.seen) (sym still) (starts_itself p.seen);
+        err = ap (λ (k : PassModel Opening SetEntry). k.own) still;
+        looked = subst (λ (k : PassModel Opening SetEntry). StartsWith k.seen p.seen) (sym still) (starts_itself p.seen);
         known = inl refl;
         spent = (λ _. all_made made, λ _. refl);
-        unchanged = λ _. ap (λ (k : Known Opening SetEntry). at_gate gate k at) still;
-        left = ap (λ (k : Known Opening SetEntry). Some (k.turns - k.made)) still ∙ all_made made ∙ ap one_less (sym (all_made made));
+        unchanged = λ _. ap (λ (k : PassModel Opening SetEntry). at_gate gate k at) still;
+        left = ap (λ (k : PassModel Opening SetEntry). Some (k.turns - k.made)) still ∙ all_made made ∙ ap one_less (sym (all_made made));
       }
   gate_plays (Err Memory) t =
       let look : Looks gate.base p q = t.memory refl in record {

@@ -4,7 +4,7 @@ use Rattle.std.proofs.lemmas.List.Elements.{All-head, All-tail}
 use Rattle.fca_model.specs.Exploration.{SetEvent, SetReply, SetEntry}
 use Rattle.fca_model.specs.Widths.{HasWideReply}
 use Rattle.explore_state.specs.History.{Opening, History, IsStep}
-use Rattle.turn_lock.specs.Passes.{Known}
+use Rattle.turn_lock.specs.Passes.{PassModel}
 use Rattle.expert_gate.specs.Histories.{IsWideEntry}
 use Rattle.expert_gate.specs.Turns.{RepliesTo}
 
@@ -12,7 +12,7 @@ All-last : {X : Type 0} (P : X → Type 0) (xs : List X) (x : X) → All P (xs +
 All-last P [] x all = All-head P x [] all
 All-last P (y ∷ xs) x all = All-last P xs x (All-tail P y (xs ++ x ∷ []) all)
 
-pub answer_wide : {F : Type 0} (o : Opening) (p q : Known Opening SetEntry) (event : SetEvent) (result : Result SetReply F)
+pub answer_wide : {F : Type 0} (o : Opening) (p q : PassModel Opening SetEntry) (event : SetEvent) (result : Result SetReply F)
     → IfOk result (λ reply. RepliesTo o p event reply q) → IfOk result (HasWideReply o.table.context.width)
 answer_wide o p q event (Ok reply) turn = All-last (IsWideEntry o) (p.seen ++ turn.between) (record { event = event; reply = reply })
     (subst (All (IsWideEntry o)) turn.seen turn.is_legal.wide)

@@ -5,7 +5,7 @@ use Rattle.fca_model.specs.Exploration.{SetEvent, SetReply, SetEntry, own}
 use Rattle.fca_model.specs.Widths.{HasWideReply}
 use Rattle.explore_state.specs.History.{Opening, History}
 use Rattle.turn_lock.specs.Histories.{StartsWith, own_of}
-use Rattle.turn_lock.specs.Passes.{Badge, Known, Lock, badge}
+use Rattle.turn_lock.specs.Passes.{Badge, PassModel, Lock, badge}
 use Rattle.turn_lock.specs.declared.fault.TurnFault.{TurnFault}
 use Rattle.turn_lock.specs.declared.fault.TurnFault.TheVariants.{Spent}
 use Rattle.expert_gate.specs.Histories.{by_expert, IsHistory}
@@ -27,7 +27,7 @@ pub record DeskState : Type 0 where
   pub left : Option ℕ
 
 -- a desk behind a gate, by a pass that a borrow holds
-abbrev pub at_gate : Lock Opening → Known Opening SetEntry → GName → DeskState
+abbrev pub at_gate : Lock Opening → PassModel Opening SetEntry → GName → DeskState
 at_gate gate p place = record {
   number = p.number;
   lock = Some (badge p);

@@ -10,7 +10,7 @@ use Rattle.fca_model.specs.Implications.{Rule}
 use Rattle.fca_model.specs.Exploration.{SetEvent, SetReply, SetEntry}
 use Rattle.fca_model.specs.Widths.{IsWide, HasWideReply}
 use Rattle.explore_state.specs.History.{Opening}
-use Rattle.turn_lock.specs.Passes.{Lock, Known, Badge, badge}
+use Rattle.turn_lock.specs.Passes.{Lock, PassModel, Badge, badge}
 use Rattle.turn_lock.specs.declared.fault.TurnFault.{TurnFault}
 use Rattle.turn_lock.specs.declared.fault.TurnFault.TheVariants.{Spent as NoTurn, Memory as NoTurnMemory}
 use Rattle.turn_lock.specs.declared.fault.TurnFault.TheVariants as fault
@@ -50,7 +50,7 @@ length-push entries entry = length-append entries (entry ∷ [])
 -- ---- a turn at the gate
 
 -- why it came to no reply
-pub turn_refused : (gate : Lock Opening) (event : SetEvent) (p q : Known Opening SetEntry) (result : Result SetReply TurnFault)
+pub turn_refused : (gate : Lock Opening) (event : SetEvent) (p q : PassModel Opening SetEntry) (result : Result SetReply TurnFault)
     → MakesTurn gate event p result q
     → IfErr result (λ fault. IsRefusedTurn gate.base fault p q)
 turn_refused gate event p q (Ok reply) t = tt
@@ -59,7 +59,7 @@ turn_refused gate event p q (Err NoTurnMemory) t = t.memory refl
 
 -- a draw is played where a draw is due
 module _ {M : Type 0} (Answering : M → Rule → Answer → M → Type 0) (Learning : M → SetReply → M → Type 0) (gate : Lock Opening)
-    (p q : Known Opening SetEntry) (m : M) where
+    (p q : PassModel Opening SetEntry) (m : M) where
   pub draw_played : (result : Result SetReply TurnFault) → MakesTurn gate (Draw p.number) p result q
       → IfOk result (λ reply. IsPlayed Answering Learning gate.base None p m reply q m)
   draw_played (Ok reply) t = record { event = Draw p.number; turn = t.entry; entry = (refl, refl) }
@@ -76,13 +76,13 @@ spent_is_no_memory : fault.Spent ≡ fault.Memory → ⊥
 spent_is_no_memory h = cc
 
 module _ {X M : Type 0} (width_of : X → ℕ) (memory_of : X → M) (Answering : M → Rule → Answer → M → Type 0)
-    (Learning : M → SetReply → M → Type 0) (o : Opening) (p : Known Opening SetEntry) (old : X) where
+    (Learning : M → SetReply → M → Type 0) (o : Opening) (p : PassModel Opening SetEntry) (old : X) where
   -- the run that stops at a question to which the expert gave no answer
   abbrev Silent : Option Rule → M → List SetEntry → M → Type 0
   Silent = RunsTo Answering Learning p.number (IsUnanswered Answering Learning p.number)
 
   -- what is known between two turns
-  pub record IsAttending (due : Option Rule) (q : Known Opening SetEntry) (expert : X) : Type 0 where
+  pub record IsAttending (due : Option Rule) (q : PassModel Opening SetEntry) (expert : X) : Type 0 where
     pub entries : List SetEntry
     pub going : (rest : List SetEntry) (m : M) → RunsFrom Answering Learning p.number due (memory_of expert) rest m
         → RunsFrom Answering Learning p.number None (memory_of old) (entries ++ rest) m
@@ -110,7 +110,7 @@ module _ {X M : Type 0} (width_of : X → ℕ) (memory_of : X → M) (Answering 
   stops_here e None m = refl
   stops_here e (Some q) m = inl refl
 
-  module _ (due : Option Rule) (q r : Known Opening SetEntry) (expert next : X) (a : IsAttending due q expert) (same : badge r ≡ badge q)
+  module _ (due : Option Rule) (q r : PassModel Opening SetEntry) (expert next : X) (a : IsAttending due q expert) (same : badge r ≡ badge q)
       (kept : width_of next ≡ width_of expert) where
     module _ (reply : SetReply) (played : IsPlayed Answering Learning o due q (memory_of expert) reply r (memory_of next)) where
       abbrev entry : SetEntry
@@ -165,7 +165,7 @@ module _ {X M : Type 0} (width_of : X → ℕ) (memory_of : X → M) (Answering 
         (a.going [] (memory_of next) stops)
 
     unchanged : r ≡ q → HasMade o p a.entries r × TookTurns p a.entries r
-    unchanged e = (subst (HasMade o p a.entries) (sym e) a.pass, ap (λ (k : Known Opening SetEntry). k.made) e ∙ a.made)
+    unchanged e = (subst (HasMade o p a.entries) (sym e) a.pass, ap (λ (k : PassModel Opening SetEntry). k.made) e ∙ a.made)
 
     pub ended_spent : IsStopped Answering Learning o due q (memory_of expert) fault.Spent r (memory_of next)
         → HasAttended width_of memory_of Answering Learning o p old end.Spent r next
@@ -179,8 +179,8 @@ module _ {X M : Type 0} (width_of : X → ℕ) (memory_of : X → M) (Answering 
             end = (
               a.unfinished,
               at_rest.1,
-              ap (λ (k : Known Opening SetEntry). k.made) refused.0 ∙ refused.1
-                  ∙ sym (ap (λ (k : Known Opening SetEntry). k.turns) refused.0),
+              ap (λ (k : PassModel Opening SetEntry). k.made) refused.0 ∙ refused.1
+                  ∙ sym (ap (λ (k : PassModel Opening SetEntry). k.turns) refused.0),
             );
             silent = λ h _. cc;
             width = kept ∙ a.width;
@@ -206,7 +206,7 @@ module _ {X M : Type 0} (width_of : X → ℕ) (memory_of : X → M) (Answering 
           let at_rest = unchanged none.1 in
           let number = ap (λ (b : Badge Opening). b.number) a.pass.same in
           let unanswered = subst (λ (n : ℕ). IsUnanswered Answering Learning n due (memory_of expert) (memory_of next)) number none.3 in
-          let left : r.made < r.turns = subst (λ (k : Known Opening SetEntry). k.made < k.turns) (sym none.1) none.2 in
+          let left : r.made < r.turns = subst (λ (k : PassModel Opening SetEntry). k.made < k.turns) (sym none.1) none.2 in
           record {
             entries = a.entries;
             run = its_run stopped.stops;

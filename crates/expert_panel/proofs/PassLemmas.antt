@@ -5,11 +5,11 @@ use Rattle.std.proofs.lemmas.List.{append-nil}
 use Rattle.fca_model.specs.Exploration.{SetEvent, SetReply, SetEntry}
 use Rattle.explore_state.specs.History.{Opening}
 use Rattle.turn_lock.specs.Histories.{StartsWith}
-use Rattle.turn_lock.specs.Passes.{Known, Badge, Lock, Belongs, badge}
+use Rattle.turn_lock.specs.Passes.{PassModel, Badge, Lock, Belongs, badge}
 use Rattle.expert_gate.specs.Turns.{RepliesTo, Looks}
 use Rattle.expert_panel.specs.Passes.{HasMade}
 
-pub belongs_by : (l : Lock Opening) (p q : Known Opening SetEntry) → badge q ≡ badge p → Belongs l p → Belongs l q
+pub belongs_by : (l : Lock Opening) (p q : PassModel Opening SetEntry) → badge q ≡ badge p → Belongs l p → Belongs l q
 belongs_by l p q e b = record {
   lock = ap (λ (c : Badge Opening). c.lock) e ∙ b.lock;
   base = ap (λ (c : Badge Opening). c.base) e ∙ b.base;
@@ -23,7 +23,7 @@ belongs_by l p q e b = record {
 starts_on : (a b c : List SetEntry) → StartsWith b a → StartsWith c b → StartsWith c a
 starts_on a b c h k = (h.0 ++ k.0, k.1 ∙ ap (λ xs. xs ++ k.0) h.1 ∙ append_assoc a h.0 k.0)
 
-module _ (o : Opening) (p : Known Opening SetEntry) where
+module _ (o : Opening) (p : PassModel Opening SetEntry) where
   pub HasMade-none : HasMade o p [] p
   HasMade-none = record { same = refl; own = sym (append-nil p.own); seen = ([], sym (append-nil p.seen)); in_it = still; is_legal = still }
     where
@@ -32,7 +32,7 @@ module _ (o : Opening) (p : Known Opening SetEntry) where
       still (inr none) = absurd (omega (arith, none))
 
   -- one entry more
-  pub HasMade-entry : (entries : List SetEntry) (q r : Known Opening SetEntry) (event : SetEvent) (reply : SetReply) → HasMade o p entries q
+  pub HasMade-entry : (entries : List SetEntry) (q r : PassModel Opening SetEntry) (event : SetEvent) (reply : SetReply) → HasMade o p entries q
       → RepliesTo o q event reply r → badge r ≡ badge q
       → HasMade o p (entries ++ record { event = event; reply = reply } ∷ []) r
   HasMade-entry entries q r event reply made turn same =
@@ -47,7 +47,7 @@ module _ (o : Opening) (p : Known Opening SetEntry) where
       }
 
   -- a turn with no entry
-  pub HasMade-look : (entries : List SetEntry) (q r : Known Opening SetEntry) → HasMade o p entries q → Looks o q r → badge r ≡ badge q
+  pub HasMade-look : (entries : List SetEntry) (q r : PassModel Opening SetEntry) → HasMade o p entries q → Looks o q r → badge r ≡ badge q
       → HasMade o p entries r
   HasMade-look entries q r made turn same = record {
     same = same ∙ made.same;

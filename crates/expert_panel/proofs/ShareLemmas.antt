@@ -11,7 +11,7 @@ use Rattle.fca_model.specs.Tables.{NamedContext}
 use Rattle.fca_model.specs.Exploration.{SetEntry, own}
 use Rattle.explore_state.specs.History.{Opening}
 use Rattle.turn_lock.specs.Histories.{own_of}
-use Rattle.turn_lock.specs.Passes.{Known, Badge, Lock, IsFresh, badge, badges, roll, TableId}
+use Rattle.turn_lock.specs.Passes.{PassModel, Badge, Lock, IsFresh, badge, badges, roll, TableId}
 use Rattle.expert_gate.specs.Histories.{by_expert}
 use Rattle.oracle_expert.specs.Oracles.{Recall, Answers, Learns, no_conflict, untold}
 use Rattle.oracle_expert.specs.Runs.{IsOracleFront, ends_done, conflicts_of}
@@ -66,14 +66,14 @@ pub record Tells (turns : ℕ) (H : List SetEntry) (n : ℕ) (seat : Seat Recall
 abbrev pub Run : Opening → Seat Recall → Seat Recall → Type 0
 Run o = HasRunSeat (λ (r : Recall). r.table.context.width) (λ (r : Recall). r) Answers Learns o
 
-abbrev pub passes : List (Seat Recall) → List (Known Opening SetEntry)
+abbrev pub passes : List (Seat Recall) → List (PassModel Opening SetEntry)
 passes seats = map (λ seat. seat.pass) seats
 
 abbrev pub experts : List (Seat Recall) → List Recall
 experts seats = map (λ seat. seat.expert) seats
 
 module _ (o : Opening) (turns : ℕ) (H : List SetEntry) where
-  ending : (end : SeatEnd) (p q : Known Opening SetEntry) (entries : List SetEntry) (ended : Option SeatEnd) → ended ≡ Some end
+  ending : (end : SeatEnd) (p q : PassModel Opening SetEntry) (entries : List SetEntry) (ended : Option SeatEnd) → ended ≡ Some end
       → is_out_of_memory ended ≡ false → IsEnd end p entries q → p.made ≡ 0 → q.turns ≡ turns
       → ((ends_done entries ≡ true) ⊎ ((ends_done entries ≡ false) × (length entries ≡ turns))) × (ended_spent ended ≡ not (ends_done entries))
   ending Done p q entries ended e free end fresh all = (inl end.0, ap ended_spent e ∙ ap not (sym end.0))
@@ -120,16 +120,16 @@ module _ (o : Opening) (turns : ℕ) (H : List SetEntry) where
   pub tells_all : (n : ℕ) (olds news : List (Seat Recall)) → EachSeat (Run o) olds news → All IsFresh (passes olds)
       → All (λ (r : Recall). r.conflicts ≡ no_conflict r.table) (experts olds)
       → map (λ (b : Badge Opening). b.number) (map badge (passes news)) ≡ count_from n (length news)
-      → All (λ (p : Known Opening SetEntry). p.turns ≡ turns) (passes news)
-      → All (λ (p : Known Opening SetEntry). own_of by_expert p.number H ≡ p.own) (passes news)
+      → All (λ (p : PassModel Opening SetEntry). p.turns ≡ turns) (passes news)
+      → All (λ (p : PassModel Opening SetEntry). own_of by_expert p.number H ≡ p.own) (passes news)
       → list_any (λ seat. is_out_of_memory seat.ended) news ≡ false
       → EachFrom (Tells turns H) n news × (map (λ (r : Recall). r.table) (experts news) ≡ map (λ (r : Recall). r.table) (experts olds))
   tells_all n [] [] each fresh free numbers all owns unrefused = (tt, refl)
   tells_all n [] (new ∷ news) each fresh free numbers all owns unrefused = absurd each
   tells_all n (old ∷ olds) [] each fresh free numbers all owns unrefused = absurd each
   tells_all n (old ∷ olds) (new ∷ news) each fresh free numbers all owns unrefused =
-      let Turns : Known Opening SetEntry → Type 0 = λ p. p.turns ≡ turns in
-      let Owns : Known Opening SetEntry → Type 0 = λ p. own_of by_expert p.number H ≡ p.own in
+      let Turns : PassModel Opening SetEntry → Type 0 = λ p. p.turns ≡ turns in
+      let Owns : PassModel Opening SetEntry → Type 0 = λ p. own_of by_expert p.number H ≡ p.own in
       let Free : Recall → Type 0 = λ r. r.conflicts ≡ no_conflict r.table in
       let fresh_here = All-head IsFresh old.pass (passes olds) fresh in
       let free_here = All-head Free old.expert (experts olds) free in

@@ -9,7 +9,7 @@ use Rattle.std.proofs.lemmas.List.{length-map}
 use Rattle.fca_model.specs.Tables.{Text, NamedContext}
 use Rattle.fca_model.specs.Exploration.{SetEntry, own}
 use Rattle.explore_state.specs.History.{Opening}
-use Rattle.turn_lock.specs.Passes.{Known, Badge, Lock, Belongs, IsFresh, TableId, badge, badges, roll}
+use Rattle.turn_lock.specs.Passes.{PassModel, Badge, Lock, Belongs, IsFresh, TableId, badge, badges, roll}
 use Rattle.turn_lock.proofs.ClosingLemmas.{length-roll}
 use Rattle.expert_gate.specs.Turns.{HasClosed}
 use Rattle.expert_gate.proofs.SeatLemmas.{EachSeat-length}
@@ -25,17 +25,17 @@ use Rattle.expert_sessions.proofs.TalkLemmas.{untold}
 -- ---- one session
 
 -- the pass has the badge that it had
-pub same_badge : (p q r : Known Opening SetEntry) → Some (badge q) ≡ Some (badge p) → r ≡ q → badge r ≡ badge p
+pub same_badge : (p q r : PassModel Opening SetEntry) → Some (badge q) ≡ Some (badge p) → r ≡ q → badge r ≡ badge p
 same_badge p q r same is = let badges : badge q ≡ badge p = cc in ap badge is ∙ badges
 
 -- what holds of the desk's number holds of the pass's afterwards
-pub at_number : (P : ℕ → Type 0) (e : ℕ) (p q r : Known Opening SetEntry) → P e → Some (badge q) ≡ Some (badge p) → e ≡ p.number → r ≡ q
+pub at_number : (P : ℕ → Type 0) (e : ℕ) (p q r : PassModel Opening SetEntry) → P e → Some (badge q) ≡ Some (badge p) → e ≡ p.number → r ≡ q
     → P r.number
 at_number P e p q r holds same number is =
     let badges : badge q ≡ badge p = cc in
-    subst P (number ∙ sym (ap (λ (k : Badge Opening). k.number) badges) ∙ sym (ap (λ (k : Known Opening SetEntry). k.number) is)) holds
+    subst P (number ∙ sym (ap (λ (k : Badge Opening). k.number) badges) ∙ sym (ap (λ (k : PassModel Opening SetEntry). k.number) is)) holds
 
-pub at_pass : (t : NamedContext) (e lines : ℕ) (a b : EndState) (p q r : Known Opening SetEntry) (gate : Lock Opening) (ended : Ended)
+pub at_pass : (t : NamedContext) (e lines : ℕ) (a b : EndState) (p q r : PassModel Opening SetEntry) (gate : Lock Opening) (ended : Ended)
     → HasTalked t e lines a b (record { entries = p.own; turns = Some (p.turns - p.made) })
     (record { entries = q.own; turns = Some (q.turns - q.made) }) ended
     → TakesTurnsAtMost (lines + 1) (Some (p.turns - p.made)) (Some (q.turns - q.made))
@@ -43,7 +43,7 @@ pub at_pass : (t : NamedContext) (e lines : ℕ) (a b : EndState) (p q r : Known
     → HasTalked t r.number lines a b (entered []) (entered r.own) ended
 at_pass t e lines a b p q r gate ended x taken belongs fresh same number few is =
     let number_is : e ≡ r.number = at_number (λ n. e ≡ n) e p q r refl same number is in
-    let own_is : q.own ≡ r.own = sym (ap (λ (k : Known Opening SetEntry). k.own) is) in
+    let own_is : q.own ≡ r.own = sym (ap (λ (k : PassModel Opening SetEntry). k.own) is) in
     let none : p.own ≡ [] = fresh.1 in
     let y : HasTalked t e lines a b (entered p.own) (entered q.own) ended =
     untold t e lines a b (record { entries = p.own; turns = Some (p.turns - p.made) })
@@ -61,11 +61,11 @@ at_pass t e lines a b p q r gate ended x taken belongs fresh same number few is 
 -- ---- all sessions
 
 -- the passes from the number n on
-abbrev HasNumbers : ℕ → List (Known Opening SetEntry) → Type 0
+abbrev HasNumbers : ℕ → List (PassModel Opening SetEntry) → Type 0
 HasNumbers n [] = Unit {0}
 HasNumbers n (p ∷ ps) = (p.number ≡ n) × HasNumbers (suc n) ps
 
-badges-numbers : (id : TableId) (base : Option Opening) (turns n k : ℕ) (ps : List (Known Opening SetEntry))
+badges-numbers : (id : TableId) (base : Option Opening) (turns n k : ℕ) (ps : List (PassModel Opening SetEntry))
     → map badge ps ≡ badges id base turns n k → HasNumbers n ps
 badges-numbers id base turns n k [] e = tt
 badges-numbers id base turns n zero (p ∷ ps) e = cc
@@ -74,7 +74,7 @@ badges-numbers id base turns n (suc k) (p ∷ ps) e =
     let tail : map badge ps ≡ badges id base turns (suc n) k = cc in
     (ap (λ (b : Badge Opening). b.number) head, badges-numbers id base turns (suc n) k ps tail)
 
-roll-numbers : (gate : Lock Opening) (ps : List (Known Opening SetEntry)) → map badge ps ≡ roll gate → HasNumbers 1 ps
+roll-numbers : (gate : Lock Opening) (ps : List (PassModel Opening SetEntry)) → map badge ps ≡ roll gate → HasNumbers 1 ps
 roll-numbers gate [] e = cc
 roll-numbers gate (p ∷ ps) e =
     let head : badge p ≡ record { lock = gate.id; number = 1; base = Some gate.base; turns = gate.turns; passes = gate.passes } = cc in
@@ -83,7 +83,7 @@ roll-numbers gate (p ∷ ps) e =
 
 module _ {E : Type 0} (left held : E → Option Text) (reads : E → Option ℕ) (read_faults write_faults : E → ℕ) (t : NamedContext)
     (lines : ℕ) where
-  abbrev pub passes : List (SessionSeat E) → List (Known Opening SetEntry)
+  abbrev pub passes : List (SessionSeat E) → List (PassModel Opening SetEntry)
   passes seats = map (λ seat. seat.pass) seats
 
   abbrev pub ends : List (SessionSeat E) → List E
@@ -145,7 +145,7 @@ module _ {E : Type 0} (left held : E → Option Text) (reads : E → Option ℕ)
 
 module _ {E : Type 0} (left held : E → Option Text) (reads : E → Option ℕ) (read_faults write_faults : E → ℕ) (t t' : NamedContext)
     (lines lines' : ℕ)
-    (gate : Lock Opening) (ps qs : List (Known Opening SetEntry)) (olds news : List (SessionSeat E))
+    (gate : Lock Opening) (ps qs : List (PassModel Opening SetEntry)) (olds news : List (SessionSeat E))
     (some : 1 ≤ gate.passes) (roll_is : map badge ps ≡ roll gate) (fill_seats : map (λ (seat : SessionSeat E). seat.pass) olds ≡ ps)
     (split_into : qs ≡ map (λ (seat : SessionSeat E). seat.pass) news)
     (sat : EachSeat (HasSat left held reads read_faults write_faults t' lines') olds news) where

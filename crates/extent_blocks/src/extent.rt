@@ -67,14 +67,14 @@ impl BlockExtent {
     /// Takes the places of another extent whose rows have attribute i, in place of its own. The room is used again.
     pub fn set_having<const W: usize>(
         &mut self,
-        above: &BlockExtent,
+        other: &BlockExtent,
         indexed: &IndexedRows<W>,
         i: u32,
     ) -> Result<(), Memory>
         requires { i < indexed.now.width }
-        ensures { OnOk result ((g : ℕ) → in_blocks self.new g ≡ (in_blocks above.now g && has_at indexed.now i g)) }
+        ensures { OnOk result ((g : ℕ) → in_blocks self.new g ≡ (in_blocks other.now g && has_at indexed.now i g)) }
     {
-        keep_in(&above.blocks, indexed.column(i), &mut self.blocks)
+        keep_in(&other.blocks, indexed.column(i), &mut self.blocks)
     }
 
     /// The closure of a, given that the places whose rows have attribute i are the extent of a.

@@ -45,7 +45,7 @@ tells : (opened : Reading Opening) (r : Exploration) (later text : Text) → May
     → text ≡ explore_text r.opening.table r.opening.settings r.journal ++ later
     → Spells r.opening.table r.opening.settings r.journal text → IsExplored r → TellsExploration opened text
 tells opened r later text may printed spells explored = record {
-  told = r;
+  exploration = r;
   opening = may;
   later = later;
   printed = printed;

@@ -38,20 +38,20 @@ known_basis_lines r = basis_lines r.opening.table.attributes (basis_known r.open
 -- The text tells of the exploration that was opened so
 pub record TellsExploration (opened : Reading Opening) (text : Text) : Type 0 where
   -- one exploration: what it was opened with, which is what the command says, and its one history
-  pub told : Exploration
-  pub opening : MayRead opened told.opening
+  pub exploration : Exploration
+  pub opening : MayRead opened exploration.opening
   -- the text begins with what is printed of it, and is a script that spells its settings and this history
   pub later : Text
-  pub printed : text ≡ explore_text told.opening.table told.opening.settings told.journal ++ later
-  pub spells : Spells told.opening.table told.opening.settings told.journal text
+  pub printed : text ≡ explore_text exploration.opening.table exploration.opening.settings exploration.journal ++ later
+  pub spells : Spells exploration.opening.table exploration.opening.settings exploration.journal text
   -- the history is legal; at each step the accepted implications are members of the basis beside what is known, and what is asked is open;
   -- if no question is open at the end, they are that basis
-  pub explored : IsExplored told
+  pub explored : IsExplored exploration
   -- if no question is open, the section of the basis is the basis of all recorded rows from scratch, in lectic order
-  pub basis : open_at told ≡ []
-      → text ≡ text_before_basis told.opening.table told.opening.settings told.journal ++ (known_basis_lines told ++ later)
+  pub basis : open_at exploration ≡ []
+      → text ≡ text_before_basis exploration.opening.table exploration.opening.settings exploration.journal ++ (known_basis_lines exploration ++ later)
   -- if the text is no longer than a file may be, its replay is exactly this exploration
-  pub fed_back : length text ≤ FILE_BYTES → IsFedBack told text
+  pub fed_back : length text ≤ FILE_BYTES → IsFedBack exploration text
 
 -- if the command explores, the text tells of the exploration of its table, as its words, these files and this input say
 abbrev pub HasCourse : Command → (Text → Told) → Option Text → Text → Type 0

@@ -28,7 +28,7 @@ use Rattle.fca_model.proofs.LevelLemmas.{respects_found, level_is, level_all}
 use Rattle.fca_model.proofs.SortedLemmas.{in_filter, in_all_sets, increasing-filter, split_filter}
 use Rattle.implication_closure.specs.Closing.{IsClosure, HaveWidth, has_width}
 use Rattle.lectic_basis.specs.Trees.{before, up_to}
-use Rattle.next_level.specs.NextLevel.{is_open, opens_at, open_where, everything, IsOpen, IsLeastUnder, IsLeastLevel, IsNextLevel}
+use Rattle.next_level.specs.NextLevel.{is_open_within, opens_at, open_where, everything, IsOpen, IsLeastUnder, IsLeastLevel, IsNextLevel}
 use Rattle.next_level.specs.Among.{AllAmong, IsAhead, IsRest, may_be_open}
 use Rattle.next_level.specs.LevelWalks.{IsLeastSize}
 use Rattle.lectic_basis.proofs.PlaceLemmas as places
@@ -77,7 +77,7 @@ module _ (J : List Rule) (K : Context) where
       → filter (λ i. leb (size i.premise) c) L ≡ open_where J K c p
   unfolding open_where
   open_lower b c p L le l = ap (filter (λ i. leb (size i.premise) c)) l
-      ∙ filter_listed K p (is_open J K b) (is_open J K c) (λ X. leb (size X) c) (λ X e.
+      ∙ filter_listed K p (is_open_within J K b) (is_open_within J K c) (λ X. leb (size X) c) (λ X e.
       let core : Bool = respects_all J X && not (is_closed K X) in
       bool_iff ((core && leb (size X) b) && leb (size X) c) (core && leb (size X) c)
       (λ t. let parts = and_parts (core && leb (size X) b) (leb (size X) c) t in
@@ -92,7 +92,7 @@ module _ (J : List Rule) (K : Context) where
       → ((X : Set) → length X ≡ K.width → respects_all J X ≡ true → is_closed K X ≡ false → size X ≤ b → p X ≡ q X)
       → L ≡ open_where J K b p → L ≡ open_where J K b q
   unfolding open_where
-  same_where b p q L h l = l ∙ same_listed K (is_open J K b) p q (λ X e t.
+  same_where b p q L h l = l ∙ same_listed K (is_open_within J K b) p q (λ X e t.
       let parts = and_parts (respects_all J X && not (is_closed K X)) (leb (size X) b) t in
       let both = and_parts (respects_all J X) (not (is_closed K X)) parts.0 in
       h X e both.0 (not-true (is_closed K X) both.1) (leb-true (size X) b parts.1))
@@ -182,10 +182,10 @@ module _ (J : List Rule) (K : Context) where
     unfolding open_where
     open_push respecting open_set le l =
         ap (λ Zs. Zs ++ rule A (closure K A) ∷ []) l
-        ∙ listed_push K (is_open J K b) from A wide
+        ∙ listed_push K (is_open_within J K b) from A wide
         (and_from (respects_all J A && not (is_closed K A)) (leb (size A) b)
         (and_from (respects_all J A) (not (is_closed K A)) respecting (ap not open_set)) (le-leb (size A) b le))
-        ∙ same_listed K (is_open J K b) (λ X. before from A X || same A X) (up_to K.width A) (λ X e t.
+        ∙ same_listed K (is_open_within J K b) (λ X. before from A X || same A X) (up_to K.width A) (λ X e t.
         let both = and_parts (respects_all J X) (not (is_closed K X))
         (and_parts (respects_all J X && not (is_closed K X)) (leb (size X) b) t).0 in
         bool_iff (before from A X || same A X) (up_to K.width A X)
@@ -233,20 +233,20 @@ any_kept p q h (x ∷ xs) a = go (q x) refl (or_cases (p x) (list_any p xs) a) (
 -- ---- of all open sets up to a bound, those of the least size
 
 module _ (J : List Rule) (K : Context) (c : ℕ) (L : List Rule) (l : L ≡ open_where J K c everything) where
-  sets_are : list_all (λ P. eqb (length P) K.width && is_open J K c P) (filter (is_open J K c) (all_sets K.width)) ≡ true
-  sets_are = list_all-and (λ P. eqb (length P) K.width) (is_open J K c) (filter (is_open J K c) (all_sets K.width))
-      (list_all-filter_kept (λ P. eqb (length P) K.width) (is_open J K c) (all_sets K.width) (all_sets_widths K.width))
-      (filter_passes (is_open J K c) (all_sets K.width))
+  sets_are : list_all (λ P. eqb (length P) K.width && is_open_within J K c P) (filter (is_open_within J K c) (all_sets K.width)) ≡ true
+  sets_are = list_all-and (λ P. eqb (length P) K.width) (is_open_within J K c) (filter (is_open_within J K c) (all_sets K.width))
+      (list_all-filter_kept (λ P. eqb (length P) K.width) (is_open_within J K c) (all_sets K.width) (all_sets_widths K.width))
+      (filter_passes (is_open_within J K c) (all_sets K.width))
 
   sizes_are : list_all (λ i. leb (size i.premise) c) L ≡ true
   unfolding open_where
   sizes_are = ap (list_all (λ i. leb (size i.premise) c)) l
       ∙ list_all-map (λ (i : Rule). leb (size i.premise) c) (λ P. rule P (closure K P))
-      (filter everything (filter (is_open J K c) (all_sets K.width)))
-      ∙ list_all-filter_kept (λ P. leb (size P) c) everything (filter (is_open J K c) (all_sets K.width))
-      (list_all-mono (λ P. eqb (length P) K.width && is_open J K c P) (λ P. leb (size P) c)
+      (filter everything (filter (is_open_within J K c) (all_sets K.width)))
+      ∙ list_all-filter_kept (λ P. leb (size P) c) everything (filter (is_open_within J K c) (all_sets K.width))
+      (list_all-mono (λ P. eqb (length P) K.width && is_open_within J K c P) (λ P. leb (size P) c)
       (λ P t. (and_parts (respects_all J P && not (is_closed K P)) (leb (size P) c)
-      (and_parts (eqb (length P) K.width) (is_open J K c P) t).1).1) (filter (is_open J K c) (all_sets K.width)) sets_are)
+      (and_parts (eqb (length P) K.width) (is_open_within J K c P) t).1).1) (filter (is_open_within J K c) (all_sets K.width)) sets_are)
 
   -- an open set is listed
   pub listed_open : (X : Set) → IsOpen J K everything X → size X ≤ c → list_any (λ i. same X i.premise) L ≡ true
@@ -254,9 +254,9 @@ module _ (J : List Rule) (K : Context) (c : ℕ) (L : List Rule) (l : L ≡ open
   listed_open X x le =
       ap (list_any (λ i. same X i.premise)) l
       ∙ list_any-map (λ (i : Rule). same X i.premise) (λ P. rule P (closure K P))
-      (filter everything (filter (is_open J K c) (all_sets K.width)))
-      ∙ in_filter everything X (filter (is_open J K c) (all_sets K.width))
-      (in_filter (is_open J K c) X (all_sets K.width) (in_all_sets K.width X x.wide)
+      (filter everything (filter (is_open_within J K c) (all_sets K.width)))
+      ∙ in_filter everything X (filter (is_open_within J K c) (all_sets K.width))
+      (in_filter (is_open_within J K c) X (all_sets K.width) (in_all_sets K.width X x.wide)
       (and_from (respects_all J X && not (is_closed K X)) (leb (size X) c)
       (and_from (respects_all J X) (not (is_closed K X)) x.respecting (ap not x.not_closed)) (le-leb (size X) c le))) refl
 
@@ -293,7 +293,7 @@ module _ (J : List Rule) (K : Context) (c : ℕ) (L : List Rule) (l : L ≡ open
     of_least : filter (λ i. eqb (size i.premise) b) L ≡ map (λ P. rule P (closure K P)) (filter (opens_at J K b) (all_sets K.width))
     unfolding open_where
     of_least =
-        ap (filter (λ i. eqb (size i.premise) b)) l ∙ filter_listed K everything (is_open J K c) (opens_at J K b) (λ X. eqb (size X) b)
+        ap (filter (λ i. eqb (size i.premise) b)) l ∙ filter_listed K everything (is_open_within J K c) (opens_at J K b) (λ X. eqb (size X) b)
         (λ X e.
         let core : Bool = respects_all J X && not (is_closed K X) in
         bool_iff ((core && leb (size X) c) && eqb (size X) b) (core && eqb (size X) b)
@@ -312,12 +312,12 @@ module _ (J : List Rule) (K : Context) (c : ℕ) (L : List Rule) (l : L ≡ open
     one_open there =
         let among = sym (ap (list_any (λ i. eqb (size i.premise) b)) l
         ∙ list_any-map (λ (i : Rule). eqb (size i.premise) b) (λ P. rule P (closure K P))
-        (filter everything (filter (is_open J K c) (all_sets K.width)))
-        ∙ ap (list_any (λ P. eqb (size P) b)) (all_pass (filter (is_open J K c) (all_sets K.width)))) ∙ there in
-        let w = list_any_at (λ P. eqb (size P) b) (λ P. eqb (length P) K.width && is_open J K c P)
-        (filter (is_open J K c) (all_sets K.width)) among sets_are in
+        (filter everything (filter (is_open_within J K c) (all_sets K.width)))
+        ∙ ap (list_any (λ P. eqb (size P) b)) (all_pass (filter (is_open_within J K c) (all_sets K.width)))) ∙ there in
+        let w = list_any_at (λ P. eqb (size P) b) (λ P. eqb (length P) K.width && is_open_within J K c P)
+        (filter (is_open_within J K c) (all_sets K.width)) among sets_are in
         let X : Set = w.0 in
-        let parts = and_parts (eqb (length X) K.width) (is_open J K c X) w.2 in
+        let parts = and_parts (eqb (length X) K.width) (is_open_within J K c X) w.2 in
         let both = and_parts (respects_all J X) (not (is_closed K X))
         (and_parts (respects_all J X && not (is_closed K X)) (leb (size X) c) parts.1).0 in (
           X,
@@ -498,7 +498,7 @@ module _ (S : List Rule) (K : Context) (k : ℕ) (found J : List Rule) (is : J �
 -- before anything was seen
 pub nothing_seen : (J : List Rule) (K : Context) (A : Set) (L : List Rule) (b : ℕ) → L ≡ [] → L ≡ open_where J K b (before 0 A)
 unfolding open_where
-nothing_seen J K A L b e = e ∙ sym (ap (map (λ P. rule P (closure K P))) (filter_nothing (filter (is_open J K b) (all_sets K.width))))
+nothing_seen J K A L b e = e ∙ sym (ap (map (λ P. rule P (closure K P))) (filter_nothing (filter (is_open_within J K b) (all_sets K.width))))
 
 -- where no open set passes the test
 pub nothing_open : (J : List Rule) (K : Context) (b : ℕ) (p : Set → Bool) (L : List Rule)
@@ -509,7 +509,7 @@ nothing_open J K b p L none e = same_where J K b (before 0 []) p L
 -- and the other way round, where no set passes it
 pub none_listed : (J : List Rule) (K : Context) (b : ℕ) (L : List Rule) → L ≡ open_where J K b (λ X. false) → L ≡ []
 unfolding open_where
-none_listed J K b L l = l ∙ ap (map (λ P. rule P (closure K P))) (filter_nothing (filter (is_open J K b) (all_sets K.width)))
+none_listed J K b L l = l ∙ ap (map (λ P. rule P (closure K P))) (filter_nothing (filter (is_open_within J K b) (all_sets K.width)))
 
 -- lists and tests that pass the same sets
 pub other_where : (I J : List Rule) (K : Context) (b : ℕ) (p q : Set → Bool) (L : List Rule)
@@ -518,13 +518,13 @@ pub other_where : (I J : List Rule) (K : Context) (b : ℕ) (p q : Set → Bool)
 unfolding open_where
 other_where I J K b p q L h l =
     l ∙ ap (map (λ P. rule P (closure K P)))
-    (filter-filter p (is_open I K b) (all_sets K.width)
-    ∙ filter_agree_on (λ X. eqb (length X) K.width) (λ X. is_open I K b X && p X) (λ X. is_open J K b X && q X)
+    (filter-filter p (is_open_within I K b) (all_sets K.width)
+    ∙ filter_agree_on (λ X. eqb (length X) K.width) (λ X. is_open_within I K b X && p X) (λ X. is_open_within J K b X && q X)
     (λ X e. turn (respects_all I X) (not (is_closed K X)) (leb (size X) b) (p X)
     ∙ ap (λ t. t && (not (is_closed K X) && leb (size X) b)) (h X (eqb-true (length X) K.width e))
     ∙ sym (turn (respects_all J X) (not (is_closed K X)) (leb (size X) b) (q X)))
     (all_sets K.width) (all_sets_widths K.width)
-    ∙ sym (filter-filter q (is_open J K b) (all_sets K.width)))
+    ∙ sym (filter-filter q (is_open_within J K b) (all_sets K.width)))
   where
     turn : (a b c d : Bool) → (((a && b) && c) && d) ≡ ((a && d) && (b && c))
     turn false b c d = refl
@@ -542,23 +542,23 @@ pub open_append : (J : List Rule) (K : Context) (b : ℕ) (p q : Set → Bool) (
 unfolding open_where
 open_append J K b p q L M later l m =
     let f : Set → Rule = λ P. rule P (closure K P) in
-    let Xs : List Set = filter (is_open J K b) (all_sets K.width) in
+    let Xs : List Set = filter (is_open_within J K b) (all_sets K.width) in
     ap₂ (λ Ys Zs. Ys ++ Zs) l m ∙ sym (map-append f (filter (λ X. p X && not (q X)) Xs) (filter (λ X. p X && q X) Xs))
-    ∙ sym (ap (map f) (split_filter p q Xs (increasing-filter (is_open J K b) (all_sets K.width) (all_sets_increasing K.width)) later))
+    ∙ sym (ap (map f) (split_filter p q Xs (increasing-filter (is_open_within J K b) (all_sets K.width) (all_sets_increasing K.width)) later))
 
 -- all that are listed have the width of the context
 pub listed_wide : (J : List Rule) (K : Context) (b : ℕ) (p : Set → Bool) (L : List Rule) → L ≡ open_where J K b p → HaveWidth K.width L
 unfolding open_where
 listed_wide J K b p L l =
     let n : ℕ = K.width in
-    let Xs : List Set = filter (is_open J K b) (all_sets n) in
+    let Xs : List Set = filter (is_open_within J K b) (all_sets n) in
     let wide : Set → Bool = λ X. eqb (length X) n in
     subst (λ Zs. HaveWidth n Zs) (sym l)
     (list_all-map (has_width n) (λ P. rule P (closure K P)) (filter p Xs)
     ∙ list_all-mono wide (λ P. has_width n (rule P (closure K P)))
     (λ P t. and_from (eqb (length P) n) (eqb (length (closure K P)) n) t (eq-eqb (length (closure K P)) n (length-closure K P)))
     (filter p Xs)
-    (list_all-filter_kept wide p Xs (list_all-filter_kept wide (is_open J K b) (all_sets n) (all_sets_widths n))))
+    (list_all-filter_kept wide p Xs (list_all-filter_kept wide (is_open_within J K b) (all_sets n) (all_sets_widths n))))
 
 -- ---- as the code has it
 

@@ -26,12 +26,12 @@ abbrev pub IsLeastUnder : List Rule → ℕ → Set → ℕ → Type 0
 IsLeastUnder J n A k = (X : Set) → length X ≡ n → respects_all J X ≡ true → agree_before k A X ≡ true → within A X ≡ true
 
 -- X respects J, is not closed, and has at most b members
-abbrev pub is_open : List Rule → Context → ℕ → Set → Bool
-is_open J K b X = (respects_all J X && not (is_closed K X)) && nat_le (size X) b
+abbrev pub is_open_within : List Rule → Context → ℕ → Set → Bool
+is_open_within J K b X = (respects_all J X && not (is_closed K X)) && nat_le (size X) b
 
 -- those that pass the test, with their closures, in lectic order
 unfoldable pub open_where : List Rule → Context → ℕ → (Set → Bool) → List Rule
-open_where J K b p = map (λ P. rule P (closure K P)) (filter p (filter (is_open J K b) (all_sets K.width)))
+open_where J K b p = map (λ P. rule P (closure K P)) (filter p (filter (is_open_within J K b) (all_sets K.width)))
 
 -- all sets
 abbrev pub everything : Set → Bool

@@ -147,7 +147,7 @@ impl<const W: usize> LevelWalk<W> {
         if self.least.has(i) {
             return Ok(seen);
         }
-        if self.among.passes(&self.least, i) {
+        if self.among.skips(&self.least, i) {
             return Ok(seen);
         }
         let mut rules = self.rules_from(alloc, i)?;

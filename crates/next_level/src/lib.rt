@@ -75,16 +75,16 @@ fn open_next_by<X: Walker<1> + Walker<2> + Walker<4> + Walker<8> + Walker<WORDS>
     ensures { IfOk result (λ opened. IsOpened rows.now rules.now opened.level.size opened.level.members.items opened.ahead) }
 {
     match WordCount::of(rows.width()) {
-        WordCount::One => open_in_words::<X, 1>(walker, alloc, rows, rules, ahead),
-        WordCount::Two => open_in_words::<X, 2>(walker, alloc, rows, rules, ahead),
-        WordCount::Four => open_in_words::<X, 4>(walker, alloc, rows, rules, ahead),
-        WordCount::Eight => open_in_words::<X, 8>(walker, alloc, rows, rules, ahead),
-        WordCount::All => open_in_words::<X, WORDS>(walker, alloc, rows, rules, ahead),
+        WordCount::One => open_next_in_words::<X, 1>(walker, alloc, rows, rules, ahead),
+        WordCount::Two => open_next_in_words::<X, 2>(walker, alloc, rows, rules, ahead),
+        WordCount::Four => open_next_in_words::<X, 4>(walker, alloc, rows, rules, ahead),
+        WordCount::Eight => open_next_in_words::<X, 8>(walker, alloc, rows, rules, ahead),
+        WordCount::All => open_next_in_words::<X, WORDS>(walker, alloc, rows, rules, ahead),
     }
 }
 
 /// The next level by a walker, in sets of W words.
-fn open_in_words<X: Walker<W>, const W: usize>(
+fn open_next_in_words<X: Walker<W>, const W: usize>(
     walker: &X,
     alloc: Global,
     rows: &Rows,

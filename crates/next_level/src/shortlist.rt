@@ -47,7 +47,7 @@ impl<const W: usize> Shortlist<W> {
     }
 
     /// Whether no open set is in the branch of attribute i.
-    pub(crate) fn passes(&self, a: &Bits<W>, i: u32) -> bool
+    pub(crate) fn skips(&self, a: &Bits<W>, i: u32) -> bool
         requires words { W ≤ 1024 }
         ensures { result ≡ (self.now.whole && not (list_any (λ X. stands_at i (first_missing 0 X a.now)) self.now.sets.items)) }
     {

@@ -178,7 +178,7 @@ fn child_at<const W: usize>(
     if a.has(i) {
         return Ok(None);
     }
-    if step.among.passes(a, i) {
+    if step.among.skips(a, i) {
         return Ok(None);
     }
     let mut reached = a.with(i);

@@ -5,7 +5,7 @@ use Rattle.std.proofs.Common.{Option, Some, Result, Ok, Err, IfOk, OnErr}
 use Rattle.std.proofs.lemmas.List.{append-nil}
 use Rattle.turn_lock.specs.Histories.{StartsWith, own_of}
 use Rattle.turn_lock.specs.Steps.{Grew}
-use Rattle.turn_lock.specs.Passes.{Known, Entered}
+use Rattle.turn_lock.specs.Passes.{PassModel, Entered}
 use Rattle.turn_lock.proofs.HistoryLemmas.{own_of-append, own_of-one, own_of-other}
 use Rattle.turn_lock.proofs.TicketLemmas.{same_some}
 
@@ -20,7 +20,7 @@ module _ {B E T F : Type 0} (legal : B → List E → Type 0) (by : E → ℕ) (
       ] added same
 
   -- and the turn ends in its entry
-  pub enters : (p q : Known B E) (b : B) (based : Option B) → based ≡ Some b → legal b log' → StartsWith log p.seen
+  pub enters : (p q : PassModel B E) (b : B) (based : Option B) → based ≡ Some b → legal b log' → StartsWith log p.seen
       → p.own ≡ own_of by p.number log → ((t : T) → by (entry t) ≡ p.number)
       → q.seen ≡ log' → q.number ≡ p.number → q.own ≡ own_of by p.number log' → q.made ≡ p.made + 1
       → IfOk result (λ t. log' ≡ log ++ entry t ∷ [])

@@ -9,8 +9,8 @@ use Rattle.turn_lock.specs.declared.view.View.{View}
 use Rattle.turn_lock.specs.declared.view.JoinedPass.{JoinedPass}
 use Rattle.turn_lock.specs.Histories.{IsOneOf}
 use Rattle.turn_lock.specs.Steps.{one_more, newcomer, joined_with}
-use Rattle.turn_lock.specs.Passes.{Known, badge, badges, IsFresh}
-use Rattle.turn_lock.specs.Seats.{known, Making, gathered, all_gathered}
+use Rattle.turn_lock.specs.Passes.{PassModel, badge, badges, IsFresh}
+use Rattle.turn_lock.specs.Seats.{pass_of, Making, gathered, all_gathered}
 use Rattle.turn_lock.proofs.HistoryLemmas.{among_left, among_right}
 
 module _ {B : Type 0} where
@@ -43,7 +43,7 @@ module _ {V B E : Type 0} where
   -- the pass that is cut off is fresh, and has the next number
   pub is_new : (turns k : ℕ) (id : TableId) (b : Option B) (t u : Seat V (View B E)) → Making turns k t → t.me.0.base ≡ b → u.table_id ≡ id
       → u.me ≡ (newcomer t.me.0, [])
-      → (badge (known u) ≡ record { lock = id; number = k + 1; base = b; turns = turns; passes = 0 }) × IsFresh (known u)
+      → (badge (pass_of u) ≡ record { lock = id; number = k + 1; base = b; turns = turns; passes = 0 }) × IsFresh (pass_of u)
   is_new turns k id b t u m based there e =
       let v = ap (λ z. z.0) e in
       let number : u.me.0.number ≡ k + 1 = ap (λ w. w.number) v ∙ ap (λ (n : ℕ). n + 1) m.passes in
@@ -54,45 +54,45 @@ module _ {V B E : Type 0} where
         (ap (λ w. w.seen) v ∙ m.seen, ap (λ w. w.own) v, ap (λ w. w.drawn) v),
       )
 
-  pub one_joins : (v : View B E) (t : Seat V (View B E)) (ps : List (Known B E)) → t.me.0.stands ≡ 1
-      → all_gathered (joined_with v t.me.0) ps ≡ all_gathered v (known t ∷ ps)
+  pub one_joins : (v : View B E) (t : Seat V (View B E)) (ps : List (PassModel B E)) → t.me.0.stands ≡ 1
+      → all_gathered (joined_with v t.me.0) ps ≡ all_gathered v (pass_of t ∷ ps)
   one_joins v t ps one = ap (λ (n : ℕ). all_gathered (record (joined_with v t.me.0) { stands = v.stands + n }) ps) one
 
 module _ {B E : Type 0} where
   -- what stays of the view of pass 1
-  pub stays_one : (v : View B E) (ps : List (Known B E))
+  pub stays_one : (v : View B E) (ps : List (PassModel B E))
       → ((all_gathered v ps).number ≡ v.number) × ((all_gathered v ps).mine ≡ v.mine) × ((all_gathered v ps).passes ≡ v.passes)
       × ((all_gathered v ps).own ≡ v.own) × ((all_gathered v ps).stands ≡ v.stands + length ps)
   stays_one v [] = (refl, refl, refl, refl, omega arith)
   stays_one v (p ∷ ps) = let h = stays_one (gathered v p) ps in let s = h.4 in (h.0, h.1, h.2, h.3, omega arith)
 
-  pub keeps_joined : (v : View B E) (ps : List (Known B E)) (left : JoinedPass E) → IsOneOf v.joined left → IsOneOf (all_gathered v ps).joined left
+  pub keeps_joined : (v : View B E) (ps : List (PassModel B E)) (left : JoinedPass E) → IsOneOf v.joined left → IsOneOf (all_gathered v ps).joined left
   keeps_joined v [] left a = a
   keeps_joined v (p ∷ ps) left a = keeps_joined (gathered v p) ps left
       (among_left v.joined (record { number = p.number; own = p.own } ∷ []) left a)
 
   -- each pass's entries are kept
-  pub has_joined : (v : View B E) (ps : List (Known B E)) (p : Known B E) → IsOneOf ps p
+  pub has_joined : (v : View B E) (ps : List (PassModel B E)) (p : PassModel B E) → IsOneOf ps p
       → IsOneOf (all_gathered v ps).joined (record { number = p.number; own = p.own })
   has_joined v [] p a = absurd a
   has_joined v (q ∷ ps) p a = ⊎_elim
       (λ e. keeps_joined (gathered v q) ps (record { number = p.number; own = p.own })
       (among_right v.joined (record { number = q.number; own = q.own } ∷ []) (record { number = p.number; own = p.own })
-      (inl (ap (λ (q : Known B E). record { number = q.number; own = q.own }) e))))
+      (inl (ap (λ (q : PassModel B E). record { number = q.number; own = q.own }) e))))
       (λ m. has_joined (gathered v q) ps p m) a
 
   -- what pass 1 has seen, or was shown
   abbrev Has : View B E → List E → Type 0
   Has v h = (v.seen ≡ h) ⊎ IsOneOf v.shown h
 
-  pub keeps_seen : (v : View B E) (ps : List (Known B E)) (h : List E) → Has v h → Has (all_gathered v ps) h
+  pub keeps_seen : (v : View B E) (ps : List (PassModel B E)) (h : List E) → Has v h → Has (all_gathered v ps) h
   keeps_seen v [] h a = a
   keeps_seen v (p ∷ ps) h a = keeps_seen (gathered v p) ps h
       (inr (⊎_elim (λ e. among_right v.shown (v.seen ∷ p.seen ∷ []) h (inl e)) (λ m. among_left v.shown (v.seen ∷ p.seen ∷ []) h m) a))
 
-  pub has_seen : (v : View B E) (ps : List (Known B E)) (p : Known B E) → IsOneOf ps p → Has (all_gathered v ps) p.seen
+  pub has_seen : (v : View B E) (ps : List (PassModel B E)) (p : PassModel B E) → IsOneOf ps p → Has (all_gathered v ps) p.seen
   has_seen v [] p a = absurd a
   has_seen v (q ∷ ps) p a = ⊎_elim
       (λ e. keeps_seen (gathered v q) ps p.seen (inr
-      (among_right v.shown (v.seen ∷ q.seen ∷ []) p.seen (inr (inl (ap (λ (q : Known B E). q.seen) e))))))
+      (among_right v.shown (v.seen ∷ q.seen ∷ []) p.seen (inr (inl (ap (λ (q : PassModel B E). q.seen) e))))))
       (λ m. has_seen (gathered v q) ps p m) a

@@ -14,7 +14,7 @@ pub record Lock (B : Type 0) : Type 0 where
   pub passes : ℕ
 
 -- a pass
-pub record Known (B E : Type 0) : Type 0 where
+pub record PassModel (B E : Type 0) : Type 0 where
   -- of which lock it is, and its number there
   pub lock : TableId
   pub number : ℕ
@@ -38,18 +38,18 @@ pub record Badge (B : Type 0) : Type 0 where
   pub passes : ℕ
 
 module _ {B E : Type 0} where
-  abbrev pub badge : Known B E → Badge B
+  abbrev pub badge : PassModel B E → Badge B
   badge p = record { lock = p.lock; number = p.number; base = p.base; turns = p.turns; passes = p.passes }
 
   -- the pass is one of this lock's
-  pub record Belongs (l : Lock B) (p : Known B E) : Type 0 where
+  pub record Belongs (l : Lock B) (p : PassModel B E) : Type 0 where
     pub lock : p.lock ≡ l.id
     pub base : p.base ≡ Some l.base
     pub turns : p.turns ≡ l.turns
     pub number : (1 ≤ p.number) × (p.number ≤ l.passes)
 
   -- the pass has made no turn
-  abbrev pub IsFresh : Known B E → Type 0
+  abbrev pub IsFresh : PassModel B E → Type 0
   IsFresh p = (p.seen ≡ []) × (p.own ≡ []) × (p.made ≡ 0)
 
 module _ {B : Type 0} where
@@ -66,7 +66,7 @@ module _ {B : Type 0} where
 module _ {B E : Type 0} (legal : B → List E → Type 0) (by : E → ℕ) (b : B) where
   -- From p to q, one turn that ends in this entry. The pass has seen a legal history, which goes on from what it had seen,
   -- maybe with entries of others, and ends in its own entry
-  pub record Entered (p : Known B E) (entry : E) (q : Known B E) : Type 0 where
+  pub record Entered (p : PassModel B E) (entry : E) (q : PassModel B E) : Type 0 where
     pub between : List E
     pub seen : q.seen ≡ (p.seen ++ between) ++ entry ∷ []
     pub own : q.own ≡ p.own ++ entry ∷ []
@@ -75,7 +75,7 @@ module _ {B E : Type 0} (legal : B → List E → Type 0) (by : E → ℕ) (b : 
     pub made : q.made ≡ p.made + 1
 
   -- from p to q, one turn with no entry
-  pub record Looked (p q : Known B E) : Type 0 where
+  pub record Looked (p q : PassModel B E) : Type 0 where
     pub seen : StartsWith q.seen p.seen
     pub own : q.own ≡ p.own
     pub in_it : q.own ≡ own_of by q.number q.seen
@@ -84,7 +84,7 @@ module _ {B E : Type 0} (legal : B → List E → Type 0) (by : E → ℕ) (b : 
 
   -- From p to q, one turn with an event. A reply makes the entry. If memory runs out, the turn makes no entry. If the pass has made
   -- all its turns, it makes no other, and nothing changes
-  pub record TakesTurn {R : Type 0} (entry_of : R → E) (p : Known B E) (result : Result R TurnFault) (q : Known B E) : Type 0 where
+  pub record TakesTurn {R : Type 0} (entry_of : R → E) (p : PassModel B E) (result : Result R TurnFault) (q : PassModel B E) : Type 0 where
     pub same : badge q ≡ badge p
     pub entry : IfOk result (λ reply. Entered p (entry_of reply) q)
     pub memory : IsErrOf result Memory → Looked p q
@@ -94,7 +94,7 @@ module _ {B E : Type 0} (legal : B → List E → Type 0) (by : E → ℕ) (b : 
 
   -- the history that a closed lock leaves: it is legal and goes on from what each pass has seen, its entries by each pass are
   -- that pass's own, and it has no other entry
-  pub record ClosesWith (history : List E) (passes : List (Known B E)) : Type 0 where
+  pub record ClosesWith (history : List E) (passes : List (PassModel B E)) : Type 0 where
     pub is_legal : legal b history
     pub seen : All (λ p. StartsWith history p.seen) passes
     pub own : All (λ p. own_of by p.number history ≡ p.own) passes

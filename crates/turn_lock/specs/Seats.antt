@@ -5,12 +5,12 @@ use Rattle.atomic_table.specs.Seated.{TableId}
 use Rattle.atomic_table.specs.declared.shared.Seat.{Seat}
 use Rattle.turn_lock.specs.declared.view.View.{View}
 use Rattle.turn_lock.specs.Histories.{own_of, longer}
-use Rattle.turn_lock.specs.Passes.{Known}
+use Rattle.turn_lock.specs.Passes.{PassModel}
 
 module _ {V B E : Type 0} where
   -- what contracts see of it
-  abbrev pub known : Seat V (View B E) → Known B E
-  known t = record {
+  abbrev pub pass_of : Seat V (View B E) → PassModel B E
+  pass_of t = record {
     lock = t.table_id;
     number = t.me.0.number;
     base = t.me.0.base;
@@ -56,7 +56,7 @@ module _ {V B E : Type 0} where
 
 module _ {B E : Type 0} where
   -- the view of pass 1 after a pass was joined to it
-  abbrev pub gathered : View B E → Known B E → View B E
+  abbrev pub gathered : View B E → PassModel B E → View B E
   gathered v p = record v {
     seen = longer v.seen p.seen;
     drawn = v.drawn + p.made;
@@ -66,6 +66,6 @@ module _ {B E : Type 0} where
   }
 
   -- and after all of these
-  abbrev pub all_gathered : View B E → List (Known B E) → View B E
+  abbrev pub all_gathered : View B E → List (PassModel B E) → View B E
   all_gathered v [] = v
   all_gathered v (p ∷ ps) = all_gathered (gathered v p) ps

@@ -76,7 +76,7 @@ impl<V: Logged> TurnLock<V> {
         ensures passes { IfOk result (λ r. map badge r.1.items ≡ roll r.0) }
         ensures fresh { IfOk result (λ r. All IsFresh r.1.items) }
     {
-        let (table, seat) = table_of(alloc, value, turns)?;
+        let (table, seat) = atomic_table_of(alloc, value, turns)?;
         let all = all_passes(alloc, &table.shared, seat, passes, turns)?;
         let queue = Queue::new(passes);
         Ok((
@@ -174,7 +174,7 @@ impl<V: Logged> TurnLock<V> {
 }
 
 /// The table with the value in its slot, and the seat of pass 1.
-fn table_of<V: Logged>(
+fn atomic_table_of<V: Logged>(
     alloc: Global,
     value: V,
     turns: u64,

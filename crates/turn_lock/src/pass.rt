@@ -7,7 +7,7 @@ use crate::view::View;
 use atomic_table::Seat;
 use std::marker::Model;
 
-/// The right of one holder to take turns. Contracts see it as `Known` of `specs/Passes.antt`: the history that it has seen, and its own entries in it.
+/// The right of one holder to take turns. Contracts see it as `PassModel` of `specs/Passes.antt`: the history that it has seen, and its own entries in it.
 #[derive(Drop)]
 pub struct Pass<V: Logged> {
     pub(crate) number: u8,
@@ -18,12 +18,12 @@ pub struct Pass<V: Logged> {
 
 impl<V: Logged> Model for Pass<V> {
     ghost use Rattle.std.specs.Prelude.{◌≡◌, ◌≤◌};
-    ghost use Rattle.turn_lock.specs.Passes.{Known};
-    ghost use Rattle.turn_lock.specs.Seats.{known, IsIdle};
+    ghost use Rattle.turn_lock.specs.Passes.{PassModel};
+    ghost use Rattle.turn_lock.specs.Seats.{pass_of, IsIdle};
 
-    ghost Value = { Known V.Base V.Entry };
+    ghost Value = { PassModel V.Base V.Entry };
 
-    ghost view = { λ s. known s.seat };
+    ghost view = { λ s. pass_of s.seat };
 
     ghost invariant = { λ s. IsIdle V.by s.seat × (s.number ≡ s.seat.me.0.number) × (s.made ≡ s.seat.me.0.drawn) × (s.turns ≡ s.seat.me.0.turns) × (s.made ≤ s.turns) };
 }

@@ -5,7 +5,7 @@ ghost use Rattle.atomic_table.specs.Table.{step};
 ghost use Rattle.std.specs.Bool.{MatchBool};
 ghost use Rattle.std.specs.Prelude.{◌≡◌, ◌+◌, ◌*◌, ◌<◌, false, true, ◌∷◌, [], Some, None, IfOk, OnErr};
 ghost use Rattle.turn_lock.specs.Passes.{badge, Entered, Looked};
-ghost use Rattle.turn_lock.specs.Seats.{known, IsIdle, Waits, Fits, Stays};
+ghost use Rattle.turn_lock.specs.Seats.{pass_of, IsIdle, Waits, Fits, Stays};
 ghost use Rattle.turn_lock.specs.Steps.{Drew, Came, HasTurn, MayEnd, ended_view};
 
 use crate::applies::Applies;
@@ -49,7 +49,7 @@ fn wait_for_quiet<V: Logged, R: Wait>(
 }
 
 /// Draws a ticket. If there are other passes, it first waits until the lock is quiet, though not for ever.
-fn draw<V: Logged, R: Wait>(
+fn draw_ticket<V: Logged, R: Wait>(
     shared: &Shared<V, View<V::Base, V::Entry>, Key<V>, TurnRule<V>>,
     queue: &Queue,
     rt: &R,
@@ -159,12 +159,12 @@ pub fn play<V: Logged, A: Applies<V>, R: Wait>(
     requires number { V.number event ≡ seat.old.me.0.number }
     ensures lock { Stays seat.old seat.new }
     ensures idle { IsIdle V.by seat.new }
-    ensures same { badge (known seat.new) ≡ badge (known seat.old) }
+    ensures same { badge (pass_of seat.new) ≡ badge (pass_of seat.old) }
     ensures made { seat.new.me.0.drawn ≡ seat.old.me.0.drawn + 1 }
-    ensures entry { IfOk result (λ reply. (b : V.Base) → seat.old.me.0.base ≡ Some b → Entered V.legal V.by b (known seat.old) (V.entry event reply) (known seat.new)) }
-    ensures memory { OnErr result ((b : V.Base) → seat.old.me.0.base ≡ Some b → Looked V.legal V.by b (known seat.old) (known seat.new)) }
+    ensures entry { IfOk result (λ reply. (b : V.Base) → seat.old.me.0.base ≡ Some b → Entered V.legal V.by b (pass_of seat.old) (V.entry event reply) (pass_of seat.new)) }
+    ensures memory { OnErr result ((b : V.Base) → seat.old.me.0.base ≡ Some b → Looked V.legal V.by b (pass_of seat.old) (pass_of seat.new)) }
 {
-    let ticket = draw(shared, queue, rt, seat);
+    let ticket = draw_ticket(shared, queue, rt, seat);
     wait(shared, queue, rt, seat, ticket);
     let reply = helper.apply(seat.slot_mut(shared, 0), event);
     end(shared, queue, seat);
@@ -183,12 +183,12 @@ pub fn look<V: Logged, R: Wait>(
     requires left { seat.old.me.0.drawn < seat.old.me.0.turns }
     ensures lock { Stays seat.old seat.new }
     ensures idle { IsIdle V.by seat.new }
-    ensures same { badge (known seat.new) ≡ badge (known seat.old) }
+    ensures same { badge (pass_of seat.new) ≡ badge (pass_of seat.old) }
     ensures made { seat.new.me.0.drawn ≡ seat.old.me.0.drawn + 1 }
-    ensures looked { (b : V.Base) → seat.old.me.0.base ≡ Some b → Looked V.legal V.by b (known seat.old) (known seat.new) }
+    ensures looked { (b : V.Base) → seat.old.me.0.base ≡ Some b → Looked V.legal V.by b (pass_of seat.old) (pass_of seat.new) }
     ensures shown { (b : V.Base) → seat.old.me.0.base ≡ Some b → V.shows b seat.new.me.0.seen result }
 {
-    let ticket = draw(shared, queue, rt, seat);
+    let ticket = draw_ticket(shared, queue, rt, seat);
     wait(shared, queue, rt, seat, ticket);
     let seen = seat.slot_mut(shared, 0).seen();
     end(shared, queue, seat);

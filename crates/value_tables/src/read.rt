@@ -183,11 +183,11 @@ fn read_line(
     ensures puts { OnOk result (PutsObject width i (fields_in line.now) cells.old cells.new) }
 {
     if line.len() > MAX_NAME_BYTES {
-        return read_long(alloc, width, i, line, cells, fields);
+        return read_by_fields(alloc, width, i, line, cells, fields);
     }
     let pieces = pieces_of(line);
     if !may_be_object(width, i, pieces.lengths()) {
-        return read_long(alloc, width, i, line, cells, fields);
+        return read_by_fields(alloc, width, i, line, cells, fields);
     }
     Ok(put_pieces(alloc, pieces.text(), pieces.lengths(), cells)?)
 }
@@ -226,7 +226,7 @@ fn put_pieces(alloc: Global, text: &[u8], lengths: &[u8], cells: &mut Cells) -> 
 }
 
 /// Reads the line of record `i` field by field, appends the values of the object, and returns its name.
-fn read_long(
+fn read_by_fields(
     alloc: Global,
     width: usize,
     i: usize,

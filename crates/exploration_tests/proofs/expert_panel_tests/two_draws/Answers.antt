@@ -2,7 +2,7 @@ use Rattle.std.proofs.Common.{◌≡◌, ◌∙◌, ◌++◌, ◌∷◌, ℕ, Li
 use Rattle.fca_model.specs.Implications.{Rule}
 use Rattle.fca_model.specs.Exploration.{SetReply, SetEntry}
 use Rattle.explore_state.specs.History.{Opening}
-use Rattle.turn_lock.specs.Passes.{Belongs, Known, Badge, badge}
+use Rattle.turn_lock.specs.Passes.{Belongs, PassModel, Badge, badge}
 use Rattle.oracle_expert.specs.declared.expert.Answer.{Answer}
 use Rattle.expert_panel.specs.declared.seat.Seat.{Seat}
 use Rattle.expert_gate.specs.Seats.{EachSeat}
@@ -14,7 +14,7 @@ use Rattle.exploration_tests.proofs.expert_panel_tests.two_draws.Goals as goal
 abbrev two : Silent → ℕ
 two expert = 2
 
-abbrev passes : {X : Type 0} → List (Seat X) → List (Known Opening SetEntry)
+abbrev passes : {X : Type 0} → List (Seat X) → List (PassModel Opening SetEntry)
 passes seats = map (λ seat. seat.pass) seats
 
 -- a run changes no badge

@@ -3,13 +3,13 @@ use Rattle.next_level.proofs.LevelWalkLemmas.{left_passed, left_member, left_can
 use Rattle.next_level.proofs.LevelWalkLemmas.{left_done, enter_larger, steady_same}
 use Rattle.next_level.proofs.walk.child_at.Goals as goal
 
-pub returns-then-passes-clause-done : goal.returns-then-passes-clause-done
-returns-then-passes-clause-done g c = left_passed c.args.indexed.now c.args.step.now.set c.args.i c.args.rules.now c.args.seen.now.bound
+pub returns-then-skips-clause-done : goal.returns-then-skips-clause-done
+returns-then-skips-clause-done g c = left_passed c.args.indexed.now c.args.step.now.set c.args.i c.args.rules.now c.args.seen.now.bound
     c.args.seen.now.members.items c.args.step.now.among.whole c.args.step.now.among.sets.items c.requires.trying c.requires.among
-    (sym c.has.ensures ∙ c.if-has.false) (sym c.passes.ensures ∙ c.if-passes.true)
+    (sym c.has.ensures ∙ c.if-has.false) (sym c.skips.ensures ∙ c.if-skips.true)
 
-pub returns-then-passes-clause-steady : goal.returns-then-passes-clause-steady
-returns-then-passes-clause-steady g c = steady_same
+pub returns-then-skips-clause-steady : goal.returns-then-skips-clause-steady
+returns-then-skips-clause-steady g c = steady_same
 
 pub returns-then-has-clause-done : goal.returns-then-has-clause-done
 returns-then-has-clause-done g c = left_member c.requires.trying (sym c.has.ensures ∙ c.if-has.true)

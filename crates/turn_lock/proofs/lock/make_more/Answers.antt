@@ -2,7 +2,7 @@ use Rattle.std.proofs.Common.{◌≡◌, ◌∙◌, ap, sym, suc, ◌+◌, ◌++
 use Rattle.std.proofs.lemmas.List.Elements.{All-push}
 use mathlib.Core.List.{map-append}
 use Rattle.turn_lock.specs.Passes.{badge, badges, IsFresh}
-use Rattle.turn_lock.specs.Seats.{known}
+use Rattle.turn_lock.specs.Seats.{pass_of}
 use Rattle.turn_lock.proofs.StepLemmas.{splits}
 use Rattle.turn_lock.proofs.MakingLemmas.{badges-push, makes, is_new}
 use Rattle.turn_lock.proofs.lock.make_more.Goals as goal
@@ -29,7 +29,7 @@ loop-i-preserved g c =
     let e = c.split_seat-other.ensures in
     let old = c.loop-i.others.items in
     let items = c.in_ok-push.ensures.items in
-    let pass = known c.split_seat-other.result in
+    let pass = pass_of c.split_seat-other.result in
     let new = is_new c.args.turns c.loop-i.i c.args.seat.now.table_id c.args.seat.now.me.0.base c.loop-i.seat c.split_seat-other.result i.4
     i.5 (e.3 ∙ i.2) e.4 in
     let long : length c.push.new.self.items ≡ length old + 1 = ap length items ∙ length-append old (pass ∷ []) in

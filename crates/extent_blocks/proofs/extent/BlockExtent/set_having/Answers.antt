@@ -10,7 +10,7 @@ returns g c = on_ok_weaker c.keep_in.result (λ kept p.
     blocks_of (λ x. x.number) (λ x. x.objects) c.keep_in.new.kept.items p ∙ kept p
     ∙ ap₂ (λ a b. a && b)
     (ap (λ xs. list_any (λ x. in_block x.number x.objects p) xs) c.deref.ensures.value
-    ∙ sym (blocks_of (λ x. x.number) (λ x. x.objects) c.above.inside.blocks.items p)
-    ∙ ap (λ (Ps : List NumberedBlock). in_blocks Ps p) c.above.view_is)
+    ∙ sym (blocks_of (λ x. x.number) (λ x. x.objects) c.other.inside.blocks.items p)
+    ∙ ap (λ (Ps : List NumberedBlock). in_blocks Ps p) c.other.view_is)
     (c.column.ensures.places p))
     c.keep_in.ensures

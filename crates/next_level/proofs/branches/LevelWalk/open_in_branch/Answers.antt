@@ -15,8 +15,8 @@ returns-then-has-clause-listed g c =
     c.new-seen.result.members.items
     (sym c.has.ensures ∙ c.if-has.true) c.new-seen.ensures.members
 
-pub returns-then-passes-clause-listed : goal.returns-then-passes-clause-listed
-returns-then-passes-clause-listed g c =
+pub returns-then-skips-clause-listed : goal.returns-then-skips-clause-listed
+returns-then-skips-clause-listed g c =
     let self = c.args.self.now in
     let wide = root_wide self.root in
     let J = self.list.members in
@@ -26,7 +26,7 @@ returns-then-passes-clause-listed g c =
     c.new-seen.result.members.items
     (λ X x s has. none_among J self.indexed self.least 0 c.args.i whole sets
     (among_start J self.indexed self.least 0 whole sets self.all_among) (omega arith)
-    (sym c.has.ensures ∙ c.if-has.false) (sym c.passes.ensures ∙ c.if-passes.true) X x has) c.new-seen.ensures.members
+    (sym c.has.ensures ∙ c.if-has.false) (sym c.skips.ensures ∙ c.if-skips.true) X x has) c.new-seen.ensures.members
 
 pub close-requires : goal.close-requires
 close-requires g c =

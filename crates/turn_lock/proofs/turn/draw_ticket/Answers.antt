@@ -1,6 +1,6 @@
 use Rattle.std.proofs.Common.{arith}
 use Rattle.turn_lock.proofs.StepLemmas.{draws}
-use Rattle.turn_lock.proofs.turn.draw.Goals as goal
+use Rattle.turn_lock.proofs.turn.draw_ticket.Goals as goal
 
 pub fetch_add-requires : goal.fetch_add-requires
 fetch_add-requires g c =

@@ -1,6 +1,6 @@
 use Rattle.std.proofs.Common.{refl}
 use Rattle.turn_lock.proofs.StepLemmas.{opens}
-use Rattle.turn_lock.proofs.lock.table_of.Goals as goal
+use Rattle.turn_lock.proofs.lock.atomic_table_of.Goals as goal
 
 pub new-requires : goal.new-requires
 new-requires g c = rw (c.in_ok-push.ensures.items, c.new-slots.ensures.items, c.of.ensures)
