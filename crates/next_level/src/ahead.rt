@@ -66,7 +66,8 @@ fn rest_of<const W: usize>(
     requires words { W ≤ 1024 }
     requires narrow { width ≤ 1024 }
     requires even { HaveWidth width members.now }
-    ensures rest { IfOk result (λ ahead. ahead.whole ≡ true → ahead.sets ≡ record { width = width; rows = premises (filter (λ i. nat_lt count (size i.premise)) members.now) }) }
+    ensures rest { IfOk result (λ ahead. ahead.whole ≡ true
+        → ahead.sets ≡ record { width = width; rows = premises (filter (λ i. nat_lt count (size i.premise)) members.now) }) }
     ensures wide { IfOk result (λ ahead. ahead.sets.width ≡ width) }
 {
     let rest = of_larger_size(alloc, members, count)?;

@@ -29,8 +29,11 @@ returns g c =
     let old : Text = take c.args.start c.args.text.now in
     let number : take c.put_bytes-opened.result c.put_bytes-opened.new.text ≡ (old ++ c.args.digits.now) ++ codes " {" =
     c.put_bytes-opened.ensures.text ∙ ap (λ (z : Text). z ++ codes " {") c.put_bytes-number.ensures.text in
-    let intent : take c.put_bytes-between.result c.put_bytes-between.new.text ≡ (((old ++ c.args.digits.now) ++ codes " {") ++ comma_list (names_of t.attributes c.args.a.now)) ++ codes "} | {" =
-    c.put_bytes-between.ensures.text ∙ ap (λ (z : Text). z ++ codes "} | {") (c.put_intent-intent.ensures.text ∙ ap (λ (z : Text). z ++ comma_list (names_of t.attributes c.args.a.now)) number) in
+    let attributes : Text = comma_list (names_of t.attributes c.args.a.now) in
+    let intent : take c.put_bytes-between.result c.put_bytes-between.new.text
+        ≡ (((old ++ c.args.digits.now) ++ codes " {") ++ attributes) ++ codes "} | {" =
+    c.put_bytes-between.ensures.text
+    ∙ ap (λ (z : Text). z ++ codes "} | {") (c.put_intent-intent.ensures.text ∙ ap (λ (z : Text). z ++ attributes) number) in
     record {
       text = c.put_bytes.ensures.text ∙ ap (λ (z : Text). z ++ codes "}\n")
           (c.put_extent-extent.ensures.text ∙ ap (λ (z : Text). z ++ comma_list (names_at t.objects c.args.places.now)) intent)
