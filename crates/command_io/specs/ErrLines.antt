@@ -9,8 +9,8 @@ use Rattle.fca_model.specs.declared.TheConstants.{NO_MEMORY}
 use Rattle.fca_io.specs.declared.outside.TheConstants.{READ_FAULT, TOO_LONG, WRITE_FAULT}
 use Rattle.text_pieces.specs.Faults.{description_text}
 use Rattle.text_pieces.specs.declared.faults.TheConstants.{UNKNOWN_ATTRIBUTE}
-use Rattle.text_pieces.specs.declared.faults.Place.{Place}
-use Rattle.text_pieces.specs.declared.faults.Place.TheVariants.{Whole}
+use Rattle.text_pieces.specs.declared.faults.FaultPlace.{FaultPlace}
+use Rattle.text_pieces.specs.declared.faults.FaultPlace.TheVariants.{Whole}
 use Rattle.cxt_format.specs.Faults as cxt
 use Rattle.csv_context.specs.Faults as csv
 use Rattle.expert_scripts.specs.KnownFaults as rules
@@ -35,7 +35,7 @@ abbrev pub plain_line : Text → Text
 plain_line words = concat (codes "fca: " ∷ words ∷ line_end ∷ [])
 
 -- the line of a fault in what has this name
-abbrev pub placed_line : Text → Place × Text → Text
+abbrev pub placed_line : Text → FaultPlace × Text → Text
 placed_line name description = concat (codes "fca: " ∷ name ∷ codes ": " ∷ description_text description ∷ line_end ∷ [])
 
 -- a line of these words after a name and a place of this kind with its number

@@ -3,7 +3,7 @@
 ghost use Rattle.std.specs.Prelude.{◌≡◌, Some};
 ghost use Rattle.std.specs.List.{flat_map};
 ghost use Rattle.expert_wire.specs.Parts.{WritesTo};
-ghost use Rattle.text_pieces.specs.declared.faults.Place.TheVariants.{Whole, Field};
+ghost use Rattle.text_pieces.specs.declared.faults.FaultPlace.TheVariants.{Whole, Field};
 ghost use Rattle.command_io.specs.ErrLines.{plain_line, placed_line, numbered_line, breaks_line, name_of, stop_line};
 ghost use Rattle.command_io.specs.Streams.{moment, GainsLine};
 
@@ -12,7 +12,7 @@ use expert_wire::write_bytes;
 use fca_io::{Put, READ_FAULT, Sink, TOO_LONG};
 use fca_model::NO_MEMORY;
 use itoa::Buffer;
-use text_pieces::faults::{Description, Place, UNKNOWN_ATTRIBUTE};
+use text_pieces::faults::{Description, FaultPlace, UNKNOWN_ATTRIBUTE};
 
 const NO_SUCH_COMMAND: &str = "no such command";
 
@@ -110,11 +110,11 @@ fn write_placed<E: Sink>(err: &mut E, name: &[u8], description: &Description) ->
     ensures { WritesTo E.held E.faults E.beside E.asked_beside err.old err.new (placed_line name.now description.now) result }
 {
     match description.place {
-        Place::Whole => write_whole(err, name, description.words),
-        Place::Byte(at) => write_numbered(err, name, "byte ", at, description.words),
-        Place::Line(at) => write_numbered(err, name, "line ", at, description.words),
-        Place::Record(at) => write_numbered(err, name, "record ", at, description.words),
-        Place::Field(at, field) => write_field(err, name, at, field, description.words),
+        FaultPlace::Whole => write_whole(err, name, description.words),
+        FaultPlace::Byte(at) => write_numbered(err, name, "byte ", at, description.words),
+        FaultPlace::Line(at) => write_numbered(err, name, "line ", at, description.words),
+        FaultPlace::Record(at) => write_numbered(err, name, "record ", at, description.words),
+        FaultPlace::Field(at, field) => write_field(err, name, at, field, description.words),
     }
 }
 

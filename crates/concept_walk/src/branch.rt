@@ -17,7 +17,7 @@ use crate::steps::{Descent, enter, first_step, next_step, put_back};
 use attr_bits::Bits;
 use extent_places::{closure_at, last_member};
 use fca_model::Memory;
-use lectic_concepts::{is_child, is_open, note};
+use lectic_concepts::{is_child, is_tried, note};
 use std::alloc::Global;
 
 /// A child of a node: its intent, the attribute that it comes from, and the number of the places that were found for it.
@@ -90,7 +90,7 @@ pub fn next_child<const W: usize>(
     let mut place = candidates.end;
     while let Some(i) = last_member(&candidates.tries, node.from, place) {
         place = i;
-        if !is_open(
+        if !is_tried(
             rows,
             a,
             i,

@@ -8,7 +8,7 @@ use derivation::{Rows, RowsOf};
 use fca_model::Memory;
 use std::alloc::Global;
 
-/// The rows of a context, in one, two, four or all words each.
+/// The rows of a context, in one, two, four, eight or all words each.
 #[derive(Drop)]
 pub enum NarrowRows {
     One(RowsOf<1>),

@@ -4,14 +4,14 @@ use Rattle.fca_model.specs.Tables.{Text}
 use Rattle.fca_model.specs.declared.TheConstants.{NO_MEMORY}
 use Rattle.text_pieces.specs.declared.faults.TheConstants.{NOT_UTF8, EMPTY_NAME, LONG_NAME, BAD_NAME, DUPLICATE_ATTRIBUTE, NO_HEADER}
 use Rattle.text_pieces.specs.declared.faults.TheConstants.{RAGGED, TOO_MANY_ATTRIBUTES}
-use Rattle.text_pieces.specs.declared.faults.Place.{Place}
-use Rattle.text_pieces.specs.declared.faults.Place.TheVariants.{Whole, Byte, Record, Field}
+use Rattle.text_pieces.specs.declared.faults.FaultPlace.{FaultPlace}
+use Rattle.text_pieces.specs.declared.faults.FaultPlace.TheVariants.{Whole, Byte, Record, Field}
 use Rattle.csv_context.specs.declared.TheConstants.{BAD_CELL, TOO_MANY_OBJECTS}
 use Rattle.csv_context.specs.declared.CsvFault.{CsvFault}
 use Rattle.csv_context.specs.declared.CsvFault.TheVariants as fault
 
 -- the place of the fault and the words for it
-abbrev pub description : CsvFault → Place × Text
+abbrev pub description : CsvFault → FaultPlace × Text
 description (fault.NotUtf8 at) = (Byte at, NOT_UTF8.now)
 description fault.NoHeader = (Whole, NO_HEADER.now)
 description (fault.RaggedRecord n) = (Record n, RAGGED.now)

@@ -20,8 +20,8 @@ use std::alloc::{AllocError, AllocFailed};
 use std::error::Error;
 use std::fmt;
 use text_pieces::faults::{
-    BAD_NAME, DUPLICATE_ATTRIBUTE, Description, EMPTY_NAME, LONG_NAME, NO_HEADER, NOT_UTF8, Place,
-    RAGGED, TOO_MANY_ATTRIBUTES,
+    BAD_NAME, DUPLICATE_ATTRIBUTE, Description, EMPTY_NAME, FaultPlace, LONG_NAME, NO_HEADER,
+    NOT_UTF8, RAGGED, TOO_MANY_ATTRIBUTES,
 };
 pub use write::write_csv;
 
@@ -54,17 +54,20 @@ impl CsvFault {
         ensures { result ≡ description self.now }
     {
         let (place, words) = match self {
-            CsvFault::NotUtf8(at) => (Place::Byte(*at), NOT_UTF8),
-            CsvFault::NoHeader => (Place::Whole, NO_HEADER),
-            CsvFault::RaggedRecord(record) => (Place::Record(*record), RAGGED),
-            CsvFault::BadCell(record, field) => (Place::Field(*record, *field), BAD_CELL),
-            CsvFault::EmptyName(record, field) => (Place::Field(*record, *field), EMPTY_NAME),
-            CsvFault::LongName(record, field) => (Place::Field(*record, *field), LONG_NAME),
-            CsvFault::BadName(record, field) => (Place::Field(*record, *field), BAD_NAME),
-            CsvFault::DuplicateAttribute(field) => (Place::Field(1, *field), DUPLICATE_ATTRIBUTE),
-            CsvFault::TooManyAttributes => (Place::Whole, TOO_MANY_ATTRIBUTES),
-            CsvFault::TooManyObjects => (Place::Whole, TOO_MANY_OBJECTS),
-            CsvFault::Memory => (Place::Whole, NO_MEMORY),
+            CsvFault::NotUtf8(at) => (FaultPlace::Byte(*at), NOT_UTF8),
+            CsvFault::NoHeader => (FaultPlace::Whole, NO_HEADER),
+            CsvFault::RaggedRecord(record) => (FaultPlace::Record(*record), RAGGED),
+            CsvFault::BadCell(record, field) => (FaultPlace::Field(*record, *field), BAD_CELL),
+            CsvFault::EmptyName(record, field) => (FaultPlace::Field(*record, *field), EMPTY_NAME),
+            CsvFault::LongName(record, field) => (FaultPlace::Field(*record, *field), LONG_NAME),
+            CsvFault::BadName(record, field) => (FaultPlace::Field(*record, *field), BAD_NAME),
+            CsvFault::DuplicateAttribute(field) => (
+                FaultPlace::Field(1, *field),
+                DUPLICATE_ATTRIBUTE,
+            ),
+            CsvFault::TooManyAttributes => (FaultPlace::Whole, TOO_MANY_ATTRIBUTES),
+            CsvFault::TooManyObjects => (FaultPlace::Whole, TOO_MANY_OBJECTS),
+            CsvFault::Memory => (FaultPlace::Whole, NO_MEMORY),
         };
         Description { place, words }
     }

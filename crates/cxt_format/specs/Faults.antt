@@ -2,14 +2,14 @@
 use Rattle.fca_model.specs.Tables.{Text}
 use Rattle.fca_model.specs.declared.TheConstants.{NO_MEMORY}
 use Rattle.text_pieces.specs.declared.faults.TheConstants.{NOT_UTF8, EMPTY_NAME, LONG_NAME, BAD_NAME, DUPLICATE_ATTRIBUTE, TOO_MANY}
-use Rattle.text_pieces.specs.declared.faults.Place.{Place}
-use Rattle.text_pieces.specs.declared.faults.Place.TheVariants.{Whole, Byte, Line}
+use Rattle.text_pieces.specs.declared.faults.FaultPlace.{FaultPlace}
+use Rattle.text_pieces.specs.declared.faults.FaultPlace.TheVariants.{Whole, Byte, Line}
 use Rattle.cxt_format.specs.declared.TheConstants.{NOT_B, BAD_COUNT, ENDED, BAD_ROW, TRAILING_TEXT}
 use Rattle.cxt_format.specs.declared.CxtFault.{CxtFault}
 use Rattle.cxt_format.specs.declared.CxtFault.TheVariants as fault
 
 -- the place of the fault and the words for it
-abbrev pub description : CxtFault → Place × Text
+abbrev pub description : CxtFault → FaultPlace × Text
 description (fault.NotUtf8 at) = (Byte at, NOT_UTF8.now)
 description fault.NotB = (Line 1, NOT_B.now)
 description (fault.BadCount line) = (Line line, BAD_COUNT.now)

@@ -16,7 +16,8 @@ use std::alloc::{AllocError, AllocFailed};
 use std::error::Error;
 use std::fmt;
 use text_pieces::faults::{
-    BAD_NAME, DUPLICATE_ATTRIBUTE, Description, EMPTY_NAME, LONG_NAME, NOT_UTF8, Place, TOO_MANY,
+    BAD_NAME, DUPLICATE_ATTRIBUTE, Description, EMPTY_NAME, FaultPlace, LONG_NAME, NOT_UTF8,
+    TOO_MANY,
 };
 pub use write::write_cxt;
 
@@ -56,18 +57,18 @@ impl CxtFault {
         ensures { result ≡ description self.now }
     {
         let (place, words) = match self {
-            CxtFault::NotUtf8(at) => (Place::Byte(*at), NOT_UTF8),
-            CxtFault::NotB => (Place::Line(1), NOT_B),
-            CxtFault::BadCount(line) => (Place::Line(*line), BAD_COUNT),
-            CxtFault::TooMany(line) => (Place::Line(*line), TOO_MANY),
-            CxtFault::Ended(line) => (Place::Line(*line), ENDED),
-            CxtFault::EmptyName(line) => (Place::Line(*line), EMPTY_NAME),
-            CxtFault::LongName(line) => (Place::Line(*line), LONG_NAME),
-            CxtFault::BadName(line) => (Place::Line(*line), BAD_NAME),
-            CxtFault::DuplicateAttribute(line) => (Place::Line(*line), DUPLICATE_ATTRIBUTE),
-            CxtFault::BadRow(line) => (Place::Line(*line), BAD_ROW),
-            CxtFault::Trailing(line) => (Place::Line(*line), TRAILING_TEXT),
-            CxtFault::Memory => (Place::Whole, NO_MEMORY),
+            CxtFault::NotUtf8(at) => (FaultPlace::Byte(*at), NOT_UTF8),
+            CxtFault::NotB => (FaultPlace::Line(1), NOT_B),
+            CxtFault::BadCount(line) => (FaultPlace::Line(*line), BAD_COUNT),
+            CxtFault::TooMany(line) => (FaultPlace::Line(*line), TOO_MANY),
+            CxtFault::Ended(line) => (FaultPlace::Line(*line), ENDED),
+            CxtFault::EmptyName(line) => (FaultPlace::Line(*line), EMPTY_NAME),
+            CxtFault::LongName(line) => (FaultPlace::Line(*line), LONG_NAME),
+            CxtFault::BadName(line) => (FaultPlace::Line(*line), BAD_NAME),
+            CxtFault::DuplicateAttribute(line) => (FaultPlace::Line(*line), DUPLICATE_ATTRIBUTE),
+            CxtFault::BadRow(line) => (FaultPlace::Line(*line), BAD_ROW),
+            CxtFault::Trailing(line) => (FaultPlace::Line(*line), TRAILING_TEXT),
+            CxtFault::Memory => (FaultPlace::Whole, NO_MEMORY),
         };
         Description { place, words }
     }

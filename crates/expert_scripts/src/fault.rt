@@ -5,7 +5,7 @@ use fca_model::{Memory, NO_MEMORY};
 use std::alloc::AllocFailed;
 use std::error::Error;
 use std::fmt;
-use text_pieces::faults::{BAD_LINE, BAD_WIDTH, Description, Place};
+use text_pieces::faults::{BAD_LINE, BAD_WIDTH, Description, FaultPlace};
 
 const BAD_EXPERT: &str = "bad expert";
 
@@ -35,11 +35,11 @@ impl ScriptFault {
         ensures { result ≡ description self.now }
     {
         let (place, words) = match self {
-            ScriptFault::BadLine(line) => (Place::Line(*line), BAD_LINE),
-            ScriptFault::BadExpert(line) => (Place::Line(*line), BAD_EXPERT),
-            ScriptFault::BadWidth(line) => (Place::Line(*line), BAD_WIDTH),
-            ScriptFault::BadHolders(line) => (Place::Line(*line), BAD_HOLDERS),
-            ScriptFault::Memory => (Place::Whole, NO_MEMORY),
+            ScriptFault::BadLine(line) => (FaultPlace::Line(*line), BAD_LINE),
+            ScriptFault::BadExpert(line) => (FaultPlace::Line(*line), BAD_EXPERT),
+            ScriptFault::BadWidth(line) => (FaultPlace::Line(*line), BAD_WIDTH),
+            ScriptFault::BadHolders(line) => (FaultPlace::Line(*line), BAD_HOLDERS),
+            ScriptFault::Memory => (FaultPlace::Whole, NO_MEMORY),
         };
         Description { place, words }
     }

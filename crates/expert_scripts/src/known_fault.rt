@@ -3,7 +3,7 @@
 use fca_model::{Memory, NO_MEMORY};
 use std::error::Error;
 use std::fmt;
-use text_pieces::faults::{BAD_LINE, BAD_WIDTH, Description, Place};
+use text_pieces::faults::{BAD_LINE, BAD_WIDTH, Description, FaultPlace};
 
 /// The first line at fault, or that memory ran out. Lines are numbered from 1.
 #[derive(Debug, Drop)]
@@ -25,9 +25,9 @@ impl KnownFault {
         ensures { result ≡ description self.now }
     {
         let (place, words) = match self {
-            KnownFault::BadLine(line) => (Place::Line(*line), BAD_LINE),
-            KnownFault::BadWidth(line) => (Place::Line(*line), BAD_WIDTH),
-            KnownFault::Memory => (Place::Whole, NO_MEMORY),
+            KnownFault::BadLine(line) => (FaultPlace::Line(*line), BAD_LINE),
+            KnownFault::BadWidth(line) => (FaultPlace::Line(*line), BAD_WIDTH),
+            KnownFault::Memory => (FaultPlace::Whole, NO_MEMORY),
         };
         Description { place, words }
     }

@@ -171,7 +171,7 @@ fn child_at<const W: usize>(
     ensures done { IfOk result (λ child. MatchOption child
         (HasLevel indexed.now step.now.set i rules.old rules.new seen.new.bound seen.new.members.items)
         (λ b. (new : Watched) (size : ℕ) (members : List Rule) → HasLevel indexed.now b (i + 1) rules.new new size members
-            → HasLevel indexed.now step.now.set i rules.old new size members)) }
+        → HasLevel indexed.now step.now.set i rules.old new size members)) }
     ensures steady { OnOk result (IsSteady seen.old.bound seen.old.members.items seen.new.bound seen.new.members.items) }
 {
     let _width = rules.width();

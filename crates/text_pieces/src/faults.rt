@@ -30,7 +30,7 @@ pub const UNKNOWN_ATTRIBUTE: &str = "unknown attribute";
 
 /// The place of a fault in a text. Lines, records and fields are numbered from 1.
 #[derive(Clone, Copy, Debug)]
-pub enum Place {
+pub enum FaultPlace {
     /// The text as a whole.
     Whole,
     /// The number of bytes before the fault.
@@ -44,15 +44,15 @@ pub enum Place {
 /// The place of a fault and the words for it.
 #[derive(Debug, Drop)]
 pub struct Description {
-    pub place: Place,
+    pub place: FaultPlace,
     pub words: &'static str,
 }
 
 impl Model for Description {
     ghost use Rattle.fca_model.specs.Tables.{Text};
-    ghost use Rattle.text_pieces.specs.declared.faults.Place.{Place};
+    ghost use Rattle.text_pieces.specs.declared.faults.FaultPlace.{FaultPlace};
 
-    ghost Value = { Place × Text };
+    ghost Value = { FaultPlace × Text };
 
     ghost view = { λ d. (d.place, d.words.now) };
 }
@@ -66,11 +66,11 @@ impl fmt::Display for Description {
     fn fmt<W: fmt::Write>(&self, f: &mut fmt::Formatter<W>) -> fmt::Result {
         let words = self.words;
         match self.place {
-            Place::Whole => write!(f, "{words}"),
-            Place::Byte(at) => write!(f, "byte {at}: {words}"),
-            Place::Line(at) => write!(f, "line {at}: {words}"),
-            Place::Record(at) => write!(f, "record {at}: {words}"),
-            Place::Field(at, field) => write!(f, "record {at}: field {field}: {words}"),
+            FaultPlace::Whole => write!(f, "{words}"),
+            FaultPlace::Byte(at) => write!(f, "byte {at}: {words}"),
+            FaultPlace::Line(at) => write!(f, "line {at}: {words}"),
+            FaultPlace::Record(at) => write!(f, "record {at}: {words}"),
+            FaultPlace::Field(at, field) => write!(f, "record {at}: field {field}: {words}"),
         }
     }
 }

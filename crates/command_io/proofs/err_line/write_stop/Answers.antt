@@ -2,14 +2,14 @@
 use Rattle.std.proofs.Common.{◌≡◌, ◌∙◌, sym, ap}
 use Rattle.fca_model.specs.Tables.{Text}
 use Rattle.fca_io.specs.declared.outside.TheConstants.{READ_FAULT, TOO_LONG}
-use Rattle.text_pieces.specs.declared.faults.Place.{Place}
-use Rattle.text_pieces.specs.declared.faults.Place.TheVariants.{Whole}
+use Rattle.text_pieces.specs.declared.faults.FaultPlace.{FaultPlace}
+use Rattle.text_pieces.specs.declared.faults.FaultPlace.TheVariants.{Whole}
 use Rattle.expert_wire.proofs.WriteLemmas.{Writes-equal}
 use Rattle.command_io.specs.ErrLines.{placed_line, breaks_line, stop_line}
 use Rattle.command_io.specs.declared.err_line.TheConstants.{BAD_VALUES, BAD_PLAN, ATTRIBUTES_DIFFER}
 use Rattle.command_io.proofs.err_line.write_stop.Goals as goal
 
-same_placed : (name other : Text) (description same : Place × Text) → name ≡ other → description ≡ same
+same_placed : (name other : Text) (description same : FaultPlace × Text) → name ≡ other → description ≡ same
     → placed_line name description ≡ placed_line other same
 same_placed name other description same e g = cc
 
